@@ -1,0 +1,5 @@
+pub mod Places
+pub mod Keys
+pub mod Maps
+pub mod Frames
+pub mod Count

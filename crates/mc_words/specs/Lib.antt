@@ -1,0 +1,9 @@
+pub mod Keys
+pub mod Shapes
+pub mod Checks
+pub mod Recency
+pub mod Places
+pub mod History
+pub mod Standing
+pub mod Chains
+pub mod Answers

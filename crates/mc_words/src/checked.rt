@@ -1,0 +1,164 @@
+ghost use Rattle.std.specs.Prelude.{◌≡◌, ◌≢◌, ◌<◌, ◌≤◌};
+ghost use Rattle.mc_words.specs.Keys.{tag_of, first_of, offset_of, alternate, stripe_of, slot_word};
+ghost use Rattle.std.specs.Prelude.{◌+◌, ◌*◌};
+ghost use Rattle.mc_words.specs.Places.{slot_number, IsPlace, IsWidth, payload, word_count, all_words, version_place, slot_place, item_place, recency_place, PlacesApart};
+ghost use Rattle.mc_words.specs.Shapes.{IsShape};
+
+use crate::place::Place;
+use crate::shape::Shape;
+
+/// A shape whose fields are all in their ranges: it cuts keys into their parts and tells where each word lies.
+#[derive(Clone, Copy, Debug, PartialEq, Eq)]
+pub struct Checked {
+    pub(crate) shape: Shape,
+    pub ghost sound: { IsShape shape },
+}
+
+impl Checked {
+    ghost use Rattle.mc_words.specs.Checks.{shape_of, Parts};
+
+    /// The shape that was checked.
+    pub fn shape(&self) -> Shape
+        ensures { result ≡ shape_of self.now }
+    {
+        self.shape
+    }
+
+    /// The byte of the key that its slot keeps.
+    #[tactic(auto, unfolding(crate::specs::Keys::tag_of))]
+    pub fn tag(&self, key: u64) -> u8
+        ensures { result ≡ tag_of (shape_of self.now) key }
+    {
+        (self.shape.mix.mix(key) >> 56) as u8
+    }
+
+    /// The first of the key's two buckets.
+    pub fn first(&self, key: u64) -> u32
+        ensures bucket { result ≡ first_of (shape_of self.now) key }
+        ensures range { result < (shape_of self.now).buckets }
+    {
+        (self.shape.mix.mix(key) & u64::from(self.shape.buckets - 1)) as u32
+    }
+
+    /// How far apart the two buckets of a key of this tag are.
+    fn offset(&self, tag: u8) -> u32
+        ensures offset { result ≡ offset_of (shape_of self.now) tag }
+        ensures range { result < (shape_of self.now).buckets }
+    {
+        let product = (2 * u64::from(tag) + 1) * 0x5bd1_e995;
+        (product & u64::from(self.shape.buckets - 1)) as u32
+    }
+
+    /// The other bucket of a key that has this tag and this bucket. The tag alone gives it, without the key.
+    pub fn alt(&self, b: u32, tag: u8) -> u32
+        requires { b < (shape_of self.now).buckets }
+        ensures bucket { result ≡ alternate (shape_of self.now) b tag }
+        ensures range { result < (shape_of self.now).buckets }
+        ensures other { result ≢ b }
+        ensures back { alternate (shape_of self.now) result tag ≡ b }
+    {
+        b ^ self.offset(tag)
+    }
+
+    /// The stripe whose version counts the changes of the key.
+    pub fn stripe(&self, key: u64) -> u32
+        ensures stripe { result ≡ stripe_of (shape_of self.now) key }
+        ensures range { result < (shape_of self.now).stripes }
+    {
+        ((self.shape.mix.mix(key) >> 32) & u64::from(self.shape.stripes - 1)) as u32
+    }
+
+    /// The word of a slot that names the item under the tag.
+    #[tactic(auto, unfolding(crate::specs::Keys::slot_word))]
+    pub fn slot_word(&self, tag: u8, i: u32) -> u64
+        requires { i < (shape_of self.now).items }
+        ensures { result ≡ slot_word tag i }
+    {
+        (u64::from(tag) << 32) + u64::from(i) + 1
+    }
+
+    /// The tag and the item that a word names: none for 0 and for every word that is no slot word of an item of the table.
+    pub fn slot_parts(&self, w: u64) -> Option<(u8, u32)>
+        ensures { Parts (shape_of self.now) w result }
+    {
+        let rest = w.checked_sub(1)?;
+        let tag = rest >> 32;
+        let item = rest & 0xffff_ffff;
+        if tag < 256 && item < u64::from(self.shape.items) {
+            Some((tag as u8, item as u32))
+        } else {
+            None
+        }
+    }
+
+    /// Where the moment lies.
+    pub fn moment_place(&self) -> usize
+        ensures { result ≡ 0 }
+    {
+        0
+    }
+
+    /// Where the version of a stripe lies.
+    pub fn version_place(&self, s: u32) -> usize
+        requires { s < (shape_of self.now).stripes }
+        ensures { result ≡ version_place s }
+    {
+        1 + s as usize
+    }
+
+    /// Where a slot lies.
+    pub fn slot_place(&self, place: Place) -> usize
+        requires { IsPlace (shape_of self.now) place }
+        ensures { result ≡ slot_place (shape_of self.now) (slot_number place) }
+    {
+        let number = 4 * place.bucket as usize + usize::from(place.slot);
+        1 + self.shape.stripes as usize + number
+    }
+
+    /// Where the items begin.
+    fn items_place(&self) -> usize
+        ensures { result ≡ 1 + (shape_of self.now).stripes + 4 * (shape_of self.now).buckets }
+    {
+        1 + self.shape.stripes as usize + 4 * self.shape.buckets as usize
+    }
+
+    /// Where a word of an item lies: word 0 is the key, words 1 to `V` are the value.
+    #[tactic(auto, unfolding(crate::specs::Places::payload))]
+    pub fn item_place<const V: usize>(&self, i: u32, j: u8) -> usize
+        requires width { IsWidth V }
+        requires item { i < (shape_of self.now).items }
+        requires word { j ≤ payload V }
+        ensures { result ≡ item_place V (shape_of self.now) i j }
+    {
+        self.items_place() + i as usize * (1 + V) + usize::from(j)
+    }
+
+    /// How many words there are before the recency words.
+    #[tactic(auto, unfolding(crate::specs::Places::payload))]
+    fn recency_start<const V: usize>(&self) -> usize
+        requires { IsWidth V }
+        ensures { result ≡ word_count V (shape_of self.now) }
+    {
+        self.items_place() + self.shape.items as usize * (1 + V)
+    }
+
+    /// Where the word that holds the recency bit of an item lies.
+    #[tactic(auto, unfolding(crate::specs::Recency::recency_word))]
+    pub fn recency_place<const V: usize>(&self, i: u32) -> usize
+        requires width { IsWidth V }
+        requires item { i < (shape_of self.now).items }
+        ensures { result ≡ recency_place V (shape_of self.now) i }
+    {
+        self.recency_start::<V>() + i as usize
+    }
+
+    /// How many words a table of this shape has.
+    #[tactic(auto, unfolding(crate::specs::Recency::recency_words))]
+    pub fn words<const V: usize>(&self) -> usize
+        requires { IsWidth V }
+        ensures count { result ≡ all_words V (shape_of self.now) }
+        ensures apart { PlacesApart V }
+    {
+        self.recency_start::<V>() + self.shape.items as usize
+    }
+}

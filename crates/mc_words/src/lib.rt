@@ -1,0 +1,17 @@
+//! The words of the cache index: the shape of a table, how a key is cut into its parts, where each word lies.
+//!
+//! It also declares what every other crate speaks of: the changes of a history and the replies of a look-up.
+//! The definitions of what the words mean stand in `specs/`.
+#![tactic(auto)]
+
+mod checked;
+mod history;
+mod mix;
+mod place;
+mod shape;
+
+pub use checked::Checked;
+pub use history::{Change, Reply};
+pub use mix::Mix;
+pub use place::Place;
+pub use shape::{Shape, ShapeError};
