@@ -3,3 +3,5 @@ pub mod Keys
 pub mod Maps
 pub mod Frames
 pub mod Count
+pub mod Apart
+pub mod Powers

@@ -1,6 +1,5 @@
-ghost use Rattle.std.specs.Prelude.{◌≡◌, ◌≢◌, ◌<◌, ◌≤◌};
 ghost use Rattle.mc_words.specs.Keys.{tag_of, first_of, offset_of, alternate, stripe_of, slot_word};
-ghost use Rattle.std.specs.Prelude.{◌+◌, ◌*◌};
+ghost use Rattle.std.specs.Prelude.{◌≡◌, ◌≢◌, ◌+◌, ◌*◌, ◌^◌, ◌<◌, ◌≤◌};
 ghost use Rattle.mc_words.specs.Places.{slot_number, IsPlace, IsWidth, payload, word_count, all_words, version_place, slot_place, item_place, recency_place, PlacesApart};
 ghost use Rattle.mc_words.specs.Shapes.{IsShape};
 
@@ -137,7 +136,8 @@ impl Checked {
     #[tactic(auto, unfolding(crate::specs::Places::payload))]
     fn recency_start<const V: usize>(&self) -> usize
         requires { IsWidth V }
-        ensures { result ≡ word_count V (shape_of self.now) }
+        ensures count { result ≡ word_count V (shape_of self.now) }
+        ensures bound { result < 2 ^ 40 }
     {
         self.items_place() + self.shape.items as usize * (1 + V)
     }
