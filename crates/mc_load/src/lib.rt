@@ -1,0 +1,6 @@
+//! The script engine of `mcstep` and the whole of its program, over a table with one caller.
+#![tactic(auto)]
+
+mod answer;
+
+pub use answer::{Put, PutError, Remove, Spent};
