@@ -1,0 +1,5 @@
+pub mod Tables
+pub mod Finding
+pub mod Reading
+pub mod Values
+pub mod Deeds

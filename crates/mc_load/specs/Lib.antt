@@ -1,1 +1,4 @@
 pub mod Texts
+pub mod Tables
+pub mod Writes
+pub mod Deeds

@@ -2,5 +2,6 @@
 #![tactic(auto)]
 
 mod answer;
+mod table;
 
 pub use answer::{Put, PutError, Remove, Spent};
