@@ -7,7 +7,7 @@ use Rattle.mc_core.proofs.Steps.{agrees_after, deed_after}
 use Rattle.mc_core.specs.Acts.{IsAllowed, MayFrom}
 use Rattle.mc_core.specs.Effects.{after_act, history_after, phase_after, taken_out, words_after}
 use Rattle.mc_core.specs.Inner.{DeedFacts, StateHolds}
-use Rattle.mc_core.specs.Phases.{running, Closing, Phase, Placed, Removed, Renewing}
+use Rattle.mc_core.specs.Phases.{running, Phase, Placed, Removed, Renewing}
 use Rattle.mc_core.specs.States.{State, opening}
 use Rattle.mc_words.proofs.Count.{keys_fit}
 use Rattle.mc_words.proofs.Frames.{empty_names_none}
