@@ -61,7 +61,7 @@ holds_after {V} sh s a bit shape i may =
       legal = legal_after V sh s.words s.hand s.cleared s.history s.phase a i.deed may i.legal g d;
     }
 
-zeros : (V i : ℕ) → get_or (replicate {A = ℕ} V 0) i 0 ≡ 0
+pub zeros : (V i : ℕ) → get_or (replicate {A = ℕ} V 0) i 0 ≡ 0
 zeros V i =
     elim (cases_lt i V) [
       | inl l ↦ get_or-replicate V i 0 0 l

@@ -12,3 +12,6 @@ pub mod Scans
 pub mod Readers
 pub mod Sweeps
 pub mod Counted
+pub mod Counts
+pub mod Written
+pub mod Grown

@@ -13,7 +13,6 @@ pub rise_parts : (f : ℕ) (xs ys : List Reading) (g : ℕ) → RiseTo f (xs ++ 
 rise_parts f [] ys g r = (f, omega arith, r)
 rise_parts f (x ∷ xs) ys g r = let rest = rise_parts x.front xs ys g r.1 in (rest.0, (r.0, rest.1), rest.2)
 
-
 -- words that are those of their places
 pub read_parts : (V : ℕ) (sh : Shape) (acts : List Made) (xs ys : List Reading) → AreRead V sh acts (xs ++ ys) → AreRead V sh acts xs × AreRead V sh acts ys
 read_parts V sh acts [] ys r = (tt, r)
