@@ -2,7 +2,6 @@
 use Rattle.std.proofs.Common.{ℕ, zero, suc, ◌≡◌, ◌+◌, ◌-◌, ◌%◌, ◌<◌, ◌≤◌, List, [], ◌∷◌, ◌++◌, length, take, drop, refl, sym, ◌∙◌, ap, subst, arith}
 use Rattle.std.proofs.Math.Seq.{take-add}
 use Rattle.std.proofs.lemmas.List.{take_all, take-append-le}
-use Rattle.mc_words.proofs.Keys.{stripe_of-lt}
 use Rattle.mc_words.specs.Keys.{stripe_of}
 use Rattle.mc_words.specs.Places.{version}
 use Rattle.mc_words.specs.Shapes.{IsShape}

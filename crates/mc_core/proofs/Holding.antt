@@ -7,7 +7,7 @@ use Rattle.mc_core.proofs.Steps.{agrees_after, deed_after}
 use Rattle.mc_core.specs.Acts.{IsAllowed, MayFrom}
 use Rattle.mc_core.specs.Effects.{after_act, history_after, phase_after, taken_out, words_after}
 use Rattle.mc_core.specs.Inner.{DeedFacts, StateHolds}
-use Rattle.mc_core.specs.Phases.{running, Closing, Phase, Placed, Removed, Renewing}
+use Rattle.mc_core.specs.Phases.{running, Phase, Placed, Removed, Renewing}
 use Rattle.mc_core.specs.States.{State, opening}
 use Rattle.mc_words.proofs.Count.{keys_fit}
 use Rattle.mc_words.proofs.Frames.{empty_names_none}
@@ -61,7 +61,7 @@ holds_after {V} sh s a bit shape i may =
       legal = legal_after V sh s.words s.hand s.cleared s.history s.phase a i.deed may i.legal g d;
     }
 
-zeros : (V i : ℕ) → get_or (replicate {A = ℕ} V 0) i 0 ≡ 0
+pub zeros : (V i : ℕ) → get_or (replicate {A = ℕ} V 0) i 0 ≡ 0
 zeros V i =
     elim (cases_lt i V) [
       | inl l ↦ get_or-replicate V i 0 0 l

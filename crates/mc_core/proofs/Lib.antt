@@ -5,3 +5,13 @@ pub mod Steps
 pub mod Holding
 pub mod Runs
 pub mod Fronts
+pub mod Readings
+pub mod Windows
+pub mod Histories
+pub mod Scans
+pub mod Readers
+pub mod Sweeps
+pub mod Counted
+pub mod Counts
+pub mod Written
+pub mod Grown

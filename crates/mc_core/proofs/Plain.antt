@@ -11,7 +11,7 @@ use Rattle.mc_words.proofs.Frames.{moved_names}
 use Rattle.mc_words.proofs.Keys.{stripe_of-lt, tag_of-lt}
 use Rattle.mc_words.proofs.Places.{length-with_item, length-with_moment, length-with_slot, length-with_version, moment-with_item, moment-with_moment, moment-with_slot, moment-with_version, slot-with_item, slot-with_moment, slot-with_slot_other, slot-with_slot_same, slot-with_version, version-with_item, version-with_moment, version-with_slot, version-with_version_other, version-with_version_same}
 use Rattle.mc_words.specs.Keys.{slot_word, stripe_of, tag_of}
-use Rattle.mc_words.specs.Places.{item, moment, slot, slot_number, version, with_item, with_moment, with_slot, word_count}
+use Rattle.mc_words.specs.Places.{moment, slot, slot_number, version, with_item, with_moment, with_slot, word_count}
 use Rattle.mc_words.specs.Shapes.{IsShape}
 use Rattle.mc_words.specs.Standing.{Names, Stands, odd_at}
 use Rattle.mc_core.specs.declared.act.Act.{Act}

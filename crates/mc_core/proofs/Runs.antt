@@ -1,5 +1,5 @@
 -- Along a lawful list, while a stripe's version stays, its keys stay as they are.
-use Rattle.std.proofs.Common.{ℕ, ◌≡◌, ◌≢◌, ◌+◌, ◌-◌, ◌%◌, ◌<◌, ◌≤◌, List, [], ◌∷◌, ◌++◌, length, Option, Some, None, refl, sym, ◌∙◌, ap, subst, inl, inr, arith}
+use Rattle.std.proofs.Common.{ℕ, ◌≡◌, ◌≢◌, ◌+◌, ◌%◌, ◌<◌, ◌≤◌, List, [], ◌∷◌, length, Option, Some, None, refl, sym, ◌∙◌, ap, subst, inl, inr, arith}
 use Rattle.std.proofs.lemmas.Bool.{cases_eq, eq-eqb}
 use Rattle.mc_core.proofs.Deeds.{key-with_value}
 use Rattle.mc_core.proofs.Holding.{holds_after}
@@ -9,11 +9,11 @@ use Rattle.mc_core.specs.Acts.{IsAllowed, MayFrom}
 use Rattle.mc_core.specs.Effects.{after_act, bumped, closed, words_after}
 use Rattle.mc_core.specs.Lists.{AreAllowed, Made, after_all}
 use Rattle.mc_core.specs.Phases.{Closing, Filling, Keyed, Moved, Moving, Phase, Placed, Quiet, Removed, Removing, Renewing, running}
-use Rattle.mc_core.specs.States.{State, opening}
+use Rattle.mc_core.specs.States.{State}
 use Rattle.mc_words.proofs.Frames.{SameFor, stands_on}
 use Rattle.mc_words.proofs.Keys.{stripe_of-lt}
 use Rattle.mc_words.proofs.Places.{item-with_item_other, item-with_item_same, item-with_moment, item-with_slot, item-with_version, version-with_item, version-with_moment, version-with_slot, version-with_version_other, version-with_version_same}
-use Rattle.mc_words.specs.History.{changed, held}
+use Rattle.mc_words.specs.History.{held}
 use Rattle.mc_words.specs.Keys.{stripe_of}
 use Rattle.mc_words.specs.Places.{item, moment, slot_number, version, with_item, word_count}
 use Rattle.mc_words.specs.Shapes.{IsShape}

@@ -10,7 +10,7 @@ use Rattle.mc_words.proofs.Maps.{held-other}
 use Rattle.mc_words.proofs.Places.{item-with_item_word, item-with_slot, slot-with_item, slot-with_slot_same}
 use Rattle.mc_words.specs.History.{held}
 use Rattle.mc_words.specs.Keys.{slot_word}
-use Rattle.mc_words.specs.Places.{item, slot, slot_number, with_item, with_slot, word_count}
+use Rattle.mc_words.specs.Places.{item, slot_number, with_item, with_slot, word_count}
 use Rattle.mc_words.specs.Shapes.{IsShape}
 use Rattle.mc_words.specs.Standing.{IsFree, Names, Stands}
 use Rattle.mc_core.specs.declared.act.Act.{Act}

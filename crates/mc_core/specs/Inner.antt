@@ -58,3 +58,6 @@ StateHolds {V} sh s = Holds V sh s.words s.phase s.history
 pub record IsCounted (sh : Shape) (w : List ℕ) (p : Phase) (many changes : ℕ) : Type 0 where
   pub versions : (t : ℕ) → t < sh.stripes → version w t ≤ changes
   pub moments : 2 * (many + owes p) ≤ changes + runs p
+
+abbrev pub StateCounted : {V : ℕ} → Shape → State V → Type 0
+StateCounted {V} sh s = IsCounted sh s.words s.phase (length s.history) s.changes

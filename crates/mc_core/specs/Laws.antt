@@ -1,5 +1,6 @@
 -- The laws of lawful lists of acts.
 use Rattle.std.specs.Prelude.{ℕ, ◌≡◌, ◌%◌, ◌^◌, ◌<◌, ◌≤◌, ◌↔◌, List, length, Some, slice_get}
+use Rattle.mc_core.specs.Inner.{StateCounted}
 use Rattle.mc_core.specs.Lists.{IsLawful, Made, front, state_of}
 use Rattle.mc_core.specs.Lookups.{IsLookup}
 use Rattle.mc_core.specs.Phases.{running}
@@ -48,3 +49,11 @@ EvictsAreClear V =
     (sh : Shape) (acts : List Made) (j k b : ℕ) → IsLawful V sh acts → slice_get acts j ≡ Some (record { act = Open k deed.Evict; bit = b }) →
     (q : ℕ) × (i : ℕ) × (m : ℕ) × Stands V sh (front V sh acts j).words k q i × (m < j) × (slice_get acts m ≡ Some (record { act = Hand i; bit = 0 })) ×
     ((l : ℕ) (d : Made) → m < l → l < j → slice_get acts l ≡ Some d → OpensOrSweeps d.act → ⊥)
+
+-- no version is more than the version changes so far, and each change of the map took two of them
+abbrev pub CountsAlways : ℕ → Type 0
+CountsAlways V = (sh : Shape) (acts : List Made) (f : ℕ) → IsShape sh → IsLawful V sh acts → StateCounted sh (front V sh acts f)
+
+-- the hand stands at an item
+abbrev pub HandStays : ℕ → Type 0
+HandStays V = (sh : Shape) (acts : List Made) (f : ℕ) → IsShape sh → IsLawful V sh acts → (front V sh acts f).hand < sh.items

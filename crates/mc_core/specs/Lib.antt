@@ -8,3 +8,5 @@ pub mod Readings
 pub mod Lookups
 pub mod Rest
 pub mod Laws
+pub mod Growth
+pub mod Writes

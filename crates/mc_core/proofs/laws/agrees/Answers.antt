@@ -1,7 +1,5 @@
 use Rattle.mc_core.proofs.laws.agrees.Goals as goal
-use Rattle.mc_core.proofs.Fronts.{front_holds}
+use Rattle.mc_core.proofs.Readers.{agrees_always}
 
 pub returns : goal.returns
-returns g c = λ sh acts f shape lawful.
-    let i = front_holds g.row.V sh acts f shape lawful in
-    (i.agrees, i.legal)
+returns g c = agrees_always g.row.V
