@@ -3,5 +3,6 @@
 
 mod answer;
 mod table;
+mod writes;
 
 pub use answer::{Put, PutError, Remove, Spent};

@@ -2,8 +2,7 @@ ghost use Rattle.std.specs.Prelude.{◌≡◌, ◌≢◌, ℕ, ◌+◌, ◌*◌,
 ghost use Rattle.mc_words.specs.Checks.{shape_of};
 ghost use Rattle.mc_words.specs.Places.{IsWidth, IsPlace};
 
-use crate::answer::{Put, PutError, Remove, Spent};
-use mc_words::{Checked, Place, Reply};
+use mc_words::{Checked, Place};
 use std::alloc::{AllocError, Global};
 
 /// A table with one caller, over one plain list of words: it moves no keys and evicts none.
@@ -18,16 +17,12 @@ pub(crate) struct Table<const V: usize> {
 }
 
 impl<const V: usize> Table<V> {
-    ghost use Rattle.std.specs.Prelude.{replicate};
     ghost use Rattle.mc_words.specs.declared.history.Change.{Change};
     ghost use Rattle.mc_words.specs.declared.place.Place.{Place};
-    ghost use Rattle.mc_words.specs.Answers.{IsQuiet, PutIsSpent};
     ghost use Rattle.mc_words.specs.Chains.{IsHole};
     ghost use Rattle.mc_words.specs.Keys.{slot_word, IsBucketOf, stripe_of};
     ghost use Rattle.mc_words.specs.Places.{payload, slot_number, moment, version, slot, item, with_moment, with_version, with_slot, with_item, word_count};
     ghost use Rattle.mc_words.specs.Standing.{Names, Stands, IsAbsent};
-    ghost use Rattle.mc_core.specs.Effects.{bumped};
-    ghost use Rattle.mc_load.specs.Writes.{Writes, Makes, with_values};
     ghost use Rattle.mc_load.specs.Tables.{IsTable, IsSized, HoldsKey, FullBelow, IsLeastHole, IsLeastFree, opened, state_of, shape_in, words_in, PutAnswers, RemoveAnswers, GetAnswers};
 
     pub(crate) fn new(alloc: Global, checked: &Checked) -> Result<Table<V>, AllocError>
@@ -156,61 +151,5 @@ impl<const V: usize> Table<V> {
             }
         }
         None
-    }
-
-    /// One version change of the key's stripe.
-    fn bump(&mut self, key: u64)
-        requires sized { IsSized V self.old }
-        requires room { version (words_in self.old) (stripe_of (shape_in self.old) key) + 1 < 2 ^ 64 }
-        requires count { self.old.changes + 1 < 2 ^ 64 }
-        ensures { Writes V self.old self.new (bumped (shape_in self.old) (words_in self.old) key) 1 }
-    {
-        let place = self.checked.version_place(self.checked.stripe(key));
-        let version = self.words[place];
-        self.words[place] = version + 1;
-        self.changes += 1;
-    }
-
-    fn set_item(&mut self, i: u32, j: u8, word: u64)
-        requires sized { IsSized V self.old }
-        requires item { i < (shape_in self.old).items }
-        requires word { j ≤ payload V }
-        ensures { Writes V self.old self.new (with_item V (shape_in self.old) (words_in self.old) i j word) 0 }
-    {
-        let place = self.checked.item_place::<V>(i, j);
-        self.words[place] = word;
-    }
-
-    fn set_slot(&mut self, place: Place, word: u64)
-        requires sized { IsSized V self.old }
-        requires place { IsPlace (shape_in self.old) place }
-        ensures { Writes V self.old self.new (with_slot (shape_in self.old) (words_in self.old) (slot_number place) word) 0 }
-    {
-        let place = self.checked.slot_place(place);
-        self.words[place] = word;
-    }
-
-    fn set_values(&mut self, i: u32, value: &[u64])
-        requires sized { IsSized V self.old }
-        requires item { i < (shape_in self.old).items }
-        requires value { length value.now ≡ payload V }
-        ensures { Writes V self.old self.new (with_values V (shape_in self.old) (words_in self.old) i 1 value.now) 0 }
-    {
-        for (j, word) in value.iter().enumerate() {
-            self.set_item(i, j as u8 + 1, *word);
-        }
-    }
-
-    /// Counts a change, and answers the moment after it.
-    fn count(&mut self) -> u64
-        requires sized { IsSized V self.old }
-        requires room { moment (words_in self.old) + 1 < 2 ^ 64 }
-        ensures words { Writes V self.old self.new (with_moment (words_in self.old) (moment (words_in self.old) + 1)) 0 }
-        ensures moment { result ≡ moment (words_in self.old) + 1 }
-    {
-        let place = self.checked.moment_place();
-        let moment = self.words[place] + 1;
-        self.words[place] = moment;
-        moment
     }
 }
