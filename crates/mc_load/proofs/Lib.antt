@@ -6,3 +6,4 @@ pub mod Deeds
 pub mod Flags
 pub mod Writing
 pub mod Renewing
+pub mod Meanings

@@ -1,4 +1,5 @@
 pub mod Texts
 pub mod Tables
+pub mod Calls
 pub mod Writes
 pub mod Deeds

@@ -1,22 +1,13 @@
 -- The table of one caller, as a quiet state, and what each of its calls answers.
 use Rattle.std.specs.Prelude.{ℕ, ◌≡◌, ◌≢◌, ◌+◌, ◌*◌, ◌/◌, ◌<◌, ◌≤◌, ◌⊎◌, List, [], ◌∷◌, length, replicate, Bool, true, false, Option, Some, None, Result, Ok, Err, slice_index_or}
 use Rattle.mc_words.specs.declared.history.Change.{Change}
-use Rattle.mc_words.specs.declared.history.Reply.{Reply}
-use Rattle.mc_words.specs.declared.history.Reply.TheVariants.{Found, Absent, Busy}
 use Rattle.mc_words.specs.declared.place.Place.{Place}
 use Rattle.mc_words.specs.declared.shape.Shape.{Shape}
-use Rattle.mc_words.specs.Answers.{Quiet, IsQuiet, PutRefusedSpent, Renews, RefusesPath, RefusesItem, Stores, RemoveRefusedSpent, Removes, FindsNothing, Finds, Misses}
+use Rattle.mc_words.specs.Answers.{Quiet, IsQuiet}
 use Rattle.mc_words.specs.Chains.{IsHole}
 use Rattle.mc_words.specs.Keys.{slot_word, first_of, second_of, IsBucketOf}
 use Rattle.mc_words.specs.Places.{IsWidth, word_count, slot, item}
 use Rattle.mc_words.specs.Standing.{Names, IsFree}
-use Rattle.mc_load.specs.declared.answer.Put.{Put}
-use Rattle.mc_load.specs.declared.answer.Put.TheVariants.{Stored, Renewed}
-use Rattle.mc_load.specs.declared.answer.PutError.{PutError}
-use Rattle.mc_load.specs.declared.answer.PutError.TheVariants.{NoPath, AllRecent, Spent, NoItem}
-use Rattle.mc_load.specs.declared.answer.Remove.{Remove}
-use Rattle.mc_load.specs.declared.answer.Remove.TheVariants.{Removed, NotThere}
-use Rattle.mc_load.specs.declared.answer.Spent.{Spent as RemoveSpent}
 use Rattle.mc_load.specs.declared.table.Table.{Table}
 
 -- the flags tell which items are named by a slot
@@ -70,25 +61,3 @@ pub record IsLeastFree (sh : Shape) (w : List ℕ) (i : ℕ) : Type 0 where
   pub in_items : i < sh.items
   pub free : IsFree sh w i
   pub least : (g : ℕ) → g < i → (q : ℕ) × Names sh w q g
-
--- what the answer of a put means
-abbrev pub PutAnswers : {V : ℕ} → Shape → Quiet V → ℕ → List ℕ → Result Put PutError → Quiet V → Type 0
-PutAnswers {V} sh s k v (Ok (Stored at moves None)) t = Stores V sh s t k v at moves
-PutAnswers {V} sh s k v (Ok (Stored at moves (Some evicted))) t = ⊥
-PutAnswers {V} sh s k v (Ok (Renewed at)) t = Renews V sh s t k v at
-PutAnswers {V} sh s k v (Err NoPath) t = RefusesPath V sh s t k
-PutAnswers {V} sh s k v (Err AllRecent) t = ⊥
-PutAnswers {V} sh s k v (Err Spent) t = PutRefusedSpent sh s t
-PutAnswers {V} sh s k v (Err NoItem) t = RefusesItem V sh s t k
-
--- what the answer of a removal means
-abbrev pub RemoveAnswers : {V : ℕ} → Shape → Quiet V → ℕ → Result Remove RemoveSpent → Quiet V → Type 0
-RemoveAnswers {V} sh s k (Ok (Removed at)) t = Removes V sh s t k at
-RemoveAnswers {V} sh s k (Ok (NotThere at)) t = FindsNothing V sh s t k at
-RemoveAnswers {V} sh s k (Err spent) t = RemoveRefusedSpent sh s t
-
--- what the answer of a look-up means; it is never busy
-abbrev pub GetAnswers : {V : ℕ} → Quiet V → ℕ → Reply V → Quiet V → Type 0
-GetAnswers {V} s k (Found v at) t = Finds V s t k v at
-GetAnswers {V} s k (Absent at) t = Misses V s t k at
-GetAnswers {V} s k Busy t = ⊥

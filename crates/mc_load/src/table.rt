@@ -23,7 +23,7 @@ impl<const V: usize> Table<V> {
     ghost use Rattle.mc_words.specs.Keys.{slot_word, IsBucketOf, stripe_of};
     ghost use Rattle.mc_words.specs.Places.{payload, slot_number, moment, version, slot, item, with_moment, with_version, with_slot, with_item, word_count};
     ghost use Rattle.mc_words.specs.Standing.{Names, Stands, IsAbsent};
-    ghost use Rattle.mc_load.specs.Tables.{IsTable, IsSized, HoldsKey, FullBelow, IsLeastHole, IsLeastFree, opened, state_of, shape_in, words_in, PutAnswers, RemoveAnswers, GetAnswers};
+    ghost use Rattle.mc_load.specs.Tables.{IsTable, IsSized, HoldsKey, FullBelow, IsLeastHole, IsLeastFree, opened, state_of, shape_in, words_in};
 
     pub(crate) fn new(alloc: Global, checked: &Checked) -> Result<Table<V>, AllocError>
         requires width { IsWidth V }
@@ -50,7 +50,7 @@ impl<const V: usize> Table<V> {
         self.words[self.checked.slot_place(place)]
     }
 
-    fn item(&self, i: u32, j: u8) -> u64
+    pub(crate) fn item(&self, i: u32, j: u8) -> u64
         requires sized { IsSized V self.now }
         requires item { i < (shape_in self.now).items }
         requires word { j ≤ payload V }
@@ -97,7 +97,7 @@ impl<const V: usize> Table<V> {
     }
 
     /// Where the key stands.
-    fn find(&self, key: u64) -> Option<(Place, u32)>
+    pub(crate) fn find(&self, key: u64) -> Option<(Place, u32)>
         requires { (h : List (Change V)) × IsTable V self.now h }
         ensures some { IfSome result (λ f. IsPlace (shape_in self.now) f.0 × Stands V (shape_in self.now) (words_in self.now) key (slot_number f.0) f.1) }
         ensures none { IfNone result (IsAbsent V (shape_in self.now) (words_in self.now) key) }
@@ -127,7 +127,7 @@ impl<const V: usize> Table<V> {
     }
 
     /// The slot that a new key goes to.
-    fn hole(&self, key: u64) -> Option<Place>
+    pub(crate) fn hole(&self, key: u64) -> Option<Place>
         requires { IsSized V self.now }
         ensures some { IfSome result (IsLeastHole (shape_in self.now) (words_in self.now) key) }
         ensures none { IfNone result ((p : Place) → IsHole (shape_in self.now) (words_in self.now) p → IsBucketOf (shape_in self.now) key p.bucket → ⊥) }
@@ -140,7 +140,7 @@ impl<const V: usize> Table<V> {
     }
 
     /// The item that a new key takes.
-    fn free(&self) -> Option<u32>
+    pub(crate) fn free(&self) -> Option<u32>
         requires { (h : List (Change V)) × IsTable V self.now h }
         ensures some { IfSome result (IsLeastFree (shape_in self.now) (words_in self.now)) }
         ensures none { IfNone result ((i : ℕ) → i < (shape_in self.now).items → (q : ℕ) × Names (shape_in self.now) (words_in self.now) q i) }
