@@ -1,0 +1,10 @@
+//! The script of commands that `mcstep` plays: from bytes to lines, from lines to commands, and bytes to a writer.
+//!
+//! What a line is and what it says stand in `specs/`. Nothing here knows of a cache.
+#![tactic(auto)]
+
+mod line;
+mod output;
+
+pub use line::{LONGEST, Line, ReadFault, read_line};
+pub use output::send;
