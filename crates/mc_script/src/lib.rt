@@ -3,8 +3,12 @@
 //! What a line is and what it says stand in `specs/`. Nothing here knows of a cache.
 #![tactic(auto)]
 
+mod command;
 mod line;
+mod number;
 mod output;
+mod words;
 
+pub use command::{Command, LineFault, parse};
 pub use line::{LONGEST, Line, ReadFault, read_line};
 pub use output::send;
