@@ -2,3 +2,4 @@ pub mod Written
 pub mod Read
 pub mod Parting
 pub mod Digits
+pub mod Counting

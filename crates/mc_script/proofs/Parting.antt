@@ -1,7 +1,8 @@
 -- The words of some bytes, one after the other.
 use Rattle.std.proofs.Common.{◌≡◌, ℕ, zero, suc, ◌+◌, ◌-◌, ◌<◌, ◌≤◌, Bool, true, false, not, List, [], ◌∷◌, ◌++◌, length, take, drop, ◌^◌, slice_index, Result, Ok, Err, Option, Some, None, cond, nat_lt, ◌&&◌, MatchOption, lt-ltb, ltb-false, rules, arith, refl, sym, ap, ◌∙◌, length-drop, drop_of_length-le}
 use Rattle.std.specs.List.{take_while, prefix_len, position, position_or_len, list_all}
-use Rattle.std.specs.Option.{unwrap_or}
+use Rattle.std.specs.Option.{unwrap_or, is_some}
+use Rattle.std.specs.Borrow.{Bor}
 use Rattle.std.specs.Char.{is_ascii_digit}
 use Rattle.std.specs.Str.{all_ascii_digits}
 use Rattle.std.specs.Str.Parse.{digits_value}
@@ -11,7 +12,7 @@ use Rattle.std.specs.Str.Parse.{ParsesUnsigned}
 use Rattle.std.proofs.lemmas.Str.{IsUtf8-from_ascii}
 use Rattle.std.proofs.lemmas.Str.Parse.{IsNumeralModel, numerals_by_value, parse_digits}
 use Rattle.std.proofs.lemmas.Bool.Decides.{nat_tests}
-use Rattle.mc_script.specs.Words.{is_blank, is_inner, words_within, words_of}
+use Rattle.mc_script.specs.Words.{is_blank, is_inner, words_within, words_of, FirstWord}
 
 pub prefix_len-le : {X : Type 0} (p : X → Bool) (xs : List X) → prefix_len p xs ≤ length xs
 prefix_len-le p [] = omega arith
@@ -114,3 +115,13 @@ first_word_is xs i n e len =
       omega (arith, same, front.1),
       omega (arith, le, len),
     )
+
+-- where no word is found there is none
+pub none_found : (xs : List ℕ) (o : Option (Bor (List ℕ) × Bor (List ℕ))) → FirstWord xs o → is_some o ≡ false → words_of xs ≡ []
+none_found xs None first none = first
+none_found xs (Some found) first none = absurd (cc)
+
+-- where a word is found there is one
+pub some_found : (xs : List ℕ) (o : Option (Bor (List ℕ) × Bor (List ℕ))) → FirstWord xs o → is_some o ≡ true → 0 < length (words_of xs)
+some_found xs None first some = absurd (cc)
+some_found xs (Some found) first some = let len = ap length first.0 in omega (arith, len)
