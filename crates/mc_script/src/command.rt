@@ -50,6 +50,7 @@ fn put<const V: usize>(words: &[u8]) -> Result<Command<V>, LineFault>
 }
 
 /// What a line's first word and those that follow it say.
+#[tactic(auto, unfolding(crate::specs::Commands::command_of))]
 fn form<const V: usize>(name: &[u8], words: &[u8]) -> Result<Command<V>, LineFault>
     ensures { result ≡ command_of V name.now (words_of words.now) }
 {
@@ -68,6 +69,7 @@ fn form<const V: usize>(name: &[u8], words: &[u8]) -> Result<Command<V>, LineFau
 }
 
 /// What a line says, or nothing where it has no words or is a comment.
+#[tactic(auto, unfolding(crate::specs::Commands::command_by))]
 pub fn parse<const V: usize>(line: &[u8]) -> Result<Option<Command<V>>, LineFault>
     ensures { result ≡ command_in V line.now }
 {
