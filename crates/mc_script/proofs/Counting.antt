@@ -120,8 +120,8 @@ all_numbers {whole = whole} {i = i} {n = n} {found = found} so_far is none good 
     let all : whole ≡ so_far.done = so_far.first ∙ ap (λ r. so_far.done ++ r) none ∙ append-nil so_far.done in
     let full : take i found ≡ found = take_all i found (omega (arith, size, is)) in
     sym (
-      same_count n whole true (ap length all ∙ so_far.count ∙ is) (ap (list_all is_number) all ∙ sym so_far.good ∙ good)
-          ∙ ap Ok (ap (map (digits_value 10)) all ∙ sym (so_far.values good) ∙ full)
+    same_count n whole true (ap length all ∙ so_far.count ∙ is) (ap (list_all is_number) all ∙ sym so_far.good ∙ good)
+    ∙ ap Ok (ap (map (digits_value 10)) all ∙ sym (so_far.values good) ∙ full)
     )
 
 -- no word is no number more
@@ -147,6 +147,7 @@ numbers-cons n word words = elim (cases_eq (length words) n) [
     joined true false v vs = refl
     joined false true v vs = refl
     joined false false v vs = refl
+
     counted : length words ≡ n → (a b : Bool) → is_number word ≡ a → list_all is_number words ≡ b → numbers_in (n + 1) (word ∷ words) ≡ with_first (numbers_in n words) (number_of word)
     counted same a b one others =
         same_count (n + 1) (word ∷ words) (a && b) (omega (arith, same)) (ap (λ t. t && list_all is_number words) one ∙ ap (λ t. a && t) others)

@@ -6,4 +6,3 @@ pub slice-end : (field : List ℕ) (s : ℕ) → take (length field - s) (drop s
 slice-end field s =
     let len = length-drop s field in
     take_all (length field - s) (drop s field) (omega arith)
-

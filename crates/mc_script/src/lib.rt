@@ -7,6 +7,8 @@ mod command;
 mod line;
 mod number;
 mod output;
+#[cfg(test)]
+mod tests;
 mod words;
 
 pub use command::{Command, LineFault, parse};
