@@ -1,5 +1,5 @@
 -- Words that are read as numbers, one after the other.
-use Rattle.std.proofs.Common.{◌≡◌, ℕ, zero, suc, ◌+◌, ◌<◌, ◌≤◌, ◌==◌, Bool, true, false, ◌&&◌, List, [], ◌∷◌, ◌++◌, length, take, set, map, Option, Some, None, Result, Ok, Err, cond, rules, arith, refl, sym, ap, ◌∙◌, length-append, append_assoc, append-nil, take_all, eq-eqb, ne_eqb, inl, inr}
+use Rattle.std.proofs.Common.{◌≡◌, ℕ, ◌+◌, ◌<◌, Bool, true, false, ◌&&◌, List, [], ◌∷◌, ◌++◌, length, take, set, map, Option, Some, None, Result, Ok, Err, cond, arith, refl, sym, ap, ◌∙◌, length-append, append_assoc, append-nil, take_all, eq-eqb, ne_eqb, inl, inr}
 use Rattle.std.specs.List.{list_all}
 use Rattle.std.specs.Str.Parse.{digits_value}
 use Rattle.std.proofs.lemmas.List.{take_more_set, map-append}
@@ -42,10 +42,12 @@ good_more : (done : List (List ℕ)) (word : List ℕ) (t : Bool) → is_number 
 good_more done word true e = list_all-append is_number done (word ∷ []) ∙ ap (λ t. list_all is_number done && (t && true)) e
 good_more done word false e = list_all-append is_number done (word ∷ []) ∙ ap (λ t. list_all is_number done && (t && true)) e
 
+-- and a test that passed
 and_true : (t : Bool) → (t && true) ≡ t
 and_true true = refl
 and_true false = refl
 
+-- and a test that did not pass
 and_false : (t : Bool) → (t && false) ≡ false
 and_false true = refl
 and_false false = refl
@@ -80,10 +82,12 @@ counted_other {more = more} {i = i} word so_far is none = record {
 counted_length : {whole rest : List (List ℕ)} {i : ℕ} {are_good : Bool} {found : List ℕ} → Counted whole rest i are_good found → length whole ≡ i + length rest
 counted_length {rest = rest} so_far = ap length so_far.first ∙ length-append so_far.done rest ∙ omega (arith, so_far.count)
 
+-- another count is told first
 other_count : (n : ℕ) (words : List (List ℕ)) → (length words ≡ n → ⊥) → numbers_in n words ≡ Err NotACommand
 unfolding numbers_in
 other_count n words other = ap (λ t. cond t (cond (list_all is_number words) (Ok (map (digits_value 10) words)) (Err BadNumber)) (Err NotACommand)) (ne_eqb (length words) n other)
 
+-- with the right count it is told whether all are numbers
 same_count : (n : ℕ) (words : List (List ℕ)) (t : Bool) → length words ≡ n → list_all is_number words ≡ t
     → numbers_in n words ≡ cond t (Ok (map (digits_value 10) words)) (Err BadNumber)
 unfolding numbers_in

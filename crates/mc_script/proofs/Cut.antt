@@ -1,14 +1,11 @@
 -- The first line of some bytes, known from a front of them.
-use Rattle.std.proofs.Common.{◌≡◌, ◌≢◌, ℕ, zero, suc, ◌+◌, ◌-◌, ◌<◌, ◌≤◌, ◌⊎◌, inl, inr, Bool, true, false, All, List, [], ◌∷◌, ◌++◌, length, take, drop, slice_index, Option, Some, None, cond, nat_lt, arith, rules, refl, sym, ap, ◌∙◌, length-append, append-nil, length-take-le, Ok, Err, not, ◌==◌}
+use Rattle.std.proofs.Common.{◌≡◌, ◌≢◌, ℕ, ◌+◌, ◌-◌, ◌<◌, ◌≤◌, ◌⊎◌, inl, inr, Bool, true, false, All, List, [], ◌∷◌, ◌++◌, length, take, slice_index, cond, arith, refl, sym, ap, ◌∙◌, length-append, append-nil, length-take-le}
 use Rattle.std.specs.Io.BufRead.{first_line, take_through, drop_through, strip_last, ends_with_byte}
-use Rattle.std.specs.Io.KnownBytes.{Consumes, IsAtEnd}
 use Rattle.std.proofs.BufReadLemmas.{take_through-append, drop_through-append}
 use Rattle.std.proofs.Math.Seq.{take-append-add}
-use Rattle.std.proofs.lemmas.List.Elements.{All-append}
 use Rattle.std.proofs.lemmas.Grind.{common_steps}
 use Rattle.std.proofs.lemmas.Bool.Decides.{nat_tests}
 use Rattle.mc_script.specs.Lines.{is_over}
-use Rattle.mc_script.specs.declared.line.ReadFault.TheVariants.{TooLong}
 
 -- bytes are over by two more, or by one that is no carriage return
 pub over_cases : (line : List ℕ) → is_over line ≡ true → (4097 < length line) ⊎ ((length line ≡ 4097) × (slice_index line 4096 ≢ 13))

@@ -1,37 +1,35 @@
 -- Words of digits, and what parsing them gives.
-use Rattle.std.proofs.Common.{◌≡◌, ℕ, zero, suc, ◌+◌, ◌-◌, ◌<◌, ◌≤◌, Bool, true, false, not, List, [], ◌∷◌, ◌++◌, length, take, drop, ◌^◌, slice_index, Result, Ok, Err, Option, Some, None, cond, nat_lt, ◌&&◌, MatchOption, lt-ltb, ltb-false, rules, arith, refl, sym, ap, ◌∙◌, length-drop, drop_of_length-le}
-use Rattle.std.specs.List.{take_while, prefix_len, position, position_or_len, list_all}
-use Rattle.std.specs.Option.{unwrap_or}
+use Rattle.std.proofs.Common.{◌≡◌, ℕ, zero, suc, ◌<◌, Bool, true, false, List, [], ◌∷◌, length, ◌^◌, slice_index, Result, Ok, Err, Some, None, cond, nat_lt, ◌&&◌, rules, arith, refl, sym, ap, ◌∙◌}
+use Rattle.std.specs.List.{list_all}
 use Rattle.std.specs.Char.{is_ascii_digit}
-use Rattle.std.specs.Str.{all_ascii_digits}
 use Rattle.std.specs.Str.Parse.{digits_value}
-use Rattle.std.specs.Str.{IsUtf8, IsAscii}
+use Rattle.std.specs.Str.{IsUtf8}
 use Rattle.std.specs.Result.{OkIff, result_ok}
 use Rattle.std.specs.Str.Parse.{ParsesUnsigned}
 use Rattle.std.proofs.lemmas.Str.{IsUtf8-from_ascii}
 use Rattle.std.proofs.lemmas.Str.Parse.{IsNumeralModel, numerals_by_value, parse_digits}
 use Rattle.std.proofs.lemmas.Bool.Decides.{nat_tests}
-use Rattle.mc_script.specs.Words.{is_blank, is_inner, words_within, words_of}
 
+-- digits are read by their value
 pub digits_model : IsNumeralModel (λ ds. list_all is_ascii_digit ds ≡ true) (digits_value 10)
 digits_model = numerals_by_value (λ ds. list_all is_ascii_digit ds ≡ true) (search rules)
 
-pub all_digits-ascii : (ds : List ℕ) → list_all is_ascii_digit ds ≡ all_ascii_digits ds
-all_digits-ascii [] = refl
-all_digits-ascii (d ∷ ds) = ap (λ t. is_ascii_digit d && t) (all_digits-ascii ds)
-
+-- a digit is an ASCII byte
 ascii_digit-small : (d : ℕ) → is_ascii_digit d ≡ true → d < 128
 ascii_digit-small d e = grind (arith, nat_tests)
 
+-- both of two tests passed
 and_both : (a b : Bool) → (a && b) ≡ true → (a ≡ true) × (b ≡ true)
 and_both true b e = (refl, e)
 and_both false b e = absurd (cc)
 
+-- digits are ASCII bytes
 digits_small : (ds : List ℕ) → list_all is_ascii_digit ds ≡ true → (i : ℕ) → slice_index ds i < 128
 digits_small [] e i = omega arith
 digits_small (d ∷ ds) e zero = ascii_digit-small d (and_both _ _ e).0
 digits_small (d ∷ ds) e (suc i) = digits_small ds (and_both (is_ascii_digit d) _ e).1 i
 
+-- digits are text
 pub all_digits-utf8 : (ds : List ℕ) → list_all is_ascii_digit ds ≡ true → IsUtf8 ds
 all_digits-utf8 ds e = IsUtf8-from_ascii ds (digits_small ds e)
 

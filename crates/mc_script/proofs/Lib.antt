@@ -5,3 +5,4 @@ pub mod Lines
 pub mod Parting
 pub mod Digits
 pub mod Counting
+pub mod Plays

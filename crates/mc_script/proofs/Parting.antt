@@ -1,19 +1,12 @@
 -- The words of some bytes, one after the other.
-use Rattle.std.proofs.Common.{◌≡◌, ℕ, zero, suc, ◌+◌, ◌-◌, ◌<◌, ◌≤◌, Bool, true, false, not, List, [], ◌∷◌, ◌++◌, length, take, drop, ◌^◌, slice_index, Result, Ok, Err, Option, Some, None, cond, nat_lt, ◌&&◌, MatchOption, lt-ltb, ltb-false, rules, arith, refl, sym, ap, ◌∙◌, length-drop, drop_of_length-le}
-use Rattle.std.specs.List.{take_while, prefix_len, position, position_or_len, list_all}
+use Rattle.std.proofs.Common.{◌≡◌, ℕ, zero, suc, ◌+◌, ◌<◌, ◌≤◌, Bool, true, false, not, List, [], ◌∷◌, length, take, drop, Option, Some, None, cond, nat_lt, MatchOption, arith, refl, sym, ap, ◌∙◌, length-drop, drop_of_length-le}
+use Rattle.std.specs.List.{take_while, prefix_len, position, position_or_len}
 use Rattle.std.specs.Option.{unwrap_or, is_some}
 use Rattle.std.specs.Borrow.{Bor}
-use Rattle.std.specs.Char.{is_ascii_digit}
-use Rattle.std.specs.Str.{all_ascii_digits}
-use Rattle.std.specs.Str.Parse.{digits_value}
-use Rattle.std.specs.Str.{IsUtf8, IsAscii}
-use Rattle.std.specs.Result.{OkIff, result_ok}
-use Rattle.std.specs.Str.Parse.{ParsesUnsigned}
-use Rattle.std.proofs.lemmas.Str.{IsUtf8-from_ascii}
-use Rattle.std.proofs.lemmas.Str.Parse.{IsNumeralModel, numerals_by_value, parse_digits}
 use Rattle.std.proofs.lemmas.Bool.Decides.{nat_tests}
 use Rattle.mc_script.specs.Words.{is_blank, is_inner, words_within, words_of, FirstWord}
 
+-- a prefix is no longer than the list
 pub prefix_len-le : {X : Type 0} (p : X → Bool) (xs : List X) → prefix_len p xs ≤ length xs
 prefix_len-le p [] = omega arith
 prefix_len-le p (x ∷ xs) = at (p x) (prefix_len-le p xs)
@@ -22,6 +15,7 @@ prefix_len-le p (x ∷ xs) = at (p x) (prefix_len-le p xs)
     at true le = omega arith
     at false le = omega arith
 
+-- more room than the bytes need gives the same words
 pub words_within-same : (m n : ℕ) (xs : List ℕ) → length xs ≤ m → length xs ≤ n → words_within m xs ≡ words_within n xs
 unfolding words_within
 words_within-same zero zero xs a b = refl
@@ -78,6 +72,7 @@ inner_at_start (x ∷ xs) lt = at (inner_at_start xs) (is_blank x) refl
         (more.0, more.1, ap (λ k. drop k (x ∷ xs)) skip ∙ more.2, more.3)
     at again false e = (x, xs, ap (λ k. drop k (x ∷ xs)) (ap (λ t. cond (not (not t)) (1 + position_or_len is_inner xs) 0) e), e)
 
+-- where nothing passes a test, the first place that does is the end
 pub unwrap-position : {X : Type 0} (p : X → Bool) (xs : List X) → unwrap_or (position p xs) (length xs) ≡ position_or_len p xs
 unwrap-position p xs = at (nat_lt (position_or_len p xs) (length xs)) refl
   where
@@ -95,6 +90,7 @@ position-cases p xs o e = at (nat_lt (position_or_len p xs) (length xs)) refl o 
     at false t None e = grind (arith, nat_tests)
     at false t (Some i) e = absurd (cc)
 
+-- bytes without a byte of a word have no words
 pub no_words : (xs : List ℕ) (o : Option ℕ) → o ≡ position is_inner xs → o ≡ None → words_of xs ≡ []
 unfolding words_within
 no_words xs o e none =

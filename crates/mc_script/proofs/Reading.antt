@@ -1,15 +1,11 @@
 -- What reading a line gives, from the bytes that were taken.
-use Rattle.std.proofs.Common.{◌≡◌, ◌≢◌, ℕ, zero, suc, ◌+◌, ◌-◌, ◌<◌, ◌≤◌, ◌⊎◌, inl, inr, Bool, true, false, All, List, [], ◌∷◌, ◌++◌, length, take, drop, slice_index, Option, Some, None, cond, nat_lt, arith, rules, refl, sym, ap, ◌∙◌, length-append, append-nil, length-take-le, Ok, Err, not, ◌==◌}
-use Rattle.std.specs.Io.BufRead.{first_line, take_through, drop_through, strip_last, ends_with_byte}
+use Rattle.std.proofs.Common.{◌≡◌, ◌≢◌, ℕ, zero, suc, ◌+◌, ◌<◌, ◌≤◌, inl, inr, true, false, All, List, [], ◌∷◌, ◌++◌, length, Option, Some, None, arith, refl, sym, ap, ◌∙◌, length-append, append-nil, Ok, Err, not, ◌==◌}
+use Rattle.std.specs.Io.BufRead.{first_line, drop_through, strip_last}
 use Rattle.std.specs.Io.KnownBytes.{Consumes, Keeps, IsAtEnd}
-use Rattle.std.proofs.BufReadLemmas.{take_through-append, drop_through-append}
-use Rattle.std.proofs.Math.Seq.{take-append-add}
 use Rattle.std.proofs.lemmas.List.Elements.{All-append}
-use Rattle.std.proofs.lemmas.Grind.{common_steps}
 use Rattle.std.proofs.lemmas.Bool.Decides.{nat_tests}
 use Rattle.mc_script.specs.Lines.{is_over, IsUnfinished, GivesLine}
 use Rattle.mc_script.specs.declared.line.ReadFault.TheVariants.{TooLong}
-
 use Rattle.std.proofs.KnownBytes.{Consumes-nil, Consumes-trans, Consumes-kept}
 use Rattle.mc_script.proofs.Cut.{over_cases, over_stays, last_line, ended_line, fits}
 

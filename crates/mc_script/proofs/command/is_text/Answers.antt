@@ -2,6 +2,7 @@ use Rattle.std.proofs.Common.{◌≡◌, Bool, true, false, sym, refl}
 use Rattle.std.proofs.lemmas.Str.{is_utf8-from_IsUtf8, IsUtf8-from_is_utf8}
 use Rattle.mc_script.proofs.command.is_text.Goals as goal
 
+-- a test that cannot pass
 unless_true : (b : Bool) → (b ≡ true → ⊥) → false ≡ b
 unless_true true h = absurd (h refl)
 unless_true false h = refl

@@ -1,7 +1,4 @@
-use Rattle.std.proofs.Common.{◌≡◌, ◌+◌, ℕ, List, [], ◌∷◌, refl, sym, ap, ◌∙◌, Err, Ok, rules}
-use Rattle.mc_script.specs.Commands.{made, put_of}
-use Rattle.mc_script.specs.Numbers.{numbers_in, number_of}
-use Rattle.mc_script.specs.Words.{words_of}
+use Rattle.std.proofs.Common.{refl, rules}
 use Rattle.mc_script.proofs.Counting.{numbers-nil, numbers-cons, with_first}
 use Rattle.mc_script.proofs.command.put.Goals as goal
 

@@ -1,6 +1,5 @@
-use Rattle.std.proofs.Common.{◌≡◌, ◌<◌, ◌≤◌, ◌+◌, true, false, length, ℕ, List, [], ◌∷◌, rules, arith, refl, sym, ap, ◌∙◌, length-set, set}
-use Rattle.mc_script.specs.Words.{words_of}
-use Rattle.mc_script.proofs.Counting.{Counted, counted_number, counted_other, too_few, too_many, not_all, all_numbers}
+use Rattle.std.proofs.Common.{◌≡◌, ◌<◌, length, arith, sym, ◌∙◌, length-set, set}
+use Rattle.mc_script.proofs.Counting.{counted_number, counted_other, too_few, too_many, not_all, all_numbers}
 use Rattle.mc_script.proofs.Parting.{none_found, some_found}
 use Rattle.mc_script.proofs.number.numbers.Goals as goal
 use Rattle.mc_script.proofs.number.numbers.Goals.{in-Some-number, in-None-number}

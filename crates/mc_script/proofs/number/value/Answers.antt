@@ -1,5 +1,4 @@
-use Rattle.std.proofs.Common.{◌≡◌, ap, ◌∙◌}
-use Rattle.std.specs.Result.{result_ok}
+use Rattle.std.proofs.Common.{◌∙◌}
 use Rattle.mc_script.proofs.Digits.{parsed_digits, all_digits-utf8}
 use Rattle.mc_script.proofs.number.value.Goals as goal
 

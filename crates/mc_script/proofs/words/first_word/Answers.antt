@@ -1,7 +1,7 @@
-use Rattle.std.proofs.Common.{◌≡◌, ◌<◌, ◌≤◌, ◌-◌, sym, ap, ◌∙◌, length, take, drop, arith, rules, refl, Some, length-take-le}
+use Rattle.std.proofs.Common.{◌≡◌, ap, ◌∙◌, take, drop, arith, length-take-le}
 use Rattle.std.proofs.lemmas.List.{take_rest}
 use Rattle.std.specs.List.{prefix_len}
-use Rattle.mc_script.specs.Words.{is_inner, words_of, FirstWord}
+use Rattle.mc_script.specs.Words.{is_inner}
 use Rattle.mc_script.proofs.Parting.{no_words, first_word_is}
 use Rattle.mc_script.proofs.words.first_word.Goals as goal
 

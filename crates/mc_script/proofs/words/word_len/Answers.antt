@@ -1,4 +1,4 @@
-use Rattle.std.proofs.Common.{◌≡◌, sym, ap, ◌∙◌, length}
+use Rattle.std.proofs.Common.{ap, ◌∙◌, length}
 use Rattle.std.specs.Option.{unwrap_or}
 use Rattle.mc_script.specs.Words.{is_blank}
 use Rattle.mc_script.proofs.Parting.{unwrap-position}
