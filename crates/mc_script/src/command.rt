@@ -41,10 +41,8 @@ fn put<const V: usize>(words: &[u8]) -> Result<Command<V>, LineFault>
         None => Err(LineFault::NotACommand),
         Some((key, rest)) => {
             let value = numbers(rest)?;
-            match number(key) {
-                None => Err(LineFault::BadNumber),
-                Some(key) => Ok(Command::Put(key, value)),
-            }
+            let key = number(key).ok_or(LineFault::BadNumber)?;
+            Ok(Command::Put(key, value))
         }
     }
 }

@@ -1,5 +1,6 @@
-use Rattle.std.proofs.Common.{refl, rules}
+use Rattle.std.proofs.Common.{◌≡◌, refl, rules}
 use Rattle.mc_script.proofs.Counting.{numbers-nil, numbers-cons, with_first}
+use Rattle.mc_script.specs.declared.command.LineFault.TheVariants.{BadNumber}
 use Rattle.mc_script.proofs.command.put.Goals as goal
 
 pub returns-in-None : goal.returns-in-None
@@ -9,10 +10,14 @@ pub returns-in_err-value-in-Some : goal.returns-in_err-value-in-Some
 unfolding with_first
 returns-in_err-value-in-Some g c = rw (c.in-Some.ensures.0, numbers-cons, ← c.in_err-value-in-Some.ensures) (search rules)
 
-pub returns-in-None-number : goal.returns-in-None-number
+pub returns-in_err-key-in-Some : goal.returns-in_err-key-in-Some
 unfolding with_first
-returns-in-None-number g c = rw (c.in-Some.ensures.0, numbers-cons, ← c.in_ok-value-in-Some.ensures, ← c.in-None-number.ensures) refl
+returns-in_err-key-in-Some g c =
+    let none = c.in_err-key-in-Some.ensures.ok_part in
+    let told = rw none at c.in_err-key-in-Some.ensures.value in
+    let fault : c.in_err-key-in-Some.field-0.0 ≡ BadNumber = cc told in
+    rw (c.in-Some.ensures.0, numbers-cons, ← c.in_ok-value-in-Some.ensures, ← c.number.ensures, none, ← fault) (search rules)
 
-pub returns-in-Some-number : goal.returns-in-Some-number
+pub returns-in_ok-key-in-Some : goal.returns-in_ok-key-in-Some
 unfolding with_first
-returns-in-Some-number g c = rw (c.in-Some.ensures.0, numbers-cons, ← c.in_ok-value-in-Some.ensures, ← c.in-Some-number.ensures) refl
+returns-in_ok-key-in-Some g c = rw (c.in-Some.ensures.0, numbers-cons, ← c.in_ok-value-in-Some.ensures, ← c.number.ensures, c.in_ok-key-in-Some.ensures.ok_part) refl
