@@ -1,0 +1,5 @@
+pub mod Lines
+pub mod Words
+pub mod Numbers
+pub mod Commands
+pub mod Plays
