@@ -7,3 +7,4 @@ pub mod Flags
 pub mod Writing
 pub mod Renewing
 pub mod Meanings
+pub mod Replaying

@@ -3,7 +3,11 @@
 
 mod answer;
 mod calls;
+mod engine;
+mod fault;
 mod table;
 mod writes;
 
 pub use answer::{Put, PutError, Remove, Spent};
+pub use engine::replay;
+pub use fault::ReplayError;
