@@ -6,3 +6,4 @@ pub mod Deeds
 pub mod Faults
 pub mod Scripts
 pub mod Steps
+pub mod Programs
