@@ -7,7 +7,11 @@
 mod access;
 mod act;
 pub mod laws;
+mod lookup;
+mod stage;
 
 pub use access::Access;
 pub use act::{Act, Deed};
+pub use lookup::Lookup;
 pub use mc_words::{Change, Reply};
+pub use stage::Stage;
