@@ -5,7 +5,7 @@ use Rattle.mc_core.specs.Lookups.{IsLookup, Marks, Meets, ReadsHit, ReadsValues,
 use Rattle.mc_core.specs.Readings.{Reading}
 use Rattle.mc_core.specs.Rest.{RestHit, RestKey, RestMoment, RestSlots, RestValues}
 use Rattle.mc_words.specs.Keys.{stripe_of}
-use Rattle.mc_words.specs.Places.{payload, slot, version}
+use Rattle.mc_words.specs.Places.{payload}
 use Rattle.mc_words.specs.declared.history.Reply.{Reply}
 use Rattle.mc_words.specs.declared.place.Place.{Place}
 use Rattle.mc_words.specs.declared.shape.Shape.{Shape}

@@ -1,6 +1,5 @@
 -- The access that comes next is the only one with which a look-up can go on, and some readings end it.
-use Rattle.std.proofs.Common.{ℕ, zero, suc, ◌≡◌, ◌≢◌, ◌+◌, ◌-◌, ◌%◌, ◌<◌, ◌≤◌, List, [], ◌∷◌, ◌++◌, length, take, drop, replicate, Option, Some, None, refl, sym, ◌∙◌, ap, subst, inl, inr, arith}
-use Rattle.std.specs.Prelude.{◌↔◌}
+use Rattle.std.proofs.Common.{ℕ, zero, suc, ◌≡◌, ◌+◌, ◌-◌, ◌<◌, ◌≤◌, List, [], ◌∷◌, ◌++◌, length, take, drop, replicate, Option, Some, None, refl, sym, ◌∙◌, ap, subst, inl, inr, arith}
 use Rattle.std.proofs.lemmas.List.{length-take, length-append, length-replicate}
 use Rattle.mc_words.specs.Keys.{stripe_of, tag_of}
 use Rattle.mc_words.specs.Places.{payload}
@@ -10,7 +9,7 @@ use Rattle.mc_words.specs.declared.place.Place.{Place}
 use Rattle.mc_words.specs.declared.shape.Shape.{Shape}
 use Rattle.mc_core.specs.Course.{BeginsWith, NextIsDetermined, CanEnd}
 use Rattle.mc_core.specs.Lookups.{slots_for, ReadsValues, Scans, IsLookup}
-use Rattle.mc_core.specs.Machine.{shape_for, next_of, next_at, place_of, value_for, LeftAt, Left}
+use Rattle.mc_core.specs.Machine.{shape_for, next_at, place_of, value_for, LeftAt}
 use Rattle.mc_core.specs.Readings.{Reading}
 use Rattle.mc_core.specs.Rest.{RestMoment, RestValues, RestSlots, RestKey, RestLast}
 use Rattle.mc_core.specs.Stages.{slot_at, word_at, tries_owed}
@@ -34,7 +33,7 @@ begins_at {V} l First rs reply slots words tries left =
 begins_at {V} l (Slot j) rs reply slots words tries left =
     let here = slots_at (shape_for {V = V} l) l.key l.first l.second j l.first_is l.second_is slots in
     let one = slot_reading V (shape_for {V = V} l) l.key l.tries l.version (place_of {V = V} l j) (drop (suc j) (slots_for (shape_for {V = V} l) l.key)) rs reply
-        (subst (λ (ps : List Place). RestSlots V (shape_for {V = V} l) l.key l.tries l.version ps rs reply) here left) in
+    (subst (λ (ps : List Place). RestSlots V (shape_for {V = V} l) l.key l.tries l.version ps rs reply) here left) in
     (one.0, one.1, one.2, one.3)
 begins_at {V} l (Key j i) rs reply slots words tries left = (left.0, left.1, left.2, left.3)
 begins_at {V} l (Value i c) rs reply slots words tries left =

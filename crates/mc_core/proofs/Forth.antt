@@ -1,12 +1,10 @@
 -- From what is left of a look-up after a reading to what was left before it.
-use Rattle.std.proofs.Common.{ℕ, zero, suc, ◌≡◌, ◌≢◌, ◌+◌, ◌%◌, List, [], ◌∷◌, ◌++◌, length, drop, ◌<◌, ◌≤◌, ◌-◌, Option, Some, None, refl, sym, ◌∙◌, ap, subst, inl, inr, arith}
+use Rattle.std.proofs.Common.{ℕ, suc, ◌≡◌, ◌+◌, ◌%◌, List, [], ◌∷◌, ◌++◌, length, Option, Some, None, refl, sym, ◌∙◌, ap, subst, inl, inr, arith}
 use Rattle.std.proofs.lemmas.List.{append_assoc, length_push}
-use Rattle.mc_core.specs.Lists.{front}
 use Rattle.mc_core.specs.Lookups.{IsLookup, Meets, ReadsHit, Scans, Tries, slots_for}
 use Rattle.mc_core.specs.Readings.{Reading}
 use Rattle.mc_core.specs.Rest.{RestHit, RestKey, RestMoment, RestSlots, RestValues}
 use Rattle.mc_words.specs.Keys.{stripe_of}
-use Rattle.mc_words.specs.Places.{slot, version}
 use Rattle.mc_words.specs.declared.history.Reply.{Reply}
 use Rattle.mc_words.specs.declared.place.Place.{Place}
 use Rattle.mc_words.specs.declared.shape.Shape.{Shape}

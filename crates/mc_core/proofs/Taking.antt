@@ -1,7 +1,7 @@
 -- A reading leads from one stage of a look-up to the next: what is left before it is that reading and what is left after it.
-use Rattle.std.proofs.Common.{ℕ, zero, suc, ◌≡◌, ◌≢◌, ◌+◌, ◌*◌, ◌%◌, ◌-◌, ◌<◌, ◌≤◌, List, [], ◌∷◌, ◌++◌, length, take, drop, Option, Some, None, refl, sym, ◌∙◌, ap, subst, inl, inr, arith, length-set}
+use Rattle.std.proofs.Common.{ℕ, zero, suc, ◌≡◌, ◌≢◌, ◌+◌, ◌*◌, ◌%◌, ◌-◌, ◌<◌, ◌≤◌, List, [], ◌∷◌, ◌++◌, length, take, drop, Some, None, refl, sym, ◌∙◌, ap, subst, inl, inr, arith, length-set}
 use Rattle.std.proofs.lemmas.Bool.{cases_lt, cond_below, cond_above}
-use Rattle.std.specs.Prelude.{◌↔◌, slice_set}
+use Rattle.std.specs.Prelude.{◌↔◌, slice_set, IfSome}
 use Rattle.std.proofs.lemmas.Grind.{take-set_at}
 use Rattle.std.proofs.lemmas.List.{length-take, take_all}
 use Rattle.mc_words.specs.Keys.{first_of, second_of, stripe_of, tag_of}
@@ -9,19 +9,18 @@ use Rattle.mc_words.proofs.Keys.{first_of-lt, alternate-lt}
 use Rattle.mc_words.specs.Places.{payload, IsPlace}
 use Rattle.mc_words.specs.Shapes.{IsShape}
 use Rattle.mc_words.specs.declared.history.Reply.{Reply}
-use Rattle.mc_words.specs.declared.history.Reply.TheVariants.{Found, Absent, Busy}
 use Rattle.mc_words.specs.declared.place.Place.{Place}
 use Rattle.mc_words.specs.declared.shape.Shape.{Shape}
 use Rattle.mc_core.specs.Lookups.{Meets, slots_for, IsLookup}
-use Rattle.mc_core.specs.Machine.{shape_for, place_in, slots_from, values_from, ended, LeftAt, Left, steps_at, steps_left, Takes, Restarts}
+use Rattle.mc_core.specs.Machine.{next_at, next_of, shape_for, place_in, slots_from, values_from, LeftAt, Left, steps_at, Takes, Restarts}
 use Rattle.mc_core.specs.Readings.{Reading}
-use Rattle.mc_core.specs.Rest.{RestSlots, RestValues, RestMoment, RestKey}
+use Rattle.mc_core.specs.Rest.{RestSlots, RestValues, RestMoment}
 use Rattle.mc_core.specs.declared.access.Access.{Access}
 use Rattle.mc_core.specs.declared.access.Access.TheVariants as access
 use Rattle.mc_core.specs.declared.lookup.Lookup.{Lookup}
 use Rattle.mc_core.specs.declared.stage.Stage.{Stage}
-use Rattle.mc_core.specs.declared.stage.Stage.TheVariants.{First, Slot, Key, Value, Moment, Last, Mark, Over}
-use Rattle.mc_core.proofs.Feeding.{feed_even, feed_odd, feed_other, feed_meet, feed_none, feed_key, feed_stranger, feed_value, feed_full, feed_moment, feed_spoiled, feed_same, feed_mark}
+use Rattle.mc_core.specs.declared.stage.Stage.TheVariants.{Slot, Key, Value, Moment}
+use Rattle.mc_core.proofs.Feeding.{feed_even, feed_odd, feed_other, feed_meet, feed_none, feed_value, feed_full}
 
 -- two facts of which each follows from the other
 pub both_trans : {A B C : Type 0} → A ↔ B → B ↔ C → A ↔ C
@@ -174,3 +173,7 @@ pub left_odd : (V : ℕ) (sh : Shape) (k t : ℕ) (r : Reading) (rs : List Readi
 left_odd V sh k t r rs reply some a odd =
     let e : suc (t - 1) ≡ t = omega arith in
     subst (λ (y : ℕ). IsLookup V sh k (t - 1) rs reply ↔ IsLookup V sh k y (r ∷ rs) reply) e (feed_odd V sh k (t - 1) r rs reply a (omega arith))
+
+-- the access at a stage is the one that comes next
+pub takes_next : {V : ℕ} (old new : Lookup V) (st : Stage) (w : ℕ) → old.stage ≡ st → IfSome (next_at {V = V} old st) (λ (a : Access). Takes {V = V} old a w new) → IfSome (next_of {V = V} old) (λ (a : Access). Takes {V = V} old a w new)
+takes_next {V} old new st w e h = subst (λ (y : Stage). IfSome (next_at {V = V} old y) (λ (a : Access). Takes {V = V} old a w new)) (sym e) h

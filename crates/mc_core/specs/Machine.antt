@@ -4,7 +4,7 @@ use Rattle.mc_words.specs.Checks.{shape_of}
 use Rattle.mc_words.specs.declared.history.Reply.{Reply}
 use Rattle.mc_words.specs.declared.place.Place.{Place}
 use Rattle.mc_words.specs.declared.shape.Shape.{Shape}
-use Rattle.mc_core.specs.Lookups.{Meets, Marks, slots_for, IsLookup}
+use Rattle.mc_core.specs.Lookups.{Marks, slots_for, IsLookup}
 use Rattle.mc_core.specs.Readings.{Reading}
 use Rattle.mc_core.specs.Rest.{RestSlots, RestKey, RestValues, RestMoment, RestLast}
 use Rattle.mc_core.specs.declared.access.Access.{Access}

@@ -1,7 +1,7 @@
 -- The numbers in a stage of a look-up, each in its range.
 use Rattle.std.specs.Prelude.{ℕ, ◌-◌, Option, Some, None}
 use Rattle.mc_core.specs.declared.stage.Stage.{Stage}
-use Rattle.mc_core.specs.declared.stage.Stage.TheVariants.{First, Slot, Key, Value, Moment, Last, Mark, Over}
+use Rattle.mc_core.specs.declared.stage.Stage.TheVariants.{First, Slot, Key, Value, Moment, Last, Mark}
 
 -- the slot that is read next, or that was read last
 abbrev pub slot_at : Stage → ℕ

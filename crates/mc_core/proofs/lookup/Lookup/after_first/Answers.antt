@@ -1,4 +1,4 @@
-use Rattle.std.proofs.Common.{◌<◌, ◌≢◌, ap, refl, arith}
+use Rattle.std.proofs.Common.{ap, refl, arith}
 use Rattle.mc_core.specs.Machine.{shape_for}
 use Rattle.mc_core.specs.declared.access.Access.TheVariants as access
 use Rattle.mc_core.specs.declared.stage.Stage.TheVariants as stage

@@ -1,4 +1,4 @@
-use Rattle.std.proofs.Common.{◌≡◌, ◌+◌, ◌<◌, ◌≤◌, refl, sym, ◌∙◌, Some, arith}
+use Rattle.std.proofs.Common.{◌≡◌, ◌+◌, refl, ◌∙◌, Some, arith}
 use Rattle.std.proofs.lemmas.Bool.{cond_below, cond_above}
 use Rattle.mc_core.specs.Machine.{shape_for, values_from}
 use Rattle.mc_core.specs.declared.access.Access.TheVariants as access

@@ -1,4 +1,4 @@
-use Rattle.std.proofs.Common.{◌≡◌, ◌<◌, ◌≤◌, ◌+◌, arith}
+use Rattle.std.proofs.Common.{arith}
 use Rattle.mc_words.specs.Places.{payload}
 use Rattle.mc_core.specs.Machine.{shape_for}
 use Rattle.mc_core.proofs.lookup.Lookup.next.Goals as goal
