@@ -3,8 +3,15 @@
 //! The words are read through `Peek`, so the same code serves a list of words and shared words.
 #![tactic(auto)]
 
+mod bucket;
+mod finder;
 mod finding;
+mod path;
 mod peek;
+mod queue;
+mod search;
 
+pub use finder::Finder;
 pub use finding::find;
+pub use path::Path;
 pub use peek::Peek;
