@@ -1,12 +1,11 @@
 -- No chain is shorter than the level that was reached.
-use Rattle.std.proofs.Common.{ℕ, ◌≡◌, ◌≢◌, ◌+◌, ◌-◌, ◌*◌, ◌<◌, ◌≤◌, ◌⊎◌, inl, inr, List, [], ◌∷◌, ◌++◌, length, Bool, true, false, refl, sym, ◌∙◌, ap, subst, arith}
-use Rattle.std.specs.Prelude.{eqb}
+use Rattle.std.proofs.Common.{ℕ, ◌≡◌, ◌≢◌, ◌+◌, ◌-◌, ◌*◌, ◌<◌, ◌≤◌, ◌⊎◌, inl, inr, List, [], ◌∷◌, ◌++◌, length, Bool, true, false, sym, ◌∙◌, ap, subst, arith}
 use Rattle.std.specs.List.{IsDistinct}
 use Rattle.std.proofs.lemmas.Bool.{cases_lt}
 use Rattle.mc_words.specs.declared.place.Place.{Place}
 use Rattle.mc_words.specs.declared.shape.Shape.{Shape}
-use Rattle.mc_words.specs.Chains.{IsHole, Leads, IsChain, NoChain, beyond}
-use Rattle.mc_words.specs.Keys.{first_of, second_of, IsBucketOf}
+use Rattle.mc_words.specs.Chains.{Leads, IsChain, NoChain, beyond}
+use Rattle.mc_words.specs.Keys.{first_of, second_of}
 use Rattle.mc_words.specs.Places.{slot}
 use Rattle.mc_plan.specs.declared.path.Path.{Path}
 use Rattle.mc_plan.specs.declared.queue.Entry.{Entry}

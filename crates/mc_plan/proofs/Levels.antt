@@ -1,5 +1,5 @@
 -- The tree and the levels of the search, as the queue grows.
-use Rattle.std.proofs.Common.{ℕ, ◌≡◌, ◌≢◌, ◌+◌, ◌*◌, ◌<◌, ◌≤◌, ◌⊎◌, inl, inr, List, [], ◌∷◌, ◌++◌, length, Bool, true, false, refl, sym, ◌∙◌, ap, subst, arith}
+use Rattle.std.proofs.Common.{ℕ, ◌≡◌, ◌≢◌, ◌+◌, ◌*◌, ◌<◌, ◌≤◌, inl, inr, List, [], ◌∷◌, ◌++◌, length, Bool, true, false, refl, sym, ◌∙◌, ap, subst, arith}
 use Rattle.std.proofs.lemmas.Bool.{cases_lt}
 use Rattle.mc_words.specs.declared.shape.Shape.{Shape}
 use Rattle.mc_words.specs.Chains.{tag_in}
@@ -112,15 +112,6 @@ expanding-next sh w k f x j q s l at = record {
   level = s.level;
   queued = s.queued;
   front = s.front;
-}
-
-pub expanding-start : (sh : Shape) (w : List ℕ) (k f : ℕ) (x : Entry) (q : List Entry) → IsSearching sh w k f q → f < length q → x ≡ entry_at q f → IsExpanding sh w k f x (4 * f) q
-expanding-start sh w k f x q s l e = record {
-  tree = s.tree;
-  slots = s.slots;
-  level = subst (λ (y : Entry). IsUpTo q (y.depth + 1)) (sym e) (s.level l);
-  queued = l;
-  front = sym e;
 }
 
 pub searching-after : (sh : Shape) (w : List ℕ) (k f : ℕ) (x : Entry) (q : List Entry) → IsExpanding sh w k f x (4 * f + 4) q → IsSearching sh w k (f + 1) q

@@ -1,10 +1,12 @@
 -- Where a key does not stand, slot by slot, and that a key stands in its buckets alone.
-use Rattle.std.proofs.Common.{ℕ, ◌≡◌, ◌≢◌, ◌+◌, ◌*◌, ◌/◌, ◌%◌, ◌^◌, ◌<◌, ◌≤◌, ◌⊎◌, inl, inr, List, length, Option, Some, None, sym, ◌∙◌, ap, subst, arith}
+use Rattle.std.proofs.Common.{ℕ, ◌≡◌, ◌≢◌, ◌+◌, ◌*◌, ◌/◌, ◌%◌, ◌<◌, inl, inr, List, Option, Some, None, sym, ◌∙◌, ap, subst, arith}
 use Rattle.mc_words.specs.declared.shape.Shape.{Shape}
 use Rattle.mc_words.specs.Keys.{tag_of, slot_word, first_of, second_of, IsBucketOf}
 use Rattle.mc_words.specs.Places.{slot, item}
 use Rattle.mc_words.specs.Shapes.{IsShape}
-use Rattle.mc_words.specs.Standing.{Stands, IsAbsent, AgreesAt}
+use Rattle.mc_words.specs.Standing.{IsAbsent, AgreesAt, Agrees}
+use Rattle.mc_words.specs.History.{held}
+use Rattle.mc_words.specs.declared.history.Change.{Change}
 use Rattle.mc_words.proofs.Frames.{slot_word-parts}
 use Rattle.mc_plan.specs.Readable.{IsPlaced, NamesNone, IsNotAt, IsNotAmong}
 
@@ -38,3 +40,7 @@ placed-agrees V sh w k None a q i s = absurd (a q i s)
 placed-agrees V sh w k (Some v) a q i s =
     let is = a.2.once q i s in
     (ap (slot sh w) is.0 ∙ a.2.tagged ∙ ap (λ y. slot_word (tag_of sh k) y) (sym is.1), subst (λ (y : ℕ). IsBucketOf sh k (y / 4)) (sym is.0) a.2.placed)
+
+-- where the words agree with a history and no deed runs, every key is found
+pub placed-quiet : (V : ℕ) (sh : Shape) (w : List ℕ) (h : List (Change V)) (k : ℕ) → Agrees V sh w None h → IsPlaced V sh w k
+placed-quiet V sh w h k a = placed-agrees V sh w k (held h k) (a.keys k (λ e. cc))

@@ -1,15 +1,13 @@
 -- The way back through the queue is a chain.
-use Rattle.std.proofs.Common.{ℕ, ◌≡◌, ◌≢◌, ◌+◌, ◌<◌, ◌≤◌, ◌⊎◌, inl, inr, List, [], ◌∷◌, length, map, Bool, false, refl, sym, ◌∙◌, subst, arith}
+use Rattle.std.proofs.Common.{ℕ, ◌≡◌, ◌+◌, ◌<◌, ◌≤◌, ◌⊎◌, inl, inr, List, [], ◌∷◌, length, map, Bool, false, refl, sym, ◌∙◌, subst, arith}
 use Rattle.std.specs.Prelude.{eqb}
 use Rattle.std.specs.List.{IsDistinct, AllByRecursion}
 use Rattle.std.proofs.lemmas.Bool.{ne_eqb}
 use Rattle.mc_words.specs.declared.place.Place.{Place}
 use Rattle.mc_words.specs.declared.shape.Shape.{Shape}
-use Rattle.mc_words.specs.Chains.{Leads, IsChain, beyond}
+use Rattle.mc_words.specs.Chains.{Leads, IsChain}
 use Rattle.mc_words.specs.Keys.{first_of, second_of}
-use Rattle.mc_plan.specs.declared.path.Path.{Path}
 use Rattle.mc_plan.specs.declared.queue.Entry.{Entry}
-use Rattle.mc_plan.specs.Paths.{IsLeastPath}
 use Rattle.mc_plan.specs.Search.{entry_at, bucket_at, depth_at, IsQueue, ComesFrom, Origin, IsTree, IsFound, Follows, GoesBack}
 
 -- the place in the earlier bucket that leads to the i-th entry
@@ -102,13 +100,3 @@ pub record IsTraceable (q : List Entry) (i : ℕ) : Type 0 where
 
 pub traceable : (sh : Shape) (w : List ℕ) (k : ℕ) (q : List Entry) (i : ℕ) (h : Place) → sh.depth ≤ 8 → IsFound sh w k q i h → IsTraceable q i
 traceable sh w k q i h l f = let deep = f.tree.deep i f.queued in record { queued = f.queued; shallow = omega arith; back = goes_back sh w k q f.tree }
-
--- the way from the entry at which the search ended is a least path
-pub least_path : (sh : Shape) (w : List ℕ) (k : ℕ) (q : List Entry) (i : ℕ) (p : Path) → IsFound sh w k q i p.hole → length p.places.items ≡ depth_at q i → IsChain sh w k p.places.items p.hole → IsLeastPath sh w k p
-least_path sh w k q i p f m chain =
-    let deep = f.tree.deep i f.queued in
-    record {
-      chain = chain;
-      within = omega arith;
-      least = λ ps h x. let l = f.least ps h x in omega arith;
-    }

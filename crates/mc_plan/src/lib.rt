@@ -15,3 +15,6 @@ pub use finder::Finder;
 pub use finding::find;
 pub use path::Path;
 pub use peek::Peek;
+
+#[cfg(test)]
+mod tests;

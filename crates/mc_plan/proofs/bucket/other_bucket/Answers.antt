@@ -1,4 +1,4 @@
-use Rattle.std.proofs.Common.{◌-◌, ◌/◌, ◌<◌, rules, arith}
+use Rattle.std.proofs.Common.{◌-◌, ◌/◌, ◌<◌, rules}
 use Rattle.mc_words.specs.Chains.{tag_in}
 use Rattle.mc_words.specs.Checks.{shape_of}
 use Rattle.mc_plan.proofs.Readable.{tag_in-named}

@@ -1,6 +1,6 @@
-use Rattle.std.proofs.Common.{ℕ, ◌≡◌, ◌∙◌, List, Option, Some, None, IfNone, ap, subst}
+use Rattle.std.proofs.Common.{ℕ, ◌∙◌, List, Option, Some, None, IfNone, ap, subst}
 use Rattle.mc_words.specs.Checks.{shape_of}
-use Rattle.mc_words.specs.Keys.{alternate}
+use Rattle.mc_words.specs.Keys.{alternate, first_of}
 use Rattle.mc_plan.specs.Readable.{IsNotAmong}
 use Rattle.mc_plan.proofs.Standing.{absent_from-buckets}
 use Rattle.mc_plan.proofs.finding.find.Goals as goal
@@ -15,7 +15,7 @@ returns-clause-none g c =
     let w = g.P.Peek.words c.args.peek.now in
     let sh = shape_of c.args.checked.now in
     let k = c.args.key in
-    let second = c.alt-second.ensures.bucket ∙ ap (λ b. alternate sh b c.tag-tag.result) c.first-first.ensures.bucket ∙ ap (alternate sh _) c.tag-tag.ensures in
+    let second = c.alt-second.ensures.bucket ∙ ap (λ b. alternate sh b c.tag-tag.result) c.first-first.ensures.bucket ∙ ap (alternate sh (first_of sh k)) c.tag-tag.ensures in
     where_none _ _ _ c.find_in-2.result
     (λ none. absent_from-buckets g.row.V sh w k c.requires.placed
     (subst (λ (b : ℕ). IsNotAmong g.row.V sh w k b 4) c.first-first.ensures.bucket c.in_default.ensures.none)

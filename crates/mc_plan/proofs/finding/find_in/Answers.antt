@@ -1,4 +1,4 @@
-use Rattle.std.proofs.Common.{◌≡◌, ◌∙◌, ap, below_more}
+use Rattle.std.proofs.Common.{◌∙◌, ap, below_more}
 use Rattle.mc_words.specs.Checks.{shape_of}
 use Rattle.mc_plan.proofs.Standing.{not_at-none, not_at-other}
 use Rattle.mc_plan.proofs.finding.find_in.Goals as goal

@@ -1,9 +1,9 @@
-use Rattle.std.proofs.Common.{ℕ, ◌≡◌, ◌≢◌, ◌∙◌, ◌+◌, ◌*◌, ◌<◌, List, Bool, true, false, length, ap, subst, sym, arith}
+use Rattle.std.proofs.Common.{ℕ, ◌≡◌, ◌≢◌, ◌∙◌, ◌+◌, ◌*◌, List, ap, subst, arith}
 use Rattle.mc_words.specs.Checks.{shape_of}
 use Rattle.mc_words.specs.Places.{slot}
 use Rattle.mc_plan.specs.Readable.{IsFull, IsHoleIn}
 use Rattle.mc_plan.specs.Search.{next_of, IsExpanding, IsSearching}
-use Rattle.mc_plan.proofs.Levels.{taken_at, bucket_read, expanding-start, expanding-added, full-added, full-old, searching-after}
+use Rattle.mc_plan.proofs.Levels.{taken_at, bucket_read, expanding-added, full-added, full-old, searching-after}
 use Rattle.mc_plan.proofs.Least.{found_added}
 use Rattle.mc_plan.proofs.search.expand.Goals as goal
 use Rattle.mc_plan.proofs.search.expand.Goals.{After-add, then-add+in_default, else-add}

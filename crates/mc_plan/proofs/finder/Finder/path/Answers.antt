@@ -1,12 +1,10 @@
-use Rattle.std.proofs.Common.{ℕ, ◌≡◌, ◌-◌, ◌<◌, ◌≤◌, ◌∙◌, List, length, sym, ap, subst, arith}
+use Rattle.std.proofs.Common.{ℕ, ◌≡◌, ◌-◌, ◌∙◌, List, length, sym, ap, subst, arith}
 use Rattle.mc_words.specs.Checks.{shape_of}
-use Rattle.mc_words.specs.Chains.{NoChain}
 use Rattle.mc_words.specs.Keys.{alternate, first_of, second_of}
 use Rattle.mc_plan.specs.declared.queue.Entry.{Entry}
-use Rattle.mc_plan.specs.Paths.{IsLeastPath}
-use Rattle.mc_plan.specs.Search.{IsFound, IsSearching, depth_at}
+use Rattle.mc_plan.specs.Search.{IsFound}
 use Rattle.mc_plan.proofs.Least.{least_direct}
-use Rattle.mc_plan.proofs.Way.{IsTraceable, traceable, least_path}
+use Rattle.mc_plan.proofs.Way.{IsTraceable, traceable}
 use Rattle.mc_plan.proofs.finder.Finder.path.Goals as goal
 use Rattle.mc_plan.proofs.finder.Finder.path.Goals.{After-alt-second, In-Some-found, After-len}
 use Rattle.mc_plan.proofs.finder.Finder.path.Given.{Over}
