@@ -15,9 +15,13 @@ HasSlots sh w = slot_place sh (4 * sh.buckets) ≤ length w
 abbrev pub IsFilled : Shape → List ℕ → Type 0
 IsFilled sh w = (q : ℕ) → q < 4 * sh.buckets → (slot sh w q ≡ 0) ⊎ ((i : ℕ) × Names sh w q i)
 
--- wherever the key stands, it stands under its tag, in a bucket of the key
+-- where the key stands in the slot, it stands under its tag, in a bucket of the key
+abbrev pub IsPlacedAt : ℕ → Shape → List ℕ → ℕ → ℕ → Type 0
+IsPlacedAt V sh w k q = (i : ℕ) → Stands V sh w k q i → (slot sh w q ≡ slot_word (tag_of sh k) i) × IsBucketOf sh k (q / 4)
+
+-- wherever the key stands, it stands so
 abbrev pub IsPlaced : ℕ → Shape → List ℕ → ℕ → Type 0
-IsPlaced V sh w k = (q i : ℕ) → Stands V sh w k q i → (slot sh w q ≡ slot_word (tag_of sh k) i) × IsBucketOf sh k (q / 4)
+IsPlaced V sh w k = (q : ℕ) → IsPlacedAt V sh w k q
 
 -- the word names no item under the tag
 abbrev pub NamesNone : Shape → ℕ → ℕ → Type 0

@@ -3,7 +3,7 @@ use Rattle.mc_words.specs.Checks.{shape_of}
 use Rattle.mc_words.specs.Places.{slot}
 use Rattle.mc_words.specs.Standing.{Names}
 use Rattle.mc_plan.specs.Readable.{HasSlots}
-use Rattle.mc_plan.proofs.tests.is_readable.Given as goal
+use Rattle.mc_plan.proofs.tests.table.is_readable.Given as goal
 
 abbrev pub invariant-loop-q : goal.invariant-loop-q
 invariant-loop-q l = record {
