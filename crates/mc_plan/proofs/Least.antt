@@ -29,6 +29,7 @@ too_short sh w k t m q full s past b (p ∷ ps) h u x n l =
     let on' : IsNear q (beyond sh w p) (depth_at q n.0 + 1) = subst (λ (y : ℕ). IsNear q (next_of sh w y p.slot) (depth_at q n.0 + 1)) same on in
     too_short sh w k t m q full s past (beyond sh w p) ps h (depth_at q n.0 + 1) x.2 on' (omega arith)
 
+-- so it is from either bucket of the key
 chain_short : (sh : Shape) (w : List ℕ) (k t m : ℕ) (q : List Entry) → AreFull sh w q → IsFollowed sh w k t q → ((i : ℕ) → i < length q → depth_at q i + 1 < m → 4 * i + 4 ≤ t) → (ps : List Place) (h : Place) → Leads sh w (first_of sh k) ps h ⊎ Leads sh w (second_of sh k) ps h → length ps < m → ⊥
 chain_short sh w k t m q full s past ps h (inl x) l = too_short sh w k t m q full s past (first_of sh k) ps h 0 x s.from_first (omega arith)
 chain_short sh w k t m q full s past ps h (inr x) l = too_short sh w k t m q full s past (second_of sh k) ps h 0 x s.from_second (omega arith)
@@ -40,9 +41,11 @@ none_left sh w k f q full s past ps h x = elim (cases_lt sh.depth (length ps)) [
   | inr g ↦ absurd (chain_short sh w k (4 * f) (sh.depth + 1) q full s.slots (λ i l m. let b = past i l (omega arith) in omega arith) ps h x.leads (omega arith))
 ]
 
+-- so it is where every entry was followed
 pub none_queued : (sh : Shape) (w : List ℕ) (k f : ℕ) (q : List Entry) → AreFull sh w q → IsSearching sh w k f q → length q ≤ f → NoChain sh w k sh.depth
 none_queued sh w k f q full s l = none_left sh w k f q full s (λ i h m. omega arith)
 
+-- so it is where the next entry is at the last level
 pub none_above : (sh : Shape) (w : List ℕ) (k f : ℕ) (x : Entry) (q : List Entry) → AreFull sh w q → IsSearching sh w k f q → f < length q → x ≡ entry_at q f → sh.depth ≤ x.depth → NoChain sh w k sh.depth
 none_above sh w k f x q full s l e d =
     let deep : x.depth ≡ depth_at q f = ap (λ (y : Entry). y.depth) e in

@@ -10,7 +10,7 @@ use Rattle.mc_plan.specs.Readable.{IsFull}
 use Rattle.mc_plan.specs.Search.{entry_at, bucket_at, depth_at, next_of, AreFull, ComesFrom, Origin, IsTree, IsNear, IsUpTo, IsFollowed, IsAdded, IsSearching, IsExpanding}
 use Rattle.mc_plan.proofs.Pushed.{entry_at-old, entry_at-new, bucket_at-old, depth_at-old, depth_at-new, length-push, last_or, each_pushed}
 
--- ---- one more entry
+-- an entry that comes from an earlier one still does where one more is queued
 comes-push : (sh : Shape) (w : List ℕ) (q : List Entry) (x : Entry) (i : ℕ) (e : Entry) → i ≤ length q → ComesFrom sh w q i e → ComesFrom sh w (q ++ x ∷ []) i e
 comes-push sh w q x i e l k =
     let earlier = k.earlier in
@@ -24,10 +24,12 @@ comes-push sh w q x i e l k =
       deeper = subst (λ (y : Entry). e.depth ≡ y.depth + 1) same k.deeper;
     }
 
+-- an origin stays one
 origin-push : (sh : Shape) (w : List ℕ) (k : ℕ) (q : List Entry) (x : Entry) (i : ℕ) (e : Entry) → i ≤ length q → Origin sh w k q i e → Origin sh w k (q ++ x ∷ []) i e
 origin-push sh w k q x i e l (inl s) = inl s
 origin-push sh w k q x i e l (inr c) = inr (comes-push sh w q x i e l c)
 
+-- a tree grows by an entry that is as deep as any
 tree-push : (sh : Shape) (w : List ℕ) (k : ℕ) (q : List Entry) (e : Entry) → IsTree sh w k q → Origin sh w k q (length q) e → e.depth ≤ sh.depth → IsUpTo q e.depth → IsTree sh w k (q ++ e ∷ [])
 tree-push sh w k q e t o l m =
     let r = q ++ e ∷ [] in
@@ -45,15 +47,18 @@ tree-push sh w k q e t o l m =
           k h i b;
     }
 
+-- and stays as shallow as that entry
 most-push : (q : List Entry) (e : Entry) (m : ℕ) → IsUpTo q m → e.depth ≤ m → IsUpTo (q ++ e ∷ []) m
 most-push q e m u l = each_pushed (λ i x. x.depth ≤ m) q e u l
 
+-- what was near is near
 near-push : (q : List Entry) (e : Entry) (b m : ℕ) → IsNear q b m → IsNear (q ++ e ∷ []) b m
 near-push q e b m k =
     let many = length-push q e in
     let l : k.0 < length q = k.1 in
     (k.0, omega arith, rw (bucket_at-old q e k.0 k.1) k.2, rw (depth_at-old q e k.0 k.1) k.3)
 
+-- the slots that were followed stay so
 followed-push : (sh : Shape) (w : List ℕ) (k t : ℕ) (q : List Entry) (e : Entry) → t ≤ 4 * length q → IsFollowed sh w k t q → IsFollowed sh w k t (q ++ e ∷ [])
 followed-push sh w k t q e lt s = record {
   from_first = near-push q e (first_of sh k) 0 s.from_first;
@@ -67,11 +72,11 @@ followed-push sh w k t q e lt s = record {
 pub full-push : (sh : Shape) (w : List ℕ) (q : List Entry) (e : Entry) → AreFull sh w q → IsFull sh w e.bucket → AreFull sh w (q ++ e ∷ [])
 full-push sh w q e old new = each_pushed (λ i x. IsFull sh w x.bucket) q e old new
 
--- ---- among the slots of the f-th entry
 -- the entry to which slot j of the f-th entry x leads
 abbrev pub entry_from : Shape → List ℕ → ℕ → Entry → ℕ → Entry
 entry_from sh w f x j = record { bucket = next_of sh w x.bucket j; from = f; slot = j; depth = x.depth + 1 }
 
+-- it joins the queue while the slots of x are looked at
 pub expanding-push : (sh : Shape) (w : List ℕ) (k f : ℕ) (x : Entry) (j : ℕ) (q : List Entry) → IsExpanding sh w k f x (4 * f + j) q → j < 4 → slot sh w (4 * x.bucket + j) ≢ 0 → x.depth < sh.depth → IsExpanding sh w k f x (4 * f + j) (q ++ entry_from sh w f x j ∷ [])
 expanding-push sh w k f x j q s l o m =
     let e = entry_from sh w f x j in
@@ -114,6 +119,7 @@ expanding-next sh w k f x j q s l at = record {
   front = s.front;
 }
 
+-- after the fourth slot the search is at the next entry
 pub searching-after : (sh : Shape) (w : List ℕ) (k f : ℕ) (x : Entry) (q : List Entry) → IsExpanding sh w k f x (4 * f + 4) q → IsSearching sh w k (f + 1) q
 searching-after sh w k f x q s =
     let e : 4 * f + 4 ≡ 4 * (f + 1) = omega arith in
@@ -127,14 +133,16 @@ searching-after sh w k f x q s =
           omega arith;
     }
 
--- ---- the start
+-- the entry of a bucket of the key
 abbrev pub start_at : ℕ → Entry
 start_at b = record { bucket = b; from = 0; slot = 0; depth = 0 }
 
+-- a bucket of the key joins a queue that has nothing deeper
 start-push : (sh : Shape) (w : List ℕ) (k b : ℕ) (q : List Entry) → IsTree sh w k q × IsUpTo q 0 → IsBucketOf sh k b → IsTree sh w k (q ++ start_at b ∷ []) × IsUpTo (q ++ start_at b ∷ []) 0
 start-push sh w k b q t s =
     (tree-push sh w k q (start_at b) t.0 (inl (record { top = refl; of_key = s })) (omega arith) t.1, most-push q (start_at b) 0 t.1 (omega arith))
 
+-- so does one that may be there already
 start-grown : (sh : Shape) (w : List ℕ) (k b : ℕ) (q r : List Entry) (new : Bool) → IsAdded q (start_at b) r new → IsTree sh w k q × IsUpTo q 0 → IsBucketOf sh k b → IsTree sh w k r × IsUpTo r 0
 start-grown sh w k b q r true a t s = subst (λ (y : List Entry). IsTree sh w k y × IsUpTo y 0) (sym a) (start-push sh w k b q t s)
 start-grown sh w k b q r false a t s = subst (λ (y : List Entry). IsTree sh w k y × IsUpTo y 0) (sym a.0) t
@@ -144,17 +152,21 @@ pub there-added : (q r : List Entry) (e : Entry) (new : Bool) → IsAdded q e r 
 there-added q r e true a = subst (λ (y : List Entry). (i : ℕ) × (i < length y) × (bucket_at y i ≡ e.bucket)) (sym a) (length q, omega (arith, length-push q e), ap (λ (y : Entry). y.bucket) (entry_at-new q e))
 there-added q r e false a = subst (λ (y : List Entry). (i : ℕ) × (i < length y) × (bucket_at y i ≡ e.bucket)) (sym a.0) a.1
 
+-- what was near is near after an `add`
 near-added : (q r : List Entry) (e : Entry) (new : Bool) (b m : ℕ) → IsAdded q e r new → IsNear q b m → IsNear r b m
 near-added q r e true b m a k = subst (λ (y : List Entry). IsNear y b m) (sym a) (near-push q e b m k)
 near-added q r e false b m a k = subst (λ (y : List Entry). IsNear y b m) (sym a.0) k
 
+-- full buckets stay full after an `add` of a full one
 pub full-added : (sh : Shape) (w : List ℕ) (q r : List Entry) (e : Entry) (new : Bool) → IsAdded q e r new → AreFull sh w q → IsFull sh w e.bucket → AreFull sh w r
 full-added sh w q r e true a old x = subst (λ (y : List Entry). AreFull sh w y) (sym a) (full-push sh w q e old x)
 full-added sh w q r e false a old x = subst (λ (y : List Entry). AreFull sh w y) (sym a.0) old
 
+-- an empty queue has only full buckets
 none_full : (sh : Shape) (w : List ℕ) → AreFull sh w []
 none_full sh w i h = absurd (omega (arith, h))
 
+-- and is a tree
 empty_tree : (sh : Shape) (w : List ℕ) (k : ℕ) → IsTree sh w k [] × IsUpTo [] 0
 empty_tree sh w k = (
   record {
@@ -165,10 +177,12 @@ empty_tree sh w k = (
   λ i h. absurd (omega (arith, h)),
 )
 
+-- the queue at the start has full buckets where both of the key are full
 pub start-full : (sh : Shape) (w : List ℕ) (a b : ℕ) (o q r : List Entry) (x y : Bool) → o ≡ [] → IsAdded o (start_at a) q x → IsAdded q (start_at b) r y → IsFull sh w a → IsFull sh w b → AreFull sh w r
 start-full sh w a b o q r x y z one two fa fb =
     full-added sh w q r (start_at b) y two (full-added sh w o q (start_at a) x one (subst (λ (v : List Entry). AreFull sh w v) (sym z) (none_full sh w)) fa) fb
 
+-- the search at its start
 pub searching-start : (sh : Shape) (w : List ℕ) (k a b : ℕ) (o q r : List Entry) (x y : Bool) → o ≡ [] → IsAdded o (start_at a) q x → IsAdded q (start_at b) r y → a ≡ first_of sh k → b ≡ second_of sh k → IsSearching sh w k 0 r
 searching-start sh w k a b o q r x y z one two ea eb =
     let none : IsTree sh w k o × IsUpTo o 0 = subst (λ (v : List Entry). IsTree sh w k v × IsUpTo v 0) (sym z) (empty_tree sh w k) in
@@ -187,7 +201,6 @@ searching-start sh w k a b o q r x y z one two ea eb =
       level = λ h i m. let v = up i m in omega arith;
     }
 
--- ---- one slot of the f-th entry, as the code follows it
 -- the entry that is queued for slot j, where the code found bucket b
 abbrev pub entry_to : ℕ → ℕ → Entry → ℕ → Entry
 entry_to b f x j = record { bucket = b; from = f; slot = j; depth = x.depth + 1 }
@@ -201,10 +214,12 @@ pub bucket_read : (sh : Shape) (w v : List ℕ) (x : Entry) (j word b : ℕ) →
 bucket_read sh w v x j word b same read is =
     is ∙ ap (λ y. alternate sh x.bucket (tag_in y)) (read ∙ ap (λ (y : List ℕ). slot sh y (4 * x.bucket + j)) same)
 
+-- a new bucket is queued
 expanding-new : (sh : Shape) (w : List ℕ) (k f : ℕ) (x : Entry) (j b : ℕ) (q : List Entry) → IsExpanding sh w k f x (4 * f + j) q → j < 4 → slot sh w (4 * x.bucket + j) ≢ 0 → x.depth < sh.depth → b ≡ next_of sh w x.bucket j → IsExpanding sh w k f x (4 * f + j) (q ++ entry_to b f x j ∷ [])
 expanding-new sh w k f x j b q s l o d e =
     subst (λ (y : ℕ). IsExpanding sh w k f x (4 * f + j) (q ++ entry_to y f x j ∷ [])) (sym e) (expanding-push sh w k f x j q s l o d)
 
+-- one slot more is followed, whether its bucket is new or not
 pub expanding-added : (sh : Shape) (w : List ℕ) (k f : ℕ) (x : Entry) (j b : ℕ) (q r : List Entry) (new : Bool) → IsExpanding sh w k f x (4 * f + j) q → j < 4 → slot sh w (4 * x.bucket + j) ≢ 0 → x.depth < sh.depth → b ≡ next_of sh w x.bucket j → IsAdded q (entry_to b f x j) r new → IsExpanding sh w k f x (4 * f + (j + 1)) r
 expanding-added sh w k f x j b q r true s l o d e a =
     let there = there-added q r (entry_to b f x j) true a in
@@ -213,6 +228,7 @@ expanding-added sh w k f x j b q r false s l o d e a =
     let there = there-added q r (entry_to b f x j) false a in
     expanding-next sh w k f x j r (subst (λ (y : List Entry). IsExpanding sh w k f x (4 * f + j) y) (sym a.0) s) l (there.0, there.1, there.2 ∙ e)
 
+-- full buckets stay full where nothing was added
 pub full-old : (sh : Shape) (w : List ℕ) (q r : List Entry) (e : Entry) (new : Bool) → new ≡ false → IsAdded q e r new → AreFull sh w q → AreFull sh w r
 full-old sh w q r e true t a old = absurd (cc)
 full-old sh w q r e false t a old = subst (λ (y : List Entry). AreFull sh w y) (sym a.0) old

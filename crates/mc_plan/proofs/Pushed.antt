@@ -22,18 +22,23 @@ entry_at-new q e =
     let z : length q - length q ≡ 0 = omega arith in
     get_or-append_right q (e ∷ []) (length q) (length q) blank refl (omega arith) ∙ ap (λ k. get_or (e ∷ []) k blank) z
 
+-- so do their buckets
 pub bucket_at-old : (q : List Entry) (e : Entry) (i : ℕ) → i < length q → bucket_at (q ++ e ∷ []) i ≡ bucket_at q i
 bucket_at-old q e i h = ap (λ (y : Entry). y.bucket) (entry_at-old q e i h)
 
+-- and their depths
 pub depth_at-old : (q : List Entry) (e : Entry) (i : ℕ) → i < length q → depth_at (q ++ e ∷ []) i ≡ depth_at q i
 depth_at-old q e i h = ap (λ (y : Entry). y.depth) (entry_at-old q e i h)
 
+-- with its bucket
 pub bucket_at-new : (q : List Entry) (e : Entry) → bucket_at (q ++ e ∷ []) (length q) ≡ e.bucket
 bucket_at-new q e = ap (λ (y : Entry). y.bucket) (entry_at-new q e)
 
+-- and its depth
 pub depth_at-new : (q : List Entry) (e : Entry) → depth_at (q ++ e ∷ []) (length q) ≡ e.depth
 depth_at-new q e = ap (λ (y : Entry). y.depth) (entry_at-new q e)
 
+-- the queue is one longer
 pub length-push : (q : List Entry) (e : Entry) → length (q ++ e ∷ []) ≡ length q + 1
 length-push q e = length-append q (e ∷ [])
 

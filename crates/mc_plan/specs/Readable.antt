@@ -43,5 +43,6 @@ NamesSome sh word = (tag : ℕ) × (i : ℕ) × NamesUnder sh word tag i
 abbrev pub IsFull : Shape → List ℕ → ℕ → Type 0
 IsFull sh w b = (j : ℕ) → j < 4 → slot sh w (4 * b + j) ≢ 0
 
+-- an empty slot of the bucket
 abbrev pub IsHoleIn : Shape → List ℕ → ℕ → Place → Type 0
 IsHoleIn sh w b h = IsHole sh w h × (h.bucket ≡ b)

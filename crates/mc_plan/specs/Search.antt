@@ -9,15 +9,19 @@ use Rattle.mc_words.specs.Places.{slot}
 use Rattle.mc_plan.specs.declared.queue.Entry.{Entry}
 use Rattle.mc_plan.specs.Readable.{IsFull}
 
+-- an entry that says nothing
 abbrev pub blank : Entry
 blank = record { bucket = 0; from = 0; slot = 0; depth = 0 }
 
+-- the i-th entry
 unfoldable pub entry_at : List Entry → ℕ → Entry
 entry_at q i = get_or q i blank
 
+-- its bucket
 abbrev pub bucket_at : List Entry → ℕ → ℕ
 bucket_at q i = (entry_at q i).bucket
 
+-- its depth
 abbrev pub depth_at : List Entry → ℕ → ℕ
 depth_at q i = (entry_at q i).depth
 
@@ -29,6 +33,7 @@ pub record IsQueue (q : List Entry) (seen : List Bool) : Type 0 where
   pub marks : (i : ℕ) → i < length q → get_or seen (bucket_at q i) false ≡ true
   pub backed : (b : ℕ) → get_or seen b false ≡ true → (k : ℕ) × (k < length q) × (bucket_at q k ≡ b)
 
+-- no bucket is marked
 abbrev pub IsUnmarked : List Bool → Type 0
 IsUnmarked seen = (b : ℕ) → get_or seen b false ≡ false
 
@@ -53,10 +58,12 @@ pub record ComesFrom (sh : Shape) (w : List ℕ) (q : List Entry) (i : ℕ) (e :
   pub leads : e.bucket ≡ next_of sh w (bucket_at q e.from) e.slot
   pub deeper : e.depth ≡ depth_at q e.from + 1
 
+-- an entry of a bucket of the key
 pub record IsStart (sh : Shape) (k : ℕ) (e : Entry) : Type 0 where
   pub top : e.depth ≡ 0
   pub of_key : IsBucketOf sh k e.bucket
 
+-- an entry is of a bucket of the key, or comes from an earlier one
 abbrev pub Origin : Shape → List ℕ → ℕ → List Entry → ℕ → Entry → Type 0
 Origin sh w k q i e = IsStart sh k e ⊎ ComesFrom sh w q i e
 

@@ -13,6 +13,9 @@ use arrayvec::ArrayVec;
 use mc_words::{Checked, Place};
 
 /// Queues the unseen buckets to which the items of the queue's `front`-th can move, up to the first that has a hole.
+///
+/// A bucket is looked at when it is queued and not in its turn: the first queued that has a hole is the first whose
+/// turn would come.
 fn expand<P: Peek>(
     checked: &Checked,
     queue: &mut Vec<Entry>,

@@ -5,11 +5,13 @@ use Rattle.mc_plan.proofs.Pushed.{queue-push, length-push}
 use Rattle.mc_plan.proofs.queue.add.Goals as goal
 use Rattle.mc_plan.proofs.queue.add.Goals.{After-push}
 
+-- the bucket was not marked
 unseen : (c : After-push) → get_or c.args.seen.now.items c.args.entry.bucket false ≡ false
 unseen c =
     let l = c.requires.in_table in
     get_or_default c.args.seen.now.items c.args.entry.bucket false c.index.result.now l ∙ sym c.index.ensures ∙ c.if-index.false
 
+-- the queue with the bucket, and its mark
 pushed : (c : After-push) → IsQueue (c.args.queue.now.items ++ c.args.entry ∷ []) (set c.args.seen.now.items c.args.entry.bucket true)
 pushed c = queue-push c.args.queue.now.items c.args.seen.now.items c.args.entry c.requires.queue c.requires.in_table (unseen c)
 

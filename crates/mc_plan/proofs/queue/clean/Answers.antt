@@ -4,6 +4,7 @@ use Rattle.mc_plan.specs.declared.queue.Entry.{Entry}
 use Rattle.mc_plan.specs.Search.{entry_at, bucket_at, IsQueue}
 use Rattle.mc_plan.proofs.queue.clean.Goals as goal
 
+-- each bucket of the queue has a mark
 in_table : (q r : List Entry) (seen : List Bool) → IsQueue q seen → r ≡ q → (i : ℕ) → i < length r → bucket_at r i < length seen
 in_table q r seen k e i h = (subst (λ (v : List Entry). i < length v → bucket_at v i < length seen) (sym e) (k.in_table i)) h
 

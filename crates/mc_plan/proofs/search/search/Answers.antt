@@ -8,9 +8,11 @@ use Rattle.mc_plan.proofs.search.search.Goals as goal
 use Rattle.mc_plan.proofs.search.search.Goals.{After-index-entry}
 use Rattle.mc_plan.proofs.search.search.Given.{Over}
 
+-- the entry is in the queue
 queued : (g : Over) (c : After-index-entry g) → c.levels.front < length c.levels.queue.items
 queued g c = let is = c.levels.queue.ok.0 in omega arith
 
+-- it is the one that was read
 read : (g : Over) (c : After-index-entry g) → c.index-entry.result.now ≡ entry_at c.levels.queue.items c.levels.front
 read g c = entry_read c.levels.queue.items c.levels.front c.index-entry.result.now c.index-entry.ensures (queued g c)
 

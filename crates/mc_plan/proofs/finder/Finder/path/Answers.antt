@@ -9,6 +9,7 @@ use Rattle.mc_plan.proofs.finder.Finder.path.Goals as goal
 use Rattle.mc_plan.proofs.finder.Finder.path.Goals.{After-alt-second, In-Some-found, After-len}
 use Rattle.mc_plan.proofs.finder.Finder.path.Given.{Over}
 
+-- the other bucket is the second of the key
 second : (g : Over) (c : After-alt-second g) → c.alt-second.result ≡ second_of (shape_of c.self.inside.checked) c.args.key
 second g c =
     let sh = shape_of c.self.inside.checked in
