@@ -1,0 +1,17 @@
+pub mod Same
+pub mod Deeds
+pub mod Plain
+pub mod Steps
+pub mod Holding
+pub mod Runs
+pub mod Fronts
+pub mod Readings
+pub mod Windows
+pub mod Histories
+pub mod Scans
+pub mod Readers
+pub mod Sweeps
+pub mod Counted
+pub mod Counts
+pub mod Written
+pub mod Grown

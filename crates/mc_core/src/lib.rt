@@ -1,0 +1,13 @@
+//! The core of the cache index: the atomic steps of the writer and of the readers, and what they mean together.
+//!
+//! A lawful list of acts is a run of the writer. Each act changes one word, and the laws of this crate say what
+//! holds of every such list and of every look-up that reads words of it, at whatever fronts.
+#![tactic(auto)]
+
+mod access;
+mod act;
+pub mod laws;
+
+pub use access::Access;
+pub use act::{Act, Deed};
+pub use mc_words::{Change, Reply};
