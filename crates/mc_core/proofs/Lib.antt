@@ -15,3 +15,9 @@ pub mod Counted
 pub mod Counts
 pub mod Written
 pub mod Grown
+pub mod Forth
+pub mod Back
+pub mod Feeding
+pub mod Taking
+pub mod Course
+pub mod Reached

@@ -7,6 +7,11 @@ pub mod Inner
 pub mod Readings
 pub mod Lookups
 pub mod Rest
+pub mod Stages
+pub mod Machine
+pub mod Met
+pub mod Course
+pub mod Worlds
 pub mod Laws
 pub mod Growth
 pub mod Writes
