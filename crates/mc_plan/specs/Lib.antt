@@ -1,0 +1,4 @@
+pub mod Readable
+pub mod Paths
+pub mod Search
+pub mod Ready
