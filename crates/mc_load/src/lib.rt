@@ -8,6 +8,8 @@ mod fault;
 mod options;
 mod step;
 mod table;
+#[cfg(test)]
+mod tests;
 mod writes;
 
 pub use answer::{Put, PutError, Remove, Spent};

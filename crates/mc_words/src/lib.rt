@@ -9,6 +9,8 @@ mod history;
 mod mix;
 mod place;
 mod shape;
+#[cfg(test)]
+mod tests;
 
 pub use checked::Checked;
 pub use history::{Change, Reply};

@@ -1,0 +1,143 @@
+use super::{Case, PLAIN, first_wrong, run};
+use std::str;
+
+#[test]
+fn faults_of_the_command_line(rt: HostRuntime) {
+    let script = b"get 0\n".as_slice();
+    let faults: [&[&str]; 21] = [
+        &["mcstep", "--other"],
+        &["mcstep", "--stripes", "1"],
+        &["mcstep", "--depth", "0"],
+        &["mcstep", "--tries", "2"],
+        &["mcstep", "--limit", "8"],
+        &["mcstep", "--readers", "2"],
+        &["mcstep", "script"],
+        &["mcstep", "--buckets"],
+        &["mcstep", "--words", "0"],
+        &["mcstep", "--words", "3"],
+        &["mcstep", "--words", "256"],
+        &["mcstep", "--buckets", "4294967296"],
+        &["mcstep", "--buckets", "18446744073709551620"],
+        &["mcstep", "--buckets", "+4"],
+        &["mcstep", "--buckets=-4"],
+        &["mcstep", "--buckets", "4.0"],
+        &["mcstep", "--items", "+4"],
+        &["mcstep", "--items", ""],
+        &["mcstep", "--words", "+1"],
+        &["mcstep", "--mix", "other"],
+        // A fault of the command line comes before a refused shape.
+        &["mcstep", "--buckets", "3", "--words", "3"],
+    ];
+    for (number, words) in faults.iter().enumerate() {
+        let outcome = run(rt.alloc(), words, script);
+        assert_eq!(rt; outcome.status, 2, "the status of case {number}");
+        assert!(rt; outcome.output.is_empty(), "case {number} writes nothing");
+        assert_eq!(rt; outcome.unread, script.len(), "case {number} reads nothing");
+        assert!(rt;
+            outcome.errors.as_slice().starts_with(b"error: "),
+            "case {number} tells a fault"
+        );
+    }
+}
+
+#[test]
+fn texts_of_the_command_line(rt: HostRuntime) {
+    let cases: [(&[&str], &str); 5] = [
+        (
+            &["mcstep", "--depth", "2"],
+            "error: unexpected argument '--depth' found\n\nUsage: mcstep [OPTIONS]\n\nFor more information, try '--help'.\n",
+        ),
+        (
+            &["mcstep", "--words", "3"],
+            "error: invalid value '3' for '--words <words>': 3 is not in 1..=2\n\nFor more information, try '--help'.\n",
+        ),
+        (
+            &["mcstep", "--buckets", "4294967296"],
+            "error: invalid value '4294967296' for '--buckets <buckets>': 4294967296 is not in 0..=4294967295\n\nFor more information, try '--help'.\n",
+        ),
+        (
+            &["mcstep", "--buckets", "+4"],
+            "error: a number has digits only\n\nUsage: mcstep [OPTIONS]\n\nFor more information, try '--help'.\n",
+        ),
+        (
+            &["mcstep", "--mix", "other"],
+            "error: invalid value 'other' for '--mix <mix>'\n  [possible values: plain, fmix]\n\nFor more information, try '--help'.\n",
+        ),
+    ];
+    for (words, text) in cases {
+        let outcome = run(rt.alloc(), words, b"");
+        assert_eq!(rt; outcome.errors.as_slice(), text.as_bytes());
+    }
+}
+
+#[test]
+fn help_goes_to_standard_output(rt: HostRuntime) {
+    for words in [["mcstep", "--help"], ["mcstep", "-h"]] {
+        let outcome = run(rt.alloc(), &words, b"get 0\n");
+        assert_eq!(rt; outcome.status, 0);
+        assert!(rt; outcome.errors.is_empty());
+        let text = str::from_utf8(outcome.output.as_slice()).unwrap_or("");
+        for option in ["--buckets", "--items", "--mix", "--words"] {
+            assert!(rt; text.contains(option), "{option} is missing");
+        }
+        assert!(rt; !text.contains("absent"));
+    }
+}
+
+#[test]
+fn refused_shapes(rt: HostRuntime) {
+    let buckets = b"refused: buckets must be a power of two from 2 to 1048576\n".as_slice();
+    let items = b"refused: items must be from 1 to four times the buckets\n".as_slice();
+    let cases: [(&[&str], &[u8]); 9] = [
+        (&["mcstep", "--buckets", "3"], buckets),
+        (&["mcstep", "--buckets", "0"], buckets),
+        (&["mcstep", "--buckets", "1"], buckets),
+        (&["mcstep", "--buckets", "2097152"], buckets),
+        (&["mcstep", "--items", "0"], items),
+        (&["mcstep", "--items", "17"], items),
+        (&["mcstep", "--buckets", "2"], items),
+        (&["mcstep", "--items", "4294967295"], items),
+        (&["mcstep", "--items", "0", "--buckets", "3"], buckets),
+    ];
+    for (words, text) in cases {
+        for script in [b"".as_slice(), b"get 0\n".as_slice()] {
+            let outcome = run(rt.alloc(), words, script);
+            assert_eq!(rt; outcome.status, 2);
+            assert_eq!(rt; outcome.errors.as_slice(), text);
+            assert!(rt; outcome.output.is_empty());
+            assert_eq!(rt; outcome.unread, script.len());
+        }
+    }
+}
+
+#[test]
+fn accepted_options(rt: HostRuntime) {
+    let cases: [&[&str]; 8] = [
+        PLAIN,
+        &[
+            "mcstep",
+            "--buckets=4",
+            "--items=16",
+            "--mix=plain",
+            "--words=1",
+        ],
+        &["mcstep", "--buckets", "2", "--items", "8"],
+        &["mcstep", "--items", "1"],
+        &["mcstep", "--buckets", "00000000004"],
+        &["mcstep", "--items", "016"],
+        &["mcstep", "--words", "002"],
+        &[
+            "mcstep",
+            "--mix",
+            "plain",
+            "--buckets",
+            "1024",
+            "--items",
+            "4096",
+        ],
+    ];
+    for words in cases {
+        let case: Case = (words, b"get 0\n", b"absent at 0\n", b"", 0);
+        assert_eq!(rt; first_wrong(rt.alloc(), &[case]), None);
+    }
+}
