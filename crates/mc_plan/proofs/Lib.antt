@@ -4,3 +4,10 @@ pub mod Pushed
 pub mod Levels
 pub mod Least
 pub mod Way
+pub mod Values
+pub mod Walks
+pub mod Slots
+pub mod Quiets
+pub mod Filling
+pub mod Renewing
+pub mod Removing

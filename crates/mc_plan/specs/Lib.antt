@@ -2,3 +2,6 @@ pub mod Readable
 pub mod Paths
 pub mod Search
 pub mod Ready
+pub mod Plans
+pub mod Making
+pub mod Laws

@@ -6,8 +6,10 @@
 mod bucket;
 mod finder;
 mod finding;
+pub mod laws;
 mod path;
 mod peek;
+mod plan;
 mod queue;
 mod search;
 
@@ -15,6 +17,7 @@ pub use finder::Finder;
 pub use finding::find;
 pub use path::Path;
 pub use peek::Peek;
+pub use plan::{add_evict, add_fill, add_move, add_remove, add_renew};
 
 #[cfg(test)]
 mod tests;
