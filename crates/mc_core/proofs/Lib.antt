@@ -20,3 +20,4 @@ pub mod Back
 pub mod Feeding
 pub mod Taking
 pub mod Course
+pub mod Slots

@@ -11,6 +11,7 @@ pub mod Stages
 pub mod Machine
 pub mod Met
 pub mod Course
+pub mod Tables
 pub mod Laws
 pub mod Growth
 pub mod Writes

@@ -9,6 +9,7 @@ mod act;
 pub mod laws;
 mod lookup;
 mod stage;
+mod table;
 
 pub use access::Access;
 pub use act::{Act, Deed};
