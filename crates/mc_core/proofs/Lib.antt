@@ -21,3 +21,4 @@ pub mod Feeding
 pub mod Taking
 pub mod Course
 pub mod Slots
+pub mod Reached

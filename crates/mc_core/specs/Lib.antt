@@ -12,6 +12,7 @@ pub mod Machine
 pub mod Met
 pub mod Course
 pub mod Tables
+pub mod Worlds
 pub mod Laws
 pub mod Growth
 pub mod Writes

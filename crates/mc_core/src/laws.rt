@@ -2,6 +2,7 @@
 ghost use Rattle.mc_core.specs.Course.{NextIsDetermined, CanEnd};
 ghost use Rattle.mc_core.specs.Growth.{LawfulGrows, StatesFollow, FrontsStay, ReadingsStay, HistoriesGrow};
 ghost use Rattle.mc_core.specs.Laws.{AgreesAlways, StaysWhileEven, RepliesAreTrue, EvictsAreClear, CountsAlways, HandStays};
+ghost use Rattle.mc_core.specs.Worlds.{WorldsAreTrue};
 ghost use Rattle.mc_core.specs.Writes.{WritesItsWord, KeepsItsWords, ReadsItsWord};
 
 /// At every front of a lawful list of acts the words agree with the history, which is legal.
@@ -82,4 +83,9 @@ pub fn next_is_determined<const V: usize>()
 /// Every look-up can be ended by some readings.
 pub fn lookups_can_end<const V: usize>()
     ensures { CanEnd V }
+{}
+
+/// Whatever the writer and the readers do, one atomic step after the other: each look-up that ends replies what the map held at a moment between its first reading and its last.
+pub fn worlds_are_true<const V: usize>()
+    ensures { WorldsAreTrue V }
 {}

@@ -6,6 +6,7 @@
 
 mod access;
 mod act;
+mod event;
 pub mod laws;
 mod lookup;
 mod stage;
@@ -13,6 +14,7 @@ mod table;
 
 pub use access::Access;
 pub use act::{Act, Deed};
+pub use event::{Done, Event, Stepped, Unlawful};
 pub use lookup::Lookup;
 pub use mc_words::{Change, Reply};
 pub use stage::Stage;
