@@ -22,3 +22,5 @@ pub mod Taking
 pub mod Course
 pub mod Slots
 pub mod Reached
+pub mod Items
+pub mod Words

@@ -13,6 +13,8 @@ pub mod Met
 pub mod Course
 pub mod Tables
 pub mod Worlds
+pub mod Progresses
+pub mod Writers
 pub mod Laws
 pub mod Growth
 pub mod Writes

@@ -11,6 +11,8 @@ pub mod laws;
 mod lookup;
 mod stage;
 mod table;
+mod progress;
+mod writer;
 
 pub use access::Access;
 pub use act::{Act, Deed};
