@@ -7,7 +7,12 @@ use Rattle.mc_words.specs.Places.{payload, IsPlace, slot_number, slot}
 use Rattle.mc_words.specs.Standing.{Stands, OnlyAt, AgreesAt}
 use Rattle.mc_words.specs.declared.place.Place.{Place}
 use Rattle.mc_words.specs.declared.shape.Shape.{Shape}
-use Rattle.mc_core.specs.Writers.{StandsWell}
+use Rattle.mc_core.specs.Writers.{StandsWell, phase_at}
+use Rattle.mc_core.specs.Inner.{Holds}
+use Rattle.mc_core.specs.Phases.{Quiet, Renewing, Moving}
+use Rattle.mc_core.specs.declared.progress.Progress.{Progress}
+use Rattle.mc_words.specs.History.{held}
+use Rattle.mc_words.specs.declared.history.Change.{Change}
 
 -- the word after those that were written
 pub next_word : (V c j : ℕ) (xs : List ℕ) → length xs ≡ V → c ≤ V → ((j ≡ c + 1) × (j ≤ V)) ↔ ((j ≡ length (take c xs) + 1) × (j ≤ payload V))
@@ -44,3 +49,17 @@ only_well V sh w k q i a = record {
 pub agrees_well : (V : ℕ) (sh : Shape) (w : List ℕ) (k : ℕ) (o : Option (List ℕ)) → AgreesAt V sh w k o → StandsWell V sh w k
 agrees_well V sh w k None a = record { placed = λ p g st. absurd (a p g st); once = λ p g r h st su. absurd (a p g st) }
 agrees_well V sh w k (Some v) a = only_well V sh w k a.0 a.1 a.2
+
+-- while nothing runs each key stands well, and so does the key of a renewal and of a move that was opened
+pub quiet_well : (V : ℕ) (sh : Shape) (w : List ℕ) (h : List (Change V)) → Holds V sh w Quiet h → (k : ℕ) → StandsWell V sh w k
+quiet_well V sh w h holds k = agrees_well V sh w k (held h k) (holds.agrees.keys k (λ e. cc))
+
+pub renewing_well : (V : ℕ) (sh : Shape) (w : List ℕ) (h : List (Change V)) (k : ℕ) (xs : List ℕ) → Holds V sh w (Renewing k xs) h → StandsWell V sh w k
+renewing_well V sh w h k xs holds = let d = holds.deed in only_well V sh w k d.0.0 d.0.1 d.0.2
+
+pub moving_well : (V : ℕ) (sh : Shape) (w : List ℕ) (h : List (Change V)) (k : ℕ) → Holds V sh w (Moving k) h → StandsWell V sh w k
+moving_well V sh w h k holds = let d = holds.deed in agrees_well V sh w k (Some d.0) d.2
+
+-- what holds, where the progress is known
+pub holds_at : (V : ℕ) (sh : Shape) (w : List ℕ) (h : List (Change V)) (xs : List ℕ) (p q : Progress) → p ≡ q → Holds V sh w (phase_at xs p) h → Holds V sh w (phase_at xs q) h
+holds_at V sh w h xs p q e a = subst (λ (y : Progress). Holds V sh w (phase_at xs y) h) e a
