@@ -1,11 +1,14 @@
 -- Which items are free, told by flags.
-use Rattle.std.proofs.Common.{ℕ, zero, suc, ◌≡◌, ◌≢◌, ◌+◌, ◌<◌, ◌≤◌, Bool, true, false, List, [], ◌∷◌, length, get_or, refl, sym, ◌∙◌, subst, inl, inr, arith}
+use Rattle.std.proofs.Common.{ℕ, zero, suc, ◌≡◌, ◌≢◌, ◌+◌, ◌*◌, ◌<◌, ◌≤◌, Bool, true, false, List, [], ◌∷◌, length, get_or, refl, sym, ◌∙◌, subst, inl, inr, arith}
 use Rattle.std.specs.Prelude.{◌↔◌, IsTrue, not}
 use Rattle.std.proofs.lemmas.Bool.{cases_Bool, false≢true}
 use Rattle.std.proofs.lemmas.List.{get_or_default}
 use Rattle.mc_words.specs.Standing.{Names, IsFree, HasFree}
+use Rattle.mc_words.specs.Places.{slot}
+use Rattle.mc_words.specs.declared.shape.Shape.{Shape}
+use Rattle.mc_words.proofs.Frames.{moved_names}
 use Rattle.mc_core.specs.Tables.{shape_in, words_in}
-use Rattle.mc_core.specs.Writers.{downs, UsedWell, IsFreeItem}
+use Rattle.mc_core.specs.Writers.{downs, UsedIn, UsedWell, IsFreeItem}
 use Rattle.mc_core.specs.declared.table.Table.{Table}
 
 -- a flag that is down is that of a free item
@@ -43,3 +46,11 @@ some_free {V} t u = (
     | inr down ↦ let some = some_down t.used.items h.0 (omega (arith, h.1, t.flags)) down in omega (arith, some, u.many)
   ],
 )
+
+-- the flags are right as long as each slot keeps its word
+pub used_kept : (sh : Shape) (w x : List ℕ) (flags : List Bool) (free : ℕ) → ((q : ℕ) → q < 4 * sh.buckets → slot sh x q ≡ slot sh w q) → UsedIn sh w flags free → UsedIn sh x flags free
+used_kept sh w x flags free same u = record {
+  used = λ i l e. let named = u.used i l e in (named.0, moved_names sh w x named.0 i (same named.0 named.1.in_table) named.1);
+  unused = λ i l e q a. u.unused i l e q (moved_names sh x w q i (sym (same q a.in_table)) a);
+  many = u.many;
+}

@@ -24,3 +24,4 @@ pub mod Slots
 pub mod Reached
 pub mod Items
 pub mod Words
+pub mod Making

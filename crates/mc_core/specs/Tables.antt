@@ -16,3 +16,10 @@ words_in t = t.words.items
 -- the key stands in the slot at this place, at the item
 abbrev pub StandsAt : ℕ → Shape → List ℕ → ℕ → Place → ℕ → Type 0
 StandsAt V sh w k p i = IsPlace sh p × Stands V sh w k (slot_number p) i
+
+-- the words are these now, and nothing else of the table is changed
+pub record WritesTable {V : ℕ} (old new : Table V) (after : List ℕ) : Type 0 where
+  pub words : new.words.items ≡ after
+  pub shape : new.checked ≡ old.checked
+  pub used : new.used ≡ old.used
+  pub free : new.free ≡ old.free

@@ -5,6 +5,8 @@ use Rattle.mc_words.specs.Places.{slot_number}
 use Rattle.mc_words.specs.Standing.{Names, Stands, IsFree}
 use Rattle.mc_words.specs.declared.shape.Shape.{Shape}
 use Rattle.mc_core.specs.Phases.{Phase, Quiet, Filling, Keyed, Placed, Renewing, Removing, Removed, Moving, Moved, Closing}
+use Rattle.mc_core.specs.Effects.{after_act}
+use Rattle.mc_core.specs.declared.act.Act.{Act}
 use Rattle.mc_core.specs.States.{State}
 use Rattle.mc_core.specs.Tables.{shape_in, words_in}
 use Rattle.mc_core.specs.declared.progress.Progress.{Progress}
@@ -49,10 +51,13 @@ downs (true ∷ bs) = downs bs
 downs (false ∷ bs) = downs bs + 1
 
 -- a flag says of each item whether a slot names it, and the number of free items is that of the flags that are down
-pub record UsedWell {V : ℕ} (t : Table V) : Type 0 where
-  pub used : (i : ℕ) → i < (shape_in t).items → get_or t.used.items i false ≡ true → (q : ℕ) × Names (shape_in t) (words_in t) q i
-  pub unused : (i : ℕ) → i < (shape_in t).items → get_or t.used.items i false ≡ false → IsFree (shape_in t) (words_in t) i
-  pub many : downs t.used.items ≡ t.free
+pub record UsedIn (sh : Shape) (w : List ℕ) (flags : List Bool) (free : ℕ) : Type 0 where
+  pub used : (i : ℕ) → i < sh.items → get_or flags i false ≡ true → (q : ℕ) × Names sh w q i
+  pub unused : (i : ℕ) → i < sh.items → get_or flags i false ≡ false → IsFree sh w i
+  pub many : downs flags ≡ free
+
+abbrev pub UsedWell : {V : ℕ} → Table V → Type 0
+UsedWell t = UsedIn (shape_in t) (words_in t) t.used.items t.free
 
 -- the key stands in one slot at most, at one item, and wherever it stands is in one of its buckets
 pub record StandsWell (V : ℕ) (sh : Shape) (w : List ℕ) (k : ℕ) : Type 0 where
@@ -61,3 +66,9 @@ pub record StandsWell (V : ℕ) (sh : Shape) (w : List ℕ) (k : ℕ) : Type 0 w
 
 abbrev pub IsFreeItem : Shape → List ℕ → ℕ → Type 0
 IsFreeItem sh w i = (i < sh.items) × IsFree sh w i
+
+-- the act was made: the state is the one after it, and the flags are right
+pub record IsMade {V : ℕ} (old new : Writer V) (a : Act) (bit : ℕ) : Type 0 where
+  pub shape : new.table.checked ≡ old.table.checked
+  pub state : state_in new ≡ after_act (shape_at old) (state_in old) a bit
+  pub used : UsedWell new.table

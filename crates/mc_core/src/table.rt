@@ -19,11 +19,12 @@ pub(crate) struct Table<const V: usize> {
 }
 
 impl<const V: usize> Table<V> {
-    ghost use Rattle.std.specs.Prelude.{ℕ, ◌<◌, ◌/◌, MatchOption, IfSome, IfNone};
-    ghost use Rattle.mc_words.specs.Keys.{IsBucketOf};
-    ghost use Rattle.mc_words.specs.Places.{IsPlace, payload, slot_number, slot, item};
+    ghost use Rattle.std.specs.Prelude.{ℕ, ◌+◌, ◌-◌, ◌^◌, ◌<◌, ◌/◌, MatchOption, IfSome, IfNone};
+    ghost use Rattle.mc_words.specs.Keys.{IsBucketOf, stripe_of};
+    ghost use Rattle.mc_words.specs.Places.{IsPlace, payload, slot_number, slot, item, version, moment, with_version, with_moment, with_slot, with_item};
     ghost use Rattle.mc_words.specs.Standing.{Stands};
-    ghost use Rattle.mc_core.specs.Tables.{shape_in, words_in, StandsAt};
+    ghost use Rattle.mc_core.specs.Tables.{shape_in, words_in, StandsAt, WritesTable};
+    ghost use Rattle.mc_core.specs.Effects.{bumped};
 
     /// The word of a slot.
     #[tactic(auto, unfolding(mc_words::specs::Places::slot))]
@@ -80,5 +81,46 @@ impl<const V: usize> Table<V> {
             return Some(at);
         }
         self.find_in(self.checked.alt(first, self.checked.tag(key)), key)
+    }
+
+    /// Counts one change of the version of the key's stripe.
+    #[tactic(auto, unfolding(mc_words::specs::Places::version, mc_words::specs::Places::with_version))]
+    pub(crate) fn bump(&mut self, key: u64)
+        requires { version (words_in {V = V} self.old) (stripe_of (shape_in {V = V} self.old) key) < 2 ^ 64 - 1 }
+        ensures { WritesTable {V = V} self.old self.new (bumped (shape_in {V = V} self.old) (words_in {V = V} self.old) key) }
+    {
+        let at = self.checked.version_place(self.checked.stripe(key));
+        self.words[at] += 1;
+    }
+
+    /// Counts one change.
+    #[tactic(auto, unfolding(mc_words::specs::Places::moment, mc_words::specs::Places::with_moment))]
+    pub(crate) fn tick(&mut self)
+        requires { moment (words_in {V = V} self.old) < 2 ^ 64 - 1 }
+        ensures { WritesTable {V = V} self.old self.new (with_moment (words_in {V = V} self.old) (moment (words_in {V = V} self.old) + 1)) }
+    {
+        let at = self.checked.moment_place();
+        self.words[at] += 1;
+    }
+
+    /// Writes the word of a slot.
+    #[tactic(auto, unfolding(mc_words::specs::Places::with_slot))]
+    pub(crate) fn set_slot(&mut self, place: Place, word: u64)
+        requires { IsPlace (shape_in {V = V} self.old) place }
+        ensures { WritesTable {V = V} self.old self.new (with_slot (shape_in {V = V} self.old) (words_in {V = V} self.old) (slot_number place) word) }
+    {
+        let at = self.checked.slot_place(place);
+        self.words[at] = word;
+    }
+
+    /// Writes a word of an item.
+    #[tactic(auto, unfolding(mc_words::specs::Places::with_item))]
+    pub(crate) fn set_item(&mut self, i: u32, j: u8, word: u64)
+        requires item { i < (shape_in {V = V} self.old).items }
+        requires word { j ≤ payload V }
+        ensures { WritesTable {V = V} self.old self.new (with_item V (shape_in {V = V} self.old) (words_in {V = V} self.old) i j word) }
+    {
+        let at = self.checked.item_place::<V>(i, j);
+        self.words[at] = word;
     }
 }

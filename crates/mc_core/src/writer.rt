@@ -10,6 +10,7 @@ use crate::table::Table;
 use mc_words::Change;
 
 mod allowed;
+mod made;
 
 #[derive(Drop)]
 pub(crate) struct Writer<const V: usize> {

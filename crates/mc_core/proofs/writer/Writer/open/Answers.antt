@@ -1,0 +1,14 @@
+use Rattle.mc_core.proofs.writer.Writer.open.Goals as goal
+use Rattle.std.proofs.Common.{refl, ap, sym, ◌∙◌, ◌+◌, ◌≤◌, take, length, arith}
+use Rattle.mc_words.specs.Places.{payload}
+use Rattle.mc_core.specs.Writers.{shape_at, words_at, phase_at, UsedIn}
+use Rattle.mc_core.specs.declared.act.Act.TheVariants as act
+use Rattle.mc_core.specs.declared.progress.Progress.TheVariants as progress
+use Rattle.mc_core.proofs.Making.{made, used_bumped, used_item, written_more}
+
+pub returns : goal.returns
+returns g c = λ bit.
+    let w = c.args.self.now in
+    let e = c.bump.ensures in
+    made w _ (act.Open c.args.key c.args.deed) bit w.progress _ refl refl e.shape e.words (c.opening_of-self.ensures.phase w.written) refl refl refl refl
+    (rw (e.words, e.used, e.free) (used_bumped (shape_at w) (words_at w) c.args.key w.table.used.items w.table.free w.table.checked.sound c.requires.used))
