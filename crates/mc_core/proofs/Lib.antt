@@ -25,3 +25,4 @@ pub mod Reached
 pub mod Items
 pub mod Words
 pub mod Making
+pub mod Flags

@@ -1,6 +1,9 @@
 -- The state after an act that was made, from its parts.
-use Rattle.std.proofs.Common.{ℕ, ◌≡◌, ◌+◌, ◌*◌, ◌%◌, ◌<◌, ◌≤◌, Bool, List, [], ◌∷◌, ◌++◌, length, take, Option, Some, None, refl, subst, sym, ◌∙◌, ap, inl, inr, arith}
-use Rattle.std.specs.Prelude.{slice_set}
+use Rattle.std.proofs.Common.{ℕ, eqb, ◌⊎◌, ◌≢◌, ◌≡◌, ◌+◌, ◌*◌, ◌%◌, ◌<◌, ◌≤◌, Bool, List, [], ◌∷◌, ◌++◌, length, take, Option, Some, None, refl, subst, sym, ◌∙◌, ap, inl, inr, arith}
+use Rattle.std.specs.Prelude.{slice_set, ◌==◌}
+use Rattle.std.proofs.Math.Nat.{mod_self, mod-eq_of_lt}
+use Rattle.std.proofs.lemmas.Bool.{cond-true, cond-false, eq-eqb, ne_eqb}
+use Rattle.mc_core.specs.declared.act.Act.TheVariants.{Hand}
 use Rattle.std.proofs.lemmas.Grind.{take-set_at}
 use Rattle.mc_words.specs.Checks.{shape_of}
 use Rattle.mc_words.specs.declared.checked.Checked.{Checked}
@@ -48,3 +51,15 @@ used_item V sh w i j x flags free u = used_kept sh w (with_item V sh w i j x) fl
 -- one word more was written
 pub written_more : (V : ℕ) (xs : List ℕ) (c x : ℕ) → length xs ≡ V → c < V → take (c + 1) (slice_set xs c x) ≡ take c xs ++ x ∷ []
 written_more V xs c x l below = take-set_at xs c (c + 1) x refl (omega (arith, l))
+
+-- the item after the last is the first
+pub turn_over : (i n : ℕ) → i + 1 ≡ n → 0 ≡ (i + 1) % n
+turn_over i n e = sym (subst (λ (y : ℕ). y % n ≡ 0) (sym e) (mod_self n))
+
+pub turn_on : (i n : ℕ) → i < n → i + 1 ≢ n → i + 1 ≡ (i + 1) % n
+turn_on i n l ne = sym (mod-eq_of_lt (omega arith))
+
+-- what the hand remembers of a bit
+pub cleared_by : (i bit : ℕ) (o : Option ℕ) → ((bit ≡ 0) × (o ≡ Some i)) ⊎ ((bit ≢ 0) × (o ≡ None)) → o ≡ cleared_after None (Hand i) bit
+cleared_by i bit o (inl h) = h.1 ∙ sym (cond-true {A = Option ℕ} (eqb bit 0) (Some i) None (eq-eqb bit 0 h.0))
+cleared_by i bit o (inr h) = h.1 ∙ sym (cond-false {A = Option ℕ} (eqb bit 0) (Some i) None (ne_eqb bit 0 h.0))
