@@ -1,19 +1,15 @@
 -- Every reached world is sound, and every lookup that ended has a true answer.
-use Rattle.std.proofs.Common.{ℕ, zero, suc, ◌≡◌, ◌+◌, ◌^◌, ◌<◌, ◌≤◌, ◌⊎◌, List, [], ◌∷◌, ◌++◌, length, take, get_or, replicate, Option, Some, None, sym, ap, subst, inl, inr, arith}
+use Rattle.std.proofs.Common.{ℕ, zero, suc, ◌≡◌, ◌+◌, ◌^◌, ◌<◌, ◌≤◌, ◌⊎◌, List, [], ◌∷◌, ◌++◌, length, get_or, replicate, Option, Some, None, sym, subst, inl, inr, arith}
 use Rattle.std.specs.Prelude.{slice_get, slice_set}
 use Rattle.std.specs.List.{All}
-use Rattle.std.proofs.lemmas.List.{length_push, take-append-le}
+use Rattle.std.proofs.lemmas.List.{length_push}
 use Rattle.std.proofs.lemmas.List.Elements.{All-push, All-weaker}
-use Rattle.std.proofs.lemmas.List.{take_all}
-use Rattle.mc_core.specs.Acts.{IsAllowed}
-use Rattle.mc_core.specs.Effects.{after_act}
-use Rattle.mc_core.specs.Lists.{AreAllowed, IsLawful, Made, after_all, front}
+use Rattle.mc_core.specs.Lists.{IsLawful, Made, front}
 use Rattle.mc_core.specs.Lookups.{IsLookup}
-use Rattle.mc_core.specs.Machine.{ended}
-use Rattle.mc_core.specs.Phases.{running, runs}
+use Rattle.mc_core.specs.Phases.{runs}
 use Rattle.mc_core.specs.Readings.{AreRead, IsWordOf, Reading, RiseTo}
-use Rattle.mc_core.specs.States.{State, opening}
-use Rattle.mc_core.specs.Worlds.{Running, Ended, World, bit_of, bits_after, ReadsNext, Steps, Runs, start_of, first_world, first_read, IsTrueEnd, WorldsAreTrue}
+use Rattle.mc_core.specs.States.{State}
+use Rattle.mc_core.specs.Worlds.{Running, Ended, World, bit_of, ReadsNext, Steps, Runs, start_of, first_world, first_read, IsTrueEnd, WorldsAreTrue}
 use Rattle.mc_core.specs.declared.event.Event.{Event}
 use Rattle.mc_core.specs.declared.event.Event.TheVariants.{Write, Begin, Read}
 use Rattle.mc_words.specs.Shapes.{IsShape}

@@ -1,15 +1,17 @@
--- The keys that stand are no more than the items.
-use Rattle.std.proofs.Common.{ℕ, ◌≡◌, ◌≤◌, true, false, eqb, List, [], ◌∷◌, length, Option, Some, None, refl, sym, ◌∙◌, subst, inl, inr, arith}
-use Rattle.std.specs.Option.{is_some}
+-- The keys that stand are no more than the items, and as many where no item is free.
+use Rattle.std.proofs.Common.{ℕ, zero, suc, ◌≡◌, ◌<◌, ◌≤◌, true, false, eqb, List, [], ◌∷◌, length, Option, Some, None, refl, sym, ◌∙◌, subst, inl, inr, arith}
+use Rattle.std.specs.Option.{is_some, IsSome}
 use Rattle.std.specs.List.{AllByRecursion, IsDistinct, list_any}
 use Rattle.std.specs.Map.{keys_of}
+use Rattle.std.specs.Cmp.{nat_eq_equiv}
 use Rattle.std.proofs.lemmas.Bool.{cases_Bool, eqb-true, eq-eqb, or_cases, or_left, or_right, false≢true}
 use Rattle.std.proofs.lemmas.Map.Keys.{IsDistinct-cons, IsDistinct-head, IsDistinct-tail}
 use Rattle.std.proofs.lemmas.Map.Made.{is_some-lookup}
-use Rattle.std.proofs.lemmas.Map.Steps.{length-le_from_distinct_below}
+use Rattle.std.proofs.lemmas.Map.Steps.{length-le_from_distinct_below, length-le_from_keys}
 use Rattle.std.proofs.lemmas.Map.Entries.{length-keys_of}
 use Rattle.mc_words.specs.History.{held, key_count, map_from}
-use Rattle.mc_words.specs.Standing.{Stands, IsPresent, AgreesAt}
+use Rattle.mc_words.specs.Places.{item}
+use Rattle.mc_words.specs.Standing.{Names, Stands, IsPresent, AgreesAt, HasFree}
 use Rattle.mc_words.specs.declared.history.Change.{Change}
 use Rattle.mc_words.specs.declared.shape.Shape.{Shape}
 use Rattle.mc_words.proofs.Maps.{distinct_keys}
@@ -70,3 +72,69 @@ keys_fit V sh w h a =
     let its = items_of V sh w ks (distinct_keys [] h tt) (λ k t. present_from V sh w k (held h k) (a k) (is_some-lookup (eqb k) m ∙ t)) in
     let fit : length its.its ≤ sh.items = length-le_from_distinct_below its.its sh.items its.distinct (λ i t. (its.stand i t).2.1.names.in_items) in
     omega (arith, its.many, length-keys_of m)
+
+-- ---- an item is free where fewer keys than items stand, and only there
+some_from_present : (V : ℕ) (sh : Shape) (w : List ℕ) (k : ℕ) (o : Option (List ℕ)) → AgreesAt V sh w k o → IsPresent V sh w k → IsSome o
+some_from_present V sh w k None a here = absurd (a here.0 here.1 here.2)
+some_from_present V sh w k (Some v) a here = refl
+
+one_item : (V : ℕ) (sh : Shape) (w : List ℕ) (k : ℕ) (o : Option (List ℕ)) → AgreesAt V sh w k o → (p q i g : ℕ) → Stands V sh w k p i → Stands V sh w k q g → i ≡ g
+one_item V sh w k None a p q i g x y = absurd (a p i x)
+one_item V sh w k (Some v) a p q i g x y = (a.2.once p i x).1 ∙ sym (a.2.once q g y).1
+
+-- the keys of the first n items
+record KeysBelow (V : ℕ) (sh : Shape) (w : List ℕ) (n : ℕ) : Type 0 where
+  ks : List ℕ
+  many : length ks ≡ n
+  distinct : IsDistinct eqb ks
+  each : (k : ℕ) → list_any (eqb k) ks ≡ true → (i : ℕ) × (i < n) × (item V sh w i 0 ≡ k)
+
+abbrev AllNamed : Shape → List ℕ → Type 0
+AllNamed sh w = (i : ℕ) → i < sh.items → (q : ℕ) × Names sh w q i
+
+keys_below : (V : ℕ) (sh : Shape) (w : List ℕ) (h : List (Change V)) → ((k : ℕ) → AgreesAt V sh w k (held h k)) → AllNamed sh w → (n : ℕ) → n ≤ sh.items → KeysBelow V sh w n
+unfolding IsDistinct
+keys_below V sh w h a named zero l = record { ks = []; many = refl; distinct = tt; each = λ k t. absurd (false≢true t) }
+keys_below V sh w h a named (suc n) l =
+    let rest = keys_below V sh w h a named n (omega arith) in
+    let key = item V sh w n 0 in
+    let here = named n (omega arith) in
+    record {
+      ks = key ∷ rest.ks;
+      many = omega (arith, rest.many);
+      distinct = IsDistinct-cons eqb key rest.ks (none_any key rest.ks (λ t.
+          let other = rest.each key t in
+          let there = named other.0 (omega (arith, other.1)) in
+          let same = one_item V sh w key (held h key) (a key) here.0 there.0 n other.0 (record { names = here.1; key = refl }) (record { names = there.1; key = other.2 }) in
+          absurd (omega (arith, same, other.1)))) rest.distinct;
+      each = λ k t. elim (or_cases (eqb k key) (list_any (eqb k) rest.ks) t) [
+        | inl e ↦ (n, omega arith, sym (eqb-true k key e))
+        | inr e ↦ let other = rest.each k e in (other.0, omega (arith, other.1), other.2)
+      ];
+    }
+
+-- where each item is named, there are as many keys as items
+pub full_from_named : (V : ℕ) (sh : Shape) (w : List ℕ) (h : List (Change V)) → ((k : ℕ) → AgreesAt V sh w k (held h k)) → AllNamed sh w → key_count h ≡ sh.items
+unfolding held key_count
+full_from_named V sh w h a named =
+    let all = keys_below V sh w h a named sh.items (omega arith) in
+    let most = keys_fit V sh w h a in
+    let least = length-le_from_keys nat_eq_equiv all.ks (map_from [] h) all.distinct (λ k t.
+        let i = all.each k t in
+        let here = named i.0 i.1 in
+        some_from_present V sh w k (held h k) (a k) (here.0, i.0, record { names = here.1; key = i.2 })) in
+    omega (arith, all.many, most, least)
+
+-- where an item is free, there are fewer keys than items
+pub room_from_free : (V : ℕ) (sh : Shape) (w : List ℕ) (h : List (Change V)) → ((k : ℕ) → AgreesAt V sh w k (held h k)) → HasFree sh w → key_count h < sh.items
+unfolding held key_count IsDistinct
+room_from_free V sh w h a free =
+    let m = map_from [] h in
+    let ks = keys_of m in
+    let its = items_of V sh w ks (distinct_keys [] h tt) (λ k t. present_from V sh w k (held h k) (a k) (is_some-lookup (eqb k) m ∙ t)) in
+    let distinct = IsDistinct-cons eqb free.0 its.its (none_any free.0 its.its (λ t. let here = its.stand free.0 t in free.2 here.2.0 here.2.1.names)) its.distinct in
+    let fit : length (free.0 ∷ its.its) ≤ sh.items = length-le_from_distinct_below (free.0 ∷ its.its) sh.items distinct (λ i t. elim (or_cases (eqb i free.0) (list_any (eqb i) its.its) t) [
+      | inl e ↦ omega (arith, eqb-true i free.0 e, free.1)
+      | inr e ↦ (its.stand i e).2.1.names.in_items
+    ]) in
+    omega (arith, its.many, length-keys_of m, fit)

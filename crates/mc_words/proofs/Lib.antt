@@ -5,3 +5,4 @@ pub mod Frames
 pub mod Count
 pub mod Apart
 pub mod Powers
+pub mod Holes

@@ -132,9 +132,9 @@ impl Checked {
         self.items_place() + i as usize * (1 + V) + usize::from(j)
     }
 
-    /// How many words there are before the recency words.
+    /// Where the recency words begin: how many words the moment, the versions, the slots and the items have.
     #[tactic(auto, unfolding(crate::specs::Places::payload))]
-    fn recency_start<const V: usize>(&self) -> usize
+    pub fn recency_start<const V: usize>(&self) -> usize
         requires { IsWidth V }
         ensures count { result ≡ word_count V (shape_of self.now) }
         ensures bound { result < 2 ^ 40 }

@@ -1,0 +1,40 @@
+-- The lines of a script's bytes, and what reading one of them gives.
+use Rattle.std.specs.Prelude.{◌≡◌, ◌≢◌, ℕ, zero, suc, ◌<◌, ◌≤◌, ◌==◌, ◌&&◌, ◌||◌, not, Bool, true, false, All, List, [], ◌∷◌, length, slice_index, nat_lt, Option, Some, None, Result, Ok, Err, ⊤}
+use Rattle.std.specs.Io.BufRead.{first_line, drop_through}
+use Rattle.std.specs.Io.KnownBytes.{Consumes, Keeps, IsAtEnd}
+use Rattle.mc_script.specs.declared.line.ReadFault.{ReadFault}
+use Rattle.mc_script.specs.declared.line.ReadFault.TheVariants.{ReadFailed, TooLong}
+
+-- The lines of some bytes: each ends at a line feed, at a carriage return and a line feed, or at the end. n is at least the number of bytes.
+unfoldable pub lines_within : ℕ → List ℕ → List (List ℕ)
+lines_within zero bytes = []
+lines_within (suc n) [] = []
+lines_within (suc n) (b ∷ bytes) = first_line (b ∷ bytes) ∷ lines_within n (drop_through 10 (b ∷ bytes))
+
+abbrev pub lines_of : List ℕ → List (List ℕ)
+lines_of bytes = lines_within (length bytes) bytes
+
+-- more bytes than a line may have, whatever follows: a last carriage return may belong to the line's end
+abbrev pub is_over : List ℕ → Bool
+is_over bytes = nat_lt 4097 (length bytes) || ((length bytes == 4097) && not (slice_index bytes 4096 == 13))
+
+-- what reading one byte takes
+abbrev pub GivesByte : Option (List ℕ) → Option (List ℕ) → Result (Option ℕ) ReadFault → Type 0
+GivesByte old new (Ok (Some b)) = Consumes old new (b ∷ [])
+GivesByte old new (Ok None) = Consumes old new [] × IsAtEnd new
+GivesByte old new (Err ReadFailed) = Keeps old new
+GivesByte old new (Err TooLong) = ⊥
+
+-- these bytes were taken: no line feed is among them, and they may still become a line
+pub record IsUnfinished (old new : Option (List ℕ)) (line : List ℕ) : Type 0 where
+  pub taken : Consumes old new line
+  pub plain : All (λ b. b ≢ 10) line
+  pub short : is_over line ≡ false
+
+-- Reading a line gives the first line and takes its bytes, or finds the end, or a line that is too long, or fails before the line is too long.
+abbrev pub GivesLine : Option (List ℕ) → Option (List ℕ) → List ℕ → Result Bool ReadFault → Type 0
+GivesLine None new line result = ⊤
+GivesLine (Some bytes) new line (Ok true) = (0 < length bytes) × (line ≡ first_line bytes) × (length line ≤ 4096) × (new ≡ Some (drop_through 10 bytes))
+GivesLine (Some bytes) new line (Ok false) = (bytes ≡ []) × (new ≡ Some [])
+GivesLine (Some bytes) new line (Err TooLong) = (0 < length bytes) × (4096 < length (first_line bytes))
+GivesLine (Some bytes) new line (Err ReadFailed) = IsUnfinished (Some bytes) new line

@@ -1,0 +1,86 @@
+// What a line says.
+ghost use Rattle.std.specs.Prelude.{◌≡◌, ◌+◌};
+ghost use Rattle.std.specs.Str.{is_utf8};
+ghost use Rattle.mc_script.specs.Commands.{command_in, command_of, made, put_of};
+ghost use Rattle.mc_script.specs.Numbers.{numbers_in};
+ghost use Rattle.mc_script.specs.Words.{words_of};
+
+use crate::number::{number, numbers};
+use crate::words::{first_word, is_word};
+use std::str;
+
+/// A command of a script whose values have `V` words.
+#[derive(Clone, Copy, Debug, PartialEq, Eq)]
+pub enum Command<const V: usize> {
+    Put(u64, [u64; V]),
+    Remove(u64),
+    Get(u64),
+}
+
+/// Why a line is no command.
+#[derive(Clone, Copy, Debug, PartialEq, Eq)]
+pub enum LineFault {
+    NotACommand,
+    BadNumber,
+}
+
+fn is_text(line: &[u8]) -> bool
+    ensures { result ≡ is_utf8 line.now }
+{
+    match str::from_utf8(line) {
+        Ok(_) => true,
+        Err(_) => false,
+    }
+}
+
+/// A key, and the words of its value.
+fn put<const V: usize>(words: &[u8]) -> Result<Command<V>, LineFault>
+    ensures { result ≡ made (put_of V) (numbers_in (V + 1) (words_of words.now)) }
+{
+    match first_word(words) {
+        None => Err(LineFault::NotACommand),
+        Some((key, rest)) => {
+            let value = numbers(rest)?;
+            let key = number(key).ok_or(LineFault::BadNumber)?;
+            Ok(Command::Put(key, value))
+        }
+    }
+}
+
+/// What a line's first word and those that follow it say.
+#[tactic(auto, unfolding(crate::specs::Commands::command_of))]
+fn form<const V: usize>(name: &[u8], words: &[u8]) -> Result<Command<V>, LineFault>
+    ensures { result ≡ command_of V name.now (words_of words.now) }
+{
+    if is_word(name, b"put") {
+        return put(words);
+    }
+    if is_word(name, b"remove") {
+        let key = numbers::<1>(words)?;
+        return Ok(Command::Remove(key[0]));
+    }
+    if is_word(name, b"get") {
+        let key = numbers::<1>(words)?;
+        return Ok(Command::Get(key[0]));
+    }
+    Err(LineFault::NotACommand)
+}
+
+/// What a line says, or nothing where it has no words or is a comment.
+#[tactic(auto, unfolding(crate::specs::Commands::command_by))]
+pub fn parse<const V: usize>(line: &[u8]) -> Result<Option<Command<V>>, LineFault>
+    ensures { result ≡ command_in V line.now }
+{
+    match first_word(line) {
+        None => Ok(None),
+        Some((name, words)) => {
+            if name[0] == b'#' {
+                return Ok(None);
+            }
+            if !is_text(line) {
+                return Err(LineFault::NotACommand);
+            }
+            Ok(Some(form(name, words)?))
+        }
+    }
+}

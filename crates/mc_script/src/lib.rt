@@ -1,0 +1,16 @@
+//! The script of commands that `mcstep` plays: from bytes to lines, from lines to commands, and bytes to a writer.
+//!
+//! What a line is and what it says stand in `specs/`. Nothing here knows of a cache.
+#![tactic(auto)]
+
+mod command;
+mod line;
+mod number;
+mod output;
+#[cfg(test)]
+mod tests;
+mod words;
+
+pub use command::{Command, LineFault, parse};
+pub use line::{LONGEST, Line, ReadFault, read_line};
+pub use output::send;

@@ -1,0 +1,70 @@
+// The numbers of a line.
+ghost use Rattle.std.specs.Prelude.{◌≡◌, ◌<◌, ◌^◌, true, cond, nat_lt, length};
+ghost use Rattle.std.specs.List.{list_all};
+ghost use Rattle.std.specs.Char.{is_ascii_digit};
+ghost use Rattle.std.specs.Str.Parse.{digits_value};
+ghost use Rattle.mc_script.specs.Numbers.{number_of, numbers_in};
+ghost use Rattle.mc_script.specs.Words.{words_of};
+
+use crate::command::LineFault;
+use crate::words::first_word;
+use std::str;
+
+/// The most digits of a number.
+const MOST_DIGITS: usize = 20;
+
+fn are_digits(word: &[u8]) -> bool
+    ensures { result ≡ list_all is_ascii_digit word.now }
+{
+    word.iter().all(|b| b.is_ascii_digit())
+}
+
+/// The value of digits, where a `u64` holds it.
+fn value(word: &[u8]) -> Option<u64>
+    requires digits { list_all is_ascii_digit word.now ≡ true }
+    requires some { 0 < length word.now }
+    ensures { result ≡ cond (nat_lt (digits_value 10 word.now) (2 ^ 64)) (Some (digits_value 10 word.now)) None }
+{
+    match str::from_utf8(word) {
+        Ok(text) => text.parse::<u64>().ok(),
+        Err(_) => None,
+    }
+}
+
+/// The number that a word is.
+pub(crate) fn number(word: &[u8]) -> Option<u64>
+    ensures { result ≡ number_of word.now }
+{
+    if word.is_empty() || word.len() > MOST_DIGITS || !are_digits(word) {
+        return None;
+    }
+    value(word)
+}
+
+/// Exactly `N` numbers: their count is looked at before their form.
+pub(crate) fn numbers<const N: usize>(words: &[u8]) -> Result<[u64; N], LineFault>
+    ensures { result ≡ numbers_in N (words_of words.now) }
+{
+    let mut found = [0; N];
+    let mut rest = words;
+    let mut are_good = true;
+    'words: for i in 0..N {
+        match first_word(rest) {
+            None => return Err(LineFault::NotACommand),
+            Some((word, more)) => {
+                match number(word) {
+                    Some(value) => found[i] = value,
+                    None => are_good = false,
+                }
+                rest = more;
+            }
+        }
+    }
+    if first_word(rest).is_some() {
+        return Err(LineFault::NotACommand);
+    }
+    if !are_good {
+        return Err(LineFault::BadNumber);
+    }
+    Ok(found)
+}
