@@ -26,6 +26,11 @@ downs_down (false ∷ xs) zero l e = absurd (false≢true e)
 downs_down (false ∷ xs) (suc i) l e = let rest = downs_down xs i (omega arith) e in omega (arith, rest)
 downs_down (true ∷ xs) (suc i) l e = downs_down xs i (omega arith) e
 
+pub downs_most : (xs : List Bool) → downs xs ≤ length xs
+downs_most [] = omega arith
+downs_most (true ∷ xs) = let rest = downs_most xs in omega (arith, rest)
+downs_most (false ∷ xs) = let rest = downs_most xs in omega (arith, rest)
+
 -- an item that a slot names has its flag up, and one that none names has it down
 pub up_of : (sh : Shape) (w : List ℕ) (flags : List Bool) (free q i : ℕ) → UsedIn sh w flags free → Names sh w q i → get_or flags i false ≡ true
 up_of sh w flags free q i u a =
@@ -126,3 +131,11 @@ used_leave sh w flags free p x i r s l e a b apart u = record {
   ];
   many = u.many;
 }
+
+-- where a flag is up, fewer are down than there are
+pub downs_room : (xs : List Bool) (i : ℕ) → i < length xs → get_or xs i false ≡ true → downs xs + 1 ≤ length xs
+downs_room [] i l e = absurd (omega arith)
+downs_room (true ∷ xs) zero l e = let most = downs_most xs in omega arith
+downs_room (false ∷ xs) zero l e = absurd (false≢true e)
+downs_room (false ∷ xs) (suc i) l e = let rest = downs_room xs i (omega arith) e in omega (arith, rest)
+downs_room (true ∷ xs) (suc i) l e = let rest = downs_room xs i (omega arith) e in omega (arith, rest)

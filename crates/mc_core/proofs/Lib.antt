@@ -26,3 +26,4 @@ pub mod Items
 pub mod Words
 pub mod Making
 pub mod Flags
+pub mod Allowed

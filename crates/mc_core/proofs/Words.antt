@@ -1,7 +1,7 @@
 -- The words that were written after a key, and where a key stands once.
 use Rattle.std.proofs.Common.{ℕ, ◌≡◌, ◌+◌, ◌*◌, ◌/◌, ◌<◌, ◌≤◌, Option, Some, None, subst, List, length, take, refl, sym, ◌∙◌, ap, arith}
 use Rattle.std.specs.Prelude.{◌↔◌}
-use Rattle.std.proofs.lemmas.List.{length-take}
+use Rattle.std.proofs.lemmas.List.{length-take, take_all}
 use Rattle.mc_words.specs.Keys.{tag_of, alternate, IsBucketOf}
 use Rattle.mc_words.specs.Places.{payload, IsPlace, slot_number, slot}
 use Rattle.mc_words.specs.Standing.{Stands, OnlyAt, AgreesAt}
@@ -63,3 +63,8 @@ moving_well V sh w h k holds = let d = holds.deed in agrees_well V sh w k (Some 
 -- what holds, where the progress is known
 pub holds_at : (V : ℕ) (sh : Shape) (w : List ℕ) (h : List (Change V)) (xs : List ℕ) (p q : Progress) → p ≡ q → Holds V sh w (phase_at xs p) h → Holds V sh w (phase_at xs q) h
 holds_at V sh w h xs p q e a = subst (λ (y : Progress). Holds V sh w (phase_at xs y) h) e a
+
+-- where all words were written, they are all
+pub whole_written : (V c : ℕ) (xs : List ℕ) → length xs ≡ V → length (take c xs) ≡ payload V → xs ≡ take c xs
+unfolding payload
+whole_written V c xs l all = sym (take_all c xs (omega (arith, length-take c xs, l, all)))

@@ -11,6 +11,7 @@ use mc_words::Change;
 
 mod allowed;
 mod made;
+mod slots;
 
 #[derive(Drop)]
 pub(crate) struct Writer<const V: usize> {
