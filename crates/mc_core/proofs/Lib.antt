@@ -27,3 +27,4 @@ pub mod Words
 pub mod Making
 pub mod Flags
 pub mod Allowed
+pub mod Changes

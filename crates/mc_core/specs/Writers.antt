@@ -72,3 +72,10 @@ pub record IsMade {V : ℕ} (old new : Writer V) (a : Act) (bit : ℕ) : Type 0 
   pub shape : new.table.checked ≡ old.table.checked
   pub state : state_in new ≡ after_act (shape_at old) (state_in old) a bit
   pub used : UsedWell new.table
+
+-- nothing was made
+pub record IsKept {V : ℕ} (old new : Writer V) : Type 0 where
+  pub table : new.table ≡ old.table
+  pub progress : new.progress ≡ old.progress
+  pub written : new.written ≡ old.written
+  pub state : state_in new ≡ state_in old

@@ -8,6 +8,7 @@ use crate::act::Act;
 use crate::progress::Progress;
 use crate::table::Table;
 use mc_words::Change;
+use std::alloc::AllocError;
 
 mod allowed;
 mod made;
@@ -29,8 +30,9 @@ pub(crate) struct Writer<const V: usize> {
 
 impl<const V: usize> Writer<V> {
     ghost use Rattle.mc_core.specs.Acts.{IsAllowed};
-    ghost use Rattle.mc_core.specs.Inner.{StateHolds};
-    ghost use Rattle.mc_core.specs.Writers.{shape_at, state_in, UsedWell};
+    ghost use Rattle.std.specs.Prelude.{◌^◌, OnOk, OnErr};
+    ghost use Rattle.mc_core.specs.Inner.{StateHolds, StateCounted};
+    ghost use Rattle.mc_core.specs.Writers.{shape_at, state_in, UsedWell, IsMade, IsKept};
 
     /// Whether the act is allowed now.
     pub(crate) fn allows(&self, act: Act) -> bool
@@ -49,6 +51,29 @@ impl<const V: usize> Writer<V> {
             Progress::Moved(key, fresh) => self.may_leave(key, fresh, act),
             Progress::Closing(_) => is_close(act),
         }
+    }
+
+    /// Makes an act that is allowed; `bit` is what the hand reads. Memory may be wanting for the change that a `Moment` counts.
+    pub(crate) fn make(&mut self, act: Act, bit: u64) -> Result<(), AllocError>
+        requires holds { StateHolds (shape_at {V = V} self.old) (state_in {V = V} self.old) }
+        requires used { UsedWell {V = V} self.old.table }
+        requires hand { self.old.hand < (shape_at {V = V} self.old).items }
+        requires counted { StateCounted (shape_at {V = V} self.old) (state_in {V = V} self.old) }
+        requires changes { self.old.changes ≤ 2 ^ 62 }
+        requires may { IsAllowed (shape_at {V = V} self.old) (state_in {V = V} self.old) act }
+        ensures ok { OnOk result (IsMade {V = V} self.old self.new act bit) }
+        ensures err { OnErr result (IsKept {V = V} self.old self.new × (act ≡ Act.Moment)) }
+    {
+        match act {
+            Act::Open(key, deed) => self.open(key, deed),
+            Act::Slot(place, word) => self.write_slot(place, word),
+            Act::Item(i, j, word) => self.write_item(i, j, word),
+            Act::Moment => return self.count_change(),
+            Act::Close => self.close_deed(),
+            Act::Hand(i) => self.turn(i, bit),
+            Act::Mark(_) => {}
+        }
+        Ok(())
     }
 }
 

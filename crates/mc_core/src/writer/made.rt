@@ -1,23 +1,25 @@
 //! Making an act that is allowed, one function an act.
-ghost use Rattle.std.specs.Prelude.{◌≡◌, ◌+◌, ◌-◌, ◌^◌, ◌<◌, ◌≤◌, ℕ, List, length, take};
+ghost use Rattle.std.specs.Prelude.{◌≡◌, ◌+◌, ◌-◌, ◌^◌, ◌<◌, ◌≤◌, ℕ, List, [], ◌∷◌, OnOk, OnErr, length, take};
 ghost use Rattle.mc_words.specs.Keys.{stripe_of};
 ghost use Rattle.mc_words.specs.Places.{version, moment, payload};
 ghost use Rattle.mc_core.specs.Acts.{IsAllowed};
 ghost use Rattle.mc_core.specs.Inner.{StateHolds};
-ghost use Rattle.mc_core.specs.Phases.{opened};
+ghost use Rattle.mc_core.specs.Phases.{opened, Closing};
+ghost use Rattle.mc_core.specs.Effects.{change_of, phase_after};
 ghost use Rattle.mc_core.specs.Progresses.{count_at, fresh_slot};
-ghost use Rattle.mc_core.specs.Writers.{shape_at, words_at, state_in, phase_at, UsedWell, IsMade};
+ghost use Rattle.mc_core.specs.Writers.{shape_at, words_at, state_in, phase_at, UsedWell, IsMade, IsKept};
 ghost use Rattle.mc_core.specs.declared.act.Act.{Act};
 ghost use Rattle.mc_core.specs.declared.progress.Progress.{Progress};
 
 use crate::act::{Act, Deed};
 use crate::progress::Progress;
 use crate::writer::Writer;
-use mc_words::{Change, Place};
+use mc_words::Change;
+use std::alloc::AllocError;
 
 impl<const V: usize> Writer<V> {
     /// Opens a deed on a key.
-    fn open(&mut self, key: u64, deed: Deed)
+    pub(crate) fn open(&mut self, key: u64, deed: Deed)
         requires used { UsedWell {V = V} self.old.table }
         requires version { version (words_at {V = V} self.old) (stripe_of (shape_at {V = V} self.old) key) < 2 ^ 64 - 1 }
         requires changes { self.old.changes < 2 ^ 64 - 1 }
@@ -43,7 +45,7 @@ impl<const V: usize> Writer<V> {
     }
 
     /// Turns the hand past an item whose bit was read.
-    fn turn(&mut self, i: u32, bit: u64)
+    pub(crate) fn turn(&mut self, i: u32, bit: u64)
         requires quiet { self.old.progress ≡ Progress.Quiet }
         requires item { i < (shape_at {V = V} self.old).items }
         requires used { UsedWell {V = V} self.old.table }
@@ -89,6 +91,66 @@ impl<const V: usize> Writer<V> {
         self.table.set_item(i, count + 1, word);
         self.written[count as usize] = word;
         self.progress = Progress::Renewing(key, count + 1);
+    }
+
+    /// Writes a word of an item as the running deed asks.
+    pub(crate) fn write_item(&mut self, i: u32, j: u8, word: u64)
+        requires holds { StateHolds (shape_at {V = V} self.old) (state_in {V = V} self.old) }
+        requires used { UsedWell {V = V} self.old.table }
+        requires may { IsAllowed (shape_at {V = V} self.old) (state_in {V = V} self.old) (Act.Item i j word) }
+        ensures { (bit : ℕ) → IsMade {V = V} self.old self.new (Act.Item i j word) bit }
+    {
+        match self.progress {
+            Progress::Filling(key) => self.write_key(key, i, word),
+            Progress::Keyed(key, _, count) => self.write_next(key, i, count, word),
+            Progress::Renewing(key, count) => self.write_again(key, i, count, word),
+            _ => {}
+        }
+    }
+
+    /// Ends the running deed.
+    pub(crate) fn close_deed(&mut self)
+        requires used { UsedWell {V = V} self.old.table }
+        requires versions { (t : ℕ) → t < (shape_at {V = V} self.old).stripes → version (words_at {V = V} self.old) t < 2 ^ 64 - 1 }
+        requires changes { self.old.changes < 2 ^ 64 - 1 }
+        requires may { IsAllowed (shape_at {V = V} self.old) (state_in {V = V} self.old) Act.Close }
+        ensures { (bit : ℕ) → IsMade {V = V} self.old self.new Act.Close bit }
+    {
+        if let Progress::Closing(key) = self.progress {
+            self.close(key);
+        }
+    }
+
+    /// Counts a change, for which memory may be wanting.
+    fn count(&mut self, key: u64, change: Change<V>) -> Result<(), AllocError>
+        requires moment { moment (words_at {V = V} self.old) < 2 ^ 64 - 1 }
+        requires used { UsedWell {V = V} self.old.table }
+        requires change { change_of {V = V} (state_in {V = V} self.old).phase ≡ change ∷ [] }
+        requires phase { phase_after (state_in {V = V} self.old).phase Act.Moment ≡ Closing key }
+        ensures ok { OnOk result ((bit : ℕ) → IsMade {V = V} self.old self.new Act.Moment bit) }
+        ensures err { OnErr result (IsKept {V = V} self.old self.new) }
+    {
+        self.history.push(change)?;
+        self.table.tick();
+        self.progress = Progress::Closing(key);
+        Ok(())
+    }
+
+    /// Counts the change of the running deed.
+    pub(crate) fn count_change(&mut self) -> Result<(), AllocError>
+        requires moment { moment (words_at {V = V} self.old) < 2 ^ 64 - 1 }
+        requires used { UsedWell {V = V} self.old.table }
+        requires may { IsAllowed (shape_at {V = V} self.old) (state_in {V = V} self.old) Act.Moment }
+        ensures ok { OnOk result ((bit : ℕ) → IsMade {V = V} self.old self.new Act.Moment bit) }
+        ensures err { OnErr result (IsKept {V = V} self.old self.new) }
+    {
+        match self.progress {
+            Progress::Placed(key, _) => self.count(key, Change::Put(key, self.written)),
+            Progress::Renewing(key, _) => self.count(key, Change::Put(key, self.written)),
+            Progress::Removed(key, true) => self.count(key, Change::Evict(key)),
+            Progress::Removed(key, false) => self.count(key, Change::Remove(key)),
+            _ => Ok(()),
+        }
     }
 }
 

@@ -65,4 +65,20 @@ impl<const V: usize> Writer<V> {
         self.table.set_slot(place, word);
         self.progress = Progress::Closing(key);
     }
+
+    /// Writes a slot as the running deed asks.
+    pub(crate) fn write_slot(&mut self, place: Place, word: u64)
+        requires holds { StateHolds (shape_at {V = V} self.old) (state_in {V = V} self.old) }
+        requires used { UsedWell {V = V} self.old.table }
+        requires may { IsAllowed (shape_at {V = V} self.old) (state_in {V = V} self.old) (Act.Slot place word) }
+        ensures { (bit : ℕ) → IsMade {V = V} self.old self.new (Act.Slot place word) bit }
+    {
+        match self.progress {
+            Progress::Keyed(key, i, count) => self.place_item(key, i, count, place, word),
+            Progress::Removing(key, evicts) => self.clear_slot(key, evicts, place, word),
+            Progress::Moving(key) => self.copy_slot(key, place, word),
+            Progress::Moved(key, fresh) => self.leave_slot(key, fresh, place, word),
+            _ => {}
+        }
+    }
 }
