@@ -1,9 +1,6 @@
 -- What is allowed, and what holds, where the progress of a deed is known.
-use Rattle.std.proofs.Common.{ℕ, ◌≡◌, ◌*◌, ◌<◌, List, take, Option, subst, sym, ◌∙◌, inl, inr, arith}
-use Rattle.mc_words.proofs.Keys.{first_of-lt, alternate-lt}
-use Rattle.mc_words.specs.Keys.{IsBucketOf, first_of, tag_of}
+use Rattle.std.proofs.Common.{ℕ, ◌≡◌, ◌*◌, ◌<◌, List, Option, subst, sym, ◌∙◌, arith}
 use Rattle.mc_words.specs.Places.{IsPlace, slot_number}
-use Rattle.mc_words.specs.Shapes.{IsShape}
 use Rattle.mc_words.specs.Standing.{Names, Stands, OnlyAt}
 use Rattle.mc_words.specs.declared.place.Place.{Place}
 use Rattle.mc_words.specs.declared.shape.Shape.{Shape}

@@ -1,8 +1,7 @@
 -- The change of a deed, where its progress is known.
 use Rattle.std.proofs.Common.{ℕ, ◌≡◌, List, [], ◌∷◌, length, take, refl, sym, ◌∙◌, ap, subst, arith}
-use Rattle.std.proofs.lemmas.List.{take_all, length-take}
+use Rattle.std.proofs.lemmas.List.{take_all}
 use Rattle.mc_words.specs.Places.{payload}
-use Rattle.mc_words.specs.declared.history.Change.{Change}
 use Rattle.mc_words.specs.declared.history.Change.TheVariants.{Put}
 use Rattle.mc_core.specs.Effects.{change_of, phase_after}
 use Rattle.mc_core.specs.Phases.{Closing}

@@ -1,6 +1,6 @@
 -- The state after an act that was made, from its parts.
-use Rattle.std.proofs.Common.{ℕ, eqb, ◌⊎◌, ◌≢◌, ◌≡◌, ◌+◌, ◌*◌, ◌%◌, ◌<◌, ◌≤◌, Bool, List, [], ◌∷◌, ◌++◌, length, take, Option, Some, None, refl, subst, sym, ◌∙◌, ap, inl, inr, arith}
-use Rattle.std.specs.Prelude.{slice_set, ◌==◌}
+use Rattle.std.proofs.Common.{ℕ, eqb, ◌⊎◌, ◌≢◌, ◌≡◌, ◌+◌, ◌%◌, ◌<◌, Bool, List, [], ◌∷◌, ◌++◌, length, take, Option, Some, None, refl, subst, sym, ◌∙◌, ap, inl, inr, arith}
+use Rattle.std.specs.Prelude.{slice_set, Result, Ok, Err, OnOk}
 use Rattle.std.proofs.Math.Nat.{mod_self, mod-eq_of_lt}
 use Rattle.std.proofs.lemmas.Bool.{cond-true, cond-false, eq-eqb, ne_eqb}
 use Rattle.mc_core.specs.declared.act.Act.TheVariants.{Hand}
@@ -13,10 +13,10 @@ use Rattle.mc_core.specs.States.{State}
 use Rattle.mc_words.specs.declared.shape.Shape.{Shape}
 use Rattle.mc_words.proofs.Places.{slot-with_version, slot-with_item}
 use Rattle.mc_words.proofs.Keys.{stripe_of-lt}
-use Rattle.mc_words.specs.Places.{payload, with_item}
+use Rattle.mc_words.specs.Places.{with_item}
 use Rattle.mc_words.specs.Shapes.{IsShape}
 use Rattle.mc_core.specs.Effects.{words_after, phase_after, hand_after, cleared_after, history_after, changes_after, bumped}
-use Rattle.mc_core.specs.Writers.{shape_at, words_at, state_in, phase_at, UsedIn, IsMade}
+use Rattle.mc_core.specs.Writers.{shape_at, words_at, phase_at, UsedIn, IsMade}
 use Rattle.mc_core.specs.declared.act.Act.{Act}
 use Rattle.mc_core.specs.declared.progress.Progress.{Progress}
 use Rattle.mc_core.specs.declared.writer.Writer.{Writer}
@@ -63,3 +63,8 @@ turn_on i n l ne = sym (mod-eq_of_lt (omega arith))
 pub cleared_by : (i bit : ℕ) (o : Option ℕ) → ((bit ≡ 0) × (o ≡ Some i)) ⊎ ((bit ≢ 0) × (o ≡ None)) → o ≡ cleared_after None (Hand i) bit
 cleared_by i bit o (inl h) = h.1 ∙ sym (cond-true {A = Option ℕ} (eqb bit 0) (Some i) None (eq-eqb bit 0 h.0))
 cleared_by i bit o (inr h) = h.1 ∙ sym (cond-false {A = Option ℕ} (eqb bit 0) (Some i) None (ne_eqb bit 0 h.0))
+
+-- what follows from a fact of a success
+pub on_ok : {A E : Type 0} (r : Result A E) (P Q : Type 0) → (P → Q) → OnOk r P → OnOk r Q
+on_ok (Ok x) P Q f h = f h
+on_ok (Err e) P Q f h = h

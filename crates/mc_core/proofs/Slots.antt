@@ -1,6 +1,6 @@
 -- What the word of one slot says of the keys that stand there.
 use Rattle.std.specs.Option.{MatchOption}
-use Rattle.std.proofs.Common.{Option, Some, None, ℕ, ◌≡◌, ◌≢◌, ◌<◌, ◌*◌, List, refl, sym, ◌∙◌, ap, arith}
+use Rattle.std.proofs.Common.{Option, Some, None, ℕ, ◌≡◌, ◌≢◌, ◌<◌, ◌*◌, List, sym, ◌∙◌, ap, arith}
 use Rattle.mc_words.proofs.Frames.{slot_word-parts}
 use Rattle.mc_words.specs.Keys.{NamesUnder}
 use Rattle.mc_words.specs.Places.{IsPlace, slot_number, slot, item}

@@ -1,5 +1,5 @@
 -- The words that were written after a key, and where a key stands once.
-use Rattle.std.proofs.Common.{ℕ, ◌≡◌, ◌+◌, ◌*◌, ◌/◌, ◌<◌, ◌≤◌, Option, Some, None, subst, List, length, take, refl, sym, ◌∙◌, ap, arith}
+use Rattle.std.proofs.Common.{ℕ, ◌≡◌, ◌+◌, ◌/◌, ◌≤◌, Option, Some, None, subst, List, length, take, sym, ◌∙◌, ap, arith}
 use Rattle.std.specs.Prelude.{◌↔◌}
 use Rattle.std.proofs.lemmas.List.{length-take, take_all}
 use Rattle.mc_words.specs.Keys.{tag_of, alternate, IsBucketOf}

@@ -1,8 +1,8 @@
 -- The words of a world, as contracts see them.
-use Rattle.std.specs.Prelude.{ℕ, ◌≡◌, ◌+◌, ◌<◌, ◌↔◌, true, List, Some, slice_get}
+use Rattle.std.specs.Prelude.{ℕ, ◌≡◌, List}
 use Rattle.mc_words.specs.Checks.{shape_of}
 use Rattle.mc_words.specs.Places.{IsPlace, slot_number}
-use Rattle.mc_words.specs.Standing.{Names, Stands}
+use Rattle.mc_words.specs.Standing.{Stands}
 use Rattle.mc_words.specs.declared.place.Place.{Place}
 use Rattle.mc_words.specs.declared.shape.Shape.{Shape}
 use Rattle.mc_core.specs.declared.table.Table.{Table}

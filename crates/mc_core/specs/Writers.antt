@@ -1,5 +1,5 @@
 -- The writer of a world, as contracts see it.
-use Rattle.std.specs.Prelude.{ℕ, ◌≡◌, ◌<◌, ◌/◌, Bool, true, false, List, length, take, Option, get_or, [], ◌∷◌, ◌+◌}
+use Rattle.std.specs.Prelude.{ℕ, ◌≡◌, ◌<◌, ◌/◌, Bool, true, false, List, take, get_or, [], ◌∷◌, ◌+◌}
 use Rattle.mc_words.specs.Keys.{IsBucketOf}
 use Rattle.mc_words.specs.Places.{slot_number}
 use Rattle.mc_words.specs.Standing.{Names, Stands, IsFree}

@@ -9,9 +9,9 @@ mod act;
 mod event;
 pub mod laws;
 mod lookup;
+mod progress;
 mod stage;
 mod table;
-mod progress;
 mod writer;
 
 pub use access::Access;

@@ -83,7 +83,12 @@ fn is_moment(act: Act) -> bool
 {
     match act {
         Act::Moment => true,
-        Act::Open(_, _) | Act::Slot(_, _) | Act::Item(_, _, _) | Act::Close | Act::Hand(_) | Act::Mark(_) => false,
+        Act::Open(_, _)
+        | Act::Slot(_, _)
+        | Act::Item(_, _, _)
+        | Act::Close
+        | Act::Hand(_)
+        | Act::Mark(_) => false,
     }
 }
 
@@ -93,6 +98,11 @@ fn is_close(act: Act) -> bool
 {
     match act {
         Act::Close => true,
-        Act::Open(_, _) | Act::Slot(_, _) | Act::Item(_, _, _) | Act::Moment | Act::Hand(_) | Act::Mark(_) => false,
+        Act::Open(_, _)
+        | Act::Slot(_, _)
+        | Act::Item(_, _, _)
+        | Act::Moment
+        | Act::Hand(_)
+        | Act::Mark(_) => false,
     }
 }

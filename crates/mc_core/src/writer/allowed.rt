@@ -105,7 +105,12 @@ impl<const V: usize> Writer<V> {
     {
         match act {
             Act::Item(i, j, word) => self.is_free(i) && j == 0 && word == key,
-            Act::Open(_, _) | Act::Slot(_, _) | Act::Moment | Act::Close | Act::Hand(_) | Act::Mark(_) => false,
+            Act::Open(_, _)
+            | Act::Slot(_, _)
+            | Act::Moment
+            | Act::Close
+            | Act::Hand(_)
+            | Act::Mark(_) => false,
         }
     }
 
@@ -165,7 +170,12 @@ impl<const V: usize> Writer<V> {
     {
         match act {
             Act::Slot(place, word) => word == 0 && self.stands(key, place),
-            Act::Open(_, _) | Act::Item(_, _, _) | Act::Moment | Act::Close | Act::Hand(_) | Act::Mark(_) => false,
+            Act::Open(_, _)
+            | Act::Item(_, _, _)
+            | Act::Moment
+            | Act::Close
+            | Act::Hand(_)
+            | Act::Mark(_) => false,
         }
     }
 
@@ -176,7 +186,12 @@ impl<const V: usize> Writer<V> {
     {
         match act {
             Act::Slot(place, word) => word == 0 && place != fresh && self.stands(key, place),
-            Act::Open(_, _) | Act::Item(_, _, _) | Act::Moment | Act::Close | Act::Hand(_) | Act::Mark(_) => false,
+            Act::Open(_, _)
+            | Act::Item(_, _, _)
+            | Act::Moment
+            | Act::Close
+            | Act::Hand(_)
+            | Act::Mark(_) => false,
         }
     }
 
@@ -228,7 +243,8 @@ impl<const V: usize> Writer<V> {
     {
         match act {
             Act::Item(i, j, _) => i == item && self.is_next_word(count, j),
-            Act::Slot(place, word) => self.is_whole(count) && self.may_place(key, item, place, word),
+            Act::Slot(place, word) => self.is_whole(count)
+                && self.may_place(key, item, place, word),
             Act::Open(_, _) | Act::Moment | Act::Close | Act::Hand(_) | Act::Mark(_) => false,
         }
     }
@@ -238,7 +254,10 @@ impl<const V: usize> Writer<V> {
         requires { item < (shape_at {V = V} self.now).items }
         ensures { IsTrue result ↔ (IsHole (shape_at {V = V} self.now) (words_at {V = V} self.now) place × IsBucketOf (shape_at {V = V} self.now) key place.bucket × (word ≡ slot_word (tag_of (shape_at {V = V} self.now) key) item)) }
     {
-        let named = self.table.checked.slot_word(self.table.checked.tag(key), item);
+        let named = self
+            .table
+            .checked
+            .slot_word(self.table.checked.tag(key), item);
         self.is_empty(place) && self.is_bucket_of(key, place.bucket) && word == named
     }
 
@@ -249,7 +268,12 @@ impl<const V: usize> Writer<V> {
     {
         match act {
             Act::Slot(place, word) => self.is_empty(place) && self.is_other(key, place, word),
-            Act::Open(_, _) | Act::Item(_, _, _) | Act::Moment | Act::Close | Act::Hand(_) | Act::Mark(_) => false,
+            Act::Open(_, _)
+            | Act::Item(_, _, _)
+            | Act::Moment
+            | Act::Close
+            | Act::Hand(_)
+            | Act::Mark(_) => false,
         }
     }
 
@@ -269,7 +293,10 @@ impl<const V: usize> Writer<V> {
         requires { IsPlace (shape_at {V = V} self.now) from }
         ensures { IsTrue result ↔ ((place.bucket ≡ alternate (shape_at {V = V} self.now) from.bucket (tag_of (shape_at {V = V} self.now) key)) × (word ≡ slot (shape_at {V = V} self.now) (words_at {V = V} self.now) (slot_number from))) }
     {
-        let other = self.table.checked.alt(from.bucket, self.table.checked.tag(key));
+        let other = self
+            .table
+            .checked
+            .alt(from.bucket, self.table.checked.tag(key));
         place.bucket == other && word == self.table.slot(from)
     }
 }

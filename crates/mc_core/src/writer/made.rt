@@ -52,7 +52,11 @@ impl<const V: usize> Writer<V> {
         ensures { IsMade {V = V} self.old self.new (Act.Hand i) bit }
     {
         let next = i + 1;
-        self.hand = if next == self.table.checked.shape().items { 0 } else { next };
+        self.hand = if next == self.table.checked.shape().items {
+            0
+        } else {
+            next
+        };
         self.cleared = if bit == 0 { Some(i) } else { None };
     }
 

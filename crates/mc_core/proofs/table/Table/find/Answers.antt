@@ -1,5 +1,4 @@
-use Rattle.std.proofs.Common.{◌≡◌, ℕ, inl, inr, sym, ◌∙◌}
-use Rattle.mc_core.specs.Tables.{shape_in, words_in}
+use Rattle.std.proofs.Common.{inl, inr, sym, ◌∙◌}
 use Rattle.mc_core.proofs.Slots.{match_none}
 use Rattle.mc_core.proofs.table.Table.find.Goals as goal
 

@@ -1,4 +1,4 @@
-use Rattle.std.proofs.Common.{sym, ◌∙◌, ap, get_or, ◌+◌, ◌*◌, ◌<◌, arith, length}
+use Rattle.std.proofs.Common.{◌∙◌, ap, get_or, ◌<◌, arith, length}
 use Rattle.std.proofs.lemmas.List.{get_or_default}
 use Rattle.mc_words.proofs.Places.{row_below}
 use Rattle.mc_words.specs.Places.{item, payload}

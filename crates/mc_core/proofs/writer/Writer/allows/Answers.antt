@@ -19,7 +19,7 @@ may_renew-requires g c =
       (
         rw c.in-Renewing.is at w.count_in,
         renewing_well g.row.V (shape_at w) (words_at w) w.history.items c.in-Renewing.key (take c.in-Renewing.count w.written)
-        (holds_at g.row.V (shape_at w) (words_at w) w.history.items w.written w.progress p c.in-Renewing.is c.requires.holds),
+            (holds_at g.row.V (shape_at w) (words_at w) w.history.items w.written w.progress p c.in-Renewing.is c.requires.holds),
       ),
     )
 
@@ -28,5 +28,5 @@ may_move-requires g c =
     let w = c.args.self.now in (
       search rules,
       moving_well g.row.V (shape_at w) (words_at w) w.history.items c.in-Moving.key
-      (holds_at g.row.V (shape_at w) (words_at w) w.history.items w.written w.progress (progress.Moving c.in-Moving.key) c.in-Moving.is c.requires.holds),
+          (holds_at g.row.V (shape_at w) (words_at w) w.history.items w.written w.progress (progress.Moving c.in-Moving.key) c.in-Moving.is c.requires.holds),
     )

@@ -1,17 +1,13 @@
 use Rattle.mc_core.proofs.writer.Writer.clear_slot.Goals as goal
-use Rattle.std.proofs.Common.{refl, ap, sym, ◌∙◌, ◌≡◌, ◌+◌, ◌*◌, ◌<◌, ◌≤◌, ℕ, take, length, arith}
-use Rattle.mc_words.specs.Keys.{tag_of}
+use Rattle.std.proofs.Common.{refl, ◌+◌, ◌<◌, length, arith}
 use Rattle.mc_words.specs.Places.{slot_number}
-use Rattle.mc_words.proofs.Keys.{tag_of-lt}
-use Rattle.mc_core.specs.Phases as phases
-use Rattle.mc_core.specs.Writers.{shape_at, words_at, phase_at, UsedIn}
+use Rattle.mc_core.specs.Writers.{shape_at, words_at}
 use Rattle.mc_core.specs.declared.act.Act.TheVariants as act
 use Rattle.mc_core.specs.declared.progress.Progress.TheVariants as progress
-use Rattle.mc_core.proofs.Allowed.{may_at, number_place, only_one}
-use Rattle.mc_core.proofs.Items.{some_free}
-use Rattle.mc_core.proofs.Words.{holds_at, whole_written}
+use Rattle.mc_core.proofs.Allowed.{may_at, only_one}
+use Rattle.mc_core.proofs.Words.{holds_at}
 use Rattle.mc_core.proofs.Making.{made}
-use Rattle.mc_core.proofs.Flags.{used_place, used_clear, up_of, downs_room}
+use Rattle.mc_core.proofs.Flags.{used_clear, up_of, downs_room}
 
 pub overflow_add-self : goal.overflow_add-self
 overflow_add-self g c =
@@ -34,4 +30,4 @@ returns-in-Some g c = λ bit.
     let only = holds.deed.0 in
     made w _ (act.Slot c.args.place c.args.word) bit p (progress.Removed c.args.key c.args.evicts) c.requires.running refl e.shape e.words refl refl refl refl refl
     (rw (e.words, e.used, e.free) (used_clear (shape_at w) (words_at w) w.table.used.items w.table.free (slot_number c.args.place) c.args.word c.in-Some.i w.table.flags size may.1 here.names w.table.checked.sound
-        (only_one g.row.V (shape_at w) (words_at w) c.args.key only.0 only.1 (slot_number c.args.place) c.in-Some.i only.2 here) c.requires.used))
+    (only_one g.row.V (shape_at w) (words_at w) c.args.key only.0 only.1 (slot_number c.args.place) c.in-Some.i only.2 here) c.requires.used))

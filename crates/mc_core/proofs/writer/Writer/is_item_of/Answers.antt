@@ -1,5 +1,5 @@
 use Rattle.mc_core.proofs.writer.Writer.is_item_of.Goals as goal
-use Rattle.std.proofs.Common.{sym, subst, ℕ}
+use Rattle.std.proofs.Common.{subst, ℕ}
 use Rattle.std.proofs.lemmas.Bool.{false≢true, eqb-true, eq-eqb}
 use Rattle.mc_words.specs.Standing.{Stands}
 use Rattle.mc_core.specs.Writers.{shape_at, words_at}

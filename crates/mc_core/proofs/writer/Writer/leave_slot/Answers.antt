@@ -1,14 +1,14 @@
 use Rattle.mc_core.proofs.writer.Writer.leave_slot.Goals as goal
-use Rattle.std.proofs.Common.{ℕ, subst, refl, ap, sym, ◌∙◌, ◌≡◌, ◌+◌, ◌*◌, ◌<◌, ◌≤◌, take, length, arith}
+use Rattle.std.proofs.Common.{ℕ, subst, refl, sym, ◌+◌, ◌<◌, length, arith}
 use Rattle.mc_words.specs.Places.{slot_number}
-use Rattle.mc_core.specs.Writers.{shape_at, words_at, phase_at, UsedIn}
+use Rattle.mc_core.specs.Writers.{shape_at, words_at}
 use Rattle.mc_core.specs.declared.act.Act.TheVariants as act
 use Rattle.mc_core.specs.declared.progress.Progress.TheVariants as progress
 use Rattle.mc_words.specs.Standing.{Names}
-use Rattle.mc_core.proofs.Allowed.{may_at, number_place}
+use Rattle.mc_core.proofs.Allowed.{may_at}
 use Rattle.mc_core.proofs.Words.{holds_at}
 use Rattle.mc_core.proofs.Making.{made}
-use Rattle.mc_core.proofs.Flags.{used_place, used_clear, used_copy, used_leave}
+use Rattle.mc_core.proofs.Flags.{used_leave}
 
 pub returns : goal.returns
 returns g c = λ bit.

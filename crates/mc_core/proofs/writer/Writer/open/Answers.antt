@@ -1,10 +1,8 @@
 use Rattle.mc_core.proofs.writer.Writer.open.Goals as goal
-use Rattle.std.proofs.Common.{refl, ap, sym, ◌∙◌, ◌+◌, ◌≤◌, take, length, arith}
-use Rattle.mc_words.specs.Places.{payload}
-use Rattle.mc_core.specs.Writers.{shape_at, words_at, phase_at, UsedIn}
+use Rattle.std.proofs.Common.{refl}
+use Rattle.mc_core.specs.Writers.{shape_at, words_at}
 use Rattle.mc_core.specs.declared.act.Act.TheVariants as act
-use Rattle.mc_core.specs.declared.progress.Progress.TheVariants as progress
-use Rattle.mc_core.proofs.Making.{made, used_bumped, used_item, written_more}
+use Rattle.mc_core.proofs.Making.{made, used_bumped}
 
 pub returns : goal.returns
 returns g c = λ bit.

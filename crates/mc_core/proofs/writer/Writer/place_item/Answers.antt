@@ -1,17 +1,17 @@
 use Rattle.mc_core.proofs.writer.Writer.place_item.Goals as goal
-use Rattle.std.proofs.Common.{refl, ap, sym, ◌∙◌, ◌≡◌, ◌+◌, ◌*◌, ◌<◌, ◌≤◌, ℕ, List, take, length, arith}
+use Rattle.std.proofs.Common.{refl, ap, ◌+◌, ◌<◌, ℕ, List, length, arith}
 use Rattle.mc_words.specs.Keys.{tag_of}
 use Rattle.mc_words.specs.Places.{slot_number}
 use Rattle.mc_words.proofs.Keys.{tag_of-lt}
 use Rattle.mc_core.specs.Phases as phases
-use Rattle.mc_core.specs.Writers.{shape_at, words_at, phase_at, UsedIn}
+use Rattle.mc_core.specs.Writers.{shape_at, words_at}
 use Rattle.mc_core.specs.declared.act.Act.TheVariants as act
 use Rattle.mc_core.specs.declared.progress.Progress.TheVariants as progress
-use Rattle.mc_core.proofs.Allowed.{may_at, number_place, only_one}
+use Rattle.mc_core.proofs.Allowed.{may_at}
 use Rattle.mc_core.proofs.Items.{some_free}
 use Rattle.mc_core.proofs.Words.{holds_at, whole_written}
 use Rattle.mc_core.proofs.Making.{made}
-use Rattle.mc_core.proofs.Flags.{used_place, used_clear, up_of, downs_room}
+use Rattle.mc_core.proofs.Flags.{used_place}
 
 pub overflow_sub-self : goal.overflow_sub-self
 overflow_sub-self g c =

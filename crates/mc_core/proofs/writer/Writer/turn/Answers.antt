@@ -1,6 +1,5 @@
 use Rattle.mc_core.proofs.writer.Writer.turn.Goals as goal
-use Rattle.std.proofs.Common.{refl, ◌∙◌, ◌≡◌, ◌≢◌, ◌+◌, ◌%◌, ◌⊎◌, ℕ, Some, None, inl, inr}
-use Rattle.mc_core.specs.Effects.{cleared_after}
+use Rattle.std.proofs.Common.{refl, ◌∙◌, ◌≡◌, ◌≢◌, ◌+◌, ◌%◌, ◌⊎◌, Some, None, inl, inr}
 use Rattle.mc_core.specs.Writers.{shape_at}
 use Rattle.mc_core.specs.declared.act.Act.TheVariants as act
 use Rattle.mc_core.specs.declared.progress.Progress.TheVariants as progress
