@@ -28,3 +28,4 @@ pub mod Making
 pub mod Flags
 pub mod Allowed
 pub mod Changes
+pub mod Seeing

@@ -15,6 +15,7 @@ pub mod Tables
 pub mod Worlds
 pub mod Progresses
 pub mod Writers
+pub mod Seen
 pub mod Laws
 pub mod Growth
 pub mod Writes

@@ -12,6 +12,7 @@ mod lookup;
 mod progress;
 mod stage;
 mod table;
+mod world;
 mod writer;
 
 pub use access::Access;
