@@ -20,4 +20,12 @@ pub mod Back
 pub mod Feeding
 pub mod Taking
 pub mod Course
+pub mod Slots
 pub mod Reached
+pub mod Items
+pub mod Words
+pub mod Making
+pub mod Flags
+pub mod Allowed
+pub mod Changes
+pub mod Seeing

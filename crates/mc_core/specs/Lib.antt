@@ -11,7 +11,11 @@ pub mod Stages
 pub mod Machine
 pub mod Met
 pub mod Course
+pub mod Tables
 pub mod Worlds
+pub mod Progresses
+pub mod Writers
+pub mod Seen
 pub mod Laws
 pub mod Growth
 pub mod Writes

@@ -13,6 +13,8 @@ use Rattle.mc_core.specs.declared.act.Act.TheVariants as act
 use Rattle.mc_core.specs.declared.event.Done.{Done}
 use Rattle.mc_core.specs.declared.event.Event.{Event}
 use Rattle.mc_core.specs.declared.event.Event.TheVariants.{Write, Begin, Read}
+use Rattle.mc_core.specs.declared.event.Stepped.{Stepped}
+use Rattle.mc_core.specs.declared.event.Stepped.TheVariants as stepped
 use Rattle.mc_core.specs.declared.event.Unlawful.{Unlawful}
 use Rattle.mc_core.specs.declared.event.Unlawful.TheVariants as unlawful
 
@@ -49,6 +51,11 @@ abbrev pub bits_after : List ℕ → Act → List ℕ
 bits_after bits (act.Hand i) = slice_set bits i 0
 bits_after bits (act.Mark i) = slice_set bits i 1
 bits_after bits _ = bits
+
+-- what an act gives: the bit, where the hand read it
+abbrev pub given_of : {V : ℕ} → ℕ → Act → Stepped V
+given_of bit (act.Hand i) = stepped.Word bit
+given_of bit _ = stepped.Nothing
 
 -- the event is lawful, whatever was counted
 abbrev pub IsLawfulNow : {V : ℕ} → Shape → World V → Event → Type 0

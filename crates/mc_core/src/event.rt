@@ -1,3 +1,6 @@
+ghost use Rattle.std.specs.Prelude.{◌≡◌};
+ghost use Rattle.mc_core.specs.Worlds.{given_of};
+
 use crate::act::Act;
 use mc_words::Reply;
 use thiserror::Error;
@@ -48,4 +51,19 @@ pub enum Unlawful {
     Limit,
     #[error("no memory")]
     NoMemory,
+}
+
+/// What an act gives: the bit, where the hand read it.
+pub(crate) fn given_by<const V: usize>(act: Act, bit: u64) -> Stepped<V>
+    ensures { result ≡ given_of {V = V} bit act }
+{
+    match act {
+        Act::Hand(_) => Stepped::Word(bit),
+        Act::Open(_, _)
+        | Act::Slot(_, _)
+        | Act::Item(_, _, _)
+        | Act::Moment
+        | Act::Close
+        | Act::Mark(_) => Stepped::Nothing,
+    }
 }

@@ -9,7 +9,11 @@ mod act;
 mod event;
 pub mod laws;
 mod lookup;
+mod progress;
 mod stage;
+mod table;
+mod world;
+mod writer;
 
 pub use access::Access;
 pub use act::{Act, Deed};
