@@ -6,7 +6,8 @@ use Rattle.mc_words.specs.History.{IsWord}
 use Rattle.mc_words.specs.Places.{payload}
 use Rattle.mc_words.specs.Shapes.{IsShape}
 use Rattle.mc_plan.specs.Making.{Fills, Renews, Removes, Evicts}
-use Rattle.mc_plan.specs.Plans.{fill_acts, renew_acts, remove_acts, evict_acts}
+use Rattle.mc_plan.specs.Moves.{Moves}
+use Rattle.mc_plan.specs.Plans.{fill_acts, renew_acts, remove_acts, evict_acts, move_acts}
 
 -- a value: so many words
 abbrev pub IsValue : ℕ → List ℕ → Type 0
@@ -23,3 +24,6 @@ RemovalsTakeOut V = (sh : Shape) (k : ℕ) (p : Place) → IsShape sh → IsWord
 
 abbrev pub EvictionsTakeOut : ℕ → Type 0
 EvictionsTakeOut V = (sh : Shape) (k : ℕ) (p : Place) → IsShape sh → IsWord k → Evicts V sh k p (evict_acts k p)
+
+abbrev pub MovesKeepTheMap : ℕ → Type 0
+MovesKeepTheMap V = (sh : Shape) (k word : ℕ) (from to : Place) → IsShape sh → IsWord k → Moves V sh k word from to (move_acts k word from to)

@@ -4,4 +4,5 @@ pub mod Search
 pub mod Ready
 pub mod Plans
 pub mod Making
+pub mod Moves
 pub mod Laws

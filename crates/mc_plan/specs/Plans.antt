@@ -6,6 +6,7 @@ use Rattle.mc_words.specs.Keys.{tag_of, slot_word}
 use Rattle.mc_words.specs.Places.{slot_number, slot, item}
 use Rattle.mc_core.specs.declared.act.Act.{Act}
 use Rattle.mc_core.specs.declared.act.Act.TheVariants.{Open, Slot, Item, Moment, Close}
+use Rattle.mc_core.specs.declared.act.Deed.{Deed}
 use Rattle.mc_core.specs.declared.act.Deed.TheVariants as deed
 
 -- these words are written into the item, from its word j on
@@ -21,13 +22,17 @@ fill_acts sh k v i p = Open k deed.Fill ∷ Item i 0 k ∷ (value_acts i 1 v ++ 
 abbrev pub renew_acts : ℕ → List ℕ → ℕ → List Act
 renew_acts k v i = Open k deed.Renew ∷ (value_acts i 1 v ++ Moment ∷ Close ∷ [])
 
--- the key's slot is cleared, because a caller asked for it
-abbrev pub remove_acts : ℕ → Place → List Act
-remove_acts k p = Open k deed.Remove ∷ Slot p 0 ∷ Moment ∷ Close ∷ []
+-- the key's slot is cleared
+abbrev pub take_out_acts : ℕ → Deed → Place → List Act
+take_out_acts k d p = Open k d ∷ Slot p 0 ∷ Moment ∷ Close ∷ []
 
--- the key's slot is cleared, to make room for another key
+-- because a caller asked for it
+abbrev pub remove_acts : ℕ → Place → List Act
+remove_acts k p = take_out_acts k deed.Remove p
+
+-- to make room for another key
 abbrev pub evict_acts : ℕ → Place → List Act
-evict_acts k p = Open k deed.Evict ∷ Slot p 0 ∷ Moment ∷ Close ∷ []
+evict_acts k p = take_out_acts k deed.Evict p
 
 -- the key with this slot word goes from one slot to the other
 abbrev pub move_acts : ℕ → ℕ → Place → Place → List Act
@@ -38,8 +43,8 @@ unfoldable pub item_in : ℕ → ℕ
 item_in word = (word - 1) % 2 ^ 32
 
 -- the key of the item that the slot names
-abbrev pub key_at : ℕ → Shape → List ℕ → Place → ℕ
-key_at V sh w p = item V sh w (item_in (slot sh w (slot_number p))) 0
+abbrev pub key_named : ℕ → Shape → List ℕ → Place → ℕ
+key_named V sh w p = item V sh w (item_in (slot sh w (slot_number p))) 0
 
 -- the first of the places, or the hole where there is none
 abbrev pub first_place : List Place → Place → Place
@@ -49,4 +54,4 @@ first_place (p ∷ ps) hole = p
 -- the moves of a path: the item at the last place moves first
 abbrev pub moves_acts : ℕ → Shape → List ℕ → List Place → Place → List Act
 moves_acts V sh w [] hole = []
-moves_acts V sh w (p ∷ ps) hole = moves_acts V sh w ps hole ++ move_acts (key_at V sh w p) (slot sh w (slot_number p)) p (first_place ps hole)
+moves_acts V sh w (p ∷ ps) hole = moves_acts V sh w ps hole ++ move_acts (key_named V sh w p) (slot sh w (slot_number p)) p (first_place ps hole)

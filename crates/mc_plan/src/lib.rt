@@ -4,20 +4,26 @@
 #![tactic(auto)]
 
 mod bucket;
+mod fill;
 mod finder;
 mod finding;
 pub mod laws;
+mod moves;
 mod path;
 mod peek;
-mod plan;
 mod queue;
+mod renew;
 mod search;
+mod take_out;
 
+pub use fill::add_fill;
 pub use finder::Finder;
 pub use finding::find;
+pub use moves::{add_move, add_moves};
 pub use path::Path;
 pub use peek::Peek;
-pub use plan::{add_evict, add_fill, add_move, add_remove, add_renew};
+pub use renew::add_renew;
+pub use take_out::{add_evict, add_remove};
 
 #[cfg(test)]
 mod tests;

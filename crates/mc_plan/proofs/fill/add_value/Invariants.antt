@@ -1,6 +1,6 @@
 use Rattle.std.proofs.Common.{◌≡◌, ◌+◌, ◌++◌, drop, length}
 use Rattle.mc_plan.specs.Plans.{value_acts}
-use Rattle.mc_plan.proofs.plan.add_value.Given as goal
+use Rattle.mc_plan.proofs.fill.add_value.Given as goal
 
 abbrev pub invariant-loop-j : goal.invariant-loop-j
 invariant-loop-j g l = record {

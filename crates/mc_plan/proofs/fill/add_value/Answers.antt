@@ -1,6 +1,6 @@
 use Rattle.std.proofs.Common.{◌≡◌, ◌+◌, ◌<◌, ◌∙◌, ◌++◌, ap, arith, length, refl, rules, append-nil, sym}
 use Rattle.mc_plan.proofs.Values.{value_step, values_done}
-use Rattle.mc_plan.proofs.plan.add_value.Goals as goal
+use Rattle.mc_plan.proofs.fill.add_value.Goals as goal
 
 pub loop-j-preserved : goal.loop-j-preserved
 loop-j-preserved g c =
