@@ -15,3 +15,17 @@ pub mod Counted
 pub mod Counts
 pub mod Written
 pub mod Grown
+pub mod Forth
+pub mod Back
+pub mod Feeding
+pub mod Taking
+pub mod Course
+pub mod Slots
+pub mod Reached
+pub mod Items
+pub mod Words
+pub mod Making
+pub mod Flags
+pub mod Allowed
+pub mod Changes
+pub mod Seeing

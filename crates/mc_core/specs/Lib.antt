@@ -7,6 +7,15 @@ pub mod Inner
 pub mod Readings
 pub mod Lookups
 pub mod Rest
+pub mod Stages
+pub mod Machine
+pub mod Met
+pub mod Course
+pub mod Tables
+pub mod Worlds
+pub mod Progresses
+pub mod Writers
+pub mod Seen
 pub mod Laws
 pub mod Growth
 pub mod Writes

@@ -1,6 +1,8 @@
 //! The laws of the core, one function each. A body does nothing: what it ensures is the law.
+ghost use Rattle.mc_core.specs.Course.{NextIsDetermined, CanEnd};
 ghost use Rattle.mc_core.specs.Growth.{LawfulGrows, StatesFollow, FrontsStay, ReadingsStay, HistoriesGrow};
 ghost use Rattle.mc_core.specs.Laws.{AgreesAlways, StaysWhileEven, RepliesAreTrue, EvictsAreClear, CountsAlways, HandStays};
+ghost use Rattle.mc_core.specs.Worlds.{WorldsAreTrue};
 ghost use Rattle.mc_core.specs.Writes.{WritesItsWord, KeepsItsWords, ReadsItsWord};
 
 /// At every front of a lawful list of acts the words agree with the history, which is legal.
@@ -71,4 +73,19 @@ pub fn words_keep_their_number<const V: usize>()
 /// Each access is a reading of one word, at a place of the table.
 pub fn access_reads_its_word<const V: usize>()
     ensures { ReadsItsWord V }
+{}
+
+/// The access that a look-up asks for is the only one with which it can go on.
+pub fn next_is_determined<const V: usize>()
+    ensures { NextIsDetermined V }
+{}
+
+/// Every look-up can be ended by some readings.
+pub fn lookups_can_end<const V: usize>()
+    ensures { CanEnd V }
+{}
+
+/// Whatever the writer and the readers do, one atomic step after the other: each look-up that ends replies what the map held at a moment between its first reading and its last.
+pub fn worlds_are_true<const V: usize>()
+    ensures { WorldsAreTrue V }
 {}

@@ -6,8 +6,18 @@
 
 mod access;
 mod act;
+mod event;
 pub mod laws;
+mod lookup;
+mod progress;
+mod stage;
+mod table;
+mod world;
+mod writer;
 
 pub use access::Access;
 pub use act::{Act, Deed};
+pub use event::{Done, Event, Stepped, Unlawful};
+pub use lookup::Lookup;
 pub use mc_words::{Change, Reply};
+pub use stage::Stage;

@@ -1,23 +1,20 @@
 -- A whole change, one write after the other: what holds before it holds after it.
-use Rattle.std.proofs.Common.{take_all, ℕ, zero, suc, ◌≡◌, ◌≢◌, ◌+◌, ◌*◌, ◌/◌, ◌^◌, ◌<◌, ◌≤◌, ◌∙◌, List, [], ◌∷◌, ◌++◌, Option, Some, None, Bool, true, false, All, ap, sym, subst, take, get_or, length, arith, refl, append_assoc, append-nil, length-append}
-use Rattle.std.specs.Option.{IsSome}
+use Rattle.std.proofs.Common.{take_all, ℕ, zero, suc, ◌≡◌, ◌+◌, ◌*◌, ◌^◌, ◌<◌, ◌≤◌, ◌∙◌, List, [], ◌∷◌, ◌++◌, None, false, All, sym, take, length, arith, refl, append_assoc, append-nil, length-append}
 use Rattle.mc_words.specs.declared.history.Change.{Change}
 use Rattle.mc_words.specs.declared.history.Change.TheVariants.{Put, Remove}
 use Rattle.mc_words.specs.declared.place.Place.{Place}
 use Rattle.mc_words.specs.declared.shape.Shape.{Shape}
 use Rattle.mc_words.specs.Answers.{Quiet, IsQuiet}
 use Rattle.mc_words.specs.Chains.{IsHole}
-use Rattle.mc_words.specs.History.{held}
 use Rattle.mc_words.specs.Keys.{tag_of, stripe_of, slot_word, IsBucketOf}
-use Rattle.mc_words.specs.Places.{payload, IsPlace, slot_number, slot, item, moment, version, with_version, with_item, with_slot, with_moment}
+use Rattle.mc_words.specs.Places.{payload, IsPlace, slot_number, slot, with_item}
 use Rattle.mc_words.specs.Shapes.{IsShape}
-use Rattle.mc_words.specs.Standing.{Names, Stands, IsAbsent, IsFree, IsEmpty}
+use Rattle.mc_words.specs.Standing.{Stands, IsAbsent, IsFree}
 use Rattle.mc_words.proofs.Frames.{moved_names, stands_on, same-with_version}
 use Rattle.mc_words.proofs.Keys.{stripe_of-lt}
-use Rattle.mc_words.proofs.Places.{slot-with_version, slot-with_item, slot-with_slot_same, slot-with_slot_other, slot-with_moment, item-with_item_word}
+use Rattle.mc_words.proofs.Places.{slot-with_version, slot-with_item, slot-with_moment, item-with_item_word}
 use Rattle.mc_core.specs.Acts.{MayFrom}
 use Rattle.mc_core.specs.Effects.{bumped, words_after, phase_after, history_after, changes_after}
-use Rattle.mc_core.specs.Inner.{Holds, IsCounted}
 use Rattle.mc_core.specs.Phases.{Phase, Filling, Keyed, Placed, Renewing, Removing, Removed, Closing}
 use Rattle.mc_core.specs.Phases as phases
 use Rattle.mc_core.specs.declared.act.Act.{Act}

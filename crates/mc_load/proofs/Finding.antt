@@ -1,10 +1,10 @@
 -- What looking at a key's two buckets tells.
-use Rattle.std.proofs.Common.{ℕ, ◌≡◌, ◌≢◌, ◌+◌, ◌*◌, ◌/◌, ◌%◌, ◌^◌, ◌<◌, ◌≤◌, List, Option, Some, None, refl, sym, ◌∙◌, ap, subst, inl, inr, arith}
+use Rattle.std.proofs.Common.{ℕ, ◌≡◌, ◌≢◌, ◌+◌, ◌*◌, ◌/◌, ◌%◌, ◌^◌, ◌<◌, List, Option, Some, None, sym, ◌∙◌, ap, subst, inl, inr, arith}
 use Rattle.std.specs.Option.{IfNone}
 use Rattle.std.proofs.lemmas.Bool.{cases_eq}
 use Rattle.mc_words.specs.Chains.{IsHole}
-use Rattle.mc_words.specs.Keys.{tag_of, first_of, second_of, slot_word, IsBucketOf}
-use Rattle.mc_words.specs.Places.{IsPlace, slot_number, slot}
+use Rattle.mc_words.specs.Keys.{tag_of, first_of, second_of, slot_word}
+use Rattle.mc_words.specs.Places.{slot}
 use Rattle.mc_words.specs.Shapes.{IsShape}
 use Rattle.mc_words.specs.Standing.{Stands, AgreesAt, IsAbsent}
 use Rattle.mc_words.specs.declared.place.Place.{Place}
@@ -35,7 +35,7 @@ absent_from V sh w k (Some v) a none_first none_second =
     let i = a.1 in
     let at : (b : ℕ) → q / 4 ≡ b → HoldsKey V sh w k (tag_of sh k) (4 * b + q % 4) i =
     λ b e. let same : q ≡ 4 * b + q % 4 = omega (arith, e) in
-      subst (λ (y : ℕ). HoldsKey V sh w k (tag_of sh k) y i) same (record { in_items = a.2.stands.names.in_items; word = a.2.tagged; has = a.2.stands.key }) in
+    subst (λ (y : ℕ). HoldsKey V sh w k (tag_of sh k) y i) same (record { in_items = a.2.stands.names.in_items; word = a.2.tagged; has = a.2.stands.key }) in
     absurd (elim a.2.placed [
       | inl e ↦ none_first (q % 4) i (omega arith) (at (first_of sh k) e)
       | inr e ↦ none_second (q % 4) i (omega arith) (at (second_of sh k) e)

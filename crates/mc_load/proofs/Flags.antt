@@ -1,11 +1,11 @@
 -- The flags of the items after a change.
-use Rattle.std.proofs.Common.{ℕ, ◌≡◌, ◌≢◌, ◌+◌, ◌*◌, ◌^◌, ◌<◌, ◌≤◌, ◌∙◌, List, Bool, true, false, ap, sym, subst, set, get_or, length, arith, refl, inl, inr, length-set, get_or-set_same, get_or-set_other}
+use Rattle.std.proofs.Common.{ℕ, ◌≡◌, ◌≢◌, ◌*◌, ◌<◌, ◌∙◌, List, Bool, true, false, ap, sym, subst, set, get_or, arith, inl, inr, length-set, get_or-set_same, get_or-set_other}
 use Rattle.std.proofs.lemmas.Bool.{cases_eq, false≢true}
 use Rattle.mc_words.specs.declared.shape.Shape.{Shape}
 use Rattle.mc_words.specs.Keys.{slot_word}
 use Rattle.mc_words.specs.Places.{slot}
 use Rattle.mc_words.specs.Shapes.{IsShape}
-use Rattle.mc_words.specs.Standing.{Names, IsFree}
+use Rattle.mc_words.specs.Standing.{Names}
 use Rattle.mc_words.proofs.Frames.{moved_names, empty_names_none, one_named}
 use Rattle.mc_load.specs.Tables.{Flags}
 
@@ -52,10 +52,10 @@ flags_cleared sh w x used p i s here once empty same f = record {
         (a.0, moved_names sh w x a.0 j (same a.0 a.1.in_table far) a.1)
   ];
   free = λ j m e q a.
-    let far : q ≢ p = λ is. empty_names_none sh x p j empty (subst (λ (y : ℕ). Names sh x y j) is a) in
-    let before : Names sh w q j = moved_names sh x w q j (sym (same q a.in_table far)) a in
-    elim (cases_eq j i) [
-      | inl is ↦ far (once q (subst (λ (y : ℕ). Names sh w q y) is before))
-      | inr ne ↦ f.free j m (sym (get_or-set_other used i j false false ne) ∙ e) q before
-    ];
+      let far : q ≢ p = λ is. empty_names_none sh x p j empty (subst (λ (y : ℕ). Names sh x y j) is a) in
+      let before : Names sh w q j = moved_names sh x w q j (sym (same q a.in_table far)) a in
+      elim (cases_eq j i) [
+        | inl is ↦ far (once q (subst (λ (y : ℕ). Names sh w q y) is before))
+        | inr ne ↦ f.free j m (sym (get_or-set_other used i j false false ne) ∙ e) q before
+      ];
 }

@@ -1,17 +1,17 @@
 -- What the answers of the calls mean.
-use Rattle.std.proofs.Common.{ℕ, ◌≡◌, ◌+◌, ◌*◌, ◌^◌, ◌<◌, ◌≤◌, ◌∙◌, List, [], ◌∷◌, ◌++◌, Option, Some, None, ap, sym, subst, length, get_or, arith, refl, inl, inr}
+use Rattle.std.proofs.Common.{ℕ, ◌≡◌, ◌<◌, ◌∙◌, List, [], ◌∷◌, ◌++◌, Option, Some, None, ap, sym, subst, arith, refl, inl, inr}
 use Rattle.std.specs.Option.{IsSome}
 use Rattle.std.proofs.lemmas.Grind.{same_number_lists}
 use Rattle.mc_words.specs.declared.history.Change.{Change}
 use Rattle.mc_words.specs.declared.history.Change.TheVariants.{Put, Remove}
 use Rattle.mc_words.specs.declared.place.Place.{Place}
 use Rattle.mc_words.specs.declared.shape.Shape.{Shape}
-use Rattle.mc_words.specs.Answers.{Grows, Renews, RefusesPath, RefusesItem, Stores, Removes, FindsNothing, Finds, Misses}
+use Rattle.mc_words.specs.Answers.{Renews, RefusesPath, RefusesItem, Stores, Removes, FindsNothing, Finds, Misses}
 use Rattle.mc_words.specs.Chains.{IsHole, NoChain}
 use Rattle.mc_words.specs.History.{held}
 use Rattle.mc_words.specs.Keys.{IsBucketOf}
-use Rattle.mc_words.specs.Places.{payload, moment}
-use Rattle.mc_words.specs.Standing.{Names, Stands, AgreesAt, IsAbsent, HasValue, HasFree}
+use Rattle.mc_words.specs.Places.{moment}
+use Rattle.mc_words.specs.Standing.{Names, Stands, AgreesAt, IsAbsent, HasValue}
 use Rattle.mc_words.proofs.Count.{full_from_named, room_from_free}
 use Rattle.mc_words.proofs.Holes.{least_from_hole, no_chain_from_full}
 use Rattle.mc_core.proofs.Deeds.{held_from_absent, held_from_present, some_from}

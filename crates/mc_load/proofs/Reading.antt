@@ -1,5 +1,5 @@
 -- What is read at the place of a word.
-use Rattle.std.proofs.Common.{ℕ, ◌≡◌, ◌+◌, ◌*◌, ◌<◌, ◌≤◌, ◌∙◌, List, ap, get_or, length, arith}
+use Rattle.std.proofs.Common.{ℕ, ◌≡◌, ◌<◌, ◌∙◌, List, ap, get_or, length}
 use Rattle.std.proofs.lemmas.List.{get_or_read}
 use Rattle.mc_words.specs.Places.{version, version_place, moment}
 

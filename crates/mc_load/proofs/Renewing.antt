@@ -1,12 +1,11 @@
 -- A renewal and a removal of a table.
-use Rattle.std.proofs.Common.{ℕ, ◌≡◌, ◌≢◌, ◌+◌, ◌*◌, ◌^◌, ◌<◌, ◌≤◌, ◌∙◌, List, [], ◌∷◌, ◌++◌, Bool, true, false, All, Some, None, Option, ap, sym, set, length, arith, refl}
+use Rattle.std.proofs.Common.{ℕ, ◌≡◌, ◌≢◌, ◌+◌, ◌*◌, ◌^◌, ◌<◌, ◌∙◌, List, [], ◌∷◌, ◌++◌, false, All, Some, None, Option, ap, sym, set, length, arith}
 use Rattle.mc_words.specs.declared.history.Change.{Change}
 use Rattle.mc_words.specs.declared.history.Change.TheVariants.{Put, Remove}
 use Rattle.mc_words.specs.declared.place.Place.{Place}
 use Rattle.mc_words.specs.declared.shape.Shape.{Shape}
 use Rattle.mc_words.specs.History.{held}
-use Rattle.mc_words.specs.Keys.{tag_of, stripe_of}
-use Rattle.mc_words.specs.Places.{payload, IsPlace, slot_number, moment, slot, item}
+use Rattle.mc_words.specs.Places.{payload, IsPlace, slot_number, moment, slot}
 use Rattle.mc_words.specs.Standing.{Names, Stands, AgreesAt}
 use Rattle.mc_words.proofs.Places.{slot-with_slot_same, slot-with_slot_other}
 use Rattle.mc_core.specs.Effects.{bumped}

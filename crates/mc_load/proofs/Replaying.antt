@@ -1,12 +1,11 @@
 -- The lines of a replay, one after the other.
-use Rattle.std.proofs.Common.{◌≡◌, ℕ, ◌+◌, ◌-◌, ◌^◌, ◌<◌, ◌≤◌, ◌∙◌, Bool, true, false, List, [], ◌∷◌, ◌++◌, Option, Some, None, Result, Ok, Err, refl, sym, ap, subst, length, take, arith, inl, inr, take_all, append_assoc, append-nil, length-append}
+use Rattle.std.proofs.Common.{◌≡◌, ℕ, ◌+◌, ◌-◌, ◌^◌, ◌<◌, ◌≤◌, ◌∙◌, true, false, List, [], ◌∷◌, ◌++◌, Option, Some, None, Ok, Err, refl, sym, ap, subst, length, take, arith, inl, inr, take_all, append_assoc, append-nil, length-append}
 use Rattle.std.proofs.KnownBytes.{Appends-trans, Appends-nil, Appends-kept, Keeps-refl}
 use Rattle.std.specs.Io.BufRead.{first_line, drop_through}
 use Rattle.std.specs.Io.KnownBytes.{Keeps, Appends}
 use Rattle.mc_words.specs.declared.shape.Shape.{Shape}
 use Rattle.mc_words.specs.Answers.{Quiet}
 use Rattle.mc_script.specs.declared.command.Command.{Command}
-use Rattle.mc_script.specs.declared.command.LineFault.{LineFault}
 use Rattle.mc_script.specs.Commands.{command_in}
 use Rattle.mc_script.specs.Lines.{lines_of, GivesLine}
 use Rattle.mc_script.proofs.Lines.{lines-step, lines-nil}
@@ -118,13 +117,18 @@ one_back before = omega arith
 refused : (V : ℕ) (sh : Shape) (x y : List ℕ) (old new newer : Option (List ℕ)) (before : ℕ) (s t : Quiet V) (fault : Fault) (so_far : SoFar V sh (lines_of x) (lines_of y) old new before s)
     → (0 < length y) × LineDoes V sh before s (first_line y) [] (Some fault) t × Keeps new newer
     → (own : List ℕ) × (left : List (List ℕ)) × (text : List ℕ) × (s : Quiet V) × (t : Quiet V) × (answer : List ℕ) ×
-      Stopped V sh (lines_of x) (before + 1) (own ∷ left) text s × LineDoes V sh (before + 1 - 1) s own answer (Some fault) t × Appends old newer (text ++ answer)
+    Stopped V sh (lines_of x) (before + 1) (own ∷ left) text s × LineDoes V sh (before + 1 - 1) s own answer (Some fault) t × Appends old newer (text ++ answer)
 refused V sh x y old new newer before s t fault so_far plays = (
-    first_line y, lines_of (drop_through 10 y), so_far.text, s, t, [],
-    stopped_line V sh (lines_of x) y old new before s so_far plays.0,
-    subst (λ (k : ℕ). LineDoes V sh k s (first_line y) [] (Some fault) t) (sym (one_back before)) plays.1,
-    subst (Appends old newer) (sym (append-nil so_far.text)) (Appends-kept _ _ _ _ so_far.written plays.2),
-  )
+  first_line y,
+  lines_of (drop_through 10 y),
+  so_far.text,
+  s,
+  t,
+  [],
+  stopped_line V sh (lines_of x) y old new before s so_far plays.0,
+  subst (λ (k : ℕ). LineDoes V sh k s (first_line y) [] (Some fault) t) (sym (one_back before)) plays.1,
+  subst (Appends old newer) (sym (append-nil so_far.text)) (Appends-kept _ _ _ _ so_far.written plays.2),
+)
 
 undone : (V : ℕ) (sh : Shape) (x y : List ℕ) (old new newer : Option (List ℕ)) (before : ℕ) (s : Quiet V) (so_far : SoFar V sh (lines_of x) (lines_of y) old new before s) → Keeps new newer
     → (left : List (List ℕ)) × (text : List ℕ) × (s : Quiet V) × Stopped V sh (lines_of x) (before + 1) left text s × Appends old newer text
@@ -142,9 +146,15 @@ replays_part V sh (Some x) (Some y) c old new newer before s t TooLong so_far pl
 replays_part V sh (Some x) (Some y) c old new newer before s t NotACommand so_far plays = refused V sh x y old new newer before s t NotACommand so_far plays
 replays_part V sh (Some x) (Some y) c old new newer before s t BadNumber so_far plays = refused V sh x y old new newer before s t BadNumber so_far plays
 replays_part V sh (Some x) (Some y) c old new newer before s t WriteFailed so_far plays = (
-    first_line y, lines_of (drop_through 10 y), so_far.text, s, t, plays.1, plays.2,
-    stopped_line V sh (lines_of x) y old new before s so_far plays.0,
-    subst (λ (k : ℕ). LineDoes V sh k s (first_line y) plays.1 None t) (sym (one_back before)) plays.3,
-    plays.4,
-    Appends-trans _ _ _ _ _ so_far.written plays.5,
-  )
+  first_line y,
+  lines_of (drop_through 10 y),
+  so_far.text,
+  s,
+  t,
+  plays.1,
+  plays.2,
+  stopped_line V sh (lines_of x) y old new before s so_far plays.0,
+  subst (λ (k : ℕ). LineDoes V sh k s (first_line y) plays.1 None t) (sym (one_back before)) plays.3,
+  plays.4,
+  Appends-trans _ _ _ _ _ so_far.written plays.5,
+)

@@ -1,10 +1,9 @@
 -- A new table.
-use Rattle.std.proofs.Common.{inl, inr, ℕ, ◌≡◌, ◌+◌, ◌*◌, ◌<◌, ◌≤◌, Bool, true, false, List, [], length, replicate, get_or, refl, sym, ◌∙◌, ap, subst, arith}
+use Rattle.std.proofs.Common.{inl, inr, ℕ, ◌≡◌, ◌+◌, false, [], replicate, get_or, sym, ◌∙◌, ap, arith}
 use Rattle.std.proofs.lemmas.Bool.{cases_lt, false≢true}
 use Rattle.std.proofs.lemmas.List.{length-replicate, get_or-replicate, get_or_past}
 use Rattle.mc_words.specs.Answers.{IsQuiet}
 use Rattle.mc_words.specs.Places.{IsWidth, word_count, version, slot}
-use Rattle.mc_words.specs.Standing.{Agrees, Names, IsFree}
 use Rattle.mc_words.specs.declared.shape.Shape.{Shape}
 use Rattle.mc_words.proofs.Frames.{empty_names_none}
 use Rattle.mc_core.specs.Inner.{StateHolds}

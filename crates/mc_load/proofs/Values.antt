@@ -1,5 +1,5 @@
 -- The value words of an item, written one after the other.
-use Rattle.std.proofs.Common.{ℕ, ◌≡◌, ◌+◌, ◌<◌, ◌≤◌, ◌∙◌, List, [], ◌∷◌, ap, sym, drop, get_or, length, arith, refl, add-one, drop-cons}
+use Rattle.std.proofs.Common.{ℕ, ◌≡◌, ◌+◌, ◌<◌, ◌∙◌, List, ◌∷◌, ap, sym, drop, get_or, length, add-one, drop-cons}
 use Rattle.mc_words.specs.Places.{with_item}
 use Rattle.mc_words.specs.declared.shape.Shape.{Shape}
 use Rattle.mc_load.specs.Writes.{with_values}

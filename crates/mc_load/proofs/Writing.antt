@@ -1,22 +1,22 @@
 -- One write of a table after another.
-use Rattle.std.proofs.Common.{ℕ, ◌≡◌, ◌≢◌, ◌+◌, ◌*◌, ◌^◌, ◌<◌, ◌≤◌, ◌∙◌, List, [], ◌∷◌, ◌++◌, Bool, true, false, All, Some, ap, sym, set, get_or, length, arith, refl, length-append}
+use Rattle.std.proofs.Common.{ℕ, ◌≡◌, ◌≢◌, ◌+◌, ◌*◌, ◌^◌, ◌<◌, ◌≤◌, ◌∙◌, List, [], ◌∷◌, ◌++◌, true, All, ap, sym, set, get_or, length, arith, refl, length-append}
 use Rattle.std.proofs.lemmas.List.{get_or_default}
 use Rattle.mc_words.specs.declared.history.Change.{Change}
-use Rattle.mc_words.specs.declared.history.Change.TheVariants.{Put, Remove}
+use Rattle.mc_words.specs.declared.history.Change.TheVariants.{Put}
 use Rattle.mc_words.specs.declared.place.Place.{Place}
 use Rattle.mc_words.specs.declared.shape.Shape.{Shape}
 use Rattle.mc_words.specs.Chains.{IsHole}
 use Rattle.mc_words.specs.Keys.{tag_of, stripe_of, slot_word, IsBucketOf}
-use Rattle.mc_words.specs.Places.{payload, IsPlace, slot_number, word_count, moment, version, slot, with_item, with_moment, with_version, with_slot}
+use Rattle.mc_words.specs.Places.{payload, slot_number, moment, version, slot, with_item}
 use Rattle.mc_words.specs.Shapes.{IsShape}
-use Rattle.mc_words.specs.Standing.{Names, Stands, OnlyAt, IsAbsent, IsFree}
+use Rattle.mc_words.specs.Standing.{IsAbsent, IsFree}
 use Rattle.mc_words.proofs.Keys.{stripe_of-lt, tag_of-lt}
-use Rattle.mc_words.proofs.Places.{length-with_moment, length-with_version, length-with_slot, length-with_item, version-with_moment, slot-with_slot_same, slot-with_slot_other}
+use Rattle.mc_words.proofs.Places.{length-with_version, length-with_item, slot-with_slot_same, slot-with_slot_other}
 use Rattle.mc_core.specs.Effects.{bumped}
 use Rattle.mc_core.specs.Phases.{runs, Phase, Filling, Keyed, Placed, Renewing, Removing, Removed, Closing}
 use Rattle.mc_core.specs.Phases as phases
-use Rattle.mc_load.specs.Deeds.{IsIn, counted_words, finished_words, valued_words, placed_words, renewed_words, cleared_words}
-use Rattle.mc_load.specs.Tables.{Flags, IsTable, IsSized, state_of}
+use Rattle.mc_load.specs.Deeds.{IsIn, counted_words, finished_words, valued_words, placed_words}
+use Rattle.mc_load.specs.Tables.{IsTable, IsSized, state_of}
 use Rattle.mc_load.specs.Writes.{Writes, with_values, Made}
 use Rattle.mc_load.specs.declared.table.Table.{Table}
 use Rattle.mc_load.proofs.Deeds.{in_from_quiet, quiet_from_in, fill_opened, fill_valued, fill_placed, put_counted, closed, slot-valued, slot-finished}
@@ -132,8 +132,8 @@ can_bump V t h k table room =
 pub can_finish : (V : ℕ) (t u : Table V) (w : List ℕ) (n : ℕ) (p : Phase) (h : List (Change V)) (k : ℕ) → Writes V t u w n → n ≡ 1 → IsSized V t → length w ≡ length t.words.items → IsIn V t.checked.shape w p h (t.changes + 1) → t.changes + 2 ≤ 2 ^ 62
     → IsSized V u × (moment u.words.items + 1 < 2 ^ 64) × (version u.words.items (stripe_of u.checked.shape k) + 1 < 2 ^ 64) × (u.changes + 1 < 2 ^ 64)
 can_finish V t u w n p h k wrote one sized many here room = (
-    sized_after V t u w n wrote many sized,
-    rw wrote.words (moment_room V t.checked.shape w p h (t.changes + 1) here (omega (arith, room))),
-    rw (wrote.words, wrote.checked) (version_room V t.checked.shape w p h (t.changes + 1) k t.checked.sound here (omega (arith, room))),
-    omega (arith, wrote.changes, one, room),
-  )
+  sized_after V t u w n wrote many sized,
+  rw wrote.words (moment_room V t.checked.shape w p h (t.changes + 1) here (omega (arith, room))),
+  rw (wrote.words, wrote.checked) (version_room V t.checked.shape w p h (t.changes + 1) k t.checked.sound here (omega (arith, room))),
+  omega (arith, wrote.changes, one, room),
+)

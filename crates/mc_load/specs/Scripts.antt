@@ -1,8 +1,6 @@
 -- What is written for a script, and where and why it stops.
 use Rattle.std.specs.Prelude.{◌≡◌, ℕ, ◌+◌, ◌-◌, ◌^◌, ◌<◌, ◌≤◌, ◌⊎◌, List, [], ◌∷◌, ◌++◌, length, take, Option, Some, None, Result, Ok, Err}
-use Rattle.std.specs.Io.BufRead.{first_line, drop_through}
 use Rattle.std.specs.Io.KnownBytes.{Keeps, Appends}
-use Rattle.mc_words.specs.declared.history.Change.{Change}
 use Rattle.mc_words.specs.declared.shape.Shape.{Shape}
 use Rattle.mc_words.specs.Answers.{Quiet}
 use Rattle.mc_script.specs.declared.command.Command.{Command}
@@ -13,7 +11,7 @@ use Rattle.mc_script.specs.Lines.{lines_of}
 use Rattle.mc_load.specs.declared.answer.Answer.{Answer}
 use Rattle.mc_load.specs.declared.answer.Answer.TheVariants as answer
 use Rattle.mc_load.specs.declared.fault.Fault.{Fault}
-use Rattle.mc_load.specs.declared.fault.Fault.TheVariants.{ReadFailed, NoMemory, TooLong, NotACommand, BadNumber, WriteFailed}
+use Rattle.mc_load.specs.declared.fault.Fault.TheVariants.{ReadFailed, NoMemory, TooLong, WriteFailed}
 use Rattle.mc_load.specs.declared.fault.Stop.{Stop}
 use Rattle.mc_load.specs.Calls.{PutAnswers, RemoveAnswers, GetAnswers}
 use Rattle.mc_load.specs.Faults.{fault_of}

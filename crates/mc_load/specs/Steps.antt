@@ -1,5 +1,5 @@
 -- What one line of a replay does, as its parts hand it on.
-use Rattle.std.specs.Prelude.{◌≡◌, ℕ, ◌+◌, ◌<◌, Bool, true, false, List, [], ◌∷◌, ◌++◌, length, take, Option, Some, None, Result, Ok, Err}
+use Rattle.std.specs.Prelude.{◌≡◌, ℕ, ◌<◌, Bool, true, false, List, [], ◌++◌, length, take, Option, Some, None, Result, Ok, Err}
 use Rattle.std.specs.Io.BufRead.{first_line, drop_through}
 use Rattle.std.specs.Io.KnownBytes.{Keeps, Appends}
 use Rattle.mc_words.specs.declared.history.Change.{Change}
@@ -9,7 +9,7 @@ use Rattle.mc_script.specs.declared.command.Command.{Command}
 use Rattle.mc_script.specs.Lines.{lines_of}
 use Rattle.mc_load.specs.declared.answer.Answer.{Answer}
 use Rattle.mc_load.specs.declared.fault.Fault.{Fault}
-use Rattle.mc_load.specs.declared.fault.Fault.TheVariants.{ReadFailed, NoMemory, TooLong, NotACommand, BadNumber, WriteFailed}
+use Rattle.mc_load.specs.declared.fault.Fault.TheVariants.{ReadFailed, NoMemory, WriteFailed}
 use Rattle.mc_load.specs.declared.table.Table.{Table}
 use Rattle.mc_load.specs.Scripts.{Answers, LineDoes, Plays}
 use Rattle.mc_load.specs.Tables.{IsTable, state_of, opened}

@@ -1,11 +1,11 @@
 -- The table of one caller, as a quiet state, and what each of its calls answers.
-use Rattle.std.specs.Prelude.{ℕ, ◌≡◌, ◌≢◌, ◌+◌, ◌*◌, ◌/◌, ◌<◌, ◌≤◌, ◌⊎◌, List, [], ◌∷◌, length, replicate, Bool, true, false, Option, Some, None, Result, Ok, Err, slice_index_or}
+use Rattle.std.specs.Prelude.{ℕ, ◌≡◌, ◌≢◌, ◌+◌, ◌*◌, ◌<◌, ◌≤◌, ◌⊎◌, List, [], length, replicate, Bool, true, false, slice_index_or}
 use Rattle.mc_words.specs.declared.history.Change.{Change}
 use Rattle.mc_words.specs.declared.place.Place.{Place}
 use Rattle.mc_words.specs.declared.shape.Shape.{Shape}
 use Rattle.mc_words.specs.Answers.{Quiet, IsQuiet}
 use Rattle.mc_words.specs.Chains.{IsHole}
-use Rattle.mc_words.specs.Keys.{slot_word, first_of, second_of, IsBucketOf}
+use Rattle.mc_words.specs.Keys.{slot_word, first_of, second_of}
 use Rattle.mc_words.specs.Places.{IsWidth, word_count, slot, item}
 use Rattle.mc_words.specs.Standing.{Names, IsFree}
 use Rattle.mc_load.specs.declared.table.Table.{Table}

@@ -1,8 +1,7 @@
 -- The line that is written for an answer, without its end.
-use Rattle.std.specs.Prelude.{ℕ, List, ◌++◌, ◌∷◌, codes, Option, Some, None, Result, Ok, Err}
+use Rattle.std.specs.Prelude.{ℕ, List, ◌++◌, ◌∷◌, codes, Some, None, Ok, Err}
 use Rattle.std.specs.Fmt.{decimal}
 use Rattle.std.specs.List.{flat_map}
-use Rattle.mc_words.specs.declared.history.Reply.{Reply}
 use Rattle.mc_words.specs.declared.history.Reply.TheVariants.{Found, Absent, Busy}
 use Rattle.mc_load.specs.declared.answer.Answer.{Answer}
 use Rattle.mc_load.specs.declared.answer.Answer.TheVariants as answer

@@ -15,7 +15,9 @@ pub enum Put {
         evicted: Option<u64>,
     },
     /// The key was there and has the new value.
-    Renewed { at: u64 },
+    Renewed {
+        at: u64,
+    },
 }
 
 /// Why a `put` changed nothing.

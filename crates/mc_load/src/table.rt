@@ -67,13 +67,7 @@ impl<const V: usize> Table<V> {
         ensures none { IfNone result ((i : ℕ) → i < (shape_in self.now).items → slot (shape_in self.now) (words_in self.now) (slot_number place) ≢ slot_word tag i) }
     {
         match self.checked.slot_parts(self.slot(place)) {
-            Some((found, item)) => {
-                if found == tag {
-                    Some(item)
-                } else {
-                    None
-                }
-            }
+            Some((found, item)) => { if found == tag { Some(item) } else { None } }
             None => None,
         }
     }

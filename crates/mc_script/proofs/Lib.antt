@@ -5,4 +5,3 @@ pub mod Lines
 pub mod Parting
 pub mod Digits
 pub mod Counting
-pub mod Plays

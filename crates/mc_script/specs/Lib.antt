@@ -2,4 +2,3 @@ pub mod Lines
 pub mod Words
 pub mod Numbers
 pub mod Commands
-pub mod Plays

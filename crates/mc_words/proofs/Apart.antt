@@ -1,8 +1,7 @@
 -- Words of different uses lie at different places.
-use Rattle.std.proofs.Common.{ℕ, ◌≡◌, ◌+◌, ◌*◌, ◌<◌, ◌≤◌, arith, refl, sym, ap, ◌∙◌}
+use Rattle.std.proofs.Common.{ℕ, ◌≡◌, ◌+◌, ◌*◌, ◌<◌, ◌≤◌, arith, refl, ap, ◌∙◌}
 use Rattle.std.proofs.lemmas.Nat.{same_from_place}
-use Rattle.mc_words.specs.Places.{payload, Use, TheMoment, AVersion, ASlot, AnItem, ARecency, IsUse, place_of, all_words, word_count, PlacesApart}
-use Rattle.mc_words.specs.Recency.{recency_words}
+use Rattle.mc_words.specs.Places.{payload, Use, TheMoment, AVersion, ASlot, AnItem, ARecency, IsUse, place_of, all_words, PlacesApart}
 use Rattle.mc_words.specs.declared.shape.Shape.{Shape}
 use Rattle.mc_words.proofs.Places.{row_below}
 

@@ -120,9 +120,9 @@ full_from_named V sh w h a named =
     let all = keys_below V sh w h a named sh.items (omega arith) in
     let most = keys_fit V sh w h a in
     let least = length-le_from_keys nat_eq_equiv all.ks (map_from [] h) all.distinct (λ k t.
-        let i = all.each k t in
-        let here = named i.0 i.1 in
-        some_from_present V sh w k (held h k) (a k) (here.0, i.0, record { names = here.1; key = i.2 })) in
+    let i = all.each k t in
+    let here = named i.0 i.1 in
+    some_from_present V sh w k (held h k) (a k) (here.0, i.0, record { names = here.1; key = i.2 })) in
     omega (arith, all.many, most, least)
 
 -- where an item is free, there are fewer keys than items

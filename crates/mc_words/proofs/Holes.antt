@@ -1,9 +1,8 @@
 -- Chains of no place: they are the holes in a key's own buckets.
-use Rattle.std.proofs.Common.{ℕ, ◌≡◌, ◌≢◌, ◌+◌, ◌*◌, ◌/◌, ◌<◌, ◌≤◌, List, [], ◌∷◌, length, refl, sym, ap, ◌∙◌, inl, inr, arith}
+use Rattle.std.proofs.Common.{ℕ, List, [], ◌∷◌, refl, inl, inr, arith}
 use Rattle.std.specs.List.{IsDistinct}
-use Rattle.mc_words.specs.Chains.{IsHole, Leads, IsChain, IsLeastLength, NoChain}
-use Rattle.mc_words.specs.Keys.{first_of, second_of, IsBucketOf}
-use Rattle.mc_words.specs.Places.{IsPlace, slot_number, slot}
+use Rattle.mc_words.specs.Chains.{IsHole, IsLeastLength, NoChain}
+use Rattle.mc_words.specs.Keys.{IsBucketOf}
 use Rattle.mc_words.specs.declared.place.Place.{Place}
 use Rattle.mc_words.specs.declared.shape.Shape.{Shape}
 

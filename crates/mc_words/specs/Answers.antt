@@ -1,7 +1,7 @@
 -- What each answer of a call means for the table before the call and after it.
-use Rattle.std.specs.Prelude.{ℕ, ◌≡◌, ◌+◌, ◌*◌, ◌<◌, ◌≤◌, List, [], ◌∷◌, ◌++◌, length, Option, Some, None, IsSome}
+use Rattle.std.specs.Prelude.{ℕ, ◌≡◌, ◌+◌, ◌*◌, ◌<◌, ◌≤◌, List, [], ◌∷◌, ◌++◌, length, Some, None, IsSome}
 use Rattle.mc_words.specs.declared.history.Change.{Change}
-use Rattle.mc_words.specs.declared.history.Change.TheVariants.{Put, Remove, Evict}
+use Rattle.mc_words.specs.declared.history.Change.TheVariants.{Put, Remove}
 use Rattle.mc_words.specs.declared.shape.Shape.{Shape}
 use Rattle.mc_words.specs.Chains.{IsLeastLength, NoChain}
 use Rattle.mc_words.specs.History.{held, key_count, IsLegal}

@@ -1,5 +1,5 @@
 -- The places of the words, what stands in them, and what a write of one leaves.
-use Rattle.std.specs.Prelude.{ℕ, ◌≡◌, ◌+◌, ◌*◌, ◌/◌, ◌<◌, ◌≤◌, List, slice_index, slice_set}
+use Rattle.std.specs.Prelude.{ℕ, ◌≡◌, ◌+◌, ◌*◌, ◌<◌, ◌≤◌, List, slice_index, slice_set}
 use Rattle.mc_words.specs.declared.place.Place.{Place}
 use Rattle.mc_words.specs.declared.shape.Shape.{Shape}
 use Rattle.mc_words.specs.Recency.{recency_word, recency_words}

@@ -2,7 +2,7 @@
 use Rattle.std.specs.Prelude.{ℕ, ◌≡◌, ◌≢◌, ◌+◌, ◌*◌, ◌/◌, ◌%◌, ◌<◌, ◌≤◌, ◌⊎◌, ◌==◌, if◌then◌else◌, List, length, Option, Some, None, slice_index}
 use Rattle.mc_words.specs.declared.history.Change.{Change}
 use Rattle.mc_words.specs.declared.shape.Shape.{Shape}
-use Rattle.mc_words.specs.History.{held, IsLegal}
+use Rattle.mc_words.specs.History.{held}
 use Rattle.mc_words.specs.Keys.{tag_of, stripe_of, slot_word, IsBucketOf}
 use Rattle.mc_words.specs.Places.{payload, word_count, moment, version, slot, item}
 

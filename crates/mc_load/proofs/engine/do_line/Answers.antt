@@ -1,4 +1,4 @@
-use Rattle.std.proofs.Common.{◌≡◌, ◌∙◌, ap, sym, rules, Ok, Some, [], ◌∷◌, ◌++◌, string_bytes}
+use Rattle.std.proofs.Common.{◌≡◌, ◌∙◌, ap, rules, Ok, Some, [], ◌∷◌, ◌++◌, string_bytes}
 use Rattle.mc_script.specs.Commands.{command_in}
 use Rattle.mc_load.specs.Texts.{answer_text}
 use Rattle.mc_load.proofs.Replaying.{line_answered}

@@ -1,7 +1,7 @@
-use Rattle.std.proofs.Common.{◌≡◌, ◌+◌, ◌<◌, ◌∙◌, ℕ, List, ap, refl, sym, set, length, arith}
+use Rattle.std.proofs.Common.{◌≡◌, ◌+◌, ◌∙◌, ℕ, ap, refl, set, arith}
 use Rattle.mc_words.proofs.Keys.{stripe_of-lt}
 use Rattle.mc_words.specs.Keys.{stripe_of}
-use Rattle.mc_words.specs.Places.{version, with_version}
+use Rattle.mc_words.specs.Places.{with_version}
 use Rattle.mc_load.proofs.Reading.{read_version}
 use Rattle.mc_load.proofs.table.Table.bump.Goals as goal
 

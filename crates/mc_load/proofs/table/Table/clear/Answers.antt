@@ -1,11 +1,10 @@
-use Rattle.std.proofs.Common.{◌≡◌, ◌+◌, ◌∙◌, ap, sym, arith, refl, length, set, false}
+use Rattle.std.proofs.Common.{◌+◌, ◌∙◌, ap, arith, refl, set, false}
 use Rattle.std.specs.Prelude.{ℕ, List, Bool}
 use Rattle.mc_words.specs.Places.{slot_number, moment, with_slot}
 use Rattle.mc_words.proofs.Places.{length-with_slot}
 use Rattle.mc_core.specs.Effects.{bumped}
 use Rattle.mc_core.specs.Phases.{Removed}
-use Rattle.mc_load.specs.Deeds.{cleared_words, finished_words}
-use Rattle.mc_load.specs.Writes.{Writes}
+use Rattle.mc_load.specs.Deeds.{finished_words}
 use Rattle.mc_load.proofs.Renewing.{CanRemove, cleared_in, removal_made}
 use Rattle.mc_load.proofs.Writing.{writes_then, sized_after, table_sized, can_bump, can_finish, length-bumped}
 use Rattle.mc_load.proofs.table.Table.clear.Goals as goal
@@ -50,4 +49,4 @@ returns g c = λ h table.
       stands = c.requires.stands;
     } in
     removal_made V t _ h c.args.key c.args.place c.args.i c.finish-at.result can
-      whole.words whole.checked (ap (λ (l : List Bool). set l c.args.i false) whole.used) whole.changes (c.finish-at.ensures.moment ∙ ap (λ (w : List ℕ). moment w + 1) wrote.words)
+    whole.words whole.checked (ap (λ (l : List Bool). set l c.args.i false) whole.used) whole.changes (c.finish-at.ensures.moment ∙ ap (λ (w : List ℕ). moment w + 1) wrote.words)

@@ -1,5 +1,5 @@
-use Rattle.std.proofs.Common.{◌≡◌, ◌+◌, ◌<◌, ◌∙◌, ℕ, List, ap, refl, sym, set, length, arith}
-use Rattle.mc_words.specs.Places.{moment, with_moment}
+use Rattle.std.proofs.Common.{◌+◌, ◌∙◌, ℕ, ap, refl, set, arith}
+use Rattle.mc_words.specs.Places.{with_moment}
 use Rattle.mc_load.proofs.Reading.{read_moment}
 use Rattle.mc_load.proofs.table.Table.count.Goals as goal
 

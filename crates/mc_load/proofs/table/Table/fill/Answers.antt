@@ -1,11 +1,10 @@
-use Rattle.std.proofs.Common.{◌≡◌, ◌+◌, ◌∙◌, ap, sym, arith, refl, length, set, true}
+use Rattle.std.proofs.Common.{◌≡◌, ◌+◌, ◌∙◌, ap, arith, refl, set, true}
 use Rattle.std.specs.Prelude.{ℕ, List, Bool}
 use Rattle.mc_words.specs.Keys.{tag_of, slot_word}
 use Rattle.mc_words.specs.Places.{slot_number, moment, with_slot}
 use Rattle.mc_words.proofs.Places.{length-with_slot}
 use Rattle.mc_core.specs.Phases.{Placed}
-use Rattle.mc_load.specs.Deeds.{valued_words, placed_words, finished_words}
-use Rattle.mc_load.specs.Writes.{Writes}
+use Rattle.mc_load.specs.Deeds.{valued_words, finished_words}
 use Rattle.mc_load.proofs.Writing.{CanFill, filled_in, fill_made, writes_then, sized_after, table_sized, words_fit, can_bump, can_finish, length-valued}
 use Rattle.mc_load.proofs.table.Table.fill.Goals as goal
 
@@ -67,4 +66,4 @@ returns g c = λ h table.
       free = c.requires.free;
     } in
     fill_made V t _ h c.args.key v c.args.place c.args.i c.finish-at.result can
-      whole.words whole.checked (ap (λ (l : List Bool). set l c.args.i true) whole.used) whole.changes (c.finish-at.ensures.moment ∙ ap (λ (w : List ℕ). moment w + 1) wrote.words)
+    whole.words whole.checked (ap (λ (l : List Bool). set l c.args.i true) whole.used) whole.changes (c.finish-at.ensures.moment ∙ ap (λ (w : List ℕ). moment w + 1) wrote.words)

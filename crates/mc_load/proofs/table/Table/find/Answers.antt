@@ -1,5 +1,3 @@
-use Rattle.std.proofs.Common.{◌∙◌, ap}
-use Rattle.mc_words.specs.Keys.{alternate}
 use Rattle.mc_load.proofs.Finding.{absent_from, none_gives}
 use Rattle.mc_load.proofs.table.Table.find.Goals as goal
 

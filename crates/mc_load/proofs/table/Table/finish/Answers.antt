@@ -1,4 +1,4 @@
-use Rattle.std.proofs.Common.{ap, sym, arith}
+use Rattle.std.proofs.Common.{arith}
 use Rattle.mc_core.specs.Effects.{bumped}
 use Rattle.mc_words.specs.Keys.{stripe_of}
 use Rattle.mc_words.proofs.Places.{length-with_moment, version-with_moment}

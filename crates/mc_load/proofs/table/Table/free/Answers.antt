@@ -1,5 +1,5 @@
-use Rattle.std.proofs.Common.{◌≡◌, ◌∙◌, sym, ap, get_or, length, false, true, ◌<◌, arith}
-use Rattle.std.specs.Prelude.{Bool, List, ℕ}
+use Rattle.std.proofs.Common.{◌∙◌, sym, ap, get_or, length, false, ◌<◌, arith}
+use Rattle.std.specs.Prelude.{Bool, List}
 use Rattle.mc_load.proofs.table.Table.free.Goals as goal
 
 pub returns-then-not-used-clause-some : goal.returns-then-not-used-clause-some

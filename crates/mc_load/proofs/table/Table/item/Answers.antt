@@ -1,4 +1,4 @@
-use Rattle.std.proofs.Common.{◌≡◌, ◌+◌, ◌*◌, ◌<◌, ◌∙◌, ap, get_or, length, arith}
+use Rattle.std.proofs.Common.{◌<◌, ◌∙◌, ap, get_or, length, arith}
 use Rattle.std.specs.Prelude.{ℕ}
 use Rattle.std.proofs.lemmas.List.{get_or_read}
 use Rattle.mc_words.proofs.Places.{row_below}

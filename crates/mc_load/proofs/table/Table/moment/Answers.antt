@@ -1,4 +1,4 @@
-use Rattle.std.proofs.Common.{ℕ, List, ◌<◌, ap, arith}
+use Rattle.std.proofs.Common.{arith}
 use Rattle.mc_load.proofs.Reading.{read_moment}
 use Rattle.mc_load.proofs.table.Table.moment.Goals as goal
 

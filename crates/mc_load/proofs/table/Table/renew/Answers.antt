@@ -1,12 +1,10 @@
-use Rattle.std.proofs.Common.{◌≡◌, ◌+◌, ◌∙◌, ap, sym, arith, refl, length}
+use Rattle.std.proofs.Common.{◌+◌, ◌∙◌, ap, arith, refl}
 use Rattle.std.specs.Prelude.{ℕ, List}
 use Rattle.mc_words.specs.Places.{slot_number, moment}
-use Rattle.mc_words.specs.declared.history.Change.{Change}
 use Rattle.mc_core.specs.Effects.{bumped}
 use Rattle.mc_core.specs.Phases.{Renewing}
-use Rattle.mc_load.specs.Deeds.{renewed_words, finished_words}
-use Rattle.mc_load.specs.Tables.{IsTable}
-use Rattle.mc_load.specs.Writes.{Writes, with_values}
+use Rattle.mc_load.specs.Deeds.{finished_words}
+use Rattle.mc_load.specs.Writes.{with_values}
 use Rattle.mc_load.proofs.Renewing.{CanRenew, renewed_in, renewal_made}
 use Rattle.mc_load.proofs.Writing.{writes_then, sized_after, table_sized, words_fit, can_bump, can_finish, length-bumped, length-with_values}
 use Rattle.mc_load.proofs.table.Table.renew.Goals as goal
@@ -55,4 +53,4 @@ returns g c = λ h table.
       stands = c.requires.stands;
     } in
     renewal_made V t c.finish.new.self h c.args.key v (slot_number c.args.place) c.args.i c.finish.result can
-      whole.words whole.checked whole.used whole.changes (c.finish.ensures.moment ∙ ap (λ (w : List ℕ). moment w + 1) wrote.words)
+    whole.words whole.checked whole.used whole.changes (c.finish.ensures.moment ∙ ap (λ (w : List ℕ). moment w + 1) wrote.words)

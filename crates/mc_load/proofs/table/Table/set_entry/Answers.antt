@@ -1,4 +1,4 @@
-use Rattle.std.proofs.Common.{◌∙◌, ap, sym, arith}
+use Rattle.std.proofs.Common.{arith}
 use Rattle.mc_words.specs.Places.{with_item}
 use Rattle.mc_words.proofs.Places.{length-with_item}
 use Rattle.mc_load.specs.Writes.{with_values}
@@ -21,4 +21,4 @@ pub returns : goal.returns
 returns g c =
     let V = g.row.V in
     writes_then V _ _ _ _ _ _ (λ sh w. with_values V sh w c.args.i 1 c.args.value.now)
-      (writes_then V _ _ _ _ _ _ (λ sh w. with_item V sh w c.args.i 0 c.args.key) c.bump.ensures c.set_item.ensures) c.set_values.ensures
+    (writes_then V _ _ _ _ _ _ (λ sh w. with_item V sh w c.args.i 0 c.args.key) c.bump.ensures c.set_item.ensures) c.set_values.ensures

@@ -1,4 +1,4 @@
-use Rattle.std.proofs.Common.{ℕ, ap, refl, sym, set, arith}
+use Rattle.std.proofs.Common.{ℕ, ap, refl, set, arith}
 use Rattle.mc_words.specs.Places.{with_item}
 use Rattle.mc_load.proofs.table.Table.set_item.Goals as goal
 

@@ -1,7 +1,6 @@
-use Rattle.std.proofs.Common.{◌≡◌, ◌+◌, ◌<◌, ◌∙◌, ap, arith, rules, length, refl, sym}
-use Rattle.mc_words.specs.Places.{payload, word_count, with_item}
+use Rattle.std.proofs.Common.{◌≡◌, ◌+◌, ◌∙◌, ap, arith, refl}
+use Rattle.mc_words.specs.Places.{payload}
 use Rattle.mc_words.proofs.Places.{length-with_item}
-use Rattle.mc_load.specs.Tables.{IsSized}
 use Rattle.mc_load.proofs.Values.{values_step}
 use Rattle.mc_load.proofs.table.Table.set_values.Goals as goal
 

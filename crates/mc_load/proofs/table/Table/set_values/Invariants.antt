@@ -1,4 +1,4 @@
-use Rattle.std.proofs.Common.{◌≡◌, ◌+◌, drop, length}
+use Rattle.std.proofs.Common.{◌≡◌, ◌+◌, drop}
 use Rattle.mc_load.specs.Tables.{IsSized}
 use Rattle.mc_load.specs.Writes.{with_values}
 use Rattle.mc_load.proofs.table.Table.set_values.Given as goal

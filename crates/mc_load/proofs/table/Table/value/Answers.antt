@@ -1,4 +1,4 @@
-use Rattle.std.proofs.Common.{◌≡◌, ◌∙◌, arith}
+use Rattle.std.proofs.Common.{arith}
 use Rattle.mc_words.specs.Places.{payload}
 use Rattle.mc_load.proofs.table.Table.value.Goals as goal
 

@@ -1,5 +1,5 @@
-use Rattle.std.proofs.Common.{◌≡◌, ◌≢◌, ◌<◌, ap, subst}
-use Rattle.std.specs.Prelude.{ℕ, bit_xor}
+use Rattle.std.proofs.Common.{◌≡◌, ap}
+use Rattle.std.specs.Prelude.{bit_xor}
 use Rattle.mc_words.specs.Keys.{alternate}
 use Rattle.mc_words.proofs.Keys.{alternate-alternate, alternate-lt, alternate-ne}
 use Rattle.mc_words.proofs.checked.Checked.alt.Goals as goal

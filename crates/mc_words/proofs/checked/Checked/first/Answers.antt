@@ -1,5 +1,3 @@
-use Rattle.std.proofs.Common.{◌≡◌, ◌∙◌, ap}
-use Rattle.std.specs.Prelude.{bit_and, ◌%◌}
 use Rattle.mc_words.specs.Keys.{first_of}
 use Rattle.mc_words.proofs.Keys.{and_power}
 use Rattle.mc_words.proofs.checked.Checked.first.Goals as goal

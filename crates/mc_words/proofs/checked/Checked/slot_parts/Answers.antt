@@ -1,8 +1,7 @@
-use Rattle.std.proofs.Common.{◌≡◌, ◌<◌, ◌≤◌, ◌-◌, ◌+◌, ◌*◌, ◌/◌, ◌%◌, ◌^◌, arith, sym}
-use Rattle.std.specs.Prelude.{ℕ, bit_and}
+use Rattle.std.proofs.Common.{◌≡◌, ◌<◌, ◌+◌, ◌*◌, ◌%◌, ◌^◌, arith}
+use Rattle.std.specs.Prelude.{bit_and}
 use Rattle.std.proofs.lemmas.Nat.{and_mask}
-use Rattle.mc_words.specs.Checks.{Parts}
-use Rattle.mc_words.specs.Keys.{slot_word, NamesUnder}
+use Rattle.mc_words.specs.Keys.{slot_word}
 use Rattle.mc_words.proofs.checked.Checked.slot_parts.Goals as goal
 use Rattle.mc_words.proofs.checked.Checked.slot_parts.Goals.{else-tag-lt256-via-then-tag-lt256+else-item-from, else-tag-lt256-via-else-tag-lt256}
 

@@ -1,4 +1,3 @@
-use Rattle.std.proofs.Common.{◌/◌}
 use Rattle.mc_words.specs.Keys.{stripe_of}
 use Rattle.mc_words.proofs.Keys.{and_power}
 use Rattle.mc_words.proofs.checked.Checked.stripe.Goals as goal

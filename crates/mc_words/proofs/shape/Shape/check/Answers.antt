@@ -1,5 +1,4 @@
-use Rattle.std.proofs.Common.{◌≡◌, ◌<◌, ◌≤◌, ◌^◌, arith, refl, sym, subst, lit≤}
-use Rattle.std.specs.Prelude.{ℕ}
+use Rattle.std.proofs.Common.{◌≡◌, arith, sym, subst}
 use Rattle.mc_words.specs.Shapes.{IsPower}
 use Rattle.mc_words.proofs.Powers.{is_power-pow}
 use Rattle.mc_words.proofs.shape.Shape.check.Goals as goal

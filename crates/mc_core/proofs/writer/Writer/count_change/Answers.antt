@@ -1,0 +1,17 @@
+use Rattle.mc_core.proofs.writer.Writer.count_change.Goals as goal
+use Rattle.std.proofs.Common.{rules}
+use Rattle.mc_core.specs.Writers.{shape_at, words_at}
+use Rattle.mc_core.specs.declared.act.Act.TheVariants as act
+use Rattle.mc_core.proofs.Allowed.{may_at}
+use Rattle.mc_core.proofs.Changes.{change_placed, change_renewing, closing_placed, closing_renewing}
+
+pub count-requires : goal.count-requires
+count-requires g c =
+    let w = c.args.self.now in
+    (search rules, (search rules, (c.requires.moment, (c.requires.used, (change_placed g.row.V w.written w.progress _ _ c.in-Placed.is w.whole, closing_placed w.written w.progress _ _ c.in-Placed.is)))))
+
+pub count-requires-in-Renewing : goal.count-requires-in-Renewing
+count-requires-in-Renewing g c =
+    let w = c.args.self.now in
+    let may = may_at g.row.V (shape_at w) (words_at w) w.hand w.cleared w.written w.progress _ act.Moment c.in-Renewing.is c.requires.may in
+    (search rules, (search rules, (c.requires.moment, (c.requires.used, (change_renewing g.row.V w.written w.progress _ _ c.in-Renewing.is w.whole may, closing_renewing w.written w.progress _ _ c.in-Renewing.is)))))

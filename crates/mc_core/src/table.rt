@@ -1,0 +1,126 @@
+//! The words of a world, and which of its items a slot names.
+ghost use Rattle.std.specs.Prelude.{◌≡◌, ◌≤◌, length};
+ghost use Rattle.mc_words.specs.Checks.{shape_of};
+ghost use Rattle.mc_words.specs.Places.{word_count};
+
+use mc_words::{Checked, Place};
+
+/// The words without the recency bits, a flag for each item that a slot names, and how many items no slot names.
+#[derive(Drop)]
+pub(crate) struct Table<const V: usize> {
+    pub(crate) checked: Checked,
+    pub(crate) words: Vec<u64>,
+    pub(crate) used: Vec<bool>,
+    pub(crate) free: u32,
+    ghost some_words: { 1 ≤ V },
+    ghost most_words: { V ≤ 8 },
+    ghost size: { length words.items ≡ word_count V (shape_of checked) },
+    ghost flags: { length used.items ≡ (shape_of checked).items },
+}
+
+impl<const V: usize> Table<V> {
+    ghost use Rattle.std.specs.Prelude.{ℕ, ◌+◌, ◌-◌, ◌^◌, ◌<◌, ◌/◌, MatchOption, IfSome, IfNone};
+    ghost use Rattle.mc_words.specs.Keys.{IsBucketOf, stripe_of};
+    ghost use Rattle.mc_words.specs.Places.{IsPlace, payload, slot_number, slot, item, version, moment, with_version, with_moment, with_slot, with_item};
+    ghost use Rattle.mc_words.specs.Standing.{Stands};
+    ghost use Rattle.mc_core.specs.Tables.{shape_in, words_in, StandsAt, WritesTable};
+    ghost use Rattle.mc_core.specs.Effects.{bumped};
+
+    /// The word of a slot.
+    #[tactic(auto, unfolding(mc_words::specs::Places::slot))]
+    pub(crate) fn slot(&self, place: Place) -> u64
+        requires { IsPlace (shape_in {V = V} self.now) place }
+        ensures { result ≡ slot (shape_in {V = V} self.now) (words_in {V = V} self.now) (slot_number place) }
+    {
+        self.words[self.checked.slot_place(place)]
+    }
+
+    /// A word of an item.
+    #[tactic(auto, unfolding(mc_words::specs::Places::item))]
+    pub(crate) fn item(&self, i: u32, j: u8) -> u64
+        requires item { i < (shape_in {V = V} self.now).items }
+        requires word { j ≤ payload V }
+        ensures { result ≡ item V (shape_in {V = V} self.now) (words_in {V = V} self.now) i j }
+    {
+        self.words[self.checked.item_place::<V>(i, j)]
+    }
+
+    /// The item at which the key stands in a slot.
+    pub(crate) fn stands(&self, place: Place, key: u64) -> Option<u32>
+        requires { IsPlace (shape_in {V = V} self.now) place }
+        ensures { MatchOption result ((i : ℕ) → Stands V (shape_in {V = V} self.now) (words_in {V = V} self.now) key (slot_number place) i → ⊥) (λ i. Stands V (shape_in {V = V} self.now) (words_in {V = V} self.now) key (slot_number place) i) }
+    {
+        let (_, i) = self.checked.slot_parts(self.slot(place))?;
+        if self.item(i, 0) == key {
+            Some(i)
+        } else {
+            None
+        }
+    }
+
+    /// The slot of a bucket in which the key stands, and its item.
+    fn find_in(&self, bucket: u32, key: u64) -> Option<(Place, u32)>
+        requires { bucket < (shape_in {V = V} self.now).buckets }
+        ensures { MatchOption result ((q i : ℕ) → q / 4 ≡ bucket → Stands V (shape_in {V = V} self.now) (words_in {V = V} self.now) key q i → ⊥) (λ at. StandsAt V (shape_in {V = V} self.now) (words_in {V = V} self.now) key at.0 at.1) }
+    {
+        for slot in 0..4u8 {
+            let place = Place { bucket, slot };
+            if let Some(i) = self.stands(place, key) {
+                return Some((place, i));
+            }
+        }
+        None
+    }
+
+    /// Where the key stands, if it stands in one of its buckets.
+    pub(crate) fn find(&self, key: u64) -> Option<(Place, u32)>
+        ensures { MatchOption result ((q i : ℕ) → IsBucketOf (shape_in {V = V} self.now) key (q / 4) → Stands V (shape_in {V = V} self.now) (words_in {V = V} self.now) key q i → ⊥) (λ at. StandsAt V (shape_in {V = V} self.now) (words_in {V = V} self.now) key at.0 at.1) }
+    {
+        let first = self.checked.first(key);
+        if let Some(at) = self.find_in(first, key) {
+            return Some(at);
+        }
+        self.find_in(self.checked.alt(first, self.checked.tag(key)), key)
+    }
+
+    /// Counts one change of the version of the key's stripe.
+    #[tactic(auto, unfolding(mc_words::specs::Places::version, mc_words::specs::Places::with_version))]
+    pub(crate) fn bump(&mut self, key: u64)
+        requires { version (words_in {V = V} self.old) (stripe_of (shape_in {V = V} self.old) key) < 2 ^ 64 - 1 }
+        ensures { WritesTable {V = V} self.old self.new (bumped (shape_in {V = V} self.old) (words_in {V = V} self.old) key) }
+    {
+        let at = self.checked.version_place(self.checked.stripe(key));
+        self.words[at] += 1;
+    }
+
+    /// Counts one change.
+    #[tactic(auto, unfolding(mc_words::specs::Places::moment, mc_words::specs::Places::with_moment))]
+    pub(crate) fn tick(&mut self)
+        requires { moment (words_in {V = V} self.old) < 2 ^ 64 - 1 }
+        ensures { WritesTable {V = V} self.old self.new (with_moment (words_in {V = V} self.old) (moment (words_in {V = V} self.old) + 1)) }
+    {
+        let at = self.checked.moment_place();
+        self.words[at] += 1;
+    }
+
+    /// Writes the word of a slot.
+    #[tactic(auto, unfolding(mc_words::specs::Places::with_slot))]
+    pub(crate) fn set_slot(&mut self, place: Place, word: u64)
+        requires { IsPlace (shape_in {V = V} self.old) place }
+        ensures { WritesTable {V = V} self.old self.new (with_slot (shape_in {V = V} self.old) (words_in {V = V} self.old) (slot_number place) word) }
+    {
+        let at = self.checked.slot_place(place);
+        self.words[at] = word;
+    }
+
+    /// Writes a word of an item.
+    #[tactic(auto, unfolding(mc_words::specs::Places::with_item))]
+    pub(crate) fn set_item(&mut self, i: u32, j: u8, word: u64)
+        requires item { i < (shape_in {V = V} self.old).items }
+        requires word { j ≤ payload V }
+        ensures { WritesTable {V = V} self.old self.new (with_item V (shape_in {V = V} self.old) (words_in {V = V} self.old) i j word) }
+    {
+        let at = self.checked.item_place::<V>(i, j);
+        self.words[at] = word;
+    }
+}

@@ -1,0 +1,108 @@
+//! The writer of a world: its state, and which act it may make next.
+ghost use Rattle.std.specs.Prelude.{◌≡◌, ◌<◌, ◌≤◌, length};
+ghost use Rattle.std.specs.Prelude.{◌↔◌, IsTrue};
+ghost use Rattle.mc_core.specs.declared.act.Act.{Act};
+ghost use Rattle.mc_core.specs.Progresses.{count_at, fresh_slot};
+
+use crate::act::Act;
+use crate::progress::Progress;
+use crate::table::Table;
+use mc_words::Change;
+use std::alloc::AllocError;
+
+mod allowed;
+mod made;
+mod slots;
+
+#[derive(Drop)]
+pub(crate) struct Writer<const V: usize> {
+    pub(crate) table: Table<V>,
+    pub(crate) progress: Progress,
+    pub(crate) written: [u64; V],
+    pub(crate) hand: u32,
+    pub(crate) cleared: Option<u32>,
+    pub(crate) history: Vec<Change<V>>,
+    pub(crate) changes: u64,
+    ghost whole: { length written ≡ V },
+    ghost count_in: { count_at progress ≤ V },
+    ghost slot_in: { fresh_slot progress < 4 },
+}
+
+impl<const V: usize> Writer<V> {
+    ghost use Rattle.mc_core.specs.Acts.{IsAllowed};
+    ghost use Rattle.std.specs.Prelude.{◌^◌, OnOk, OnErr};
+    ghost use Rattle.mc_core.specs.Inner.{StateHolds, StateCounted};
+    ghost use Rattle.mc_core.specs.Writers.{shape_at, state_in, UsedWell, IsMade, IsKept};
+
+    /// Whether the act is allowed now.
+    pub(crate) fn allows(&self, act: Act) -> bool
+        requires holds { StateHolds (shape_at {V = V} self.now) (state_in {V = V} self.now) }
+        requires used { UsedWell {V = V} self.now.table }
+        ensures { IsTrue result ↔ IsAllowed (shape_at {V = V} self.now) (state_in {V = V} self.now) act }
+    {
+        match self.progress {
+            Progress::Quiet => self.may_when_quiet(act),
+            Progress::Filling(key) => self.may_key(key, act),
+            Progress::Keyed(key, item, count) => self.may_fill(key, item, count, act),
+            Progress::Placed(_, _) | Progress::Removed(_, _) => is_moment(act),
+            Progress::Renewing(key, count) => self.may_renew(key, count, act),
+            Progress::Removing(key, evicts) => self.may_clear(key, evicts, act),
+            Progress::Moving(key) => self.may_move(key, act),
+            Progress::Moved(key, fresh) => self.may_leave(key, fresh, act),
+            Progress::Closing(_) => is_close(act),
+        }
+    }
+
+    /// Makes an act that is allowed; `bit` is what the hand reads. Memory may be wanting for the change that a `Moment` counts.
+    pub(crate) fn make(&mut self, act: Act, bit: u64) -> Result<(), AllocError>
+        requires holds { StateHolds (shape_at {V = V} self.old) (state_in {V = V} self.old) }
+        requires used { UsedWell {V = V} self.old.table }
+        requires hand { self.old.hand < (shape_at {V = V} self.old).items }
+        requires counted { StateCounted (shape_at {V = V} self.old) (state_in {V = V} self.old) }
+        requires changes { self.old.changes ≤ 2 ^ 62 }
+        requires may { IsAllowed (shape_at {V = V} self.old) (state_in {V = V} self.old) act }
+        ensures ok { OnOk result (IsMade {V = V} self.old self.new act bit) }
+        ensures err { OnErr result (IsKept {V = V} self.old self.new × (act ≡ Act.Moment)) }
+    {
+        match act {
+            Act::Open(key, deed) => self.open(key, deed),
+            Act::Slot(place, word) => self.write_slot(place, word),
+            Act::Item(i, j, word) => self.write_item(i, j, word),
+            Act::Moment => return self.count_change(),
+            Act::Close => self.close_deed(),
+            Act::Hand(i) => self.turn(i, bit),
+            Act::Mark(_) => {}
+        }
+        Ok(())
+    }
+}
+
+/// Whether the act counts a change.
+fn is_moment(act: Act) -> bool
+    ensures { IsTrue result ↔ (act ≡ Act.Moment) }
+{
+    match act {
+        Act::Moment => true,
+        Act::Open(_, _)
+        | Act::Slot(_, _)
+        | Act::Item(_, _, _)
+        | Act::Close
+        | Act::Hand(_)
+        | Act::Mark(_) => false,
+    }
+}
+
+/// Whether the act ends its deed.
+fn is_close(act: Act) -> bool
+    ensures { IsTrue result ↔ (act ≡ Act.Close) }
+{
+    match act {
+        Act::Close => true,
+        Act::Open(_, _)
+        | Act::Slot(_, _)
+        | Act::Item(_, _, _)
+        | Act::Moment
+        | Act::Hand(_)
+        | Act::Mark(_) => false,
+    }
+}

@@ -1,0 +1,174 @@
+//! Making an act that is allowed, one function an act.
+ghost use Rattle.std.specs.Prelude.{◌≡◌, ◌+◌, ◌-◌, ◌^◌, ◌<◌, ◌≤◌, ℕ, List, [], ◌∷◌, OnOk, OnErr, length, take};
+ghost use Rattle.mc_words.specs.Keys.{stripe_of};
+ghost use Rattle.mc_words.specs.Places.{version, moment, payload};
+ghost use Rattle.mc_core.specs.Acts.{IsAllowed};
+ghost use Rattle.mc_core.specs.Inner.{StateHolds};
+ghost use Rattle.mc_core.specs.Phases.{opened, Closing};
+ghost use Rattle.mc_core.specs.Effects.{change_of, phase_after};
+ghost use Rattle.mc_core.specs.Progresses.{count_at, fresh_slot};
+ghost use Rattle.mc_core.specs.Writers.{shape_at, words_at, state_in, phase_at, UsedWell, IsMade, IsKept};
+ghost use Rattle.mc_core.specs.declared.act.Act.{Act};
+ghost use Rattle.mc_core.specs.declared.progress.Progress.{Progress};
+
+use crate::act::{Act, Deed};
+use crate::progress::Progress;
+use crate::writer::Writer;
+use mc_words::Change;
+use std::alloc::AllocError;
+
+impl<const V: usize> Writer<V> {
+    /// Opens a deed on a key.
+    pub(crate) fn open(&mut self, key: u64, deed: Deed)
+        requires used { UsedWell {V = V} self.old.table }
+        requires version { version (words_at {V = V} self.old) (stripe_of (shape_at {V = V} self.old) key) < 2 ^ 64 - 1 }
+        requires changes { self.old.changes < 2 ^ 64 - 1 }
+        ensures { (bit : ℕ) → IsMade {V = V} self.old self.new (Act.Open key deed) bit }
+    {
+        self.table.bump(key);
+        self.cleared = None;
+        self.changes += 1;
+        self.progress = opening_of(key, deed);
+    }
+
+    /// Ends the deed on a key.
+    fn close(&mut self, key: u64)
+        requires running { self.old.progress ≡ Progress.Closing key }
+        requires used { UsedWell {V = V} self.old.table }
+        requires version { version (words_at {V = V} self.old) (stripe_of (shape_at {V = V} self.old) key) < 2 ^ 64 - 1 }
+        requires changes { self.old.changes < 2 ^ 64 - 1 }
+        ensures { (bit : ℕ) → IsMade {V = V} self.old self.new Act.Close bit }
+    {
+        self.table.bump(key);
+        self.changes += 1;
+        self.progress = Progress::Quiet;
+    }
+
+    /// Turns the hand past an item whose bit was read.
+    pub(crate) fn turn(&mut self, i: u32, bit: u64)
+        requires quiet { self.old.progress ≡ Progress.Quiet }
+        requires item { i < (shape_at {V = V} self.old).items }
+        requires used { UsedWell {V = V} self.old.table }
+        ensures { IsMade {V = V} self.old self.new (Act.Hand i) bit }
+    {
+        let next = i + 1;
+        self.hand = if next == self.table.checked.shape().items {
+            0
+        } else {
+            next
+        };
+        self.cleared = if bit == 0 { Some(i) } else { None };
+    }
+
+    /// Writes the key of a free item.
+    fn write_key(&mut self, key: u64, i: u32, word: u64)
+        requires running { self.old.progress ≡ Progress.Filling key }
+        requires item { i < (shape_at {V = V} self.old).items }
+        requires used { UsedWell {V = V} self.old.table }
+        ensures { (bit : ℕ) → IsMade {V = V} self.old self.new (Act.Item i 0 word) bit }
+    {
+        self.table.set_item(i, 0, word);
+        self.progress = Progress::Keyed(key, i, 0);
+    }
+
+    /// Writes the next word of the item of a fill.
+    fn write_next(&mut self, key: u64, i: u32, count: u8, word: u64)
+        requires running { self.old.progress ≡ Progress.Keyed key i count }
+        requires item { i < (shape_at {V = V} self.old).items }
+        requires more { count < V }
+        requires used { UsedWell {V = V} self.old.table }
+        ensures { (bit : ℕ) → IsMade {V = V} self.old self.new (Act.Item i (count + 1) word) bit }
+    {
+        self.table.set_item(i, count + 1, word);
+        self.written[count as usize] = word;
+        self.progress = Progress::Keyed(key, i, count + 1);
+    }
+
+    /// Writes the next word of the item of a renewal.
+    fn write_again(&mut self, key: u64, i: u32, count: u8, word: u64)
+        requires running { self.old.progress ≡ Progress.Renewing key count }
+        requires item { i < (shape_at {V = V} self.old).items }
+        requires more { count < V }
+        requires used { UsedWell {V = V} self.old.table }
+        ensures { (bit : ℕ) → IsMade {V = V} self.old self.new (Act.Item i (count + 1) word) bit }
+    {
+        self.table.set_item(i, count + 1, word);
+        self.written[count as usize] = word;
+        self.progress = Progress::Renewing(key, count + 1);
+    }
+
+    /// Writes a word of an item as the running deed asks.
+    pub(crate) fn write_item(&mut self, i: u32, j: u8, word: u64)
+        requires holds { StateHolds (shape_at {V = V} self.old) (state_in {V = V} self.old) }
+        requires used { UsedWell {V = V} self.old.table }
+        requires may { IsAllowed (shape_at {V = V} self.old) (state_in {V = V} self.old) (Act.Item i j word) }
+        ensures { (bit : ℕ) → IsMade {V = V} self.old self.new (Act.Item i j word) bit }
+    {
+        match self.progress {
+            Progress::Filling(key) => self.write_key(key, i, word),
+            Progress::Keyed(key, _, count) => self.write_next(key, i, count, word),
+            Progress::Renewing(key, count) => self.write_again(key, i, count, word),
+            _ => {}
+        }
+    }
+
+    /// Ends the running deed.
+    pub(crate) fn close_deed(&mut self)
+        requires used { UsedWell {V = V} self.old.table }
+        requires versions { (t : ℕ) → t < (shape_at {V = V} self.old).stripes → version (words_at {V = V} self.old) t < 2 ^ 64 - 1 }
+        requires changes { self.old.changes < 2 ^ 64 - 1 }
+        requires may { IsAllowed (shape_at {V = V} self.old) (state_in {V = V} self.old) Act.Close }
+        ensures { (bit : ℕ) → IsMade {V = V} self.old self.new Act.Close bit }
+    {
+        if let Progress::Closing(key) = self.progress {
+            self.close(key);
+        }
+    }
+
+    /// Counts a change, for which memory may be wanting.
+    fn count(&mut self, key: u64, change: Change<V>) -> Result<(), AllocError>
+        requires moment { moment (words_at {V = V} self.old) < 2 ^ 64 - 1 }
+        requires used { UsedWell {V = V} self.old.table }
+        requires change { change_of {V = V} (state_in {V = V} self.old).phase ≡ change ∷ [] }
+        requires phase { phase_after (state_in {V = V} self.old).phase Act.Moment ≡ Closing key }
+        ensures ok { OnOk result ((bit : ℕ) → IsMade {V = V} self.old self.new Act.Moment bit) }
+        ensures err { OnErr result (IsKept {V = V} self.old self.new) }
+    {
+        self.history.push(change)?;
+        self.table.tick();
+        self.progress = Progress::Closing(key);
+        Ok(())
+    }
+
+    /// Counts the change of the running deed.
+    pub(crate) fn count_change(&mut self) -> Result<(), AllocError>
+        requires moment { moment (words_at {V = V} self.old) < 2 ^ 64 - 1 }
+        requires used { UsedWell {V = V} self.old.table }
+        requires may { IsAllowed (shape_at {V = V} self.old) (state_in {V = V} self.old) Act.Moment }
+        ensures ok { OnOk result ((bit : ℕ) → IsMade {V = V} self.old self.new Act.Moment bit) }
+        ensures err { OnErr result (IsKept {V = V} self.old self.new) }
+    {
+        match self.progress {
+            Progress::Placed(key, _) => self.count(key, Change::Put(key, self.written)),
+            Progress::Renewing(key, _) => self.count(key, Change::Put(key, self.written)),
+            Progress::Removed(key, true) => self.count(key, Change::Evict(key)),
+            Progress::Removed(key, false) => self.count(key, Change::Remove(key)),
+            _ => Ok(()),
+        }
+    }
+}
+
+/// The progress with which a deed begins.
+fn opening_of(key: u64, deed: Deed) -> Progress
+    ensures phase { (xs : List ℕ) → phase_at xs result ≡ opened key deed }
+    ensures count { count_at result ≡ 0 }
+    ensures slot { fresh_slot result ≡ 0 }
+{
+    match deed {
+        Deed::Fill => Progress::Filling(key),
+        Deed::Renew => Progress::Renewing(key, 0),
+        Deed::Remove => Progress::Removing(key, false),
+        Deed::Evict => Progress::Removing(key, true),
+        Deed::Move => Progress::Moving(key),
+    }
+}

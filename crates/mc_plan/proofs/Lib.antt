@@ -1,0 +1,16 @@
+pub mod Standing
+pub mod Readable
+pub mod Pushed
+pub mod Levels
+pub mod Least
+pub mod Way
+pub mod Values
+pub mod Steps
+pub mod Walks
+pub mod Slots
+pub mod Quiets
+pub mod Filling
+pub mod Renewing
+pub mod Removing
+pub mod Moving
+pub mod Displacing

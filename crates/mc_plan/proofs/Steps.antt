@@ -1,0 +1,56 @@
+-- One move of a path after another.
+use Rattle.std.proofs.Common.{ℕ, zero, suc, ◌≡◌, ◌≢◌, ◌+◌, ◌-◌, ◌*◌, ◌%◌, ◌^◌, ◌<◌, ◌≤◌, ◌∙◌, inl, inr, List, [], ◌∷◌, ◌++◌, ap, refl, sym, subst, drop, get_or, length, arith, append_assoc, add-one, drop-cons}
+use Rattle.mc_words.specs.declared.place.Place.{Place}
+use Rattle.mc_words.specs.declared.shape.Shape.{Shape}
+use Rattle.mc_words.specs.Chains.{IsOccupied, Leads, IsChain, beyond}
+use Rattle.mc_words.specs.Keys.{slot_word}
+use Rattle.mc_words.specs.Places.{slot_number, slot}
+use Rattle.mc_words.specs.Shapes.{IsShape}
+use Rattle.mc_core.specs.declared.act.Act.{Act}
+use Rattle.mc_plan.specs.Moves.{AreKeys}
+use Rattle.mc_plan.specs.Plans.{key_named, first_place, move_acts, moves_acts}
+use Rattle.mc_plan.specs.Readable.{IsFilled, NamesSome}
+
+-- the item in a word that names one
+pub item_in-named : (sh : Shape) (word : ℕ) → IsShape sh → NamesSome sh word → (1 ≤ word) × ((word - 1) % 2 ^ 32 < sh.items)
+unfolding slot_word
+item_in-named sh word s n =
+    let is : word ≡ n.0 * 2 ^ 32 + n.1 + 1 = n.2.2 in
+    let item = n.2.1 in
+    let items = s.items.1 in
+    let buckets = s.buckets.1 in
+    (omega arith, omega arith)
+
+occupied_on : (sh : Shape) (w : List ℕ) (b : ℕ) (ps : List Place) (hole : Place) (n : ℕ) (d : Place) → Leads sh w b ps hole → n < length ps → IsOccupied sh w (get_or ps n d)
+occupied_on sh w b [] hole n d leads l = absurd (omega arith)
+occupied_on sh w b (p ∷ ps) hole zero d leads l = leads.0
+occupied_on sh w b (p ∷ ps) hole (suc n) d leads l = occupied_on sh w (beyond sh w p) ps hole n d leads.2 (omega arith)
+
+-- each place of a chain is occupied
+pub occupied_at : (sh : Shape) (w : List ℕ) (k : ℕ) (ps : List Place) (hole : Place) (n : ℕ) (d : Place) → IsChain sh w k ps hole → n < length ps → IsOccupied sh w (get_or ps n d)
+occupied_at sh w k ps hole n d chain l = elim chain.leads [ inl a ↦ occupied_on sh w _ ps hole n d a l | inr a ↦ occupied_on sh w _ ps hole n d a l ]
+
+-- the word of an occupied place names an item
+pub named_at : (sh : Shape) (w : List ℕ) (p : Place) → IsFilled sh w → IsOccupied sh w p → NamesSome sh (slot sh w (slot_number p))
+named_at sh w p filled taken =
+    let below : slot_number p < 4 * sh.buckets = omega (arith, taken.0.in_table, taken.0.in_bucket) in
+    elim (filled (slot_number p) below) [ inl e ↦ absurd (taken.1 e) | inr n ↦ (n.1.tag, n.0, (n.1.is_tag, n.1.in_items, n.1.word)) ]
+
+-- the path from a place on
+pub path_from : (ps : List Place) (m n : ℕ) (d : Place) → n ≡ m + 1 → m < length ps → drop m ps ≡ get_or ps m d ∷ drop n ps
+path_from ps m n d e l = rw (e, add-one) (drop-cons ps m d l)
+
+-- what was made of a path from one of its places on
+pub record IsMadeFrom (V : ℕ) (sh : Shape) (w : List ℕ) (before acts : List Act) (ps : List Place) (hole to : Place) : Type 0 where
+  pub items : acts ≡ before ++ moves_acts V sh w ps hole
+  pub end : to ≡ first_place ps hole
+  pub keys : AreKeys V sh w ps
+
+-- one place more
+pub made_more : (V : ℕ) (sh : Shape) (w : List ℕ) (before acts more : List Act) (ps : List Place) (hole to p : Place) (k word : ℕ) → IsMadeFrom V sh w before acts ps hole to
+    → word ≡ slot sh w (slot_number p) → k ≡ key_named V sh w p → k < 2 ^ 64 → more ≡ acts ++ move_acts k word p to → IsMadeFrom V sh w before more (p ∷ ps) hole p
+made_more V sh w before acts more ps hole to p k word made is key small e = record {
+  items = rw (e, made.items, made.end, is, key) (append_assoc before (moves_acts V sh w ps hole) (move_acts (key_named V sh w p) (slot sh w (slot_number p)) p (first_place ps hole)));
+  end = refl;
+  keys = (rw (← key) small, made.keys);
+}

@@ -1,0 +1,17 @@
+-- The writes of a value, one after the other.
+use Rattle.std.proofs.Common.{ℕ, ◌≡◌, ◌+◌, ◌<◌, ◌≤◌, ◌∙◌, List, [], ◌∷◌, ◌++◌, ap, drop, get_or, length, append_assoc, append-nil, add-one, drop-cons, sym}
+use Rattle.std.proofs.Math.ListN.{drop_of_length-le}
+use Rattle.mc_core.specs.declared.act.Act.{Act}
+use Rattle.mc_core.specs.declared.act.Act.TheVariants.{Item}
+use Rattle.mc_plan.specs.Plans.{value_acts}
+
+-- one write more is in the list, and one is left less
+pub value_step : (acts : List Act) (i j x : ℕ) (v : List ℕ) → j < length v → x ≡ get_or v j 0
+    → (acts ++ Item i (j + 1) x ∷ []) ++ value_acts i (j + 1 + 1) (drop (j + 1) v) ≡ acts ++ value_acts i (j + 1) (drop j v)
+value_step acts i j x v l is =
+    let parts : drop j v ≡ get_or v j 0 ∷ drop (j + 1) v = rw add-one (drop-cons v j 0 l) in
+    rw (is, parts) (append_assoc acts (Item i (j + 1) (get_or v j 0) ∷ []) (value_acts i (j + 1 + 1) (drop (j + 1) v)))
+
+-- no write is left
+pub values_done : (acts all : List Act) (i j n : ℕ) (v : List ℕ) → length v ≤ n → acts ++ value_acts i j (drop n v) ≡ all → acts ≡ all
+values_done acts all i j n v l left = sym (append-nil acts) ∙ ap (λ (rest : List ℕ). acts ++ value_acts i j rest) (sym (drop_of_length-le v l)) ∙ left

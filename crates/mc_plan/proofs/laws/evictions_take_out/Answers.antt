@@ -1,0 +1,5 @@
+use Rattle.mc_plan.proofs.Removing.{evicts}
+use Rattle.mc_plan.proofs.laws.evictions_take_out.Goals as goal
+
+pub returns : goal.returns
+returns g c = evicts g.row.V

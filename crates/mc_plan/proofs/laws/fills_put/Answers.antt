@@ -1,0 +1,5 @@
+use Rattle.mc_plan.proofs.Filling.{fills}
+use Rattle.mc_plan.proofs.laws.fills_put.Goals as goal
+
+pub returns : goal.returns
+returns g c = λ sh k v i p shape key value. fills g.row.V sh k v i p shape key value.0 value.1

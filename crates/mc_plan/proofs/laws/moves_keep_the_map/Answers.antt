@@ -1,0 +1,5 @@
+use Rattle.mc_plan.proofs.Moving.{moves}
+use Rattle.mc_plan.proofs.laws.moves_keep_the_map.Goals as goal
+
+pub returns : goal.returns
+returns g c = moves g.row.V

@@ -1,0 +1,5 @@
+use Rattle.mc_plan.proofs.Removing.{removes}
+use Rattle.mc_plan.proofs.laws.removals_take_out.Goals as goal
+
+pub returns : goal.returns
+returns g c = removes g.row.V

@@ -1,0 +1,5 @@
+use Rattle.mc_plan.proofs.Renewing.{renews}
+use Rattle.mc_plan.proofs.laws.renewals_put.Goals as goal
+
+pub returns : goal.returns
+returns g c = λ sh k v i shape key value. renews g.row.V sh k v i shape key value.0 value.1

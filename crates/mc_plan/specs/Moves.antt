@@ -1,0 +1,55 @@
+-- What moves make of a quiet state.
+use Rattle.std.specs.Prelude.{ℕ, ◌≡◌, ◌≢◌, ◌*◌, ◌<◌, List, [], ◌∷◌, length}
+use Rattle.mc_words.specs.declared.place.Place.{Place}
+use Rattle.mc_words.specs.declared.shape.Shape.{Shape}
+use Rattle.mc_words.specs.Chains.{IsHole, IsChain}
+use Rattle.mc_words.specs.History.{IsWord}
+use Rattle.mc_words.specs.Keys.{tag_of, alternate, IsBucketOf}
+use Rattle.mc_words.specs.Places.{slot_number, slot, item}
+use Rattle.mc_words.specs.Shapes.{IsShape}
+use Rattle.mc_words.specs.Standing.{Stands, IsAbsent, IsFree}
+use Rattle.mc_core.specs.States.{State}
+use Rattle.mc_core.specs.declared.act.Act.{Act}
+use Rattle.mc_plan.specs.Making.{IsQuiet, Makes, left}
+use Rattle.mc_plan.specs.Plans.{key_named, first_place, moves_acts}
+
+-- the key stands in the slot, and the other slot is an empty one of the key's other bucket
+pub record CanMove (V : ℕ) (sh : Shape) (w : List ℕ) (k i : ℕ) (from to : Place) : Type 0 where
+  pub in_bucket : from.slot < 4
+  pub stands : Stands V sh w k (slot_number from) i
+  pub hole : IsHole sh w to
+  pub other : to.bucket ≡ alternate sh from.bucket (tag_of sh k)
+
+-- the later words hold in one slot what the other held, which is empty; the other slots and all items are as they were
+pub record MovesSlot (V : ℕ) (sh : Shape) (w later : List ℕ) (from to : ℕ) : Type 0 where
+  pub there : slot sh later to ≡ slot sh w from
+  pub here : slot sh later from ≡ 0
+  pub others : (o : ℕ) → o < 4 * sh.buckets → o ≢ from → o ≢ to → slot sh later o ≡ slot sh w o
+  pub items : (i j : ℕ) → item V sh later i j ≡ item V sh w i j
+
+-- from each quiet state in which the key can move, the acts move it, and no change enters the history
+abbrev pub Moves : ℕ → Shape → ℕ → ℕ → Place → Place → List Act → Type 0
+Moves V sh k word from to acts =
+    (s : State V) (i : ℕ) → IsQuiet V sh s → CanMove V sh s.words k i from to → word ≡ slot sh s.words (slot_number from) →
+    Makes V sh s acts [] 2 ×
+    Stands V sh (left V sh s acts).words k (slot_number to) i ×
+    MovesSlot V sh s.words (left V sh s acts).words (slot_number from) (slot_number to)
+
+-- the keys at the places are numbers of 64 bits
+abbrev pub AreKeys : ℕ → Shape → List ℕ → List Place → Type 0
+AreKeys V sh w [] = Unit {0}
+AreKeys V sh w (p ∷ ps) = IsWord (key_named V sh w p) × AreKeys V sh w ps
+
+-- the key has room where the path begins; where it was absent it still is, and so is each item free that was free
+pub record HasRoom (V : ℕ) (sh : Shape) (w later : List ℕ) (k : ℕ) (first : Place) : Type 0 where
+  pub hole : IsHole sh later first
+  pub bucket : IsBucketOf sh k first.bucket
+  pub absent : IsAbsent V sh w k → IsAbsent V sh later k
+  pub free : (i : ℕ) → IsFree sh w i → IsFree sh later i
+
+-- from each quiet state in which the places are a chain from the key to a hole, the moves from its end backwards are allowed one after the other, change no history, and make room
+abbrev pub MovesMakeRoom : ℕ → Type 0
+MovesMakeRoom V =
+    (sh : Shape) (s : State V) (k : ℕ) (places : List Place) (hole : Place) → IsShape sh → IsQuiet V sh s → IsChain sh s.words k places hole → AreKeys V sh s.words places →
+    Makes V sh s (moves_acts V sh s.words places hole) [] (2 * length places) ×
+    HasRoom V sh s.words (left V sh s (moves_acts V sh s.words places hole)).words k (first_place places hole)

@@ -1,0 +1,12 @@
+-- A shortest path to a hole.
+use Rattle.std.specs.Prelude.{ℕ, ◌≤◌, List, length}
+use Rattle.mc_words.specs.declared.place.Place.{Place}
+use Rattle.mc_words.specs.declared.shape.Shape.{Shape}
+use Rattle.mc_words.specs.Chains.{IsChain}
+use Rattle.mc_plan.specs.declared.path.Path.{Path}
+
+-- a chain from the key, within the depth of the shape, and none is shorter
+pub record IsLeastPath (sh : Shape) (w : List ℕ) (k : ℕ) (p : Path) : Type 0 where
+  pub chain : IsChain sh w k p.places.items p.hole
+  pub within : length p.places.items ≤ sh.depth
+  pub least : (places : List Place) (hole : Place) → IsChain sh w k places hole → length p.places.items ≤ length places

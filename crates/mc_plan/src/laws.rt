@@ -1,0 +1,33 @@
+//! The laws of plans, one function each. A body does nothing: what it ensures is the law.
+ghost use Rattle.mc_plan.specs.Moves.{MovesMakeRoom};
+ghost use Rattle.mc_plan.specs.Laws.{FillsPut, RenewalsPut, RemovalsTakeOut, EvictionsTakeOut, MovesKeepTheMap};
+
+/// Where a key has room, the acts of a fill are allowed, and put the key.
+pub fn fills_put<const V: usize>()
+    ensures { FillsPut V }
+{}
+
+/// Where a key stands at the item, the acts of a renewal are allowed, and put its new value.
+pub fn renewals_put<const V: usize>()
+    ensures { RenewalsPut V }
+{}
+
+/// Where a key stands in the slot, the acts of a removal are allowed, and take it out.
+pub fn removals_take_out<const V: usize>()
+    ensures { RemovalsTakeOut V }
+{}
+
+/// Where a key stands in the slot, at the item whose bit the hand found clear, the acts of an eviction are allowed, and take it out.
+pub fn evictions_take_out<const V: usize>()
+    ensures { EvictionsTakeOut V }
+{}
+
+/// Where a key can move, the acts of a move are allowed, and the map stays as it was.
+pub fn moves_keep_the_map<const V: usize>()
+    ensures { MovesKeepTheMap V }
+{}
+
+/// Where a chain leads from the key to a hole, its moves from the end backwards are allowed one after the other, and make room where it begins.
+pub fn moves_make_room<const V: usize>()
+    ensures { MovesMakeRoom V }
+{}

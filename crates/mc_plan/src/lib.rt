@@ -1,0 +1,29 @@
+//! The writer's plans over the words of a table: where a key stands, and how to make room for one more.
+//!
+//! The words are read through `Peek`, so the same code serves a list of words and shared words.
+#![tactic(auto)]
+
+mod bucket;
+mod fill;
+mod finder;
+mod finding;
+pub mod laws;
+mod moves;
+mod path;
+mod peek;
+mod queue;
+mod renew;
+mod search;
+mod take_out;
+
+pub use fill::add_fill;
+pub use finder::Finder;
+pub use finding::find;
+pub use moves::{add_move, add_moves};
+pub use path::Path;
+pub use peek::Peek;
+pub use renew::add_renew;
+pub use take_out::{add_evict, add_remove};
+
+#[cfg(test)]
+mod tests;

@@ -1,0 +1,70 @@
+// The acts of a move, and the moves of a whole path.
+ghost use Rattle.std.specs.Prelude.{ℕ, ◌≡◌, ◌+◌, ◌*◌, ◌≤◌, ◌++◌, length};
+ghost use Rattle.arrayvec.specs.ArrayVec.{array_vec_len};
+ghost use Rattle.mc_words.specs.Chains.{IsChain};
+ghost use Rattle.mc_words.specs.Checks.{shape_of};
+ghost use Rattle.mc_words.specs.Places.{IsWidth, item, word_count};
+ghost use Rattle.mc_plan.specs.Moves.{AreKeys};
+ghost use Rattle.mc_plan.specs.Plans.{item_in, move_acts, moves_acts};
+ghost use Rattle.mc_plan.specs.Readable.{IsFilled, NamesSome};
+
+use crate::path::Path;
+use crate::peek::{Peek, key_at, slot_at};
+use arrayvec::ArrayVec;
+use mc_core::{Act, Deed};
+use mc_words::{Checked, Place};
+
+/// Adds the acts that move the key to an empty slot of its other bucket. The new slot is written before the old one
+/// is cleared.
+pub fn add_move(acts: &mut ArrayVec<Act, 64>, key: u64, word: u64, from: Place, to: Place)
+    requires room { array_vec_len acts.old + 4 ≤ 64 }
+    ensures items { acts.new.items ≡ acts.old.items ++ move_acts key word from to }
+    ensures many { array_vec_len acts.new ≡ array_vec_len acts.old + 4 }
+{
+    acts.push(Act::Open(key, Deed::Move));
+    acts.push(Act::Slot(to, word));
+    acts.push(Act::Slot(from, 0));
+    acts.push(Act::Close);
+}
+
+/// The key of the item that a slot's word names.
+#[tactic(auto, unfolding(crate::specs::Plans::item_in))]
+fn key_in<const V: usize, P: Peek>(checked: &Checked, peek: &mut P, word: u64) -> u64
+    requires width { IsWidth V }
+    requires words { word_count V (shape_of checked.now) ≤ length (P.words peek.old) }
+    requires named { NamesSome (shape_of checked.now) word }
+    ensures value { result ≡ item V (shape_of checked.now) (P.words peek.old) (item_in word) 0 }
+    ensures same { P.words peek.new ≡ P.words peek.old }
+{
+    let item = (word - 1) % (1 << 32);
+    key_at::<V, P>(checked, peek, item as u32)
+}
+
+/// Adds the acts that move the item at the path's last place to the hole, the item at the place before it to the place
+/// that became empty, and so on. The first place is empty then.
+pub fn add_moves<const V: usize, P: Peek>(
+    checked: &Checked,
+    peek: &mut P,
+    acts: &mut ArrayVec<Act, 64>,
+    path: &Path,
+)
+    requires width { IsWidth V }
+    requires words { word_count V (shape_of checked.now) ≤ length (P.words peek.old) }
+    requires filled { IsFilled (shape_of checked.now) (P.words peek.old) }
+    requires chain { (k : ℕ) × IsChain (shape_of checked.now) (P.words peek.old) k path.now.places.items path.now.hole }
+    requires room { array_vec_len acts.old ≤ 32 }
+    ensures items { acts.new.items ≡ acts.old.items ++ moves_acts V (shape_of checked.now) (P.words peek.old) path.now.places.items path.now.hole }
+    ensures keys { AreKeys V (shape_of checked.now) (P.words peek.old) path.now.places.items }
+    ensures same { P.words peek.new ≡ P.words peek.old }
+{
+    let mut to = path.hole;
+    let mut n = path.places.len();
+    while n > 0 {
+        n -= 1;
+        let from = path.places[n];
+        let word = slot_at(checked, peek, from);
+        let key = key_in::<V, P>(checked, peek, word);
+        add_move(acts, key, word, from, to);
+        to = from;
+    }
+}

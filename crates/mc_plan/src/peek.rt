@@ -1,0 +1,40 @@
+ghost use Rattle.std.specs.Prelude.{ℕ, ◌≡◌, ◌<◌, ◌≤◌, List, length, slice_index};
+ghost use Rattle.mc_words.specs.Checks.{shape_of};
+ghost use Rattle.mc_words.specs.Places.{IsPlace, IsWidth, slot_number, slot, item, word_count};
+ghost use Rattle.mc_plan.specs.Readable.{HasSlots};
+
+use mc_words::{Checked, Place};
+
+/// The words of a table, read one at a time: the moment, the versions, the slots and the items.
+pub trait Peek {
+    ghost words: { Self → List ℕ };
+
+    /// The word at a place.
+    fn word(&mut self, n: usize) -> u64
+        requires { n < length (words self.old) }
+        ensures value { result ≡ slice_index (words self.old) n }
+        ensures same { words self.new ≡ words self.old };
+}
+
+/// The word of a slot.
+#[tactic(auto, unfolding(mc_words::specs::Places::slot))]
+pub(crate) fn slot_at<P: Peek>(checked: &Checked, peek: &mut P, place: Place) -> u64
+    requires words { HasSlots (shape_of checked.now) (P.words peek.old) }
+    requires place { IsPlace (shape_of checked.now) place }
+    ensures value { result ≡ slot (shape_of checked.now) (P.words peek.old) (slot_number place) }
+    ensures same { P.words peek.new ≡ P.words peek.old }
+{
+    peek.word(checked.slot_place(place))
+}
+
+/// The key of an item.
+#[tactic(auto, unfolding(mc_words::specs::Places::item))]
+pub(crate) fn key_at<const V: usize, P: Peek>(checked: &Checked, peek: &mut P, i: u32) -> u64
+    requires width { IsWidth V }
+    requires words { word_count V (shape_of checked.now) ≤ length (P.words peek.old) }
+    requires item { i < (shape_of checked.now).items }
+    ensures value { result ≡ item V (shape_of checked.now) (P.words peek.old) i 0 }
+    ensures same { P.words peek.new ≡ P.words peek.old }
+{
+    peek.word(checked.item_place::<V>(i, 0))
+}
