@@ -1,3 +1,6 @@
+ghost use Rattle.std.specs.Prelude.{◌≡◌, IfOk};
+ghost use Rattle.mc_words.specs.Checks.{shape_of};
+
 use super::PLAIN;
 use crate::fault::Fault;
 use crate::{ReplayError, replay, run_step};
@@ -48,15 +51,28 @@ const SCRIPT: &[u8] = b"put 0 7\nput 0 9\nget 0\n";
 
 const ANSWERS: &[u8] = b"stored at 1 moves 0\nrenewed at 2\nfound 9 at 2\n";
 
-/// How many bytes the first so many answers have.
-const ENDS: [usize; 4] = [0, 20, 33, 46];
-
-/// How many lines end in the bytes.
-fn line_ends(bytes: &[u8]) -> usize {
-    bytes.iter().filter(|b| **b == b'\n').count()
+/// The line that is read after so many bytes of the script, and the answers of those before it.
+fn reading(count: usize) -> (u64, &'static [u8]) {
+    match count {
+        0..=7 => (1, b""),
+        8..=15 => (2, b"stored at 1 moves 0\n"),
+        16..=21 => (3, b"stored at 1 moves 0\nrenewed at 2\n"),
+        _ => (4, ANSWERS),
+    }
 }
 
-fn checked() -> Result<Checked, ShapeError> {
+/// The line whose answer is written after so many bytes.
+fn writing(count: usize) -> u64 {
+    match count {
+        0..=19 => 1,
+        20..=32 => 2,
+        _ => 3,
+    }
+}
+
+fn checked() -> Result<Checked, ShapeError>
+    ensures { IfOk result (λ c. (shape_of c).depth ≡ 0) }
+{
     let shape = Shape {
         buckets: 4,
         items: 16,
@@ -133,7 +149,7 @@ fn each_byte_that_is_not_taken(rt: HostRuntime) -> Result<(), ShapeError> {
             room,
         };
         let result = replay::<1, &[u8], Narrow>(alloc, &checked, 2, &mut input, &mut output);
-        let line = line_ends(&ANSWERS[..room]) as u64 + 1;
+        let line = writing(room);
         assert!(rt;
             result == Err(ReplayError { line, number: 9 }),
             "with room for {room}"
@@ -154,11 +170,11 @@ fn each_byte_that_is_not_read(rt: HostRuntime) -> io::Result<()> {
         let mut output = Vec::new(alloc);
         let mut errors = Vec::new(alloc);
         let status = run_step(alloc, PLAIN, &mut input, &mut output, &mut errors);
-        let before = line_ends(&SCRIPT[..count]);
-        let told = format!(in alloc; "line {}: read failed\n", before + 1)?;
+        let (line, answers) = reading(count);
+        let told = format!(in alloc; "line {line}: read failed\n")?;
         assert_eq!(rt; status, 3);
         assert_eq!(rt; errors.as_slice(), told.as_bytes());
-        assert_eq!(rt; output.as_slice(), &ANSWERS[..ENDS[before]]);
+        assert_eq!(rt; output.as_slice(), answers);
     }
     Ok(())
 }
