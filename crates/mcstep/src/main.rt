@@ -6,16 +6,26 @@ use std::io::BufReader;
 use std::process::ExitCode;
 use std::{env, io};
 
-fn main(rt: HostRuntime) -> io::Result<ExitCode> {
+/// The program over the process's own words and streams.
+fn run(rt: &HostRuntime) -> io::Result<u8> {
     let alloc = rt.alloc();
-    let words: Vec<String> = env::args(&rt)?.collect(alloc)?;
+    let words: Vec<String> = env::args(rt)?.collect(alloc)?;
     let mut input = BufReader::new(alloc, rt.reader())?;
-    let status = run_step(
+    Ok(run_step(
         alloc,
         words.as_slice(),
         &mut input,
-        &mut io::writer(&rt),
+        &mut io::writer(rt),
         &mut rt.stderr(),
-    );
-    Ok(ExitCode::from(status))
+    ))
+}
+
+fn main(rt: HostRuntime) -> ExitCode {
+    match run(&rt) {
+        Ok(status) => ExitCode::from(status),
+        Err(_) => {
+            let _ = eprintln!(rt; "refused: no memory");
+            ExitCode::from(3)
+        }
+    }
 }
