@@ -29,3 +29,7 @@ pub mod Flags
 pub mod Allowed
 pub mod Changes
 pub mod Seeing
+pub mod Both
+pub mod Looking
+pub mod Opening
+pub mod Stepping

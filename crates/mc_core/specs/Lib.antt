@@ -16,6 +16,7 @@ pub mod Worlds
 pub mod Progresses
 pub mod Writers
 pub mod Seen
+pub mod Parts
 pub mod Laws
 pub mod Growth
 pub mod Writes

@@ -1,25 +1,60 @@
 -- What a world in memory shows of the world of events that it is.
-use Rattle.std.specs.Prelude.{ℕ, ◌≡◌, ◌+◌, ◌<◌, ◌≤◌}
+use Rattle.std.specs.Prelude.{ℕ, ◌≡◌, ◌-◌, ◌^◌, ◌<◌, ◌↔◌, List, ◌++◌, Option, Some, None, IsSome, slice_get, unwrap_or}
+use Rattle.mc_words.specs.declared.history.Reply.{Reply}
 use Rattle.mc_words.specs.declared.shape.Shape.{Shape}
+use Rattle.mc_core.specs.Acts.{IsAllowed}
+use Rattle.mc_core.specs.Effects.{after_act}
 use Rattle.mc_core.specs.Lists.{IsLawful, state_of}
-use Rattle.mc_core.specs.Phases.{runs}
+use Rattle.mc_core.specs.Lookups.{IsLookup}
+use Rattle.mc_core.specs.Machine.{shape_for, next_of, Left}
+use Rattle.mc_core.specs.Readings.{Reading}
+use Rattle.mc_core.specs.States.{State}
 use Rattle.mc_core.specs.Worlds as worlds
-use Rattle.mc_core.specs.Writers.{shape_at, state_in, phase_at, UsedWell}
+use Rattle.mc_core.specs.Worlds.{HasChanges, bit_of}
 use Rattle.mc_core.specs.declared.act.Act.{Act}
 use Rattle.mc_core.specs.declared.act.Act.TheVariants as act
-use Rattle.mc_core.specs.declared.world.World.{World}
+use Rattle.mc_core.specs.declared.event.Event.{Event}
+use Rattle.mc_core.specs.declared.event.Event.TheVariants as event
+use Rattle.mc_core.specs.declared.reader.Reader.{Reader}
 
-abbrev pub shape_of_world : {V : ℕ} → World V → Shape
-shape_of_world world = shape_at world.writer
+-- what callers see of a world: of its readers those whose look-up runs, and how many events were counted
+pub record Shown (V : ℕ) : Type 0 where
+  pub shape : Shape
+  pub state : State V
+  pub bits : List ℕ
+  pub readers : List (Option (Reader V))
+  pub events : ℕ
 
--- the writer's state is that of the acts so far, which are lawful; the close of a running deed passes no limit
-pub record Shows {V : ℕ} (world : World V) (seen : worlds.World V) : Type 0 where
-  pub lawful : IsLawful V (shape_of_world world) seen.acts
-  pub state : state_in world.writer ≡ state_of V (shape_of_world world) seen.acts
-  pub used : UsedWell world.writer.table
-  pub bits : world.bits.items ≡ seen.bits
-  pub events : world.events ≡ seen.events
-  pub within : world.writer.changes + runs (phase_at world.writer.written world.writer.progress) ≤ (shape_of_world world).limit
+-- what is there on both sides is related
+abbrev pub Both : {A B : Type 0} → (A → B → Type 0) → Option A → Option B → Type 0
+Both R None None = Unit {0}
+Both R (Some a) (Some b) = R a b
+Both R _ _ = ⊥
+
+-- the look-up of a reader is one that runs: what is left of it are the readings that make a look-up after those so far
+pub record IsRunning (V : ℕ) (sh : Shape) (r : Reader V) (run : worlds.Running) : Type 0 where
+  pub shape : shape_for r.lookup ≡ sh
+  pub key : r.lookup.key ≡ run.key
+  pub left : (rest : List Reading) (reply : Reply V) → Left r.lookup rest reply ↔ IsLookup V sh run.key sh.tries (run.sofar ++ rest) reply
+  pub first : (events : ℕ) → unwrap_or r.first events ≡ worlds.first_read events run
+  pub more : IsSome (next_of r.lookup)
+
+-- the writer's state is that of the acts so far, which are lawful, and each reader's look-up is the one that runs
+pub record Shows {V : ℕ} (shown : Shown V) (seen : worlds.World V) : Type 0 where
+  pub lawful : IsLawful V shown.shape seen.acts
+  pub state : shown.state ≡ state_of V shown.shape seen.acts
+  pub bits : shown.bits ≡ seen.bits
+  pub readers : (r : ℕ) → Both (Both (IsRunning V shown.shape)) (slice_get shown.readers r) (slice_get seen.readers r)
+  pub events : shown.events ≡ seen.events
+
+-- the act is allowed now, and passes no limit
+abbrev pub MayAct : {V : ℕ} → Shown V → Act → Type 0
+MayAct s a = IsAllowed s.shape s.state a × HasChanges s.shape.limit s.state.changes a × (s.events < 2 ^ 64 - 1)
+
+-- the state of the writer after an event
+abbrev pub state_after : {V : ℕ} → Shown V → Event → State V
+state_after s (event.Write a) = after_act s.shape s.state a (bit_of s.bits a)
+state_after s _ = s.state
 
 -- an act on a recency bit is one on the bit of an item
 abbrev pub ReadsIn : Shape → Act → Type 0

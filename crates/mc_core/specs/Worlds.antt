@@ -8,6 +8,8 @@ use Rattle.mc_core.specs.Acts.{IsAllowed}
 use Rattle.mc_core.specs.Lists.{Made, IsLawful, state_of, front}
 use Rattle.mc_core.specs.Lookups.{IsLookup}
 use Rattle.mc_core.specs.Readings.{Reading, IsWordOf, IsBetween}
+use Rattle.mc_core.specs.declared.access.Access.{Access}
+use Rattle.mc_core.specs.declared.access.Access.TheVariants as access
 use Rattle.mc_core.specs.declared.act.Act.{Act}
 use Rattle.mc_core.specs.declared.act.Act.TheVariants as act
 use Rattle.mc_core.specs.declared.event.Done.{Done}
@@ -51,6 +53,11 @@ abbrev pub bits_after : List ℕ → Act → List ℕ
 bits_after bits (act.Hand i) = slice_set bits i 0
 bits_after bits (act.Mark i) = slice_set bits i 1
 bits_after bits _ = bits
+
+-- the bits after an access: a mark sets one
+abbrev pub bits_read : List ℕ → Access → List ℕ
+bits_read bits (access.Mark i) = slice_set bits i 1
+bits_read bits _ = bits
 
 -- what an act gives: the bit, where the hand read it
 abbrev pub given_of : {V : ℕ} → ℕ → Act → Stepped V
@@ -105,6 +112,7 @@ abbrev pub EndsRead : (V : ℕ) → Shape → World V → ℕ → Running → Re
 EndsRead V sh w r run reading x =
     (reply : Reply V) × IsLookup V sh run.key sh.tries (run.sofar ++ reading ∷ []) reply ×
     (x ≡ record w {
+      bits = bits_read w.bits reading.access;
       readers = slice_set w.readers r None;
       ended = w.ended ++ record { told = record { reader = r; key = run.key; reply = reply; first = first_read w.events run; last = w.events }; read = run.sofar ++ reading ∷ []; stop = length w.acts } ∷ [];
       events = w.events + 1;
@@ -114,6 +122,7 @@ abbrev pub GoesOn : (V : ℕ) → Shape → World V → ℕ → Running → Read
 GoesOn V sh w r run reading x =
     ((reply : Reply V) → IsLookup V sh run.key sh.tries (run.sofar ++ reading ∷ []) reply → ⊥) ×
     (x ≡ record w {
+      bits = bits_read w.bits reading.access;
       readers = slice_set w.readers r (Some (record { key = run.key; sofar = run.sofar ++ reading ∷ []; first = first_read w.events run }));
       events = w.events + 1;
     })
@@ -130,10 +139,24 @@ Steps V sh w (Read r) x =
     (run : Running) × (reading : Reading) × (slice_get w.readers r ≡ Some (Some run)) × ReadsNext V sh w run reading × IsWithin sh w (Read r) × (
     EndsRead V sh w r run reading x ⊎ GoesOn V sh w r run reading x)
 
+-- what an event gives that leads from one world to the other: an access the word that it read, and the access that ends a look-up what is then told
+abbrev pub Gives : {V : ℕ} → World V → Event → World V → Stepped V → Type 0
+Gives w (Write a) x out = out ≡ given_of (bit_of w.bits a) a
+Gives w (Begin r k) x out = out ≡ stepped.Nothing
+Gives w (Read r) x (stepped.Word n) = (run : Running) × (was : List Reading) × (reading : Reading) × (slice_get x.readers r ≡ Some (Some run)) × (run.sofar ≡ was ++ reading ∷ []) × (reading.word ≡ n)
+Gives w (Read r) x (stepped.Done done) = (e : Ended _) × (x.ended ≡ w.ended ++ e ∷ []) × (e.told ≡ done)
+Gives w (Read r) x stepped.Nothing = ⊥
+
 -- the events lead from one world to the other, one after the other
 abbrev pub Runs : (V : ℕ) → Shape → World V → List Event → World V → Type 0
 Runs V sh w [] x = x ≡ w
 Runs V sh w (e ∷ es) x = (mid : World V) × Steps V sh w e mid × Runs V sh mid es x
+
+-- some events lead to the world from a new one
+pub record IsReached (V : ℕ) (sh : Shape) (w : World V) : Type 0 where
+  pub readers : ℕ
+  pub events : List Event
+  pub runs : Runs V sh (first_world V sh readers) events w
 
 -- the front of the first reading
 abbrev pub start_of : List Reading → ℕ

@@ -56,6 +56,7 @@ impl<const V: usize> Lookup<V> {
         ensures key { result.key ≡ key }
         ensures left { (rs : List Reading) (reply : Reply V) → Left {V = V} result rs reply ↔ IsLookup V (shape_of checked.now) key (shape_of checked.now).tries rs reply }
         ensures steps { steps_left {V = V} result ≡ (shape_of checked.now).tries * (19 + V) + 1 }
+        ensures running { IsSome (next_of {V = V} result) }
     {
         let tag = checked.tag(key);
         let first = checked.first(key);
@@ -72,6 +73,13 @@ impl<const V: usize> Lookup<V> {
             stage: Stage::First,
             reply: Reply::Busy,
         }
+    }
+
+    /// The key that is looked up.
+    pub fn key(&self) -> u64
+        ensures { result ≡ self.now.key }
+    {
+        self.key
     }
 
     /// Where the look-up stands.

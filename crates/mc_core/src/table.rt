@@ -3,7 +3,9 @@ ghost use Rattle.std.specs.Prelude.{◌≡◌, ◌≤◌, length};
 ghost use Rattle.mc_words.specs.Checks.{shape_of};
 ghost use Rattle.mc_words.specs.Places.{word_count};
 
+use crate::access::Access;
 use mc_words::{Checked, Place};
+use std::alloc::{AllocError, Global};
 
 /// The words without the recency bits, a flag for each item that a slot names, and how many items no slot names.
 #[derive(Drop)]
@@ -19,12 +21,33 @@ pub(crate) struct Table<const V: usize> {
 }
 
 impl<const V: usize> Table<V> {
-    ghost use Rattle.std.specs.Prelude.{ℕ, ◌+◌, ◌-◌, ◌^◌, ◌<◌, ◌/◌, MatchOption, IfSome, IfNone};
+    ghost use Rattle.std.specs.Prelude.{ℕ, ◌+◌, ◌-◌, ◌^◌, ◌<◌, ◌/◌, MatchOption, IfSome, IfNone, IfOk, replicate, false};
     ghost use Rattle.mc_words.specs.Keys.{IsBucketOf, stripe_of};
-    ghost use Rattle.mc_words.specs.Places.{IsPlace, payload, slot_number, slot, item, version, moment, with_version, with_moment, with_slot, with_item};
+    ghost use Rattle.mc_words.specs.Places.{IsWidth, IsPlace, payload, slot_number, slot, item, version, moment, with_version, with_moment, with_slot, with_item};
     ghost use Rattle.mc_words.specs.Standing.{Stands};
     ghost use Rattle.mc_core.specs.Tables.{shape_in, words_in, StandsAt, WritesTable};
     ghost use Rattle.mc_core.specs.Effects.{bumped};
+    ghost use Rattle.mc_core.specs.Readings.{IsWordOf};
+    ghost use Rattle.mc_core.specs.Writes.{IsAccess};
+
+    /// The table of a new world: all words are 0, and all items are free.
+    #[tactic(auto, unfolding(mc_words::specs::Recency::recency_words))]
+    pub(crate) fn new(alloc: Global, checked: &Checked) -> Result<Table<V>, AllocError>
+        requires { IsWidth V }
+        ensures { IfOk result (λ t. (shape_in {V = V} t ≡ shape_of checked.now) × (words_in {V = V} t ≡ replicate (word_count V (shape_of checked.now)) 0) × (t.used.items ≡ replicate (shape_of checked.now).items false) × (t.free ≡ (shape_of checked.now).items)) }
+    {
+        let free = checked.shape().items;
+        let mut words = Vec::new(alloc);
+        words.resize(checked.recency_start::<V>(), 0)?;
+        let mut used = Vec::new(alloc);
+        used.resize(free as usize, false)?;
+        Ok(Table {
+            checked: *checked,
+            words,
+            used,
+            free,
+        })
+    }
 
     /// The word of a slot.
     #[tactic(auto, unfolding(mc_words::specs::Places::slot))]
@@ -43,6 +66,22 @@ impl<const V: usize> Table<V> {
         ensures { result ≡ item V (shape_in {V = V} self.now) (words_in {V = V} self.now) i j }
     {
         self.words[self.checked.item_place::<V>(i, j)]
+    }
+
+    /// The word that an access reads. A mark reads none.
+    #[tactic(auto, unfolding(mc_words::specs::Places::version, mc_words::specs::Places::moment))]
+    pub(crate) fn read(&self, access: Access) -> u64
+        requires { IsAccess V (shape_in {V = V} self.now) access }
+        ensures { IsWordOf V (shape_in {V = V} self.now) (words_in {V = V} self.now) access result }
+    {
+        match access {
+            Access::Version(stripe) => self.words[self.checked.version_place(stripe)],
+            Access::Slot(place) => self.slot(place),
+            Access::Key(i) => self.item(i, 0),
+            Access::Value(i, j) => self.item(i, j),
+            Access::Moment => self.words[self.checked.moment_place()],
+            Access::Mark(_) => 0,
+        }
     }
 
     /// The item at which the key stands in a slot.

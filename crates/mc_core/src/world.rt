@@ -1,96 +1,116 @@
-//! A world: one writer and its recency bits. Each event is one atomic step.
+//! A world: one writer and its readers. Each event is one atomic step.
 ghost use Rattle.std.specs.Prelude.{◌≡◌, ◌<◌, length};
-ghost use Rattle.mc_core.specs.Writers.{shape_at};
 
-use crate::act::Act;
-use crate::event::{Stepped, Unlawful, given_by};
-use crate::writer::Writer;
+use crate::event::{Event, Stepped, Unlawful};
+use crate::parts::Parts;
+use mc_words::{Change, Checked};
+use std::alloc::Global;
+use std::marker::Model;
+use thiserror::Error;
 
+/// Why no world is made.
+#[derive(Clone, Copy, Debug, PartialEq, Eq, Error)]
+pub enum WorldError {
+    #[error("readers must be from 1 to 1024")]
+    Readers,
+    #[error("no memory")]
+    NoMemory,
+}
+
+/// One writer and some readers, seen from outside: all that they do is an order of events.
 #[derive(Drop)]
 pub struct World<const V: usize> {
-    writer: Writer<V>,
-    /// The recency bits, by item.
-    bits: Vec<u64>,
-    events: u64,
-    ghost marked: { length bits.items ≡ (shape_at writer).items },
+    parts: Parts<V>,
+}
+
+impl<const V: usize> Model for World<V> {
+    ghost use Rattle.mc_core.specs.Seen.{Shown};
+
+    ghost Value = { Shown V };
+
+    ghost use Rattle.mc_core.specs.Parts.{shown_of, AreReached};
+
+    ghost view = { λ w. shown_of {V = V} w.parts };
+
+    ghost invariant = { λ w. AreReached {V = V} w.parts };
 }
 
 impl<const V: usize> World<V> {
-    ghost use Rattle.std.specs.Prelude.{◌↔◌, IfOk, IfErr, IsTrue};
+    ghost use Rattle.std.specs.Prelude.{ℕ, ◌≡◌, ◌+◌, ◌-◌, ◌^◌, ◌<◌, ◌≤◌, ◌++◌, ◌↔◌, ◌⊎◌, All, IfOk, IfErr, IsErrOf, OnOk, OnErr, slice_index};
+    ghost use Rattle.mc_words.specs.Checks.{shape_of};
+    ghost use Rattle.mc_words.specs.Places.{IsWidth, all_words};
+    ghost use Rattle.mc_words.specs.Shapes.{IsShape};
+    ghost use Rattle.mc_core.specs.Seen.{Shows, MayAct, state_after};
     ghost use Rattle.mc_core.specs.Worlds as worlds;
-    ghost use Rattle.mc_core.specs.Worlds.{IsWithin, bit_of, bits_after, given_of};
-    ghost use Rattle.mc_core.specs.Seen.{shape_of_world, Shows, ReadsIn};
-    ghost use Rattle.mc_core.specs.declared.event.Event.TheVariants as event;
+    ghost use Rattle.mc_core.specs.Worlds.{bit_of, given_of};
+    ghost use Rattle.mc_core.specs.declared.act.Act.{Act};
+    ghost use Rattle.mc_core.specs.declared.act.Act.TheVariants as act;
+    ghost use Rattle.mc_core.specs.declared.event.Event.TheVariants.{Write};
+    ghost use Rattle.mc_core.specs.declared.event.Unlawful.TheVariants as unlawful;
+    ghost use Rattle.mc_core.specs.declared.world.WorldError.TheVariants as error;
 
-    /// Whether the act passes no limit.
-    fn is_within(&self, act: Act) -> bool
-        ghost seen: { worlds.World V }
-        requires { Shows {V = V} self.now seen }
-        ensures { IsTrue result ↔ IsWithin (shape_of_world {V = V} self.now) seen (event.Write act) }
+    /// A new world with so many readers: nothing was written, and no look-up runs.
+    pub fn new(alloc: Global, checked: &Checked, readers: u32) -> Result<World<V>, WorldError>
+        requires { IsWidth V }
+        ensures ok { IfOk result (λ w. (w.shape ≡ shape_of checked.now) × Shows {V = V} w (worlds.first_world V (shape_of checked.now) readers)) }
+        ensures readers { IsErrOf result error.Readers ↔ ((readers ≡ 0) ⊎ (1024 < readers)) }
     {
-        if self.events == u64::MAX {
-            return false;
+        if readers == 0 || readers > 1024 {
+            return Err(WorldError::Readers);
         }
-        match act {
-            Act::Open(_, _) => self.writer.changes + 2 <= self.writer.table.checked.shape().limit,
-            Act::Slot(_, _)
-            | Act::Item(_, _, _)
-            | Act::Moment
-            | Act::Close
-            | Act::Hand(_)
-            | Act::Mark(_) => true,
+        match Parts::new(alloc, checked, readers) {
+            Ok(parts) => Ok(World { parts }),
+            Err(_) => Err(WorldError::NoMemory),
         }
     }
 
-    /// The bit that the act reads.
-    fn bit_of(&self, act: Act) -> u64
-        requires { ReadsIn (shape_of_world {V = V} self.now) act }
-        ensures { result ≡ bit_of self.now.bits.items act }
+    /// Makes one event, or refuses it.
+    pub fn step(&mut self, event: Event) -> Result<Stepped<V>, Unlawful>
+        ensures ok { IfOk result (λ out. (seen : worlds.World V) → Shows {V = V} self.old seen → (next : worlds.World V) × worlds.Steps V self.old.shape seen event next × worlds.Gives {V = V} seen event next out × Shows {V = V} self.new next) }
+        ensures refused { IfErr result (λ why. (seen : worlds.World V) → Shows {V = V} self.old seen → worlds.Refuses {V = V} self.old.shape seen event why) }
+        ensures unchanged { OnErr result (self.new ≡ self.old) }
+        ensures shape { self.new.shape ≡ self.old.shape }
+        ensures state { OnOk result (self.new.state ≡ state_after {V = V} self.old event) }
+        ensures counted { OnOk result (self.new.events ≡ self.old.events + 1) }
+        ensures lawful { (a : Act) → event ≡ Write a → MayAct {V = V} self.old a → IfErr result (λ why. (why ≡ unlawful.NoMemory) × (a ≡ act.Moment)) }
+        ensures given { (a : Act) → event ≡ Write a → IfOk result (λ out. out ≡ given_of {V = V} (bit_of self.old.bits a) a) }
     {
-        match act {
-            Act::Hand(i) => self.bits[i as usize],
-            Act::Open(_, _)
-            | Act::Slot(_, _)
-            | Act::Item(_, _, _)
-            | Act::Moment
-            | Act::Close
-            | Act::Mark(_) => 0,
-        }
+        self.parts.step(event)
     }
 
-    /// Sets or clears the bit as the act does.
-    fn mark(&mut self, act: Act)
-        requires { ReadsIn (shape_of_world {V = V} self.old) act }
-        ensures bits { self.new.bits.items ≡ bits_after self.old.bits.items act }
-        ensures writer { self.new.writer ≡ self.old.writer }
-        ensures events { self.new.events ≡ self.old.events }
+    /// Does nothing. Every world stands as some events leave it, from a new one on, whose look-ups replied truly.
+    pub fn reached(&self)
+        ensures shape { IsShape self.now.shape }
+        ensures events { (seen : worlds.World V) × worlds.IsReached V self.now.shape seen × Shows {V = V} self.now seen × All (worlds.IsTrueEnd V self.now.shape seen) seen.ended }
+        ensures limit { self.now.state.changes ≤ self.now.shape.limit }
     {
-        match act {
-            Act::Hand(i) => self.bits[i as usize] = 0,
-            Act::Mark(i) => self.bits[i as usize] = 1,
-            Act::Open(_, _) | Act::Slot(_, _) | Act::Item(_, _, _) | Act::Moment | Act::Close => {}
-        }
+        let _parts = &self.parts;
     }
 
-    /// The writer makes an act, if it is lawful.
-    fn write(&mut self, act: Act) -> Result<Stepped<V>, Unlawful>
-        ghost seen: { worlds.World V }
-        requires { Shows {V = V} self.old seen }
-        ensures ok { IfOk result (λ out. (next : worlds.World V) × worlds.Steps V (shape_of_world {V = V} self.old) seen (event.Write act) next × Shows {V = V} self.new next × (out ≡ given_of {V = V} (bit_of self.old.bits.items act) act)) }
-        ensures err { IfErr result (λ why. worlds.Refuses (shape_of_world {V = V} self.old) seen (event.Write act) why × Shows {V = V} self.new seen) }
+    /// The changes so far, in their order.
+    pub fn history(&self) -> &[Change<V>]
+        ensures { result.now ≡ self.now.state.history }
     {
-        if !self.writer.allows(act) {
-            return Err(Unlawful::NotLawful);
+        &self.parts.writer.history
+    }
+
+    /// The shape of the table.
+    pub fn checked(&self) -> Checked
+        ensures { shape_of result ≡ self.now.shape }
+    {
+        self.parts.writer.table.checked
+    }
+
+    /// A word of the table: the recency words come last.
+    pub fn word(&self, n: usize) -> u64
+        requires { n < all_words V self.now.shape }
+        ensures { result ≡ slice_index (self.now.state.words ++ self.now.bits) n }
+    {
+        let words = &self.parts.writer.table.words;
+        if n < words.len() {
+            words[n]
+        } else {
+            self.parts.bits[n - words.len()]
         }
-        if !self.is_within(act) {
-            return Err(Unlawful::Limit);
-        }
-        let bit = self.bit_of(act);
-        if self.writer.make(act, bit).is_err() {
-            return Err(Unlawful::NoMemory);
-        }
-        self.mark(act);
-        self.events += 1;
-        Ok(given_by(act, bit))
     }
 }

@@ -7,8 +7,8 @@ ghost use Rattle.mc_core.specs.Progresses.{count_at, fresh_slot};
 use crate::act::Act;
 use crate::progress::Progress;
 use crate::table::Table;
-use mc_words::Change;
-use std::alloc::AllocError;
+use mc_words::{Change, Checked};
+use std::alloc::{AllocError, Global};
 
 mod allowed;
 mod made;
@@ -30,9 +30,29 @@ pub(crate) struct Writer<const V: usize> {
 
 impl<const V: usize> Writer<V> {
     ghost use Rattle.mc_core.specs.Acts.{IsAllowed};
-    ghost use Rattle.std.specs.Prelude.{◌^◌, OnOk, OnErr};
+    ghost use Rattle.std.specs.Prelude.{◌^◌, IfOk, OnOk, OnErr};
+    ghost use Rattle.mc_words.specs.Checks.{shape_of};
+    ghost use Rattle.mc_words.specs.Places.{IsWidth};
+    ghost use Rattle.mc_core.specs.States.{opening};
     ghost use Rattle.mc_core.specs.Inner.{StateHolds, StateCounted};
     ghost use Rattle.mc_core.specs.Writers.{shape_at, state_in, UsedWell, IsMade, IsKept};
+
+    /// The writer of a new world.
+    pub(crate) fn new(alloc: Global, checked: &Checked) -> Result<Writer<V>, AllocError>
+        requires { IsWidth V }
+        ensures { IfOk result (λ w. (shape_at {V = V} w ≡ shape_of checked.now) × (state_in {V = V} w ≡ opening V (shape_of checked.now)) × UsedWell {V = V} w.table) }
+    {
+        let table = Table::new(alloc, checked)?;
+        Ok(Writer {
+            table,
+            progress: Progress::Quiet,
+            written: [0; V],
+            hand: 0,
+            cleared: None,
+            history: Vec::new(alloc),
+            changes: 0,
+        })
+    }
 
     /// Whether the act is allowed now.
     pub(crate) fn allows(&self, act: Act) -> bool

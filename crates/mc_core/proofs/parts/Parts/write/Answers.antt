@@ -7,49 +7,53 @@ use Rattle.mc_core.specs.States.{State}
 use Rattle.mc_core.specs.Worlds.{HasChanges, bit_of, given_of}
 use Rattle.mc_core.specs.declared.writer.Writer.{Writer}
 use Rattle.mc_core.specs.Writers.{shape_at, words_at, phase_at, IsMade}
-use Rattle.mc_core.proofs.Seeing.{holds_of, counted_of, hand_of, reads_in, ok_of, shows_after}
-use Rattle.mc_core.proofs.world.World.write.Goals as goal
+use Rattle.mc_core.proofs.Seeing.{holds_of, counted_of, hand_of, reads_in, ok_of, stand_after}
+use Rattle.mc_core.proofs.parts.Parts.write.Goals as goal
 
 pub allows-requires : goal.allows-requires
-allows-requires g c = let s = c.requires.1.1.1 in (search rules, (holds_of c.args.self.now g.seen s, s.used))
+allows-requires g c = let s = c.requires.1 in (search rules, (holds_of c.args.self.now c.requires.0 s, s.used))
+
+pub is_within-requires : goal.is_within-requires
+is_within-requires g c =
+    let limit = c.args.self.now.writer.table.checked.sound.limit in
+    (search rules, omega (arith, c.requires.1.within, limit))
 
 pub bit_of-bit-requires : goal.bit_of-bit-requires
 bit_of-bit-requires g c =
-    let s = c.requires.1.1.1 in
+    let s = c.requires.1 in
     let world = c.args.self.now in
     let w = world.writer in
-    (search rules, reads_in g.row.V (shape_at w) (words_at w) w.hand w.cleared (phase_at w.written w.progress) c.args.act (hand_of world g.seen s) ((c.if-not-allows.ensures {u = tt}).0 refl))
+    (search rules, reads_in g.row.V (shape_at w) (words_at w) w.hand w.cleared (phase_at w.written w.progress) c.args.act (hand_of world c.requires.0 s) ((c.if-not-allows.ensures {u = tt}).0 refl))
 
 pub make-requires : goal.make-requires
 make-requires g c =
-    let s = c.requires.1.1.1 in
+    let s = c.requires.1 in
     let world = c.args.self.now in
     let limit = world.writer.table.checked.sound.limit in
-    (search rules, (holds_of world g.seen s, (s.used, (hand_of world g.seen s, (counted_of world g.seen s, (omega (arith, s.within, limit), (c.if-not-allows.ensures {u = tt}).0 refl))))))
+    (search rules, (holds_of world c.requires.0 s, (s.used, (hand_of world c.requires.0 s, (counted_of world c.requires.0 s, (omega (arith, s.within, limit), (c.if-not-allows.ensures {u = tt}).0 refl))))))
 
 pub mark-requires : goal.mark-requires
 mark-requires g c =
-    let s = c.requires.1.1.1 in
+    let s = c.requires.1 in
     let world = c.args.self.now in
     let w = world.writer in
     let made = ok_of c.make.result _ (sym c.is_err.ensures.value ∙ c.if-is_err.false) c.make.ensures.ok in
-    let in_items = reads_in g.row.V (shape_at w) (words_at w) w.hand w.cleared (phase_at w.written w.progress) c.args.act (hand_of world g.seen s) ((c.if-not-allows.ensures {u = tt}).0 refl) in
+    let in_items = reads_in g.row.V (shape_at w) (words_at w) w.hand w.cleared (phase_at w.written w.progress) c.args.act (hand_of world c.requires.0 s) ((c.if-not-allows.ensures {u = tt}).0 refl) in
     (search rules, subst (λ (y : Checked). ReadsIn (shape_of y) c.args.act) (sym made.shape) in_items)
 
 pub returns-clause-ok : goal.returns-clause-ok
-returns-clause-ok g c =
-    let s = c.requires.1.1.1 in
+returns-clause-ok g c = λ seen s.
     let world = c.args.self.now in
     let w = world.writer in
     let a = c.args.act in
     let may = (c.if-not-allows.ensures {u = tt}).0 refl in
     let within = (c.if-not-is_within.ensures {u = tt}).0 refl in
-    let has = subst (λ (y : State g.row.V). HasChanges (shape_at w).limit y.changes a) (sym s.state) within.1 in
+    let has = subst (λ (y : State g.row.V). HasChanges (shape_at w).limit y.changes a) s.shows.state within.1 in
     let first = ok_of c.make.result _ (sym c.is_err.ensures.value ∙ c.if-is_err.false) c.make.ensures.ok in
     let second = subst (λ (n : ℕ). IsMade {V = g.row.V} w c.make.new.self a n) c.bit_of-bit.ensures first in
     let made = subst (λ (y : Writer g.row.V). IsMade {V = g.row.V} w y a (bit_of world.bits.items a)) (sym c.mark.ensures.writer) second in (
       _,
-      (subst (λ (y : State g.row.V). IsAllowed (shape_at w) y a) s.state may, within, refl),
-      shows_after world _ g.seen a s may has made c.mark.ensures.bits (ap (λ n. n + 1) c.mark.ensures.events),
-      c.given_by.ensures ∙ ap (λ (n : ℕ). given_of {V = g.row.V} n a) c.bit_of-bit.ensures,
+      (subst (λ (y : State g.row.V). IsAllowed (shape_at w) y a) s.shows.state may, (omega (arith, within.0, s.shows.events), has), refl),
+      c.given_by.ensures ∙ ap (λ (n : ℕ). given_of {V = g.row.V} n a) (c.bit_of-bit.ensures ∙ ap (λ y. bit_of y a) s.shows.bits),
+      stand_after world _ seen a s may within.1 made c.mark.ensures.bits (ap (λ y. y.items) c.mark.ensures.readers) (ap (λ n. n + 1) c.mark.ensures.events),
     )

@@ -1,0 +1,38 @@
+use Rattle.std.proofs.Common.{Option, Some, refl, sym, ◌∙◌, ap, arith}
+use Rattle.std.proofs.lemmas.Option.{slice_get_past, slice_get_read}
+use Rattle.mc_core.specs.Seen.{Both, IsRunning}
+use Rattle.mc_core.specs.Parts.{shape_of_parts}
+use Rattle.mc_core.specs.declared.reader.Reader.{Reader}
+use Rattle.mc_core.proofs.Both.{both_none, none_past, some_of, none_of}
+use Rattle.mc_core.proofs.Looking.{begins, idle_of, running_of}
+use Rattle.mc_core.proofs.parts.Parts.begin.Goals as goal
+use Rattle.mc_core.proofs.parts.Parts.begin.Goals.{After-is_some}
+
+pub returns-then-at-len-clause-err : goal.returns-then-at-len-clause-err
+returns-then-at-len-clause-err g c = λ seen s.
+    let old = c.args.self.now in
+    let past = slice_get_past old.readers.items c.args.reader (omega (arith, c.len.ensures, old.readers.ok.0)) in
+    none_past seen.readers c.args.reader (both_none (Both (IsRunning g.row.V (shape_of_parts old))) _ _ (s.shows.readers c.args.reader) past)
+
+pub returns-then-is_some-clause-err : goal.returns-then-is_some-clause-err
+returns-then-is_some-clause-err g c = λ seen s.
+    let old = c.args.self.now in
+    let is = some_of c.index.result.now (sym c.is_some.ensures ∙ c.if-is_some.true) in
+    let at = slice_get_read old.readers.items c.len.result c.args.reader c.index.result.now (omega (arith, c.len.ensures, old.readers.ok.0)) (omega arith) c.index.ensures in
+    let run = running_of old seen c.args.reader is.0 s (at ∙ ap (λ (o : Option (Reader g.row.V)). Some o) is.1) in
+    (run.0, run.1)
+
+pub returns-then-self-clause-err : goal.returns-then-self-clause-err
+returns-then-self-clause-err g c = λ seen s.
+    let old = c.args.self.now in
+    let is = none_of c.index.result.now (sym c.is_some.ensures ∙ c.if-is_some.false) in
+    let at = slice_get_read old.readers.items c.len.result c.args.reader c.index.result.now (omega (arith, c.len.ensures, old.readers.ok.0)) (omega arith) c.index.ensures in
+    ((idle_of old seen c.args.reader s (at ∙ ap (λ (o : Option (Reader g.row.V)). Some o) is), omega arith), λ below. omega (arith, below, s.shows.events))
+
+pub returns-clause-ok : goal.returns-clause-ok
+returns-clause-ok g c = λ seen s.
+    let old = c.args.self.now in
+    let is = none_of c.index.result.now (sym c.is_some.ensures ∙ c.if-is_some.false) in
+    let at = slice_get_read old.readers.items c.len.result c.args.reader c.index.result.now (omega (arith, c.len.ensures, old.readers.ok.0)) (omega arith) c.index.ensures in
+    let new = c.begin-lookup in
+    begins old _ seen c.args.reader c.args.key _ s (idle_of old seen c.args.reader s (at ∙ ap (λ (o : Option (Reader g.row.V)). Some o) is)) (omega arith) (omega arith) new.ensures.shape new.ensures.key new.ensures.left new.ensures.running refl refl refl refl refl

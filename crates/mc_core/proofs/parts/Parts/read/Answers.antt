@@ -1,0 +1,33 @@
+use Rattle.std.proofs.Common.{rules, ap, ◌∙◌, arith, Option, Some}
+use Rattle.std.proofs.lemmas.Option.{slice_get_past, slice_get_read}
+use Rattle.mc_core.specs.Seen.{Both, IsRunning}
+use Rattle.mc_core.specs.Parts.{shape_of_parts}
+use Rattle.mc_core.specs.declared.reader.Reader.{Reader}
+use Rattle.mc_core.proofs.Both.{both_none, none_past}
+use Rattle.mc_core.proofs.Looking.{idle_of, running_of}
+use Rattle.mc_core.proofs.parts.Parts.read.Goals as goal
+
+pub returns-then-at-len-clause-err : goal.returns-then-at-len-clause-err
+returns-then-at-len-clause-err g c = λ seen s.
+    let old = c.args.self.now in
+    let past = slice_get_past old.readers.items c.args.reader (omega (arith, c.len.ensures, old.readers.ok.0)) in
+    none_past seen.readers c.args.reader (both_none (Both (IsRunning g.row.V (shape_of_parts old))) _ _ (s.shows.readers c.args.reader) past)
+
+pub returns-in_default-clause-err : goal.returns-in_default-clause-err
+returns-in_default-clause-err g c = λ seen s.
+    let old = c.args.self.now in
+    let at = slice_get_read old.readers.items c.len.result c.args.reader c.index.result.now (omega (arith, c.len.ensures, old.readers.ok.0)) (omega arith) c.index.ensures in
+    idle_of old seen c.args.reader s (at ∙ ap (λ (o : Option (Reader g.row.V)). Some o) c.in_default.is)
+
+pub returns-then-self-clause-err : goal.returns-then-self-clause-err
+returns-then-self-clause-err g c = λ seen s.
+    let old = c.args.self.now in
+    let at = slice_get_read old.readers.items c.len.result c.args.reader c.index.result.now (omega (arith, c.len.ensures, old.readers.ok.0)) (omega arith) c.index.ensures in
+    let run = running_of old seen c.args.reader c.in-Some.running s (at ∙ ap (λ (o : Option (Reader g.row.V)). Some o) c.in-Some.is) in
+    ((run.0, run.1), λ below. omega (arith, below, s.shows.events))
+
+pub access-requires : goal.access-requires
+access-requires g c =
+    let old = c.args.self.now in
+    let at = slice_get_read old.readers.items c.len.result c.args.reader c.index.result.now (omega (arith, c.len.ensures, old.readers.ok.0)) (omega arith) c.index.ensures in
+    (search rules, (search rules, (search rules, (at ∙ ap (λ (o : Option (Reader g.row.V)). Some o) c.in-Some.is, (omega arith, c.requires)))))

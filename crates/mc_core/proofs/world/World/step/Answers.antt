@@ -1,0 +1,42 @@
+use Rattle.std.specs.Prelude.{◌≡◌, ◌+◌, IfOk, IfErr, OnOk}
+use Rattle.mc_core.specs.declared.act.Act.{Act}
+use Rattle.mc_core.specs.declared.act.Act.TheVariants as act
+use Rattle.mc_core.specs.declared.event.Event.TheVariants.{Write}
+use Rattle.mc_core.specs.declared.event.Unlawful.TheVariants as unlawful
+use Rattle.mc_core.specs.Seen.{Shown, Shows, MayAct}
+use Rattle.mc_core.specs.Worlds.{World, bit_of, given_of, Steps, Gives, Refuses}
+use Rattle.mc_core.specs.Parts.{shown_of}
+use Rattle.std.proofs.Common.{rules, subst}
+use Rattle.mc_core.proofs.Stepping.{reached_after, counted_after, lawful_after, given_after, leads_shown, refused_shown}
+use Rattle.mc_core.proofs.world.World.step.Goals as goal
+
+pub step-requires : goal.step-requires
+step-requires g c = (search rules, (search rules, (c.self.invariant.seen, c.self.invariant.stand)))
+
+pub invariant_of-self : goal.invariant_of-self
+invariant_of-self g c = reached_after c.self.inside.parts c.step.new.self c.args.event c.step.result c.self.invariant c.step.ensures.shape c.step.ensures.ok c.step.ensures.err
+
+pub returns-clause-ok : goal.returns-clause-ok
+returns-clause-ok g c =
+    subst (λ (old : Shown g.row.V). IfOk c.step.result (λ out. (seen : World g.row.V) → Shows {V = g.row.V} old seen → (next : World g.row.V) × Steps g.row.V old.shape seen c.args.event next × Gives {V = g.row.V} seen c.args.event next out × Shows {V = g.row.V} (shown_of {V = g.row.V} c.step.new.self) next)) c.self.view_is
+    (leads_shown c.self.inside.parts c.step.new.self c.args.event c.step.result c.self.invariant c.step.ensures.ok)
+
+pub returns-clause-refused : goal.returns-clause-refused
+returns-clause-refused g c =
+    subst (λ (old : Shown g.row.V). IfErr c.step.result (λ why. (seen : World g.row.V) → Shows {V = g.row.V} old seen → Refuses {V = g.row.V} old.shape seen c.args.event why)) c.self.view_is
+    (refused_shown c.self.inside.parts c.step.new.self c.args.event c.step.result c.self.invariant c.step.ensures.err)
+
+pub returns-clause-counted : goal.returns-clause-counted
+returns-clause-counted g c =
+    subst (λ (old : Shown g.row.V). OnOk c.step.result (c.step.new.self.events ≡ old.events + 1)) c.self.view_is
+    (counted_after c.self.inside.parts c.step.new.self c.args.event c.step.result c.self.invariant c.step.ensures.ok)
+
+pub returns-clause-lawful : goal.returns-clause-lawful
+returns-clause-lawful g c =
+    subst (λ (old : Shown g.row.V). (a : Act) → c.args.event ≡ Write a → MayAct {V = g.row.V} old a → IfErr c.step.result (λ why. (why ≡ unlawful.NoMemory) × (a ≡ act.Moment))) c.self.view_is
+    (lawful_after c.self.inside.parts c.step.new.self c.args.event c.step.result c.self.invariant c.step.ensures.err)
+
+pub returns-clause-given : goal.returns-clause-given
+returns-clause-given g c =
+    subst (λ (old : Shown g.row.V). (a : Act) → c.args.event ≡ Write a → IfOk c.step.result (λ out. out ≡ given_of {V = g.row.V} (bit_of old.bits a) a)) c.self.view_is
+    (given_after c.self.inside.parts c.step.new.self c.args.event c.step.result c.self.invariant c.step.ensures.ok)

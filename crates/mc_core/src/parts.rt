@@ -1,0 +1,45 @@
+//! The parts of a world, which only its own calls see. Each event is one atomic step.
+ghost use Rattle.std.specs.Prelude.{◌≡◌, length};
+ghost use Rattle.mc_core.specs.Writers.{shape_at};
+
+use crate::event::{Event, Stepped, Unlawful};
+use crate::reader::Reader;
+use crate::writer::Writer;
+
+mod made;
+mod reads;
+mod writes;
+
+#[derive(Drop)]
+pub(crate) struct Parts<const V: usize> {
+    pub(crate) writer: Writer<V>,
+    /// The recency bits, by item.
+    pub(crate) bits: Vec<u64>,
+    /// For each reader, its look-up while one runs.
+    pub(crate) readers: Vec<Option<Reader<V>>>,
+    pub(crate) events: u64,
+    ghost marked: { length bits.items ≡ (shape_at writer).items },
+}
+
+impl<const V: usize> Parts<V> {
+    ghost use Rattle.std.specs.Prelude.{IfOk, IfErr, OnErr, OnOk, ◌+◌};
+    ghost use Rattle.mc_core.specs.Worlds as worlds;
+    ghost use Rattle.mc_core.specs.Parts.{shape_of_parts, shown_of, StandFor};
+    ghost use Rattle.mc_core.specs.Seen.{state_after};
+
+    /// Makes the event, if it is lawful.
+    pub(crate) fn step(&mut self, event: Event) -> Result<Stepped<V>, Unlawful>
+        requires { (seen : worlds.World V) × StandFor {V = V} self.old seen }
+        ensures ok { IfOk result (λ out. (seen : worlds.World V) → StandFor {V = V} self.old seen → (next : worlds.World V) × worlds.Steps V (shape_of_parts {V = V} self.old) seen event next × worlds.Gives {V = V} seen event next out × StandFor {V = V} self.new next) }
+        ensures err { IfErr result (λ why. (seen : worlds.World V) → StandFor {V = V} self.old seen → worlds.Refuses {V = V} (shape_of_parts {V = V} self.old) seen event why × StandFor {V = V} self.new seen) }
+        ensures kept { OnErr result (shown_of {V = V} self.new ≡ shown_of {V = V} self.old) }
+        ensures shape { shape_of_parts {V = V} self.new ≡ shape_of_parts {V = V} self.old }
+        ensures state { OnOk result ((shown_of {V = V} self.new).state ≡ state_after {V = V} (shown_of {V = V} self.old) event) }
+    {
+        match event {
+            Event::Write(act) => self.write(act),
+            Event::Begin(reader, key) => self.begin(reader, key),
+            Event::Read(reader) => self.read(reader),
+        }
+    }
+}

@@ -1,0 +1,131 @@
+//! The readers of a world begin look-ups and make their accesses.
+ghost use Rattle.std.specs.Prelude.{◌≡◌, Some, IsSome};
+ghost use Rattle.mc_core.specs.Machine.{next_of, shape_for};
+ghost use Rattle.mc_core.specs.Writes.{IsAccess};
+
+use crate::access::Access;
+use crate::event::{Done, Stepped, Unlawful};
+use crate::lookup::Lookup;
+use crate::parts::Parts;
+use crate::reader::Reader;
+
+impl<const V: usize> Parts<V> {
+    ghost use Rattle.std.specs.Prelude.{◌≡◌, ◌+◌, ◌-◌, ◌^◌, ◌<◌, Some, None, IfOk, IfErr, OnOk, OnErr, IsSome, length, slice_get, slice_set, unwrap_or};
+    ghost use Rattle.mc_core.specs.Parts.{shape_of_parts, shown_of, StandFor};
+    ghost use Rattle.mc_core.specs.Seen.{state_after};
+    ghost use Rattle.mc_core.specs.Worlds as worlds;
+    ghost use Rattle.mc_core.specs.Worlds.{bits_read};
+    ghost use Rattle.mc_core.specs.Writes.{IsAccess};
+    ghost use Rattle.mc_core.specs.declared.event.Event.TheVariants as event;
+
+    /// A reader begins a look-up of a key.
+    pub(crate) fn begin(&mut self, reader: u32, key: u64) -> Result<Stepped<V>, Unlawful>
+        requires { (seen : worlds.World V) × StandFor {V = V} self.old seen }
+        ensures ok { IfOk result (λ out. (seen : worlds.World V) → StandFor {V = V} self.old seen → (next : worlds.World V) × worlds.Steps V (shape_of_parts {V = V} self.old) seen (event.Begin reader key) next × worlds.Gives {V = V} seen (event.Begin reader key) next out × StandFor {V = V} self.new next) }
+        ensures err { IfErr result (λ why. (seen : worlds.World V) → StandFor {V = V} self.old seen → worlds.Refuses {V = V} (shape_of_parts {V = V} self.old) seen (event.Begin reader key) why) }
+        ensures kept { OnErr result (self.new ≡ self.old) }
+        ensures writer { self.new.writer ≡ self.old.writer }
+    {
+        let at = reader as usize;
+        if at >= self.readers.len() {
+            return Err(Unlawful::NoReader);
+        }
+        if self.readers[at].is_some() {
+            return Err(Unlawful::StillRunning);
+        }
+        if self.events == u64::MAX {
+            return Err(Unlawful::Limit);
+        }
+        let lookup = Lookup::begin(&self.writer.table.checked, key);
+        self.readers[at] = Some(Reader {
+            lookup,
+            first: None,
+        });
+        self.events += 1;
+        Ok(Stepped::Nothing)
+    }
+
+    /// A reader makes its next access.
+    pub(crate) fn read(&mut self, reader: u32) -> Result<Stepped<V>, Unlawful>
+        requires { (seen : worlds.World V) × StandFor {V = V} self.old seen }
+        ensures ok { IfOk result (λ out. (seen : worlds.World V) → StandFor {V = V} self.old seen → (next : worlds.World V) × worlds.Steps V (shape_of_parts {V = V} self.old) seen (event.Read reader) next × worlds.Gives {V = V} seen (event.Read reader) next out × StandFor {V = V} self.new next) }
+        ensures err { IfErr result (λ why. (seen : worlds.World V) → StandFor {V = V} self.old seen → worlds.Refuses {V = V} (shape_of_parts {V = V} self.old) seen (event.Read reader) why) }
+        ensures kept { OnErr result (self.new ≡ self.old) }
+        ensures writer { self.new.writer ≡ self.old.writer }
+    {
+        let at = reader as usize;
+        if at >= self.readers.len() {
+            return Err(Unlawful::NoReader);
+        }
+        let Some(running) = self.readers[at] else {
+            return Err(Unlawful::NotLawful);
+        };
+        if self.events == u64::MAX {
+            return Err(Unlawful::Limit);
+        }
+        Ok(self.access(reader, running))
+    }
+
+    /// The next access of a look-up that runs.
+    fn access(&mut self, reader: u32, running: Reader<V>) -> Stepped<V>
+        requires running { slice_get self.old.readers.items reader ≡ Some (Some running) }
+        requires events { self.old.events < 2 ^ 64 - 1 }
+        requires stands { (seen : worlds.World V) × StandFor {V = V} self.old seen }
+        ensures stepped { (seen : worlds.World V) → StandFor {V = V} self.old seen → (next : worlds.World V) × worlds.Steps V (shape_of_parts {V = V} self.old) seen (event.Read reader) next × worlds.Gives {V = V} seen (event.Read reader) next result × StandFor {V = V} self.new next }
+        ensures writer { self.new.writer ≡ self.old.writer }
+    {
+        let Reader { mut lookup, first } = running;
+        let access = next_access(&lookup);
+        let word = self.writer.table.read(access);
+        lookup.after(word);
+        self.mark_read(access);
+        let last = self.events;
+        let first = first.unwrap_or(last);
+        self.events += 1;
+        match lookup.reply() {
+            Some(reply) => {
+                self.readers[reader as usize] = None;
+                let key = lookup.key();
+                Stepped::Done(Done {
+                    reader,
+                    key,
+                    reply,
+                    first,
+                    last,
+                })
+            }
+            None => {
+                self.readers[reader as usize] = Some(Reader {
+                    lookup,
+                    first: Some(first),
+                });
+                Stepped::Word(word)
+            }
+        }
+    }
+
+    /// Sets the bit of an item, if the access is a mark.
+    fn mark_read(&mut self, access: Access)
+        requires { IsAccess V (shape_of_parts {V = V} self.old) access }
+        ensures bits { self.new.bits.items ≡ bits_read self.old.bits.items access }
+        ensures writer { self.new.writer ≡ self.old.writer }
+        ensures readers { self.new.readers ≡ self.old.readers }
+        ensures events { self.new.events ≡ self.old.events }
+    {
+        if let Access::Mark(i) = access {
+            self.bits[i as usize] = 1;
+        }
+    }
+}
+
+/// The access that comes next in a look-up that hasn't ended.
+fn next_access<const V: usize>(lookup: &Lookup<V>) -> Access
+    requires { IsSome (next_of {V = V} lookup.now) }
+    ensures next { next_of {V = V} lookup.now ≡ Some result }
+    ensures range { IsAccess V (shape_for {V = V} lookup.now) result }
+{
+    match lookup.next() {
+        Some(access) => access,
+        None => unreachable!(),
+    }
+}

@@ -1,0 +1,87 @@
+//! The writer of a world makes its acts.
+use crate::act::Act;
+use crate::event::{Stepped, Unlawful, given_by};
+use crate::parts::Parts;
+
+impl<const V: usize> Parts<V> {
+    ghost use Rattle.std.specs.Prelude.{◌≡◌, ◌+◌, ◌-◌, ◌^◌, ◌<◌, ◌≤◌, ◌↔◌, IfOk, IfErr, OnOk, OnErr, IsTrue};
+    ghost use Rattle.mc_core.specs.Worlds as worlds;
+    ghost use Rattle.mc_core.specs.Worlds.{HasChanges, bit_of, bits_after};
+    ghost use Rattle.mc_core.specs.Parts.{shape_of_parts, shown_of, StandFor};
+    ghost use Rattle.mc_core.specs.Seen.{state_after, ReadsIn};
+    ghost use Rattle.mc_core.specs.declared.event.Event.TheVariants as event;
+
+    /// Whether the act passes no limit.
+    fn is_within(&self, act: Act) -> bool
+        requires { self.now.writer.changes ≤ 2 ^ 62 }
+        ensures { IsTrue result ↔ ((self.now.events < 2 ^ 64 - 1) × HasChanges (shape_of_parts {V = V} self.now).limit self.now.writer.changes act) }
+    {
+        if self.events == u64::MAX {
+            return false;
+        }
+        match act {
+            Act::Open(_, _) => self.writer.changes + 2 <= self.writer.table.checked.shape().limit,
+            Act::Slot(_, _)
+            | Act::Item(_, _, _)
+            | Act::Moment
+            | Act::Close
+            | Act::Hand(_)
+            | Act::Mark(_) => true,
+        }
+    }
+
+    /// The bit that the act reads.
+    fn bit_of(&self, act: Act) -> u64
+        requires { ReadsIn (shape_of_parts {V = V} self.now) act }
+        ensures { result ≡ bit_of self.now.bits.items act }
+    {
+        match act {
+            Act::Hand(i) => self.bits[i as usize],
+            Act::Open(_, _)
+            | Act::Slot(_, _)
+            | Act::Item(_, _, _)
+            | Act::Moment
+            | Act::Close
+            | Act::Mark(_) => 0,
+        }
+    }
+
+    /// Sets or clears the bit as the act does.
+    fn mark(&mut self, act: Act)
+        requires { ReadsIn (shape_of_parts {V = V} self.old) act }
+        ensures bits { self.new.bits.items ≡ bits_after self.old.bits.items act }
+        ensures writer { self.new.writer ≡ self.old.writer }
+        ensures readers { self.new.readers ≡ self.old.readers }
+        ensures events { self.new.events ≡ self.old.events }
+    {
+        match act {
+            Act::Hand(i) => self.bits[i as usize] = 0,
+            Act::Mark(i) => self.bits[i as usize] = 1,
+            Act::Open(_, _) | Act::Slot(_, _) | Act::Item(_, _, _) | Act::Moment | Act::Close => {}
+        }
+    }
+
+    /// The writer makes an act, if it is lawful.
+    pub(crate) fn write(&mut self, act: Act) -> Result<Stepped<V>, Unlawful>
+        requires { (seen : worlds.World V) × StandFor {V = V} self.old seen }
+        ensures ok { IfOk result (λ out. (seen : worlds.World V) → StandFor {V = V} self.old seen → (next : worlds.World V) × worlds.Steps V (shape_of_parts {V = V} self.old) seen (event.Write act) next × worlds.Gives {V = V} seen (event.Write act) next out × StandFor {V = V} self.new next) }
+        ensures err { IfErr result (λ why. (seen : worlds.World V) → StandFor {V = V} self.old seen → worlds.Refuses {V = V} (shape_of_parts {V = V} self.old) seen (event.Write act) why × StandFor {V = V} self.new seen) }
+        ensures kept { OnErr result (shown_of {V = V} self.new ≡ shown_of {V = V} self.old) }
+        ensures shape { shape_of_parts {V = V} self.new ≡ shape_of_parts {V = V} self.old }
+        ensures state { OnOk result ((shown_of {V = V} self.new).state ≡ state_after {V = V} (shown_of {V = V} self.old) (event.Write act)) }
+    {
+        if !self.writer.allows(act) {
+            return Err(Unlawful::NotLawful);
+        }
+        if !self.is_within(act) {
+            return Err(Unlawful::Limit);
+        }
+        let bit = self.bit_of(act);
+        if self.writer.make(act, bit).is_err() {
+            return Err(Unlawful::NoMemory);
+        }
+        self.mark(act);
+        self.events += 1;
+        Ok(given_by(act, bit))
+    }
+}
