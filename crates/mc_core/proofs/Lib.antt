@@ -33,3 +33,4 @@ pub mod Both
 pub mod Looking
 pub mod Opening
 pub mod Stepping
+pub mod Listing

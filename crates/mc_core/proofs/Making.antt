@@ -1,5 +1,5 @@
 -- The state after an act that was made, from its parts.
-use Rattle.std.proofs.Common.{ℕ, eqb, ◌⊎◌, ◌≢◌, ◌≡◌, ◌+◌, ◌%◌, ◌<◌, Bool, List, [], ◌∷◌, ◌++◌, length, take, Option, Some, None, refl, subst, sym, ◌∙◌, ap, inl, inr, arith}
+use Rattle.std.proofs.Common.{ℕ, eqb, ◌⊎◌, ◌≢◌, ◌≡◌, ◌+◌, ◌%◌, ◌<◌, ◌≤◌, Bool, List, [], ◌∷◌, ◌++◌, length, take, Option, Some, None, refl, subst, sym, ◌∙◌, ap, inl, inr, arith}
 use Rattle.std.specs.Prelude.{slice_set, Result, Ok, Err, OnOk}
 use Rattle.std.proofs.Math.Nat.{mod_self, mod-eq_of_lt}
 use Rattle.std.proofs.lemmas.Bool.{cond-true, cond-false, eq-eqb, ne_eqb}
@@ -16,7 +16,7 @@ use Rattle.mc_words.proofs.Keys.{stripe_of-lt}
 use Rattle.mc_words.specs.Places.{with_item}
 use Rattle.mc_words.specs.Shapes.{IsShape}
 use Rattle.mc_core.specs.Effects.{words_after, phase_after, hand_after, cleared_after, history_after, changes_after, bumped}
-use Rattle.mc_core.specs.Writers.{shape_at, words_at, phase_at, UsedIn, IsMade}
+use Rattle.mc_core.specs.Writers.{shape_at, words_at, phase_at, room_of, UsedIn, IsMade}
 use Rattle.mc_core.specs.declared.act.Act.{Act}
 use Rattle.mc_core.specs.declared.progress.Progress.{Progress}
 use Rattle.mc_core.specs.declared.writer.Writer.{Writer}
@@ -26,12 +26,12 @@ same_state : {V : ℕ} (w x : List ℕ) (p q : Phase) (h k : ℕ) (c d : Option 
     ◌≡◌ {A = State V} (record { words = w; phase = p; hand = h; cleared = c; history = hs; changes = n }) (record { words = x; phase = q; hand = k; cleared = d; history = ks; changes = m })
 same_state w x p q h k c d hs ks n m a b e f g i = rw (a, b, e, f, g, i) refl
 
-pub made : {V : ℕ} (old new : Writer V) (a : Act) (bit : ℕ) (p q : Progress) → old.progress ≡ p → new.progress ≡ q → new.table.checked ≡ old.table.checked →
+pub made : {V : ℕ} (old new : Writer V) → room_of {V = V} old ≤ room_of {V = V} new + 1 → (a : Act) (bit : ℕ) (p q : Progress) → old.progress ≡ p → new.progress ≡ q → new.table.checked ≡ old.table.checked →
     words_at {V = V} new ≡ words_after V (shape_at {V = V} old) (words_at {V = V} old) (phase_at old.written p) a → phase_at new.written q ≡ phase_after (phase_at old.written p) a →
     new.hand ≡ hand_after (shape_at {V = V} old) old.hand a → new.cleared ≡ cleared_after old.cleared a bit →
     new.history.items ≡ history_after {V = V} old.history.items (phase_at old.written p) a → new.changes ≡ changes_after old.changes a →
     UsedIn (shape_at {V = V} old) (words_at {V = V} new) new.table.used.items new.table.free → IsMade {V = V} old new a bit
-made {V} old new a bit p q before then shape words phase hand cleared history changes used = record {
+made {V} old new room a bit p q before then shape words phase hand cleared history changes used = record {
   shape = shape;
   state =
       let phase_is : phase_at new.written new.progress ≡ phase_after (phase_at old.written old.progress) a = ap (λ (y : Progress). phase_at new.written y) then ∙ phase ∙ ap (λ (y : Progress). phase_after (phase_at old.written y) a) (sym before) in
@@ -39,6 +39,7 @@ made {V} old new a bit p q before then shape words phase hand cleared history ch
       let history_is : new.history.items ≡ history_after {V = V} old.history.items (phase_at old.written old.progress) a = history ∙ ap (λ (y : Progress). history_after {V = V} old.history.items (phase_at old.written y) a) (sym before) in
       same_state _ _ _ _ _ _ _ _ _ _ _ _ words_is phase_is hand cleared history_is changes;
   used = subst (λ (y : Checked). UsedIn (shape_of y) (words_at {V = V} new) new.table.used.items new.table.free) (sym shape) used;
+  room = room;
 }
 
 -- a version more, and a word of an item, name no other items

@@ -1,10 +1,12 @@
 -- The parts of a world in memory.
-use Rattle.std.specs.Prelude.{ℕ, ◌+◌, ◌≤◌}
+use Rattle.std.specs.Prelude.{ℕ, ◌≡◌, ◌+◌, ◌≤◌, List, ◌++◌, map}
 use Rattle.mc_words.specs.declared.shape.Shape.{Shape}
 use Rattle.mc_core.specs.Phases.{runs}
 use Rattle.mc_core.specs.Seen.{Shown, Shows}
 use Rattle.mc_core.specs.Worlds as worlds
 use Rattle.mc_core.specs.Writers.{shape_at, state_in, phase_at, UsedWell}
+use Rattle.mc_core.specs.declared.event.Done.{Done}
+use Rattle.mc_core.specs.declared.event.Event.{Event}
 use Rattle.mc_core.specs.declared.parts.Parts.{Parts}
 
 abbrev pub shape_of_parts : {V : ℕ} → Parts V → Shape
@@ -25,3 +27,9 @@ pub record AreReached {V : ℕ} (p : Parts V) : Type 0 where
   pub seen : worlds.World V
   pub stand : StandFor p seen
   pub reached : worlds.IsReached V (shape_of_parts p) seen
+
+-- these events were made, of which the look-ups that ended told what was done more
+pub record HasMade {V : ℕ} (old new : Parts V) (events : List Event) (before after : List (Done V)) : Type 0 where
+  pub shape : shape_of_parts new ≡ shape_of_parts old
+  pub made : (seen : worlds.World V) → StandFor old seen → (x : worlds.World V) × worlds.Runs V (shape_of_parts old) seen events x × StandFor new x ×
+      ((ended : List (worlds.Ended V)) × (x.ended ≡ seen.ended ++ ended) × (after ≡ before ++ map (λ e. e.told) ended))

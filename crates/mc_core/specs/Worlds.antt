@@ -1,5 +1,5 @@
 -- A world: one writer and some readers, each event one atomic step.
-use Rattle.std.specs.Prelude.{ℕ, ◌≡◌, ◌+◌, ◌-◌, ◌^◌, ◌<◌, ◌≤◌, ◌⊎◌, List, [], ◌∷◌, ◌++◌, All, length, Option, Some, None, slice_get, slice_set, slice_index, replicate}
+use Rattle.std.specs.Prelude.{ℕ, ◌≡◌, ◌≢◌, ◌+◌, ◌-◌, ◌^◌, ◌<◌, ◌≤◌, ◌⊎◌, List, [], ◌∷◌, ◌++◌, All, length, map, take, Option, Some, None, slice_get, slice_set, slice_index, replicate}
 use Rattle.mc_words.specs.History.{IsTrueAnswer}
 use Rattle.mc_words.specs.Shapes.{IsShape}
 use Rattle.mc_words.specs.declared.history.Reply.{Reply}
@@ -151,6 +151,24 @@ Gives w (Read r) x stepped.Nothing = ⊥
 abbrev pub Runs : (V : ℕ) → Shape → World V → List Event → World V → Type 0
 Runs V sh w [] x = x ≡ w
 Runs V sh w (e ∷ es) x = (mid : World V) × Steps V sh w e mid × Runs V sh mid es x
+
+-- how many of so many events were made
+abbrev pub many_made : ℕ → Option (ℕ × Unlawful) → ℕ
+many_made n None = n
+many_made n (Some stop) = stop.0
+
+-- where a run stopped, the next event is refused, and not for want of memory
+abbrev pub StopsAt : {V : ℕ} → Shape → World V → List Event → Option (ℕ × Unlawful) → Type 0
+StopsAt sh w events None = Unit {0}
+StopsAt sh w events (Some stop) = (e : Event) × (slice_get events stop.0 ≡ Some e) × Refuses sh w e stop.1 × (stop.1 ≢ unlawful.NoMemory)
+
+-- the events lead from one world to the other, up to the first that is refused; done is what the look-ups told that ended
+pub record HasRun (V : ℕ) (sh : Shape) (w x : World V) (events : List Event) (done : List (Done V)) (stopped : Option (ℕ × Unlawful)) : Type 0 where
+  pub runs : Runs V sh w (take (many_made (length events) stopped) events) x
+  pub ended : List (Ended V)
+  pub more : x.ended ≡ w.ended ++ ended
+  pub told : done ≡ map (λ e. e.told) ended
+  pub stops : StopsAt sh x events stopped
 
 -- some events lead to the world from a new one
 pub record IsReached (V : ℕ) (sh : Shape) (w : World V) : Type 0 where

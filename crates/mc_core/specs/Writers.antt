@@ -1,5 +1,5 @@
 -- The writer of a world, as contracts see it.
-use Rattle.std.specs.Prelude.{ℕ, ◌≡◌, ◌<◌, ◌/◌, Bool, true, false, List, take, get_or, [], ◌∷◌, ◌+◌}
+use Rattle.std.specs.Prelude.{ℕ, ◌≡◌, ◌<◌, ◌/◌, Bool, true, false, List, take, get_or, [], ◌∷◌, ◌+◌, ◌-◌, ◌≤◌, vec_len, vec_capacity}
 use Rattle.mc_words.specs.Keys.{IsBucketOf}
 use Rattle.mc_words.specs.Places.{slot_number}
 use Rattle.mc_words.specs.Standing.{Names, Stands, IsFree}
@@ -67,11 +67,16 @@ pub record StandsWell (V : ℕ) (sh : Shape) (w : List ℕ) (k : ℕ) : Type 0 w
 abbrev pub IsFreeItem : Shape → List ℕ → ℕ → Type 0
 IsFreeItem sh w i = (i < sh.items) × IsFree sh w i
 
--- the act was made: the state is the one after it, and the flags are right
+-- how many changes the history has room for
+abbrev pub room_of : {V : ℕ} → Writer V → ℕ
+room_of w = vec_capacity w.history - vec_len w.history
+
+-- the act was made: the state is the one after it, and the flags are right; it took room for one change at most
 pub record IsMade {V : ℕ} (old new : Writer V) (a : Act) (bit : ℕ) : Type 0 where
   pub shape : new.table.checked ≡ old.table.checked
   pub state : state_in new ≡ after_act (shape_at old) (state_in old) a bit
   pub used : UsedWell new.table
+  pub room : room_of old ≤ room_of new + 1
 
 -- nothing was made
 pub record IsKept {V : ℕ} (old new : Writer V) : Type 0 where

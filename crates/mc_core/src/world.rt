@@ -20,7 +20,7 @@ pub enum WorldError {
 /// One writer and some readers, seen from outside: all that they do is an order of events.
 #[derive(Drop)]
 pub struct World<const V: usize> {
-    parts: Parts<V>,
+    pub(crate) parts: Parts<V>,
 }
 
 impl<const V: usize> Model for World<V> {

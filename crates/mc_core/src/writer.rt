@@ -35,7 +35,7 @@ impl<const V: usize> Writer<V> {
     ghost use Rattle.mc_words.specs.Places.{IsWidth};
     ghost use Rattle.mc_core.specs.States.{opening};
     ghost use Rattle.mc_core.specs.Inner.{StateHolds, StateCounted};
-    ghost use Rattle.mc_core.specs.Writers.{shape_at, state_in, UsedWell, IsMade, IsKept};
+    ghost use Rattle.mc_core.specs.Writers.{shape_at, room_of, state_in, UsedWell, IsMade, IsKept};
 
     /// The writer of a new world.
     pub(crate) fn new(alloc: Global, checked: &Checked) -> Result<Writer<V>, AllocError>
@@ -83,6 +83,7 @@ impl<const V: usize> Writer<V> {
         requires may { IsAllowed (shape_at {V = V} self.old) (state_in {V = V} self.old) act }
         ensures ok { OnOk result (IsMade {V = V} self.old self.new act bit) }
         ensures err { OnErr result (IsKept {V = V} self.old self.new × (act ≡ Act.Moment)) }
+        ensures full { OnErr result (room_of {V = V} self.old ≡ 0) }
     {
         match act {
             Act::Open(key, deed) => self.open(key, deed),

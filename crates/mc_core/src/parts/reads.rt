@@ -10,7 +10,8 @@ use crate::parts::Parts;
 use crate::reader::Reader;
 
 impl<const V: usize> Parts<V> {
-    ghost use Rattle.std.specs.Prelude.{◌≡◌, ◌+◌, ◌-◌, ◌^◌, ◌<◌, Some, None, IfOk, IfErr, OnOk, OnErr, IsSome, length, slice_get, slice_set, unwrap_or};
+    ghost use Rattle.mc_core.specs.declared.event.Unlawful.TheVariants as unlawful;
+    ghost use Rattle.std.specs.Prelude.{◌≡◌, ◌≢◌, ◌+◌, ◌-◌, ◌^◌, ◌<◌, Some, None, IfOk, IfErr, OnOk, OnErr, IsSome, length, slice_get, slice_set, unwrap_or};
     ghost use Rattle.mc_core.specs.Parts.{shape_of_parts, shown_of, StandFor};
     ghost use Rattle.mc_core.specs.Seen.{state_after};
     ghost use Rattle.mc_core.specs.Worlds as worlds;
@@ -24,6 +25,7 @@ impl<const V: usize> Parts<V> {
         ensures ok { IfOk result (λ out. (seen : worlds.World V) → StandFor {V = V} self.old seen → (next : worlds.World V) × worlds.Steps V (shape_of_parts {V = V} self.old) seen (event.Begin reader key) next × worlds.Gives {V = V} seen (event.Begin reader key) next out × StandFor {V = V} self.new next) }
         ensures err { IfErr result (λ why. (seen : worlds.World V) → StandFor {V = V} self.old seen → worlds.Refuses {V = V} (shape_of_parts {V = V} self.old) seen (event.Begin reader key) why) }
         ensures kept { OnErr result (self.new ≡ self.old) }
+        ensures full { IfErr result (λ why. why ≢ unlawful.NoMemory) }
         ensures writer { self.new.writer ≡ self.old.writer }
     {
         let at = reader as usize;
@@ -51,6 +53,7 @@ impl<const V: usize> Parts<V> {
         ensures ok { IfOk result (λ out. (seen : worlds.World V) → StandFor {V = V} self.old seen → (next : worlds.World V) × worlds.Steps V (shape_of_parts {V = V} self.old) seen (event.Read reader) next × worlds.Gives {V = V} seen (event.Read reader) next out × StandFor {V = V} self.new next) }
         ensures err { IfErr result (λ why. (seen : worlds.World V) → StandFor {V = V} self.old seen → worlds.Refuses {V = V} (shape_of_parts {V = V} self.old) seen (event.Read reader) why) }
         ensures kept { OnErr result (self.new ≡ self.old) }
+        ensures full { IfErr result (λ why. why ≢ unlawful.NoMemory) }
         ensures writer { self.new.writer ≡ self.old.writer }
     {
         let at = reader as usize;

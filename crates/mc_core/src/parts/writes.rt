@@ -7,6 +7,8 @@ impl<const V: usize> Parts<V> {
     ghost use Rattle.std.specs.Prelude.{◌≡◌, ◌+◌, ◌-◌, ◌^◌, ◌<◌, ◌≤◌, ◌↔◌, IfOk, IfErr, OnOk, OnErr, IsTrue};
     ghost use Rattle.mc_core.specs.Worlds as worlds;
     ghost use Rattle.mc_core.specs.Worlds.{HasChanges, bit_of, bits_after};
+    ghost use Rattle.mc_core.specs.Writers.{room_of};
+    ghost use Rattle.mc_core.specs.declared.event.Unlawful.TheVariants as unlawful;
     ghost use Rattle.mc_core.specs.Parts.{shape_of_parts, shown_of, StandFor};
     ghost use Rattle.mc_core.specs.Seen.{state_after, ReadsIn};
     ghost use Rattle.mc_core.specs.declared.event.Event.TheVariants as event;
@@ -69,6 +71,8 @@ impl<const V: usize> Parts<V> {
         ensures kept { OnErr result (shown_of {V = V} self.new ≡ shown_of {V = V} self.old) }
         ensures shape { shape_of_parts {V = V} self.new ≡ shape_of_parts {V = V} self.old }
         ensures state { OnOk result ((shown_of {V = V} self.new).state ≡ state_after {V = V} (shown_of {V = V} self.old) (event.Write act)) }
+        ensures room { OnOk result (room_of {V = V} self.old.writer ≤ room_of {V = V} self.new.writer + 1) }
+        ensures full { IfErr result (λ why. why ≡ unlawful.NoMemory → room_of {V = V} self.old.writer ≡ 0) }
     {
         if !self.writer.allows(act) {
             return Err(Unlawful::NotLawful);

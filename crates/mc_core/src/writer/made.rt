@@ -7,7 +7,7 @@ ghost use Rattle.mc_core.specs.Inner.{StateHolds};
 ghost use Rattle.mc_core.specs.Phases.{opened, Closing};
 ghost use Rattle.mc_core.specs.Effects.{change_of, phase_after};
 ghost use Rattle.mc_core.specs.Progresses.{count_at, fresh_slot};
-ghost use Rattle.mc_core.specs.Writers.{shape_at, words_at, state_in, phase_at, UsedWell, IsMade, IsKept};
+ghost use Rattle.mc_core.specs.Writers.{shape_at, words_at, room_of, state_in, phase_at, UsedWell, IsMade, IsKept};
 ghost use Rattle.mc_core.specs.declared.act.Act.{Act};
 ghost use Rattle.mc_core.specs.declared.progress.Progress.{Progress};
 
@@ -133,6 +133,7 @@ impl<const V: usize> Writer<V> {
         requires phase { phase_after (state_in {V = V} self.old).phase Act.Moment ≡ Closing key }
         ensures ok { OnOk result ((bit : ℕ) → IsMade {V = V} self.old self.new Act.Moment bit) }
         ensures err { OnErr result (IsKept {V = V} self.old self.new) }
+        ensures full { OnErr result (room_of {V = V} self.old ≡ 0) }
     {
         self.history.push(change)?;
         self.table.tick();
@@ -147,6 +148,7 @@ impl<const V: usize> Writer<V> {
         requires may { IsAllowed (shape_at {V = V} self.old) (state_in {V = V} self.old) Act.Moment }
         ensures ok { OnOk result ((bit : ℕ) → IsMade {V = V} self.old self.new Act.Moment bit) }
         ensures err { OnErr result (IsKept {V = V} self.old self.new) }
+        ensures full { OnErr result (room_of {V = V} self.old ≡ 0) }
     {
         match self.progress {
             Progress::Placed(key, _) => self.count(key, Change::Put(key, self.written)),

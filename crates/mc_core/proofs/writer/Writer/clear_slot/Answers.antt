@@ -28,6 +28,6 @@ returns-in-Some g c = λ bit.
     let e = c.set_slot.ensures in
     let size : 1 + (shape_at w).stripes + slot_number c.args.place < length (words_at w) = omega (arith, w.table.size, here.names.in_table) in
     let only = holds.deed.0 in
-    made w _ (act.Slot c.args.place c.args.word) bit p (progress.Removed c.args.key c.args.evicts) c.requires.running refl e.shape e.words refl refl refl refl refl
+    made w _ (omega arith) (act.Slot c.args.place c.args.word) bit p (progress.Removed c.args.key c.args.evicts) c.requires.running refl e.shape e.words refl refl refl refl refl
     (rw (e.words, e.used, e.free) (used_clear (shape_at w) (words_at w) w.table.used.items w.table.free (slot_number c.args.place) c.args.word c.in-Some.i w.table.flags size may.1 here.names w.table.checked.sound
     (only_one g.row.V (shape_at w) (words_at w) c.args.key only.0 only.1 (slot_number c.args.place) c.in-Some.i only.2 here) c.requires.used))

@@ -15,5 +15,5 @@ returns g c = λ bit.
     let may = may_at g.row.V (shape_at w) (words_at w) w.hand w.cleared w.written w.progress p (act.Slot c.args.place c.args.word) c.requires.running c.requires.may in
     let e = c.set_slot.ensures in
     let size : 1 + (shape_at w).stripes + slot_number c.args.place < length (words_at w) = omega (arith, w.table.size, may.1.0) in
-    made w _ (act.Slot c.args.place c.args.word) bit p (progress.Moved c.args.key c.args.place) c.requires.running refl e.shape e.words refl refl refl refl refl
+    made w _ (omega arith) (act.Slot c.args.place c.args.word) bit p (progress.Moved c.args.key c.args.place) c.requires.running refl e.shape e.words refl refl refl refl refl
     (rw (e.words, e.used, e.free) (used_copy (shape_at w) (words_at w) w.table.used.items w.table.free (slot_number c.args.place) c.args.word may.2.2.names.tag may.2.1 may.2.0 w.table.checked.sound size may.1.1 (may.2.4 ∙ may.2.2.names.word) may.2.2.names c.requires.used))

@@ -21,5 +21,5 @@ returns g c = λ bit.
     let of = twice.twice (slot_number c.args.place) may.3.0 gone in
     let e = c.set_slot.ensures in
     let size : 1 + (shape_at w).stripes + slot_number c.args.place < length (words_at w) = omega (arith, w.table.size, gone.names.in_table) in
-    made w _ (act.Slot c.args.place c.args.word) bit p (progress.Closing c.args.key) c.requires.running refl e.shape e.words refl refl refl refl refl
+    made w _ (omega arith) (act.Slot c.args.place c.args.word) bit p (progress.Closing c.args.key) c.requires.running refl e.shape e.words refl refl refl refl refl
     (rw (e.words, e.used, e.free) (used_leave (shape_at w) (words_at w) w.table.used.items w.table.free (slot_number c.args.place) c.args.word may.3.0 (slot_number c.args.fresh) w.table.checked.sound size may.1 gone.names (subst (λ (y : ℕ). Names (shape_at w) (words_at w) (slot_number c.args.fresh) y) (sym of.1) twice.here.names) (λ e. may.2 (sym e)) c.requires.used))

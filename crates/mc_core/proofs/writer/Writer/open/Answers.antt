@@ -1,5 +1,5 @@
 use Rattle.mc_core.proofs.writer.Writer.open.Goals as goal
-use Rattle.std.proofs.Common.{refl}
+use Rattle.std.proofs.Common.{arith, refl}
 use Rattle.mc_core.specs.Writers.{shape_at, words_at}
 use Rattle.mc_core.specs.declared.act.Act.TheVariants as act
 use Rattle.mc_core.proofs.Making.{made, used_bumped}
@@ -8,5 +8,5 @@ pub returns : goal.returns
 returns g c = λ bit.
     let w = c.args.self.now in
     let e = c.bump.ensures in
-    made w _ (act.Open c.args.key c.args.deed) bit w.progress _ refl refl e.shape e.words (c.opening_of-self.ensures.phase w.written) refl refl refl refl
+    made w _ (omega arith) (act.Open c.args.key c.args.deed) bit w.progress _ refl refl e.shape e.words (c.opening_of-self.ensures.phase w.written) refl refl refl refl
     (rw (e.words, e.used, e.free) (used_bumped (shape_at w) (words_at w) c.args.key w.table.used.items w.table.free w.table.checked.sound c.requires.used))

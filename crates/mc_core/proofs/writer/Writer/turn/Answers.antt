@@ -1,5 +1,5 @@
 use Rattle.mc_core.proofs.writer.Writer.turn.Goals as goal
-use Rattle.std.proofs.Common.{refl, ◌∙◌, ◌≡◌, ◌≢◌, ◌+◌, ◌%◌, ◌⊎◌, Some, None, inl, inr}
+use Rattle.std.proofs.Common.{arith, refl, ◌∙◌, ◌≡◌, ◌≢◌, ◌+◌, ◌%◌, ◌⊎◌, Some, None, inl, inr}
 use Rattle.mc_core.specs.Writers.{shape_at}
 use Rattle.mc_core.specs.declared.act.Act.TheVariants as act
 use Rattle.mc_core.specs.declared.progress.Progress.TheVariants as progress
@@ -19,4 +19,4 @@ returns g c =
       | then-bit-eq0 v ↦ inl (v.if-bit-eq0.true, v.self-is)
       | else-bit-eq0 v ↦ inr (v.if-bit-eq0.false, v.self-is)
     ] in
-    made w _ (act.Hand i) c.args.bit progress.Quiet progress.Quiet c.requires.quiet c.requires.quiet refl refl refl hand (cleared_by i c.args.bit c.if-bit-eq0.self told) refl refl c.requires.used
+    made w _ (omega arith) (act.Hand i) c.args.bit progress.Quiet progress.Quiet c.requires.quiet c.requires.quiet refl refl refl hand (cleared_by i c.args.bit c.if-bit-eq0.self told) refl refl c.requires.used

@@ -16,6 +16,6 @@ returns g c = λ bit.
     let w = c.args.self.now in
     let e = c.set_item.ensures in
     let more = c.args.count + 1 in
-    made w _ (act.Item c.args.i more c.args.word) bit (progress.Renewing c.args.key c.args.count) (progress.Renewing c.args.key more) c.requires.running refl e.shape e.words
+    made w _ (omega arith) (act.Item c.args.i more c.args.word) bit (progress.Renewing c.args.key c.args.count) (progress.Renewing c.args.key more) c.requires.running refl e.shape e.words
     (ap (λ xs. phases.Renewing c.args.key xs) (written_more g.row.V w.written c.args.count c.args.word w.whole c.requires.more)) refl refl refl refl
     (rw (e.words, e.used, e.free) (used_item g.row.V (shape_at w) (words_at w) c.args.i more c.args.word w.table.used.items w.table.free c.requires.used))

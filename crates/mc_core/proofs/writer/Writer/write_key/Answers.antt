@@ -1,5 +1,5 @@
 use Rattle.mc_core.proofs.writer.Writer.write_key.Goals as goal
-use Rattle.std.proofs.Common.{refl}
+use Rattle.std.proofs.Common.{arith, refl}
 use Rattle.mc_core.specs.Writers.{shape_at, words_at}
 use Rattle.mc_core.specs.declared.act.Act.TheVariants as act
 use Rattle.mc_core.specs.declared.progress.Progress.TheVariants as progress
@@ -9,5 +9,5 @@ pub returns : goal.returns
 returns g c = λ bit.
     let w = c.args.self.now in
     let e = c.set_item.ensures in
-    made w _ (act.Item c.args.i 0 c.args.word) bit (progress.Filling c.args.key) (progress.Keyed c.args.key c.args.i 0) c.requires.running refl e.shape e.words refl refl refl refl refl
+    made w _ (omega arith) (act.Item c.args.i 0 c.args.word) bit (progress.Filling c.args.key) (progress.Keyed c.args.key c.args.i 0) c.requires.running refl e.shape e.words refl refl refl refl refl
     (rw (e.words, e.used, e.free) (used_item g.row.V (shape_at w) (words_at w) c.args.i 0 c.args.word w.table.used.items w.table.free c.requires.used))

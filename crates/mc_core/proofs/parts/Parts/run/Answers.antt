@@ -1,0 +1,14 @@
+use Rattle.std.proofs.Common.{length, take, [], List, subst}
+use Rattle.mc_core.specs.Parts.{HasMade}
+use Rattle.mc_core.specs.Worlds.{many_made}
+use Rattle.mc_core.specs.declared.event.Done.{Done}
+use Rattle.mc_core.proofs.Listing.{made_then}
+use Rattle.mc_core.proofs.parts.Parts.run.Goals as goal
+
+pub returns-clause-ok : goal.returns-clause-ok
+returns-clause-ok g c =
+    let done = (c.in_ok-done.ensures {u = tt}).items in
+    let all = c.make_all-stopped in
+    let events = take (many_made (length c.args.events.now) all.result) c.args.events.now in
+    let made = subst (λ (before : List (Done g.row.V)). HasMade {V = g.row.V} c.reserve.new.self all.new.self events before all.new.done.items) done all.ensures.made in
+    (made_then c.args.self.now c.reserve.new.self all.new.self [] events [] [] all.new.done.items c.reserve.ensures.made made, all.ensures.stops)

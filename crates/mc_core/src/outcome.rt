@@ -1,0 +1,16 @@
+use crate::event::{Done, Unlawful};
+use thiserror::Error;
+
+/// What a list of events did.
+#[derive(Drop)]
+pub struct Run<const V: usize> {
+    /// What the look-ups told that ended, in their order.
+    pub done: Vec<Done<V>>,
+    /// The index of the first event that was refused, and why it was.
+    pub stopped: Option<(usize, Unlawful)>,
+}
+
+/// There was no room for what the events of a list might tell or change.
+#[derive(Clone, Copy, Debug, PartialEq, Eq, Error)]
+#[error("no memory")]
+pub struct NoMemory;

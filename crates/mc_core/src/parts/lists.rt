@@ -1,0 +1,91 @@
+//! A world makes a list of events.
+ghost use Rattle.std.specs.Prelude.{◌≡◌, ◌+◌, ◌<◌, ◌≤◌, ◌++◌, ◌∷◌, [], vec_len, vec_capacity};
+
+use crate::event::{Done, Event, Stepped, Unlawful};
+use crate::parts::Parts;
+use std::alloc::{AllocError, Global};
+
+impl<const V: usize> Parts<V> {
+    ghost use Rattle.std.specs.Prelude.{◌≡◌, ◌≢◌, ◌+◌, ◌<◌, ◌≤◌, ◌∷◌, [], length, take, IfOk, IfErr, OnOk, OnErr, vec_len, vec_capacity};
+    ghost use Rattle.mc_core.specs.Parts.{shape_of_parts, shown_of, StandFor, HasMade};
+    ghost use Rattle.mc_core.specs.Worlds as worlds;
+    ghost use Rattle.mc_core.specs.Worlds.{many_made, StopsAt};
+    ghost use Rattle.mc_core.specs.Writers.{room_of};
+    ghost use Rattle.mc_core.specs.declared.event.Unlawful.TheVariants as unlawful;
+
+    /// Makes the events up to the first that is refused: what the look-ups told that ended, and where it stopped.
+    pub(crate) fn run(
+        &mut self,
+        alloc: Global,
+        events: &[Event],
+    ) -> Result<(Vec<Done<V>>, Option<(usize, Unlawful)>), AllocError>
+        requires { (seen : worlds.World V) × StandFor {V = V} self.old seen }
+        ensures ok { IfOk result (λ run. HasMade {V = V} self.old self.new (take (many_made (length events.now) run.1) events.now) [] run.0.items × ((seen : worlds.World V) → StandFor {V = V} self.new seen → StopsAt {V = V} (shape_of_parts {V = V} self.new) seen events.now run.1)) }
+        ensures err { OnErr result (HasMade {V = V} self.old self.new [] [] []) }
+        ensures kept { OnErr result (shown_of {V = V} self.new ≡ shown_of {V = V} self.old) }
+    {
+        let mut done = Vec::with_capacity(alloc, events.len())?;
+        self.reserve(events.len())?;
+        let stopped = self.make_all(events, &mut done);
+        Ok((done, stopped))
+    }
+
+    /// Makes room for so many changes.
+    fn reserve(&mut self, changes: usize) -> Result<(), AllocError>
+        ensures room { OnOk result (changes ≤ room_of {V = V} self.new.writer) }
+        ensures made { HasMade {V = V} self.old self.new [] [] [] }
+        ensures kept { shown_of {V = V} self.new ≡ shown_of {V = V} self.old }
+    {
+        self.writer.history.try_reserve(changes)
+    }
+
+    /// Makes the events up to the first that is refused. Room for all that they tell and change is there.
+    fn make_all(&mut self, events: &[Event], done: &mut Vec<Done<V>>) -> Option<(usize, Unlawful)>
+        requires stands { (seen : worlds.World V) × StandFor {V = V} self.old seen }
+        requires room { length events.now ≤ room_of {V = V} self.old.writer }
+        requires spare { vec_len done.old + length events.now ≤ vec_capacity done.old }
+        ensures made { HasMade {V = V} self.old self.new (take (many_made (length events.now) result) events.now) done.old.items done.new.items }
+        ensures stops { (seen : worlds.World V) → StandFor {V = V} self.new seen → StopsAt {V = V} (shape_of_parts {V = V} self.new) seen events.now result }
+    {
+        for (i, event) in events.iter().enumerate() {
+            if let Err(why) = self.make_one(*event, done) {
+                return Some((i, why));
+            }
+        }
+        None
+    }
+
+    /// Makes an event. Room for what it tells and changes is there.
+    fn make_one(&mut self, event: Event, done: &mut Vec<Done<V>>) -> Result<(), Unlawful>
+        requires stands { (seen : worlds.World V) × StandFor {V = V} self.old seen }
+        requires room { 1 ≤ room_of {V = V} self.old.writer }
+        requires spare { vec_len done.old < vec_capacity done.old }
+        ensures made { OnOk result (HasMade {V = V} self.old self.new (event ∷ []) done.old.items done.new.items) }
+        ensures room { OnOk result (room_of {V = V} self.old.writer ≤ room_of {V = V} self.new.writer + 1) }
+        ensures spare { OnOk result (vec_len done.new + vec_capacity done.old ≤ vec_len done.old + vec_capacity done.new + 1) }
+        ensures refused { IfErr result (λ why. (seen : worlds.World V) → StandFor {V = V} self.old seen → worlds.Refuses {V = V} (shape_of_parts {V = V} self.old) seen event why × StandFor {V = V} self.new seen) }
+        ensures lawful { IfErr result (λ why. why ≢ unlawful.NoMemory) }
+        ensures kept { OnErr result (shown_of {V = V} self.new ≡ shown_of {V = V} self.old) }
+        ensures silent { OnErr result (done.new.items ≡ done.old.items) }
+    {
+        match self.step(event) {
+            Ok(Stepped::Done(told)) => {
+                keep(done, told);
+                Ok(())
+            }
+            Ok(Stepped::Nothing) => Ok(()),
+            Ok(Stepped::Word(_)) => Ok(()),
+            Err(why) => Err(why),
+        }
+    }
+}
+
+/// Keeps what a look-up told, for which there is room.
+fn keep<const V: usize>(done: &mut Vec<Done<V>>, told: Done<V>)
+    requires { vec_len done.old < vec_capacity done.old }
+    ensures items { done.new.items ≡ done.old.items ++ told.entry ∷ [] }
+    ensures len { vec_len done.new ≡ vec_len done.old + 1 }
+    ensures room { vec_capacity done.old ≤ vec_capacity done.new }
+{
+    let _ = done.push(told);
+}
