@@ -16,6 +16,8 @@ mod progress;
 mod reader;
 mod stage;
 mod table;
+#[cfg(test)]
+mod tests;
 mod world;
 mod writer;
 

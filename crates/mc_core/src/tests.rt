@@ -1,0 +1,3 @@
+mod drawing;
+mod drawn;
+mod rows;
