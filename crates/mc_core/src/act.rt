@@ -16,7 +16,7 @@ pub enum Deed {
 }
 
 /// One atomic step of the writer.
-#[derive(Clone, Copy, Debug, PartialEq, Eq)]
+#[derive(Clone, Copy, Debug, Default, PartialEq, Eq)]
 pub enum Act {
     /// Makes the version of the key's stripe odd.
     Open(u64, Deed),
@@ -27,6 +27,7 @@ pub enum Act {
     /// Counts the change of the deed.
     Moment,
     /// Makes the version even again.
+    #[default]
     Close,
     /// Clears the recency bit of the item at which the hand stands, and reads what it was.
     Hand(u32),
