@@ -1,12 +1,12 @@
 -- Quiet states, and what a walk between two of them makes.
-use Rattle.std.proofs.Common.{ℕ, ◌≡◌, ◌+◌, ◌∙◌, List, [], ◌∷◌, ◌++◌, Option, ap, refl, sym, subst, length}
+use Rattle.std.proofs.Common.{ℕ, ◌≡◌, ◌+◌, ◌∙◌, List, ◌++◌, Option, ap, sym, subst}
 use Rattle.mc_words.specs.declared.history.Change.{Change}
 use Rattle.mc_words.specs.declared.shape.Shape.{Shape}
 use Rattle.mc_words.specs.Shapes.{IsShape}
 use Rattle.mc_core.specs.Phases.{Phase, Quiet}
 use Rattle.mc_core.specs.States.{State}
 use Rattle.mc_core.specs.declared.act.Act.{Act}
-use Rattle.mc_plan.specs.Making.{made, left, IsQuiet, Makes}
+use Rattle.mc_plan.specs.Making.{IsQuiet, Makes}
 use Rattle.mc_plan.proofs.Walks.{Walk, walk_holds}
 
 -- a state by its parts

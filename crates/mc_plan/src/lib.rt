@@ -15,15 +15,16 @@ mod queue;
 mod renew;
 mod search;
 mod take_out;
+mod value;
 
-pub use fill::add_fill;
+pub use fill::{add_fill, plan_fill};
 pub use finder::Finder;
 pub use finding::find;
-pub use moves::{add_move, add_moves};
+pub use moves::{add_move, add_moves, plan_moves};
 pub use path::Path;
 pub use peek::Peek;
-pub use renew::add_renew;
-pub use take_out::{add_evict, add_remove};
+pub use renew::{add_renew, plan_renew};
+pub use take_out::{add_evict, add_remove, plan_evict, plan_remove};
 
 #[cfg(test)]
 mod tests;
