@@ -14,3 +14,5 @@ pub mod Renewing
 pub mod Removing
 pub mod Moving
 pub mod Displacing
+pub mod Naming
+pub mod Room

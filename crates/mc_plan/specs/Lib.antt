@@ -5,4 +5,5 @@ pub mod Ready
 pub mod Plans
 pub mod Making
 pub mod Moves
+pub mod Puts
 pub mod Laws
