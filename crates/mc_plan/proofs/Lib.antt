@@ -16,3 +16,4 @@ pub mod Moving
 pub mod Displacing
 pub mod Naming
 pub mod Room
+pub mod Freeing

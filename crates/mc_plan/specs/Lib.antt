@@ -7,3 +7,6 @@ pub mod Making
 pub mod Moves
 pub mod Puts
 pub mod Laws
+pub mod Calls
+pub mod Free
+pub mod Clerks

@@ -3,26 +3,34 @@
 //! The words are read through `Peek`, so the same code serves a list of words and shared words.
 #![tactic(auto)]
 
+mod answer;
+mod books;
 mod bucket;
+mod clerk;
 mod fill;
 mod finder;
 mod finding;
+mod free;
 pub mod laws;
 mod moves;
 mod path;
 mod peek;
 mod queue;
+mod read;
 mod renew;
 mod search;
 mod take_out;
 mod value;
 
+pub use answer::{Answer, Put, PutError, Remove, Spent};
+pub use clerk::{Clerk, NoMemory};
 pub use fill::{add_fill, plan_fill};
 pub use finder::Finder;
 pub use finding::find;
 pub use moves::{add_move, add_moves, plan_moves};
 pub use path::Path;
 pub use peek::Peek;
+pub use read::moment;
 pub use renew::{add_renew, plan_renew};
 pub use take_out::{add_evict, add_remove, plan_evict, plan_remove};
 

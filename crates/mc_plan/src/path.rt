@@ -1,3 +1,6 @@
+ghost use Rattle.std.specs.Prelude.{◌≡◌};
+ghost use Rattle.mc_plan.specs.Plans.{first_place};
+
 use arrayvec::ArrayVec;
 use mc_words::Place;
 
@@ -7,4 +10,16 @@ use mc_words::Place;
 pub struct Path {
     pub places: ArrayVec<Place, 8>,
     pub hole: Place,
+}
+
+impl Path {
+    /// Where the key goes.
+    pub fn first(&self) -> Place
+        ensures { result ≡ first_place self.now.places.items self.now.hole }
+    {
+        match self.places.first() {
+            Some(place) => *place,
+            None => self.hole,
+        }
+    }
 }
