@@ -18,7 +18,7 @@ use Rattle.mc_plan.specs.Making.{left, IsQuiet, Makes}
 use Rattle.mc_plan.specs.Moves.{CanMove, MovesSlot, AreKeys, HasRoom, MovesMakeRoom}
 use Rattle.mc_plan.specs.Plans.{item_in, key_named, first_place, move_acts, moves_acts}
 use Rattle.mc_plan.proofs.Moving.{moves}
-use Rattle.mc_plan.proofs.Quiets.{makes_from_walk}
+use Rattle.mc_plan.proofs.Quiets.{agrees_quiet, makes_from_walk}
 use Rattle.mc_plan.proofs.Walks.{Walk, walk_none, walk_then}
 
 -- the bucket is none of those that the path goes through
@@ -86,9 +86,6 @@ tagged_at V sh w k q i None a stands = absurd (a q i stands)
 tagged_at V sh w k q i (Some v) a stands =
     let is = a.2.once q i stands in
     ap (slot sh w) is.0 ∙ a.2.tagged ∙ ap (λ (y : ℕ). slot_word (tag_of sh k) y) (sym is.1)
-
-agrees_quiet : (V : ℕ) (sh : Shape) (s : State V) → IsQuiet V sh s → Agrees V sh s.words None s.history
-agrees_quiet V sh s quiet = subst (λ (p : Phase). Agrees V sh s.words (running p) s.history) quiet.quiet quiet.holds.agrees
 
 tenant : (V : ℕ) (sh : Shape) (s : State V) (p : Place) → IsShape sh → IsQuiet V sh s → IsOccupied sh s.words p → Tenant V sh s.words p
 tenant V sh s p shape quiet taken =

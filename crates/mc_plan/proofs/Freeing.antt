@@ -181,3 +181,8 @@ new_kept f ordered none fresh room = record {
   distinct = subst (λ (ns : List ℕ). IsDistinct eqb ns) (sym (ap numbers none)) tt;
   room = room;
 }
+
+-- a free item is one of the table
+pub free_below : (f : FreeItems) (i : ℕ) → IsKept f → IsFreeIn f i → i < f.items
+free_below f i kept (Fresh above l) = l
+free_below f i kept (Returned c) = let b = All-contains (λ j. j < f.fresh) (returned_items f) i kept.below c in omega (arith, kept.within, b)

@@ -17,3 +17,4 @@ pub mod Displacing
 pub mod Naming
 pub mod Room
 pub mod Freeing
+pub mod Booking

@@ -104,6 +104,7 @@ impl Books {
         requires words { word_count V (shape_of self.old.checked) ≤ length (P.words peek.old) }
         requires filled { IsFilled (shape_of self.old.checked) (P.words peek.old) }
         requires chain { (k : ℕ) × IsChain (shape_of self.old.checked) (P.words peek.old) k path.now.places.items path.now.hole }
+        requires within { length path.now.places.items ≤ 8 }
         requires item { item < (shape_of self.old.checked).items }
         requires plan { plan.old.items ≡ [] }
         requires room { self.old.changes < 2 ^ 63 }

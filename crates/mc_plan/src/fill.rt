@@ -25,6 +25,7 @@ pub fn add_fill<const V: usize>(
     requires room { array_vec_len acts.old + V + 5 ≤ 64 }
     requires item { item < (shape_of checked.now).items }
     ensures items { acts.new.items ≡ acts.old.items ++ fill_acts (shape_of checked.now) key value.now item place }
+    ensures many { array_vec_len acts.new ≡ array_vec_len acts.old + V + 5 }
     ensures words { All IsWord value.now }
 {
     let word = checked.slot_word(checked.tag(key), item);

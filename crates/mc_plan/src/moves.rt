@@ -54,6 +54,7 @@ pub fn add_moves<const V: usize, P: Peek>(
     requires chain { (k : ℕ) × IsChain (shape_of checked.now) (P.words peek.old) k path.now.places.items path.now.hole }
     requires room { array_vec_len acts.old ≤ 32 }
     ensures items { acts.new.items ≡ acts.old.items ++ moves_acts V (shape_of checked.now) (P.words peek.old) path.now.places.items path.now.hole }
+    ensures many { array_vec_len acts.new ≡ array_vec_len acts.old + 4 * length path.now.places.items }
     ensures keys { AreKeys V (shape_of checked.now) (P.words peek.old) path.now.places.items }
     ensures same { P.words peek.new ≡ P.words peek.old }
 {

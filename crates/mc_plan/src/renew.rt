@@ -22,6 +22,7 @@ pub fn add_renew<const V: usize>(
     requires width { IsWidth V }
     requires room { array_vec_len acts.old + V + 3 ≤ 64 }
     ensures items { acts.new.items ≡ acts.old.items ++ renew_acts key value.now item }
+    ensures many { array_vec_len acts.new ≡ array_vec_len acts.old + V + 3 }
     ensures words { All IsWord value.now }
 {
     acts.push(Act::Open(key, Deed::Renew));
