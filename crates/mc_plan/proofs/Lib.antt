@@ -18,3 +18,4 @@ pub mod Naming
 pub mod Room
 pub mod Freeing
 pub mod Booking
+pub mod Onward

@@ -108,6 +108,7 @@ pub record IsOn (V : ℕ) (clerk : Clerk V) (call : Call) (s : State V) (acts : 
   pub owes : clerk.stage ≡ Planned told
   pub begun : IsQuiet V (shape_in clerk) s
   pub planned : IsPlanned V clerk.books clerk.plan.items call s told
+  pub fits : length clerk.plan.items ≤ 64
   pub within : clerk.made ≤ length clerk.plan.items
   pub done : acts_of acts ≡ take clerk.made clerk.plan.items
 

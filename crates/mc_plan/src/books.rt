@@ -82,6 +82,7 @@ impl Books {
         requires plan { plan.old.items ≡ [] }
         requires room { self.old.changes < 2 ^ 63 }
         ensures plan { plan.new.items ≡ renew_acts key value.now item ++ act.Mark item ∷ [] }
+        ensures fits { array_vec_len plan.new ≤ 64 }
         ensures words { All IsWord value.now }
         ensures books { self.new ≡ record self.old { changes = self.old.changes + 2 } }
     {
@@ -109,6 +110,7 @@ impl Books {
         requires plan { plan.old.items ≡ [] }
         requires room { self.old.changes < 2 ^ 63 }
         ensures plan { plan.new.items ≡ put_acts V (shape_of self.old.checked) (P.words peek.old) key value.now item path.now.places.items path.now.hole ++ act.Mark item ∷ [] }
+        ensures fits { array_vec_len plan.new ≤ 64 }
         ensures words { All IsWord value.now }
         ensures keys { AreKeys V (shape_of self.old.checked) (P.words peek.old) path.now.places.items }
         ensures books { self.new ≡ record self.old { changes = self.old.changes + (2 * length path.now.places.items + 2) } }
@@ -134,6 +136,7 @@ impl Books {
         requires plan { plan.old.items ≡ [] }
         requires at { at ≡ moment (P.words peek.old) + 1 }
         ensures planned { (s : State V) → AreBooksOf V self.old s → P.words peek.old ≡ s.words → (PutIsSpent (shape_of self.old.checked) (quiet_of s) → ⊥) → IsPlanned V self.new plan.new.items (PutCall key value.now) s (answer.Put result) }
+        ensures fits { array_vec_len plan.new ≤ 64 }
         ensures shape { self.new.checked ≡ self.old.checked }
         ensures same { P.words peek.new ≡ P.words peek.old }
     {
@@ -162,6 +165,7 @@ impl Books {
         requires books { (s : State V) × AreBooksOf V self.old s × (P.words peek.old ≡ s.words) }
         requires plan { plan.old.items ≡ [] }
         ensures planned { (s : State V) → AreBooksOf V self.old s → P.words peek.old ≡ s.words → IsPlanned V self.new plan.new.items (PutCall key value.now) s (answer.Put result) }
+        ensures fits { array_vec_len plan.new ≤ 64 }
         ensures shape { self.new.checked ≡ self.old.checked }
         ensures same { P.words peek.new ≡ P.words peek.old }
     {
@@ -189,6 +193,7 @@ impl Books {
         requires books { (s : State V) × AreBooksOf V self.old s × (P.words peek.old ≡ s.words) }
         requires plan { plan.old.items ≡ [] }
         ensures planned { (s : State V) → AreBooksOf V self.old s → P.words peek.old ≡ s.words → IsPlanned V self.new plan.new.items (RemoveCall key) s (answer.Remove result) }
+        ensures fits { array_vec_len plan.new ≤ 64 }
         ensures shape { self.new.checked ≡ self.old.checked }
         ensures same { P.words peek.new ≡ P.words peek.old }
     {

@@ -14,6 +14,7 @@ use mc_words::Place;
 fn add_take_out(acts: &mut ArrayVec<Act, 64>, key: u64, deed: Deed, place: Place)
     requires room { array_vec_len acts.old + 4 ≤ 64 }
     ensures items { acts.new.items ≡ acts.old.items ++ take_out_acts key deed place }
+    ensures many { array_vec_len acts.new ≡ array_vec_len acts.old + 4 }
 {
     acts.push(Act::Open(key, deed));
     acts.push(Act::Slot(place, 0));
@@ -25,6 +26,7 @@ fn add_take_out(acts: &mut ArrayVec<Act, 64>, key: u64, deed: Deed, place: Place
 pub fn add_remove(acts: &mut ArrayVec<Act, 64>, key: u64, place: Place)
     requires room { array_vec_len acts.old + 4 ≤ 64 }
     ensures items { acts.new.items ≡ acts.old.items ++ remove_acts key place }
+    ensures many { array_vec_len acts.new ≡ array_vec_len acts.old + 4 }
 {
     add_take_out(acts, key, Deed::Remove, place);
 }
@@ -33,6 +35,7 @@ pub fn add_remove(acts: &mut ArrayVec<Act, 64>, key: u64, place: Place)
 pub fn add_evict(acts: &mut ArrayVec<Act, 64>, key: u64, place: Place)
     requires room { array_vec_len acts.old + 4 ≤ 64 }
     ensures items { acts.new.items ≡ acts.old.items ++ evict_acts key place }
+    ensures many { array_vec_len acts.new ≡ array_vec_len acts.old + 4 }
 {
     add_take_out(acts, key, Deed::Evict, place);
 }
