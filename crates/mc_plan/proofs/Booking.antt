@@ -1,5 +1,5 @@
 -- What the books say of the state after a plan, and what the plan's answer means.
-use Rattle.std.proofs.Common.{ℕ, ◌≡◌, ◌≢◌, ◌+◌, ◌*◌, ◌<◌, ◌≤◌, ◌∙◌, inl, inr, List, [], ◌∷◌, ◌++◌, None, Ok, Err, ap, refl, sym, subst, length, arith, length-append}
+use Rattle.std.proofs.Common.{ℕ, ◌≡◌, ◌+◌, ◌*◌, ◌<◌, ◌≤◌, ◌∙◌, inl, inr, List, [], ◌∷◌, ◌++◌, None, Ok, ap, refl, sym, subst, length, arith, length-append}
 use Rattle.std.proofs.lemmas.Bool.{cases_eq}
 use Rattle.mc_words.specs.declared.history.Change.{Change}
 use Rattle.mc_words.specs.declared.history.Change.TheVariants.{Put, Remove}
@@ -7,29 +7,27 @@ use Rattle.mc_words.specs.declared.place.Place.{Place}
 use Rattle.mc_words.specs.declared.shape.Shape.{Shape}
 use Rattle.mc_words.specs.Answers as means
 use Rattle.mc_words.specs.Answers.{PutIsSpent, RemoveIsSpent}
-use Rattle.mc_words.specs.Chains.{IsChain, IsLeastLength, NoChain}
+use Rattle.mc_words.specs.Chains.{IsLeastLength, NoChain}
 use Rattle.mc_words.specs.Checks.{shape_of}
 use Rattle.mc_words.specs.History.{IsWord}
 use Rattle.mc_words.specs.Places.{IsWidth, moment, slot, slot_number, word_count}
 use Rattle.mc_words.specs.Shapes.{IsShape}
 use Rattle.mc_words.specs.Standing.{Names, Stands, IsAbsent, IsFree}
 use Rattle.mc_words.proofs.Count.{full_from_named, room_from_free}
-use Rattle.mc_core.specs.Lists.{AreAllowed}
 use Rattle.mc_core.specs.States.{State, opening}
 use Rattle.mc_core.specs.declared.act.Act.{Act}
 use Rattle.mc_core.specs.declared.act.Act.TheVariants.{Mark}
 use Rattle.mc_plan.specs.declared.answer.Answer.{Answer}
 use Rattle.mc_plan.specs.declared.answer.Answer.TheVariants as answer
 use Rattle.mc_plan.specs.declared.answer.Put.TheVariants as put
-use Rattle.mc_plan.specs.declared.answer.PutError.TheVariants as why
 use Rattle.mc_plan.specs.declared.answer.Remove.TheVariants as remove
 use Rattle.mc_plan.specs.declared.books.Books.{Books}
 use Rattle.mc_plan.specs.declared.free.FreeItems.{FreeItems}
 use Rattle.mc_plan.specs.declared.path.Path.{Path}
-use Rattle.mc_plan.specs.Clerks.{Call, PutCall, RemoveCall, Means, Marks, MarksLast, AreOfDeeds, AreBooksOf, IsPlanned, quiet_of}
+use Rattle.mc_plan.specs.Clerks.{Call, PutCall, RemoveCall, Means, Marks, AreOfDeeds, AreBooksOf, IsPlanned, quiet_of}
 use Rattle.mc_plan.specs.Free.{IsKept, IsFreeIn, Takes, Gives}
 use Rattle.mc_plan.specs.Laws.{IsValue}
-use Rattle.mc_plan.specs.Making.{IsQuiet, Makes, KeepsSlots, made, left}
+use Rattle.mc_plan.specs.Making.{IsQuiet, KeepsSlots, left}
 use Rattle.mc_plan.specs.Moves.{AreKeys}
 use Rattle.mc_plan.specs.Paths.{IsLeastPath}
 use Rattle.mc_plan.specs.Plans.{value_acts, fill_acts, renew_acts, remove_acts, moves_acts, first_place}
@@ -44,7 +42,6 @@ use Rattle.mc_plan.proofs.Removing.{removes}
 use Rattle.mc_plan.proofs.Renewing.{renews}
 use Rattle.mc_plan.proofs.Room.{puts_room}
 use Rattle.mc_plan.proofs.Standing.{placed-quiet}
-use Rattle.mc_plan.proofs.Walks.{Walk}
 
 -- ---- acts of deeds
 deeds_then : (xs ys : List Act) → AreOfDeeds xs → AreOfDeeds ys → AreOfDeeds (xs ++ ys)

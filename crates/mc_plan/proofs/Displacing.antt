@@ -12,7 +12,6 @@ use Rattle.mc_words.specs.Places.{slot_number, slot, item}
 use Rattle.mc_words.specs.Shapes.{IsShape}
 use Rattle.mc_words.specs.Standing.{Names, Stands, Agrees, AgreesAt, IsAbsent, IsFree}
 use Rattle.mc_words.proofs.Frames.{moved_names, empty_names_none}
-use Rattle.mc_core.specs.Phases.{Phase, running}
 use Rattle.mc_core.specs.States.{State}
 use Rattle.mc_plan.specs.Making.{left, IsQuiet, Makes}
 use Rattle.mc_plan.specs.Moves.{CanMove, MovesSlot, AreKeys, HasRoom, MovesMakeRoom}

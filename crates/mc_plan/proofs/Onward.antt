@@ -1,5 +1,5 @@
 -- A planned call, act by act.
-use Rattle.std.proofs.Common.{ℕ, zero, suc, ◌≡◌, ◌+◌, ◌-◌, ◌<◌, ◌≤◌, ◌∙◌, List, [], ◌∷◌, ◌++◌, Option, Some, None, Ok, Err, ap, refl, sym, subst, add-one, get_or, take, length, arith}
+use Rattle.std.proofs.Common.{ℕ, zero, suc, ◌≡◌, ◌+◌, ◌<◌, ◌≤◌, ◌∙◌, List, [], ◌∷◌, ◌++◌, Option, Some, None, Ok, Err, ap, refl, sym, subst, add-one, get_or, take, length, arith}
 use Rattle.std.specs.Borrow.{Bor}
 use Rattle.std.specs.List.{HoldsAt}
 use Rattle.std.specs.Option.{IfSome, MatchOption, option_copied}
@@ -22,7 +22,7 @@ use Rattle.mc_plan.specs.declared.answer.Answer.TheVariants as answer
 use Rattle.mc_plan.specs.declared.clerk.Clerk.{Clerk}
 use Rattle.mc_plan.specs.declared.clerk.Stage.{Stage}
 use Rattle.mc_plan.specs.declared.clerk.Stage.TheVariants.{Idle, Planned}
-use Rattle.mc_plan.specs.Clerks.{Answered, AreBooksOf, Call, PutCall, RemoveCall, IsOfDeed, AreOfDeeds, IsOn, IsPlanned, Knows, Means, Marks, MarksLast, acts_of, next_act, next_in, shape_in}
+use Rattle.mc_plan.specs.Clerks.{Answered, AreBooksOf, Call, PutCall, RemoveCall, IsOfDeed, AreOfDeeds, IsOn, IsPlanned, Knows, Means, Marks, acts_of, next_act, next_in, shape_in}
 use Rattle.mc_plan.specs.Making.{IsQuiet, made, left}
 
 -- ---- the bit of an act that is none of the hand does nothing

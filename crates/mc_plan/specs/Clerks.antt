@@ -1,11 +1,10 @@
 -- What a clerk knows of the table, and what it makes of the table in a call.
-use Rattle.std.specs.Prelude.{ℕ, ◌≡◌, ◌-◌, ◌<◌, ◌≤◌, List, [], ◌∷◌, ◌++◌, map, take, length, slice_get, Option, Some, None, Result, Ok, Err}
+use Rattle.std.specs.Prelude.{ℕ, ◌≡◌, ◌-◌, ◌<◌, ◌≤◌, List, [], ◌∷◌, ◌++◌, map, take, length, slice_get, Option, None, Ok, Err}
 use Rattle.mc_words.specs.declared.shape.Shape.{Shape}
 use Rattle.mc_words.specs.Answers.{Quiet}
 use Rattle.mc_words.specs.Checks.{shape_of}
 use Rattle.mc_words.specs.Places.{IsWidth}
 use Rattle.mc_words.specs.Standing.{Names, Stands, IsFree}
-use Rattle.mc_core.specs.Acts.{IsAllowed}
 use Rattle.mc_core.specs.Lists.{Made, AreAllowed, after_all}
 use Rattle.mc_core.specs.States.{State}
 use Rattle.mc_core.specs.declared.act.Act.{Act}

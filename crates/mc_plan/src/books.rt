@@ -19,6 +19,7 @@ use crate::finder::Finder;
 use crate::finding::find;
 use crate::free::FreeItems;
 use crate::moves::add_moves;
+use crate::no_memory::NoMemory;
 use crate::path::Path;
 use crate::peek::Peek;
 use crate::read::moment;
@@ -27,7 +28,7 @@ use crate::take_out::add_remove;
 use arrayvec::ArrayVec;
 use mc_core::Act;
 use mc_words::Checked;
-use std::alloc::{AllocError, Global};
+use std::alloc::Global;
 
 #[derive(Drop)]
 pub(crate) struct Books {
@@ -46,7 +47,7 @@ impl Books {
     ghost use Rattle.mc_plan.specs.declared.answer.Answer.TheVariants as answer;
 
     /// The books of a new table.
-    pub(crate) fn new(alloc: Global, checked: &Checked) -> Result<Books, AllocError>
+    pub(crate) fn new(alloc: Global, checked: &Checked) -> Result<Books, NoMemory>
         ensures books { IfOk result (λ books. (V : ℕ) → IsWidth V → AreBooksOf V books (opening V (shape_of checked.now))) }
         ensures shape { IfOk result (λ books. books.checked ≡ checked.now) }
     {

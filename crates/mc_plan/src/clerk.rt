@@ -9,17 +9,12 @@ ghost use Rattle.mc_core.specs.Worlds.{HasChanges};
 
 use crate::answer::Answer;
 use crate::books::Books;
+use crate::no_memory::NoMemory;
 use crate::peek::Peek;
 use arrayvec::ArrayVec;
 use mc_core::Act;
 use mc_words::Checked;
 use std::alloc::Global;
-use thiserror::Error;
-
-/// There was no memory for the clerk.
-#[derive(Clone, Copy, Debug, PartialEq, Eq, Error)]
-#[error("no memory")]
-pub struct NoMemory;
 
 /// How far a clerk is.
 #[derive(Clone, Copy, Debug, PartialEq, Eq)]
@@ -50,15 +45,13 @@ impl<const V: usize> Clerk<V> {
         ensures knows { IfOk result (λ clerk. Knows V clerk (opening V (shape_of checked.now))) }
         ensures shape { IfOk result (λ clerk. shape_in clerk ≡ shape_of checked.now) }
     {
-        match Books::new(alloc, checked) {
-            Ok(books) => Ok(Clerk {
-                books,
-                stage: Stage::Idle,
-                plan: ArrayVec::new(),
-                made: 0,
-            }),
-            Err(_) => Err(NoMemory),
-        }
+        let books = Books::new(alloc, checked)?;
+        Ok(Clerk {
+            books,
+            stage: Stage::Idle,
+            plan: ArrayVec::new(),
+            made: 0,
+        })
     }
 
     /// Starts a put.

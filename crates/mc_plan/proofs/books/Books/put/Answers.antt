@@ -1,4 +1,4 @@
-use Rattle.std.proofs.Common.{ℕ, List, [], ◌∷◌, ◌++◌, Err, Ok, ◌≡◌, ◌+◌, ◌*◌, ◌<◌, ◌∙◌, ap, arith, refl, sym, subst, rules}
+use Rattle.std.proofs.Common.{ℕ, List, [], ◌∷◌, ◌++◌, Err, Ok, ◌≡◌, ◌+◌, ◌∙◌, ap, arith, refl, sym, subst, rules}
 use Rattle.std.proofs.lemmas.Bool.{false≢true}
 use Rattle.mc_words.specs.declared.shape.Shape.{Shape}
 use Rattle.mc_words.specs.Answers.{PutIsSpent}

@@ -1,4 +1,4 @@
-use Rattle.std.proofs.Common.{ℕ, List, [], Ok, ◌≡◌, ◌+◌, ◌∙◌, ap, arith, refl, sym, subst}
+use Rattle.std.proofs.Common.{ℕ, List, [], Ok, ◌+◌, ◌∙◌, ap, arith, sym, subst}
 use Rattle.std.proofs.lemmas.Bool.{false≢true}
 use Rattle.mc_words.specs.Answers.{RemoveIsSpent}
 use Rattle.mc_words.specs.Checks.{shape_of}

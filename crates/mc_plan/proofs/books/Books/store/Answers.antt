@@ -1,4 +1,4 @@
-use Rattle.std.proofs.Common.{ℕ, List, [], ◌∷◌, ◌++◌, None, Ok, Err, ◌≡◌, ◌+◌, ◌*◌, ◌∙◌, ap, arith, length, refl, sym, subst, rules}
+use Rattle.std.proofs.Common.{ℕ, List, [], ◌∷◌, ◌++◌, None, Ok, Err, ◌≡◌, ◌+◌, ◌*◌, ◌∙◌, ap, arith, length, sym, subst, rules}
 use Rattle.mc_words.specs.Chains.{IsChain}
 use Rattle.mc_words.specs.Checks.{shape_of}
 use Rattle.mc_words.specs.declared.shape.Shape.{Shape}

@@ -2,8 +2,7 @@ use Rattle.std.proofs.Common.{Option, Some, None, ◌≡◌, ◌∙◌, false, r
 use Rattle.std.proofs.lemmas.Bool.{false≢true}
 use Rattle.std.specs.Option.{is_some}
 use Rattle.mc_core.specs.declared.act.Act.{Act}
-use Rattle.mc_plan.specs.declared.clerk.Stage.{Stage}
-use Rattle.mc_plan.specs.Clerks.{IsRunning, Runs, next_act}
+use Rattle.mc_plan.specs.Clerks.{IsRunning, Runs}
 use Rattle.mc_plan.proofs.Onward.{whole_call}
 use Rattle.mc_plan.proofs.clerk.Clerk.answer.Goals as goal
 

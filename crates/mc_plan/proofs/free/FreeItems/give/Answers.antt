@@ -1,4 +1,4 @@
-use Rattle.std.proofs.Common.{◌∙◌, arith, refl}
+use Rattle.std.proofs.Common.{arith, refl}
 use Rattle.std.proofs.lemmas.Bool.{false≢true}
 use Rattle.mc_plan.proofs.Freeing.{gives_room, given_kept, given_gives}
 use Rattle.mc_plan.proofs.free.FreeItems.give.Goals as goal

@@ -1,4 +1,4 @@
-use Rattle.std.proofs.Common.{◌∙◌, arith, refl}
+use Rattle.std.proofs.Common.{arith, refl}
 use Rattle.mc_plan.specs.Free.{Fresh}
 use Rattle.mc_plan.proofs.Freeing.{new_kept}
 use Rattle.mc_plan.proofs.free.FreeItems.new.Goals as goal
