@@ -22,7 +22,7 @@ use crate::moves::add_moves;
 use crate::no_memory::NoMemory;
 use crate::path::Path;
 use crate::peek::Peek;
-use crate::read::moment;
+use crate::reading::moment;
 use crate::renew::add_renew;
 use crate::take_out::add_remove;
 use arrayvec::ArrayVec;
@@ -71,6 +71,18 @@ impl Books {
         changes > limit || self.changes > limit - changes
     }
 
+    /// Ends the plan of a put: its item is marked, and its version changes are counted.
+    fn end(&mut self, plan: &mut ArrayVec<Act, 64>, item: u32, changes: u64)
+        requires plan { array_vec_len plan.old < 64 }
+        requires room { self.old.changes + changes < 2 ^ 64 }
+        ensures plan { plan.new.items ≡ plan.old.items ++ act.Mark item ∷ [] }
+        ensures many { array_vec_len plan.new ≡ array_vec_len plan.old + 1 }
+        ensures books { self.new ≡ record self.old { changes = self.old.changes + changes } }
+    {
+        plan.push(Act::Mark(item));
+        self.changes += changes;
+    }
+
     /// Plans a new value of the key that stands at the item.
     fn renew<const V: usize>(
         &mut self,
@@ -88,8 +100,7 @@ impl Books {
         ensures books { self.new ≡ record self.old { changes = self.old.changes + 2 } }
     {
         add_renew(plan, key, value, item);
-        plan.push(Act::Mark(item));
-        self.changes += 2;
+        self.end(plan, item, 2);
     }
 
     /// Plans the moves of the path, and then the fill of its first place.
@@ -119,8 +130,7 @@ impl Books {
     {
         add_moves::<V, P>(&self.checked, peek, plan, path);
         add_fill(&self.checked, plan, key, value, item, path.first());
-        plan.push(Act::Mark(item));
-        self.changes += 2 * path.places.len() as u64 + 2;
+        self.end(plan, item, 2 * path.places.len() as u64 + 2);
     }
 
     /// Plans the put of a key that is not there.

@@ -17,7 +17,7 @@ mod no_memory;
 mod path;
 mod peek;
 mod queue;
-mod read;
+mod reading;
 mod renew;
 mod search;
 mod take_out;
@@ -32,7 +32,7 @@ pub use moves::{add_move, add_moves, plan_moves};
 pub use no_memory::NoMemory;
 pub use path::Path;
 pub use peek::Peek;
-pub use read::moment;
+pub use reading::{moment, read};
 pub use renew::{add_renew, plan_renew};
 pub use take_out::{add_evict, add_remove, plan_evict, plan_remove};
 
