@@ -19,3 +19,4 @@ pub mod Room
 pub mod Freeing
 pub mod Booking
 pub mod Onward
+pub mod Driving

@@ -10,3 +10,4 @@ pub mod Laws
 pub mod Calls
 pub mod Free
 pub mod Clerks
+pub mod Desks

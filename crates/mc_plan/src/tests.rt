@@ -1,3 +1,4 @@
+mod clerk;
 mod finding;
 mod paths;
 mod table;
