@@ -20,3 +20,4 @@ pub mod Freeing
 pub mod Booking
 pub mod Onward
 pub mod Driving
+pub mod Circling

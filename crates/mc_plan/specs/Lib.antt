@@ -7,6 +7,7 @@ pub mod Making
 pub mod Moves
 pub mod Puts
 pub mod Laws
+pub mod Sweeps
 pub mod Calls
 pub mod Free
 pub mod Clerks

@@ -20,6 +20,7 @@ mod queue;
 mod reading;
 mod renew;
 mod search;
+mod sweep;
 mod take_out;
 mod value;
 
@@ -34,6 +35,7 @@ pub use path::Path;
 pub use peek::Peek;
 pub use reading::{moment, read};
 pub use renew::{add_renew, plan_renew};
+pub use sweep::Sweep;
 pub use take_out::{add_evict, add_remove, plan_evict, plan_remove};
 
 #[cfg(test)]
