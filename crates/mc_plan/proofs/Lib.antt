@@ -21,3 +21,4 @@ pub mod Booking
 pub mod Onward
 pub mod Driving
 pub mod Circling
+pub mod Cutting
