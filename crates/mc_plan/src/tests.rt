@@ -1,4 +1,5 @@
 mod clerk;
 mod finding;
 mod paths;
+mod sweep;
 mod table;
