@@ -107,6 +107,7 @@ impl<const V: usize> Clerk<V> {
     /// Takes the answer, once no act is left. The call ends with it.
     pub fn answer(&mut self) -> Option<Answer>
         ensures some { IsSome result ↔ (IsRunning self.old × (next_act self.old ≡ None)) }
+        ensures due { (call : Call) (s : State V) (acts : List Made) → IsOn V self.old call s acts → next_act self.old ≡ None → IsSome result }
         ensures told { IfSome result (λ told. (call : Call) (s : State V) (acts : List Made) → IsOn V self.old call s acts → Answered V (shape_in self.old) call s acts told × Knows V self.new (after_all (shape_in self.old) s acts)) }
         ensures none { IfNone result (self.new ≡ self.old) }
         ensures shape { shape_in self.new ≡ shape_in self.old }
