@@ -1,5 +1,5 @@
 -- The moves of a path, from its end backwards, make room where it begins.
-use Rattle.std.proofs.Common.{ℕ, ◌≡◌, ◌≢◌, ◌+◌, ◌*◌, ◌/◌, ◌^◌, ◌<◌, ◌≤◌, ◌∙◌, List, [], ◌∷◌, ◌++◌, map, Option, Some, None, Bool, false, ap, refl, sym, subst, length, arith, inl, inr, append-nil}
+use Rattle.std.proofs.Common.{ℕ, ◌≡◌, ◌≢◌, ◌+◌, ◌*◌, ◌/◌, ◌^◌, ◌<◌, ◌∙◌, List, [], ◌∷◌, map, Option, Some, None, false, ap, refl, sym, subst, length, arith, inl, inr, append-nil}
 use Rattle.std.specs.Prelude.{eqb}
 use Rattle.std.specs.List.{IsDistinct, AllByRecursion}
 use Rattle.std.proofs.lemmas.Bool.{cases_eq, eqb-false}
@@ -12,14 +12,12 @@ use Rattle.mc_words.specs.Places.{slot_number, slot, item}
 use Rattle.mc_words.specs.Shapes.{IsShape}
 use Rattle.mc_words.specs.Standing.{Names, Stands, Agrees, AgreesAt, IsAbsent, IsFree}
 use Rattle.mc_words.proofs.Frames.{moved_names, empty_names_none}
-use Rattle.mc_core.specs.Phases.{Phase, running}
 use Rattle.mc_core.specs.States.{State}
-use Rattle.mc_core.specs.declared.act.Act.{Act}
 use Rattle.mc_plan.specs.Making.{left, IsQuiet, Makes}
 use Rattle.mc_plan.specs.Moves.{CanMove, MovesSlot, AreKeys, HasRoom, MovesMakeRoom}
 use Rattle.mc_plan.specs.Plans.{item_in, key_named, first_place, move_acts, moves_acts}
 use Rattle.mc_plan.proofs.Moving.{moves}
-use Rattle.mc_plan.proofs.Quiets.{makes_from_walk}
+use Rattle.mc_plan.proofs.Quiets.{agrees_quiet, makes_from_walk}
 use Rattle.mc_plan.proofs.Walks.{Walk, walk_none, walk_then}
 
 -- the bucket is none of those that the path goes through
@@ -39,6 +37,7 @@ record Cleared (V : ℕ) (sh : Shape) (s : State V) (ps : List Place) (hole : Pl
   off : (q : ℕ) → q < 4 * sh.buckets → OffPath (q / 4) ps hole → slot sh t.words q ≡ slot sh s.words q
   items : (i j : ℕ) → item V sh t.words i j ≡ item V sh s.words i j
   free : (i : ℕ) → IsFree sh s.words i → IsFree sh t.words i
+  named : (q i : ℕ) → Names sh s.words q i → (p : ℕ) × Names sh t.words p i
 
 -- a path begins in the bucket from which it leads
 first_bucket : (sh : Shape) (w : List ℕ) (b : ℕ) (ps : List Place) (hole : Place) → Leads sh w b ps hole → (first_place ps hole).bucket ≡ b
@@ -87,9 +86,6 @@ tagged_at V sh w k q i (Some v) a stands =
     let is = a.2.once q i stands in
     ap (slot sh w) is.0 ∙ a.2.tagged ∙ ap (λ (y : ℕ). slot_word (tag_of sh k) y) (sym is.1)
 
-agrees_quiet : (V : ℕ) (sh : Shape) (s : State V) → IsQuiet V sh s → Agrees V sh s.words None s.history
-agrees_quiet V sh s quiet = subst (λ (p : Phase). Agrees V sh s.words (running p) s.history) quiet.quiet quiet.holds.agrees
-
 tenant : (V : ℕ) (sh : Shape) (s : State V) (p : Place) → IsShape sh → IsQuiet V sh s → IsOccupied sh s.words p → Tenant V sh s.words p
 tenant V sh s p shape quiet taken =
     let w = s.words in
@@ -120,6 +116,7 @@ cleared_none V sh s hole quiet empty = record {
   off = λ q l off. refl;
   items = λ i j. refl;
   free = λ i f. f;
+  named = λ q i n. (q, n);
 }
 
 -- a move leaves free items free
@@ -130,6 +127,17 @@ moved_free V sh w x from to i below m free o n =
       | inr ne ↦ elim (cases_eq o from) [
         | inl e ↦ empty_names_none sh x o i (ap (slot sh x) e ∙ m.here) n
         | inr apart ↦ free o (moved_names sh x w o i (sym (m.others o n.in_table apart ne)) n)
+      ]
+    ]
+
+-- and named items named
+moved_named : (V : ℕ) (sh : Shape) (w x : List ℕ) (from to i : ℕ) → to < 4 * sh.buckets → slot sh w to ≡ 0 → MovesSlot V sh w x from to → (o : ℕ) → Names sh w o i → (p : ℕ) × Names sh x p i
+moved_named V sh w x from to i below empty m o n =
+    elim (cases_eq o from) [
+      | inl e ↦ (to, record { tag = n.tag; in_table = below; in_items = n.in_items; is_tag = n.is_tag; word = m.there ∙ ap (slot sh w) (sym e) ∙ n.word })
+      | inr ne ↦ elim (cases_eq o to) [
+        | inl e ↦ absurd (empty_names_none sh w o i (ap (slot sh w) e ∙ empty) n)
+        | inr apart ↦ (o, moved_names sh w x o i (m.others o n.in_table ne apart) n)
       ]
     ]
 
@@ -173,6 +181,9 @@ cleared_step V sh s p ps hole shape quiet taken leads apart key c =
           one.2.others o l (λ e. off.0 (ap (λ (y : ℕ). y / 4) e ∙ row)) (λ e. off_first (o / 4) ps hole off.1 (ap (λ (y : ℕ). y / 4) e ∙ last)) ∙ c.off o l off.1;
       items = λ i j. one.2.items i j ∙ c.items i j;
       free = λ i f. moved_free V sh c.t.words _ q (slot_number to) i below one.2 (c.free i f);
+      named = λ o i n.
+          let there = c.named o i n in
+          moved_named V sh c.t.words _ q (slot_number to) i (omega (arith, c.empty.0.in_table, c.empty.0.in_bucket)) c.empty.1 one.2 there.0 there.1;
     }
 
 cleared : (V : ℕ) (sh : Shape) (s : State V) (b : ℕ) (ps : List Place) (hole : Place) → IsShape sh → IsQuiet V sh s → Leads sh s.words b ps hole → IsDistinct eqb (hole.bucket ∷ map (λ (p : Place). p.bucket) ps) → AreKeys V sh s.words ps → Cleared V sh s ps hole
@@ -190,8 +201,9 @@ absent_on V sh w x k (Some v) before later absent = absurd (absent before.0 befo
 chain_leads : (V : ℕ) (sh : Shape) (s : State V) (k : ℕ) (ps : List Place) (hole : Place) → IsChain sh s.words k ps hole → (b : ℕ) × IsBucketOf sh k b × Leads sh s.words b ps hole
 chain_leads V sh s k ps hole chain = elim chain.leads [ inl l ↦ (first_of sh k, inl refl, l) | inr l ↦ (second_of sh k, inr refl, l) ]
 
-pub room_made : (V : ℕ) → MovesMakeRoom V
-room_made V sh s k ps hole shape quiet chain keys =
+room_from : (V : ℕ) (sh : Shape) (s : State V) (k : ℕ) (ps : List Place) (hole : Place) → IsShape sh → IsQuiet V sh s → IsChain sh s.words k ps hole → AreKeys V sh s.words ps
+    → Makes V sh s (moves_acts V sh s.words ps hole) [] (2 * length ps) × HasRoom V sh s.words (left V sh s (moves_acts V sh s.words ps hole)).words k (first_place ps hole)
+room_from V sh s k ps hole shape quiet chain keys =
     let from = chain_leads V sh s k ps hole chain in
     let c = cleared V sh s from.0 ps hole shape quiet from.2 chain.distinct keys in
     let acts = moves_acts V sh s.words ps hole in
@@ -201,7 +213,13 @@ room_made V sh s k ps hole shape quiet chain keys =
       bucket = subst (λ (b : ℕ). IsBucketOf sh k b) (sym (first_bucket sh s.words from.0 ps hole from.2)) from.1;
       absent = absent_on V sh s.words c.t.words k (held s.history k) ((agrees_quiet V sh s quiet).keys k (λ e. cc)) (after.keys k (λ e. cc));
       free = c.free;
+      named = c.named;
     } in (
       makes_from_walk V sh s c.t acts [] (2 * length ps) shape quiet c.walk c.quiet.quiet (c.history ∙ sym (append-nil s.history)) c.changes c.hand,
       subst (λ (x : State V). HasRoom V sh s.words x.words k (first_place ps hole)) (sym c.walk.leads) room,
     )
+
+pub room_made : (V : ℕ) → MovesMakeRoom V
+room_made V sh w ps hole shape keys k chain s quiet same =
+    let acts = λ (x : List ℕ). moves_acts V sh x ps hole in
+    subst (λ (x : List ℕ). IsChain sh x k ps hole → AreKeys V sh x ps → Makes V sh s (acts x) [] (2 * length ps) × HasRoom V sh x (left V sh s (acts x)).words k (first_place ps hole)) same (room_from V sh s k ps hole shape quiet) chain keys

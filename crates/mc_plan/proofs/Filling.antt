@@ -1,23 +1,22 @@
 -- A fill is allowed act by act, and puts its key.
-use Rattle.std.proofs.Common.{ℕ, zero, suc, ◌≡◌, ◌≢◌, ◌+◌, ◌*◌, ◌^◌, ◌<◌, ◌≤◌, ◌∙◌, List, [], ◌∷◌, ◌++◌, Option, None, All, take, take_all, ap, refl, sym, subst, length, arith, append_assoc, append-nil, length-append}
+use Rattle.std.proofs.Common.{ℕ, zero, suc, ◌≡◌, ◌+◌, ◌*◌, ◌^◌, ◌<◌, ◌≤◌, ◌∙◌, List, [], ◌∷◌, ◌++◌, Option, None, All, take, take_all, refl, sym, subst, length, arith, append_assoc, append-nil, length-append}
 use Rattle.mc_words.specs.declared.history.Change.{Change}
 use Rattle.mc_words.specs.declared.history.Change.TheVariants.{Put}
 use Rattle.mc_words.specs.declared.place.Place.{Place}
 use Rattle.mc_words.specs.declared.shape.Shape.{Shape}
 use Rattle.mc_words.specs.Keys.{tag_of, slot_word}
-use Rattle.mc_words.specs.Places.{payload, slot_number, slot, item, word_count, with_item, with_slot}
+use Rattle.mc_words.specs.Places.{payload, slot_number, slot, word_count, with_item, with_slot}
 use Rattle.mc_words.specs.Shapes.{IsShape}
 use Rattle.mc_words.specs.Standing.{Stands, IsFree}
 use Rattle.mc_words.proofs.Frames.{moved_names}
 use Rattle.mc_words.proofs.Keys.{tag_of-lt}
 use Rattle.mc_words.proofs.Places.{slot-with_item, slot-with_slot_same, slot-with_slot_other, item-with_item_same, item-with_slot, length-with_item}
 use Rattle.mc_core.specs.Effects.{bumped}
-use Rattle.mc_core.specs.Phases.{Quiet, Filling, Keyed, Placed, Closing}
+use Rattle.mc_core.specs.Phases.{Quiet, Keyed}
 use Rattle.mc_core.specs.States.{State}
-use Rattle.mc_core.specs.declared.act.Act.{Act}
 use Rattle.mc_core.specs.declared.act.Act.TheVariants.{Open, Slot, Item, Moment, Close}
 use Rattle.mc_core.specs.declared.act.Deed.TheVariants as deed
-use Rattle.mc_plan.specs.Making.{left, IsQuiet, Makes, SetsSlot, CanFill, Fills}
+use Rattle.mc_plan.specs.Making.{left, Makes, SetsSlot, CanFill, Fills}
 use Rattle.mc_plan.specs.Plans.{value_acts, fill_acts}
 use Rattle.mc_plan.proofs.Quiets.{state, at_quiet, makes_from_walk}
 use Rattle.mc_plan.proofs.Slots.{valued, ended, slot-bumped, slot-valued, slot-ended, item-ended, key-valued, length-bumped, length-valued}

@@ -14,3 +14,11 @@ pub mod Renewing
 pub mod Removing
 pub mod Moving
 pub mod Displacing
+pub mod Naming
+pub mod Room
+pub mod Freeing
+pub mod Booking
+pub mod Onward
+pub mod Driving
+pub mod Circling
+pub mod Cutting

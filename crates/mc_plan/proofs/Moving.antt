@@ -1,12 +1,12 @@
 -- A move is allowed act by act: its key stands in the new slot, and in no other.
-use Rattle.std.proofs.Common.{ℕ, ◌≡◌, ◌≢◌, ◌+◌, ◌*◌, ◌/◌, ◌^◌, ◌<◌, ◌≤◌, ◌∙◌, List, [], ◌∷◌, ◌++◌, Option, None, ap, refl, sym, subst, length, arith, append-nil}
+use Rattle.std.proofs.Common.{ℕ, ◌≡◌, ◌≢◌, ◌+◌, ◌*◌, ◌/◌, ◌^◌, ◌<◌, ◌≤◌, ◌∙◌, List, [], Option, None, ap, refl, sym, subst, length, arith, append-nil}
 use Rattle.mc_words.specs.declared.history.Change.{Change}
 use Rattle.mc_words.specs.declared.place.Place.{Place}
 use Rattle.mc_words.specs.declared.shape.Shape.{Shape}
 use Rattle.mc_words.specs.Keys.{tag_of, alternate}
 use Rattle.mc_words.specs.Places.{slot_number, slot, item, word_count, with_slot}
 use Rattle.mc_words.specs.Shapes.{IsShape}
-use Rattle.mc_words.specs.Standing.{Names, Stands}
+use Rattle.mc_words.specs.Standing.{Stands}
 use Rattle.mc_words.proofs.Frames.{empty_names_none, moved_names}
 use Rattle.mc_words.proofs.Places.{slot-with_slot_same, slot-with_slot_other, item-with_slot, length-with_slot}
 use Rattle.mc_core.specs.Effects.{bumped}
@@ -14,7 +14,7 @@ use Rattle.mc_core.specs.Phases.{Quiet}
 use Rattle.mc_core.specs.States.{State}
 use Rattle.mc_core.specs.declared.act.Act.TheVariants.{Open, Slot, Close}
 use Rattle.mc_core.specs.declared.act.Deed.TheVariants as deed
-use Rattle.mc_plan.specs.Making.{left, IsQuiet, Makes}
+use Rattle.mc_plan.specs.Making.{left, Makes}
 use Rattle.mc_plan.specs.Moves.{CanMove, MovesSlot, Moves}
 use Rattle.mc_plan.specs.Plans.{move_acts}
 use Rattle.mc_plan.proofs.Quiets.{state, at_quiet, makes_from_walk}

@@ -1,12 +1,12 @@
 -- A removal and an eviction are allowed act by act, and take their key out.
-use Rattle.std.proofs.Common.{ℕ, ◌≡◌, ◌≢◌, ◌+◌, ◌*◌, ◌^◌, ◌<◌, ◌≤◌, ◌∙◌, List, [], ◌∷◌, ◌++◌, Bool, true, false, Option, Some, None, refl, sym, subst, length, arith, inl, inr}
+use Rattle.std.proofs.Common.{ℕ, ◌≡◌, ◌+◌, ◌*◌, ◌^◌, ◌<◌, ◌≤◌, ◌∙◌, List, [], ◌∷◌, ◌++◌, Bool, true, false, Option, Some, None, refl, sym, subst, length, arith, inl, inr}
 use Rattle.std.proofs.lemmas.Bool.{cases_eq}
 use Rattle.mc_words.specs.declared.history.Change.{Change}
 use Rattle.mc_words.specs.declared.history.Change.TheVariants.{Remove, Evict}
 use Rattle.mc_words.specs.declared.place.Place.{Place}
 use Rattle.mc_words.specs.declared.shape.Shape.{Shape}
 use Rattle.mc_words.specs.History.{held}
-use Rattle.mc_words.specs.Places.{slot_number, slot, item, word_count, with_slot}
+use Rattle.mc_words.specs.Places.{slot_number, slot, word_count, with_slot}
 use Rattle.mc_words.specs.Shapes.{IsShape}
 use Rattle.mc_words.specs.Standing.{Names, Stands, Agrees, AgreesAt, IsFree}
 use Rattle.mc_words.proofs.Frames.{empty_names_none, moved_names}
@@ -14,10 +14,9 @@ use Rattle.mc_words.proofs.Places.{slot-with_slot_same, slot-with_slot_other}
 use Rattle.mc_core.specs.Effects.{bumped, taken_out}
 use Rattle.mc_core.specs.Phases.{Quiet, Removing}
 use Rattle.mc_core.specs.States.{State}
-use Rattle.mc_core.specs.declared.act.Act.{Act}
 use Rattle.mc_core.specs.declared.act.Act.TheVariants.{Open, Slot, Moment, Close}
 use Rattle.mc_core.specs.declared.act.Deed.TheVariants as deed
-use Rattle.mc_plan.specs.Making.{left, IsQuiet, Makes, SetsSlot, Removes, Evicts}
+use Rattle.mc_plan.specs.Making.{left, Makes, SetsSlot, Removes, Evicts}
 use Rattle.mc_plan.specs.Plans.{remove_acts, evict_acts}
 use Rattle.mc_plan.proofs.Quiets.{state, at_quiet, makes_from_walk}
 use Rattle.mc_plan.proofs.Renewing.{stands_bumped}

@@ -1,10 +1,10 @@
 -- A renewal is allowed act by act, and puts the new value.
-use Rattle.std.proofs.Common.{ℕ, zero, suc, ◌≡◌, ◌+◌, ◌*◌, ◌^◌, ◌<◌, ◌≤◌, ◌∙◌, List, [], ◌∷◌, ◌++◌, Option, None, All, take, refl, sym, subst, length, arith, append_assoc, append-nil, length-append}
+use Rattle.std.proofs.Common.{ℕ, zero, suc, ◌≡◌, ◌+◌, ◌^◌, ◌<◌, ◌≤◌, ◌∙◌, List, [], ◌∷◌, ◌++◌, Option, None, All, take, refl, sym, subst, length, arith, append_assoc, append-nil, length-append}
 use Rattle.mc_words.specs.declared.history.Change.{Change}
 use Rattle.mc_words.specs.declared.history.Change.TheVariants.{Put}
 use Rattle.mc_words.specs.declared.shape.Shape.{Shape}
 use Rattle.mc_words.specs.Keys.{stripe_of}
-use Rattle.mc_words.specs.Places.{payload, slot, item, with_item}
+use Rattle.mc_words.specs.Places.{payload, with_item}
 use Rattle.mc_words.specs.Shapes.{IsShape}
 use Rattle.mc_words.specs.Standing.{Stands}
 use Rattle.mc_words.proofs.Frames.{moved_names, stands_on, same-with_version}
@@ -13,10 +13,9 @@ use Rattle.mc_words.proofs.Places.{slot-with_item, item-with_item_word}
 use Rattle.mc_core.specs.Effects.{bumped}
 use Rattle.mc_core.specs.Phases.{Quiet, Renewing}
 use Rattle.mc_core.specs.States.{State}
-use Rattle.mc_core.specs.declared.act.Act.{Act}
 use Rattle.mc_core.specs.declared.act.Act.TheVariants.{Open, Item, Moment, Close}
 use Rattle.mc_core.specs.declared.act.Deed.TheVariants as deed
-use Rattle.mc_plan.specs.Making.{left, IsQuiet, Makes, KeepsSlots, Renews}
+use Rattle.mc_plan.specs.Making.{left, Makes, KeepsSlots, Renews}
 use Rattle.mc_plan.specs.Plans.{value_acts, renew_acts}
 use Rattle.mc_plan.proofs.Filling.{take_payload}
 use Rattle.mc_plan.proofs.Quiets.{state, at_quiet, makes_from_walk}

@@ -1,12 +1,11 @@
 -- What the acts of a plan leave of the slots and of the items.
-use Rattle.std.proofs.Common.{ℕ, ◌≡◌, ◌≢◌, ◌+◌, ◌*◌, ◌<◌, ◌≤◌, ◌∙◌, List, [], ◌∷◌, length, refl, sym, arith}
-use Rattle.mc_words.specs.declared.place.Place.{Place}
+use Rattle.std.proofs.Common.{ℕ, ◌≡◌, ◌+◌, ◌*◌, ◌<◌, ◌∙◌, List, [], ◌∷◌, length, refl, arith}
 use Rattle.mc_words.specs.declared.shape.Shape.{Shape}
 use Rattle.mc_words.specs.Keys.{stripe_of}
-use Rattle.mc_words.specs.Places.{payload, slot, item, moment, word_count, with_item, with_moment, with_slot}
+use Rattle.mc_words.specs.Places.{slot, item, moment, with_item, with_moment}
 use Rattle.mc_words.specs.Shapes.{IsShape}
 use Rattle.mc_words.proofs.Keys.{stripe_of-lt}
-use Rattle.mc_words.proofs.Places.{slot-with_version, slot-with_item, slot-with_moment, item-with_version, item-with_moment, item-with_item_word, item-with_slot, length-with_version, length-with_item}
+use Rattle.mc_words.proofs.Places.{slot-with_version, slot-with_item, slot-with_moment, item-with_version, item-with_moment, item-with_item_word, length-with_version, length-with_item}
 use Rattle.mc_core.specs.Effects.{bumped}
 
 -- the words of an item from word j on are these

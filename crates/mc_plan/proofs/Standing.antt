@@ -4,7 +4,8 @@ use Rattle.mc_words.specs.declared.shape.Shape.{Shape}
 use Rattle.mc_words.specs.Keys.{tag_of, slot_word, first_of, second_of, IsBucketOf}
 use Rattle.mc_words.specs.Places.{slot, item}
 use Rattle.mc_words.specs.Shapes.{IsShape}
-use Rattle.mc_words.specs.Standing.{IsAbsent, AgreesAt, Agrees}
+use Rattle.std.proofs.lemmas.Grind.{same_number_lists}
+use Rattle.mc_words.specs.Standing.{Stands, HasValue, IsAbsent, AgreesAt, Agrees}
 use Rattle.mc_words.specs.History.{held}
 use Rattle.mc_words.specs.declared.history.Change.{Change}
 use Rattle.mc_words.proofs.Frames.{slot_word-parts}
@@ -44,3 +45,14 @@ placed-agrees V sh w k (Some v) a q i s =
 -- where the words agree with a history and no deed runs, every key is found
 pub placed-quiet : (V : ℕ) (sh : Shape) (w : List ℕ) (h : List (Change V)) (k : ℕ) → Agrees V sh w None h → IsPlaced V sh w k
 placed-quiet V sh w h k a = placed-agrees V sh w k (held h k) (a.keys k (λ e. cc))
+
+-- ---- the value of a key that stands
+value_is : (V : ℕ) (sh : Shape) (w : List ℕ) (i : ℕ) (v x : List ℕ) → HasValue V sh w i v → HasValue V sh w i x → x ≡ v
+value_is V sh w i v x a b =
+    same_number_lists x v (b.0 ∙ sym a.0) (λ j l. sym (b.1 j l) ∙ a.1 j (omega (arith, a.0, b.0, l)))
+
+pub held_value : (V : ℕ) (sh : Shape) (w : List ℕ) (k q i : ℕ) (v : List ℕ) (o : Option (List ℕ)) → AgreesAt V sh w k o → Stands V sh w k q i → HasValue V sh w i v → o ≡ Some v
+held_value V sh w k q i v None a stands value = absurd (a q i stands)
+held_value V sh w k q i v (Some x) a stands value =
+    let same : i ≡ a.1 = (a.2.once q i stands).1 in
+    ap Some (value_is V sh w a.1 v x (rw same at value) a.3)

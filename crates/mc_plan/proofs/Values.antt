@@ -1,6 +1,9 @@
 -- The writes of a value, one after the other.
-use Rattle.std.proofs.Common.{ℕ, ◌≡◌, ◌+◌, ◌<◌, ◌≤◌, ◌∙◌, List, [], ◌∷◌, ◌++◌, ap, drop, get_or, length, append_assoc, append-nil, add-one, drop-cons, sym}
+use Rattle.std.proofs.Common.{ℕ, ◌≡◌, ◌+◌, ◌^◌, ◌<◌, ◌≤◌, ◌∙◌, All, List, [], ◌∷◌, ◌++◌, ap, drop, get_or, length, append_assoc, append-nil, add-one, drop-cons, sym}
 use Rattle.std.proofs.Math.ListN.{drop_of_length-le}
+use Rattle.std.proofs.lemmas.Grind.{get_or_default_zero}
+use Rattle.mc_words.specs.History.{IsWord}
+use Rattle.mc_words.specs.Places.{payload}
 use Rattle.mc_core.specs.declared.act.Act.{Act}
 use Rattle.mc_core.specs.declared.act.Act.TheVariants.{Item}
 use Rattle.mc_plan.specs.Plans.{value_acts}
@@ -15,3 +18,16 @@ value_step acts i j x v l is =
 -- no write is left
 pub values_done : (acts all : List Act) (i j n : ℕ) (v : List ℕ) → length v ≤ n → acts ++ value_acts i j (drop n v) ≡ all → acts ≡ all
 values_done acts all i j n v l left = sym (append-nil acts) ∙ ap (λ (rest : List ℕ). acts ++ value_acts i j rest) (sym (drop_of_length-le v l)) ∙ left
+
+-- numbers that each fit 64 bits are words
+pub are_words : (v : List ℕ) → ((i : ℕ) → get_or v i 0 < 2 ^ 64) → All IsWord v
+are_words v each k d l = rw get_or_default_zero (each k)
+
+-- a value has as many words as an item keeps after its key
+pub payload_of : (V : ℕ) (v : List ℕ) → length v ≡ V → length v ≡ payload V
+unfolding payload
+payload_of V v e = e
+
+-- acts added to none are the plan
+pub plan_is : (acts before plan : List Act) → acts ≡ before ++ plan → before ≡ [] → acts ≡ plan
+plan_is acts before plan added none = added ∙ ap (λ (b : List Act). b ++ plan) none

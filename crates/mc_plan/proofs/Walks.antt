@@ -1,11 +1,11 @@
 -- Acts that are allowed one after the other, and the state that they lead to.
-use Rattle.std.proofs.Common.{ℕ, ◌≡◌, ◌+◌, ◌∙◌, List, [], ◌∷◌, ◌++◌, refl, sym, subst, length}
+use Rattle.std.proofs.Common.{ℕ, ◌≡◌, List, [], ◌∷◌, ◌++◌, refl, sym, subst}
 use Rattle.mc_words.specs.declared.shape.Shape.{Shape}
 use Rattle.mc_words.specs.Shapes.{IsShape}
 use Rattle.mc_core.specs.Acts.{IsAllowed}
 use Rattle.mc_core.specs.Effects.{after_act}
 use Rattle.mc_core.specs.Inner.{StateHolds, StateCounted}
-use Rattle.mc_core.specs.Lists.{AreAllowed, after_all}
+use Rattle.mc_core.specs.Lists.{AreAllowed}
 use Rattle.mc_core.specs.States.{State}
 use Rattle.mc_core.specs.declared.act.Act.{Act}
 use Rattle.mc_core.proofs.Counted.{counted_after}

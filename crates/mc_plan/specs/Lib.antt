@@ -5,4 +5,10 @@ pub mod Ready
 pub mod Plans
 pub mod Making
 pub mod Moves
+pub mod Puts
 pub mod Laws
+pub mod Sweeps
+pub mod Calls
+pub mod Free
+pub mod Clerks
+pub mod Desks

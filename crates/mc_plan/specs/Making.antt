@@ -1,14 +1,13 @@
 -- What a plan is made from, and what it makes of a quiet state.
-use Rattle.std.specs.Prelude.{ℕ, ◌≡◌, ◌≢◌, ◌+◌, ◌*◌, ◌/◌, ◌<◌, All, List, [], ◌∷◌, ◌++◌, map, length, Some}
+use Rattle.std.specs.Prelude.{ℕ, ◌≡◌, ◌≢◌, ◌+◌, ◌*◌, ◌<◌, List, [], ◌∷◌, ◌++◌, map, Some}
 use Rattle.mc_words.specs.declared.history.Change.{Change}
 use Rattle.mc_words.specs.declared.history.Change.TheVariants.{Put, Remove, Evict}
 use Rattle.mc_words.specs.declared.place.Place.{Place}
 use Rattle.mc_words.specs.declared.shape.Shape.{Shape}
 use Rattle.mc_words.specs.Chains.{IsHole}
-use Rattle.mc_words.specs.History.{IsWord}
-use Rattle.mc_words.specs.Keys.{tag_of, slot_word, alternate, IsBucketOf}
-use Rattle.mc_words.specs.Places.{payload, IsPlace, slot_number, slot, item}
-use Rattle.mc_words.specs.Standing.{Stands, IsAbsent, IsFree, IsPresent}
+use Rattle.mc_words.specs.Keys.{tag_of, slot_word, IsBucketOf}
+use Rattle.mc_words.specs.Places.{slot_number, slot}
+use Rattle.mc_words.specs.Standing.{Stands, IsAbsent, IsFree}
 use Rattle.mc_core.specs.Inner.{StateHolds, StateCounted}
 use Rattle.mc_core.specs.Lists.{Made, AreAllowed, after_all}
 use Rattle.mc_core.specs.Phases.{Quiet}

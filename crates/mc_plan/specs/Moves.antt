@@ -7,7 +7,7 @@ use Rattle.mc_words.specs.History.{IsWord}
 use Rattle.mc_words.specs.Keys.{tag_of, alternate, IsBucketOf}
 use Rattle.mc_words.specs.Places.{slot_number, slot, item}
 use Rattle.mc_words.specs.Shapes.{IsShape}
-use Rattle.mc_words.specs.Standing.{Stands, IsAbsent, IsFree}
+use Rattle.mc_words.specs.Standing.{Names, Stands, IsAbsent, IsFree}
 use Rattle.mc_core.specs.States.{State}
 use Rattle.mc_core.specs.declared.act.Act.{Act}
 use Rattle.mc_plan.specs.Making.{IsQuiet, Makes, left}
@@ -40,16 +40,27 @@ abbrev pub AreKeys : ℕ → Shape → List ℕ → List Place → Type 0
 AreKeys V sh w [] = Unit {0}
 AreKeys V sh w (p ∷ ps) = IsWord (key_named V sh w p) × AreKeys V sh w ps
 
--- the key has room where the path begins; where it was absent it still is, and so is each item free that was free
+-- the key has room where the path begins; where it was absent it still is, and the same items are free
 pub record HasRoom (V : ℕ) (sh : Shape) (w later : List ℕ) (k : ℕ) (first : Place) : Type 0 where
   pub hole : IsHole sh later first
   pub bucket : IsBucketOf sh k first.bucket
   pub absent : IsAbsent V sh w k → IsAbsent V sh later k
   pub free : (i : ℕ) → IsFree sh w i → IsFree sh later i
+  pub named : (q i : ℕ) → Names sh w q i → (p : ℕ) × Names sh later p i
 
--- from each quiet state in which the places are a chain from the key to a hole, the moves from its end backwards are allowed one after the other, change no history, and make room
+-- from each quiet state with these words, the acts are allowed one after the other, change no history, and make room for the key in the first place
+abbrev pub MakesRoomFor : ℕ → Shape → List ℕ → ℕ → List Place → Place → List Act → Type 0
+MakesRoomFor V sh w k places hole acts =
+    (s : State V) → IsQuiet V sh s → s.words ≡ w →
+    Makes V sh s acts [] (2 * length places) ×
+    HasRoom V sh w (left V sh s acts).words k (first_place places hole)
+
+-- they do so for each key from which the places are a chain to the hole
+abbrev pub MakesRoom : ℕ → Shape → List ℕ → List Place → Place → List Act → Type 0
+MakesRoom V sh w places hole acts = (k : ℕ) → IsChain sh w k places hole → MakesRoomFor V sh w k places hole acts
+
+-- the moves of a chain, from its end backwards, make room where it begins
 abbrev pub MovesMakeRoom : ℕ → Type 0
 MovesMakeRoom V =
-    (sh : Shape) (s : State V) (k : ℕ) (places : List Place) (hole : Place) → IsShape sh → IsQuiet V sh s → IsChain sh s.words k places hole → AreKeys V sh s.words places →
-    Makes V sh s (moves_acts V sh s.words places hole) [] (2 * length places) ×
-    HasRoom V sh s.words (left V sh s (moves_acts V sh s.words places hole)).words k (first_place places hole)
+    (sh : Shape) (w : List ℕ) (places : List Place) (hole : Place) → IsShape sh → AreKeys V sh w places →
+    MakesRoom V sh w places hole (moves_acts V sh w places hole)

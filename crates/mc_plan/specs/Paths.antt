@@ -1,5 +1,5 @@
 -- A shortest path to a hole.
-use Rattle.std.specs.Prelude.{ℕ, ◌≤◌, List, length}
+use Rattle.std.specs.Prelude.{ℕ, ◌≡◌, ◌≤◌, ◌⊎◌, ◌∷◌, ◌++◌, Contains, List, length}
 use Rattle.mc_words.specs.declared.place.Place.{Place}
 use Rattle.mc_words.specs.declared.shape.Shape.{Shape}
 use Rattle.mc_words.specs.Chains.{IsChain}
@@ -10,3 +10,9 @@ pub record IsLeastPath (sh : Shape) (w : List ℕ) (k : ℕ) (p : Path) : Type 0
   pub chain : IsChain sh w k p.places.items p.hole
   pub within : length p.places.items ≤ sh.depth
   pub least : (places : List Place) (hole : Place) → IsChain sh w k places hole → length p.places.items ≤ length places
+
+-- the places before the victim, and the victim's as the hole; or all of them, where the victim is none of the places
+abbrev pub IsCut : Place → List Place → Place → List Place → Place → Type 0
+IsCut victim places hole kept end =
+    ((after : List Place) × (places ≡ kept ++ victim ∷ after) × (Contains kept victim → ⊥) × (end ≡ victim)) ⊎
+    ((Contains places victim → ⊥) × (kept ≡ places) × (end ≡ hole))

@@ -5,13 +5,14 @@ ghost use Rattle.mc_plan.specs.Paths.{IsLeastPath};
 ghost use Rattle.mc_plan.specs.Readable.{HasSlots, IsFilled, IsFull, IsHoleIn};
 
 use crate::bucket::hole_in;
+use crate::no_memory::NoMemory;
 use crate::path::Path;
 use crate::peek::Peek;
 use crate::queue::{Entry, clean, start};
 use crate::search::{search, trace};
 use arrayvec::ArrayVec;
 use mc_words::{Checked, Place};
-use std::alloc::{AllocError, Global};
+use std::alloc::Global;
 use std::marker::Model;
 
 /// Finds shortest paths to a hole in tables of one shape. Its memory is taken once.
@@ -58,7 +59,7 @@ fn hole_in_either<P: Peek>(
 
 impl Finder {
     /// A finder for tables of the shape.
-    pub fn new(alloc: Global, checked: &Checked) -> Result<Finder, AllocError>
+    pub fn new(alloc: Global, checked: &Checked) -> Result<Finder, NoMemory>
         ensures { IfOk result (λ f. f ≡ shape_of checked.now) }
     {
         let buckets = checked.shape().buckets as usize;

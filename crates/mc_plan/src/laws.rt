@@ -1,5 +1,6 @@
 //! The laws of plans, one function each. A body does nothing: what it ensures is the law.
 ghost use Rattle.mc_plan.specs.Moves.{MovesMakeRoom};
+ghost use Rattle.mc_plan.specs.Puts.{PutsMakeRoom};
 ghost use Rattle.mc_plan.specs.Laws.{FillsPut, RenewalsPut, RemovalsTakeOut, EvictionsTakeOut, MovesKeepTheMap};
 
 /// Where a key has room, the acts of a fill are allowed, and put the key.
@@ -30,4 +31,9 @@ pub fn moves_keep_the_map<const V: usize>()
 /// Where a chain leads from the key to a hole, its moves from the end backwards are allowed one after the other, and make room where it begins.
 pub fn moves_make_room<const V: usize>()
     ensures { MovesMakeRoom V }
+{}
+
+/// Where a key is not there, an item is free and a chain leads from the key to a hole, the moves of the chain and then a fill of its first place are allowed one after the other, and put the key.
+pub fn puts_make_room<const V: usize>()
+    ensures { PutsMakeRoom V }
 {}

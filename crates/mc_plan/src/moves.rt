@@ -4,7 +4,7 @@ ghost use Rattle.arrayvec.specs.ArrayVec.{array_vec_len};
 ghost use Rattle.mc_words.specs.Chains.{IsChain};
 ghost use Rattle.mc_words.specs.Checks.{shape_of};
 ghost use Rattle.mc_words.specs.Places.{IsWidth, item, word_count};
-ghost use Rattle.mc_plan.specs.Moves.{AreKeys};
+ghost use Rattle.mc_plan.specs.Moves.{AreKeys, MakesRoom};
 ghost use Rattle.mc_plan.specs.Plans.{item_in, move_acts, moves_acts};
 ghost use Rattle.mc_plan.specs.Readable.{IsFilled, NamesSome};
 
@@ -54,6 +54,7 @@ pub fn add_moves<const V: usize, P: Peek>(
     requires chain { (k : ℕ) × IsChain (shape_of checked.now) (P.words peek.old) k path.now.places.items path.now.hole }
     requires room { array_vec_len acts.old ≤ 32 }
     ensures items { acts.new.items ≡ acts.old.items ++ moves_acts V (shape_of checked.now) (P.words peek.old) path.now.places.items path.now.hole }
+    ensures many { array_vec_len acts.new ≡ array_vec_len acts.old + 4 * length path.now.places.items }
     ensures keys { AreKeys V (shape_of checked.now) (P.words peek.old) path.now.places.items }
     ensures same { P.words peek.new ≡ P.words peek.old }
 {
@@ -67,4 +68,23 @@ pub fn add_moves<const V: usize, P: Peek>(
         add_move(acts, key, word, from, to);
         to = from;
     }
+}
+
+/// The acts that make room where the path begins, by moving the items at its places, the last one first.
+pub fn plan_moves<const V: usize, P: Peek>(
+    checked: &Checked,
+    peek: &mut P,
+    path: &Path,
+) -> ArrayVec<Act, 64>
+    requires width { IsWidth V }
+    requires words { word_count V (shape_of checked.now) ≤ length (P.words peek.old) }
+    requires filled { IsFilled (shape_of checked.now) (P.words peek.old) }
+    requires chain { (k : ℕ) × IsChain (shape_of checked.now) (P.words peek.old) k path.now.places.items path.now.hole }
+    ensures items { result.items ≡ moves_acts V (shape_of checked.now) (P.words peek.old) path.now.places.items path.now.hole }
+    ensures law { MakesRoom V (shape_of checked.now) (P.words peek.old) path.now.places.items path.now.hole result.items }
+    ensures same { P.words peek.new ≡ P.words peek.old }
+{
+    let mut acts = ArrayVec::new();
+    add_moves::<V, P>(checked, peek, &mut acts, path);
+    acts
 }

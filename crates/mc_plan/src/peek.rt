@@ -1,6 +1,6 @@
 ghost use Rattle.std.specs.Prelude.{ℕ, ◌≡◌, ◌<◌, ◌≤◌, List, length, slice_index};
 ghost use Rattle.mc_words.specs.Checks.{shape_of};
-ghost use Rattle.mc_words.specs.Places.{IsPlace, IsWidth, slot_number, slot, item, word_count};
+ghost use Rattle.mc_words.specs.Places.{IsPlace, IsWidth, payload, slot_number, slot, item, word_count};
 ghost use Rattle.mc_plan.specs.Readable.{HasSlots};
 
 use mc_words::{Checked, Place};
@@ -27,8 +27,25 @@ pub(crate) fn slot_at<P: Peek>(checked: &Checked, peek: &mut P, place: Place) ->
     peek.word(checked.slot_place(place))
 }
 
-/// The key of an item.
+/// A word of an item.
 #[tactic(auto, unfolding(mc_words::specs::Places::item))]
+pub(crate) fn word_at<const V: usize, P: Peek>(
+    checked: &Checked,
+    peek: &mut P,
+    i: u32,
+    j: u8,
+) -> u64
+    requires width { IsWidth V }
+    requires words { word_count V (shape_of checked.now) ≤ length (P.words peek.old) }
+    requires item { i < (shape_of checked.now).items }
+    requires word { j ≤ payload V }
+    ensures value { result ≡ item V (shape_of checked.now) (P.words peek.old) i j }
+    ensures same { P.words peek.new ≡ P.words peek.old }
+{
+    peek.word(checked.item_place::<V>(i, j))
+}
+
+/// The key of an item.
 pub(crate) fn key_at<const V: usize, P: Peek>(checked: &Checked, peek: &mut P, i: u32) -> u64
     requires width { IsWidth V }
     requires words { word_count V (shape_of checked.now) ≤ length (P.words peek.old) }
@@ -36,5 +53,5 @@ pub(crate) fn key_at<const V: usize, P: Peek>(checked: &Checked, peek: &mut P, i
     ensures value { result ≡ item V (shape_of checked.now) (P.words peek.old) i 0 }
     ensures same { P.words peek.new ≡ P.words peek.old }
 {
-    peek.word(checked.item_place::<V>(i, 0))
+    word_at::<V, P>(checked, peek, i, 0)
 }

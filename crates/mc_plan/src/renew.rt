@@ -1,10 +1,14 @@
 // The acts of a renewal.
-ghost use Rattle.std.specs.Prelude.{◌≡◌, ◌+◌, ◌≤◌, ◌++◌};
+ghost use Rattle.std.specs.Prelude.{◌≡◌, ◌+◌, ◌≤◌, ◌++◌, All};
 ghost use Rattle.arrayvec.specs.ArrayVec.{array_vec_len};
+ghost use Rattle.mc_words.specs.declared.shape.Shape.{Shape};
+ghost use Rattle.mc_words.specs.History.{IsWord};
 ghost use Rattle.mc_words.specs.Places.{IsWidth};
+ghost use Rattle.mc_words.specs.Shapes.{IsShape};
+ghost use Rattle.mc_plan.specs.Making.{Renews};
 ghost use Rattle.mc_plan.specs.Plans.{renew_acts};
 
-use crate::fill::add_value;
+use crate::value::{add_value, words_of};
 use arrayvec::ArrayVec;
 use mc_core::{Act, Deed};
 
@@ -18,9 +22,22 @@ pub fn add_renew<const V: usize>(
     requires width { IsWidth V }
     requires room { array_vec_len acts.old + V + 3 ≤ 64 }
     ensures items { acts.new.items ≡ acts.old.items ++ renew_acts key value.now item }
+    ensures many { array_vec_len acts.new ≡ array_vec_len acts.old + V + 3 }
+    ensures words { All IsWord value.now }
 {
     acts.push(Act::Open(key, Deed::Renew));
-    add_value(acts, item, value);
+    add_value(acts, item, words_of(value));
     acts.push(Act::Moment);
     acts.push(Act::Close);
+}
+
+/// The acts that put a new value of the key that stands at the item.
+pub fn plan_renew<const V: usize>(key: u64, value: &[u64; V], item: u32) -> ArrayVec<Act, 64>
+    requires width { IsWidth V }
+    ensures items { result.items ≡ renew_acts key value.now item }
+    ensures law { (sh : Shape) → IsShape sh → Renews V sh key value.now item result.items }
+{
+    let mut acts = ArrayVec::new();
+    add_renew(&mut acts, key, value, item);
+    acts
 }

@@ -1,6 +1,9 @@
 // The acts of a removal and of an eviction.
-ghost use Rattle.std.specs.Prelude.{◌≡◌, ◌+◌, ◌≤◌, ◌++◌};
+ghost use Rattle.std.specs.Prelude.{ℕ, ◌≡◌, ◌+◌, ◌≤◌, ◌++◌};
 ghost use Rattle.arrayvec.specs.ArrayVec.{array_vec_len};
+ghost use Rattle.mc_words.specs.declared.shape.Shape.{Shape};
+ghost use Rattle.mc_words.specs.Shapes.{IsShape};
+ghost use Rattle.mc_plan.specs.Making.{Removes, Evicts};
 ghost use Rattle.mc_plan.specs.Plans.{take_out_acts, remove_acts, evict_acts};
 
 use arrayvec::ArrayVec;
@@ -11,6 +14,7 @@ use mc_words::Place;
 fn add_take_out(acts: &mut ArrayVec<Act, 64>, key: u64, deed: Deed, place: Place)
     requires room { array_vec_len acts.old + 4 ≤ 64 }
     ensures items { acts.new.items ≡ acts.old.items ++ take_out_acts key deed place }
+    ensures many { array_vec_len acts.new ≡ array_vec_len acts.old + 4 }
 {
     acts.push(Act::Open(key, deed));
     acts.push(Act::Slot(place, 0));
@@ -22,6 +26,7 @@ fn add_take_out(acts: &mut ArrayVec<Act, 64>, key: u64, deed: Deed, place: Place
 pub fn add_remove(acts: &mut ArrayVec<Act, 64>, key: u64, place: Place)
     requires room { array_vec_len acts.old + 4 ≤ 64 }
     ensures items { acts.new.items ≡ acts.old.items ++ remove_acts key place }
+    ensures many { array_vec_len acts.new ≡ array_vec_len acts.old + 4 }
 {
     add_take_out(acts, key, Deed::Remove, place);
 }
@@ -30,6 +35,27 @@ pub fn add_remove(acts: &mut ArrayVec<Act, 64>, key: u64, place: Place)
 pub fn add_evict(acts: &mut ArrayVec<Act, 64>, key: u64, place: Place)
     requires room { array_vec_len acts.old + 4 ≤ 64 }
     ensures items { acts.new.items ≡ acts.old.items ++ evict_acts key place }
+    ensures many { array_vec_len acts.new ≡ array_vec_len acts.old + 4 }
 {
     add_take_out(acts, key, Deed::Evict, place);
+}
+
+/// The acts that take out the key that stands in the slot.
+pub fn plan_remove(key: u64, place: Place) -> ArrayVec<Act, 64>
+    ensures items { result.items ≡ remove_acts key place }
+    ensures law { (V : ℕ) (sh : Shape) → IsShape sh → Removes V sh key place result.items }
+{
+    let mut acts = ArrayVec::new();
+    add_remove(&mut acts, key, place);
+    acts
+}
+
+/// The acts that take out the key that stands in the slot, to make room for another.
+pub fn plan_evict(key: u64, place: Place) -> ArrayVec<Act, 64>
+    ensures items { result.items ≡ evict_acts key place }
+    ensures law { (V : ℕ) (sh : Shape) → IsShape sh → Evicts V sh key place result.items }
+{
+    let mut acts = ArrayVec::new();
+    add_evict(&mut acts, key, place);
+    acts
 }

@@ -1,3 +1,5 @@
+mod clerk;
 mod finding;
 mod paths;
+mod sweep;
 mod table;

@@ -1,10 +1,7 @@
-use Rattle.std.proofs.Common.{ℕ, ◌≡◌, ◌+◌, ◌-◌, ◌*◌, ◌<◌, ◌∙◌, List, ◌++◌, ap, refl, subst, sym, arith, drop, get_or, length}
+use Rattle.std.proofs.Common.{◌≡◌, ◌+◌, ◌-◌, ◌<◌, ◌∙◌, List, ap, arith, drop, get_or, length}
 use Rattle.mc_words.specs.declared.place.Place.{Place}
-use Rattle.mc_words.specs.Chains.{IsOccupied}
 use Rattle.mc_words.specs.Places.{slot, item, slot_number}
-use Rattle.mc_plan.specs.Moves.{AreKeys}
-use Rattle.mc_plan.specs.Plans.{first_place, moves_acts, item_in}
-use Rattle.mc_plan.specs.Readable.{NamesSome}
+use Rattle.mc_plan.specs.Plans.{item_in}
 use Rattle.mc_plan.proofs.Steps.{IsMadeFrom, occupied_at, named_at, path_from, made_more}
 use Rattle.mc_plan.proofs.moves.add_moves.Goals as goal
 

@@ -1,11 +1,10 @@
-use Rattle.std.proofs.Common.{◌≡◌, ◌+◌, ◌<◌, ◌∙◌, ◌++◌, ap, arith, length, refl, rules, append-nil, sym}
-use Rattle.mc_plan.proofs.Values.{value_step, values_done}
-use Rattle.mc_plan.proofs.fill.add_value.Goals as goal
+use Rattle.std.proofs.Common.{◌+◌, ◌∙◌, arith, refl}
+use Rattle.mc_plan.proofs.Values.{value_step, values_done, are_words}
+use Rattle.mc_plan.proofs.value.add_value.Goals as goal
 
 pub loop-j-preserved : goal.loop-j-preserved
-loop-j-preserved g c =
+loop-j-preserved c =
     let before = c.loop-j.invariant in
-    let told = c.told-value in
     let below = c.loop-j-test.true in
     record {
       many = omega (arith, c.push.ensures.len, before.many);
@@ -13,10 +12,10 @@ loop-j-preserved g c =
     }
 
 pub returns : goal.returns
-returns g c =
-    let told = c.told-value in
+returns c =
     let before = c.loop-j.invariant in
     record {
       items = values_done c.loop-j.acts.items _ c.args.item (c.loop-j.j + 1) c.loop-j.j c.args.value.now (omega arith) before.left;
       many = omega (arith, before.many);
+      words = are_words c.args.value.now (λ i. omega (arith, c.type_inv.value i));
     }

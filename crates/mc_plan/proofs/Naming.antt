@@ -1,0 +1,49 @@
+-- Which items are free and which are named where one slot was written.
+use Rattle.std.proofs.Common.{ℕ, ◌≡◌, ◌∙◌, List, ap, sym, subst, inl, inr}
+use Rattle.std.proofs.lemmas.Bool.{cases_eq}
+use Rattle.mc_words.specs.declared.shape.Shape.{Shape}
+use Rattle.mc_words.specs.Places.{slot}
+use Rattle.mc_words.specs.Shapes.{IsShape}
+use Rattle.mc_words.specs.Standing.{Names, IsFree}
+use Rattle.mc_words.proofs.Frames.{moved_names, empty_names_none, one_named}
+use Rattle.mc_plan.specs.Making.{SetsSlot, KeepsSlots}
+use Rattle.mc_plan.specs.Puts.{TakesItem, GivesItem}
+
+-- an empty slot that names an item now: that item is taken
+pub slot_taken : (sh : Shape) (w x : List ℕ) (p i word : ℕ) → IsShape sh → slot sh w p ≡ 0 → SetsSlot sh w x p word → Names sh x p i → TakesItem sh w x i
+slot_taken sh w x p i word s empty set here = record {
+  taken = (p, here);
+  free = λ j ne free q n.
+      elim (cases_eq q p) [
+        | inl e ↦ ne (one_named sh x p j i s (subst (λ (o : ℕ). Names sh x o j) e n) here)
+        | inr apart ↦ free q (moved_names sh x w q j (sym (set.others q n.in_table apart)) n)
+      ];
+  named = λ q j n.
+      elim (cases_eq q p) [
+        | inl e ↦ absurd (empty_names_none sh w q j (ap (slot sh w) e ∙ empty) n)
+        | inr apart ↦ (q, moved_names sh w x q j (set.others q n.in_table apart) n)
+      ];
+}
+
+-- a slot that named an item and is empty now: that item is free
+pub slot_given : (sh : Shape) (w x : List ℕ) (p i : ℕ) → IsShape sh → Names sh w p i → SetsSlot sh w x p 0 → IsFree sh x i → GivesItem sh w x i
+slot_given sh w x p i s was set freed = record {
+  freed = freed;
+  free = λ j free q n.
+      elim (cases_eq q p) [
+        | inl e ↦ empty_names_none sh x q j (ap (slot sh x) e ∙ set.here) n
+        | inr apart ↦ free q (moved_names sh x w q j (sym (set.others q n.in_table apart)) n)
+      ];
+  named = λ q j ne n.
+      elim (cases_eq q p) [
+        | inl e ↦ absurd (ne (one_named sh w p j i s (subst (λ (o : ℕ). Names sh w o j) e n) was))
+        | inr apart ↦ (q, moved_names sh w x q j (set.others q n.in_table apart) n)
+      ];
+}
+
+-- where no slot was written, the same items are free
+pub kept_free : (sh : Shape) (w x : List ℕ) (j : ℕ) → KeepsSlots sh w x → IsFree sh w j → IsFree sh x j
+kept_free sh w x j kept free q n = free q (moved_names sh x w q j (sym (kept q n.in_table)) n)
+
+pub kept_named : (sh : Shape) (w x : List ℕ) (q j : ℕ) → KeepsSlots sh w x → Names sh w q j → Names sh x q j
+kept_named sh w x q j kept n = moved_names sh w x q j (kept q n.in_table) n

@@ -1,0 +1,248 @@
+-- A planned call, act by act.
+use Rattle.std.proofs.Common.{ℕ, zero, suc, ◌≡◌, ◌+◌, ◌<◌, ◌≤◌, ◌∙◌, List, [], ◌∷◌, ◌++◌, Option, Some, None, Ok, Err, ap, refl, sym, subst, add-one, get_or, take, length, arith}
+use Rattle.std.specs.Borrow.{Bor}
+use Rattle.std.specs.List.{HoldsAt}
+use Rattle.std.specs.Option.{IfSome, MatchOption, option_copied}
+use Rattle.std.specs.Prelude.{slice_get}
+use Rattle.std.proofs.lemmas.List.{map-append}
+use Rattle.std.proofs.lemmas.Option.{slice_get_past, slice_get_read}
+use Rattle.mc_words.specs.declared.shape.Shape.{Shape}
+use Rattle.mc_core.specs.Acts.{IsAllowed, MayFrom}
+use Rattle.mc_core.specs.Effects.{after_act, changes_after, phase_after}
+use Rattle.mc_core.specs.Lists.{Made, AreAllowed, after_all}
+use Rattle.mc_core.specs.Phases.{Phase, Quiet, Filling, Keyed, Placed, Renewing, Removing, Removed, Moving, Moved, Closing, opened, runs}
+use Rattle.mc_core.specs.States.{State}
+use Rattle.mc_core.specs.Worlds.{HasChanges}
+use Rattle.mc_core.specs.declared.act.Act.{Act}
+use Rattle.mc_core.specs.declared.act.Act.TheVariants.{Open, Slot, Item, Moment, Close, Hand, Mark}
+use Rattle.mc_core.specs.declared.act.Deed.{Deed}
+use Rattle.mc_core.specs.declared.act.Deed.TheVariants as deed
+use Rattle.mc_plan.specs.declared.answer.Answer.{Answer}
+use Rattle.mc_plan.specs.declared.answer.Answer.TheVariants as answer
+use Rattle.mc_plan.specs.declared.clerk.Clerk.{Clerk}
+use Rattle.mc_plan.specs.declared.clerk.Stage.{Stage}
+use Rattle.mc_plan.specs.declared.clerk.Stage.TheVariants.{Idle, Planned}
+use Rattle.mc_plan.specs.Clerks.{Answered, AreBooksOf, Call, PutCall, RemoveCall, IsOfDeed, AreOfDeeds, IsOn, IsPlanned, Knows, Means, Marks, acts_of, next_act, next_in, shape_in}
+use Rattle.mc_plan.specs.Making.{IsQuiet, made, left}
+
+-- ---- the bit of an act that is none of the hand does nothing
+abbrev IsStill : Act → Type 0
+IsStill (Hand i) = ⊥
+IsStill _ = Unit {0}
+
+abbrev pub AreStill : List Act → Type 0
+AreStill [] = Unit {0}
+AreStill (a ∷ acts) = IsStill a × AreStill acts
+
+any_bit : {V : ℕ} (sh : Shape) (s : State V) (a : Act) (bit : ℕ) → IsStill a → after_act sh s a bit ≡ after_act sh s a 0
+any_bit sh s (Open k d) bit still = refl
+any_bit sh s (Slot p x) bit still = refl
+any_bit sh s (Item i j x) bit still = refl
+any_bit sh s Moment bit still = refl
+any_bit sh s Close bit still = refl
+any_bit sh s (Mark i) bit still = refl
+any_bit sh s (Hand i) bit still = absurd still
+
+pub same_state : (V : ℕ) (sh : Shape) (s : State V) (acts : List Made) → AreStill (acts_of acts) → after_all sh s acts ≡ left V sh s (acts_of acts)
+same_state V sh s [] still = refl
+same_state V sh s (m ∷ ms) still =
+    ap (λ (t : State V). after_all sh t ms) (any_bit sh s m.act m.bit still.0) ∙ same_state V sh (after_act sh s m.act 0) ms still.1
+
+pub same_allowed : (V : ℕ) (sh : Shape) (s : State V) (acts : List Made) → AreStill (acts_of acts) → AreAllowed sh s (made (acts_of acts)) → AreAllowed sh s acts
+same_allowed V sh s [] still may = tt
+same_allowed V sh s (m ∷ ms) still may =
+    (may.0, subst (λ (t : State V). AreAllowed sh t ms) (sym (any_bit sh s m.act m.bit still.0)) (same_allowed V sh (after_act sh s m.act 0) ms still.1 may.1))
+
+still_deed : (a : Act) → IsOfDeed a → IsStill a
+still_deed (Open k d) o = tt
+still_deed (Slot p x) o = tt
+still_deed (Item i j x) o = tt
+still_deed Moment o = tt
+still_deed Close o = tt
+still_deed (Mark i) o = absurd o
+still_deed (Hand i) o = absurd o
+
+still_deeds : (acts : List Act) → AreOfDeeds acts → AreStill acts
+still_deeds [] o = tt
+still_deeds (a ∷ acts) o = (still_deed a o.0, still_deeds acts o.1)
+
+still_then : (xs ys : List Act) → AreStill xs → AreStill ys → AreStill (xs ++ ys)
+still_then [] ys a b = b
+still_then (x ∷ xs) ys a b = (a.0, still_then xs ys a.1 b)
+
+pub still_take : (n : ℕ) (acts : List Act) → AreStill acts → AreStill (take n acts)
+still_take zero acts a = tt
+still_take (suc n) [] a = tt
+still_take (suc n) (x ∷ acts) a = (a.0, still_take n acts a.1)
+
+-- a whole call has no act of the hand
+pub still_marks : (V : ℕ) (sh : Shape) (w : List ℕ) (call : Call) (told : Answer) (acts : List Act) → Marks V sh w call told acts → AreStill acts
+still_marks V sh w (PutCall k v) (answer.Put (Ok put)) acts m = subst AreStill (sym m.last) (still_then m.before (Mark m.item ∷ []) (still_deeds m.before m.deeds) (tt, tt))
+still_marks V sh w (PutCall k v) (answer.Put (Err why)) acts m = still_deeds acts m
+still_marks V sh w (PutCall k v) (answer.Remove told) acts m = absurd m
+still_marks V sh w (RemoveCall k) told acts m = still_deeds acts m
+
+-- ---- the next act
+pub allowed_next : (V : ℕ) (sh : Shape) (s : State V) (acts : List Act) (n : ℕ) (a : Act) → AreAllowed sh s (made acts) → slice_get acts n ≡ Some a → IsAllowed sh (left V sh s (take n acts)) a
+allowed_next V sh s [] n a l e = absurd (cc)
+allowed_next V sh s (x ∷ xs) zero a l e = let is : x ≡ a = cc in subst (λ (y : Act). IsAllowed {V = V} sh s y) is l.0
+allowed_next V sh s (x ∷ xs) (suc n) a l e = allowed_next V sh (after_act sh s x 0) xs n a l.1 e
+
+pub take_next : (acts : List Act) (n : ℕ) (a : Act) → slice_get acts n ≡ Some a → take (suc n) acts ≡ take n acts ++ a ∷ []
+take_next [] n a e = absurd (cc)
+take_next (x ∷ xs) zero a e = let is : x ≡ a = cc in ap (λ (y : Act). y ∷ []) is
+take_next (x ∷ xs) (suc n) a e = ap (λ (ys : List Act). x ∷ ys) (take_next xs n a e)
+
+pub next_below : (acts : List Act) (n : ℕ) (a : Act) → slice_get acts n ≡ Some a → n < length acts
+next_below [] n a e = absurd (cc)
+next_below (x ∷ xs) zero a e = omega arith
+next_below (x ∷ xs) (suc n) a e = let l = next_below xs n a e in omega arith
+
+pub next_none : (acts : List Act) (n : ℕ) → slice_get acts n ≡ None → take n acts ≡ acts
+next_none [] zero e = refl
+next_none [] (suc n) e = refl
+next_none (x ∷ xs) zero e = absurd (cc)
+next_none (x ∷ xs) (suc n) e = ap (λ (ys : List Act). x ∷ ys) (next_none xs n e)
+
+-- ---- an open leaves room for its close
+-- the version changes, with that of the close that is to come
+tally : {V : ℕ} → State V → ℕ
+tally s = s.changes + runs s.phase
+
+tally_act : (V : ℕ) (sh : Shape) (w : List ℕ) (hand : ℕ) (cleared : Option ℕ) (p : Phase) (a : Act) (c : ℕ) → MayFrom V sh w hand cleared p a → c + runs p ≤ changes_after c a + runs (phase_after p a)
+tally_act V sh w hand cleared Quiet (Open k d) c may = omega arith
+tally_act V sh w hand cleared Quiet (Hand g) c may = omega arith
+tally_act V sh w hand cleared Quiet (Mark g) c may = omega arith
+tally_act V sh w hand cleared (Filling k) (Item g j x) c may = omega arith
+tally_act V sh w hand cleared (Keyed k f xs) (Item g j x) c may = omega arith
+tally_act V sh w hand cleared (Keyed k f xs) (Slot p x) c may = omega arith
+tally_act V sh w hand cleared (Placed k f xs) Moment c may = omega arith
+tally_act V sh w hand cleared (Renewing k xs) (Item g j x) c may = omega arith
+tally_act V sh w hand cleared (Renewing k xs) Moment c may = omega arith
+tally_act V sh w hand cleared (Removing k e) (Slot p x) c may = omega arith
+tally_act V sh w hand cleared (Removed k e) Moment c may = omega arith
+tally_act V sh w hand cleared (Moving k) (Slot p x) c may = omega arith
+tally_act V sh w hand cleared (Moved k f) (Slot p x) c may = omega arith
+tally_act V sh w hand cleared (Closing k) Close c may = omega arith
+tally_act V sh w hand cleared _ _ c may = absurd may
+
+tally_all : (V : ℕ) (sh : Shape) (s : State V) (acts : List Act) → AreAllowed sh s (made acts) → tally s ≤ tally (left V sh s acts)
+unfolding tally
+tally_all V sh s [] may = omega arith
+tally_all V sh s (a ∷ acts) may =
+    let one = tally_act V sh s.words s.hand s.cleared s.phase a s.changes may.0 in
+    omega (arith, one, tally_all V sh (after_act sh s a 0) acts may.1)
+
+opened_runs : (k : ℕ) (d : Deed) → runs (opened k d) ≡ 1
+opened_runs k deed.Fill = refl
+opened_runs k deed.Renew = refl
+opened_runs k deed.Remove = refl
+opened_runs k deed.Evict = refl
+opened_runs k deed.Move = refl
+
+open_closes : (V : ℕ) (sh : Shape) (s : State V) (acts : List Act) (n k : ℕ) (d : Deed) → AreAllowed sh s (made acts) → slice_get acts n ≡ Some (Open k d) → (left V sh s acts).phase ≡ Quiet
+    → (left V sh s (take n acts)).changes + 2 ≤ (left V sh s acts).changes
+unfolding tally
+open_closes V sh s [] n k d may e quiet = absurd (cc)
+open_closes V sh s (x ∷ xs) zero k d may e quiet =
+    let is : x ≡ Open k d = cc in
+    let grows = tally_all V sh (after_act sh s x 0) xs may.1 in
+    let opens : runs (phase_after s.phase x) ≡ 1 = ap (λ (y : Act). runs (phase_after s.phase y)) is ∙ opened_runs k d in
+    let counts : changes_after s.changes x ≡ s.changes + 1 = ap (λ (y : Act). changes_after s.changes y) is in
+    let ends : runs (left V sh s (x ∷ xs)).phase ≡ 0 = ap runs quiet in
+    omega (arith, grows, opens, counts, ends)
+open_closes V sh s (x ∷ xs) (suc n) k d may e quiet = open_closes V sh (after_act sh s x 0) xs n k d may.1 e quiet
+
+pub changes_left : (V : ℕ) (sh : Shape) (s : State V) (acts : List Act) (n : ℕ) (a : Act) (limit : ℕ) → AreAllowed sh s (made acts) → slice_get acts n ≡ Some a → (left V sh s acts).phase ≡ Quiet → (left V sh s acts).changes ≤ limit
+    → HasChanges limit (left V sh s (take n acts)).changes a
+changes_left V sh s acts n (Open k d) limit may e quiet l = let c = open_closes V sh s acts n k d may e quiet in omega arith
+changes_left V sh s acts n (Slot p x) limit may e quiet l = tt
+changes_left V sh s acts n (Item i j x) limit may e quiet l = tt
+changes_left V sh s acts n Moment limit may e quiet l = tt
+changes_left V sh s acts n Close limit may e quiet l = tt
+changes_left V sh s acts n (Hand i) limit may e quiet l = tt
+changes_left V sh s acts n (Mark i) limit may e quiet l = tt
+
+-- ---- a clerk in a call
+still_on : (V : ℕ) (clerk : Clerk V) (call : Call) (s : State V) (acts : List Made) → IsOn V clerk call s acts → AreStill (acts_of acts)
+still_on V clerk call s acts on =
+    subst AreStill (sym on.done) (still_take clerk.made clerk.plan.items (still_marks V (shape_in clerk) _ call on.told clerk.plan.items on.planned.marks))
+
+-- the state now is that after the first acts of the plan
+state_on : (V : ℕ) (clerk : Clerk V) (call : Call) (s : State V) (acts : List Made) → IsOn V clerk call s acts → after_all (shape_in clerk) s acts ≡ left V (shape_in clerk) s (take clerk.made clerk.plan.items)
+state_on V clerk call s acts on =
+    same_state V (shape_in clerk) s acts (still_on V clerk call s acts on) ∙ ap (λ (xs : List Act). left V (shape_in clerk) s xs) on.done
+
+-- the act that comes next is allowed, and an open leaves two version changes within the limit
+pub next_may : (V : ℕ) (clerk : Clerk V) (call : Call) (s : State V) (acts : List Made) → IsOn V clerk call s acts → (r : Option Act) → r ≡ slice_get clerk.plan.items clerk.made
+    → IfSome r (λ a. IsAllowed (shape_in clerk) (after_all (shape_in clerk) s acts) a × HasChanges (shape_in clerk).limit (after_all (shape_in clerk) s acts).changes a)
+next_may V clerk call s acts on None e = tt
+next_may V clerk call s acts on (Some a) e =
+    let sh = shape_in clerk in
+    let plan = clerk.plan.items in
+    let now = state_on V clerk call s acts on in
+    let may = allowed_next V sh s plan clerk.made a on.planned.allowed (sym e) in
+    let room = changes_left V sh s plan clerk.made a sh.limit on.planned.allowed (sym e) on.planned.ends.quiet.quiet on.planned.ends.limit in
+    subst (λ (t : State V). IsAllowed sh t a × HasChanges sh.limit t.changes a) (sym now) (may, room)
+
+-- what the slice of a plan gives at a place
+pub copied_is : (xs : List Act) (n : ℕ) (r : Option (Bor Act)) → IfSome r (λ x. x.now ≡ get_or xs n x.now) → MatchOption r (length xs ≤ n) (λ x. (n < length xs) × HoldsAt (λ y. x.now ≡ y) xs n) → option_copied r ≡ slice_get xs n
+copied_is xs n None read m = sym (slice_get_past xs n m)
+copied_is xs n (Some x) read m = sym (slice_get_read xs (length xs) n x.now refl m.0 read)
+
+-- one act more was made
+pub on_next : (V : ℕ) (clerk : Clerk V) (call : Call) (s : State V) (acts : List Made) (a : Act) (bit : ℕ) → IsOn V clerk call s acts → next_act clerk ≡ Some a
+    → IsOn V (record clerk { made = clerk.made + 1 }) call s (acts ++ record { act = a; bit = bit } ∷ [])
+unfolding next_act
+on_next V clerk call s acts a bit on next =
+    let plan = clerk.plan.items in
+    let at : slice_get plan clerk.made ≡ Some a = ap (λ (st : Stage). next_in st plan clerk.made) (sym on.owes) ∙ next in
+    let below = next_below plan clerk.made a at in
+    record {
+      told = on.told;
+      owes = on.owes;
+      begun = on.begun;
+      planned = on.planned;
+      fits = on.fits;
+      within = omega arith;
+      done = map-append (λ (m : Made). m.act) acts (record { act = a; bit = bit } ∷ []) ∙ ap (λ (xs : List Act). xs ++ a ∷ []) on.done ∙ rw add-one (sym (take_next plan clerk.made a at));
+    }
+
+pub below_next : (V : ℕ) (clerk : Clerk V) (call : Call) (s : State V) (acts : List Made) (a : Act) → IsOn V clerk call s acts → next_act clerk ≡ Some a → clerk.made < length clerk.plan.items
+unfolding next_act
+below_next V clerk call s acts a on next =
+    next_below clerk.plan.items clerk.made a (ap (λ (st : Stage). next_in st clerk.plan.items clerk.made) (sym on.owes) ∙ next)
+
+-- no act is left: the call is whole
+pub whole_call : (V : ℕ) (clerk : Clerk V) (call : Call) (s : State V) (acts : List Made) (told : Answer) → IsOn V clerk call s acts → next_act clerk ≡ None → clerk.stage ≡ Planned told
+    → Answered V (shape_in clerk) call s acts told × Knows V (record clerk { stage = Idle }) (after_all (shape_in clerk) s acts)
+unfolding next_act
+whole_call V clerk call s acts told on next owes =
+    let sh = shape_in clerk in
+    let plan = clerk.plan.items in
+    let same : on.told ≡ told = cc in
+    let at : slice_get plan clerk.made ≡ None = ap (λ (st : Stage). next_in st plan clerk.made) (sym on.owes) ∙ next in
+    let whole = next_none plan clerk.made at in
+    let done : acts_of acts ≡ plan = on.done ∙ whole in
+    let still = still_on V clerk call s acts on in
+    let now : after_all sh s acts ≡ left V sh s plan = same_state V sh s acts still ∙ ap (λ (xs : List Act). left V sh s xs) done in
+    let p = subst (λ (x : Answer). IsPlanned V clerk.books plan call s x) same on.planned in (
+      record {
+        allowed = same_allowed V sh s acts still (subst (λ (xs : List Act). AreAllowed sh s (made xs)) (sym done) p.allowed);
+        quiet = subst (λ (t : State V). IsQuiet V sh t) (sym now) p.ends.quiet;
+        means = subst (λ (t : State V). Means sh call told s t) (sym now) p.means;
+        marks = subst (λ (xs : List Act). Marks V sh (after_all sh s acts).words call told xs) (sym done) (subst (λ (t : State V). Marks V sh t.words call told plan) (sym now) p.marks);
+      },
+      record { idle = refl; books = subst (λ (t : State V). AreBooksOf V clerk.books t) (sym now) p.ends },
+    )
+
+pub begins : (V : ℕ) (clerk : Clerk V) (call : Call) (s : State V) (told : Answer) → clerk.stage ≡ Planned told → clerk.made ≡ 0 → length clerk.plan.items ≤ 64 → IsQuiet V (shape_in clerk) s → IsPlanned V clerk.books clerk.plan.items call s told → IsOn V clerk call s []
+begins V clerk call s told owes none fits quiet planned = record {
+  told = told;
+  owes = owes;
+  begun = quiet;
+  planned = planned;
+  fits = fits;
+  within = omega arith;
+  done = rw none refl;
+}

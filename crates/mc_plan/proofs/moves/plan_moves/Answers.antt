@@ -1,0 +1,17 @@
+use Rattle.std.proofs.Common.{List, sym, subst}
+use Rattle.mc_core.specs.declared.act.Act.{Act}
+use Rattle.mc_plan.specs.Moves.{MakesRoom}
+use Rattle.mc_plan.proofs.Displacing.{room_made}
+use Rattle.mc_plan.proofs.Values.{plan_is}
+use Rattle.mc_plan.proofs.moves.plan_moves.Goals as goal
+
+pub returns-clause-law : goal.returns-clause-law
+returns-clause-law g c =
+    let V = g.row.V in
+    let sh = c.args.checked.now.shape in
+    let w = g.P.Peek.words c.args.peek.now in
+    let ps = c.args.path.now.places.items in
+    let hole = c.args.path.now.hole in
+    let is = plan_is _ _ _ c.add_moves.ensures.items c.new-acts.ensures in
+    subst (λ (acts : List Act). MakesRoom V sh w ps hole acts) (sym is)
+    (room_made V sh w ps hole c.args.checked.now.sound c.add_moves.ensures.keys)

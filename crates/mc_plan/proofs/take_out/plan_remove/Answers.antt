@@ -1,0 +1,11 @@
+use Rattle.std.proofs.Common.{List, sym, subst, arith}
+use Rattle.mc_core.specs.declared.act.Act.{Act}
+use Rattle.mc_plan.specs.Making.{Removes}
+use Rattle.mc_plan.proofs.Removing.{removes}
+use Rattle.mc_plan.proofs.Values.{plan_is}
+use Rattle.mc_plan.proofs.take_out.plan_remove.Goals as goal
+
+pub returns-clause-law : goal.returns-clause-law
+returns-clause-law c V sh shape =
+    let is = plan_is _ _ _ c.add_remove.ensures.items c.new-acts.ensures in
+    subst (λ (acts : List Act). Removes V sh c.args.key c.args.place acts) (sym is) (removes V sh c.args.key c.args.place shape (omega arith))

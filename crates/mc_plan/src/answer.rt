@@ -1,0 +1,52 @@
+use thiserror::Error;
+
+/// What a `put` did. `at` is the moment of its change.
+#[derive(Clone, Copy, Debug, PartialEq, Eq)]
+pub enum Put {
+    /// The key is new. `moves` tells how many keys were moved, `evicted` the key that was taken out for it.
+    Stored {
+        at: u64,
+        moves: u8,
+        evicted: Option<u64>,
+    },
+    /// The key was there and has the new value.
+    Renewed {
+        at: u64,
+    },
+}
+
+/// Why a `put` changed nothing.
+#[derive(Clone, Copy, Debug, PartialEq, Eq, Error)]
+pub enum PutError {
+    /// No chain of displacements leads to an empty slot.
+    #[error("no path")]
+    NoPath,
+    /// Every entry was accessed since the hand last passed.
+    #[error("all recent")]
+    AllRecent,
+    /// The limit of version changes could be passed.
+    #[error("spent")]
+    Spent,
+    /// Every item is in use.
+    #[error("no item")]
+    NoItem,
+}
+
+/// What a `remove` did. `at` is the moment after it.
+#[derive(Clone, Copy, Debug, PartialEq, Eq)]
+pub enum Remove {
+    Removed { at: u64 },
+    NotThere { at: u64 },
+}
+
+/// A `remove` changed nothing, since the limit of version changes could be passed.
+#[derive(Clone, Copy, Debug, PartialEq, Eq, Error)]
+#[error("spent")]
+pub struct Spent;
+
+/// What a call of the clerk answers.
+#[derive(Clone, Copy, Debug, PartialEq, Eq)]
+pub enum Answer {
+    Put(Result<Put, PutError>),
+    Remove(Result<Remove, Spent>),
+}

@@ -1,0 +1,225 @@
+//! What the writer keeps of its table beside the words, and how it plans a call.
+ghost use Rattle.std.specs.Prelude.{ℕ, ◌≡◌, ◌+◌, ◌*◌, ◌^◌, ◌<◌, ◌≤◌, ◌++◌, [], ◌∷◌, ◌↔◌, All, IfOk, IsTrue, length};
+ghost use Rattle.arrayvec.specs.ArrayVec.{array_vec_len};
+ghost use Rattle.mc_words.specs.Answers.{PutIsSpent};
+ghost use Rattle.mc_words.specs.Chains.{IsChain};
+ghost use Rattle.mc_words.specs.Checks.{shape_of};
+ghost use Rattle.mc_words.specs.History.{IsWord};
+ghost use Rattle.mc_words.specs.Places.{IsWidth, moment, word_count};
+ghost use Rattle.mc_words.specs.Standing.{IsAbsent};
+ghost use Rattle.mc_core.specs.States.{State, opening};
+ghost use Rattle.mc_plan.specs.Moves.{AreKeys};
+ghost use Rattle.mc_plan.specs.Plans.{renew_acts};
+ghost use Rattle.mc_plan.specs.Puts.{put_acts};
+ghost use Rattle.mc_plan.specs.Readable.{IsFilled};
+
+use crate::answer::{Put, PutError, Remove, Spent};
+use crate::fill::add_fill;
+use crate::finder::Finder;
+use crate::finding::find;
+use crate::free::FreeItems;
+use crate::moves::add_moves;
+use crate::no_memory::NoMemory;
+use crate::path::Path;
+use crate::peek::Peek;
+use crate::reading::moment;
+use crate::renew::add_renew;
+use crate::take_out::add_remove;
+use arrayvec::ArrayVec;
+use mc_core::Act;
+use mc_words::Checked;
+use std::alloc::Global;
+
+#[derive(Drop)]
+pub(crate) struct Books {
+    pub(crate) checked: Checked,
+    finder: Finder,
+    free: FreeItems,
+    /// The item at which the hand stands.
+    hand: u32,
+    /// The version changes, with those of the plan.
+    changes: u64,
+}
+
+impl Books {
+    ghost use Rattle.mc_core.specs.declared.act.Act.TheVariants as act;
+    ghost use Rattle.mc_plan.specs.Clerks.{AreBooksOf, IsPlanned, PutCall, RemoveCall, quiet_of};
+    ghost use Rattle.mc_plan.specs.declared.answer.Answer.TheVariants as answer;
+
+    /// The books of a new table.
+    pub(crate) fn new(alloc: Global, checked: &Checked) -> Result<Books, NoMemory>
+        ensures books { IfOk result (λ books. (V : ℕ) → IsWidth V → AreBooksOf V books (opening V (shape_of checked.now))) }
+        ensures shape { IfOk result (λ books. books.checked ≡ checked.now) }
+    {
+        let finder = Finder::new(alloc, checked)?;
+        let free = FreeItems::new(alloc, checked.shape().items)?;
+        Ok(Books {
+            checked: *checked,
+            finder,
+            free,
+            hand: 0,
+            changes: 0,
+        })
+    }
+
+    /// Whether so many version changes more could pass the limit.
+    fn is_spent(&self, changes: u64) -> bool
+        requires { changes < 2 ^ 8 }
+        ensures { IsTrue result ↔ ((shape_of self.now.checked).limit < self.now.changes + changes) }
+    {
+        let limit = self.checked.shape().limit;
+        changes > limit || self.changes > limit - changes
+    }
+
+    /// Ends the plan of a put: its item is marked, and its version changes are counted.
+    fn end(&mut self, plan: &mut ArrayVec<Act, 64>, item: u32, changes: u64)
+        requires plan { array_vec_len plan.old < 64 }
+        requires room { self.old.changes + changes < 2 ^ 64 }
+        ensures plan { plan.new.items ≡ plan.old.items ++ act.Mark item ∷ [] }
+        ensures many { array_vec_len plan.new ≡ array_vec_len plan.old + 1 }
+        ensures books { self.new ≡ record self.old { changes = self.old.changes + changes } }
+    {
+        plan.push(Act::Mark(item));
+        self.changes += changes;
+    }
+
+    /// Plans a new value of the key that stands at the item.
+    fn renew<const V: usize>(
+        &mut self,
+        plan: &mut ArrayVec<Act, 64>,
+        key: u64,
+        value: &[u64; V],
+        item: u32,
+    )
+        requires width { IsWidth V }
+        requires plan { plan.old.items ≡ [] }
+        requires room { self.old.changes < 2 ^ 63 }
+        ensures plan { plan.new.items ≡ renew_acts key value.now item ++ act.Mark item ∷ [] }
+        ensures fits { array_vec_len plan.new ≤ 64 }
+        ensures words { All IsWord value.now }
+        ensures books { self.new ≡ record self.old { changes = self.old.changes + 2 } }
+    {
+        add_renew(plan, key, value, item);
+        self.end(plan, item, 2);
+    }
+
+    /// Plans the moves of the path, and then the fill of its first place.
+    fn fill<const V: usize, P: Peek>(
+        &mut self,
+        peek: &mut P,
+        plan: &mut ArrayVec<Act, 64>,
+        key: u64,
+        value: &[u64; V],
+        item: u32,
+        path: &Path,
+    )
+        requires width { IsWidth V }
+        requires words { word_count V (shape_of self.old.checked) ≤ length (P.words peek.old) }
+        requires filled { IsFilled (shape_of self.old.checked) (P.words peek.old) }
+        requires chain { (k : ℕ) × IsChain (shape_of self.old.checked) (P.words peek.old) k path.now.places.items path.now.hole }
+        requires within { length path.now.places.items ≤ 8 }
+        requires item { item < (shape_of self.old.checked).items }
+        requires plan { plan.old.items ≡ [] }
+        requires room { self.old.changes < 2 ^ 63 }
+        ensures plan { plan.new.items ≡ put_acts V (shape_of self.old.checked) (P.words peek.old) key value.now item path.now.places.items path.now.hole ++ act.Mark item ∷ [] }
+        ensures fits { array_vec_len plan.new ≤ 64 }
+        ensures words { All IsWord value.now }
+        ensures keys { AreKeys V (shape_of self.old.checked) (P.words peek.old) path.now.places.items }
+        ensures books { self.new ≡ record self.old { changes = self.old.changes + (2 * length path.now.places.items + 2) } }
+        ensures same { P.words peek.new ≡ P.words peek.old }
+    {
+        add_moves::<V, P>(&self.checked, peek, plan, path);
+        add_fill(&self.checked, plan, key, value, item, path.first());
+        self.end(plan, item, 2 * path.places.len() as u64 + 2);
+    }
+
+    /// Plans the put of a key that is not there.
+    fn store<const V: usize, P: Peek>(
+        &mut self,
+        peek: &mut P,
+        plan: &mut ArrayVec<Act, 64>,
+        key: u64,
+        value: &[u64; V],
+        at: u64,
+    ) -> Result<Put, PutError>
+        requires books { (s : State V) × AreBooksOf V self.old s × (P.words peek.old ≡ s.words) × (PutIsSpent (shape_of self.old.checked) (quiet_of s) → ⊥) }
+        requires absent { IsAbsent V (shape_of self.old.checked) (P.words peek.old) key }
+        requires plan { plan.old.items ≡ [] }
+        requires at { at ≡ moment (P.words peek.old) + 1 }
+        ensures planned { (s : State V) → AreBooksOf V self.old s → P.words peek.old ≡ s.words → (PutIsSpent (shape_of self.old.checked) (quiet_of s) → ⊥) → IsPlanned V self.new plan.new.items (PutCall key value.now) s (answer.Put result) }
+        ensures fits { array_vec_len plan.new ≤ 64 }
+        ensures shape { self.new.checked ≡ self.old.checked }
+        ensures same { P.words peek.new ≡ P.words peek.old }
+    {
+        let Some(path) = self.finder.path(peek, key) else {
+            return Err(PutError::NoPath);
+        };
+        let Some(item) = self.free.take_least() else {
+            return Err(PutError::NoItem);
+        };
+        self.fill::<V, P>(peek, plan, key, value, item, &path);
+        Ok(Put::Stored {
+            at,
+            moves: path.places.len() as u8,
+            evicted: None,
+        })
+    }
+
+    /// Plans a put.
+    pub(crate) fn put<const V: usize, P: Peek>(
+        &mut self,
+        peek: &mut P,
+        plan: &mut ArrayVec<Act, 64>,
+        key: u64,
+        value: &[u64; V],
+    ) -> Result<Put, PutError>
+        requires books { (s : State V) × AreBooksOf V self.old s × (P.words peek.old ≡ s.words) }
+        requires plan { plan.old.items ≡ [] }
+        ensures planned { (s : State V) → AreBooksOf V self.old s → P.words peek.old ≡ s.words → IsPlanned V self.new plan.new.items (PutCall key value.now) s (answer.Put result) }
+        ensures fits { array_vec_len plan.new ≤ 64 }
+        ensures shape { self.new.checked ≡ self.old.checked }
+        ensures same { P.words peek.new ≡ P.words peek.old }
+    {
+        let most = 2 * (u64::from(self.checked.shape().depth) + 2);
+        if self.is_spent(most) {
+            return Err(PutError::Spent);
+        }
+        let at = moment(&self.checked, peek) + 1;
+        match find::<V, P>(&self.checked, peek, key) {
+            Some((_, item)) => {
+                self.renew(plan, key, value, item);
+                Ok(Put::Renewed { at })
+            }
+            None => self.store::<V, P>(peek, plan, key, value, at),
+        }
+    }
+
+    /// Plans a removal.
+    pub(crate) fn remove<const V: usize, P: Peek>(
+        &mut self,
+        peek: &mut P,
+        plan: &mut ArrayVec<Act, 64>,
+        key: u64,
+    ) -> Result<Remove, Spent>
+        requires books { (s : State V) × AreBooksOf V self.old s × (P.words peek.old ≡ s.words) }
+        requires plan { plan.old.items ≡ [] }
+        ensures planned { (s : State V) → AreBooksOf V self.old s → P.words peek.old ≡ s.words → IsPlanned V self.new plan.new.items (RemoveCall key) s (answer.Remove result) }
+        ensures fits { array_vec_len plan.new ≤ 64 }
+        ensures shape { self.new.checked ≡ self.old.checked }
+        ensures same { P.words peek.new ≡ P.words peek.old }
+    {
+        if self.is_spent(2) {
+            return Err(Spent);
+        }
+        let at = moment(&self.checked, peek);
+        match find::<V, P>(&self.checked, peek, key) {
+            Some((place, item)) => {
+                add_remove(plan, key, place);
+                self.free.give(item);
+                self.changes += 2;
+                Ok(Remove::Removed { at: at + 1 })
+            }
+            None => Ok(Remove::NotThere { at }),
+        }
+    }
+}

@@ -1,0 +1,126 @@
+//! The writer's bookkeeping, and its calls as a step machine: which act comes next, and what the call answers.
+ghost use Rattle.std.specs.Prelude.{ℕ, ◌≡◌, ◌<◌, ◌≤◌, ◌++◌, [], ◌∷◌, ◌↔◌, List, Some, None, IfOk, IfSome, IfNone, IsSome};
+ghost use Rattle.mc_words.specs.Checks.{shape_of};
+ghost use Rattle.mc_words.specs.Places.{IsWidth};
+ghost use Rattle.mc_core.specs.Acts.{IsAllowed};
+ghost use Rattle.mc_core.specs.Lists.{Made, after_all};
+ghost use Rattle.mc_core.specs.States.{State, opening};
+ghost use Rattle.mc_core.specs.Worlds.{HasChanges};
+
+use crate::answer::Answer;
+use crate::books::Books;
+use crate::no_memory::NoMemory;
+use crate::peek::Peek;
+use arrayvec::ArrayVec;
+use mc_core::Act;
+use mc_words::Checked;
+use std::alloc::Global;
+
+/// How far a clerk is.
+#[derive(Clone, Copy, Debug, PartialEq, Eq)]
+enum Stage {
+    /// No call runs.
+    Idle,
+    /// The plan is to be made, and then this is the answer.
+    Planned(Answer),
+}
+
+/// The writer's calls, act by act. It makes no act itself: whoever drives it makes the next one.
+#[derive(Drop)]
+pub struct Clerk<const V: usize> {
+    books: Books,
+    stage: Stage,
+    plan: ArrayVec<Act, 64>,
+    /// How many acts of the plan were made.
+    made: usize,
+}
+
+impl<const V: usize> Clerk<V> {
+    ghost use Rattle.mc_core.specs.declared.act.Act.{Act};
+    ghost use Rattle.mc_plan.specs.Clerks.{Call, PutCall, RemoveCall, Knows, IsOn, IsRunning, Answered, next_act, acts_left, shape_in};
+
+    /// The clerk of a new table.
+    pub fn new(alloc: Global, checked: &Checked) -> Result<Clerk<V>, NoMemory>
+        requires width { IsWidth V }
+        ensures knows { IfOk result (λ clerk. Knows V clerk (opening V (shape_of checked.now))) }
+        ensures shape { IfOk result (λ clerk. shape_in clerk ≡ shape_of checked.now) }
+    {
+        let books = Books::new(alloc, checked)?;
+        Ok(Clerk {
+            books,
+            stage: Stage::Idle,
+            plan: ArrayVec::new(),
+            made: 0,
+        })
+    }
+
+    /// Starts a put.
+    pub fn put<P: Peek>(&mut self, peek: &mut P, key: u64, value: [u64; V])
+        requires { (s : State V) × Knows V self.old s × (P.words peek.old ≡ s.words) }
+        ensures on { (s : State V) → Knows V self.old s → P.words peek.old ≡ s.words → IsOn V self.new (PutCall key value.entry) s [] }
+        ensures left { acts_left self.new ≤ 64 }
+        ensures shape { shape_in self.new ≡ shape_in self.old }
+        ensures same { P.words peek.new ≡ P.words peek.old }
+    {
+        self.plan.clear();
+        self.made = 0;
+        let answer = self.books.put::<V, P>(peek, &mut self.plan, key, &value);
+        self.stage = Stage::Planned(Answer::Put(answer));
+    }
+
+    /// Starts a removal.
+    pub fn remove<P: Peek>(&mut self, peek: &mut P, key: u64)
+        requires { (s : State V) × Knows V self.old s × (P.words peek.old ≡ s.words) }
+        ensures on { (s : State V) → Knows V self.old s → P.words peek.old ≡ s.words → IsOn V self.new (RemoveCall key) s [] }
+        ensures left { acts_left self.new ≤ 64 }
+        ensures shape { shape_in self.new ≡ shape_in self.old }
+        ensures same { P.words peek.new ≡ P.words peek.old }
+    {
+        self.plan.clear();
+        self.made = 0;
+        let answer = self.books.remove::<V, P>(peek, &mut self.plan, key);
+        self.stage = Stage::Planned(Answer::Remove(answer));
+    }
+
+    /// The act that is to be made next, while one is left.
+    pub fn next(&self) -> Option<Act>
+        ensures value { result ≡ next_act self.now }
+        ensures allowed { (call : Call) (s : State V) (acts : List Made) → IsOn V self.now call s acts → IfSome result (λ a. IsAllowed (shape_in self.now) (after_all (shape_in self.now) s acts) a × HasChanges (shape_in self.now).limit (after_all (shape_in self.now) s acts).changes a) }
+    {
+        match self.stage {
+            Stage::Idle => None,
+            Stage::Planned(_) => self.plan.get(self.made).copied(),
+        }
+    }
+
+    /// Goes on after the next act was made. `word` is the bit that it read, where it was one of the hand.
+    pub fn after<P: Peek>(&mut self, peek: &mut P, word: u64)
+        requires { (call : Call) × (s : State V) × (acts : List Made) × (a : Act) × IsOn V self.old call s acts × (next_act self.old ≡ Some a) × (P.words peek.old ≡ (after_all (shape_in self.old) s (acts ++ record { act = a; bit = word } ∷ [])).words) }
+        ensures on { (call : Call) (s : State V) (acts : List Made) (a : Act) → IsOn V self.old call s acts → next_act self.old ≡ Some a → IsOn V self.new call s (acts ++ record { act = a; bit = word } ∷ []) }
+        ensures left { acts_left self.new < acts_left self.old }
+        ensures shape { shape_in self.new ≡ shape_in self.old }
+        ensures same { P.words peek.new ≡ P.words peek.old }
+    {
+        self.made += 1;
+    }
+
+    /// Takes the answer, once no act is left. The call ends with it.
+    pub fn answer(&mut self) -> Option<Answer>
+        ensures some { IsSome result ↔ (IsRunning self.old × (next_act self.old ≡ None)) }
+        ensures due { (call : Call) (s : State V) (acts : List Made) → IsOn V self.old call s acts → next_act self.old ≡ None → IsSome result }
+        ensures told { IfSome result (λ told. (call : Call) (s : State V) (acts : List Made) → IsOn V self.old call s acts → Answered V (shape_in self.old) call s acts told × Knows V self.new (after_all (shape_in self.old) s acts)) }
+        ensures none { IfNone result (self.new ≡ self.old) }
+        ensures shape { shape_in self.new ≡ shape_in self.old }
+    {
+        if self.next().is_some() {
+            return None;
+        }
+        match self.stage {
+            Stage::Idle => None,
+            Stage::Planned(answer) => {
+                self.stage = Stage::Idle;
+                Some(answer)
+            }
+        }
+    }
+}

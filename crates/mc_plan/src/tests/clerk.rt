@@ -1,0 +1,286 @@
+ghost use Rattle.std.specs.Prelude.{ℕ, ◌≡◌, ◌+◌, ◌<◌, ◌≤◌, IfOk, IfSome, IsTrue, Some, slice_set, length};
+ghost use Rattle.mc_words.specs.Checks.{shape_of};
+ghost use Rattle.mc_words.specs.Places.{IsWidth};
+ghost use Rattle.mc_core.specs.Effects.{bumped, words_after};
+ghost use Rattle.mc_core.specs.Phases.{Phase, Quiet, running};
+ghost use Rattle.mc_core.specs.States.{opening};
+ghost use Rattle.mc_core.specs.declared.act.Act.TheVariants.{Close, Moment};
+ghost use Rattle.mc_plan.specs.Desks.{key_after, IsBeside, IsMaking};
+
+use crate::{Answer, Clerk, NoMemory, Peek, Put, PutError, Remove, moment, read};
+use mc_core::Act;
+use mc_words::{Checked, Mix, Shape, ShapeError};
+use std::alloc::{AllocError, Global};
+use std::test::Fail;
+
+/// The words of a table whose values have one word, and the key of the deed that runs.
+#[derive(Drop)]
+struct Desk {
+    checked: Checked,
+    words: Vec<u64>,
+    key: u64,
+}
+
+/// A look at the words.
+#[derive(Drop)]
+struct Look<'a>(&'a [u64]);
+
+impl Peek for Look<'_> {
+    ghost words = { λ look. look.0.now };
+
+    fn word(&mut self, n: usize) -> u64 {
+        self.0[n]
+    }
+}
+
+impl Desk {
+    #[tactic(auto, unfolding(mc_core::specs::States::opening))]
+    fn new(alloc: Global, checked: &Checked) -> Result<Desk, AllocError>
+        ensures words { IfOk result (λ d. d.words.items ≡ (opening 1 (shape_of checked.now)).words) }
+        ensures shape { IfOk result (λ d. d.checked ≡ checked.now) }
+    {
+        let words = vec![in alloc; 0; checked.recency_start::<1>()]?;
+        Ok(Desk {
+            checked: *checked,
+            words,
+            key: 0,
+        })
+    }
+
+    /// Writes a word, if the place is one of the table.
+    fn write(&mut self, n: usize, word: u64) -> bool
+        ensures written { IsTrue result → self.new.words.items ≡ slice_set self.old.words.items n word }
+        ensures shape { self.new.checked ≡ self.old.checked }
+        ensures key { self.new.key ≡ self.old.key }
+    {
+        if n >= self.words.len() {
+            return false;
+        }
+        self.words[n] = word;
+        true
+    }
+
+    /// Adds one to the version of the running deed's key.
+    #[tactic(auto, unfolding(mc_words::specs::Places::version, mc_words::specs::Places::with_version))]
+    fn bump(&mut self) -> bool
+        ensures bumped { IsTrue result → self.new.words.items ≡ bumped (shape_of self.old.checked) self.old.words.items self.old.key }
+        ensures shape { self.new.checked ≡ self.old.checked }
+        ensures key { self.new.key ≡ self.old.key }
+    {
+        let n = self.checked.version_place(self.checked.stripe(self.key));
+        if n >= self.words.len() || self.words[n] == u64::MAX {
+            return false;
+        }
+        self.words[n] += 1;
+        true
+    }
+
+    /// Adds one to the moment.
+    #[tactic(auto, unfolding(mc_words::specs::Places::moment, mc_words::specs::Places::with_moment))]
+    fn tick(&mut self) -> bool
+        ensures ticked { IsTrue result → self.new.words.items ≡ words_after 1 (shape_of self.old.checked) self.old.words.items Quiet Moment }
+        ensures shape { self.new.checked ≡ self.old.checked }
+        ensures key { self.new.key ≡ self.old.key }
+    {
+        if self.words.is_empty() || self.words[0] == u64::MAX {
+            return false;
+        }
+        self.words[0] += 1;
+        true
+    }
+
+    /// Makes the act, if it is one of the table.
+    #[tactic(auto, unfolding(mc_words::specs::Places::payload, mc_words::specs::Places::with_slot, mc_words::specs::Places::with_item))]
+    fn make(&mut self, act: Act) -> bool
+        ensures made { IsTrue result → (p : Phase) → (act ≡ Close → running p ≡ Some self.old.key) → self.new.words.items ≡ words_after 1 (shape_of self.old.checked) self.old.words.items p act }
+        ensures key { self.new.key ≡ key_after self.old.key act }
+        ensures shape { self.new.checked ≡ self.old.checked }
+    {
+        let checked = self.checked;
+        let shape = checked.shape();
+        match act {
+            Act::Open(key, _) => {
+                self.key = key;
+                self.bump()
+            }
+            Act::Slot(place, word) => {
+                if place.bucket >= shape.buckets || place.slot >= 4 {
+                    return false;
+                }
+                self.write(checked.slot_place(place), word)
+            }
+            Act::Item(i, j, word) => {
+                if i >= shape.items || j > 1 {
+                    return false;
+                }
+                self.write(checked.item_place::<1>(i, j), word)
+            }
+            Act::Moment => self.tick(),
+            Act::Close => self.bump(),
+            Act::Hand(_) | Act::Mark(_) => true,
+        }
+    }
+}
+
+/// Makes the acts of the call that the clerk is in, and takes its answer.
+fn run(clerk: &mut Clerk<1>, desk: &mut Desk) -> Option<Answer>
+    requires { IsMaking clerk.old (shape_of desk.old.checked) desk.old.words.items desk.old.key }
+    ensures beside { IfSome result (λ a. IsBeside clerk.new (shape_of desk.new.checked) desk.new.words.items) }
+{
+    'acts: while let Some(act) = clerk.next() {
+        if !desk.make(act) {
+            return None;
+        }
+        clerk.after(&mut Look(desk.words.as_slice()), 0);
+    }
+    clerk.answer()
+}
+
+fn put(clerk: &mut Clerk<1>, desk: &mut Desk, key: u64, value: u64) -> Option<Answer>
+    requires { IsBeside clerk.old (shape_of desk.old.checked) desk.old.words.items }
+    ensures beside { IfSome result (λ a. IsBeside clerk.new (shape_of desk.new.checked) desk.new.words.items) }
+{
+    clerk.put(&mut Look(desk.words.as_slice()), key, [value]);
+    run(clerk, desk)
+}
+
+fn remove(clerk: &mut Clerk<1>, desk: &mut Desk, key: u64) -> Option<Answer>
+    requires { IsBeside clerk.old (shape_of desk.old.checked) desk.old.words.items }
+    ensures beside { IfSome result (λ a. IsBeside clerk.new (shape_of desk.new.checked) desk.new.words.items) }
+{
+    clerk.remove(&mut Look(desk.words.as_slice()), key);
+    run(clerk, desk)
+}
+
+fn checked_with(items: u32, depth: u8, limit: u64) -> Result<Checked, ShapeError> {
+    let shape = Shape {
+        buckets: 4,
+        items,
+        stripes: 1,
+        depth,
+        tries: 2,
+        limit,
+        mix: Mix::Plain,
+    };
+    shape.check()
+}
+
+/// The clerk of a new table, and its words.
+fn start(alloc: Global, checked: &Checked) -> Result<(Clerk<1>, Desk), NoMemory>
+    ensures beside { IfOk result (λ r. IsBeside r.0 (shape_of r.1.checked) r.1.words.items) }
+{
+    let clerk = Clerk::new(alloc, checked)?;
+    let desk = Desk::new(alloc, checked)?;
+    Ok((clerk, desk))
+}
+
+fn stored(at: u64, moves: u8) -> Answer {
+    Answer::Put(Ok(Put::Stored {
+        at,
+        moves,
+        evicted: None,
+    }))
+}
+
+/// Puts the keys, and tells whether each was stored without a move.
+fn store_all(clerk: &mut Clerk<1>, desk: &mut Desk, keys: &[u64]) -> bool
+    requires { IsBeside clerk.old (shape_of desk.old.checked) desk.old.words.items }
+    ensures beside { IsTrue result → IsBeside clerk.new (shape_of desk.new.checked) desk.new.words.items }
+{
+    'keys: for (n, key) in keys.iter().enumerate() {
+        let Some(answer) = put(clerk, desk, *key, *key) else {
+            return false;
+        };
+        if answer != stored(n as u64 + 1, 0) {
+            return false;
+        }
+    }
+    true
+}
+
+/// What the words say of the key, and the length of the history.
+fn look_up(clerk: &Clerk<1>, desk: &Desk, key: u64) -> (Option<(u32, [u64; 1])>, u64)
+    requires { IsBeside clerk.now (shape_of desk.now.checked) desk.now.words.items }
+{
+    let mut look = Look(desk.words.as_slice());
+    let entry = read::<1, Look>(&desk.checked, &mut look, key);
+    (entry, moment(&desk.checked, &mut look))
+}
+
+/// Eight keys of the buckets 0 and 1, the first of them under tag 1, so that it can go to bucket 3.
+const FULL: [u64; 8] = [72057594037927936, 0, 4, 8, 12, 16, 20, 24];
+
+#[test]
+fn a_key_moves_to_make_room(rt: HostRuntime) -> Result<(), Fail> {
+    let checked = checked_with(16, 2, 1 << 62)?;
+    let (mut clerk, mut desk) = start(rt.alloc(), &checked)?;
+    assert!(rt; store_all(&mut clerk, &mut desk, &FULL));
+    let answer = put(&mut clerk, &mut desk, 28, 5).ok_or("an act was not made")?;
+    assert_eq!(rt; answer, stored(9, 1));
+    assert_eq!(rt; look_up(&clerk, &desk, 28), (Some((8, [5])), 9));
+    assert_eq!(rt; look_up(&clerk, &desk, FULL[0]), (Some((0, [FULL[0]])), 9));
+    assert_eq!(rt; look_up(&clerk, &desk, 32), (None, 9));
+    Ok(())
+}
+
+#[test]
+fn two_keys_move_to_make_room(rt: HostRuntime) -> Result<(), Fail> {
+    let checked = checked_with(16, 2, 1 << 62)?;
+    let (mut clerk, mut desk) = start(rt.alloc(), &checked)?;
+    let keys = [3, 7, 11, 15, 72057594037927936, 0, 4, 8, 12, 16, 20, 24];
+    assert!(rt; store_all(&mut clerk, &mut desk, &keys));
+    let answer = put(&mut clerk, &mut desk, 28, 1).ok_or("an act was not made")?;
+    assert_eq!(rt; answer, stored(13, 2));
+    Ok(())
+}
+
+#[test]
+fn a_key_without_a_path_is_refused(rt: HostRuntime) -> Result<(), Fail> {
+    let checked = checked_with(16, 0, 1 << 62)?;
+    let (mut clerk, mut desk) = start(rt.alloc(), &checked)?;
+    assert!(rt; store_all(&mut clerk, &mut desk, &FULL));
+    let answer = put(&mut clerk, &mut desk, 28, 5).ok_or("an act was not made")?;
+    assert_eq!(rt; answer, Answer::Put(Err(PutError::NoPath)));
+    assert_eq!(rt; look_up(&clerk, &desk, 28), (None, 8));
+    Ok(())
+}
+
+#[test]
+fn an_item_is_given_back_and_taken_again(rt: HostRuntime) -> Result<(), Fail> {
+    let checked = checked_with(2, 2, 1 << 62)?;
+    let (mut clerk, mut desk) = start(rt.alloc(), &checked)?;
+    assert!(rt; store_all(&mut clerk, &mut desk, &[0, 1]));
+    let refused = put(&mut clerk, &mut desk, 2, 5).ok_or("an act was not made")?;
+    assert_eq!(rt; refused, Answer::Put(Err(PutError::NoItem)));
+    let removed = remove(&mut clerk, &mut desk, 0).ok_or("an act was not made")?;
+    assert_eq!(rt; removed, Answer::Remove(Ok(Remove::Removed { at: 3 })));
+    let absent = remove(&mut clerk, &mut desk, 0).ok_or("an act was not made")?;
+    assert_eq!(rt; absent, Answer::Remove(Ok(Remove::NotThere { at: 3 })));
+    let answer = put(&mut clerk, &mut desk, 2, 5).ok_or("an act was not made")?;
+    assert_eq!(rt; answer, stored(4, 0));
+    assert_eq!(rt; look_up(&clerk, &desk, 2), (Some((0, [5])), 4));
+    Ok(())
+}
+
+#[test]
+fn the_last_version_changes_are_for_a_removal(rt: HostRuntime) -> Result<(), Fail> {
+    let checked = checked_with(16, 2, 8)?;
+    let (mut clerk, mut desk) = start(rt.alloc(), &checked)?;
+    assert!(rt; store_all(&mut clerk, &mut desk, &[0]));
+    let spent = put(&mut clerk, &mut desk, 1, 1).ok_or("an act was not made")?;
+    assert_eq!(rt; spent, Answer::Put(Err(PutError::Spent)));
+    let removed = remove(&mut clerk, &mut desk, 0).ok_or("an act was not made")?;
+    assert_eq!(rt; removed, Answer::Remove(Ok(Remove::Removed { at: 2 })));
+    Ok(())
+}
+
+#[test]
+fn a_key_that_is_there_is_renewed(rt: HostRuntime) -> Result<(), Fail> {
+    let checked = checked_with(16, 2, 1 << 62)?;
+    let (mut clerk, mut desk) = start(rt.alloc(), &checked)?;
+    assert!(rt; store_all(&mut clerk, &mut desk, &[7]));
+    let renewed = put(&mut clerk, &mut desk, 7, 9).ok_or("an act was not made")?;
+    assert_eq!(rt; renewed, Answer::Put(Ok(Put::Renewed { at: 2 })));
+    assert_eq!(rt; look_up(&clerk, &desk, 7), (Some((0, [9])), 2));
+    Ok(())
+}

@@ -1,0 +1,29 @@
+// The words of a value, and their writes into an item.
+ghost use Rattle.std.specs.Prelude.{◌≡◌, ◌+◌, ◌≤◌, ◌++◌, All, length};
+ghost use Rattle.arrayvec.specs.ArrayVec.{array_vec_len};
+ghost use Rattle.mc_words.specs.History.{IsWord};
+ghost use Rattle.mc_plan.specs.Plans.{value_acts};
+
+use arrayvec::ArrayVec;
+use mc_core::Act;
+
+/// The words of a value as a slice.
+pub(crate) fn words_of<const V: usize>(value: &[u64; V]) -> &[u64]
+    ensures value { result.now ≡ value.now }
+    ensures len { length result.now ≡ V }
+{
+    value.as_slice()
+}
+
+/// Adds the writes of the words into the item, after its key.
+pub(crate) fn add_value(acts: &mut ArrayVec<Act, 64>, item: u32, value: &[u64])
+    requires width { length value.now ≤ 8 }
+    requires room { array_vec_len acts.old + length value.now ≤ 64 }
+    ensures items { acts.new.items ≡ acts.old.items ++ value_acts item 1 value.now }
+    ensures many { array_vec_len acts.new ≡ array_vec_len acts.old + length value.now }
+    ensures words { All IsWord value.now }
+{
+    for (j, word) in value.iter().enumerate() {
+        acts.push(Act::Item(item, j as u8 + 1, *word));
+    }
+}
