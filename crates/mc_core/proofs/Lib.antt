@@ -29,6 +29,7 @@ pub mod Flags
 pub mod Allowed
 pub mod Changes
 pub mod Seeing
+pub mod Lengths
 pub mod Both
 pub mod Looking
 pub mod Opening

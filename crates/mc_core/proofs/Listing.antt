@@ -17,7 +17,7 @@ use Rattle.mc_core.specs.declared.event.Unlawful.{Unlawful}
 use Rattle.mc_core.specs.declared.event.Unlawful.TheVariants as unlawful
 use Rattle.mc_core.specs.declared.parts.Parts.{Parts}
 use Rattle.mc_core.proofs.Both.{set_there}
-use Rattle.mc_core.proofs.Stepping.{Leads, stand_for}
+use Rattle.mc_core.proofs.Stepping.{Leads, runs_append, stand_for}
 
 -- what an event told
 abbrev pub done_of : {V : ℕ} → Stepped V → List (Done V)
@@ -69,10 +69,6 @@ made_one {V} old new e out before after same leads told = record {
 -- no event
 pub made_none : {V : ℕ} (old new : Parts V) (done : List (Done V)) → shape_of_parts {V = V} new ≡ shape_of_parts {V = V} old → ((seen : World V) → StandFor {V = V} old seen → StandFor {V = V} new seen) → HasMade {V = V} old new [] done done
 made_none {V} old new done same stays = record { shape = same; made = λ seen s. (seen, refl, stays seen s, ([], sym (append-nil seen.ended), sym (append-nil done))) }
-
-runs_append : (V : ℕ) (sh : Shape) (w x y : World V) (es ds : List Event) → Runs V sh w es x → Runs V sh x ds y → Runs V sh w (es ++ ds) y
-runs_append V sh w x y [] ds r s = subst (λ (z : World V). Runs V sh z ds y) r s
-runs_append V sh w x y (e ∷ es) ds r s = (r.0, r.1, runs_append V sh r.0 x y es ds r.2 s)
 
 -- some events, and then some more
 pub made_then : {V : ℕ} (old mid new : Parts V) (es ds : List Event) (before between after : List (Done V)) → HasMade {V = V} old mid es before between → HasMade {V = V} mid new ds between after → HasMade {V = V} old new (es ++ ds) before after

@@ -1,6 +1,6 @@
 -- From the parts of a world to the world: it stands as some events leave it.
 use Rattle.std.proofs.Common.{ℕ, ◌≡◌, ◌+◌, List, [], ◌∷◌, ◌++◌, refl, sym, ◌∙◌, ap, subst, inl, inr, arith}
-use Rattle.std.specs.Prelude.{Result, Ok, Err, IfOk, IfErr, OnOk}
+use Rattle.std.specs.Prelude.{All, Result, Ok, Err, IfOk, IfErr, OnOk}
 use Rattle.mc_core.specs.Acts.{IsAllowed}
 use Rattle.mc_core.specs.Lists.{state_of}
 use Rattle.mc_core.specs.States.{State}
@@ -8,19 +8,33 @@ use Rattle.mc_core.specs.declared.act.Act.{Act}
 use Rattle.mc_core.specs.declared.act.Act.TheVariants as act
 use Rattle.mc_core.specs.declared.event.Event.TheVariants.{Write, Begin, Read}
 use Rattle.mc_core.specs.declared.event.Unlawful.TheVariants as unlawful
+use Rattle.mc_words.specs.Shapes.{IsShape}
 use Rattle.mc_words.specs.declared.shape.Shape.{Shape}
 use Rattle.mc_core.specs.Parts.{shape_of_parts, shown_of, StandFor, AreReached}
 use Rattle.mc_core.specs.Seen.{Shows, MayAct}
-use Rattle.mc_core.specs.Worlds.{World, IsWithin, HasChanges, bit_of, given_of, Steps, Gives, Refuses, Runs, IsReached, first_world}
+use Rattle.mc_core.specs.Worlds.{World, IsWithin, HasChanges, bit_of, given_of, Steps, Gives, Refuses, Runs, IsReached, IsTrueEnd, first_world}
 use Rattle.mc_core.specs.declared.event.Event.{Event}
 use Rattle.mc_core.specs.declared.event.Stepped.{Stepped}
 use Rattle.mc_core.specs.declared.event.Unlawful.{Unlawful}
 use Rattle.mc_core.specs.declared.parts.Parts.{Parts}
+use Rattle.mc_core.proofs.Reached.{worlds_are_true}
 
 -- one event more
 pub runs_push : (V : ℕ) (sh : Shape) (w : World V) (es : List Event) (x y : World V) (e : Event) → Runs V sh w es x → Steps V sh x e y → Runs V sh w (es ++ e ∷ []) y
 runs_push V sh w [] x y e r s = (y, subst (λ (z : World V). Steps V sh z e y) r s, refl)
 runs_push V sh w (d ∷ ds) x y e r s = (r.0, r.1, runs_push V sh r.0 ds x y e r.2 s)
+
+-- more events, one after the other
+pub runs_append : (V : ℕ) (sh : Shape) (w x y : World V) (es ds : List Event) → Runs V sh w es x → Runs V sh x ds y → Runs V sh w (es ++ ds) y
+runs_append V sh w x y [] ds r s = subst (λ (z : World V). Runs V sh z ds y) r s
+runs_append V sh w x y (e ∷ es) ds r s = (r.0, r.1, runs_append V sh r.0 x y es ds r.2 s)
+
+pub reached_append : (V : ℕ) (sh : Shape) (x y : World V) (es : List Event) → IsReached V sh x → Runs V sh x es y → IsReached V sh y
+reached_append V sh x y es r s = record { readers = r.readers; events = r.events ++ es; runs = runs_append V sh (first_world V sh r.readers) x y r.events es r.runs s }
+
+-- what has ended in a world that is reached replied truly
+pub reached_true : (V : ℕ) (sh : Shape) (x : World V) → IsShape sh → IsReached V sh x → All (IsTrueEnd V sh x) x.ended
+reached_true V sh x sound r = (worlds_are_true V sh r.readers r.events x sound r.runs).1
 
 pub reached_push : (V : ℕ) (sh : Shape) (x y : World V) (e : Event) → IsReached V sh x → Steps V sh x e y → IsReached V sh y
 reached_push V sh x y e r s = record { readers = r.readers; events = r.events ++ e ∷ []; runs = runs_push V sh (first_world V sh r.readers) r.events x y e r.runs s }

@@ -1,6 +1,9 @@
--- What is left of a look-up begins with the access that comes next, and there is always a way to its end.
-use Rattle.std.specs.Prelude.{ℕ, ◌≡◌, List, [], ◌∷◌, Option, Some, None}
+-- What is left of a look-up begins with the access that comes next, and there is always a way to its end, which is not far.
+use Rattle.std.specs.Prelude.{ℕ, ◌≡◌, ◌+◌, ◌*◌, ◌≤◌, List, [], ◌∷◌, length, Option, Some, None}
 use Rattle.mc_words.specs.declared.history.Reply.{Reply}
+use Rattle.mc_words.specs.Places.{payload}
+use Rattle.mc_words.specs.declared.shape.Shape.{Shape}
+use Rattle.mc_core.specs.Lookups.{IsLookup}
 use Rattle.mc_core.specs.Machine.{next_of, Left}
 use Rattle.mc_core.specs.Readings.{Reading}
 use Rattle.mc_core.specs.declared.access.Access.{Access}
@@ -18,3 +21,7 @@ NextIsDetermined V = (l : Lookup V) (rs : List Reading) (reply : Reply V) → Le
 -- some readings end the look-up
 abbrev pub CanEnd : ℕ → Type 0
 CanEnd V = (l : Lookup V) → (rs : List Reading) × (reply : Reply V) × Left l rs reply
+
+-- a look-up with so many tries left reads so many words at most
+abbrev pub LookupsAreShort : ℕ → Type 0
+LookupsAreShort V = (sh : Shape) (k t : ℕ) (rs : List Reading) (reply : Reply V) → IsLookup V sh k t rs reply → length rs ≤ t * (19 + payload V) + 1

@@ -1,5 +1,5 @@
 //! The laws of the core, one function each. A body does nothing: what it ensures is the law.
-ghost use Rattle.mc_core.specs.Course.{NextIsDetermined, CanEnd};
+ghost use Rattle.mc_core.specs.Course.{NextIsDetermined, CanEnd, LookupsAreShort};
 ghost use Rattle.mc_core.specs.Growth.{LawfulGrows, StatesFollow, FrontsStay, ReadingsStay, HistoriesGrow};
 ghost use Rattle.mc_core.specs.Laws.{AgreesAlways, StaysWhileEven, RepliesAreTrue, EvictsAreClear, CountsAlways, HandStays};
 ghost use Rattle.mc_core.specs.Worlds.{WorldsAreTrue};
@@ -83,6 +83,11 @@ pub fn next_is_determined<const V: usize>()
 /// Every look-up can be ended by some readings.
 pub fn lookups_can_end<const V: usize>()
     ensures { CanEnd V }
+{}
+
+/// No look-up reads more words than its tries allow.
+pub fn lookups_are_short<const V: usize>()
+    ensures { LookupsAreShort V }
 {}
 
 /// Whatever the writer and the readers do, one atomic step after the other: each look-up that ends replies what the map held at a moment between its first reading and its last.
