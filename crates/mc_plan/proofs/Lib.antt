@@ -19,6 +19,7 @@ pub mod Room
 pub mod Freeing
 pub mod Booking
 pub mod Onward
+pub mod Shown
 pub mod Driving
 pub mod Circling
 pub mod Cutting
