@@ -3,7 +3,7 @@ use Rattle.std.specs.Prelude.{ℕ, Result, Ok, Err}
 use Rattle.mc_script.specs.declared.command.LineFault.{LineFault}
 use Rattle.mc_script.specs.declared.command.LineFault.TheVariants as said
 use Rattle.mc_load.specs.declared.fault.Fault.{Fault}
-use Rattle.mc_load.specs.declared.fault.Fault.TheVariants.{ReadFailed, NoMemory, TooLong, NotACommand, BadNumber, WriteFailed}
+use Rattle.mc_load.specs.declared.fault.Fault.TheVariants.{ReadFailed, NoMemory, TooLong, NotACommand, BadNumber, NoSuchReader, StillRunning, NothingToStep, WriteFailed}
 use Rattle.mc_load.specs.declared.fault.Stop.{Stop}
 use Rattle.mc_load.specs.declared.fault.ReplayError.{ReplayError}
 
@@ -13,6 +13,9 @@ number_of NoMemory = 2
 number_of TooLong = 3
 number_of NotACommand = 4
 number_of BadNumber = 5
+number_of NoSuchReader = 6
+number_of StillRunning = 7
+number_of NothingToStep = 8
 number_of WriteFailed = 9
 
 -- 2 where the script is at fault, 3 where the machine is
@@ -22,6 +25,9 @@ status_of NoMemory = 3
 status_of TooLong = 2
 status_of NotACommand = 2
 status_of BadNumber = 2
+status_of NoSuchReader = 2
+status_of StillRunning = 2
+status_of NothingToStep = 2
 status_of WriteFailed = 3
 
 abbrev pub fault_of : LineFault → Fault

@@ -1,9 +1,9 @@
 pub mod Texts
-pub mod Tables
-pub mod Calls
-pub mod Writes
-pub mod Deeds
+pub mod Told
 pub mod Faults
+pub mod Replay
 pub mod Scripts
+pub mod Players
 pub mod Steps
+pub mod Options
 pub mod Programs

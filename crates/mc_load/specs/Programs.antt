@@ -1,25 +1,71 @@
--- What the program `mcstep` writes, and its exit status.
-use Rattle.std.specs.Prelude.{◌≡◌, ℕ, ◌⊎◌, List, Option, Result}
-use Rattle.std.specs.Io.KnownBytes.{Keeps}
+-- What the program `mcstep` reads, writes and tells, and its exit status.
+use Rattle.std.specs.Prelude.{◌≡◌, ◌≢◌, ℕ, ◌⊎◌, ◌++◌, ◌∷◌, List, [], take, codes, Option, Result, Ok, Err}
+use Rattle.std.specs.Io.KnownBytes.{Keeps, Appends}
+use Rattle.clap.specs.declared.error.kind.ErrorKind.{ErrorKind}
+use Rattle.clap.specs.declared.error.kind.ErrorKind.TheVariants as kind
 use Rattle.mc_words.specs.declared.shape.Shape.{Shape}
-use Rattle.mc_words.specs.Shapes.{IsShape}
+use Rattle.mc_words.specs.declared.shape.ShapeError.{ShapeError}
+use Rattle.mc_words.specs.Shapes.{IsShape, Refuses}
 use Rattle.mc_load.specs.declared.fault.Stop.{Stop}
+use Rattle.mc_load.specs.declared.options.Options.{Options}
 use Rattle.mc_load.specs.Faults.{exit_of}
+use Rattle.mc_load.specs.Options.{Gives, AsksHelp, IsFaulty}
 use Rattle.mc_load.specs.Scripts.{ReplaysKnown}
+use Rattle.mc_load.specs.Told.{shape_text, stop_text}
 
--- the output and the exit status are those of one replay over a table of this shape
-abbrev pub Ends : ℕ → Shape → Option (List ℕ) → Option (List ℕ) → Option (List ℕ) → ℕ → Type 0
-Ends V sh bytes old new status = (r : Result (Unit {0}) Stop) × ReplaysKnown V sh bytes old new r × (status ≡ exit_of r)
+-- the bytes that a reader has left, or that a writer holds, where they are known: before a run and after it
+pub record Stream : Type 0 where
+  pub old : Option (List ℕ)
+  pub new : Option (List ℕ)
 
--- a refusal before any line, with nothing written
-abbrev pub Refused : Option (List ℕ) → Option (List ℕ) → ℕ → Type 0
-Refused old new status = Keeps old new × ((status ≡ 2) ⊎ (status ≡ 3))
+abbrev pub stream : Option (List ℕ) → Option (List ℕ) → Stream
+stream old new = record { old = old; new = new }
 
--- the help was asked for; of its text no clause speaks
-abbrev pub Helps : ℕ → Type 0
-Helps status = (status ≡ 0) ⊎ (status ≡ 3)
+-- nothing was read of it, or written to it
+abbrev pub IsUntouched : Stream → Type 0
+IsUntouched s = Keeps s.old s.new
 
--- the script was replayed over some accepted shape, or the words or the shape were refused, or the help was printed
-abbrev pub Runs : Option (List ℕ) → Option (List ℕ) → Option (List ℕ) → ℕ → Type 0
-Runs bytes old new status =
-    ((V : ℕ) × (sh : Shape) × IsShape sh × Ends V sh bytes old new status) ⊎ (Refused old new status ⊎ Helps status)
+-- a line was written or, where a write failed, a beginning of it
+abbrev pub Tells : Stream → List ℕ → Type 0
+Tells errors text = (n : ℕ) × Appends errors.old errors.new (take n (text ++ 10 ∷ []))
+
+-- what is told of the end of a replay
+abbrev pub TellsEnd : Stream → Result (Unit {0}) Stop → Type 0
+TellsEnd errors (Ok u) = IsUntouched errors
+TellsEnd errors (Err stop) = Tells errors (stop_text stop)
+
+-- all is that of one replay over a table of this shape, with so many readers
+abbrev pub Ends : ℕ → Shape → ℕ → Stream → Stream → Stream → ℕ → Type 0
+Ends V sh readers input output errors status = (r : Result (Unit {0}) Stop) × ReplaysKnown V sh readers input.old output.old output.new r × TellsEnd errors r × (status ≡ exit_of r)
+
+-- the shape is refused, and nothing is replayed
+abbrev pub IsRefused : Shape → Stream → Stream → Stream → ℕ → Type 0
+IsRefused sh input output errors status =
+    (e : ShapeError) × Refuses sh e × IsUntouched input × IsUntouched output × Tells errors (codes "refused: " ++ shape_text e) × (status ≡ 2)
+
+-- a run with these options: a replay over their shape, or its refusal
+abbrev pub RunsOptions : Options → Stream → Stream → Stream → ℕ → Type 0
+RunsOptions o input output errors status =
+    (IsShape o.shape × Ends o.words o.shape o.readers input output errors status) ⊎ IsRefused o.shape input output errors status
+
+-- the help is printed; of its text no clause speaks
+abbrev pub Helps : Stream → ℕ → Type 0
+Helps errors status = IsUntouched errors × ((status ≡ 0) ⊎ (status ≡ 3))
+
+-- memory was short, and nothing is replayed
+abbrev pub IsShort : Stream → Stream → ℕ → Type 0
+IsShort output errors status = IsUntouched output × Tells errors (codes "refused: no memory") × (status ≡ 3)
+
+-- what comes of words that give no options, by the kind of their fault; the text of a fault is the library's
+abbrev pub TellsFault : ErrorKind → Stream → Stream → ℕ → Type 0
+TellsFault k output errors status =
+    ((k ≡ kind.OutOfMemory) × IsShort output errors status) ⊎
+    (((k ≡ kind.DisplayHelp) × Helps errors status) ⊎
+    ((k ≢ kind.OutOfMemory) × (k ≢ kind.DisplayHelp) × IsUntouched output × (status ≡ 2)))
+
+-- what the words of the command line ask for, and what comes of it
+pub data Runs (words : List (List ℕ)) (input output errors : Stream) (status : ℕ) : Type 0 where
+  runs : (o : Options) → Gives words o → RunsOptions o input output errors status → Runs words input output errors status
+  helps : AsksHelp words → IsUntouched input → Helps errors status → Runs words input output errors status
+  refuses : IsFaulty words → IsUntouched input → IsUntouched output → status ≡ 2 → Runs words input output errors status
+  is_short : IsUntouched input → IsShort output errors status → Runs words input output errors status

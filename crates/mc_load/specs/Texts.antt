@@ -1,14 +1,18 @@
--- The line that is written for an answer, without its end.
-use Rattle.std.specs.Prelude.{ℕ, List, ◌++◌, ◌∷◌, codes, Some, None, Ok, Err}
+-- The lines that are written for answers.
+use Rattle.std.specs.Prelude.{ℕ, List, [], ◌++◌, ◌∷◌, codes, Some, None, Ok, Err}
 use Rattle.std.specs.Fmt.{decimal}
 use Rattle.std.specs.List.{flat_map}
+use Rattle.mc_words.specs.declared.history.Reply.{Reply}
 use Rattle.mc_words.specs.declared.history.Reply.TheVariants.{Found, Absent, Busy}
-use Rattle.mc_load.specs.declared.answer.Answer.{Answer}
-use Rattle.mc_load.specs.declared.answer.Answer.TheVariants as answer
-use Rattle.mc_load.specs.declared.answer.Put.{Put}
-use Rattle.mc_load.specs.declared.answer.Put.TheVariants.{Stored, Renewed}
-use Rattle.mc_load.specs.declared.answer.PutError.TheVariants.{NoPath, AllRecent, Spent, NoItem}
-use Rattle.mc_load.specs.declared.answer.Remove.TheVariants.{Removed, NotThere}
+use Rattle.mc_core.specs.declared.event.Done.{Done}
+use Rattle.mc_core.specs.declared.event.Stepped.{Stepped}
+use Rattle.mc_core.specs.declared.event.Stepped.TheVariants as stepped
+use Rattle.mc_plan.specs.declared.answer.Answer.{Answer}
+use Rattle.mc_plan.specs.declared.answer.Answer.TheVariants as answer
+use Rattle.mc_plan.specs.declared.answer.Put.{Put}
+use Rattle.mc_plan.specs.declared.answer.Put.TheVariants.{Stored, Renewed}
+use Rattle.mc_plan.specs.declared.answer.PutError.TheVariants.{NoPath, AllRecent, Spent, NoItem}
+use Rattle.mc_plan.specs.declared.answer.Remove.TheVariants.{Removed, NotThere}
 
 -- the words of a value, a blank before each
 abbrev pub words_text : List ℕ → List ℕ
@@ -19,7 +23,7 @@ put_text (Stored at moves None) = codes "stored at " ++ decimal at ++ codes " mo
 put_text (Stored at moves (Some key)) = codes "stored at " ++ decimal at ++ codes " moves " ++ decimal moves ++ codes " evicted " ++ decimal key
 put_text (Renewed at) = codes "renewed at " ++ decimal at
 
-abbrev pub answer_text : {V : ℕ} → Answer V → List ℕ
+abbrev pub answer_text : Answer → List ℕ
 answer_text (answer.Put (Ok put)) = put_text put
 answer_text (answer.Put (Err NoPath)) = codes "refused no path"
 answer_text (answer.Put (Err AllRecent)) = codes "refused all recent"
@@ -28,6 +32,30 @@ answer_text (answer.Put (Err NoItem)) = codes "refused no item"
 answer_text (answer.Remove (Ok (Removed at))) = codes "removed at " ++ decimal at
 answer_text (answer.Remove (Ok (NotThere at))) = codes "not there at " ++ decimal at
 answer_text (answer.Remove (Err spent)) = codes "refused spent"
-answer_text (answer.Get (Found value at)) = codes "found" ++ words_text value ++ codes " at " ++ decimal at
-answer_text (answer.Get (Absent at)) = codes "absent at " ++ decimal at
-answer_text (answer.Get Busy) = codes "busy"
+
+abbrev pub reply_text : {V : ℕ} → Reply V → List ℕ
+reply_text (Found value at) = codes "found" ++ words_text value ++ codes " at " ++ decimal at
+reply_text (Absent at) = codes "absent at " ++ decimal at
+reply_text Busy = codes "busy"
+
+-- a reader's look-up that has ended
+abbrev pub done_text : {V : ℕ} → Done V → List ℕ
+done_text done = codes "reader " ++ decimal done.reader ++ codes " " ++ reply_text done.reply
+
+-- a line has its end
+abbrev pub line : List ℕ → List ℕ
+line text = text ++ 10 ∷ []
+
+abbrev pub answer_line : Answer → List ℕ
+answer_line a = line (answer_text a)
+
+abbrev pub reply_line : {V : ℕ} → Reply V → List ℕ
+reply_line reply = line (reply_text reply)
+
+abbrev pub done_line : {V : ℕ} → Done V → List ℕ
+done_line done = line (done_text done)
+
+-- what is written after an access: the line of the look-up that it ended
+abbrev pub end_text : {V : ℕ} → Stepped V → List ℕ
+end_text (stepped.Done done) = done_line done
+end_text given = []

@@ -1,5 +1,6 @@
-ghost use Rattle.std.specs.Prelude.{◌≡◌};
+ghost use Rattle.std.specs.Prelude.{◌≡◌, Some};
 ghost use Rattle.mc_load.specs.Faults.{number_of, status_of, fault_of};
+ghost use Rattle.mc_load.specs.Told.{fault_text, refusal_text, stop_text};
 
 use mc_script::LineFault;
 use std::fmt;
@@ -12,6 +13,9 @@ pub(crate) enum Fault {
     TooLong,
     NotACommand,
     BadNumber,
+    NoSuchReader,
+    StillRunning,
+    NothingToStep,
     WriteFailed,
 }
 
@@ -25,7 +29,8 @@ pub(crate) struct Stop {
 /// The line at which a script stopped, numbered from 1, and the number of the fault. Line 0: no line was read.
 ///
 /// 1 the input failed, 2 memory was refused, 3 the line is too long, 4 it is no command, 5 a word of it is no number,
-/// 9 the output failed.
+/// 6 there is no such reader, 7 a call or a look-up still runs, 8 none runs, 9 the output failed. At line 0, 6 says that
+/// there are not from 1 to 1024 readers.
 #[derive(Clone, Copy, Debug, PartialEq, Eq)]
 pub struct ReplayError {
     pub line: u64,
@@ -42,6 +47,9 @@ impl Fault {
             Fault::TooLong => 3,
             Fault::NotACommand => 4,
             Fault::BadNumber => 5,
+            Fault::NoSuchReader => 6,
+            Fault::StillRunning => 7,
+            Fault::NothingToStep => 8,
             Fault::WriteFailed => 9,
         }
     }
@@ -52,7 +60,12 @@ impl Fault {
     {
         match self {
             Fault::ReadFailed | Fault::NoMemory | Fault::WriteFailed => 3,
-            Fault::TooLong | Fault::NotACommand | Fault::BadNumber => 2,
+            Fault::TooLong
+            | Fault::NotACommand
+            | Fault::BadNumber
+            | Fault::NoSuchReader
+            | Fault::StillRunning
+            | Fault::NothingToStep => 2,
         }
     }
 
@@ -67,14 +80,49 @@ impl Fault {
 }
 
 impl fmt::Display for Fault {
+    ghost output = { λ fault. Some (fault_text fault) };
+
     fn fmt<W: fmt::Write>(&self, f: &mut fmt::Formatter<W>) -> fmt::Result {
         match self {
-            Fault::ReadFailed => f.write_str("read failed"),
-            Fault::NoMemory => f.write_str("no memory"),
-            Fault::TooLong => f.write_str("too long"),
-            Fault::NotACommand => f.write_str("not a command"),
-            Fault::BadNumber => f.write_str("bad number"),
-            Fault::WriteFailed => f.write_str("write failed"),
+            Fault::ReadFailed => write!(f, "read failed"),
+            Fault::NoMemory => write!(f, "no memory"),
+            Fault::TooLong => write!(f, "too long"),
+            Fault::NotACommand => write!(f, "not a command"),
+            Fault::BadNumber => write!(f, "bad number"),
+            Fault::NoSuchReader => write!(f, "no such reader"),
+            Fault::StillRunning => write!(f, "still running"),
+            Fault::NothingToStep => write!(f, "nothing to step"),
+            Fault::WriteFailed => write!(f, "write failed"),
+        }
+    }
+}
+
+/// A fault before any line.
+#[derive(Clone, Copy)]
+struct Opening(Fault);
+
+impl fmt::Display for Opening {
+    ghost output = { λ opening. Some (refusal_text opening.0) };
+
+    fn fmt<W: fmt::Write>(&self, f: &mut fmt::Formatter<W>) -> fmt::Result {
+        match self.0 {
+            Fault::NoSuchReader => write!(f, "readers must be from 1 to 1024"),
+            fault => write!(f, "{fault}"),
+        }
+    }
+}
+
+impl fmt::Display for Stop {
+    ghost output = { λ stop. Some (stop_text stop) };
+
+    fn fmt<W: fmt::Write>(&self, f: &mut fmt::Formatter<W>) -> fmt::Result {
+        let line = self.line;
+        let fault = self.fault;
+        if line == 0 {
+            let opening = Opening(fault);
+            write!(f, "refused: {opening}")
+        } else {
+            write!(f, "line {line}: {fault}")
         }
     }
 }

@@ -1,18 +1,19 @@
-//! The script engine of `mcstep` and the whole of its program, over a table with one caller.
+//! The script engine of `mcstep` and the whole of its program.
 #![tactic(auto)]
 
-mod answer;
-mod calls;
+mod command;
 mod engine;
 mod fault;
+mod lines;
 mod options;
+mod player;
+mod reading;
 mod step;
-mod table;
 #[cfg(test)]
 mod tests;
-mod writes;
+mod text;
+mod told;
 
-pub use answer::{Put, PutError, Remove, Spent};
 pub use engine::replay;
 pub use fault::ReplayError;
 pub use step::run_step;

@@ -1,11 +1,14 @@
 // The whole program `mcstep`, over any streams.
-ghost use Rattle.std.specs.Prelude.{◌≡◌, ◌⊎◌, Result};
+ghost use Rattle.std.specs.Prelude.{◌≡◌, ◌≤◌, ◌⊎◌, map};
+ghost use Rattle.clap.specs.Words.{kind_of};
+ghost use Rattle.clap.specs.declared.error.kind.ErrorKind.TheVariants as kind;
 ghost use Rattle.mc_words.specs.Checks.{shape_of};
 ghost use Rattle.mc_words.specs.Places.{IsWidth};
-ghost use Rattle.mc_load.specs.Programs.{Ends, Helps, Refused, Runs};
+ghost use Rattle.mc_load.specs.Programs.{stream, Ends, RunsOptions, TellsFault, Runs};
 
 use crate::engine::play;
-use crate::options::options_of;
+use crate::options::{Options, options_of};
+use crate::told::{Refusal, Short, tell};
 use clap::Error;
 use clap::error::ErrorKind;
 use mc_words::Checked;
@@ -13,55 +16,87 @@ use std::alloc::Global;
 use std::convert::AsStr;
 use std::io::{BufRead, Write};
 
+/// The status where the words of the command line or the shape are refused.
+const REFUSED: u8 = 2;
+
+/// The status where memory was short or a write failed.
+const FAILED: u8 = 3;
+
 /// Replays the script, and tells where it stopped.
 fn run_script<const V: usize, R: BufRead, W: Write, E: Write>(
     alloc: Global,
     checked: &Checked,
+    readers: u32,
     input: &mut R,
     output: &mut W,
     errors: &mut E,
 ) -> u8
-    requires width { IsWidth V }
-    requires flat { (shape_of checked.now).depth ≡ 0 }
-    ensures { Ends V (shape_of checked.now) (R.remaining input.old) (W.contents output.old) (W.contents output.new) result }
+    requires { IsWidth V }
+    ensures { Ends V (shape_of checked.now) readers (stream (R.remaining input.old) (R.remaining input.new))
+        (stream (W.contents output.old) (W.contents output.new)) (stream (E.contents errors.old) (E.contents errors.new)) result }
 {
-    match play::<V, R, W>(alloc, checked, input, output) {
+    match play::<V, R, W>(alloc, checked, readers, input, output) {
         Ok(()) => 0,
         Err(stop) => {
-            let line = stop.line;
-            let fault = stop.fault;
-            let _ = if line == 0 {
-                writeln!(errors, "refused: {fault}")
-            } else {
-                writeln!(errors, "line {line}: {fault}")
-            };
-            fault.status()
+            tell(errors, stop);
+            stop.fault.status()
         }
     }
 }
 
-/// Tells a fault of the command line, or prints the help that it asks for. A failed write to `errors` is passed over.
-fn tell<W: Write, E: Write>(error: Error, output: &mut W, errors: &mut E) -> u8
-    ensures { Refused (W.contents output.old) (W.contents output.new) result ⊎ Helps result }
+/// Runs with these options, of which the script comes from `input`.
+fn run_options<R: BufRead, W: Write, E: Write>(
+    alloc: Global,
+    options: Options,
+    input: &mut R,
+    output: &mut W,
+    errors: &mut E,
+) -> u8
+    requires { (1 ≤ options.words) × (options.words ≤ 2) }
+    ensures { RunsOptions options (stream (R.remaining input.old) (R.remaining input.new))
+        (stream (W.contents output.old) (W.contents output.new)) (stream (E.contents errors.old) (E.contents errors.new)) result }
 {
-    if error.kind() == ErrorKind::OutOfMemory {
-        let _ = writeln!(errors, "refused: no memory");
-        return 3;
+    match options.shape.check() {
+        Ok(checked) => {
+            let readers = options.readers;
+            if options.words == 1 {
+                run_script::<1, R, W, E>(alloc, &checked, readers, input, output, errors)
+            } else {
+                run_script::<2, R, W, E>(alloc, &checked, readers, input, output, errors)
+            }
+        }
+        Err(error) => {
+            tell(errors, Refusal(error));
+            REFUSED
+        }
     }
-    if error.exit_code() == 0 {
-        return match write!(output, "{error}") {
+}
+
+/// Prints the help that the words ask for, or tells their fault.
+fn tell_fault<W: Write, E: Write>(error: Error, output: &mut W, errors: &mut E) -> u8
+    ensures { TellsFault (kind_of error) (stream (W.contents output.old) (W.contents output.new))
+        (stream (E.contents errors.old) (E.contents errors.new)) result }
+{
+    match error.kind() {
+        ErrorKind::OutOfMemory => {
+            tell(errors, Short);
+            FAILED
+        }
+        ErrorKind::DisplayHelp => match write!(output, "{error}") {
             Ok(()) => 0,
-            Err(_) => 3,
-        };
+            Err(_) => FAILED,
+        },
+        _ => {
+            let _ = write!(errors, "{error}");
+            REFUSED
+        }
     }
-    let _ = write!(errors, "{error}");
-    2
 }
 
 /// The whole program `mcstep`: the words of the command line, its own name first, and its three streams.
 ///
 /// Answers the exit status: 0 at the end of the script; 2 where an option, the shape or a line is refused; 3 for want
-/// of memory, or a failed read or write.
+/// of memory, or a failed read or write. The text that tells a fault of the words, and the help's, are `clap`'s.
 pub fn run_step<S: AsStr, R: BufRead, W: Write, E: Write>(
     alloc: Global,
     words: &[S],
@@ -69,23 +104,11 @@ pub fn run_step<S: AsStr, R: BufRead, W: Write, E: Write>(
     output: &mut W,
     errors: &mut E,
 ) -> u8
-    ensures { Runs (R.remaining input.old) (W.contents output.old) (W.contents output.new) result }
+    ensures { Runs (map S.text words.now) (stream (R.remaining input.old) (R.remaining input.new))
+        (stream (W.contents output.old) (W.contents output.new)) (stream (E.contents errors.old) (E.contents errors.new)) result }
 {
-    let options = match options_of(alloc, words) {
-        Ok(options) => options,
-        Err(error) => return tell(error, output, errors),
-    };
-    match options.shape.check() {
-        Ok(checked) => {
-            if options.words == 1 {
-                run_script::<1, R, W, E>(alloc, &checked, input, output, errors)
-            } else {
-                run_script::<2, R, W, E>(alloc, &checked, input, output, errors)
-            }
-        }
-        Err(error) => {
-            let _ = writeln!(errors, "refused: {error}");
-            2
-        }
+    match options_of(alloc, words) {
+        Ok(options) => run_options(alloc, options, input, output, errors),
+        Err(error) => tell_fault(error, output, errors),
     }
 }

@@ -1,8 +1,10 @@
 // Runs of the whole program, and replays of its scripts.
 mod lines;
+mod moves;
 mod numbers;
 mod options;
 mod rows;
+mod steps;
 mod streams;
 
 use crate::run_step;

@@ -1,5 +1,5 @@
 -- The words that are numbers, and their values.
-use Rattle.std.specs.Prelude.{ℕ, ◌^◌, ◌==◌, ◌&&◌, Bool, List, length, map, nat_lt, Option, Some, None, Result, Ok, Err, if◌then◌else◌}
+use Rattle.std.specs.Prelude.{ℕ, ◌^◌, ◌==◌, ◌&&◌, Bool, List, ◌∷◌, length, map, nat_lt, Option, Some, None, Result, Ok, Err, if◌then◌else◌}
 use Rattle.std.specs.List.{list_all}
 use Rattle.std.specs.Char.{is_ascii_digit}
 use Rattle.std.specs.Str.Parse.{digits_value}
@@ -18,3 +18,8 @@ unfoldable pub numbers_in : ℕ → List (List ℕ) → Result (List ℕ) LineFa
 numbers_in n words =
     if length words == n then (if list_all is_number words then Ok (map (digits_value 10) words) else Err BadNumber)
     else Err NotACommand
+
+-- a first number and the others, as one list
+abbrev pub joined : Result (ℕ × List ℕ) LineFault → Result (List ℕ) LineFault
+joined (Ok found) = Ok (found.0 ∷ found.1)
+joined (Err fault) = Err fault

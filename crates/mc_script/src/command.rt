@@ -1,11 +1,11 @@
 // What a line says.
-ghost use Rattle.std.specs.Prelude.{◌≡◌, ◌+◌};
+ghost use Rattle.std.specs.Prelude.{◌≡◌};
 ghost use Rattle.std.specs.Str.{is_utf8};
-ghost use Rattle.mc_script.specs.Commands.{command_in, command_of, made, put_of};
-ghost use Rattle.mc_script.specs.Numbers.{numbers_in};
+ghost use Rattle.mc_script.specs.Commands.{command_in, command_of};
 ghost use Rattle.mc_script.specs.Words.{words_of};
 
-use crate::number::{number, numbers};
+use crate::number::{entry, numbers};
+use crate::step::{begin, read, write};
 use crate::words::{first_word, is_word};
 use std::str;
 
@@ -15,6 +15,16 @@ pub enum Command<const V: usize> {
     Put(u64, [u64; V]),
     Remove(u64),
     Get(u64),
+    /// A `put` by single acts.
+    BeginPut(u64, [u64; V]),
+    /// A `remove` by single acts.
+    BeginRemove(u64),
+    /// So many acts of the writer, of which there is at least one.
+    Write(u64),
+    /// A reader begins to look up a key.
+    BeginGet(u64, u64),
+    /// So many accesses of a reader, of which there is at least one.
+    Read(u64, u64),
 }
 
 /// Why a line is no command.
@@ -33,27 +43,14 @@ fn is_text(line: &[u8]) -> bool
     }
 }
 
-/// A key, and the words of its value.
-fn put<const V: usize>(words: &[u8]) -> Result<Command<V>, LineFault>
-    ensures { result ≡ made (put_of V) (numbers_in (V + 1) (words_of words.now)) }
-{
-    match first_word(words) {
-        None => Err(LineFault::NotACommand),
-        Some((key, rest)) => {
-            let value = numbers(rest)?;
-            let key = number(key).ok_or(LineFault::BadNumber)?;
-            Ok(Command::Put(key, value))
-        }
-    }
-}
-
 /// What a line's first word and those that follow it say.
 #[tactic(auto, unfolding(crate::specs::Commands::command_of))]
 fn form<const V: usize>(name: &[u8], words: &[u8]) -> Result<Command<V>, LineFault>
     ensures { result ≡ command_of V name.now (words_of words.now) }
 {
     if is_word(name, b"put") {
-        return put(words);
+        let (key, value) = entry(words)?;
+        return Ok(Command::Put(key, value));
     }
     if is_word(name, b"remove") {
         let key = numbers::<1>(words)?;
@@ -62,6 +59,15 @@ fn form<const V: usize>(name: &[u8], words: &[u8]) -> Result<Command<V>, LineFau
     if is_word(name, b"get") {
         let key = numbers::<1>(words)?;
         return Ok(Command::Get(key[0]));
+    }
+    if is_word(name, b"begin") {
+        return begin(words);
+    }
+    if is_word(name, b"w") {
+        return write(words);
+    }
+    if is_word(name, b"r") {
+        return read(words);
     }
     Err(LineFault::NotACommand)
 }

@@ -7,6 +7,7 @@ mod command;
 mod line;
 mod number;
 mod output;
+mod step;
 #[cfg(test)]
 mod tests;
 mod words;

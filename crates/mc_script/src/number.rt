@@ -1,9 +1,9 @@
 // The numbers of a line.
-ghost use Rattle.std.specs.Prelude.{◌≡◌, ◌<◌, ◌^◌, true, cond, nat_lt, length};
+ghost use Rattle.std.specs.Prelude.{◌≡◌, ◌<◌, ◌^◌, ◌+◌, ◌∷◌, true, cond, nat_lt, length};
 ghost use Rattle.std.specs.List.{list_all};
 ghost use Rattle.std.specs.Char.{is_ascii_digit};
 ghost use Rattle.std.specs.Str.Parse.{digits_value};
-ghost use Rattle.mc_script.specs.Numbers.{number_of, numbers_in};
+ghost use Rattle.mc_script.specs.Numbers.{number_of, numbers_in, joined};
 ghost use Rattle.mc_script.specs.Words.{words_of};
 
 use crate::command::LineFault;
@@ -67,4 +67,26 @@ pub(crate) fn numbers<const N: usize>(words: &[u8]) -> Result<[u64; N], LineFaul
         return Err(LineFault::BadNumber);
     }
     Ok(found)
+}
+
+/// A first number, and exactly `N` others.
+pub(crate) fn first_and<const N: usize>(
+    first: &[u8],
+    words: &[u8],
+) -> Result<(u64, [u64; N]), LineFault>
+    ensures { joined result ≡ numbers_in (N + 1) (first.now ∷ words_of words.now) }
+{
+    let others = numbers(words)?;
+    let first = number(first).ok_or(LineFault::BadNumber)?;
+    Ok((first, others))
+}
+
+/// A key, and the words of its value.
+pub(crate) fn entry<const V: usize>(words: &[u8]) -> Result<(u64, [u64; V]), LineFault>
+    ensures { joined result ≡ numbers_in (V + 1) (words_of words.now) }
+{
+    match first_word(words) {
+        None => Err(LineFault::NotACommand),
+        Some((key, rest)) => first_and(key, rest),
+    }
 }

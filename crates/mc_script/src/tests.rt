@@ -203,6 +203,64 @@ fn values_of_two_words(rt: HostRuntime) {
 }
 
 #[test]
+fn single_steps(rt: HostRuntime) {
+    let cases: [(&[u8], Result<Option<Command<1>>, LineFault>); 33] = [
+        (b"begin put 1 2", Ok(Some(Command::BeginPut(1, [2])))),
+        (b"begin\tremove 3 ", Ok(Some(Command::BeginRemove(3)))),
+        (b"begin 0 get 4", Ok(Some(Command::BeginGet(0, 4)))),
+        (b"begin 007 get 4", Ok(Some(Command::BeginGet(7, 4)))),
+        (b"w", Ok(Some(Command::Write(1)))),
+        (b" w ", Ok(Some(Command::Write(1)))),
+        (b"w 1", Ok(Some(Command::Write(1)))),
+        (
+            b"w 18446744073709551615",
+            Ok(Some(Command::Write(18_446_744_073_709_551_615))),
+        ),
+        (b"r 0", Ok(Some(Command::Read(0, 1)))),
+        (b"r 2 12", Ok(Some(Command::Read(2, 12)))),
+        (b"w 0", Err(LineFault::BadNumber)),
+        (b"w 00", Err(LineFault::BadNumber)),
+        (b"w x", Err(LineFault::BadNumber)),
+        (b"r x", Err(LineFault::BadNumber)),
+        (b"r 0 0", Err(LineFault::BadNumber)),
+        (b"r x 0", Err(LineFault::BadNumber)),
+        (b"r 0 x", Err(LineFault::BadNumber)),
+        (b"begin put x 2", Err(LineFault::BadNumber)),
+        (b"begin put 1 x", Err(LineFault::BadNumber)),
+        (b"begin put get 5", Err(LineFault::BadNumber)),
+        (b"begin remove x", Err(LineFault::BadNumber)),
+        (b"begin remove get 5", Err(LineFault::BadNumber)),
+        (b"begin x get 5", Err(LineFault::BadNumber)),
+        (b"begin 0 get x", Err(LineFault::BadNumber)),
+        (b"begin", Err(LineFault::NotACommand)),
+        (b"begin put", Err(LineFault::NotACommand)),
+        (b"begin put 1", Err(LineFault::NotACommand)),
+        (b"begin remove 1 2", Err(LineFault::NotACommand)),
+        (b"begin get 1", Err(LineFault::NotACommand)),
+        (b"begin 0 put 1 2", Err(LineFault::NotACommand)),
+        (b"w 1 2", Err(LineFault::NotACommand)),
+        (b"r", Err(LineFault::NotACommand)),
+        (b"r 0 1 2", Err(LineFault::NotACommand)),
+    ];
+    for (line, want) in cases {
+        assert!(rt; parse::<1>(line) == want);
+    }
+}
+
+#[test]
+fn single_steps_with_values_of_two_words(rt: HostRuntime) {
+    let cases: [(&[u8], Result<Option<Command<2>>, LineFault>); 4] = [
+        (b"begin put 1 2 3", Ok(Some(Command::BeginPut(1, [2, 3])))),
+        (b"begin put 1 2", Err(LineFault::NotACommand)),
+        (b"begin put get 5", Err(LineFault::BadNumber)),
+        (b"begin 1 get 5", Ok(Some(Command::BeginGet(1, 5)))),
+    ];
+    for (line, want) in cases {
+        assert!(rt; parse::<2>(line) == want);
+    }
+}
+
+#[test]
 fn what_a_narrow_writer_takes(rt: HostRuntime) -> Result<(), AllocError> {
     let alloc = rt.alloc();
     let text = b"absent at 0\n".as_slice();

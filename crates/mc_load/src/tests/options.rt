@@ -4,13 +4,16 @@ use std::str;
 #[test]
 fn faults_of_the_command_line(rt: HostRuntime) {
     let script = b"get 0\n".as_slice();
-    let faults: [&[&str]; 21] = [
+    let faults: [&[&str]; 24] = [
         &["mcstep", "--other"],
         &["mcstep", "--stripes", "1"],
-        &["mcstep", "--depth", "0"],
-        &["mcstep", "--tries", "2"],
-        &["mcstep", "--limit", "8"],
-        &["mcstep", "--readers", "2"],
+        &["mcstep", "--depth", "256"],
+        &["mcstep", "--depth", "+2"],
+        &["mcstep", "--tries", "256"],
+        &["mcstep", "--limit", "18446744073709551616"],
+        &["mcstep", "--limit", "+8"],
+        &["mcstep", "--readers", "4294967296"],
+        &["mcstep", "--readers=-1"],
         &["mcstep", "script"],
         &["mcstep", "--buckets"],
         &["mcstep", "--words", "0"],
@@ -44,8 +47,8 @@ fn faults_of_the_command_line(rt: HostRuntime) {
 fn texts_of_the_command_line(rt: HostRuntime) {
     let cases: [(&[&str], &str); 5] = [
         (
-            &["mcstep", "--depth", "2"],
-            "error: unexpected argument '--depth' found\n\nUsage: mcstep [OPTIONS]\n\nFor more information, try '--help'.\n",
+            &["mcstep", "--zzz", "1"],
+            "error: unexpected argument '--zzz' found\n\nUsage: mcstep [OPTIONS]\n\nFor more information, try '--help'.\n",
         ),
         (
             &["mcstep", "--words", "3"],
@@ -77,7 +80,16 @@ fn help_goes_to_standard_output(rt: HostRuntime) {
         assert_eq!(rt; outcome.status, 0);
         assert!(rt; outcome.errors.is_empty());
         let text = str::from_utf8(outcome.output.as_slice()).unwrap_or("");
-        for option in ["--buckets", "--items", "--mix", "--words"] {
+        for option in [
+            "--buckets",
+            "--items",
+            "--depth",
+            "--tries",
+            "--limit",
+            "--mix",
+            "--readers",
+            "--words",
+        ] {
             assert!(rt; text.contains(option), "{option} is missing");
         }
         assert!(rt; !text.contains("absent"));
@@ -88,7 +100,18 @@ fn help_goes_to_standard_output(rt: HostRuntime) {
 fn refused_shapes(rt: HostRuntime) {
     let buckets = b"refused: buckets must be a power of two from 2 to 1048576\n".as_slice();
     let items = b"refused: items must be from 1 to four times the buckets\n".as_slice();
-    let cases: [(&[&str], &[u8]); 9] = [
+    let depth = b"refused: depth must be from 0 to 8\n".as_slice();
+    let tries = b"refused: tries must be from 1 to 64\n".as_slice();
+    let limit = b"refused: limit must be from 0 to 4611686018427387904\n".as_slice();
+    let readers = b"refused: readers must be from 1 to 1024\n".as_slice();
+    let cases: [(&[&str], &[u8]); 16] = [
+        (&["mcstep", "--depth", "9"], depth),
+        (&["mcstep", "--tries", "0"], tries),
+        (&["mcstep", "--tries", "65"], tries),
+        (&["mcstep", "--limit", "4611686018427387905"], limit),
+        (&["mcstep", "--readers", "0"], readers),
+        (&["mcstep", "--readers", "1025"], readers),
+        (&["mcstep", "--readers", "0", "--items", "0"], items),
         (&["mcstep", "--buckets", "3"], buckets),
         (&["mcstep", "--buckets", "0"], buckets),
         (&["mcstep", "--buckets", "1"], buckets),
@@ -112,8 +135,17 @@ fn refused_shapes(rt: HostRuntime) {
 
 #[test]
 fn accepted_options(rt: HostRuntime) {
-    let cases: [&[&str]; 8] = [
+    let cases: [&[&str]; 11] = [
         PLAIN,
+        &["mcstep", "--depth", "8", "--tries", "64"],
+        &["mcstep", "--limit", "0", "--readers", "1024"],
+        &[
+            "mcstep",
+            "--depth=0",
+            "--tries=1",
+            "--limit=4611686018427387904",
+            "--readers=1",
+        ],
         &[
             "mcstep",
             "--buckets=4",

@@ -3,6 +3,7 @@ ghost use Rattle.mc_words.specs.Checks.{shape_of};
 
 use super::PLAIN;
 use crate::fault::Fault;
+use crate::told::Refusal;
 use crate::{ReplayError, replay, run_step};
 use mc_words::{Checked, Mix, Shape, ShapeError};
 use std::alloc::AllocError;
@@ -106,10 +107,13 @@ fn a_replay_writes_its_answers(rt: HostRuntime) -> Result<(), ShapeError> {
 fn a_replay_tells_the_line_and_the_fault(rt: HostRuntime) -> Result<(), ShapeError> {
     let alloc = rt.alloc();
     let checked = checked()?;
-    let cases: [(&[u8], u64, u8); 3] = [
-        (b"get 0\nget 0\nw", 3, 4),
+    let cases: [(&[u8], u64, u8); 6] = [
+        (b"get 0\nget 0\nx", 3, 4),
         (b"get 0\nget x\nw", 2, 5),
         (b"#\n\nput 0", 3, 4),
+        (b"get 0\nr 2", 2, 6),
+        (b"begin remove 0\nbegin put 0 7\nget 0", 3, 7),
+        (b"w", 1, 8),
     ];
     for (script, line, number) in cases {
         let mut input = script;
@@ -135,6 +139,44 @@ fn a_write_fails_in_the_middle(rt: HostRuntime) -> Result<(), ShapeError> {
         output.taken.as_slice(),
         b"stored at 1 moves 0\nrenew".as_slice()
     );
+    Ok(())
+}
+
+#[test]
+fn a_refused_line_has_its_answer_written_first(rt: HostRuntime) -> Result<(), ShapeError> {
+    let alloc = rt.alloc();
+    let checked = checked()?;
+    for (room, number) in [(20, 8), (19, 9), (0, 9)] {
+        let mut input = b"begin put 0 7\nw 8".as_slice();
+        let mut output = Narrow {
+            taken: Vec::new(alloc),
+            room,
+        };
+        let result = replay::<1, &[u8], Narrow>(alloc, &checked, 2, &mut input, &mut output);
+        assert!(rt;
+            result == Err(ReplayError { line: 2, number }),
+            "with room for {room}"
+        );
+        assert_eq!(rt;
+            output.taken.as_slice(),
+            &b"stored at 1 moves 0\n".as_slice()[..room]
+        );
+    }
+    Ok(())
+}
+
+#[test]
+fn readers_are_refused_before_any_line(rt: HostRuntime) -> Result<(), ShapeError> {
+    let alloc = rt.alloc();
+    let checked = checked()?;
+    for readers in [0, 1025] {
+        let mut input = SCRIPT;
+        let mut output = Vec::new(alloc);
+        let result = replay::<1, &[u8], Vec<u8>>(alloc, &checked, readers, &mut input, &mut output);
+        assert!(rt; result == Err(ReplayError { line: 0, number: 6 }));
+        assert!(rt; output.is_empty());
+        assert_eq!(rt; input.len(), SCRIPT.len());
+    }
     Ok(())
 }
 
@@ -257,6 +299,25 @@ fn texts_of_the_faults(rt: HostRuntime) -> Result<(), AllocError> {
         (Fault::WriteFailed, "write failed"),
     ] {
         assert_eq!(rt; format!(in alloc; "{fault}")?.as_str(), text);
+    }
+    Ok(())
+}
+
+#[test]
+fn texts_of_refused_shapes(rt: HostRuntime) -> Result<(), AllocError> {
+    let alloc = rt.alloc();
+    for error in [
+        ShapeError::Buckets,
+        ShapeError::Items,
+        ShapeError::Stripes,
+        ShapeError::Depth,
+        ShapeError::Tries,
+        ShapeError::Limit,
+    ] {
+        let refusal = Refusal(error);
+        let told = format!(in alloc; "{refusal}")?;
+        let text = format!(in alloc; "refused: {error}")?;
+        assert_eq!(rt; told.as_str(), text.as_str());
     }
     Ok(())
 }

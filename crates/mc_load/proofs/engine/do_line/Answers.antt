@@ -1,13 +1,34 @@
-use Rattle.std.proofs.Common.{◌≡◌, ◌∙◌, ap, rules, Ok, Some, [], ◌∷◌, ◌++◌, string_bytes}
+use Rattle.std.proofs.Common.{◌≡◌, ℕ, ◌<◌, sym, subst, rules, Ok, Err, Some, [], string_bytes}
+use Rattle.std.specs.Prelude.{OnOk, ◌^◌}
 use Rattle.mc_script.specs.Commands.{command_in}
-use Rattle.mc_load.specs.Texts.{answer_text}
-use Rattle.mc_load.proofs.Replaying.{line_answered}
+use Rattle.mc_load.specs.Players.{shape_in, most_before, FitsStill}
+use Rattle.mc_load.specs.Steps.{DoesLine}
+use Rattle.mc_load.specs.declared.fault.Fault.{Fault}
+use Rattle.mc_load.specs.declared.player.Player.{Player}
+use Rattle.mc_load.proofs.Replaying.{line_too_many, line_faulty, line_does, one_line_more, has_room}
 use Rattle.mc_load.proofs.engine.do_line.Goals as goal
 
-pub returns-in-Ok-clause-does : goal.returns-in-Ok-clause-does
-returns-in-Ok-clause-does g c = λ h table.
-    let did = c.answer-answer.ensures h table in
+pub returns-then-before-ge-MOST_LINES-clause-does : goal.returns-then-before-ge-MOST_LINES-clause-does
+returns-then-before-ge-MOST_LINES-clause-does g c = λ s fits.
     let empty : string_bytes c.clear.new.self ≡ [] = search rules in
-    let wrote : string_bytes c.writeln.new.self ≡ answer_text c.answer-answer.result ++ 10 ∷ [] = c.in-Ok.ensures.bytes ∙ ap (λ l. l ++ (answer_text c.answer-answer.result ++ 10 ∷ [])) empty in
+    (s, line_too_many g.row.V _ c.args.before s c.args.line.now (string_bytes c.clear.new.self) (search rules) empty, tt)
+
+pub returns-in-Err-clause-does : goal.returns-in-Err-clause-does
+returns-in-Err-clause-does g c = λ s fits.
+    let empty : string_bytes c.clear.new.self ≡ [] = search rules in
+    let few : c.args.before < 2 ^ 40 = search rules in
+    let says : command_in g.row.V c.args.line.now ≡ Err c.in-Err.fault = search rules in
+    let faulty = line_faulty g.row.V (shape_in c.args.player.now) c.args.before s c.args.line.now (string_bytes c.clear.new.self) c.in-Err.fault c.requires.short few says empty in
+    (s, subst (λ (f : Fault). DoesLine g.row.V (shape_in c.args.player.now) c.args.before s c.args.line.now (string_bytes c.clear.new.self) s (Err f)) (sym c.of_line.ensures) faulty, tt)
+
+pub returns-in-Ok-Some-clause-does : goal.returns-in-Ok-Some-clause-does
+returns-in-Ok-Some-clause-does g c = λ s fits.
+    let few : c.args.before < 2 ^ 40 = search rules in
     let says : command_in g.row.V c.args.line.now ≡ Ok (Some c.in-Ok-Some.command) = search rules in
-    (did.0, did.1, did.2, line_answered g.row.V c.args.table.now.checked.shape c.args.before _ _ c.args.line.now _ c.in-Ok-Some.command c.answer-answer.result c.requires.short (search rules) says did.3 wrote)
+    let did = c.do_command.ensures (most_before c.args.before) s (has_room c.args.before few) fits in
+    let old : Player g.row.V = c.args.player.now in
+    let new : Player g.row.V = c.do_command.new.player in (
+      did.0,
+      line_does g.row.V (shape_in old) c.args.before s did.0 c.args.line.now (string_bytes c.do_command.new.text) c.in-Ok-Some.command c.do_command.result c.requires.short few says did.1,
+      subst (λ (n : ℕ). OnOk c.do_command.result (FitsStill g.row.V old new n did.0)) (one_line_more c.args.before) did.2,
+    )

@@ -1,12 +1,14 @@
-use Rattle.std.proofs.Common.{◌≡◌, ◌≤◌, ◌^◌}
-use Rattle.std.specs.Prelude.{List}
-use Rattle.mc_words.specs.declared.history.Change.{Change}
+use Rattle.std.proofs.Common.{◌≡◌, ℕ, ◌≤◌, ◌^◌}
+use Rattle.mc_load.specs.Replay.{Replay, first_replay}
+use Rattle.mc_load.specs.Scripts.{IsReaders}
+use Rattle.mc_load.specs.Players.{shape_in, most_before, Fits}
 use Rattle.mc_load.specs.Steps.{KnownSoFar}
-use Rattle.mc_load.specs.Tables.{IsTable, state_of}
 use Rattle.mc_load.proofs.engine.play_lines.Given as goal
 
+-- the lines so far were played, whatever the number of readers is
 abbrev pub invariant-lines : goal.invariant-lines
 invariant-lines g l =
-    ((h : List (Change g.row.V)) × IsTable g.row.V l.table h × (l.table.checked ≡ l.initial.table.checked) ×
-    KnownSoFar g.row.V l.initial.table.checked.shape (g.R.Read.remaining l.initial.input) (g.R.Read.remaining l.input) (g.W.Write.contents l.initial.output) (g.W.Write.contents l.output) l.before (state_of l.table h))
-    × (l.before ≤ 2 ^ 40)
+    ((readers : ℕ) → IsReaders readers → Fits g.row.V l.fn.player 0 (first_replay g.row.V (shape_in {V = g.row.V} l.fn.player) readers) →
+    (s : Replay g.row.V) × Fits g.row.V l.player (most_before l.before) s × (shape_in {V = g.row.V} l.player ≡ shape_in {V = g.row.V} l.fn.player) ×
+    KnownSoFar g.row.V (shape_in {V = g.row.V} l.fn.player) (first_replay g.row.V (shape_in {V = g.row.V} l.fn.player) readers) (g.R.Read.remaining l.fn.input) (g.R.Read.remaining l.input) (g.W.Write.contents l.fn.output) (g.W.Write.contents l.output) l.before s) ×
+    (l.before ≤ 2 ^ 40)

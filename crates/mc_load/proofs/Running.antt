@@ -1,0 +1,28 @@
+-- Runs of the whole program, from those of its parts.
+use Rattle.std.proofs.Common.{◌≡◌, ℕ, List, subst, inl, inr}
+use Rattle.clap.specs.declared.error.kind.ErrorKind.{ErrorKind}
+use Rattle.mc_words.specs.declared.checked.Checked.{Checked}
+use Rattle.mc_words.specs.declared.shape.Shape.{Shape}
+use Rattle.mc_words.specs.Checks.{shape_of}
+use Rattle.mc_words.specs.Shapes.{IsShape}
+use Rattle.mc_load.specs.declared.options.Options.{Options}
+use Rattle.mc_load.specs.Options.{HasFault, IsUnread}
+use Rattle.mc_load.specs.Programs.{Stream, Ends, IsUntouched, RunsOptions, Runs, TellsFault}
+use Rattle.mc_load.specs.Programs.Runs.{helps, refuses, is_short}
+
+-- a replay over the shape that was checked
+pub runs_accepted : (o : Options) (V : ℕ) (c : Checked) (input output errors : Stream) (status : ℕ) → shape_of c ≡ o.shape → V ≡ o.words → Ends V (shape_of c) o.readers input output errors status
+    → RunsOptions o input output errors status
+runs_accepted o V c input output errors status shape width ends =
+    let at_width = subst (λ (v : ℕ). Ends v (shape_of c) o.readers input output errors status) width ends in
+    inl (subst IsShape shape c.sound, subst (λ (sh : Shape). Ends o.words sh o.readers input output errors status) shape at_width)
+
+-- the end of a run whose words give no options
+pub runs_fault : (words : List (List ℕ)) (k : ErrorKind) (input output errors : Stream) (status : ℕ) → IsUnread words k → IsUntouched input → TellsFault k output errors status → Runs words input output errors status
+runs_fault words k input output errors status why kept (inl short) = is_short kept short.1
+runs_fault words k input output errors status (inl oom) kept (inr (inl help)) = absurd (cc)
+runs_fault words k input output errors status (inr (inl fault)) kept (inr (inl help)) = helps (subst (HasFault words) help.0 fault) kept help.1
+runs_fault words k input output errors status (inr (inr none)) kept (inr (inl help)) = absurd (cc)
+runs_fault words k input output errors status (inl oom) kept (inr (inr told)) = absurd (told.0 oom)
+runs_fault words k input output errors status (inr (inl fault)) kept (inr (inr told)) = refuses (inl (k, told.1, fault)) kept told.2 told.3
+runs_fault words k input output errors status (inr (inr none)) kept (inr (inr told)) = refuses (inr none.1) kept told.2 told.3
