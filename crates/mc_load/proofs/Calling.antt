@@ -25,7 +25,8 @@ use Rattle.mc_plan.specs.declared.answer.Answer.{Answer}
 use Rattle.mc_plan.specs.declared.clerk.Clerk.{Clerk}
 use Rattle.mc_load.specs.declared.player.Player.{Player}
 use Rattle.mc_load.specs.Replay.{Pending, WriterMakes, LooksUp}
-use Rattle.mc_load.specs.Players.{shape_in, most_steps, IsAt, IsIdle, IsInCall, IsRunning, BeginsAs, GoesOn, MakesAct, Completes, CallIsWhole, pending, with_acts, bit_given}
+use Rattle.mc_load.specs.Players.{shape_in, most_steps, IsAt, IsIdle, IsInCall, IsRunning, BeginsAs, GoesOn, MakesAct, Completes, CallIsWhole, with_acts, bit_given}
+use Rattle.mc_load.specs.Replay.{pending}
 
 -- ---- acts of the writer in a world
 event_of : Made → Event

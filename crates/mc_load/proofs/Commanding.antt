@@ -7,15 +7,17 @@ use Rattle.mc_core.specs.Lists.{state_of}
 use Rattle.mc_core.specs.States.{State}
 use Rattle.mc_core.specs.Worlds.{World}
 use Rattle.mc_plan.specs.Clerks as clerks
-use Rattle.mc_plan.specs.Clerks.{Call, Knows, next_act, acts_left}
+use Rattle.mc_plan.specs.Clerks.{Answered, Call, Knows, next_act, acts_left}
 use Rattle.mc_plan.specs.declared.answer.Answer.{Answer}
 use Rattle.mc_plan.specs.declared.clerk.Clerk.{Clerk}
 use Rattle.mc_load.specs.declared.fault.Fault.{Fault}
 use Rattle.mc_load.specs.declared.fault.Fault.TheVariants.{ReadFailed, NoMemory, TooLong, NotACommand, BadNumber, NoSuchReader, StillRunning, NothingToStep, WriteFailed}
 use Rattle.mc_load.specs.declared.player.Player.{Player}
-use Rattle.mc_load.specs.Replay.{Replay, Pending, WriterMakes, WhereIdle, CallDoes, BeginDoes, GetDoes, ActDoes}
-use Rattle.mc_load.specs.Players.{shape_in, most_steps, HasRoom, IsIdle, IsRunning, FitsCall, Fits, FitsStill, pending, with_acts, Begins, MakesAct, CallIsWhole, Looks, DoneAs, ActsSoFar}
+use Rattle.mc_load.specs.Replay.{Replay, Pending, IsUnanswered, WriterMakes, WhereIdle, CallDoes, BeginDoes, GetDoes, ActDoes}
+use Rattle.mc_load.specs.Players.{shape_in, most_steps, HasRoom, IsIdle, IsRunning, FitsCall, Fits, FitsStill, with_acts, Begins, MakesAct, CallIsWhole, Looks, DoneAs, ActsSoFar}
+use Rattle.mc_load.specs.Replay.{pending}
 use Rattle.mc_load.specs.Texts.{answer_line, reply_line}
+use Rattle.mc_plan.proofs.Ending.{can_end}
 use Rattle.mc_load.proofs.Calling.{acts_are_left, idle_more}
 use Rattle.mc_load.proofs.Accessing.{fits_more}
 
@@ -76,6 +78,18 @@ unfolding idle_in
 get_done V old new most k s reply text none looks is =
     (inl (none, refl, (reply, looks.acts, looks.looks, looks.makes, refl, is)), (looks.shape, looks.idle))
 
+-- a call with acts to make comes to an answer
+unanswered : (V : ℕ) (player : Player V) (most : ℕ) (p : Pending V) (w : World V) (sh : Shape) → IsRunning V player most p w → shape_in player ≡ sh → IsUnanswered V sh p
+unanswered V player most p w sh runs same =
+    let ends = can_end V player.clerk p.call p.from p.acts runs.0.on in
+    let left = acts_are_left V player.clerk p.call p.from p.acts runs.0.on runs.1 in
+    record {
+      more = ends.0;
+      told = ends.1;
+      some = omega (arith, left, ends.3);
+      answered = subst (λ (y : Shape). Answered V y p.call p.from (p.acts ++ ends.0) ends.1) (runs.0.at.shape ∙ same) ends.2;
+    }
+
 -- ---- calls that begin
 makes_none_to : (V : ℕ) (sh : Shape) (w : World V) → WriterMakes V sh w [] w
 makes_none_to V sh w = (refl, sym (append-nil w.acts))
@@ -97,7 +111,7 @@ pub begin_begun : (V : ℕ) (old new : Player V) (most : ℕ) (call : Call) (s :
     → BeginDoes (shape_in old) s call text None (running_in (shape_in old) s call) × FitsStill V old new (most + most_steps) (running_in (shape_in old) s call)
 unfolding running_in
 begin_begun V old new most call s text none begins is =
-    (inl (none, refl, inr (is, refl)), (begins.0, fits_more V new most (most + most_steps) (Some (pending call (state_of V (shape_in old) s.world.acts))) s.world (omega arith) begins.1))
+    (inl (none, refl, inr (is, refl, unanswered V new most (pending call (state_of V (shape_in old) s.world.acts)) s.world (shape_in old) begins.1 begins.0)), (begins.0, fits_more V new most (most + most_steps) (Some (pending call (state_of V (shape_in old) s.world.acts))) s.world (omega arith) begins.1))
 
 -- ---- one act of a call after the other
 -- no act was made yet
@@ -125,7 +139,7 @@ act_goes_on V old new most n m p before so_far runs act =
     let count : most + n + 1 ≡ most + (n + 1) = omega arith in (
       record { world = act.after; running = Some (with_acts p (act.made ∷ [])) },
       [],
-      (act.made, act.makes, inl (refl, refl)),
+      (act.made, act.makes, inl (refl, refl, unanswered V new (most + n + 1) (with_acts p (act.made ∷ [])) act.after (shape_in old) act.goes_on.0 act.shape)),
       sym (append-nil before),
       record {
         fits = subst (λ (k : ℕ). IsRunning V new k (with_acts p (act.made ∷ [])) act.after) count act.goes_on.0;

@@ -4,7 +4,6 @@ use Rattle.mc_words.specs.declared.history.Reply.{Reply}
 use Rattle.mc_words.specs.declared.shape.Shape.{Shape}
 use Rattle.mc_core.specs.Lists.{Made, after_all, state_of}
 use Rattle.mc_core.specs.Seen.{Shows}
-use Rattle.mc_core.specs.States.{State}
 use Rattle.mc_core.specs.Worlds.{World, Running}
 use Rattle.mc_core.specs.declared.act.Act.TheVariants.{Mark}
 use Rattle.mc_core.specs.declared.event.Stepped.{Stepped}
@@ -15,7 +14,7 @@ use Rattle.mc_plan.specs.declared.answer.Answer.{Answer}
 use Rattle.mc_load.specs.declared.fault.Fault.{Fault}
 use Rattle.mc_load.specs.declared.fault.Fault.TheVariants.{ReadFailed, NoMemory, NoSuchReader, WriteFailed}
 use Rattle.mc_load.specs.declared.player.Player.{Player}
-use Rattle.mc_load.specs.Replay.{Replay, Pending, WriterMakes, LooksUp, ActDoes}
+use Rattle.mc_load.specs.Replay.{Replay, Pending, pending, WriterMakes, LooksUp, ActDoes}
 use Rattle.mc_load.specs.Scripts.{IsReaders}
 
 abbrev pub shape_in : {V : ℕ} → Player V → Shape
@@ -71,10 +70,6 @@ FitsCall V player most (Some p) w = IsRunning V player most p w
 -- the player is this replay, in which there were at most so many events
 abbrev pub Fits : (V : ℕ) → Player V → ℕ → Replay V → Type 0
 Fits V player most s = FitsCall V player most s.running s.world
-
--- a call that begins now
-abbrev pub pending : {V : ℕ} → Call → State V → Pending V
-pending call s = record { call = call; from = s; acts = [] }
 
 -- some acts more of the call
 abbrev pub with_acts : {V : ℕ} → Pending V → List Made → Pending V

@@ -57,12 +57,23 @@ abbrev pub CallDoes : {V : ℕ} → Shape → Replay V → Call → List ℕ →
 CallDoes {V} sh s call text fault t =
     WhereIdle s text fault t ((a : Answer) × (acts : List Made) × IsAnswered V sh s t call acts a × (text ≡ answer_line a))
 
+-- the call can still come to an answer, after one act more or several
+pub record IsUnanswered (V : ℕ) (sh : Shape) (p : Pending V) : Type 0 where
+  pub more : List Made
+  pub told : Answer
+  pub some : 0 < length more
+  pub answered : Answered V sh p.call p.from (p.acts ++ more) told
+
+-- the call that begins here
+abbrev pub pending : {V : ℕ} → Call → State V → Pending V
+pending call s = record { call = call; from = s; acts = [] }
+
 -- a call that is to be made act by act: it runs now, or is answered where it needs no act
 abbrev pub BeginDoes : {V : ℕ} → Shape → Replay V → Call → List ℕ → Option Fault → Replay V → Type 0
 BeginDoes {V} sh s call text fault t =
     WhereIdle s text fault t (
     ((a : Answer) × IsAnswered V sh s t call [] a × (text ≡ answer_line a)) ⊎
-    ((text ≡ []) × (t ≡ record { world = s.world; running = Some (record { call = call; from = state_now sh s; acts = [] }) }))
+    ((text ≡ []) × (t ≡ record { world = s.world; running = Some (pending call (state_now sh s)) }) × IsUnanswered V sh (pending call (state_now sh s)))
     )
 
 -- what the writer's look-up replies, and the mark that it makes of the key's item
@@ -79,11 +90,15 @@ GetDoes {V} sh s k text fault t =
     (reply : Reply V) × (acts : List Made) × LooksUp sh (state_now sh s) k reply acts × WriterMakes V sh s.world acts t.world × (t.running ≡ None) × (text ≡ reply_line reply)
     )
 
+-- the call with one act more
+abbrev pub with_act : {V : ℕ} → Pending V → Made → Pending V
+with_act p m = record { call = p.call; from = p.from; acts = p.acts ++ m ∷ [] }
+
 -- one act of the call that runs; after its last act the call is answered
 abbrev pub ActDoes : {V : ℕ} → Shape → Replay V → Pending V → List ℕ → Replay V → Type 0
 ActDoes {V} sh s p text t =
     (m : Made) × WriterMakes V sh s.world (m ∷ []) t.world × (
-    ((text ≡ []) × (t.running ≡ Some (record { call = p.call; from = p.from; acts = p.acts ++ m ∷ [] }))) ⊎
+    ((text ≡ []) × (t.running ≡ Some (with_act p m)) × IsUnanswered V sh (with_act p m)) ⊎
     ((a : Answer) × Answered V sh p.call p.from (p.acts ++ m ∷ []) a × (text ≡ answer_line a) × (t.running ≡ None))
     )
 

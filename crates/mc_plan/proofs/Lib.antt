@@ -23,3 +23,4 @@ pub mod Shown
 pub mod Driving
 pub mod Circling
 pub mod Cutting
+pub mod Ending

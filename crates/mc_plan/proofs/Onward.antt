@@ -213,6 +213,20 @@ unfolding next_act
 below_next V clerk call s acts a on next =
     next_below clerk.plan.items clerk.made a (ap (λ (st : Stage). next_in st clerk.plan.items clerk.made) (sym on.owes) ∙ next)
 
+-- all acts of the plan are a whole call
+pub whole_plan : (V : ℕ) (clerk : Clerk V) (call : Call) (s : State V) (acts : List Made) (told : Answer) → IsPlanned V clerk.books clerk.plan.items call s told → acts_of acts ≡ clerk.plan.items → Answered V (shape_in clerk) call s acts told
+whole_plan V clerk call s acts told p done =
+    let sh = shape_in clerk in
+    let plan = clerk.plan.items in
+    let still : AreStill (acts_of acts) = subst AreStill (sym done) (still_marks V sh _ call told plan p.marks) in
+    let now : after_all sh s acts ≡ left V sh s plan = same_state V sh s acts still ∙ ap (λ (xs : List Act). left V sh s xs) done in
+    record {
+      allowed = same_allowed V sh s acts still (subst (λ (xs : List Act). AreAllowed sh s (made xs)) (sym done) p.allowed);
+      quiet = subst (λ (t : State V). IsQuiet V sh t) (sym now) p.ends.quiet;
+      means = subst (λ (t : State V). Means sh call told s t) (sym now) p.means;
+      marks = subst (λ (xs : List Act). Marks V sh (after_all sh s acts).words call told xs) (sym done) (subst (λ (t : State V). Marks V sh t.words call told plan) (sym now) p.marks);
+    }
+
 -- no act is left: the call is whole
 pub whole_call : (V : ℕ) (clerk : Clerk V) (call : Call) (s : State V) (acts : List Made) (told : Answer) → IsOn V clerk call s acts → next_act clerk ≡ None → clerk.stage ≡ Planned told
     → Answered V (shape_in clerk) call s acts told × Knows V (record clerk { stage = Idle }) (after_all (shape_in clerk) s acts)
@@ -224,15 +238,9 @@ whole_call V clerk call s acts told on next owes =
     let at : slice_get plan clerk.made ≡ None = ap (λ (st : Stage). next_in st plan clerk.made) (sym on.owes) ∙ next in
     let whole = next_none plan clerk.made at in
     let done : acts_of acts ≡ plan = on.done ∙ whole in
-    let still = still_on V clerk call s acts on in
-    let now : after_all sh s acts ≡ left V sh s plan = same_state V sh s acts still ∙ ap (λ (xs : List Act). left V sh s xs) done in
-    let p = subst (λ (x : Answer). IsPlanned V clerk.books plan call s x) same on.planned in (
-      record {
-        allowed = same_allowed V sh s acts still (subst (λ (xs : List Act). AreAllowed sh s (made xs)) (sym done) p.allowed);
-        quiet = subst (λ (t : State V). IsQuiet V sh t) (sym now) p.ends.quiet;
-        means = subst (λ (t : State V). Means sh call told s t) (sym now) p.means;
-        marks = subst (λ (xs : List Act). Marks V sh (after_all sh s acts).words call told xs) (sym done) (subst (λ (t : State V). Marks V sh t.words call told plan) (sym now) p.marks);
-      },
+    let p = subst (λ (x : Answer). IsPlanned V clerk.books plan call s x) same on.planned in
+    let now : after_all sh s acts ≡ left V sh s plan = same_state V sh s acts (still_on V clerk call s acts on) ∙ ap (λ (xs : List Act). left V sh s xs) done in (
+      whole_plan V clerk call s acts told p done,
       record { idle = refl; books = subst (λ (t : State V). AreBooksOf V clerk.books t) (sym now) p.ends },
     )
 

@@ -1,7 +1,8 @@
 use Rattle.std.proofs.Common.{rules, arith}
 use Rattle.mc_core.specs.Lists.{state_of}
 use Rattle.mc_plan.specs.Clerks.{Call, RemoveCall}
-use Rattle.mc_load.specs.Players.{shape_in, pending}
+use Rattle.mc_load.specs.Players.{shape_in}
+use Rattle.mc_load.specs.Replay.{pending}
 use Rattle.mc_load.specs.declared.player.Player.{Player}
 use Rattle.mc_load.proofs.Calling.{whole_at_once, whole_in_time}
 use Rattle.mc_load.proofs.player.Player.remove.Goals as goal
