@@ -4,7 +4,7 @@
 set -euo pipefail
 top=$(cd "$(dirname "$0")/.." && pwd)
 program=${1:-$top/crates/mcstep/out/mcstep}
-rounds=50000
+rounds=200000
 folder=$(mktemp -d)
 trap 'rm -rf "$folder"' EXIT
 
@@ -24,13 +24,11 @@ script() {
     }'
 }
 
-# The least of seven times of a script, in microseconds.
+# The least processor time of five runs of a script, in milliseconds.
 least() {
-    local best= run from
-    for _ in 1 2 3 4 5 6 7; do
-        from=$(date +%s%N)
-        play "$1" < "$2" > /dev/null
-        run=$((($(date +%s%N) - from) / 1000))
+    local best= run TIMEFORMAT='%3U %3S'
+    for _ in 1 2 3 4 5; do
+        run=$({ time play "$1" < "$2" > /dev/null; } 2>&1 | awk '{ printf "%d", ($1 + $2) * 1000 }')
         if [ -z "$best" ] || [ "$run" -lt "$best" ]; then best=$run; fi
     done
     echo "$best"
@@ -43,7 +41,7 @@ for load in 500 "$tenth"; do
         script "$load" "$buckets" "$rounds" > "$folder/whole"
         fill=$(least "$buckets" "$folder/fill")
         whole=$(least "$buckets" "$folder/whole")
-        cost+=($(((whole - fill) * 1000 / rounds)))
+        cost+=($(((whole - fill) * 1000000 / rounds)))
     done
     awk -v load="$load" -v small="${cost[0]}" -v large="${cost[1]}" 'BEGIN {
         printf "load %.3f: %d ns at 1024 buckets, %d ns at 262144, ratio %.2f\n", load / 1000, small, large, large / small
