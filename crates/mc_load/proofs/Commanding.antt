@@ -1,5 +1,6 @@
 -- What a command leaves, from what the player's calls leave.
 use Rattle.std.proofs.Common.{◌≡◌, ℕ, ◌+◌, ◌-◌, ◌<◌, ◌≤◌, true, false, List, [], ◌∷◌, ◌++◌, Option, Some, None, Result, Ok, Err, refl, sym, ap, ◌∙◌, subst, inl, inr, arith, append-nil}
+use Rattle.std.proofs.lemmas.Bool.{false≢true}
 use Rattle.std.specs.Prelude.{IsSome, OnOk, OnErr, is_some, ◌^◌}
 use Rattle.mc_words.specs.declared.history.Reply.{Reply}
 use Rattle.mc_words.specs.declared.shape.Shape.{Shape}
@@ -26,17 +27,14 @@ knows_no_act : (V : ℕ) (clerk : Clerk V) (s : State V) → Knows V clerk s →
 unfolding next_act
 knows_no_act V clerk s knows = ap (λ y. is_some (clerks.next_in y clerk.plan.items clerk.made)) knows.idle
 
-true_is_not_false : true ≡ false → ⊥
-true_is_not_false e = absurd (cc e)
-
 -- the clerk has no act to make: no call runs
 pub idle_of : (V : ℕ) (player : Player V) (most : ℕ) (running : Option (Pending V)) (w : World V) → FitsCall V player most running w → is_some (next_act player.clerk) ≡ false → (running ≡ None) × IsIdle V player most w
 idle_of V player most None w fits none = (refl, fits)
-idle_of V player most (Some p) w fits none = absurd (true_is_not_false (sym fits.1 ∙ none))
+idle_of V player most (Some p) w fits none = absurd (false≢true (sym none ∙ fits.1))
 
 -- the clerk has one: a call runs
 pub runs_of : (V : ℕ) (player : Player V) (most : ℕ) (running : Option (Pending V)) (w : World V) → FitsCall V player most running w → is_some (next_act player.clerk) ≡ true → (p : Pending V) × (running ≡ Some p) × IsRunning V player most p w
-runs_of V player most None w fits some = absurd (true_is_not_false (sym some ∙ knows_no_act V player.clerk _ fits.knows))
+runs_of V player most None w fits some = absurd (false≢true (sym (knows_no_act V player.clerk _ fits.knows) ∙ some))
 runs_of V player most (Some p) w fits some = (p, refl, fits)
 
 -- a line that is refused while a call runs
@@ -121,7 +119,7 @@ acts_none V player most s fits =
     record { fits = subst (λ (n : ℕ). FitsCall V player n s.running s.world) (sym here) fits; few = few s.running fits; past = omega arith }
   where
     few : (running : Option (Pending V)) → FitsCall V player most running s.world → IsSome running → 0 + acts_left player.clerk ≤ most_steps
-    few None fits some = absurd (true_is_not_false (sym some))
+    few None fits some = absurd (false≢true some)
     few (Some p) fits some = omega (arith, fits.0.few)
 
 -- the call that runs, where the clerk has an act to make
@@ -163,7 +161,7 @@ act_ends V old new most n m p a before after room so_far runs act is =
       is,
       record {
         fits = subst (λ (k : ℕ). IsIdle V new k act.after) count act.goes_on.1;
-        few = λ none. absurd (true_is_not_false (sym none));
+        few = λ none. absurd (false≢true none);
         past = omega (arith, few, some);
       },
       act.shape,

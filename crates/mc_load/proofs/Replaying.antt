@@ -1,5 +1,6 @@
 -- The lines of a replay, one after the other.
 use Rattle.std.proofs.Common.{◌≡◌, ℕ, ◌+◌, ◌-◌, ◌^◌, ◌<◌, ◌≤◌, ◌∙◌, true, false, Result, List, [], ◌∷◌, ◌++◌, Option, Some, None, Ok, Err, refl, sym, ap, subst, length, take, arith, inl, inr, take_all, append_assoc, append-nil, length-append}
+use Rattle.std.proofs.lemmas.Bool.{false≢true}
 use Rattle.std.proofs.KnownBytes.{Appends-trans, Appends-nil, Appends-kept, Keeps-refl}
 use Rattle.std.specs.Io.BufRead.{first_line, drop_through}
 use Rattle.std.specs.Io.KnownBytes.{Keeps, Appends}
@@ -105,18 +106,15 @@ plays_part V sh before s t line text fault n None b c d gives does wrote part = 
 plays_part V sh before s t line text fault n (Some x) b c d gives does wrote part =
     (gives.0, text, fault, n, subst (λ (l : List ℕ). LineDoes V sh before s l text fault t) gives.1 does, part, wrote)
 
-true_is_not_false : true ≡ false → ⊥
-true_is_not_false e = absurd (cc e)
-
 pub not_wanting : (fault : Fault) → is_wanting (Err fault) ≡ false → fault ≡ NoMemory → ⊥
-not_wanting fault other e = true_is_not_false (sym (ap (λ (f : Fault). is_wanting (Err f)) e) ∙ other)
+not_wanting fault other e = false≢true (sym other ∙ ap (λ (f : Fault). is_wanting (Err f)) e)
 
 -- a line whose answers were not all written
 pub plays_cut : (V : ℕ) (sh : Shape) (before : ℕ) (s t : Replay V) (line text : List ℕ) (n : ℕ) (a b c d : Option (List ℕ)) (done : Result (Unit {0}) Fault) → GivesLine a b line (Ok true)
     → DoesLine V sh before s line text t done → is_wanting done ≡ false → Appends c d (take n text) → n < length text → PlaysKnown V sh before s t a b c d (Err WriteFailed)
 plays_cut V sh before s t line text n a b c d (Ok u) gives does other wrote part = plays_part V sh before s t line text None n a b c d gives does wrote part
 plays_cut V sh before s t line text n a b c d (Err ReadFailed) gives does other wrote part = absurd does
-plays_cut V sh before s t line text n a b c d (Err NoMemory) gives does other wrote part = absurd (true_is_not_false other)
+plays_cut V sh before s t line text n a b c d (Err NoMemory) gives does other wrote part = absurd (false≢true (sym other))
 plays_cut V sh before s t line text n a b c d (Err WriteFailed) gives does other wrote part = absurd does
 plays_cut V sh before s t line text n a b c d (Err TooLong) gives does other wrote part = plays_part V sh before s t line text (Some TooLong) n a b c d gives does wrote part
 plays_cut V sh before s t line text n a b c d (Err NotACommand) gives does other wrote part = plays_part V sh before s t line text (Some NotACommand) n a b c d gives does wrote part

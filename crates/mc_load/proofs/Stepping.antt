@@ -1,9 +1,17 @@
 -- Steps of a call or of a look-up, one after the other.
-use Rattle.std.proofs.Common.{◌≡◌, ℕ, zero, suc, ◌+◌, List, [], ◌++◌, Some, None, refl, sym, ap, ◌∙◌, subst, inl, inr, append_assoc, append-nil, arith}
+use Rattle.std.proofs.Common.{◌≡◌, ℕ, zero, suc, ◌+◌, ◌-◌, ◌<◌, List, [], ◌++◌, Some, None, refl, sym, ap, ◌∙◌, subst, inl, inr, append_assoc, append-nil, arith}
 use Rattle.std.specs.Prelude.{slice_get}
 use Rattle.mc_words.specs.declared.shape.Shape.{Shape}
 use Rattle.mc_load.specs.declared.fault.Fault.TheVariants.{NothingToStep}
 use Rattle.mc_load.specs.Replay.{Replay, Pending, ActDoes, ActsDo, AccessDoes, AccessesDo}
+
+-- one more of a count
+pub one_more : (n : ℕ) → suc n ≡ n + 1
+one_more n = omega arith
+
+-- what is left of a count
+pub left_over : (n many : ℕ) → n < many → (more : ℕ) × (n + suc more ≡ many)
+left_over n many lt = (many - n - 1, omega (arith, lt))
 
 -- acts that were made, and one more
 pub acts_push : {V : ℕ} (sh : Shape) (n : ℕ) (s m t : Replay V) (p : Pending V) (text own : List ℕ) → ActsDo sh n s text None m → m.running ≡ Some p → ActDoes sh m p own t → ActsDo sh (suc n) s (text ++ own) None t

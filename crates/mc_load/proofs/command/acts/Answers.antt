@@ -5,15 +5,8 @@ use Rattle.mc_load.specs.Players.{shape_in}
 use Rattle.mc_load.specs.declared.player.Player.{Player}
 use Rattle.mc_load.specs.declared.fault.Fault.TheVariants.{NothingToStep}
 use Rattle.mc_load.proofs.Commanding.{idle_of, runs_of, runs_in}
-use Rattle.mc_load.proofs.Stepping.{acts_push, acts_stop}
+use Rattle.mc_load.proofs.Stepping.{acts_push, acts_stop, left_over, one_more}
 use Rattle.mc_load.proofs.command.acts.Goals as goal
-
-next : (n : ℕ) → suc n ≡ n + 1
-next n = omega arith
-
--- what is left of a count
-left_over : (n many : ℕ) → n < many → (more : ℕ) × (n + suc more ≡ many)
-left_over n many lt = (many - n - 1, omega (arith, lt))
 
 pub returns-then-not-is_running : goal.returns-then-not-is_running
 returns-then-not-is_running g c = λ most s room fits.
@@ -43,5 +36,5 @@ acts-preserved g c = λ most s room fits.
     let t = done.0 in
     let act = subst (λ (y : Shape). ActDoes y m runs.0 done.1 t) so_far.3 done.2 in
     let pushed = acts_push (shape_in old) c.acts.counter s m t runs.0 (string_bytes c.acts.text) done.1 so_far.1 runs.1 act in
-    let all = subst (λ (n : ℕ). ActsDo (shape_in old) n s (string_bytes c.acts.text ++ done.1) None t) (next c.acts.counter) pushed in
+    let all = subst (λ (n : ℕ). ActsDo (shape_in old) n s (string_bytes c.acts.text ++ done.1) None t) (one_more c.acts.counter) pushed in
     (t, subst (λ (l : List ℕ). ActsDo (shape_in old) (c.acts.counter + 1) s l None t) (sym done.3) all, done.4, done.5 ∙ so_far.3)

@@ -8,15 +8,8 @@ use Rattle.mc_load.specs.Replay.{AccessesDo}
 use Rattle.mc_load.specs.Players.{shape_in, most_steps}
 use Rattle.mc_load.specs.Texts.{end_text}
 use Rattle.mc_load.proofs.Accessing.{SameWriter, at_of, sound_of, width_of, access_done, reads_more, after_access, fits_more}
-use Rattle.mc_load.proofs.Stepping.{accesses_push, accesses_stop}
+use Rattle.mc_load.proofs.Stepping.{accesses_push, accesses_stop, left_over, one_more}
 use Rattle.mc_load.proofs.reading.accesses.Goals as goal
-
-next : (n : ℕ) → suc n ≡ n + 1
-next n = omega arith
-
--- what is left of a count
-left_over : (n many : ℕ) → n < many → (more : ℕ) × (n + suc more ≡ many)
-left_over n many lt = (many - n - 1, omega (arith, lt))
 
 pub accesses-preserved : goal.accesses-preserved
 accesses-preserved g c =
@@ -36,7 +29,7 @@ accesses-preserved g c =
           let access = access_done g.row.V (shape_in old) m did.0 c.args.reader c.in-Ok.given steps did.2 in
           let pushed = accesses_push (shape_in old) c.accesses.counter s m (after_access m did.0) c.args.reader (string_bytes c.accesses.text) (end_text c.in-Ok.given) so_far.1 access in
           let more = reads_more g.row.V mid new most c.args.reader c.accesses.counter m did.0 (sound_of g.row.V mid _ m.world at) (width_of g.row.V mid _ m.running m.world so_far.2.fits) so_far.2 same did.3 did.1 in
-          (after_access m did.0, subst (λ (t : List ℕ). AccessesDo (shape_in old) (c.accesses.counter + 1) s c.args.reader t None (after_access m did.0)) (sym c.in-Ok-tell_end.ensures.ok) (subst (λ (n : ℕ). AccessesDo (shape_in old) n s c.args.reader (string_bytes c.accesses.text ++ end_text c.in-Ok.given) None (after_access m did.0)) (next c.accesses.counter) pushed), more);
+          (after_access m did.0, subst (λ (t : List ℕ). AccessesDo (shape_in old) (c.accesses.counter + 1) s c.args.reader t None (after_access m did.0)) (sym c.in-Ok-tell_end.ensures.ok) (subst (λ (n : ℕ). AccessesDo (shape_in old) n s c.args.reader (string_bytes c.accesses.text ++ end_text c.in-Ok.given) None (after_access m did.0)) (one_more c.accesses.counter) pushed), more);
     }
 
 pub returns-in-Err-NotLawful : goal.returns-in-Err-NotLawful
