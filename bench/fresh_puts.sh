@@ -24,15 +24,7 @@ script() {
     }'
 }
 
-# The least processor time of five runs of a script, in milliseconds.
-least() {
-    local best= run TIMEFORMAT='%3U %3S'
-    for _ in 1 2 3 4 5; do
-        run=$({ time play "$1" < "$2" > /dev/null; } 2>&1 | awk '{ printf "%d", ($1 + $2) * 1000 }')
-        if [ -z "$best" ] || [ "$run" -lt "$best" ]; then best=$run; fi
-    done
-    echo "$best"
-}
+. "$top/bench/least.sh"
 
 for load in 500 "$tenth"; do
     cost=()

@@ -17,6 +17,7 @@ use Rattle.mc_core.specs.declared.event.Unlawful.{Unlawful}
 use Rattle.mc_core.specs.declared.event.Unlawful.TheVariants as unlawful
 use Rattle.mc_plan.specs.Clerks as clerks
 use Rattle.mc_plan.specs.Clerks.{Knows, IsOn, next_act, acts_left}
+use Rattle.mc_plan.proofs.Onward.{on_width}
 use Rattle.mc_plan.specs.declared.clerk.Clerk.{Clerk}
 use Rattle.mc_load.specs.declared.fault.Fault.TheVariants.{StillRunning}
 use Rattle.mc_load.specs.declared.player.Player.{Player}
@@ -180,4 +181,4 @@ sound_of V player most w at = subst IsShape at.shape player.clerk.books.checked.
 
 pub width_of : (V : ℕ) (player : Player V) (most : ℕ) (running : Option (Pending V)) (w : World V) → FitsCall V player most running w → IsWidth V
 width_of V player most None w fits = fits.knows.books.width
-width_of V player most (Some p) w fits = fits.0.on.planned.ends.width
+width_of V player most (Some p) w fits = on_width V player.clerk p.call p.from p.acts fits.0.on

@@ -5,7 +5,7 @@ use Rattle.std.proofs.lemmas.Option.{slice_get_within}
 use Rattle.mc_words.specs.History.{held}
 use Rattle.mc_words.specs.Places.{moment}
 use Rattle.mc_words.specs.Standing.{Agrees, Stands}
-use Rattle.mc_words.specs.declared.history.Reply.TheVariants.{Found}
+use Rattle.mc_words.specs.declared.history.Reply.TheVariants.{Found, Absent}
 use Rattle.mc_words.specs.declared.shape.Shape.{Shape}
 use Rattle.mc_core.proofs.Fronts.{after_all-append, state_push}
 use Rattle.mc_core.specs.Acts.{IsAllowed}
@@ -23,6 +23,9 @@ use Rattle.mc_plan.specs.Clerks as clerks
 use Rattle.mc_plan.specs.Clerks.{Call, Answered, Knows, IsOn, next_act, acts_left}
 use Rattle.mc_plan.specs.declared.answer.Answer.{Answer}
 use Rattle.mc_plan.specs.declared.clerk.Clerk.{Clerk}
+use Rattle.mc_plan.specs.declared.clerk.Stage.{Stage}
+use Rattle.mc_plan.specs.declared.clerk.Stage.TheVariants.{Idle, Sweeping, Planned}
+use Rattle.mc_plan.proofs.Onward.{on_runs}
 use Rattle.mc_load.specs.declared.player.Player.{Player}
 use Rattle.mc_load.specs.Replay.{Pending, WriterMakes, LooksUp}
 use Rattle.mc_load.specs.Players.{shape_in, most_steps, IsAt, IsIdle, IsInCall, IsRunning, BeginsAs, GoesOn, MakesAct, Completes, CallIsWhole, with_acts, bit_given}
@@ -136,10 +139,6 @@ words_after V player most p w a word new call is state =
     ap (λ (s : State V). s.words) (there ∙ ap (λ (y : Shape). after_all y p.from (p.acts ++ m ∷ [])) (sym call.at.shape))
 
 -- ---- a clerk's answer
-running_of : (V : ℕ) (clerk : Clerk V) (call : Call) (s : State V) (acts : List Made) → IsOn V clerk call s acts → clerks.IsRunning {V = V} clerk
-unfolding clerks.IsRunning
-running_of V clerk call s acts on = subst clerks.Runs (sym on.owes) tt
-
 none_or_some : {A : Type 0} (o : Option A) → (o ≡ None) ⊎ IsSome o
 none_or_some None = inl refl
 none_or_some (Some x) = inr refl
@@ -147,7 +146,7 @@ none_or_some (Some x) = inr refl
 -- where no answer is told there is an act to make
 acts_to_make : (V : ℕ) (clerk : Clerk V) (call : Call) (s : State V) (acts : List Made) → IsOn V clerk call s acts → (IsSome {T = Answer} None ↔ (clerks.IsRunning {V = V} clerk × (next_act clerk ≡ None))) → IsSome (next_act clerk)
 acts_to_make V clerk call s acts on ends = elim (none_or_some (next_act clerk)) [
-  | inl none ↦ absurd (cc (ends.1 (running_of V clerk call s acts on, none)))
+  | inl none ↦ absurd (cc (ends.1 (on_runs V clerk call s acts on, none)))
   | inr some ↦ some
 ]
 
@@ -198,7 +197,7 @@ begins_as V old mid new most call w (Some a) in_call same tells =
 -- ---- a whole call
 -- a call that was begun has an answer to tell, or acts to make
 pub begun : (V : ℕ) (old mid : Player V) (most : ℕ) (call : Call) (w : World V) → IsIdle V old most w → mid.world ≡ old.world → mid.readers ≡ old.readers → clerks.shape_in mid.clerk ≡ clerks.shape_in old.clerk
-    → IsOn V mid.clerk call (state_of V (shape_in old) w.acts) [] → acts_left mid.clerk ≤ 64 → IsInCall V mid most (pending call (state_of V (shape_in old) w.acts)) w
+    → IsOn V mid.clerk call (state_of V (shape_in old) w.acts) [] → acts_left mid.clerk ≤ 2 ^ 23 + 64 → IsInCall V mid most (pending call (state_of V (shape_in old) w.acts)) w
 begun V old mid most call w idle world readers clerk on few =
     let same : shape_in mid ≡ shape_in old = ap (λ (y : Shown V). y.shape) world in
     record {
@@ -314,16 +313,18 @@ whole_in_time V old mid new most call w a same few done = record {
 }
 
 -- a clerk with an act to make has acts left
-pub acts_are_left : (V : ℕ) (clerk : Clerk V) (call : Call) (s : State V) (acts : List Made) → IsOn V clerk call s acts → IsSome (next_act clerk) → 0 < acts_left clerk
-unfolding next_act acts_left
-acts_are_left V clerk call s acts on some = within clerk.plan.items clerk.made (subst (λ y. IsSome (clerks.next_in y clerk.plan.items clerk.made)) on.owes some)
+some_left_in : (V : ℕ) (st : Stage V) (plan : List Act) (many : ℕ) → IsSome (clerks.next_in st plan many) → 0 < clerks.left_in st plan many
+some_left_in V Idle plan many some = absurd (cc some)
+some_left_in V (Sweeping waiting) plan many some = omega arith
+some_left_in V (Planned told) plan many some = at (slice_get plan many) refl some
   where
-    within : (plan : List Act) (many : ℕ) → IsSome (slice_get plan many) → 0 < length plan - many
-    within plan many some = at (slice_get plan many) refl some
-      where
-        at : (o : Option Act) → slice_get plan many ≡ o → IsSome o → 0 < length plan - many
-        at None is some = absurd (cc some)
-        at (Some a) is some = let lt = slice_get_within plan many a is in omega (arith, lt)
+    at : (o : Option Act) → slice_get plan many ≡ o → IsSome o → 0 < length plan - many
+    at None is some = absurd (cc some)
+    at (Some a) is some = let lt = slice_get_within plan many a is in omega (arith, lt)
+
+pub acts_are_left : (V : ℕ) (clerk : Clerk V) → IsSome (next_act clerk) → 0 < acts_left clerk
+unfolding next_act acts_left
+acts_are_left V clerk some = some_left_in V clerk.stage clerk.plan.items clerk.made some
 
 -- there is room for the acts that are left
 pub room_left : (V : ℕ) (old now : Player V) (most : ℕ) (p : Pending V) (w : World V) → MakesSome V old now most p w → most + acts_left old.clerk < 2 ^ 64 - 1 → most + (acts_left old.clerk - acts_left now.clerk) + acts_left now.clerk < 2 ^ 64 - 1
@@ -331,7 +332,7 @@ room_left V old now most p w some room = omega (arith, room, some.fewer)
 
 -- where there is an answer the call was still running
 some_left : (V : ℕ) (player : Player V) (most : ℕ) (p : Pending V) (w : World V) → IsRunning V player most p w → 0 < acts_left player.clerk
-some_left V player most p w runs = acts_are_left V player.clerk p.call p.from p.acts runs.0.on runs.1
+some_left V player most p w runs = acts_are_left V player.clerk runs.1
 
 pub makes_last_of : (V : ℕ) (old now new : Player V) (most : ℕ) (p : Pending V) (w : World V) (a : Answer) (some : MakesSome V old now most p w) → MakesAct V now new (most + (acts_left old.clerk - acts_left now.clerk)) (with_acts p some.acts) some.after (Some a) → Completes V old new most p w a
 makes_last_of V old now new most p w a some act = makes_last V old now new most p w a some (some_left V now _ _ some.after some.call) act
@@ -354,3 +355,8 @@ looks_found V player most k i at q v w sh idle same value is stands =
     let there : Stands V (shape_in player) (state_of V (shape_in player) w.acts).words k q i =
     subst (λ (x : State V). Stands V (shape_in player) x.words k q i) idle.at.world.state (subst (λ (y : Shape). Stands V y player.world.state.words k q i) same stands) in
     (record { value = value; unchanged = refl; moment = is ∙ agrees.at_moment }, (q, i, there, refl))
+
+pub looks_missed : (V : ℕ) (player : Player V) (most k at : ℕ) (w : World V) (sh : Shape) → IsIdle V player most w → sh ≡ shape_in player → held (state_of V (shape_in player) w.acts).history k ≡ None → at ≡ moment player.world.state.words
+    → LooksUp {V = V} (shape_in player) (state_of V (shape_in player) w.acts) k (Absent at) []
+looks_missed V player most k at w sh idle same absent is =
+    (record { absent = absent; unchanged = refl; moment = is ∙ (agrees_now V player most w sh idle same).at_moment }, refl)

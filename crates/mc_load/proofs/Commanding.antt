@@ -80,11 +80,10 @@ get_done V old new most k s reply text none looks is =
 unanswered : (V : ℕ) (player : Player V) (most : ℕ) (p : Pending V) (w : World V) (sh : Shape) → IsRunning V player most p w → shape_in player ≡ sh → IsUnanswered V sh p
 unanswered V player most p w sh runs same =
     let ends = can_end V player.clerk p.call p.from p.acts runs.0.on in
-    let left = acts_are_left V player.clerk p.call p.from p.acts runs.0.on runs.1 in
     record {
       more = ends.0;
       told = ends.1;
-      some = omega (arith, left, ends.3);
+      some = ends.3 runs.1;
       answered = subst (λ (y : Shape). Answered V y p.call p.from (p.acts ++ ends.0) ends.1) (runs.0.at.shape ∙ same) ends.2;
     }
 
@@ -153,7 +152,7 @@ pub act_ends : (V : ℕ) (old new : Player V) (most n : ℕ) (m : Replay V) (p :
 act_ends V old new most n m p a before after room so_far runs act is =
     let few = so_far.few (ap is_some runs) in
     let call = runs_in V old most n m p room so_far runs in
-    let some = acts_are_left V old.clerk p.call p.from p.acts call.0.0.on call.0.1 in
+    let some = acts_are_left V old.clerk call.0.1 in
     let count : most + n + 1 ≡ most + (n + 1) = omega arith in (
       record { world = act.after; running = None },
       answer_line a,

@@ -11,7 +11,7 @@ use Rattle.mc_plan.specs.declared.answer.Answer.{Answer}
 use Rattle.mc_plan.specs.declared.answer.Answer.TheVariants as answer
 use Rattle.mc_plan.specs.declared.answer.Put.{Put}
 use Rattle.mc_plan.specs.declared.answer.Put.TheVariants.{Stored, Renewed}
-use Rattle.mc_plan.specs.declared.answer.PutError.TheVariants.{NoPath, AllRecent, Spent, NoItem}
+use Rattle.mc_plan.specs.declared.answer.PutError.TheVariants.{NoPath, AllRecent, Spent}
 use Rattle.mc_plan.specs.declared.answer.Remove.TheVariants.{Removed, NotThere}
 
 -- the words of a value, a blank before each
@@ -28,7 +28,6 @@ answer_text (answer.Put (Ok put)) = put_text put
 answer_text (answer.Put (Err NoPath)) = codes "refused no path"
 answer_text (answer.Put (Err AllRecent)) = codes "refused all recent"
 answer_text (answer.Put (Err Spent)) = codes "refused spent"
-answer_text (answer.Put (Err NoItem)) = codes "refused no item"
 answer_text (answer.Remove (Ok (Removed at))) = codes "removed at " ++ decimal at
 answer_text (answer.Remove (Ok (NotThere at))) = codes "not there at " ++ decimal at
 answer_text (answer.Remove (Err spent)) = codes "refused spent"

@@ -46,7 +46,6 @@ impl fmt::Display for AnswerLine {
             Answer::Put(Err(PutError::NoPath)) => write!(f, "refused no path"),
             Answer::Put(Err(PutError::AllRecent)) => write!(f, "refused all recent"),
             Answer::Put(Err(PutError::Spent)) => write!(f, "refused spent"),
-            Answer::Put(Err(PutError::NoItem)) => write!(f, "refused no item"),
             Answer::Remove(Ok(Remove::Removed { at })) => write!(f, "removed at {at}"),
             Answer::Remove(Ok(Remove::NotThere { at })) => write!(f, "not there at {at}"),
             Answer::Remove(Err(Spent)) => write!(f, "refused spent"),

@@ -1,8 +1,11 @@
 // Runs of the whole program, and replays of its scripts.
+mod drawn;
+mod evictions;
 mod lines;
 mod moves;
 mod numbers;
 mod options;
+mod plain;
 mod rows;
 mod steps;
 mod streams;

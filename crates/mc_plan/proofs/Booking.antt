@@ -44,7 +44,7 @@ use Rattle.mc_plan.proofs.Room.{puts_room}
 use Rattle.mc_plan.proofs.Standing.{placed-quiet}
 
 -- ---- acts of deeds
-deeds_then : (xs ys : List Act) → AreOfDeeds xs → AreOfDeeds ys → AreOfDeeds (xs ++ ys)
+pub deeds_then : (xs ys : List Act) → AreOfDeeds xs → AreOfDeeds ys → AreOfDeeds (xs ++ ys)
 deeds_then [] ys a b = b
 deeds_then (x ∷ xs) ys a b = (a.0, deeds_then xs ys a.1 b)
 
@@ -62,7 +62,7 @@ deeds_moves : (V : ℕ) (sh : Shape) (w : List ℕ) (ps : List Place) (hole : Pl
 deeds_moves V sh w [] hole = tt
 deeds_moves V sh w (p ∷ ps) hole = deeds_then (moves_acts V sh w ps hole) _ (deeds_moves V sh w ps hole) (tt, (tt, (tt, (tt, tt))))
 
-deeds_put : (V : ℕ) (sh : Shape) (w : List ℕ) (k : ℕ) (v : List ℕ) (i : ℕ) (ps : List Place) (hole : Place) → AreOfDeeds (put_acts V sh w k v i ps hole)
+pub deeds_put : (V : ℕ) (sh : Shape) (w : List ℕ) (k : ℕ) (v : List ℕ) (i : ℕ) (ps : List Place) (hole : Place) → AreOfDeeds (put_acts V sh w k v i ps hole)
 deeds_put V sh w k v i ps hole = deeds_then (moves_acts V sh w ps hole) _ (deeds_moves V sh w ps hole) (deeds_fill sh k v i (first_place ps hole))
 
 -- ---- the moment after one change more
@@ -92,6 +92,7 @@ books_after V b s t steps free old ends after = record {
   width = old.width;
   quiet = ends.quiet;
   hand = old.hand ∙ sym ends.hand;
+  stands = rw ends.hand old.stands;
   changes = omega (arith, old.changes, ends.changes);
   limit = omega (arith, ends.changes, ends.limit);
   finder = old.finder;
@@ -112,7 +113,7 @@ free_kept V b s x old kept = record {
 
 pub renewal_planned : (V : ℕ) (b : Books) (k : ℕ) (v : List ℕ) (i at : ℕ) (s : State V) (q : ℕ) → IsShape (shape_of b.checked) → IsWord k → IsValue V v → AreBooksOf V b s → Stands V (shape_of b.checked) s.words k q i
     → (PutIsSpent (shape_of b.checked) (quiet_of s) → ⊥) → s.changes + 2 ≤ (shape_of b.checked).limit → at ≡ moment s.words + 1
-    → IsPlanned V (record b { changes = b.changes + 2 }) (renew_acts k v i ++ Mark i ∷ []) (PutCall k v) s (answer.Put (Ok (put.Renewed at)))
+    → IsPlanned V (record b { changes = b.changes + 2 }) (renew_acts k v i ++ Mark i ∷ []) (PutCall k v) s s (answer.Put (Ok (put.Renewed at)))
 renewal_planned V b k v i at s q shape key value old stands unspent limit is =
     let sh = shape_of b.checked in
     let acts = renew_acts k v i in
@@ -153,7 +154,7 @@ free_given V b s x free i old kept items gives given = record {
 pub removal_planned : (V : ℕ) (b : Books) (k i at : ℕ) (p : Place) (free : FreeItems) (s : State V) → IsShape (shape_of b.checked) → IsWord k → AreBooksOf V b s → p.slot < 4 → Stands V (shape_of b.checked) s.words k (slot_number p) i
     → (RemoveIsSpent (shape_of b.checked) (quiet_of s) → ⊥) → s.changes + 2 ≤ (shape_of b.checked).limit → at ≡ moment s.words + 1
     → IsKept free → free.items ≡ b.free.items → Gives b.free free i
-    → IsPlanned V (record b { free = free; changes = b.changes + 2 }) (remove_acts k p) (RemoveCall k) s (answer.Remove (Ok (remove.Removed at)))
+    → IsPlanned V (record b { free = free; changes = b.changes + 2 }) (remove_acts k p) (RemoveCall k) s s (answer.Remove (Ok (remove.Removed at)))
 removal_planned V b k i at p free s shape key old below stands unspent limit is kept items gives =
     let sh = shape_of b.checked in
     let acts = remove_acts k p in
@@ -192,14 +193,14 @@ free_taken V b s x free i old kept items takes taken = record {
 }
 
 -- how long a least path is
-least_length : (sh : Shape) (w : List ℕ) (k : ℕ) (path : Path) → IsLeastPath sh w k path → IsLeastLength sh w k (length path.places.items)
+pub least_length : (sh : Shape) (w : List ℕ) (k : ℕ) (path : Path) → IsLeastPath sh w k path → IsLeastLength sh w k (length path.places.items)
 least_length sh w k path least = record { places = path.places.items; hole = path.hole; chain = least.chain; many = refl; least = least.least }
 
 pub stored_planned : (V : ℕ) (b : Books) (k : ℕ) (v : List ℕ) (i at : ℕ) (path : Path) (free : FreeItems) (s : State V) → IsShape (shape_of b.checked) → IsWord k → IsValue V v → AreBooksOf V b s
     → IsAbsent V (shape_of b.checked) s.words k → IsLeastPath (shape_of b.checked) s.words k path → AreKeys V (shape_of b.checked) s.words path.places.items → i < (shape_of b.checked).items
     → (PutIsSpent (shape_of b.checked) (quiet_of s) → ⊥) → at ≡ moment s.words + 1
     → IsFreeIn b.free i → IsKept free → free.items ≡ b.free.items → Takes b.free free i
-    → IsPlanned V (record b { free = free; changes = b.changes + (2 * length path.places.items + 2) }) (put_acts V (shape_of b.checked) s.words k v i path.places.items path.hole ++ Mark i ∷ []) (PutCall k v) s (answer.Put (Ok (put.Stored at (length path.places.items) None)))
+    → IsPlanned V (record b { free = free; changes = b.changes + (2 * length path.places.items + 2) }) (put_acts V (shape_of b.checked) s.words k v i path.places.items path.hole ++ Mark i ∷ []) (PutCall k v) s s (answer.Put (Ok (put.Stored at (length path.places.items) None)))
 stored_planned V b k v i at path free s shape key value old absent least keys in_items unspent is was kept items takes =
     let sh = shape_of b.checked in
     let ps = path.places.items in
@@ -231,7 +232,7 @@ stored_planned V b k v i at path free s shape key value old absent least keys in
     }
 
 -- ---- a call that changes nothing
-pub idle_planned : (V : ℕ) (b : Books) (call : Call) (s : State V) (told : Answer) → AreBooksOf V b s → Means (shape_of b.checked) call told s s → Marks V (shape_of b.checked) s.words call told [] → IsPlanned V b [] call s told
+pub idle_planned : (V : ℕ) (b : Books) (call : Call) (s : State V) (told : Answer) → AreBooksOf V b s → Means (shape_of b.checked) call told s s → Marks V (shape_of b.checked) s.words call told [] → IsPlanned V b [] call s s told
 idle_planned V b call s told old means marks = record { allowed = tt; means = means; marks = marks; ends = old }
 
 -- books with another list of the same free items
@@ -240,6 +241,7 @@ books_still V b s free old kept items none still = record {
   width = old.width;
   quiet = old.quiet;
   hand = old.hand;
+  stands = old.stands;
   changes = old.changes;
   limit = old.limit;
   finder = old.finder;
@@ -252,17 +254,21 @@ books_still V b s free old kept items none still = record {
 pub path_refused : (V : ℕ) (sh : Shape) (s : State V) (k : ℕ) → IsQuiet V sh s → (PutIsSpent sh (quiet_of s) → ⊥) → IsAbsent V sh s.words k → NoChain sh s.words k sh.depth → means.RefusesPath V sh (quiet_of s) (quiet_of s) k
 path_refused V sh s k quiet unspent absent none = record { unspent = unspent; absent = absent_held V sh s k quiet absent; none = none; unchanged = refl }
 
-pub item_refused : (V : ℕ) (b : Books) (s : State V) (k : ℕ) (path : Path) → AreBooksOf V b s → (PutIsSpent (shape_of b.checked) (quiet_of s) → ⊥) → IsAbsent V (shape_of b.checked) s.words k → IsLeastPath (shape_of b.checked) s.words k path
-    → ((j : ℕ) → IsFreeIn b.free j → ⊥) → means.RefusesItem V (shape_of b.checked) (quiet_of s) (quiet_of s) k
-item_refused V b s k path old unspent absent least none =
-    let sh = shape_of b.checked in
-    record {
-      unspent = unspent;
-      absent = absent_held V sh s k old.quiet absent;
-      chain = (length path.places.items, least.within, least_length sh s.words k path least);
-      full = full_from_named V sh s.words s.history (keys_quiet V sh s old.quiet) (λ i l. old.named i l (none i));
-      unchanged = refl;
-    }
+-- what is asked of a put before an item is taken from another key
+pub needs_item : (V : ℕ) (b : Books) (s : State V) (k : ℕ) (path : Path) → AreBooksOf V b s → (PutIsSpent (shape_of b.checked) (quiet_of s) → ⊥) → IsAbsent V (shape_of b.checked) s.words k → IsLeastPath (shape_of b.checked) s.words k path
+    → ((j : ℕ) → IsFreeIn b.free j → ⊥) → (needs : means.NeedsItem V (shape_of b.checked) (quiet_of s) k) × (needs.count ≡ length path.places.items)
+needs_item V b s k path old unspent absent least none =
+    let sh = shape_of b.checked in (
+      record {
+        unspent = unspent;
+        absent = absent_held V sh s k old.quiet absent;
+        count = length path.places.items;
+        within = least.within;
+        least = least_length sh s.words k path least;
+        full = full_from_named V sh s.words s.history (keys_quiet V sh s old.quiet) (λ i l. old.named i l (none i));
+      },
+      refl,
+    )
 
 pub nothing_found : (V : ℕ) (sh : Shape) (s : State V) (k at : ℕ) → IsQuiet V sh s → (RemoveIsSpent sh (quiet_of s) → ⊥) → IsAbsent V sh s.words k → at ≡ moment s.words → means.FindsNothing V sh (quiet_of s) (quiet_of s) k at
 nothing_found V sh s k at quiet unspent absent is =
@@ -317,6 +323,7 @@ new_books V b width finder hand changes kept items all =
       width = width;
       quiet = opening_quiet V sh;
       hand = hand ∙ sym (opening_hand V sh);
+      stands = omega (arith, opening_hand V sh, b.checked.sound.items.0);
       changes = omega arith;
       limit = omega (arith, none);
       finder = finder;

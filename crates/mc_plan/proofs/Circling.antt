@@ -1,11 +1,11 @@
 -- A sweep, reading by reading.
-use Rattle.std.proofs.Common.{ℕ, zero, suc, ◌≡◌, ◌≢◌, ◌+◌, ◌%◌, ◌<◌, ◌∙◌, ◌⊎◌, inl, inr, List, [], ◌∷◌, ◌++◌, Option, Some, None, Bool, true, false, cond, eqb, ap, refl, sym, arith, get_or, length}
+use Rattle.std.proofs.Common.{ℕ, zero, suc, ◌≡◌, ◌≢◌, ◌+◌, ◌*◌, ◌%◌, ◌<◌, ◌∙◌, ◌⊎◌, inl, inr, List, [], ◌∷◌, ◌++◌, Option, Some, None, Bool, true, false, cond, eqb, ap, refl, sym, subst, arith, get_or, length}
 use Rattle.std.proofs.Math.Nat.{mod-add-mod, mod-lt}
 use Rattle.std.proofs.lemmas.Bool.{cases_lt, eqb-false, false≢true}
 use Rattle.std.proofs.lemmas.List.{get_or_push, get_or_append_left, length_push}
 use Rattle.std.specs.Option.{is_some}
 use Rattle.mc_plan.specs.declared.sweep.Sweep.{Sweep}
-use Rattle.mc_plan.specs.Sweeps.{Swept, HasSwept, victim_of, next_from, next_item}
+use Rattle.mc_plan.specs.Sweeps.{Swept, HasSwept, IsSweep, victim_of, next_from, next_item}
 
 -- what a next item says of the sweep
 pub next_parts : (v : Option ℕ) (left hand i : ℕ) → next_from v left hand ≡ Some i → (v ≡ None) × (0 < left) × (i ≡ hand)
@@ -14,23 +14,41 @@ next_parts None zero hand i e = absurd (cc)
 next_parts None (suc left) hand i e = (refl, omega arith, cc)
 
 -- where there is no victim, the first reading is no victim's, and the others have none
-first_marked : (r : Swept) (rs : List Swept) → victim_of (r ∷ rs) ≡ None → (eqb r.bit 0 ≡ false) × (victim_of rs ≡ None)
+pub first_marked : (r : Swept) (rs : List Swept) → victim_of (r ∷ rs) ≡ None → (eqb r.bit 0 ≡ false) × (victim_of rs ≡ None)
 first_marked r rs none =
     let P : Bool → Type 0 = λ b. cond b (Some r.item) (victim_of rs) ≡ None → (b ≡ false) × (victim_of rs ≡ None) in
     let all : (b : Bool) → P b = λ b. elim b as P [ true ↦ λ e. absurd (cc) | false ↦ λ e. (refl, e) ] in
     all (eqb r.bit 0) none
 
-all_marked : (rs : List Swept) → victim_of rs ≡ None → (n : ℕ) (d : Swept) → n < length rs → (get_or rs n d).bit ≢ 0
+pub all_marked : (rs : List Swept) → victim_of rs ≡ None → (n : ℕ) (d : Swept) → n < length rs → (get_or rs n d).bit ≢ 0
 all_marked [] none n d l e = absurd (omega arith)
 all_marked (r ∷ rs) none zero d l e = eqb-false r.bit 0 (first_marked r rs none).0 e
 all_marked (r ∷ rs) none (suc n) d l e = all_marked rs (first_marked r rs none).1 n d (omega arith) e
 
 -- the victim after one reading more
-victim_push : (rs : List Swept) (r : Swept) → victim_of rs ≡ None → victim_of (rs ++ r ∷ []) ≡ cond (eqb r.bit 0) (Some r.item) None
+pub victim_push : (rs : List Swept) (r : Swept) → victim_of rs ≡ None → victim_of (rs ++ r ∷ []) ≡ cond (eqb r.bit 0) (Some r.item) None
 victim_push [] r none = refl
 victim_push (x ∷ rs) r none =
     let first = first_marked x rs none in
     ap (λ b. cond b (Some x.item) (victim_of (rs ++ r ∷ []))) first.0 ∙ victim_push rs r first.1
+
+-- one reading more, while there is no victim
+pub sweep_push : (items hand : ℕ) (rs : List Swept) (bit : ℕ) → IsSweep items hand rs → victim_of rs ≡ None → length rs < 2 * items → IsSweep items hand (rs ++ record { item = (hand + length rs) % items; bit = bit } ∷ [])
+sweep_push items hand rs bit sweeps none below =
+    let r : Swept = record { item = (hand + length rs) % items; bit = bit } in
+    let many = length_push rs r in
+    record {
+      round = λ n d l. elim (cases_lt n (length rs)) [
+        | inl before ↦ ap (λ (x : Swept). x.item) (get_or_append_left rs (r ∷ []) d n before) ∙ sweeps.round n d before
+        | inr past ↦
+            let last : length rs ≡ n = omega arith in
+            ap (λ (x : Swept). x.item) (get_or_push rs r d n last) ∙ ap (λ (m : ℕ). (hand + m) % items) last
+      ];
+      most = omega arith;
+      marked = λ n d l e.
+          let before : n < length rs = omega arith in
+          all_marked rs none n d before (sym (ap (λ (x : Swept). x.bit) (get_or_append_left rs (r ∷ []) d n before)) ∙ e);
+    }
 
 pub swept_next : (sweep new : Sweep) (items hand : ℕ) (rs : List Swept) (i bit : ℕ) → HasSwept sweep items hand rs → next_item sweep ≡ Some i
     → new.items ≡ sweep.items → new.left + 1 ≡ sweep.left → new.hand ≡ (sweep.hand + 1) % items → new.victim ≡ cond (eqb bit 0) (Some sweep.hand) None
@@ -42,19 +60,9 @@ swept_next sweep new items hand rs i bit has next count left stands found =
     let none : victim_of rs ≡ None = sym has.found ∙ parts.0 in
     let many = length_push rs r in
     let many_left = has.left in
+    let here : (hand + length rs) % items ≡ i = sym has.stands ∙ sym parts.2 in
     record {
-      sweeps = record {
-        round = λ n d l. elim (cases_lt n (length rs)) [
-          | inl before ↦ ap (λ (x : Swept). x.item) (get_or_append_left rs (r ∷ []) d n before) ∙ has.sweeps.round n d before
-          | inr past ↦
-              let last : length rs ≡ n = omega arith in
-              ap (λ (x : Swept). x.item) (get_or_push rs r d n last) ∙ parts.2 ∙ has.stands ∙ ap (λ (m : ℕ). (hand + m) % items) last
-        ];
-        most = omega arith;
-        marked = λ n d l e.
-            let before : n < length rs = omega arith in
-            all_marked rs none n d before (sym (ap (λ (x : Swept). x.bit) (get_or_append_left rs (r ∷ []) d n before)) ∙ e);
-      };
+      sweeps = subst (λ (j : ℕ). IsSweep items hand (rs ++ record { item = j; bit = bit } ∷ [])) here (sweep_push items hand rs bit has.sweeps none (omega arith));
       count = count ∙ has.count;
       start = has.start;
       left = omega arith;

@@ -43,11 +43,11 @@ close_tied : (V : ℕ) (sh : Shape) (w : List ℕ) (hand : ℕ) (cleared : Optio
 close_tied V sh w hand cleared (Closing k) key may tie = ap Some (tie k refl)
 close_tied V sh w hand cleared _ key may tie = absurd may
 
-module _ (sh : Shape) (s : State 1) (acts : List Made) (a : Act) (key : ℕ) (may : IsAllowed sh (after_all sh s acts) a) (tie : IsTied key (after_all sh s acts).phase) where
-  pub tied_next : IsTied (key_after key a) (after_all sh s (acts ++ record { act = a; bit = 0 } ∷ [])).phase
+module _ (sh : Shape) (s : State 1) (acts : List Made) (a : Act) (bit : ℕ) (key : ℕ) (may : IsAllowed sh (after_all sh s acts) a) (tie : IsTied key (after_all sh s acts).phase) where
+  pub tied_next : IsTied (key_after key a) (after_all sh s (acts ++ record { act = a; bit = bit } ∷ [])).phase
   tied_next =
       let t = after_all sh s acts in
-      subst (λ (u : State 1). IsTied (key_after key a) u.phase) (sym (after_all-append sh s acts (record { act = a; bit = 0 } ∷ [])))
+      subst (λ (u : State 1). IsTied (key_after key a) u.phase) (sym (after_all-append sh s acts (record { act = a; bit = bit } ∷ [])))
       (tied_after 1 sh t.words t.hand t.cleared t.phase a key may tie)
 
   pub closes_tied : a ≡ Close → running (after_all sh s acts).phase ≡ Some key
@@ -55,7 +55,7 @@ module _ (sh : Shape) (s : State 1) (acts : List Made) (a : Act) (key : ℕ) (ma
       let t = after_all sh s acts in
       close_tied 1 sh t.words t.hand t.cleared t.phase key (subst (λ (b : Act). IsAllowed {V = 1} sh t b) e may) tie
 
-  pub words_next : (words later : List ℕ) → words ≡ (after_all sh s acts).words → later ≡ words_after 1 sh words (after_all sh s acts).phase a → later ≡ (after_all sh s (acts ++ record { act = a; bit = 0 } ∷ [])).words
+  pub words_next : (words later : List ℕ) → words ≡ (after_all sh s acts).words → later ≡ words_after 1 sh words (after_all sh s acts).phase a → later ≡ (after_all sh s (acts ++ record { act = a; bit = bit } ∷ [])).words
   words_next words later now is =
       let t = after_all sh s acts in
-      is ∙ ap (λ (w : List ℕ). words_after 1 sh w t.phase a) now ∙ sym (ap (λ (u : State 1). u.words) (after_all-append sh s acts (record { act = a; bit = 0 } ∷ [])))
+      is ∙ ap (λ (w : List ℕ). words_after 1 sh w t.phase a) now ∙ sym (ap (λ (u : State 1). u.words) (after_all-append sh s acts (record { act = a; bit = bit } ∷ [])))

@@ -23,4 +23,8 @@ pub mod Shown
 pub mod Driving
 pub mod Circling
 pub mod Cutting
+pub mod Sweeping
+pub mod Replacing
+pub mod Hands
+pub mod Taking
 pub mod Ending

@@ -1,10 +1,10 @@
 -- Which items are free and which are named where one slot was written.
-use Rattle.std.proofs.Common.{ℕ, ◌≡◌, ◌∙◌, List, ap, sym, subst, inl, inr}
+use Rattle.std.proofs.Common.{ℕ, ◌≡◌, ◌<◌, ◌∙◌, List, ap, sym, subst, inl, inr}
 use Rattle.std.proofs.lemmas.Bool.{cases_eq}
 use Rattle.mc_words.specs.declared.shape.Shape.{Shape}
 use Rattle.mc_words.specs.Places.{slot}
 use Rattle.mc_words.specs.Shapes.{IsShape}
-use Rattle.mc_words.specs.Standing.{Names, IsFree}
+use Rattle.mc_words.specs.Standing.{Names, IsFree, HasFree}
 use Rattle.mc_words.proofs.Frames.{moved_names, empty_names_none, one_named}
 use Rattle.mc_plan.specs.Making.{SetsSlot, KeepsSlots}
 use Rattle.mc_plan.specs.Puts.{TakesItem, GivesItem}
@@ -47,3 +47,7 @@ kept_free sh w x j kept free q n = free q (moved_names sh x w q j (sym (kept q n
 
 pub kept_named : (sh : Shape) (w x : List ℕ) (q j : ℕ) → KeepsSlots sh w x → Names sh w q j → Names sh x q j
 kept_named sh w x q j kept n = moved_names sh w x q j (kept q n.in_table) n
+
+-- where each item is named, none is free
+pub full_has_none : (sh : Shape) (w : List ℕ) → ((i : ℕ) → i < sh.items → (q : ℕ) × Names sh w q i) → HasFree sh w → ⊥
+full_has_none sh w all free = let named = all free.0 free.1 in free.2 named.0 named.1

@@ -1,12 +1,14 @@
 -- A planned call, act by act.
-use Rattle.std.proofs.Common.{ℕ, zero, suc, ◌≡◌, ◌+◌, ◌<◌, ◌≤◌, ◌∙◌, List, [], ◌∷◌, ◌++◌, Option, Some, None, Ok, Err, ap, refl, sym, subst, add-one, get_or, take, length, arith}
+use Rattle.std.proofs.Common.{ℕ, zero, suc, ◌≡◌, ◌+◌, ◌<◌, ◌≤◌, ◌∙◌, List, [], ◌∷◌, ◌++◌, Option, Some, None, Ok, Err, ap, refl, sym, subst, add-one, get_or, take, length, arith, append_assoc, append-nil}
 use Rattle.std.specs.Borrow.{Bor}
 use Rattle.std.specs.List.{HoldsAt}
 use Rattle.std.specs.Option.{IfSome, MatchOption, option_copied}
 use Rattle.std.specs.Prelude.{slice_get}
 use Rattle.std.proofs.lemmas.List.{map-append}
 use Rattle.std.proofs.lemmas.Option.{slice_get_past, slice_get_read}
+use Rattle.mc_words.specs.Checks.{shape_of}
 use Rattle.mc_words.specs.declared.shape.Shape.{Shape}
+use Rattle.mc_words.specs.Places.{IsWidth}
 use Rattle.mc_core.specs.Acts.{IsAllowed, MayFrom}
 use Rattle.mc_core.specs.Effects.{after_act, changes_after, phase_after}
 use Rattle.mc_core.specs.Lists.{Made, AreAllowed, after_all}
@@ -17,13 +19,16 @@ use Rattle.mc_core.specs.declared.act.Act.{Act}
 use Rattle.mc_core.specs.declared.act.Act.TheVariants.{Open, Slot, Item, Moment, Close, Hand, Mark}
 use Rattle.mc_core.specs.declared.act.Deed.{Deed}
 use Rattle.mc_core.specs.declared.act.Deed.TheVariants as deed
+use Rattle.mc_core.proofs.Fronts.{after_all-append}
 use Rattle.mc_plan.specs.declared.answer.Answer.{Answer}
 use Rattle.mc_plan.specs.declared.answer.Answer.TheVariants as answer
+use Rattle.mc_plan.specs.declared.books.Books.{Books}
 use Rattle.mc_plan.specs.declared.clerk.Clerk.{Clerk}
 use Rattle.mc_plan.specs.declared.clerk.Stage.{Stage}
-use Rattle.mc_plan.specs.declared.clerk.Stage.TheVariants.{Idle, Planned}
-use Rattle.mc_plan.specs.Clerks.{Answered, AreBooksOf, Call, PutCall, RemoveCall, IsOfDeed, AreOfDeeds, IsOn, IsPlanned, Knows, Means, Marks, acts_of, next_act, next_in, shape_in}
+use Rattle.mc_plan.specs.declared.clerk.Stage.TheVariants.{Idle, Sweeping, Planned}
+use Rattle.mc_plan.specs.Clerks.{Answered, AreBooksOf, Call, PutCall, RemoveCall, IsAt, IsOfDeed, AreOfDeeds, IsOn, IsPlanned, IsRunning, IsSweepOf, Knows, MakesPlan, Means, Marks, Runs, acts_of, next_act, next_in, shape_in, swept}
 use Rattle.mc_plan.specs.Making.{IsQuiet, made, left}
+use Rattle.mc_plan.specs.Sweeps.{Swept, hand_acts}
 
 -- ---- the bit of an act that is none of the hand does nothing
 abbrev IsStill : Act → Type 0
@@ -163,94 +168,141 @@ changes_left V sh s acts n Close limit may e quiet l = tt
 changes_left V sh s acts n (Hand i) limit may e quiet l = tt
 changes_left V sh s acts n (Mark i) limit may e quiet l = tt
 
--- ---- a clerk in a call
-still_on : (V : ℕ) (clerk : Clerk V) (call : Call) (s : State V) (acts : List Made) → IsOn V clerk call s acts → AreStill (acts_of acts)
-still_on V clerk call s acts on =
-    subst AreStill (sym on.done) (still_take clerk.made clerk.plan.items (still_marks V (shape_in clerk) _ call on.told clerk.plan.items on.planned.marks))
-
--- the state now is that after the first acts of the plan
-state_on : (V : ℕ) (clerk : Clerk V) (call : Call) (s : State V) (acts : List Made) → IsOn V clerk call s acts → after_all (shape_in clerk) s acts ≡ left V (shape_in clerk) s (take clerk.made clerk.plan.items)
-state_on V clerk call s acts on =
-    same_state V (shape_in clerk) s acts (still_on V clerk call s acts on) ∙ ap (λ (xs : List Act). left V (shape_in clerk) s xs) on.done
-
--- the act that comes next is allowed, and an open leaves two version changes within the limit
-pub next_may : (V : ℕ) (clerk : Clerk V) (call : Call) (s : State V) (acts : List Made) → IsOn V clerk call s acts → (r : Option Act) → r ≡ slice_get clerk.plan.items clerk.made
-    → IfSome r (λ a. IsAllowed (shape_in clerk) (after_all (shape_in clerk) s acts) a × HasChanges (shape_in clerk).limit (after_all (shape_in clerk) s acts).changes a)
-next_may V clerk call s acts on None e = tt
-next_may V clerk call s acts on (Some a) e =
-    let sh = shape_in clerk in
-    let plan = clerk.plan.items in
-    let now = state_on V clerk call s acts on in
-    let may = allowed_next V sh s plan clerk.made a on.planned.allowed (sym e) in
-    let room = changes_left V sh s plan clerk.made a sh.limit on.planned.allowed (sym e) on.planned.ends.quiet.quiet on.planned.ends.limit in
-    subst (λ (t : State V). IsAllowed sh t a × HasChanges sh.limit t.changes a) (sym now) (may, room)
-
 -- what the slice of a plan gives at a place
 pub copied_is : (xs : List Act) (n : ℕ) (r : Option (Bor Act)) → IfSome r (λ x. x.now ≡ get_or xs n x.now) → MatchOption r (length xs ≤ n) (λ x. (n < length xs) × HoldsAt (λ y. x.now ≡ y) xs n) → option_copied r ≡ slice_get xs n
 copied_is xs n None read m = sym (slice_get_past xs n m)
 copied_is xs n (Some x) read m = sym (slice_get_read xs (length xs) n x.now refl m.0 read)
 
--- one act more was made
-pub on_next : (V : ℕ) (clerk : Clerk V) (call : Call) (s : State V) (acts : List Made) (a : Act) (bit : ℕ) → IsOn V clerk call s acts → next_act clerk ≡ Some a
-    → IsOn V (record clerk { made = clerk.made + 1 }) call s (acts ++ record { act = a; bit = bit } ∷ [])
-unfolding next_act
-on_next V clerk call s acts a bit on next =
-    let plan = clerk.plan.items in
-    let at : slice_get plan clerk.made ≡ Some a = ap (λ (st : Stage). next_in st plan clerk.made) (sym on.owes) ∙ next in
-    let below = next_below plan clerk.made a at in
-    record {
-      told = on.told;
-      owes = on.owes;
-      begun = on.begun;
-      planned = on.planned;
-      fits = on.fits;
+-- ---- a plan that is being made
+-- acts that are allowed, and then others
+pub allowed_then : (V : ℕ) (sh : Shape) (s : State V) (xs ys : List Made) → AreAllowed sh s xs → AreAllowed sh (after_all sh s xs) ys → AreAllowed sh s (xs ++ ys)
+allowed_then V sh s [] ys a b = b
+allowed_then V sh s (m ∷ ms) ys a b = (a.0, allowed_then V sh (after_act sh s m.act m.bit) ms ys a.1 b)
+
+module _ (V : ℕ) (b : Books) (plan : List Act) (many : ℕ) (call : Call) (s : State V) (acts : List Made) (told : Answer) (makes : MakesPlan V b plan many call s acts told) where
+  abbrev pub sh : Shape
+  sh = shape_of b.checked
+
+  abbrev pub mid : State V
+  mid = swept V sh s makes.sweep
+
+  still_on : AreStill (acts_of makes.others)
+  still_on = subst AreStill (sym makes.done) (still_take many plan (still_marks V sh _ call told plan makes.planned.marks))
+
+  -- the state now is that after the sweep and the first acts of the plan
+  pub state_now : after_all sh s acts ≡ left V sh mid (take many plan)
+  state_now =
+      ap (λ (xs : List Made). after_all sh s xs) makes.parts ∙ after_all-append sh s (hand_acts makes.sweep) makes.others
+      ∙ same_state V sh mid makes.others still_on ∙ ap (λ (xs : List Act). left V sh mid xs) makes.done
+
+  -- the act that comes next is allowed, and an open leaves two version changes within the limit
+  pub plan_may : (r : Option Act) → r ≡ slice_get plan many → IfSome r (λ a. IsAllowed sh (after_all sh s acts) a × HasChanges sh.limit (after_all sh s acts).changes a)
+  plan_may None e = tt
+  plan_may (Some a) e =
+      let planned = makes.planned in
+      let may = allowed_next V sh mid plan many a planned.allowed (sym e) in
+      let room = changes_left V sh mid plan many a sh.limit planned.allowed (sym e) planned.ends.quiet.quiet planned.ends.limit in
+      subst (λ (t : State V). IsAllowed sh t a × HasChanges sh.limit t.changes a) (sym state_now) (may, room)
+
+  -- one act more was made
+  pub plan_next : (a : Act) (bit : ℕ) → slice_get plan many ≡ Some a → MakesPlan V b plan (many + 1) call s (acts ++ record { act = a; bit = bit } ∷ []) told
+  plan_next a bit at =
+      let m : Made = record { act = a; bit = bit } in
+      let below = next_below plan many a at in
+      record {
+        sweep = makes.sweep;
+        others = makes.others ++ m ∷ [];
+        parts = ap (λ (xs : List Made). xs ++ m ∷ []) makes.parts ∙ append_assoc (hand_acts makes.sweep) makes.others (m ∷ []);
+        hands = makes.hands;
+        sweeps = makes.sweeps;
+        planned = makes.planned;
+        fits = makes.fits;
+        within = omega arith;
+        done = map-append (λ (m : Made). m.act) makes.others (m ∷ []) ∙ ap (λ (xs : List Act). xs ++ a ∷ []) makes.done ∙ rw add-one (sym (take_next plan many a at));
+      }
+
+-- a sweep and then all acts of a plan are a whole call
+pub whole_plan : (V : ℕ) (b : Books) (plan : List Act) (call : Call) (s : State V) (rs : List Swept) (others : List Made) (told : Answer) → AreAllowed (shape_of b.checked) s (hand_acts rs) → IsSweepOf V (shape_of b.checked) s rs told
+    → IsPlanned V b plan call s (swept V (shape_of b.checked) s rs) told → acts_of others ≡ plan
+    → Answered V (shape_of b.checked) call s (hand_acts rs ++ others) told × (after_all (shape_of b.checked) s (hand_acts rs ++ others) ≡ left V (shape_of b.checked) (swept V (shape_of b.checked) s rs) plan)
+whole_plan V b plan call s rs others told hands sweeps p done =
+    let sh = shape_of b.checked in
+    let mid = swept V sh s rs in
+    let still : AreStill (acts_of others) = subst AreStill (sym done) (still_marks V sh _ call told plan p.marks) in
+    let now : after_all sh s (hand_acts rs ++ others) ≡ left V sh mid plan = after_all-append sh s (hand_acts rs) others ∙ same_state V sh mid others still ∙ ap (λ (xs : List Act). left V sh mid xs) done in
+    let rest = same_allowed V sh mid others still (subst (λ (xs : List Act). AreAllowed sh mid (made xs)) (sym done) p.allowed) in (
+      record {
+        sweep = rs;
+        others = others;
+        parts = refl;
+        allowed = allowed_then V sh s (hand_acts rs) others hands rest;
+        quiet = subst (λ (t : State V). IsQuiet V sh t) (sym now) p.ends.quiet;
+        means = subst (λ (t : State V). Means sh call told s t) (sym now) p.means;
+        sweeps = sweeps;
+        marks = subst (λ (xs : List Act). Marks V sh (after_all sh s (hand_acts rs ++ others)).words call told xs) (sym done) (subst (λ (t : State V). Marks V sh t.words call told plan) (sym now) p.marks);
+      },
+      now,
+    )
+
+-- a plan that was made after a sweep, and none of its acts
+pub planned_after : (V : ℕ) (b : Books) (plan : List Act) (many : ℕ) (call : Call) (s : State V) (rs : List Swept) (told : Answer) (sh : Shape) → sh ≡ shape_of b.checked → AreAllowed sh s (hand_acts rs) → IsSweepOf V sh s rs told
+    → IsPlanned V b plan call s (swept V sh s rs) told → length plan ≤ 64 → many ≡ 0 → MakesPlan V b plan many call s (hand_acts rs) told
+planned_after V b plan many call s rs told sh same hands sweeps planned fits none =
+    subst (λ (y : Shape). AreAllowed y s (hand_acts rs) → IsSweepOf V y s rs told → IsPlanned V b plan call s (swept V y s rs) told → MakesPlan V b plan many call s (hand_acts rs) told) (sym same)
+    (λ hands sweeps planned. record {
+      sweep = rs;
+      others = [];
+      parts = sym (append-nil (hand_acts rs));
+      hands = hands;
+      sweeps = sweeps;
+      planned = planned;
+      fits = fits;
       within = omega arith;
-      done = map-append (λ (m : Made). m.act) acts (record { act = a; bit = bit } ∷ []) ∙ ap (λ (xs : List Act). xs ++ a ∷ []) on.done ∙ rw add-one (sym (take_next plan clerk.made a at));
-    }
+      done = rw none refl;
+    }) hands sweeps planned
 
-pub below_next : (V : ℕ) (clerk : Clerk V) (call : Call) (s : State V) (acts : List Made) (a : Act) → IsOn V clerk call s acts → next_act clerk ≡ Some a → clerk.made < length clerk.plan.items
-unfolding next_act
-below_next V clerk call s acts a on next =
-    next_below clerk.plan.items clerk.made a (ap (λ (st : Stage). next_in st clerk.plan.items clerk.made) (sym on.owes) ∙ next)
+-- ---- a clerk in a call
+-- a clerk that has planned makes its plan
+pub at_stage : (V : ℕ) (clerk : Clerk V) (call : Call) (s : State V) (acts : List Made) (told : Answer) → IsOn V clerk call s acts → clerk.stage ≡ Planned told → MakesPlan V clerk.books clerk.plan.items clerk.made call s acts told
+at_stage V clerk call s acts told on is = subst (λ (st : Stage V). IsAt V st clerk.books clerk.plan.items clerk.made call s acts) is on.now
 
--- all acts of the plan are a whole call
-pub whole_plan : (V : ℕ) (clerk : Clerk V) (call : Call) (s : State V) (acts : List Made) (told : Answer) → IsPlanned V clerk.books clerk.plan.items call s told → acts_of acts ≡ clerk.plan.items → Answered V (shape_in clerk) call s acts told
-whole_plan V clerk call s acts told p done =
-    let sh = shape_in clerk in
-    let plan = clerk.plan.items in
-    let still : AreStill (acts_of acts) = subst AreStill (sym done) (still_marks V sh _ call told plan p.marks) in
-    let now : after_all sh s acts ≡ left V sh s plan = same_state V sh s acts still ∙ ap (λ (xs : List Act). left V sh s xs) done in
-    record {
-      allowed = same_allowed V sh s acts still (subst (λ (xs : List Act). AreAllowed sh s (made xs)) (sym done) p.allowed);
-      quiet = subst (λ (t : State V). IsQuiet V sh t) (sym now) p.ends.quiet;
-      means = subst (λ (t : State V). Means sh call told s t) (sym now) p.means;
-      marks = subst (λ (xs : List Act). Marks V sh (after_all sh s acts).words call told xs) (sym done) (subst (λ (t : State V). Marks V sh t.words call told plan) (sym now) p.marks);
-    }
+-- a clerk that is in a call runs
+runs_at : (V : ℕ) (st : Stage V) (b : Books) (plan : List Act) (many : ℕ) (call : Call) (s : State V) (acts : List Made) → IsAt V st b plan many call s acts → Runs st
+runs_at V Idle b plan many call s acts now = absurd now
+runs_at V (Sweeping waiting) b plan many call s acts now = now.2
+runs_at V (Planned told) b plan many call s acts now = tt
+
+pub on_runs : (V : ℕ) (clerk : Clerk V) (call : Call) (s : State V) (acts : List Made) → IsOn V clerk call s acts → IsRunning {V = V} clerk
+unfolding IsRunning
+on_runs V clerk call s acts on = runs_at V clerk.stage clerk.books clerk.plan.items clerk.made call s acts on.now
+
+-- its values have so many words
+width_at : (V : ℕ) (st : Stage V) (b : Books) (plan : List Act) (many : ℕ) (call : Call) (s : State V) (acts : List Made) → IsAt V st b plan many call s acts → IsWidth V
+width_at V Idle b plan many call s acts now = absurd now
+width_at V (Sweeping waiting) b plan many call s acts now = now.1.waits.known.width
+width_at V (Planned told) b plan many call s acts now = now.planned.ends.width
+
+pub on_width : (V : ℕ) (clerk : Clerk V) (call : Call) (s : State V) (acts : List Made) → IsOn V clerk call s acts → IsWidth V
+on_width V clerk call s acts on = width_at V clerk.stage clerk.books clerk.plan.items clerk.made call s acts on.now
 
 -- no act is left: the call is whole
 pub whole_call : (V : ℕ) (clerk : Clerk V) (call : Call) (s : State V) (acts : List Made) (told : Answer) → IsOn V clerk call s acts → next_act clerk ≡ None → clerk.stage ≡ Planned told
     → Answered V (shape_in clerk) call s acts told × Knows V (record clerk { stage = Idle }) (after_all (shape_in clerk) s acts)
 unfolding next_act
-whole_call V clerk call s acts told on next owes =
+whole_call V clerk call s acts told on next is =
     let sh = shape_in clerk in
     let plan = clerk.plan.items in
-    let same : on.told ≡ told = cc in
-    let at : slice_get plan clerk.made ≡ None = ap (λ (st : Stage). next_in st plan clerk.made) (sym on.owes) ∙ next in
-    let whole = next_none plan clerk.made at in
-    let done : acts_of acts ≡ plan = on.done ∙ whole in
-    let p = subst (λ (x : Answer). IsPlanned V clerk.books plan call s x) same on.planned in
-    let now : after_all sh s acts ≡ left V sh s plan = same_state V sh s acts (still_on V clerk call s acts on) ∙ ap (λ (xs : List Act). left V sh s xs) done in (
-      whole_plan V clerk call s acts told p done,
-      record { idle = refl; books = subst (λ (t : State V). AreBooksOf V clerk.books t) (sym now) p.ends },
+    let makes = at_stage V clerk call s acts told on is in
+    let at : slice_get plan clerk.made ≡ None = ap (λ (st : Stage V). next_in st plan clerk.made) (sym is) ∙ next in
+    let whole = whole_plan V clerk.books plan call s makes.sweep makes.others told makes.hands makes.sweeps makes.planned (makes.done ∙ next_none plan clerk.made at) in
+    let now : after_all sh s acts ≡ left V sh (swept V sh s makes.sweep) plan = ap (λ (xs : List Made). after_all sh s xs) makes.parts ∙ whole.1 in (
+      subst (λ (xs : List Made). Answered V sh call s xs told) (sym makes.parts) whole.0,
+      record { idle = refl; books = subst (λ (t : State V). AreBooksOf V clerk.books t) (sym now) makes.planned.ends },
     )
 
-pub begins : (V : ℕ) (clerk : Clerk V) (call : Call) (s : State V) (told : Answer) → clerk.stage ≡ Planned told → clerk.made ≡ 0 → length clerk.plan.items ≤ 64 → IsQuiet V (shape_in clerk) s → IsPlanned V clerk.books clerk.plan.items call s told → IsOn V clerk call s []
-begins V clerk call s told owes none fits quiet planned = record {
-  told = told;
-  owes = owes;
-  begun = quiet;
-  planned = planned;
-  fits = fits;
-  within = omega arith;
-  done = rw none refl;
-}
+-- a call that was planned at once begins
+pub begins : (V : ℕ) (clerk : Clerk V) (call : Call) (s : State V) (told : Answer) → clerk.stage ≡ Planned told → clerk.made ≡ 0 → length clerk.plan.items ≤ 64 → IsQuiet V (shape_in clerk) s
+    → IsPlanned V clerk.books clerk.plan.items call s s told → IsSweepOf V (shape_in clerk) s [] told → IsOn V clerk call s []
+begins V clerk call s told owes none fits quiet planned sweeps =
+    let makes = planned_after V clerk.books clerk.plan.items clerk.made call s [] told (shape_in clerk) refl tt sweeps planned fits none in
+    record { begun = quiet; now = subst (λ (st : Stage V). IsAt V st clerk.books clerk.plan.items clerk.made call s []) (sym owes) makes }

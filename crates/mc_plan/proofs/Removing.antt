@@ -10,17 +10,17 @@ use Rattle.mc_words.specs.Places.{slot_number, slot, word_count, with_slot}
 use Rattle.mc_words.specs.Shapes.{IsShape}
 use Rattle.mc_words.specs.Standing.{Names, Stands, Agrees, AgreesAt, IsFree}
 use Rattle.mc_words.proofs.Frames.{empty_names_none, moved_names}
-use Rattle.mc_words.proofs.Places.{slot-with_slot_same, slot-with_slot_other}
+use Rattle.mc_words.proofs.Places.{slot-with_slot_same, slot-with_slot_other, item-with_slot}
 use Rattle.mc_core.specs.Effects.{bumped, taken_out}
 use Rattle.mc_core.specs.Phases.{Quiet, Removing}
 use Rattle.mc_core.specs.States.{State}
 use Rattle.mc_core.specs.declared.act.Act.TheVariants.{Open, Slot, Moment, Close}
 use Rattle.mc_core.specs.declared.act.Deed.TheVariants as deed
-use Rattle.mc_plan.specs.Making.{left, Makes, SetsSlot, Removes, Evicts}
+use Rattle.mc_plan.specs.Making.{left, Makes, SetsSlot, KeepsItems, Removes, Evicts}
 use Rattle.mc_plan.specs.Plans.{remove_acts, evict_acts}
 use Rattle.mc_plan.proofs.Quiets.{state, at_quiet, makes_from_walk}
 use Rattle.mc_plan.proofs.Renewing.{stands_bumped}
-use Rattle.mc_plan.proofs.Slots.{ended, slot-bumped, slot-ended, length-bumped}
+use Rattle.mc_plan.proofs.Slots.{ended, slot-bumped, slot-ended, item-bumped, item-ended, length-bumped}
 use Rattle.mc_plan.proofs.Walks.{Walk, walk_none, walk_act}
 
 -- the words after a removal
@@ -42,6 +42,10 @@ cleared_slots V sh w k p s size below = record {
   others = λ o l ne. slot-ended sh _ k o s ∙ slot-with_slot_other sh (bumped sh w k) (slot_number p) 0 o ne ∙ slot-bumped sh w k o s;
 }
 
+cleared_items : (V : ℕ) (sh : Shape) (w : List ℕ) (k : ℕ) (p : Place) → IsShape sh → slot_number p < 4 * sh.buckets → KeepsItems V sh w (cleared_words sh w k p)
+cleared_items V sh w k p s below i j =
+    item-ended V sh _ k i j s ∙ item-with_slot V sh (bumped sh w k) (slot_number p) 0 i j below ∙ item-bumped V sh w k i j s
+
 -- no other slot names the item of a key
 pub named_once : (V : ℕ) (sh : Shape) (w : List ℕ) (k q i : ℕ) (o : Option (List ℕ)) → AgreesAt V sh w k o → Stands V sh w k q i → (p : ℕ) → Names sh w p i → p ≡ q
 named_once V sh w k q i None a stands p names = absurd (a q i stands)
@@ -57,24 +61,26 @@ cleared_free V sh w x h k q i agrees stands sets o names =
 
 pub removes : (V : ℕ) (sh : Shape) (k : ℕ) (p : Place) → IsShape sh → k < 2 ^ 64 → Removes V sh k p (remove_acts k p)
 removes V sh k p shape key s i =
-    at_quiet V sh (λ (s : State V). p.slot < 4 → Stands V sh s.words k (slot_number p) i → Makes V sh s (remove_acts k p) (Remove k ∷ []) 2 × IsFree sh (left V sh s (remove_acts k p)).words i × SetsSlot sh s.words (left V sh s (remove_acts k p)).words (slot_number p) 0)
+    at_quiet V sh (λ (s : State V). p.slot < 4 → Stands V sh s.words k (slot_number p) i → Makes V sh s (remove_acts k p) (Remove k ∷ []) 2 × IsFree sh (left V sh s (remove_acts k p)).words i × SetsSlot sh s.words (left V sh s (remove_acts k p)).words (slot_number p) 0 × KeepsItems V sh s.words (left V sh s (remove_acts k p)).words)
     (λ w hand cleared h c quiet in_bucket stands.
     let walk = walk_act V sh (state V w Quiet hand cleared h c) _ (Open k deed.Remove) _ (key, (slot_number p, i, stands)) (taken_walk V sh w hand h c k p i false shape in_bucket stands) in
     let slots = cleared_slots V sh w k p shape quiet.holds.agrees.size stands.names.in_table in (
       makes_from_walk V sh _ _ (remove_acts k p) (Remove k ∷ []) 2 shape quiet walk refl refl (omega arith) refl,
       subst (λ (x : State V). IsFree sh x.words i) (sym walk.leads) (cleared_free V sh w _ h k (slot_number p) i quiet.holds.agrees stands slots),
       subst (λ (x : State V). SetsSlot sh w x.words (slot_number p) 0) (sym walk.leads) slots,
+      subst (λ (x : State V). KeepsItems V sh w x.words) (sym walk.leads) (cleared_items V sh w k p shape stands.names.in_table),
     ))
     s
 
 pub evicts : (V : ℕ) (sh : Shape) (k : ℕ) (p : Place) → IsShape sh → k < 2 ^ 64 → Evicts V sh k p (evict_acts k p)
 evicts V sh k p shape key s i =
-    at_quiet V sh (λ (s : State V). p.slot < 4 → Stands V sh s.words k (slot_number p) i → s.cleared ≡ Some i → Makes V sh s (evict_acts k p) (Evict k ∷ []) 2 × IsFree sh (left V sh s (evict_acts k p)).words i × SetsSlot sh s.words (left V sh s (evict_acts k p)).words (slot_number p) 0)
+    at_quiet V sh (λ (s : State V). p.slot < 4 → Stands V sh s.words k (slot_number p) i → s.cleared ≡ Some i → Makes V sh s (evict_acts k p) (Evict k ∷ []) 2 × IsFree sh (left V sh s (evict_acts k p)).words i × SetsSlot sh s.words (left V sh s (evict_acts k p)).words (slot_number p) 0 × KeepsItems V sh s.words (left V sh s (evict_acts k p)).words)
     (λ w hand cleared h c quiet in_bucket stands clear.
     let walk = walk_act V sh (state V w Quiet hand cleared h c) _ (Open k deed.Evict) _ (key, (slot_number p, i, stands, clear)) (taken_walk V sh w hand h c k p i true shape in_bucket stands) in
     let slots = cleared_slots V sh w k p shape quiet.holds.agrees.size stands.names.in_table in (
       makes_from_walk V sh _ _ (evict_acts k p) (Evict k ∷ []) 2 shape quiet walk refl refl (omega arith) refl,
       subst (λ (x : State V). IsFree sh x.words i) (sym walk.leads) (cleared_free V sh w _ h k (slot_number p) i quiet.holds.agrees stands slots),
       subst (λ (x : State V). SetsSlot sh w x.words (slot_number p) 0) (sym walk.leads) slots,
+      subst (λ (x : State V). KeepsItems V sh w x.words) (sym walk.leads) (cleared_items V sh w k p shape stands.names.in_table),
     ))
     s

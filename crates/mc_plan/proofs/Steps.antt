@@ -1,5 +1,5 @@
 -- One move of a path after another.
-use Rattle.std.proofs.Common.{ℕ, zero, suc, ◌≡◌, ◌+◌, ◌-◌, ◌*◌, ◌%◌, ◌^◌, ◌<◌, ◌≤◌, inl, inr, List, [], ◌∷◌, ◌++◌, refl, drop, get_or, length, arith, append_assoc, add-one, drop-cons}
+use Rattle.std.proofs.Common.{ℕ, zero, suc, ◌≡◌, ◌+◌, ◌-◌, ◌*◌, ◌%◌, ◌^◌, ◌<◌, ◌≤◌, inl, inr, List, [], ◌∷◌, ◌++◌, refl, sym, subst, drop, get_or, length, arith, append_assoc, add-one, drop-cons}
 use Rattle.mc_words.specs.declared.place.Place.{Place}
 use Rattle.mc_words.specs.declared.shape.Shape.{Shape}
 use Rattle.mc_words.specs.Chains.{IsOccupied, Leads, IsChain, beyond}
@@ -7,7 +7,8 @@ use Rattle.mc_words.specs.Keys.{slot_word}
 use Rattle.mc_words.specs.Places.{slot_number, slot}
 use Rattle.mc_words.specs.Shapes.{IsShape}
 use Rattle.mc_core.specs.declared.act.Act.{Act}
-use Rattle.mc_plan.specs.Moves.{AreKeys}
+use Rattle.mc_plan.specs.Moves.{AreTaken, AreKeys}
+use Rattle.mc_plan.specs.Paths.{IsCut}
 use Rattle.mc_plan.specs.Plans.{key_named, first_place, move_acts, moves_acts}
 use Rattle.mc_plan.specs.Readable.{IsFilled, NamesSome}
 
@@ -21,14 +22,28 @@ item_in-named sh word s n =
     let buckets = s.buckets.1 in
     (omega arith, omega arith)
 
-occupied_on : (sh : Shape) (w : List ℕ) (b : ℕ) (ps : List Place) (hole : Place) (n : ℕ) (d : Place) → Leads sh w b ps hole → n < length ps → IsOccupied sh w (get_or ps n d)
-occupied_on sh w b [] hole n d leads l = absurd (omega arith)
-occupied_on sh w b (p ∷ ps) hole zero d leads l = leads.0
-occupied_on sh w b (p ∷ ps) hole (suc n) d leads l = occupied_on sh w (beyond sh w p) ps hole n d leads.2 (omega arith)
+leads_taken : (sh : Shape) (w : List ℕ) (b : ℕ) (ps : List Place) (hole : Place) → Leads sh w b ps hole → AreTaken sh w ps
+leads_taken sh w b [] hole leads = tt
+leads_taken sh w b (p ∷ ps) hole leads = (leads.0, leads_taken sh w (beyond sh w p) ps hole leads.2)
 
--- each place of a chain is occupied
-pub occupied_at : (sh : Shape) (w : List ℕ) (k : ℕ) (ps : List Place) (hole : Place) (n : ℕ) (d : Place) → IsChain sh w k ps hole → n < length ps → IsOccupied sh w (get_or ps n d)
-occupied_at sh w k ps hole n d chain l = elim chain.leads [ inl a ↦ occupied_on sh w _ ps hole n d a l | inr a ↦ occupied_on sh w _ ps hole n d a l ]
+-- the places of a chain are occupied
+pub chain_taken : (sh : Shape) (w : List ℕ) (k : ℕ) (ps : List Place) (hole : Place) → IsChain sh w k ps hole → AreTaken sh w ps
+chain_taken sh w k ps hole chain = elim chain.leads [ inl a ↦ leads_taken sh w _ ps hole a | inr a ↦ leads_taken sh w _ ps hole a ]
+
+first_taken : (sh : Shape) (w : List ℕ) (ps qs : List Place) → AreTaken sh w (ps ++ qs) → AreTaken sh w ps
+first_taken sh w [] qs taken = tt
+first_taken sh w (p ∷ ps) qs taken = (taken.0, first_taken sh w ps qs taken.1)
+
+-- those that a cut keeps are occupied where all were
+pub cut_taken : (sh : Shape) (w : List ℕ) (victim : Place) (ps : List Place) (hole : Place) (kept : List Place) (end : Place) → IsCut victim ps hole kept end → AreTaken sh w ps → AreTaken sh w kept
+cut_taken sh w victim ps hole kept end (inl cut) taken = first_taken sh w kept (victim ∷ cut.0) (subst (AreTaken sh w) cut.1 taken)
+cut_taken sh w victim ps hole kept end (inr cut) taken = subst (AreTaken sh w) (sym cut.1) taken
+
+-- each of the places is occupied where they all are
+pub occupied_at : (sh : Shape) (w : List ℕ) (ps : List Place) (n : ℕ) (d : Place) → AreTaken sh w ps → n < length ps → IsOccupied sh w (get_or ps n d)
+occupied_at sh w [] n d taken l = absurd (omega arith)
+occupied_at sh w (p ∷ ps) zero d taken l = taken.0
+occupied_at sh w (p ∷ ps) (suc n) d taken l = occupied_at sh w ps n d taken.1 (omega arith)
 
 -- the word of an occupied place names an item
 pub named_at : (sh : Shape) (w : List ℕ) (p : Place) → IsFilled sh w → IsOccupied sh w p → NamesSome sh (slot sh w (slot_number p))

@@ -6,7 +6,7 @@ use Rattle.mc_words.specs.Answers.{Quiet}
 use Rattle.mc_plan.specs.declared.answer.Put.{Put}
 use Rattle.mc_plan.specs.declared.answer.Put.TheVariants.{Stored, Renewed}
 use Rattle.mc_plan.specs.declared.answer.PutError.{PutError}
-use Rattle.mc_plan.specs.declared.answer.PutError.TheVariants.{NoPath, AllRecent, Spent, NoItem}
+use Rattle.mc_plan.specs.declared.answer.PutError.TheVariants.{NoPath, AllRecent, Spent}
 use Rattle.mc_plan.specs.declared.answer.Remove.{Remove}
 use Rattle.mc_plan.specs.declared.answer.Remove.TheVariants.{Removed, NotThere}
 use Rattle.mc_plan.specs.declared.answer.Spent.{Spent as RemoveSpent}
@@ -14,12 +14,11 @@ use Rattle.mc_plan.specs.declared.answer.Spent.{Spent as RemoveSpent}
 -- what the answer of a put means
 abbrev pub PutAnswers : {V : ℕ} → Shape → Quiet V → ℕ → List ℕ → Result Put PutError → Quiet V → Type 0
 PutAnswers {V} sh s k v (Ok (Stored at moves None)) t = means.Stores V sh s t k v at moves
-PutAnswers {V} sh s k v (Ok (Stored at moves (Some evicted))) t = ⊥
+PutAnswers {V} sh s k v (Ok (Stored at moves (Some evicted))) t = means.Replaces V sh s t k v at moves evicted
 PutAnswers {V} sh s k v (Ok (Renewed at)) t = means.Renews V sh s t k v at
 PutAnswers {V} sh s k v (Err NoPath) t = means.RefusesPath V sh s t k
-PutAnswers {V} sh s k v (Err AllRecent) t = ⊥
+PutAnswers {V} sh s k v (Err AllRecent) t = means.RefusesAll V sh s t k
 PutAnswers {V} sh s k v (Err Spent) t = means.PutRefusedSpent sh s t
-PutAnswers {V} sh s k v (Err NoItem) t = means.RefusesItem V sh s t k
 
 -- what the answer of a removal means
 abbrev pub RemoveAnswers : {V : ℕ} → Shape → Quiet V → ℕ → Result Remove RemoveSpent → Quiet V → Type 0

@@ -6,6 +6,7 @@ pub mod Plans
 pub mod Making
 pub mod Moves
 pub mod Puts
+pub mod Replacing
 pub mod Laws
 pub mod Sweeps
 pub mod Calls

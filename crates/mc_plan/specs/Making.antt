@@ -6,7 +6,7 @@ use Rattle.mc_words.specs.declared.place.Place.{Place}
 use Rattle.mc_words.specs.declared.shape.Shape.{Shape}
 use Rattle.mc_words.specs.Chains.{IsHole}
 use Rattle.mc_words.specs.Keys.{tag_of, slot_word, IsBucketOf}
-use Rattle.mc_words.specs.Places.{slot_number, slot}
+use Rattle.mc_words.specs.Places.{slot_number, slot, item}
 use Rattle.mc_words.specs.Standing.{Stands, IsAbsent, IsFree}
 use Rattle.mc_core.specs.Inner.{StateHolds, StateCounted}
 use Rattle.mc_core.specs.Lists.{Made, AreAllowed, after_all}
@@ -44,6 +44,10 @@ pub record SetsSlot (sh : Shape) (w later : List ℕ) (q word : ℕ) : Type 0 wh
 abbrev pub KeepsSlots : Shape → List ℕ → List ℕ → Type 0
 KeepsSlots sh w later = (o : ℕ) → o < 4 * sh.buckets → slot sh later o ≡ slot sh w o
 
+-- the items are as they were
+abbrev pub KeepsItems : ℕ → Shape → List ℕ → List ℕ → Type 0
+KeepsItems V sh w later = (i j : ℕ) → item V sh later i j ≡ item V sh w i j
+
 -- the key has room: an item that no slot names, and an empty slot in one of its buckets
 pub record CanFill (V : ℕ) (sh : Shape) (w : List ℕ) (k i : ℕ) (p : Place) : Type 0 where
   pub absent : IsAbsent V sh w k
@@ -68,13 +72,14 @@ Renews V sh k v i acts =
     Stands V sh (left V sh s acts).words k q i ×
     KeepsSlots sh s.words (left V sh s acts).words
 
--- from each quiet state in which the key stands in the slot, the acts take it out, and no slot names its item
+-- from each quiet state in which the key stands in the slot, the acts take it out: no slot names its item, and all items are as they were
 abbrev pub Removes : ℕ → Shape → ℕ → Place → List Act → Type 0
 Removes V sh k p acts =
     (s : State V) (i : ℕ) → IsQuiet V sh s → p.slot < 4 → Stands V sh s.words k (slot_number p) i →
     Makes V sh s acts (Remove k ∷ []) 2 ×
     IsFree sh (left V sh s acts).words i ×
-    SetsSlot sh s.words (left V sh s acts).words (slot_number p) 0
+    SetsSlot sh s.words (left V sh s acts).words (slot_number p) 0 ×
+    KeepsItems V sh s.words (left V sh s acts).words
 
 -- the same of a key at the item whose bit the hand found clear
 abbrev pub Evicts : ℕ → Shape → ℕ → Place → List Act → Type 0
@@ -82,4 +87,5 @@ Evicts V sh k p acts =
     (s : State V) (i : ℕ) → IsQuiet V sh s → p.slot < 4 → Stands V sh s.words k (slot_number p) i → s.cleared ≡ Some i →
     Makes V sh s acts (Evict k ∷ []) 2 ×
     IsFree sh (left V sh s acts).words i ×
-    SetsSlot sh s.words (left V sh s acts).words (slot_number p) 0
+    SetsSlot sh s.words (left V sh s acts).words (slot_number p) 0 ×
+    KeepsItems V sh s.words (left V sh s acts).words

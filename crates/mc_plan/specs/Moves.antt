@@ -2,7 +2,7 @@
 use Rattle.std.specs.Prelude.{ℕ, ◌≡◌, ◌≢◌, ◌*◌, ◌<◌, List, [], ◌∷◌, length}
 use Rattle.mc_words.specs.declared.place.Place.{Place}
 use Rattle.mc_words.specs.declared.shape.Shape.{Shape}
-use Rattle.mc_words.specs.Chains.{IsHole, IsChain}
+use Rattle.mc_words.specs.Chains.{IsHole, IsOccupied, IsChain}
 use Rattle.mc_words.specs.History.{IsWord}
 use Rattle.mc_words.specs.Keys.{tag_of, alternate, IsBucketOf}
 use Rattle.mc_words.specs.Places.{slot_number, slot, item}
@@ -34,6 +34,11 @@ Moves V sh k word from to acts =
     Makes V sh s acts [] 2 ×
     Stands V sh (left V sh s acts).words k (slot_number to) i ×
     MovesSlot V sh s.words (left V sh s acts).words (slot_number from) (slot_number to)
+
+-- each of the places is in the table and occupied
+abbrev pub AreTaken : Shape → List ℕ → List Place → Type 0
+AreTaken sh w [] = Unit {0}
+AreTaken sh w (p ∷ ps) = IsOccupied sh w p × AreTaken sh w ps
 
 -- the keys at the places are numbers of 64 bits
 abbrev pub AreKeys : ℕ → Shape → List ℕ → List Place → Type 0

@@ -1,11 +1,18 @@
 -- The hand's way round the items, in search of one whose bit is clear.
 use Rattle.std.specs.Prelude.{ℕ, zero, suc, ◌≡◌, ◌≢◌, ◌+◌, ◌*◌, ◌%◌, ◌<◌, ◌≤◌, ◌⊎◌, ◌==◌, if◌then◌else◌, List, [], ◌∷◌, length, slice_index_or, Option, Some, None, IsSome}
+use Rattle.mc_core.specs.Lists.{Made}
+use Rattle.mc_core.specs.declared.act.Act.TheVariants.{Hand}
 use Rattle.mc_plan.specs.declared.sweep.Sweep.{Sweep}
 
 -- a reading of the hand: the item and its bit
 pub record Swept : Type 0 where
   pub item : ℕ
   pub bit : ℕ
+
+-- the acts of the hand that made these readings
+abbrev pub hand_acts : List Swept → List Made
+hand_acts [] = []
+hand_acts (r ∷ rs) = record { act = Hand r.item; bit = r.bit } ∷ hand_acts rs
 
 -- the items follow one another, round from the hand
 abbrev pub GoesRound : ℕ → ℕ → List Swept → Type 0

@@ -27,9 +27,6 @@ pub enum PutError {
     /// The limit of version changes could be passed.
     #[error("spent")]
     Spent,
-    /// Every item is in use.
-    #[error("no item")]
-    NoItem,
 }
 
 /// What a `remove` did. `at` is the moment after it.

@@ -1,14 +1,13 @@
 //! What the writer keeps of its table beside the words, and how it plans a call.
-ghost use Rattle.std.specs.Prelude.{ℕ, ◌≡◌, ◌+◌, ◌*◌, ◌^◌, ◌<◌, ◌≤◌, ◌++◌, [], ◌∷◌, ◌↔◌, All, IfOk, IsTrue, length};
+ghost use Rattle.std.specs.Prelude.{ℕ, ◌≡◌, ◌+◌, ◌*◌, ◌^◌, ◌<◌, ◌≤◌, ◌++◌, [], ◌∷◌, ◌↔◌, All, IfOk, IsTrue, List, Ok, length};
 ghost use Rattle.arrayvec.specs.ArrayVec.{array_vec_len};
 ghost use Rattle.mc_words.specs.Answers.{PutIsSpent};
-ghost use Rattle.mc_words.specs.Chains.{IsChain};
 ghost use Rattle.mc_words.specs.Checks.{shape_of};
 ghost use Rattle.mc_words.specs.History.{IsWord};
 ghost use Rattle.mc_words.specs.Places.{IsWidth, moment, word_count};
 ghost use Rattle.mc_words.specs.Standing.{IsAbsent};
 ghost use Rattle.mc_core.specs.States.{State, opening};
-ghost use Rattle.mc_plan.specs.Moves.{AreKeys};
+ghost use Rattle.mc_plan.specs.Moves.{AreTaken, AreKeys};
 ghost use Rattle.mc_plan.specs.Plans.{renew_acts};
 ghost use Rattle.mc_plan.specs.Puts.{put_acts};
 ghost use Rattle.mc_plan.specs.Readable.{IsFilled};
@@ -21,10 +20,12 @@ use crate::free::FreeItems;
 use crate::moves::add_moves;
 use crate::no_memory::NoMemory;
 use crate::path::Path;
-use crate::peek::Peek;
+use crate::peek::{Peek, key_at};
 use crate::reading::moment;
 use crate::renew::add_renew;
-use crate::take_out::add_remove;
+use crate::sweep::Sweep;
+use crate::take_out::{add_evict, add_remove};
+use crate::waiting::{Start, Waiting};
 use arrayvec::ArrayVec;
 use mc_core::Act;
 use mc_words::Checked;
@@ -43,7 +44,8 @@ pub(crate) struct Books {
 
 impl Books {
     ghost use Rattle.mc_core.specs.declared.act.Act.TheVariants as act;
-    ghost use Rattle.mc_plan.specs.Clerks.{AreBooksOf, IsPlanned, PutCall, RemoveCall, quiet_of};
+    ghost use Rattle.mc_plan.specs.Clerks.{AreBooksOf, Call, IsPlanned, IsReplacing, IsStarted, IsSweepOf, IsSweeping, RemoveCall, quiet_of, swept};
+    ghost use Rattle.mc_plan.specs.Sweeps.{HasSwept, IsOver, Swept};
     ghost use Rattle.mc_plan.specs.declared.answer.Answer.TheVariants as answer;
 
     /// The books of a new table.
@@ -103,7 +105,7 @@ impl Books {
         self.end(plan, item, 2);
     }
 
-    /// Plans the moves of the path, and then the fill of its first place.
+    /// Adds the moves of the path, and then the fill of its first place, to a plan that may begin with an eviction.
     fn fill<const V: usize, P: Peek>(
         &mut self,
         peek: &mut P,
@@ -116,12 +118,12 @@ impl Books {
         requires width { IsWidth V }
         requires words { word_count V (shape_of self.old.checked) ≤ length (P.words peek.old) }
         requires filled { IsFilled (shape_of self.old.checked) (P.words peek.old) }
-        requires chain { (k : ℕ) × IsChain (shape_of self.old.checked) (P.words peek.old) k path.now.places.items path.now.hole }
+        requires taken { AreTaken (shape_of self.old.checked) (P.words peek.old) path.now.places.items }
         requires within { length path.now.places.items ≤ 8 }
         requires item { item < (shape_of self.old.checked).items }
-        requires plan { plan.old.items ≡ [] }
+        requires plan { array_vec_len plan.old ≤ 4 }
         requires room { self.old.changes < 2 ^ 63 }
-        ensures plan { plan.new.items ≡ put_acts V (shape_of self.old.checked) (P.words peek.old) key value.now item path.now.places.items path.now.hole ++ act.Mark item ∷ [] }
+        ensures plan { plan.new.items ≡ (plan.old.items ++ put_acts V (shape_of self.old.checked) (P.words peek.old) key value.now item path.now.places.items path.now.hole) ++ act.Mark item ∷ [] }
         ensures fits { array_vec_len plan.new ≤ 64 }
         ensures words { All IsWord value.now }
         ensures keys { AreKeys V (shape_of self.old.checked) (P.words peek.old) path.now.places.items }
@@ -133,7 +135,7 @@ impl Books {
         self.end(plan, item, 2 * path.places.len() as u64 + 2);
     }
 
-    /// Plans the put of a key that is not there.
+    /// Plans the put of a key that is not there, if an item is free.
     fn store<const V: usize, P: Peek>(
         &mut self,
         peek: &mut P,
@@ -141,56 +143,116 @@ impl Books {
         key: u64,
         value: &[u64; V],
         at: u64,
-    ) -> Result<Put, PutError>
+    ) -> Start
         requires books { (s : State V) × AreBooksOf V self.old s × (P.words peek.old ≡ s.words) × (PutIsSpent (shape_of self.old.checked) (quiet_of s) → ⊥) }
         requires absent { IsAbsent V (shape_of self.old.checked) (P.words peek.old) key }
         requires plan { plan.old.items ≡ [] }
         requires at { at ≡ moment (P.words peek.old) + 1 }
-        ensures planned { (s : State V) → AreBooksOf V self.old s → P.words peek.old ≡ s.words → (PutIsSpent (shape_of self.old.checked) (quiet_of s) → ⊥) → IsPlanned V self.new plan.new.items (PutCall key value.now) s (answer.Put result) }
+        ensures started { (s : State V) → AreBooksOf V self.old s → P.words peek.old ≡ s.words → (PutIsSpent (shape_of self.old.checked) (quiet_of s) → ⊥) → IsStarted V self.new plan.new.items key value.now s result }
         ensures fits { array_vec_len plan.new ≤ 64 }
         ensures shape { self.new.checked ≡ self.old.checked }
         ensures same { P.words peek.new ≡ P.words peek.old }
     {
         let Some(path) = self.finder.path(peek, key) else {
-            return Err(PutError::NoPath);
+            return Start::Planned(Err(PutError::NoPath));
         };
         let Some(item) = self.free.take_least() else {
-            return Err(PutError::NoItem);
+            return Start::Waits(path);
         };
         self.fill::<V, P>(peek, plan, key, value, item, &path);
-        Ok(Put::Stored {
+        Start::Planned(Ok(Put::Stored {
             at,
             moves: path.places.len() as u8,
             evicted: None,
-        })
+        }))
     }
 
-    /// Plans a put.
+    /// Plans a put, or finds the path of one that waits for an item.
     pub(crate) fn put<const V: usize, P: Peek>(
         &mut self,
         peek: &mut P,
         plan: &mut ArrayVec<Act, 64>,
         key: u64,
         value: &[u64; V],
-    ) -> Result<Put, PutError>
+    ) -> Start
         requires books { (s : State V) × AreBooksOf V self.old s × (P.words peek.old ≡ s.words) }
         requires plan { plan.old.items ≡ [] }
-        ensures planned { (s : State V) → AreBooksOf V self.old s → P.words peek.old ≡ s.words → IsPlanned V self.new plan.new.items (PutCall key value.now) s (answer.Put result) }
+        ensures started { (s : State V) → AreBooksOf V self.old s → P.words peek.old ≡ s.words → IsStarted V self.new plan.new.items key value.now s result }
         ensures fits { array_vec_len plan.new ≤ 64 }
+        ensures wide { length value.now ≡ V }
         ensures shape { self.new.checked ≡ self.old.checked }
         ensures same { P.words peek.new ≡ P.words peek.old }
     {
         let most = 2 * (u64::from(self.checked.shape().depth) + 2);
         if self.is_spent(most) {
-            return Err(PutError::Spent);
+            return Start::Planned(Err(PutError::Spent));
         }
         let at = moment(&self.checked, peek) + 1;
         match find::<V, P>(&self.checked, peek, key) {
             Some((_, item)) => {
                 self.renew(plan, key, value, item);
-                Ok(Put::Renewed { at })
+                Start::Planned(Ok(Put::Renewed { at }))
             }
             None => self.store::<V, P>(peek, plan, key, value, at),
+        }
+    }
+
+    /// The sweep for an item, from where the hand stands.
+    pub(crate) fn sweep(&self) -> Sweep
+        requires { (V : ℕ) × (s : State V) × AreBooksOf V self.now s }
+        ensures { (V : ℕ) (s : State V) → AreBooksOf V self.now s → HasSwept result (shape_of self.now.checked).items s.hand [] }
+    {
+        Sweep::start(self.checked.shape().items, self.hand)
+    }
+
+    /// Plans the eviction of the key at the item, and then the put.
+    fn replace<const V: usize, P: Peek>(
+        &mut self,
+        peek: &mut P,
+        plan: &mut ArrayVec<Act, 64>,
+        waiting: Waiting<V>,
+        item: u32,
+    ) -> Put
+        requires books { (call : Call) × (s : State V) × (rs : List Swept) × IsReplacing V self.old plan.old.items waiting call s rs item × (P.words peek.old ≡ s.words) }
+        ensures planned { (call : Call) (s : State V) (rs : List Swept) → IsReplacing V self.old plan.old.items waiting.entry call s rs item → P.words peek.old ≡ s.words → IsPlanned V self.new plan.new.items call s (swept V (shape_of self.old.checked) s rs) (answer.Put (Ok result)) × IsSweepOf V (shape_of self.old.checked) s rs (answer.Put (Ok result)) }
+        ensures fits { array_vec_len plan.new ≤ 64 }
+        ensures shape { self.new.checked ≡ self.old.checked }
+        ensures same { P.words peek.new ≡ P.words peek.old }
+    {
+        let at = moment(&self.checked, peek) + 2;
+        let evicted = key_at::<V, P>(&self.checked, peek, item);
+        let Some((place, _)) = find::<V, P>(&self.checked, peek, evicted) else {
+            unreachable!();
+        };
+        let path = waiting.path.cut_at(place);
+        add_evict(plan, evicted, place);
+        self.fill::<V, P>(peek, plan, waiting.key, &waiting.value, item, &path);
+        self.changes += 2;
+        let moves = path.places.len() as u8;
+        Put::Stored {
+            at,
+            moves,
+            evicted: Some(evicted),
+        }
+    }
+
+    /// Plans the rest of a put whose sweep is over.
+    pub(crate) fn go_on<const V: usize, P: Peek>(
+        &mut self,
+        peek: &mut P,
+        plan: &mut ArrayVec<Act, 64>,
+        waiting: Waiting<V>,
+    ) -> Result<Put, PutError>
+        requires over { (call : Call) × (s : State V) × (rs : List Swept) × IsSweeping V self.old plan.old.items waiting call s rs × IsOver (shape_of self.old.checked).items rs × (P.words peek.old ≡ s.words) }
+        ensures planned { (call : Call) (s : State V) (rs : List Swept) → IsSweeping V self.old plan.old.items waiting.entry call s rs → IsOver (shape_of self.old.checked).items rs → P.words peek.old ≡ s.words → IsPlanned V self.new plan.new.items call s (swept V (shape_of self.old.checked) s rs) (answer.Put result) × IsSweepOf V (shape_of self.old.checked) s rs (answer.Put result) }
+        ensures fits { array_vec_len plan.new ≤ 64 }
+        ensures shape { self.new.checked ≡ self.old.checked }
+        ensures same { P.words peek.new ≡ P.words peek.old }
+    {
+        self.hand = waiting.sweep.hand();
+        match waiting.sweep.victim() {
+            Some(item) => Ok(self.replace::<V, P>(peek, plan, waiting, item)),
+            None => Err(PutError::AllRecent),
         }
     }
 
@@ -203,7 +265,7 @@ impl Books {
     ) -> Result<Remove, Spent>
         requires books { (s : State V) × AreBooksOf V self.old s × (P.words peek.old ≡ s.words) }
         requires plan { plan.old.items ≡ [] }
-        ensures planned { (s : State V) → AreBooksOf V self.old s → P.words peek.old ≡ s.words → IsPlanned V self.new plan.new.items (RemoveCall key) s (answer.Remove result) }
+        ensures planned { (s : State V) → AreBooksOf V self.old s → P.words peek.old ≡ s.words → IsPlanned V self.new plan.new.items (RemoveCall key) s s (answer.Remove result) }
         ensures fits { array_vec_len plan.new ≤ 64 }
         ensures shape { self.new.checked ≡ self.old.checked }
         ensures same { P.words peek.new ≡ P.words peek.old }

@@ -1,5 +1,5 @@
 //! The writer's bookkeeping, and its calls as a step machine: which act comes next, and what the call answers.
-ghost use Rattle.std.specs.Prelude.{ℕ, ◌≡◌, ◌<◌, ◌≤◌, ◌++◌, [], ◌∷◌, ◌↔◌, List, Some, None, IfOk, IfSome, IfNone, IsSome};
+ghost use Rattle.std.specs.Prelude.{ℕ, ◌≡◌, ◌+◌, ◌^◌, ◌<◌, ◌≤◌, ◌++◌, [], ◌∷◌, ◌↔◌, List, Some, None, IfOk, IfSome, IfNone, IsSome};
 ghost use Rattle.mc_words.specs.Checks.{shape_of};
 ghost use Rattle.mc_words.specs.Places.{IsWidth};
 ghost use Rattle.mc_core.specs.Acts.{IsAllowed};
@@ -11,16 +11,20 @@ use crate::answer::Answer;
 use crate::books::Books;
 use crate::no_memory::NoMemory;
 use crate::peek::Peek;
+use crate::waiting::{Start, Waiting};
 use arrayvec::ArrayVec;
 use mc_core::Act;
 use mc_words::Checked;
 use std::alloc::Global;
+use std::mem;
 
 /// How far a clerk is.
-#[derive(Clone, Copy, Debug, PartialEq, Eq)]
-enum Stage {
+#[derive(Drop)]
+enum Stage<const V: usize> {
     /// No call runs.
     Idle,
+    /// The hand looks for an item for a put.
+    Sweeping(Waiting<V>),
     /// The plan is to be made, and then this is the answer.
     Planned(Answer),
 }
@@ -29,7 +33,7 @@ enum Stage {
 #[derive(Drop)]
 pub struct Clerk<const V: usize> {
     books: Books,
-    stage: Stage,
+    stage: Stage<V>,
     plan: ArrayVec<Act, 64>,
     /// How many acts of the plan were made.
     made: usize,
@@ -37,7 +41,8 @@ pub struct Clerk<const V: usize> {
 
 impl<const V: usize> Clerk<V> {
     ghost use Rattle.mc_core.specs.declared.act.Act.{Act};
-    ghost use Rattle.mc_plan.specs.Clerks.{Call, PutCall, RemoveCall, Knows, IsOn, IsRunning, Answered, next_act, acts_left, shape_in};
+    ghost use Rattle.mc_plan.specs.Clerks.{Call, PutCall, RemoveCall, Knows, IsOn, IsRunning, HasEndedSweep, Answered, next_act, acts_left, shape_in};
+    ghost use Rattle.mc_plan.specs.Sweeps.{Swept, hand_acts};
 
     /// The clerk of a new table.
     pub fn new(alloc: Global, checked: &Checked) -> Result<Clerk<V>, NoMemory>
@@ -58,14 +63,21 @@ impl<const V: usize> Clerk<V> {
     pub fn put<P: Peek>(&mut self, peek: &mut P, key: u64, value: [u64; V])
         requires { (s : State V) × Knows V self.old s × (P.words peek.old ≡ s.words) }
         ensures on { (s : State V) → Knows V self.old s → P.words peek.old ≡ s.words → IsOn V self.new (PutCall key value.entry) s [] }
-        ensures left { acts_left self.new ≤ 64 }
+        ensures left { acts_left self.new ≤ 2 ^ 23 + 64 }
         ensures shape { shape_in self.new ≡ shape_in self.old }
         ensures same { P.words peek.new ≡ P.words peek.old }
     {
         self.plan.clear();
         self.made = 0;
-        let answer = self.books.put::<V, P>(peek, &mut self.plan, key, &value);
-        self.stage = Stage::Planned(Answer::Put(answer));
+        self.stage = match self.books.put::<V, P>(peek, &mut self.plan, key, &value) {
+            Start::Planned(answer) => Stage::Planned(Answer::Put(answer)),
+            Start::Waits(path) => Stage::Sweeping(Waiting {
+                sweep: self.books.sweep(),
+                key,
+                value,
+                path,
+            }),
+        };
     }
 
     /// Starts a removal.
@@ -87,21 +99,46 @@ impl<const V: usize> Clerk<V> {
         ensures value { result ≡ next_act self.now }
         ensures allowed { (call : Call) (s : State V) (acts : List Made) → IsOn V self.now call s acts → IfSome result (λ a. IsAllowed (shape_in self.now) (after_all (shape_in self.now) s acts) a × HasChanges (shape_in self.now).limit (after_all (shape_in self.now) s acts).changes a) }
     {
-        match self.stage {
+        match &self.stage {
             Stage::Idle => None,
+            Stage::Sweeping(waiting) => Some(Act::Hand(waiting.sweep.next()?)),
             Stage::Planned(_) => self.plan.get(self.made).copied(),
+        }
+    }
+
+    /// Plans the rest of a put whose sweep is over.
+    fn go_on<P: Peek>(&mut self, peek: &mut P)
+        requires over { (call : Call) × (s : State V) × (rs : List Swept) × HasEndedSweep V self.old call s rs × (P.words peek.old ≡ s.words) }
+        ensures on { (call : Call) (s : State V) (rs : List Swept) → HasEndedSweep V self.old call s rs → P.words peek.old ≡ s.words → IsOn V self.new call s (hand_acts rs) }
+        ensures left { acts_left self.new ≤ 64 }
+        ensures shape { shape_in self.new ≡ shape_in self.old }
+        ensures same { P.words peek.new ≡ P.words peek.old }
+    {
+        let stage = mem::replace(&mut self.stage, Stage::Idle);
+        if let Stage::Sweeping(waiting) = stage {
+            let answer = self.books.go_on::<V, P>(peek, &mut self.plan, waiting);
+            self.stage = Stage::Planned(Answer::Put(answer));
         }
     }
 
     /// Goes on after the next act was made. `word` is the bit that it read, where it was one of the hand.
     pub fn after<P: Peek>(&mut self, peek: &mut P, word: u64)
         requires { (call : Call) × (s : State V) × (acts : List Made) × (a : Act) × IsOn V self.old call s acts × (next_act self.old ≡ Some a) × (P.words peek.old ≡ (after_all (shape_in self.old) s (acts ++ record { act = a; bit = word } ∷ [])).words) }
-        ensures on { (call : Call) (s : State V) (acts : List Made) (a : Act) → IsOn V self.old call s acts → next_act self.old ≡ Some a → IsOn V self.new call s (acts ++ record { act = a; bit = word } ∷ []) }
+        ensures on { (call : Call) (s : State V) (acts : List Made) (a : Act) → IsOn V self.old call s acts → next_act self.old ≡ Some a → P.words peek.old ≡ (after_all (shape_in self.old) s (acts ++ record { act = a; bit = word } ∷ [])).words → IsOn V self.new call s (acts ++ record { act = a; bit = word } ∷ []) }
         ensures left { acts_left self.new < acts_left self.old }
         ensures shape { shape_in self.new ≡ shape_in self.old }
         ensures same { P.words peek.new ≡ P.words peek.old }
     {
-        self.made += 1;
+        match &mut self.stage {
+            Stage::Sweeping(waiting) => {
+                waiting.sweep.after(word);
+                if waiting.sweep.next().is_none() {
+                    self.go_on(peek);
+                }
+            }
+            Stage::Planned(_) => self.made += 1,
+            Stage::Idle => {}
+        }
     }
 
     /// Takes the answer, once no act is left. The call ends with it.
@@ -116,7 +153,7 @@ impl<const V: usize> Clerk<V> {
             return None;
         }
         match self.stage {
-            Stage::Idle => None,
+            Stage::Idle | Stage::Sweeping(_) => None,
             Stage::Planned(answer) => {
                 self.stage = Stage::Idle;
                 Some(answer)

@@ -1,6 +1,7 @@
 //! The laws of plans, one function each. A body does nothing: what it ensures is the law.
 ghost use Rattle.mc_plan.specs.Moves.{MovesMakeRoom};
 ghost use Rattle.mc_plan.specs.Puts.{PutsMakeRoom};
+ghost use Rattle.mc_plan.specs.Replacing.{EvictionsMakeRoom};
 ghost use Rattle.mc_plan.specs.Laws.{FillsPut, RenewalsPut, RemovalsTakeOut, EvictionsTakeOut, MovesKeepTheMap};
 
 /// Where a key has room, the acts of a fill are allowed, and put the key.
@@ -36,4 +37,9 @@ pub fn moves_make_room<const V: usize>()
 /// Where a key is not there, an item is free and a chain leads from the key to a hole, the moves of the chain and then a fill of its first place are allowed one after the other, and put the key.
 pub fn puts_make_room<const V: usize>()
     ensures { PutsMakeRoom V }
+{}
+
+/// Where a key is not there, another stands at the item whose bit the hand found clear, and a chain leads from the key to a hole, the eviction of the other key, the moves of the chain up to that key's slot and then a fill of its first place are allowed one after the other. They take the other key out and put the key.
+pub fn evictions_make_room<const V: usize>()
+    ensures { EvictionsMakeRoom V }
 {}

@@ -23,6 +23,7 @@ mod search;
 mod sweep;
 mod take_out;
 mod value;
+mod waiting;
 mod world;
 
 pub use answer::{Answer, Put, PutError, Remove, Spent};

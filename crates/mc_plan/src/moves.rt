@@ -4,7 +4,7 @@ ghost use Rattle.arrayvec.specs.ArrayVec.{array_vec_len};
 ghost use Rattle.mc_words.specs.Chains.{IsChain};
 ghost use Rattle.mc_words.specs.Checks.{shape_of};
 ghost use Rattle.mc_words.specs.Places.{IsWidth, item, word_count};
-ghost use Rattle.mc_plan.specs.Moves.{AreKeys, MakesRoom};
+ghost use Rattle.mc_plan.specs.Moves.{AreTaken, AreKeys, MakesRoom};
 ghost use Rattle.mc_plan.specs.Plans.{item_in, move_acts, moves_acts};
 ghost use Rattle.mc_plan.specs.Readable.{IsFilled, NamesSome};
 
@@ -51,7 +51,7 @@ pub fn add_moves<const V: usize, P: Peek>(
     requires width { IsWidth V }
     requires words { word_count V (shape_of checked.now) ≤ length (P.words peek.old) }
     requires filled { IsFilled (shape_of checked.now) (P.words peek.old) }
-    requires chain { (k : ℕ) × IsChain (shape_of checked.now) (P.words peek.old) k path.now.places.items path.now.hole }
+    requires taken { AreTaken (shape_of checked.now) (P.words peek.old) path.now.places.items }
     requires room { array_vec_len acts.old ≤ 32 }
     ensures items { acts.new.items ≡ acts.old.items ++ moves_acts V (shape_of checked.now) (P.words peek.old) path.now.places.items path.now.hole }
     ensures many { array_vec_len acts.new ≡ array_vec_len acts.old + 4 * length path.now.places.items }

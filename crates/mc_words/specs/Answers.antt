@@ -1,7 +1,7 @@
 -- What each answer of a call means for the table before the call and after it.
 use Rattle.std.specs.Prelude.{ℕ, ◌≡◌, ◌+◌, ◌*◌, ◌<◌, ◌≤◌, List, [], ◌∷◌, ◌++◌, length, Some, None, IsSome}
 use Rattle.mc_words.specs.declared.history.Change.{Change}
-use Rattle.mc_words.specs.declared.history.Change.TheVariants.{Put, Remove}
+use Rattle.mc_words.specs.declared.history.Change.TheVariants.{Put, Remove, Evict}
 use Rattle.mc_words.specs.declared.shape.Shape.{Shape}
 use Rattle.mc_words.specs.Chains.{IsLeastLength, NoChain}
 use Rattle.mc_words.specs.History.{held, key_count, IsLegal}
@@ -54,13 +54,27 @@ pub record RefusesPath (V : ℕ) (sh : Shape) (s t : Quiet V) (k : ℕ) : Type 0
   pub none : NoChain sh s.words k sh.depth
   pub unchanged : t ≡ s
 
--- a chain leads to a hole, and no item is free
-pub record RefusesItem (V : ℕ) (sh : Shape) (s t : Quiet V) (k : ℕ) : Type 0 where
+-- the key was not there, a chain leads to a hole, and every item is in use
+pub record NeedsItem (V : ℕ) (sh : Shape) (s : Quiet V) (k : ℕ) : Type 0 where
   pub unspent : PutIsSpent sh s → ⊥
   pub absent : held s.history k ≡ None
-  pub chain : (count : ℕ) × (count ≤ sh.depth) × IsLeastLength sh s.words k count
+  pub count : ℕ
+  pub within : count ≤ sh.depth
+  pub least : IsLeastLength sh s.words k count
   pub full : key_count s.history ≡ sh.items
+
+-- no item could be taken from another key
+pub record RefusesAll (V : ℕ) (sh : Shape) (s t : Quiet V) (k : ℕ) : Type 0 where
+  pub needs : NeedsItem V sh s k
   pub unchanged : t ≡ s
+
+-- another key was taken out, and the key was put in its place after no more moves than the shortest chain asks for
+pub record Replaces (V : ℕ) (sh : Shape) (s t : Quiet V) (k : ℕ) (v : List ℕ) (at moves evicted : ℕ) : Type 0 where
+  pub needs : NeedsItem V sh s k
+  pub few : moves ≤ needs.count
+  pub was : IsSome (held s.history evicted)
+  pub grows : Grows V s t (Evict evicted ∷ Put k v ∷ []) (4 + 2 * moves)
+  pub moment : at ≡ length t.history
 
 -- the key was not there, and is now, after as few moves as could be
 pub record Stores (V : ℕ) (sh : Shape) (s t : Quiet V) (k : ℕ) (v : List ℕ) (at moves : ℕ) : Type 0 where

@@ -11,14 +11,18 @@ use crate::{Answer, Clerk, NoMemory, Peek, Put, PutError, Remove, moment, read};
 use mc_core::Act;
 use mc_words::{Checked, Mix, Shape, ShapeError};
 use std::alloc::{AllocError, Global};
+use std::mem;
 use std::test::Fail;
 
-/// The words of a table whose values have one word, and the key of the deed that runs.
+/// The words of a table whose values have one word, the key of the deed that runs, the recency bits, and whether each is
+/// set again before it is read.
 #[derive(Drop)]
 struct Desk {
     checked: Checked,
     words: Vec<u64>,
     key: u64,
+    bits: Vec<u64>,
+    marked: bool,
 }
 
 /// A look at the words.
@@ -40,10 +44,13 @@ impl Desk {
         ensures shape { IfOk result (λ d. d.checked ≡ checked.now) }
     {
         let words = vec![in alloc; 0; checked.recency_start::<1>()]?;
+        let bits = vec![in alloc; 0; checked.shape().items as usize]?;
         Ok(Desk {
             checked: *checked,
             words,
             key: 0,
+            bits,
+            marked: false,
         })
     }
 
@@ -122,6 +129,37 @@ impl Desk {
     }
 }
 
+impl Desk {
+    /// Puts a bit in the place of an item's, and tells the one that was there.
+    fn swap(&mut self, i: u32, bit: u64) -> u64
+        ensures words { self.new.words ≡ self.old.words }
+        ensures shape { self.new.checked ≡ self.old.checked }
+        ensures key { self.new.key ≡ self.old.key }
+    {
+        match self.bits.get_mut(i as usize) {
+            Some(place) => mem::replace(place, bit),
+            None => 0,
+        }
+    }
+
+    /// The bit that the act reads. A mark sets one, and a reading clears it.
+    fn bit(&mut self, act: Act) -> u64
+        ensures words { self.new.words ≡ self.old.words }
+        ensures shape { self.new.checked ≡ self.old.checked }
+        ensures key { self.new.key ≡ self.old.key }
+    {
+        match act {
+            Act::Hand(_) if self.marked => 1,
+            Act::Hand(i) => self.swap(i, 0),
+            Act::Mark(i) => {
+                let _ = self.swap(i, 1);
+                0
+            }
+            _ => 0,
+        }
+    }
+}
+
 /// Makes the acts of the call that the clerk is in, and takes its answer.
 fn run(clerk: &mut Clerk<1>, desk: &mut Desk) -> Option<Answer>
     requires { IsMaking clerk.old (shape_of desk.old.checked) desk.old.words.items desk.old.key }
@@ -131,7 +169,8 @@ fn run(clerk: &mut Clerk<1>, desk: &mut Desk) -> Option<Answer>
         if !desk.make(act) {
             return None;
         }
-        clerk.after(&mut Look(desk.words.as_slice()), 0);
+        let bit = desk.bit(act);
+        clerk.after(&mut Look(desk.words.as_slice()), bit);
     }
     clerk.answer()
 }
@@ -250,8 +289,6 @@ fn an_item_is_given_back_and_taken_again(rt: HostRuntime) -> Result<(), Fail> {
     let checked = checked_with(2, 2, 1 << 62)?;
     let (mut clerk, mut desk) = start(rt.alloc(), &checked)?;
     assert!(rt; store_all(&mut clerk, &mut desk, &[0, 1]));
-    let refused = put(&mut clerk, &mut desk, 2, 5).ok_or("an act was not made")?;
-    assert_eq!(rt; refused, Answer::Put(Err(PutError::NoItem)));
     let removed = remove(&mut clerk, &mut desk, 0).ok_or("an act was not made")?;
     assert_eq!(rt; removed, Answer::Remove(Ok(Remove::Removed { at: 3 })));
     let absent = remove(&mut clerk, &mut desk, 0).ok_or("an act was not made")?;
@@ -259,6 +296,55 @@ fn an_item_is_given_back_and_taken_again(rt: HostRuntime) -> Result<(), Fail> {
     let answer = put(&mut clerk, &mut desk, 2, 5).ok_or("an act was not made")?;
     assert_eq!(rt; answer, stored(4, 0));
     assert_eq!(rt; look_up(&clerk, &desk, 2), (Some((0, [5])), 4));
+    Ok(())
+}
+
+fn replaced(at: u64, moves: u8, key: u64) -> Answer {
+    Answer::Put(Ok(Put::Stored {
+        at,
+        moves,
+        evicted: Some(key),
+    }))
+}
+
+#[test]
+fn the_first_item_without_a_mark_is_taken(rt: HostRuntime) -> Result<(), Fail> {
+    let checked = checked_with(3, 2, 1 << 62)?;
+    let (mut clerk, mut desk) = start(rt.alloc(), &checked)?;
+    assert!(rt; store_all(&mut clerk, &mut desk, &[0, 1, 2]));
+    let first = put(&mut clerk, &mut desk, 3, 3).ok_or("an act was not made")?;
+    assert_eq!(rt; first, replaced(5, 0, 0));
+    assert_eq!(rt; look_up(&clerk, &desk, 0), (None, 5));
+    let _ = desk.swap(1, 1);
+    let second = put(&mut clerk, &mut desk, 4, 4).ok_or("an act was not made")?;
+    assert_eq!(rt; second, replaced(7, 0, 2));
+    assert_eq!(rt; look_up(&clerk, &desk, 4), (Some((2, [4])), 7));
+    Ok(())
+}
+
+#[test]
+fn a_path_is_not_followed_past_the_victim(rt: HostRuntime) -> Result<(), Fail> {
+    let checked = checked_with(8, 2, 1 << 62)?;
+    let (mut clerk, mut desk) = start(rt.alloc(), &checked)?;
+    assert!(rt; store_all(&mut clerk, &mut desk, &FULL));
+    let answer = put(&mut clerk, &mut desk, 28, 28).ok_or("an act was not made")?;
+    assert_eq!(rt; answer, replaced(10, 0, FULL[0]));
+    assert_eq!(rt; look_up(&clerk, &desk, FULL[0]), (None, 10));
+    Ok(())
+}
+
+#[test]
+fn no_item_is_taken_where_every_bit_is_set(rt: HostRuntime) -> Result<(), Fail> {
+    let checked = checked_with(2, 2, 1 << 62)?;
+    let (mut clerk, mut desk) = start(rt.alloc(), &checked)?;
+    assert!(rt; store_all(&mut clerk, &mut desk, &[0, 1]));
+    desk.marked = true;
+    let refused = put(&mut clerk, &mut desk, 2, 5).ok_or("an act was not made")?;
+    assert_eq!(rt; refused, Answer::Put(Err(PutError::AllRecent)));
+    assert_eq!(rt; look_up(&clerk, &desk, 2), (None, 2));
+    desk.marked = false;
+    let first = put(&mut clerk, &mut desk, 2, 5).ok_or("an act was not made")?;
+    assert_eq!(rt; first, replaced(4, 0, 0));
     Ok(())
 }
 

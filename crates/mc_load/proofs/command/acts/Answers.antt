@@ -1,9 +1,10 @@
-use Rattle.std.proofs.Common.{◌≡◌, ℕ, suc, ◌+◌, ◌-◌, ◌<◌, ◌++◌, List, Some, None, subst, sym, ◌∙◌, rules, arith, string_bytes}
+use Rattle.std.proofs.Common.{◌≡◌, ℕ, ◌+◌, ◌≤◌, ◌++◌, List, Some, None, subst, sym, ◌∙◌, rules, arith, string_bytes}
 use Rattle.mc_words.specs.declared.shape.Shape.{Shape}
 use Rattle.mc_load.specs.Replay.{ActDoes, ActsDo}
-use Rattle.mc_load.specs.Players.{shape_in}
+use Rattle.mc_load.specs.Players.{shape_in, most_steps}
 use Rattle.mc_load.specs.declared.player.Player.{Player}
 use Rattle.mc_load.specs.declared.fault.Fault.TheVariants.{NothingToStep}
+use Rattle.mc_load.proofs.Accessing.{fits_more}
 use Rattle.mc_load.proofs.Commanding.{idle_of, runs_of, runs_in}
 use Rattle.mc_load.proofs.Stepping.{acts_push, acts_stop, left_over, one_more}
 use Rattle.mc_load.proofs.command.acts.Goals as goal
@@ -38,3 +39,12 @@ acts-preserved g c = λ most s room fits.
     let pushed = acts_push (shape_in old) c.acts.counter s m t runs.0 (string_bytes c.acts.text) done.1 so_far.1 runs.1 act in
     let all = subst (λ (n : ℕ). ActsDo (shape_in old) n s (string_bytes c.acts.text ++ done.1) None t) (one_more c.acts.counter) pushed in
     (t, subst (λ (l : List ℕ). ActsDo (shape_in old) (c.acts.counter + 1) s l None t) (sym done.3) all, done.4, done.5 ∙ so_far.3)
+
+pub returns : goal.returns
+returns g c = λ most s room fits.
+    let old : Player g.row.V = c.args.player.now in
+    let so_far = c.acts.invariant most s room fits in
+    let m = so_far.0 in
+    let few : most + c.acts.counter ≤ most + most_steps = omega (arith, so_far.2.past) in
+    let all : c.acts.counter ≡ c.args.many = omega (arith, c.acts.auto.counter-end, c.acts-test.false) in
+    (m, subst (λ (n : ℕ). ActsDo (shape_in old) n s (string_bytes c.acts.text) None m) all so_far.1, (so_far.3, fits_more g.row.V c.acts.player (most + c.acts.counter) (most + most_steps) m.running m.world few so_far.2.fits))

@@ -1,4 +1,4 @@
-use Rattle.std.proofs.Common.{◌≡◌, ℕ, suc, ◌+◌, ◌-◌, ◌<◌, ◌++◌, List, refl, subst, sym, ◌∙◌, arith, Some, None, string_bytes}
+use Rattle.std.proofs.Common.{◌≡◌, ℕ, ◌+◌, ◌++◌, List, refl, subst, sym, ◌∙◌, arith, Some, None, string_bytes}
 use Rattle.mc_words.specs.declared.shape.Shape.{Shape}
 use Rattle.mc_core.specs.Worlds.{Steps}
 use Rattle.mc_core.specs.declared.event.Event.TheVariants as event

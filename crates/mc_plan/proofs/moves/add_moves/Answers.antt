@@ -10,7 +10,7 @@ slot_at-word-requires-clause-place g c =
     let ps = c.args.path.now.places.items in
     let m = c.loop-n.n - 1 in
     let below : m < length ps = omega (arith, c.loop-n.invariant.within, c.loop-n-test.true) in
-    let taken = occupied_at c.args.checked.now.shape (g.P.Peek.words c.args.peek.now) c.requires.chain.0 ps c.args.path.now.hole m (record { bucket = 0; slot = 0 }) c.requires.chain.1 below in
+    let taken = occupied_at c.args.checked.now.shape (g.P.Peek.words c.args.peek.now) ps m (record { bucket = 0; slot = 0 }) c.requires.taken below in
     rw c.deref.ensures.0 taken.0
 
 pub key_in-key-requires-clause-named : goal.key_in-key-requires-clause-named
@@ -20,7 +20,7 @@ key_in-key-requires-clause-named g c =
     let ps = c.args.path.now.places.items in
     let m = c.loop-n.n - 1 in
     let below : m < length ps = omega (arith, c.loop-n.invariant.within, c.loop-n-test.true) in
-    let taken = occupied_at sh w c.requires.chain.0 ps c.args.path.now.hole m (record { bucket = 0; slot = 0 }) c.requires.chain.1 below in
+    let taken = occupied_at sh w ps m (record { bucket = 0; slot = 0 }) c.requires.taken below in
     let named = named_at sh w (get_or ps m (record { bucket = 0; slot = 0 })) c.requires.filled taken in
     rw (c.slot_at-word.ensures.value, c.loop-n.invariant.same, c.deref.ensures.0) named
 

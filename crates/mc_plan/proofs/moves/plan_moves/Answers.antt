@@ -2,8 +2,13 @@ use Rattle.std.proofs.Common.{List, sym, subst}
 use Rattle.mc_core.specs.declared.act.Act.{Act}
 use Rattle.mc_plan.specs.Moves.{MakesRoom}
 use Rattle.mc_plan.proofs.Displacing.{room_made}
+use Rattle.mc_plan.proofs.Steps.{chain_taken}
 use Rattle.mc_plan.proofs.Values.{plan_is}
 use Rattle.mc_plan.proofs.moves.plan_moves.Goals as goal
+
+pub add_moves-requires-clause-taken : goal.add_moves-requires-clause-taken
+add_moves-requires-clause-taken g c =
+    chain_taken c.args.checked.now.shape (g.P.Peek.words c.args.peek.now) c.requires.chain.0 c.args.path.now.places.items c.args.path.now.hole c.requires.chain.1
 
 pub returns-clause-law : goal.returns-clause-law
 returns-clause-law g c =

@@ -31,12 +31,14 @@ returns-in-Ok-clause-made g c = λ most p w call room.
     let new : Player g.row.V = record { world = c.step.new.self; clerk = c.answer.new.self; readers = c.args.self.now.readers } in
     let a = c.in-Some.act in
     let did = c.in-Ok.ensures.ok w call.at.world in
-    let told : c.bit_in.result ≡ bit_of w.bits a =
-    c.bit_in.ensures ∙ ap (λ (y : Stepped g.row.V). bit_given y) (c.in-Ok.ensures.given a refl) ∙ bit_given_is g.row.V old.world.bits a ∙ ap (λ b. bit_of b a) call.at.world.bits in
+    let read : c.bit_in.result ≡ bit_of old.world.bits a =
+    c.bit_in.ensures ∙ ap (λ (y : Stepped g.row.V). bit_given y) (c.in-Ok.ensures.given a refl) ∙ bit_given_is g.row.V old.world.bits a in
+    let told : c.bit_in.result ≡ bit_of w.bits a = read ∙ ap (λ b. bit_of b a) call.at.world.bits in
+    let words = words_after g.row.V old most p w a c.bit_in.result c.step.new.self call read c.in-Ok.ensures.state in
     let m : Made = made_of w a in
     let makes : WriterMakes g.row.V (shape_in old) w (m ∷ []) did.0 = makes_one g.row.V (shape_in old) w did.0 a did.1 in
     let events : did.0.events ≡ w.events + 1 = ap (λ (y : World g.row.V). y.events) did.1.2 in
-    let on : IsOn g.row.V mid.clerk p.call p.from (p.acts ++ m ∷ []) = subst (λ (b : ℕ). IsOn g.row.V mid.clerk p.call p.from (p.acts ++ record { act = a; bit = b } ∷ [])) told (c.after.ensures.on p.call p.from p.acts a call.on (sym c.in-Some.ensures.value)) in
+    let on : IsOn g.row.V mid.clerk p.call p.from (p.acts ++ m ∷ []) = subst (λ (b : ℕ). IsOn g.row.V mid.clerk p.call p.from (p.acts ++ record { act = a; bit = b } ∷ [])) told (c.after.ensures.on p.call p.from p.acts a call.on (sym c.in-Some.ensures.value) words) in
     let next = call_goes_on g.row.V old mid most p w did.0 m call c.in-Ok.ensures.shape did.3 makes events refl c.after.ensures.shape on c.after.ensures.left in
     let tells : TellsAs g.row.V mid new c.answer.result = record { world = refl; readers = refl; shape = c.answer.ensures.shape; ends = c.answer.ensures.some; some = c.answer.ensures.told; none = c.answer.ensures.none } in
     record {

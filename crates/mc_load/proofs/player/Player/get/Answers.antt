@@ -1,9 +1,9 @@
-use Rattle.std.proofs.Common.{◌+◌, ◌<◌, subst, rules, arith}
+use Rattle.std.proofs.Common.{◌+◌, ◌<◌, [], refl, subst, rules, arith}
 use Rattle.mc_words.specs.declared.shape.Shape.{Shape}
 use Rattle.mc_core.specs.Lists.{state_of}
 use Rattle.mc_load.specs.Players.{shape_in, most_steps}
 use Rattle.mc_load.specs.declared.player.Player.{Player}
-use Rattle.mc_load.proofs.Calling.{agrees_now, looks_found, idle_more}
+use Rattle.mc_load.proofs.Calling.{agrees_now, looks_found, looks_missed, idle_more, makes_none}
 use Rattle.mc_load.proofs.player.Player.get.Goals as goal
 
 pub mark-requires : goal.mark-requires
@@ -26,4 +26,18 @@ returns-in-Some g c = λ most w idle room.
       makes = marked.makes;
       shape = marked.shape;
       idle = idle_more g.row.V c.mark.new.self (most + 1) (most + most_steps) marked.after (omega arith) marked.idle;
+    }
+
+pub returns-in-None : goal.returns-in-None
+returns-in-None g c = λ most w idle room.
+    let old : Player g.row.V = c.args.self.now in
+    let agrees = agrees_now g.row.V old most w _ idle c.checked-checked.ensures in
+    let absent = c.in-None.ensures.none (state_of g.row.V (shape_in old) w.acts).history agrees in
+    record {
+      acts = [];
+      after = w;
+      looks = looks_missed g.row.V old most c.args.key c.moment-at.result w _ idle c.checked-checked.ensures absent c.moment-at.ensures.value;
+      makes = makes_none g.row.V (shape_in old) w;
+      shape = refl;
+      idle = idle_more g.row.V old most (most + most_steps) w (omega arith) idle;
     }

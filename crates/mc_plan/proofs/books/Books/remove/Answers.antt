@@ -35,7 +35,7 @@ returns-in-Some-clause-planned g c s old same =
     let stands = subst (λ (x : List ℕ). Stands V sh x k (slot_number p) i) (c.moment-at.ensures.same ∙ same) c.in-Some.ensures.found in
     let not_spent = unspent g (goal.at.returns-in-Some-clause-planned g c).Else-is_spent s old in
     let planned = removal_planned V b k i at p c.give.new.self s b.checked.sound (omega arith) old c.in-Some.ensures.place.in_bucket stands not_spent (omega (arith, not_spent)) (moment_in V b s (g.P.Peek.words c.args.peek.now) old same at (ap (λ (n : ℕ). n + 1) c.moment-at.ensures.value)) c.give.ensures.kept c.give.ensures.items c.give.ensures.gives in
-    subst (λ (x : List Act). IsPlanned V (record b { free = c.give.new.self; changes = b.changes + 2 }) x (RemoveCall k) s (answer.Remove (Ok (remove.Removed at)))) (sym (plan_is _ _ _ c.add_remove.ensures.items c.requires.plan)) planned
+    subst (λ (x : List Act). IsPlanned V (record b { free = c.give.new.self; changes = b.changes + 2 }) x (RemoveCall k) s s (answer.Remove (Ok (remove.Removed at)))) (sym (plan_is _ _ _ c.add_remove.ensures.items c.requires.plan)) planned
 
 pub returns-in-None-clause-planned : goal.returns-in-None-clause-planned
 returns-in-None-clause-planned g c s old same =
@@ -48,5 +48,5 @@ returns-in-None-clause-planned g c s old same =
     let absent = subst (λ (x : List ℕ). IsAbsent V sh x k) (c.moment-at.ensures.same ∙ same) c.in-None.ensures.none in
     let not_spent = unspent g (goal.at.returns-in-None-clause-planned g c).Else-is_spent s old in
     let found = nothing_found V sh s k at old.quiet not_spent absent (c.moment-at.ensures.value ∙ ap (λ (x : List ℕ). moment x) same) in
-    let planned : IsPlanned V b [] (RemoveCall k) s told = idle_planned V b (RemoveCall k) s told old found tt in
-    subst (λ (x : List Act). IsPlanned V b x (RemoveCall k) s told) (sym c.requires.plan) planned
+    let planned : IsPlanned V b [] (RemoveCall k) s s told = idle_planned V b (RemoveCall k) s told old found tt in
+    subst (λ (x : List Act). IsPlanned V b x (RemoveCall k) s s told) (sym c.requires.plan) planned
