@@ -35,11 +35,12 @@ awk -v small="${cost[0]}" -v large="${cost[1]}" 'BEGIN {
 look_up() {
     awk -v power="$1" -v answers="$2" -v items=2048 'BEGIN {
         srand(1)
+        hand = moment = 0
         for (n = 0; n < 400000; n++) {
             key = int(4 * items * rand() ^ power)
             print "get", key
             if (key in item) { mark[item[key]] = 1; hits++; print "found 1 at", moment > answers; continue }
-            print "absent at", moment + 0 > answers
+            print "absent at", moment > answers
             print "put", key, 1
             if (used < items) { at = used++; moment++; gone = "" }
             else {
