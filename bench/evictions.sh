@@ -2,12 +2,8 @@
 # The cost of a put that evicts, at 1,024 and at 262,144 buckets with half as many items as slots; and how many bits the
 # hand reads for an eviction, where keys are looked up uniformly and where few keys are looked up most.
 # Build mcstep first: (cd crates/mcstep && rt run < stdin).
-set -euo pipefail
-top=$(cd "$(dirname "$0")/.." && pwd)
-program=${1:-$top/crates/mcstep/out/mcstep}
+. "$(dirname "$0")/common.sh"
 rounds=1048576
-folder=$(mktemp -d)
-trap 'rm -rf "$folder"' EXIT
 
 play() { "$program" --mix fmix --depth 5 --buckets "$1" --items $((2 * $1)); }
 
@@ -15,8 +11,6 @@ play() { "$program" --mix fmix --depth 5 --buckets "$1" --items $((2 * $1)); }
 script() {
     awk -v keys="$((2 * $1 + 1 + $2))" 'BEGIN { for (key = 0; key < keys; key++) print "put", key, 1 }'
 }
-
-. "$top/bench/least.sh"
 
 cost=()
 for buckets in 1024 262144; do

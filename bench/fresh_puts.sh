@@ -1,12 +1,8 @@
 #!/usr/bin/env bash
 # The cost of a put of a fresh key, with its removal, at 1,024 and at 262,144 buckets: at half load, and at the load at
 # which one put in ten moves a key. Build mcstep first: (cd crates/mcstep && rt run < stdin).
-set -euo pipefail
-top=$(cd "$(dirname "$0")/.." && pwd)
-program=${1:-$top/crates/mcstep/out/mcstep}
+. "$(dirname "$0")/common.sh"
 rounds=200000
-folder=$(mktemp -d)
-trap 'rm -rf "$folder"' EXIT
 
 play() { "$program" --mix fmix --depth 5 --buckets "$1" --items $((4 * $1)) 2> /dev/null; }
 
@@ -23,8 +19,6 @@ script() {
         for (n = 0; n < rounds; n++) { print "put", 10000000 + n, 1; print "remove", 10000000 + n }
     }'
 }
-
-. "$top/bench/least.sh"
 
 for load in 500 "$tenth"; do
     cost=()

@@ -1,3 +1,10 @@
+# What the scripts here share, which read it by `.`: the program to measure, a folder that goes with the script, and `least`.
+set -euo pipefail
+top=$(cd "$(dirname "$0")/.." && pwd)
+program=${1:-$top/crates/mcstep/out/mcstep}
+folder=$(mktemp -d)
+trap 'rm -rf "$folder"' EXIT
+
 # The least processor time of five runs of a script by `play`, in milliseconds. Arguments: buckets, script.
 least() {
     local best= run TIMEFORMAT='%3U %3S'
