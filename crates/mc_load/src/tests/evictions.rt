@@ -30,7 +30,14 @@ fn a_key_is_evicted_where_no_item_is_free(rt: HostRuntime) {
 
 #[test]
 fn a_path_is_cut_at_the_evicted_key(rt: HostRuntime) {
-    let cases: [Case; 2] = [
+    let cases: [Case; 3] = [
+        (
+            &["mcstep", "--items", "9"],
+            b"put 3 1\nput 72057594037927936 1\nput 0 1\nput 4 1\nput 8 1\nput 12 1\nput 16 1\nput 20 1\nput 24 1\nput 28 1\nget 72057594037927936",
+            b"stored at 1 moves 0\nstored at 2 moves 0\nstored at 3 moves 0\nstored at 4 moves 0\nstored at 5 moves 0\nstored at 6 moves 0\nstored at 7 moves 0\nstored at 8 moves 0\nstored at 9 moves 0\nstored at 11 moves 1 evicted 3\nfound 1 at 11\n",
+            b"",
+            0,
+        ),
         (
             &["mcstep", "--items", "8"],
             b"put 72057594037927936 1\nput 0 0\nput 4 4\nput 8 8\nput 12 12\nput 16 16\nput 20 20\nput 24 24\nput 28 28\nget 72057594037927936",

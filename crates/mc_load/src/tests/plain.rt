@@ -115,10 +115,21 @@ impl Plain {
         None
     }
 
+    /// How many keys the map has.
+    fn held(&self) -> usize {
+        self.items.iter().filter(|item| item.key.is_some()).count()
+    }
+
     /// Stores a new key, for which another one goes where no item is free.
     fn store(&mut self, key: u64, value: u64, told: &str) -> Result<bool, AllocError> {
         let Some(moves) = moves_in(told) else {
             return Ok(false);
+        };
+        // No key has to move while the slots of two buckets can't all be taken.
+        let most = if self.held() < 8 {
+            0
+        } else {
+            u64::from(self.shape.depth)
         };
         let (item, evicted) = match self.free() {
             Some(item) => (item, None),
@@ -138,7 +149,7 @@ impl Plain {
             None => format!(in self.alloc; "stored at {at} moves {moves}")?,
             Some(old) => format!(in self.alloc; "stored at {at} moves {moves} evicted {old}")?,
         };
-        Ok(moves <= u64::from(self.shape.depth) && line.as_str() == told)
+        Ok(moves <= most && line.as_str() == told)
     }
 
     fn put(&mut self, key: u64, value: u64, told: &str) -> Result<bool, AllocError> {
@@ -155,10 +166,11 @@ impl Plain {
             let line = format!(in self.alloc; "renewed at {at}")?;
             return Ok(line.as_str() == told);
         }
-        if told == "refused no path" {
-            // Both buckets of the key are full.
-            let held = self.items.iter().filter(|item| item.key.is_some()).count();
-            return Ok(held >= 8);
+        // Both buckets of the key have to be full, and in a table of two no way leads out of them.
+        let held = self.held();
+        let is_refused = told == "refused no path";
+        if is_refused || (self.shape.buckets == 2 && held == 8) {
+            return Ok(is_refused && held >= 8);
         }
         self.store(key, value, told)
     }
@@ -243,14 +255,11 @@ impl Plain {
     ) -> Result<Option<usize>, AllocError> {
         let mut lines = text.lines();
         for (number, line) in asked.iter().enumerate() {
-            let right = match *line {
-                Asked::Begin(reader, key) => self.begin(reader, key),
-                asked => match lines.next() {
-                    None => false,
-                    Some(told) => self.allows(asked, told)?,
-                },
+            let told = match *line {
+                Asked::Begin(_, _) => None,
+                _ => lines.next(),
             };
-            if !right {
+            if !self.allows(*line, told)? {
                 return Ok(Some(number));
             }
         }
@@ -260,13 +269,14 @@ impl Plain {
         })
     }
 
-    fn allows(&mut self, asked: Asked, told: &str) -> Result<bool, AllocError> {
-        match asked {
-            Asked::Put(key, value) => self.put(key, value, told),
-            Asked::Remove(key) => self.remove(key, told),
-            Asked::Get(key) => self.get(key, told),
-            Asked::Begin(reader, key) => Ok(self.begin(reader, key)),
-            Asked::End(reader) => self.end(reader, told),
+    fn allows(&mut self, asked: Asked, told: Option<&str>) -> Result<bool, AllocError> {
+        match (asked, told) {
+            (Asked::Begin(reader, key), None) => Ok(self.begin(reader, key)),
+            (Asked::Put(key, value), Some(told)) => self.put(key, value, told),
+            (Asked::Remove(key), Some(told)) => self.remove(key, told),
+            (Asked::Get(key), Some(told)) => self.get(key, told),
+            (Asked::End(reader), Some(told)) => self.end(reader, told),
+            _ => Ok(false),
         }
     }
 }

@@ -52,6 +52,7 @@ fn a_path_is_cut_at_the_victim(rt: HostRuntime) -> Result<(), Fail> {
     assert_eq!(rt; path.hole, place(1, 1));
     assert_eq!(rt; path.first(), place(0, 1));
     let path = path.cut_at(place(0, 1));
-    assert_eq!(rt; path.first(), place(0, 1));
+    assert_eq!(rt; path.places.len(), 0);
+    assert_eq!(rt; path.hole, place(0, 1));
     Ok(())
 }
