@@ -5,7 +5,6 @@ use Rattle.std.proofs.lemmas.List.{map-append, length-map, take-append-drop}
 use Rattle.mc_core.specs.Lists.{Made}
 use Rattle.mc_core.specs.States.{State}
 use Rattle.mc_core.specs.declared.act.Act.{Act}
-use Rattle.mc_core.specs.declared.act.Act.TheVariants.{Hand}
 use Rattle.mc_plan.specs.Clerks.{Answered, Call, IsAt, IsOn, IsSweeping, MakesPlan, acts_of, next_act, next_in, shape_in}
 use Rattle.mc_plan.specs.Making.{made}
 use Rattle.mc_plan.specs.Sweeps.{Swept, HasSwept, hand_acts, next_item}
@@ -19,7 +18,7 @@ use Rattle.mc_plan.specs.declared.sweep.Sweep.{Sweep}
 use Rattle.mc_plan.specs.declared.waiting.Waiting.{Waiting}
 use Rattle.mc_plan.proofs.Hands.{hands_may, sweep_on}
 use Rattle.mc_plan.proofs.Onward.{next_below, whole_plan}
-use Rattle.mc_plan.proofs.Sweeping.{rest_recent}
+use Rattle.mc_plan.proofs.Sweeping.{hand_acts_then, rest_recent}
 use Rattle.mc_plan.proofs.Taking.{recent_planned}
 
 -- acts that are made as planned are the planned ones
@@ -28,7 +27,7 @@ acts_made [] = refl
 acts_made (x ∷ xs) = ap (λ (l : List Act). x ∷ l) (acts_made xs)
 
 -- some acts more end the call with its answer
-record Ends (V : ℕ) (clerk : Clerk V) (call : Call) (s : State V) (acts : List Made) : Type 0 where
+record CanEnd (V : ℕ) (clerk : Clerk V) (call : Call) (s : State V) (acts : List Made) : Type 0 where
   more : List Made
   told : Answer
   answered : Answered V (shape_in clerk) call s (acts ++ more) told
@@ -40,7 +39,7 @@ some_below plan n None at some = absurd (cc some)
 some_below plan n (Some a) at some = next_below plan n a at
 
 -- the rest of the plan
-ends_plan : (V : ℕ) (clerk : Clerk V) (call : Call) (s : State V) (acts : List Made) (told : Answer) → clerk.stage ≡ Planned told → MakesPlan V clerk.books clerk.plan.items clerk.made call s acts told → Ends V clerk call s acts
+ends_plan : (V : ℕ) (clerk : Clerk V) (call : Call) (s : State V) (acts : List Made) (told : Answer) → clerk.stage ≡ Planned told → MakesPlan V clerk.books clerk.plan.items clerk.made call s acts told → CanEnd V clerk call s acts
 unfolding next_act
 ends_plan V clerk call s acts told is makes =
     let plan = clerk.plan.items in
@@ -61,17 +60,13 @@ ends_plan V clerk call s acts told is makes =
           omega (arith, below, left, many);
     }
 
--- the acts of readings, and then of others
-hand_acts_append : (rs qs : List Swept) → hand_acts (rs ++ qs) ≡ hand_acts rs ++ hand_acts qs
-hand_acts_append [] qs = refl
-hand_acts_append (r ∷ rs) qs = ap (λ (l : List Made). record { act = Hand r.item; bit = r.bit } ∷ l) (hand_acts_append rs qs)
-
+-- there are as many acts as readings
 many_acts : (rs : List Swept) → length (hand_acts rs) ≡ length rs
 many_acts [] = refl
 many_acts (r ∷ rs) = ap suc (many_acts rs)
 
 -- a sweep that finds every bit set from here on
-ends_sweep : (V : ℕ) (clerk : Clerk V) (call : Call) (s : State V) (acts : List Made) (waiting : Waiting V) (rs : List Swept) → IsSweeping V clerk.books clerk.plan.items waiting call s rs → IsSome (next_item waiting.sweep) → acts ≡ hand_acts rs → Ends V clerk call s acts
+ends_sweep : (V : ℕ) (clerk : Clerk V) (call : Call) (s : State V) (acts : List Made) (waiting : Waiting V) (rs : List Swept) → IsSweeping V clerk.books clerk.plan.items waiting call s rs → IsSome (next_item waiting.sweep) → acts ≡ hand_acts rs → CanEnd V clerk call s acts
 ends_sweep V clerk call s acts waiting rs on next parts =
     let b = clerk.books in
     let plan = clerk.plan.items in
@@ -85,7 +80,7 @@ ends_sweep V clerk call s acts waiting rs on next parts =
     let hands = hands_may V b plan (record waiting { sweep = sweep }) call s all still in
     let told = answer.Put (Err why.AllRecent) in
     let whole = whole_plan V (record b { hand = s.hand }) plan call s all [] told hands planned.1 planned.0 (sym on.empty) in
-    let same : hand_acts all ++ [] ≡ acts ++ hand_acts rest.0 = append-nil (hand_acts all) ∙ hand_acts_append rs rest.0 ∙ ap (λ (l : List Made). l ++ hand_acts rest.0) (sym parts) in
+    let same : hand_acts all ++ [] ≡ acts ++ hand_acts rest.0 = append-nil (hand_acts all) ∙ hand_acts_then rs rest.0 ∙ ap (λ (l : List Made). l ++ hand_acts rest.0) (sym parts) in
     record {
       more = hand_acts rest.0;
       told = told;
@@ -93,7 +88,7 @@ ends_sweep V clerk call s acts waiting rs on next parts =
       some = λ some. omega (arith, rest.4, many_acts rest.0);
     }
 
-ends_at : (V : ℕ) (clerk : Clerk V) (call : Call) (s : State V) (acts : List Made) (st : Stage V) → clerk.stage ≡ st → IsAt V st clerk.books clerk.plan.items clerk.made call s acts → Ends V clerk call s acts
+ends_at : (V : ℕ) (clerk : Clerk V) (call : Call) (s : State V) (acts : List Made) (st : Stage V) → clerk.stage ≡ st → IsAt V st clerk.books clerk.plan.items clerk.made call s acts → CanEnd V clerk call s acts
 ends_at V clerk call s acts Idle is now = absurd now
 ends_at V clerk call s acts (Sweeping waiting) is now = ends_sweep V clerk call s acts waiting now.0 now.1 now.2 now.4
 ends_at V clerk call s acts (Planned told) is now = ends_plan V clerk call s acts told is now

@@ -24,7 +24,7 @@ use Rattle.mc_plan.proofs.Naming.{full_has_none}
 use Rattle.mc_plan.proofs.Sweeping.{hand_acts_then, hand_next, sweep_allowed, swept_still}
 
 -- no item is free
-pub none_free : (V : ℕ) (b : Books) (k : ℕ) (s : State V) (path : Path) → Waits V b k s path → HasFree (shape_of b.checked) s.words → ⊥
+none_free : (V : ℕ) (b : Books) (k : ℕ) (s : State V) (path : Path) → Waits V b k s path → HasFree (shape_of b.checked) s.words → ⊥
 none_free V b k s path waits = full_has_none (shape_of b.checked) s.words (λ i l. waits.known.named i l (waits.none i))
 
 module _ (V : ℕ) (b : Books) (plan : List Act) (waiting : Waiting V) (call : Call) (s : State V) (rs : List Swept) (on : IsSweeping V b plan waiting call s rs) where
@@ -47,7 +47,7 @@ module _ (V : ℕ) (b : Books) (plan : List Act) (waiting : Waiting V) (call : C
   next_hand None e = tt
   next_hand (Some i) e = (hand_may i (sym e), tt)
 
-  pub next_of_sweep : (r : Option Act) → r ≡ hand_of (next_item waiting.sweep) → IfSome r (λ a. IsAllowed (shape_of b.checked) (swept V (shape_of b.checked) s rs) a × HasChanges (shape_of b.checked).limit (swept V (shape_of b.checked) s rs).changes a)
+  next_of_sweep : (r : Option Act) → r ≡ hand_of (next_item waiting.sweep) → IfSome r (λ a. IsAllowed (shape_of b.checked) (swept V (shape_of b.checked) s rs) a × HasChanges (shape_of b.checked).limit (swept V (shape_of b.checked) s rs).changes a)
   next_of_sweep r e =
       subst (λ (o : Option Act). IfSome o (λ a. IsAllowed (shape_of b.checked) (swept V (shape_of b.checked) s rs) a × HasChanges (shape_of b.checked).limit (swept V (shape_of b.checked) s rs).changes a)) (sym e) (next_hand (next_item waiting.sweep) refl)
 
@@ -71,7 +71,7 @@ begins_sweep V clerk call s waiting is none on = record {
 }
 
 -- ---- a clerk whose hand looks for an item
-pub at_sweep : (V : ℕ) (clerk : Clerk V) (call : Call) (s : State V) (acts : List Made) (waiting : Waiting V) → IsOn V clerk call s acts → clerk.stage ≡ Sweeping waiting → IsAt V (Sweeping waiting) clerk.books clerk.plan.items clerk.made call s acts
+at_sweep : (V : ℕ) (clerk : Clerk V) (call : Call) (s : State V) (acts : List Made) (waiting : Waiting V) → IsOn V clerk call s acts → clerk.stage ≡ Sweeping waiting → IsAt V (Sweeping waiting) clerk.books clerk.plan.items clerk.made call s acts
 at_sweep V clerk call s acts waiting on is = subst (λ (st : Stage V). IsAt V st clerk.books clerk.plan.items clerk.made call s acts) is on.now
 
 -- the act that comes next is allowed
@@ -105,7 +105,7 @@ one_read V clerk call s acts waiting a bit sweep on is next reads =
     record {
       readings = rs ++ r ∷ [];
       sweeping = sweep_on V clerk.books clerk.plan.items waiting call s rs now.1 sweep (rs ++ r ∷ []) (reads (shape_in clerk).items s.hand rs hand.0 now.1.has hand.1);
-      are = ap (λ (xs : List Made). xs ++ record { act = a; bit = bit } ∷ []) now.4 ∙ ap (λ (x : Act). hand_acts rs ++ record { act = x; bit = bit } ∷ []) (sym hand.2) ∙ sym (hand_acts_then rs r);
+      are = ap (λ (xs : List Made). xs ++ record { act = a; bit = bit } ∷ []) now.4 ∙ ap (λ (x : Act). hand_acts rs ++ record { act = x; bit = bit } ∷ []) (sym hand.2) ∙ sym (hand_acts_then rs (r ∷ []));
       none = now.3;
     }
 

@@ -80,7 +80,7 @@ still_take zero acts a = tt
 still_take (suc n) [] a = tt
 still_take (suc n) (x ∷ acts) a = (a.0, still_take n acts a.1)
 
--- a whole call has no act of the hand
+-- no act after the sweep is one of the hand
 pub still_marks : (V : ℕ) (sh : Shape) (w : List ℕ) (call : Call) (told : Answer) (acts : List Act) → Marks V sh w call told acts → AreStill acts
 still_marks V sh w (PutCall k v) (answer.Put (Ok put)) acts m = subst AreStill (sym m.last) (still_then m.before (Mark m.item ∷ []) (still_deeds m.before m.deeds) (tt, tt))
 still_marks V sh w (PutCall k v) (answer.Put (Err why)) acts m = still_deeds acts m
@@ -103,11 +103,11 @@ next_below [] n a e = absurd (cc)
 next_below (x ∷ xs) zero a e = omega arith
 next_below (x ∷ xs) (suc n) a e = let l = next_below xs n a e in omega arith
 
-pub next_none : (acts : List Act) (n : ℕ) → slice_get acts n ≡ None → take n acts ≡ acts
-next_none [] zero e = refl
-next_none [] (suc n) e = refl
-next_none (x ∷ xs) zero e = absurd (cc)
-next_none (x ∷ xs) (suc n) e = ap (λ (ys : List Act). x ∷ ys) (next_none xs n e)
+pub none_left : (acts : List Act) (n : ℕ) → slice_get acts n ≡ None → take n acts ≡ acts
+none_left [] zero e = refl
+none_left [] (suc n) e = refl
+none_left (x ∷ xs) zero e = absurd (cc)
+none_left (x ∷ xs) (suc n) e = ap (λ (ys : List Act). x ∷ ys) (none_left xs n e)
 
 -- ---- an open leaves room for its close
 -- the version changes, with that of the close that is to come
@@ -294,7 +294,7 @@ whole_call V clerk call s acts told on next is =
     let plan = clerk.plan.items in
     let makes = at_stage V clerk call s acts told on is in
     let at : slice_get plan clerk.made ≡ None = ap (λ (st : Stage V). next_in st plan clerk.made) (sym is) ∙ next in
-    let whole = whole_plan V clerk.books plan call s makes.sweep makes.others told makes.hands makes.sweeps makes.planned (makes.done ∙ next_none plan clerk.made at) in
+    let whole = whole_plan V clerk.books plan call s makes.sweep makes.others told makes.hands makes.sweeps makes.planned (makes.done ∙ none_left plan clerk.made at) in
     let now : after_all sh s acts ≡ left V sh (swept V sh s makes.sweep) plan = ap (λ (xs : List Made). after_all sh s xs) makes.parts ∙ whole.1 in (
       subst (λ (xs : List Made). Answered V sh call s xs told) (sym makes.parts) whole.0,
       record { idle = refl; books = subst (λ (t : State V). AreBooksOf V clerk.books t) (sym now) makes.planned.ends },

@@ -1,19 +1,17 @@
 -- Quiet states, and what a walk between two of them makes.
-use Rattle.std.proofs.Common.{◌*◌, ◌≤◌, arith, length, ℕ, [], ◌∷◌, ◌<◌, None, refl, ◌≡◌, ◌+◌, ◌∙◌, List, ◌++◌, Option, ap, sym, subst}
+use Rattle.std.proofs.Common.{ℕ, [], ◌∷◌, ◌<◌, None, refl, ◌≡◌, ◌+◌, ◌∙◌, List, ◌++◌, Option, ap, sym, subst}
 use Rattle.std.specs.Option.{IsSome}
 use Rattle.mc_words.specs.declared.history.Change.{Change}
 use Rattle.mc_words.specs.declared.shape.Shape.{Shape}
 use Rattle.mc_words.specs.Shapes.{IsShape}
-use Rattle.mc_words.specs.Answers as answers
 use Rattle.mc_words.specs.History.{held}
 use Rattle.mc_words.specs.Standing.{Stands, Agrees, AgreesAt, IsAbsent}
 use Rattle.mc_core.specs.Lists.{AreAllowed}
-use Rattle.mc_core.specs.Phases.{Phase, Quiet, owes, running, runs}
+use Rattle.mc_core.specs.Phases.{Phase, Quiet, running}
 use Rattle.mc_core.specs.declared.act.Act.TheVariants.{Mark}
 use Rattle.mc_core.proofs.Deeds.{held_from_absent, held_from_present, some_from}
 use Rattle.mc_core.specs.States.{State}
 use Rattle.mc_core.specs.declared.act.Act.{Act}
-use Rattle.mc_plan.specs.Clerks.{quiet_of}
 use Rattle.mc_plan.specs.Making.{IsQuiet, Makes, left, made}
 use Rattle.mc_plan.proofs.Walks.{Walk, walk_holds, walk_then}
 
@@ -68,12 +66,3 @@ marked V sh s acts new steps i makes l =
     let t = left V sh s acts in
     let mark = mark_stays V sh t i makes.quiet l in
     walk_then V sh s t t acts (Mark i ∷ []) (record { allowed = makes.allowed; leads = refl }) (record { allowed = mark.0; leads = mark.1 })
-
--- a quiet state as answers speak of it
-pub quiet_between : (V : ℕ) (sh : Shape) (s : State V) → IsQuiet V sh s → answers.IsQuiet V sh (quiet_of s)
-quiet_between V sh s quiet = record {
-  agrees = agrees_quiet V sh s quiet;
-  legal = quiet.holds.legal;
-  versions = quiet.counted.versions;
-  moments = let m = subst (λ (p : Phase). 2 * (length s.history + owes p) ≤ s.changes + runs p) quiet.quiet quiet.counted.moments in omega arith;
-}

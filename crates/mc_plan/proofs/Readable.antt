@@ -1,15 +1,10 @@
 -- What a slot's word says where each slot is empty or names an item.
-use Rattle.std.proofs.Common.{ℕ, ◌≡◌, ◌+◌, ◌-◌, ◌*◌, ◌/◌, ◌^◌, ◌<◌, ◌≤◌, List, length, arith}
+use Rattle.std.proofs.Common.{ℕ, ◌≡◌, ◌+◌, ◌-◌, ◌*◌, ◌/◌, ◌^◌, ◌<◌, arith}
 use Rattle.mc_words.specs.declared.shape.Shape.{Shape}
 use Rattle.mc_words.specs.Chains.{tag_in}
 use Rattle.mc_words.specs.Keys.{slot_word}
-use Rattle.mc_words.specs.Places.{word_count}
 use Rattle.mc_words.specs.Shapes.{IsShape}
-use Rattle.mc_plan.specs.Readable.{HasSlots, NamesSome}
-
--- words that reach to the last item reach to the last slot
-pub has_slots : (V : ℕ) (sh : Shape) (w : List ℕ) → word_count V sh ≤ length w → HasSlots sh w
-has_slots V sh w l = omega arith
+use Rattle.mc_plan.specs.Readable.{NamesSome}
 
 -- the tag of a word that names an item
 pub tag_in-named : (sh : Shape) (word : ℕ) → IsShape sh → NamesSome sh word → (0 < word) × (tag_in word < 256) × (tag_in word ≡ (word - 1) / 2 ^ 32)

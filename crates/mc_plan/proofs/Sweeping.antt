@@ -1,7 +1,7 @@
 -- What the readings of the hand make of a state.
-use Rattle.std.proofs.Common.{ℕ, zero, suc, ◌≡◌, ◌+◌, ◌*◌, ◌%◌, ◌<◌, ◌∙◌, ◌⊎◌, inl, inr, List, [], ◌∷◌, ◌++◌, Option, Some, None, Bool, true, false, cond, eqb, map, ap, refl, sym, subst, arith, length, append_assoc, append-nil, length-append}
+use Rattle.std.proofs.Common.{ℕ, zero, suc, ◌≡◌, ◌+◌, ◌*◌, ◌%◌, ◌<◌, ◌∙◌, ◌⊎◌, inl, inr, List, [], ◌∷◌, ◌++◌, Option, Some, None, Bool, true, false, cond, eqb, ap, refl, sym, subst, arith, length, append_assoc, append-nil, length-append}
 use Rattle.std.proofs.Math.Nat.{mod-add-mod, mod-lt, mod-eq_of_lt, add-mul-mod_self_right}
-use Rattle.std.proofs.lemmas.Bool.{eqb-true, false≢true, ne_eqb}
+use Rattle.std.proofs.lemmas.Bool.{false≢true, ne_eqb}
 use Rattle.std.specs.Option.{IsSome}
 use Rattle.mc_words.specs.declared.shape.Shape.{Shape}
 use Rattle.mc_words.specs.Shapes.{IsShape}
@@ -11,19 +11,17 @@ use Rattle.mc_core.specs.Effects.{after_act}
 use Rattle.mc_core.specs.Lists.{Made, AreAllowed, after_all}
 use Rattle.mc_core.specs.Phases.{Phase, Quiet}
 use Rattle.mc_core.specs.States.{State}
-use Rattle.mc_core.specs.declared.act.Act.{Act}
 use Rattle.mc_core.specs.declared.act.Act.TheVariants.{Hand}
 use Rattle.mc_core.proofs.Counted.{counted_after}
 use Rattle.mc_core.proofs.Holding.{holds_after}
 use Rattle.mc_plan.specs.declared.sweep.Sweep.{Sweep}
-use Rattle.mc_plan.specs.Clerks.{acts_of}
 use Rattle.mc_plan.specs.Making.{IsQuiet}
 use Rattle.mc_plan.specs.Sweeps.{Swept, HasSwept, IsOver, IsSweep, hand_acts, next_from, next_item, victim_of}
 use Rattle.mc_plan.proofs.Circling.{sweep_push, victim_push}
 
 -- ---- readings
 -- the readings after the first are a sweep from the item after
-pub sweep_tail : (items hand : ℕ) (r : Swept) (rs : List Swept) → IsSweep items hand (r ∷ rs) → IsSweep items ((hand + 1) % items) rs
+sweep_tail : (items hand : ℕ) (r : Swept) (rs : List Swept) → IsSweep items hand (r ∷ rs) → IsSweep items ((hand + 1) % items) rs
 sweep_tail items hand r rs sweeps =
     let most = sweeps.most in
     record {
@@ -35,14 +33,14 @@ sweep_tail items hand r rs sweeps =
     }
 
 -- the first reading is of the item where the hand stands
-pub sweep_first : (items hand : ℕ) (r : Swept) (rs : List Swept) → IsSweep items hand (r ∷ rs) → hand < items → r.item ≡ hand
+sweep_first : (items hand : ℕ) (r : Swept) (rs : List Swept) → IsSweep items hand (r ∷ rs) → hand < items → r.item ≡ hand
 sweep_first items hand r rs sweeps below =
     let at : r.item ≡ (hand + 0) % items = sweeps.round 0 r (omega arith) in
     let same : hand + 0 ≡ hand = omega arith in
     at ∙ ap (λ (m : ℕ). m % items) same ∙ mod-eq_of_lt below
 
 -- a reading with another after it had its bit set
-pub first_set : (items hand : ℕ) (r x : Swept) (rs : List Swept) → IsSweep items hand (r ∷ x ∷ rs) → eqb r.bit 0 ≡ false
+first_set : (items hand : ℕ) (r x : Swept) (rs : List Swept) → IsSweep items hand (r ∷ x ∷ rs) → eqb r.bit 0 ≡ false
 first_set items hand r x rs sweeps = ne_eqb r.bit 0 (sweeps.marked 0 r (omega arith))
 
 -- the hand has gone round twice and stands where it stood
@@ -75,35 +73,6 @@ victim_below items hand (r ∷ rs) i sweeps some found =
           subst (λ (j : ℕ). j < items) (sym at ∙ h.1) (mod-lt (hand + 0) some)
       | inr h ↦ victim_below items ((hand + 1) % items) rs i (sweep_tail items hand r rs sweeps) some h.1
     ]
-
--- the last reading is of the victim, and those before it have none
-pub record EndsAt (rs : List Swept) (i : ℕ) : Type 0 where
-  pub before : List Swept
-  pub last : Swept
-  pub ends : rs ≡ before ++ last ∷ []
-  pub item : last.item ≡ i
-  pub bit : last.bit ≡ 0
-  pub none : victim_of before ≡ None
-
-pub victim_last : (items hand : ℕ) (rs : List Swept) (i : ℕ) → IsSweep items hand rs → victim_of rs ≡ Some i → EndsAt rs i
-victim_last items hand [] i sweeps found = absurd (cc)
-victim_last items hand (r ∷ []) i sweeps found =
-    elim (first_victim r [] i found) [
-      | inl h ↦ record { before = []; last = r; ends = refl; item = h.1; bit = eqb-true r.bit 0 h.0; none = refl }
-      | inr h ↦ absurd (cc (h.1))
-    ]
-victim_last items hand (r ∷ x ∷ rs) i sweeps found =
-    let set = first_set items hand r x rs sweeps in
-    let later : victim_of (x ∷ rs) ≡ Some i = sym (ap (λ b. cond b (Some r.item) (victim_of (x ∷ rs))) set) ∙ found in
-    let rest = victim_last items ((hand + 1) % items) (x ∷ rs) i (sweep_tail items hand r (x ∷ rs) sweeps) later in
-    record {
-      before = r ∷ rest.before;
-      last = rest.last;
-      ends = ap (λ (ys : List Swept). r ∷ ys) rest.ends;
-      item = rest.item;
-      bit = rest.bit;
-      none = ap (λ b. cond b (Some r.item) (victim_of rest.before)) set ∙ rest.none;
-    }
 
 -- what a sweep leaves to be read could all have its bits set
 pub record CanGoOn (items hand : ℕ) (rs : List Swept) (n : ℕ) : Type 0 where
@@ -147,30 +116,10 @@ rest_recent sweep items hand rs has next =
     (rest.more, rest.sweeps, omega arith, rest.none, omega arith)
 
 -- ---- the acts of the hand
-pub hand_acts_then : (rs : List Swept) (r : Swept) → hand_acts (rs ++ r ∷ []) ≡ hand_acts rs ++ record { act = Hand r.item; bit = r.bit } ∷ []
-hand_acts_then [] r = refl
-hand_acts_then (x ∷ rs) r = ap (λ (ms : List Made). record { act = Hand x.item; bit = x.bit } ∷ ms) (hand_acts_then rs r)
-
--- the acts without their bits
-pub hand_acts_of : (rs : List Swept) → acts_of (hand_acts rs) ≡ map (λ (r : Swept). Hand r.item) rs
-hand_acts_of [] = refl
-hand_acts_of (r ∷ rs) = ap (λ (acts : List Act). Hand r.item ∷ acts) (hand_acts_of rs)
-
--- one act tells its reading
-same_reading : (r q : Swept) → ◌≡◌ {A = Made} (record { act = Hand r.item; bit = r.bit }) (record { act = Hand q.item; bit = q.bit }) → r ≡ q
-same_reading r q same =
-    let acts : Hand r.item ≡ Hand q.item = ap (λ (m : Made). m.act) same in
-    let item : r.item ≡ q.item = cc in
-    ap (λ (i : ℕ). record { item = i; bit = r.bit }) item ∙ ap (λ (m : Made). record { item = q.item; bit = m.bit }) same
-
--- the acts tell the readings
-pub read_bits : (rs qs : List Swept) → hand_acts rs ≡ hand_acts qs → rs ≡ qs
-read_bits [] [] same = refl
-read_bits [] (q ∷ qs) same = absurd (cc)
-read_bits (r ∷ rs) [] same = absurd (cc)
-read_bits (r ∷ rs) (q ∷ qs) same =
-    let rest : hand_acts rs ≡ hand_acts qs = cc in
-    ap (λ (x : Swept). x ∷ rs) (same_reading r q (cc)) ∙ ap (λ (xs : List Swept). q ∷ xs) (read_bits rs qs rest)
+-- the acts of some readings, and then of others
+pub hand_acts_then : (rs qs : List Swept) → hand_acts (rs ++ qs) ≡ hand_acts rs ++ hand_acts qs
+hand_acts_then [] qs = refl
+hand_acts_then (r ∷ rs) qs = ap (λ (ms : List Made). record { act = Hand r.item; bit = r.bit } ∷ ms) (hand_acts_then rs qs)
 
 -- ---- the state after them
 -- the hand writes no word of the table, and belongs to no deed
@@ -193,69 +142,38 @@ swept_hand V sh s hand (r ∷ rs) at sweeps below =
     swept_hand V sh (after_act sh s (Hand r.item) r.bit) ((hand + 1) % sh.items) rs (ap (λ (i : ℕ). (i + 1) % sh.items) first) (sweep_tail sh.items hand r rs sweeps) (mod-lt (hand + 1) (omega arith))
     ∙ mod-add-mod (hand + 1) sh.items (length rs) ∙ ap (λ (m : ℕ). m % sh.items) (omega arith)
 
--- what the hand found clear: what was so before, where nothing was read
-abbrev pub cleared_from : Option ℕ → List Swept → Option ℕ
-cleared_from cleared [] = cleared
-cleared_from cleared (r ∷ rs) = victim_of (r ∷ rs)
-
 last_cleared : (V : ℕ) (sh : Shape) (s : State V) (items hand : ℕ) (r : Swept) (rs : List Swept) → IsSweep items hand (r ∷ rs) → (after_all sh s (hand_acts (r ∷ rs))).cleared ≡ victim_of (r ∷ rs)
 last_cleared V sh s items hand r [] sweeps = refl
 last_cleared V sh s items hand r (x ∷ rs) sweeps =
     last_cleared V sh (after_act sh s (Hand r.item) r.bit) items ((hand + 1) % items) x rs (sweep_tail items hand r (x ∷ rs) sweeps)
     ∙ sym (ap (λ b. cond b (Some r.item) (victim_of (x ∷ rs))) (first_set items hand r x rs sweeps))
 
-pub swept_all_cleared : (V : ℕ) (sh : Shape) (s : State V) (items hand : ℕ) (rs : List Swept) → IsSweep items hand rs → (after_all sh s (hand_acts rs)).cleared ≡ cleared_from s.cleared rs
-swept_all_cleared V sh s items hand [] sweeps = refl
-swept_all_cleared V sh s items hand (r ∷ rs) sweeps = last_cleared V sh s items hand r rs sweeps
-
 pub swept_cleared : (V : ℕ) (sh : Shape) (s : State V) (items hand : ℕ) (rs : List Swept) (i : ℕ) → IsSweep items hand rs → victim_of rs ≡ Some i → (after_all sh s (hand_acts rs)).cleared ≡ Some i
 swept_cleared V sh s items hand [] i sweeps found = absurd (cc)
 swept_cleared V sh s items hand (r ∷ rs) i sweeps found = last_cleared V sh s items hand r rs sweeps ∙ found
 
--- the state after a sweep, part by part
-pub record AfterSweep (V : ℕ) (sh : Shape) (s t : State V) (stands : ℕ) (found : Option ℕ) : Type 0 where
-  pub words : t.words ≡ s.words
-  pub phase : t.phase ≡ s.phase
-  pub hand : t.hand ≡ stands
-  pub cleared : t.cleared ≡ found
-  pub history : t.history ≡ s.history
-  pub changes : t.changes ≡ s.changes
-
-pub swept_state : (V : ℕ) (sh : Shape) (s : State V) (hand : ℕ) (rs : List Swept) → s.hand ≡ hand → IsSweep sh.items hand rs → hand < sh.items
-    → AfterSweep V sh s (after_all sh s (hand_acts rs)) ((hand + length rs) % sh.items) (cleared_from s.cleared rs)
-swept_state V sh s hand rs at sweeps below =
-    let still = swept_still V sh s rs in
-    record {
-      words = still.words;
-      phase = still.phase;
-      hand = swept_hand V sh s hand rs at sweeps below;
-      cleared = swept_all_cleared V sh s sh.items hand rs sweeps;
-      history = still.history;
-      changes = still.changes;
-    }
-
 -- ---- which acts of the hand are allowed
 -- the hand reads where it stands, between two deeds and while no item is free
-hand_may : (V : ℕ) (sh : Shape) (s : State V) (i : ℕ) → s.phase ≡ Quiet → (HasFree sh s.words → ⊥) → i ≡ s.hand → IsAllowed sh s (Hand i)
-hand_may V sh s i quiet full at = subst (λ (p : Phase). MayFrom V sh s.words s.hand s.cleared p (Hand i)) (sym quiet) (full, at)
+is_allowed : (V : ℕ) (sh : Shape) (s : State V) (i : ℕ) → s.phase ≡ Quiet → (HasFree sh s.words → ⊥) → i ≡ s.hand → IsAllowed sh s (Hand i)
+is_allowed V sh s i quiet full at = subst (λ (p : Phase). MayFrom V sh s.words s.hand s.cleared p (Hand i)) (sym quiet) (full, at)
 
-hands_may : (V : ℕ) (sh : Shape) (s : State V) (hand : ℕ) (rs : List Swept) → s.phase ≡ Quiet → (HasFree sh s.words → ⊥) → s.hand ≡ hand → IsSweep sh.items hand rs → hand < sh.items → AreAllowed sh s (hand_acts rs)
-hands_may V sh s hand [] quiet full at sweeps below = tt
-hands_may V sh s hand (r ∷ rs) quiet full at sweeps below =
+are_allowed : (V : ℕ) (sh : Shape) (s : State V) (hand : ℕ) (rs : List Swept) → s.phase ≡ Quiet → (HasFree sh s.words → ⊥) → s.hand ≡ hand → IsSweep sh.items hand rs → hand < sh.items → AreAllowed sh s (hand_acts rs)
+are_allowed V sh s hand [] quiet full at sweeps below = tt
+are_allowed V sh s hand (r ∷ rs) quiet full at sweeps below =
     let first = sweep_first sh.items hand r rs sweeps below in (
-      hand_may V sh s r.item quiet full (first ∙ sym at),
-      hands_may V sh (after_act sh s (Hand r.item) r.bit) ((hand + 1) % sh.items) rs quiet full (ap (λ (i : ℕ). (i + 1) % sh.items) first) (sweep_tail sh.items hand r rs sweeps) (mod-lt (hand + 1) (omega arith)),
+      is_allowed V sh s r.item quiet full (first ∙ sym at),
+      are_allowed V sh (after_act sh s (Hand r.item) r.bit) ((hand + 1) % sh.items) rs quiet full (ap (λ (i : ℕ). (i + 1) % sh.items) first) (sweep_tail sh.items hand r rs sweeps) (mod-lt (hand + 1) (omega arith)),
     )
 
 pub sweep_allowed : (V : ℕ) (sh : Shape) (s : State V) (hand : ℕ) (rs : List Swept) → IsQuiet V sh s → (HasFree sh s.words → ⊥) → s.hand ≡ hand → IsSweep sh.items hand rs → hand < sh.items → AreAllowed sh s (hand_acts rs)
-sweep_allowed V sh s hand rs quiet full at sweeps below = hands_may V sh s hand rs quiet.quiet full at sweeps below
+sweep_allowed V sh s hand rs quiet full at sweeps below = are_allowed V sh s hand rs quiet.quiet full at sweeps below
 
 -- the next act of the hand is allowed too
 pub hand_next : (V : ℕ) (sh : Shape) (s : State V) (hand : ℕ) (rs : List Swept) (i : ℕ) → IsQuiet V sh s → (HasFree sh s.words → ⊥) → s.hand ≡ hand → IsSweep sh.items hand rs → hand < sh.items
     → i ≡ (hand + length rs) % sh.items → IsAllowed sh (after_all sh s (hand_acts rs)) (Hand i)
 hand_next V sh s hand rs i quiet full at sweeps below next =
     let still = swept_still V sh s rs in
-    hand_may V sh (after_all sh s (hand_acts rs)) i (still.phase ∙ quiet.quiet) (λ free. full (subst (HasFree sh) still.words free)) (next ∙ sym (swept_hand V sh s hand rs at sweeps below))
+    is_allowed V sh (after_all sh s (hand_acts rs)) i (still.phase ∙ quiet.quiet) (λ free. full (subst (HasFree sh) still.words free)) (next ∙ sym (swept_hand V sh s hand rs at sweeps below))
 
 -- the hand leaves a quiet state quiet
 pub sweep_quiet : (V : ℕ) (sh : Shape) (s : State V) (rs : List Swept) → IsQuiet V sh s → IsShape sh → AreAllowed sh s (hand_acts rs) → IsQuiet V sh (after_all sh s (hand_acts rs))

@@ -20,11 +20,11 @@ use Rattle.mc_plan.specs.declared.answer.PutError.TheVariants as why
 use Rattle.mc_plan.specs.declared.books.Books.{Books}
 use Rattle.mc_plan.specs.declared.waiting.Waiting.{Waiting}
 use Rattle.mc_plan.specs.Clerks.{Call, PutCall, Means, AreOfDeeds, AreBooksOf, IsPlanned, IsReplacing, IsSweeping, IsSweepOf, quiet_of, swept}
-use Rattle.mc_plan.specs.Making.{IsQuiet, Makes, left}
+use Rattle.mc_plan.specs.Making.{IsQuiet, KeepsNamed, Makes, left}
 use Rattle.mc_plan.specs.Moves.{AreKeys}
 use Rattle.mc_plan.specs.Paths.{IsCut}
 use Rattle.mc_plan.specs.Plans.{first_place}
-use Rattle.mc_plan.specs.Replacing.{CanReplace, KeepsNamed, replace_acts}
+use Rattle.mc_plan.specs.Replacing.{CanReplace, replace_acts}
 use Rattle.mc_plan.specs.Sweeps.{Swept, IsOver, victim_of}
 use Rattle.mc_plan.proofs.Booking.{deeds_put, needs_item}
 use Rattle.mc_plan.proofs.Hands.{hands_may}

@@ -7,7 +7,7 @@ use Rattle.mc_words.specs.declared.shape.Shape.{Shape}
 use Rattle.mc_words.specs.Chains.{IsHole}
 use Rattle.mc_words.specs.Keys.{tag_of, slot_word, IsBucketOf}
 use Rattle.mc_words.specs.Places.{slot_number, slot, item}
-use Rattle.mc_words.specs.Standing.{Stands, IsAbsent, IsFree}
+use Rattle.mc_words.specs.Standing.{Names, Stands, IsAbsent, IsFree}
 use Rattle.mc_core.specs.Inner.{StateHolds, StateCounted}
 use Rattle.mc_core.specs.Lists.{Made, AreAllowed, after_all}
 use Rattle.mc_core.specs.Phases.{Quiet}
@@ -47,6 +47,10 @@ KeepsSlots sh w later = (o : ℕ) → o < 4 * sh.buckets → slot sh later o ≡
 -- the items are as they were
 abbrev pub KeepsItems : ℕ → Shape → List ℕ → List ℕ → Type 0
 KeepsItems V sh w later = (i j : ℕ) → item V sh later i j ≡ item V sh w i j
+
+-- each item that was named still is
+abbrev pub KeepsNamed : Shape → List ℕ → List ℕ → Type 0
+KeepsNamed sh w later = (q j : ℕ) → Names sh w q j → (o : ℕ) × Names sh later o j
 
 -- the key has room: an item that no slot names, and an empty slot in one of its buckets
 pub record CanFill (V : ℕ) (sh : Shape) (w : List ℕ) (k i : ℕ) (p : Place) : Type 0 where

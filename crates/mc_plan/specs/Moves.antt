@@ -5,12 +5,12 @@ use Rattle.mc_words.specs.declared.shape.Shape.{Shape}
 use Rattle.mc_words.specs.Chains.{IsHole, IsOccupied, IsChain}
 use Rattle.mc_words.specs.History.{IsWord}
 use Rattle.mc_words.specs.Keys.{tag_of, alternate, IsBucketOf}
-use Rattle.mc_words.specs.Places.{slot_number, slot, item}
+use Rattle.mc_words.specs.Places.{slot_number, slot}
 use Rattle.mc_words.specs.Shapes.{IsShape}
-use Rattle.mc_words.specs.Standing.{Names, Stands, IsAbsent, IsFree}
+use Rattle.mc_words.specs.Standing.{Stands, IsAbsent, IsFree}
 use Rattle.mc_core.specs.States.{State}
 use Rattle.mc_core.specs.declared.act.Act.{Act}
-use Rattle.mc_plan.specs.Making.{IsQuiet, Makes, left}
+use Rattle.mc_plan.specs.Making.{IsQuiet, KeepsItems, KeepsNamed, Makes, left}
 use Rattle.mc_plan.specs.Plans.{key_named, first_place, moves_acts}
 
 -- the key stands in the slot, and the other slot is an empty one of the key's other bucket
@@ -25,7 +25,7 @@ pub record MovesSlot (V : ℕ) (sh : Shape) (w later : List ℕ) (from to : ℕ)
   pub there : slot sh later to ≡ slot sh w from
   pub here : slot sh later from ≡ 0
   pub others : (o : ℕ) → o < 4 * sh.buckets → o ≢ from → o ≢ to → slot sh later o ≡ slot sh w o
-  pub items : (i j : ℕ) → item V sh later i j ≡ item V sh w i j
+  pub items : KeepsItems V sh w later
 
 -- from each quiet state in which the key can move, the acts move it, and no change enters the history
 abbrev pub Moves : ℕ → Shape → ℕ → ℕ → Place → Place → List Act → Type 0
@@ -51,7 +51,7 @@ pub record HasRoom (V : ℕ) (sh : Shape) (w later : List ℕ) (k : ℕ) (first 
   pub bucket : IsBucketOf sh k first.bucket
   pub absent : IsAbsent V sh w k → IsAbsent V sh later k
   pub free : (i : ℕ) → IsFree sh w i → IsFree sh later i
-  pub named : (q i : ℕ) → Names sh w q i → (p : ℕ) × Names sh later p i
+  pub named : KeepsNamed sh w later
 
 -- from each quiet state with these words, the acts are allowed one after the other, change no history, and make room for the key in the first place
 abbrev pub MakesRoomFor : ℕ → Shape → List ℕ → ℕ → List Place → Place → List Act → Type 0

@@ -7,11 +7,11 @@ use Rattle.mc_words.specs.Chains.{IsChain}
 use Rattle.mc_words.specs.History.{IsWord}
 use Rattle.mc_words.specs.Places.{IsPlace, slot_number}
 use Rattle.mc_words.specs.Shapes.{IsShape}
-use Rattle.mc_words.specs.Standing.{Names, Stands, IsAbsent}
+use Rattle.mc_words.specs.Standing.{Stands, IsAbsent}
 use Rattle.mc_core.specs.States.{State}
 use Rattle.mc_core.specs.declared.act.Act.{Act}
 use Rattle.mc_plan.specs.Laws.{IsValue}
-use Rattle.mc_plan.specs.Making.{IsQuiet, Makes, left}
+use Rattle.mc_plan.specs.Making.{IsQuiet, KeepsNamed, Makes, left}
 use Rattle.mc_plan.specs.Moves.{AreKeys}
 use Rattle.mc_plan.specs.Paths.{IsCut}
 use Rattle.mc_plan.specs.Plans.{first_place, evict_acts}
@@ -29,10 +29,6 @@ pub record CanReplace (V : ℕ) (sh : Shape) (w : List ℕ) (k i e : ℕ) (p : P
 -- the eviction of the other key, and then the put, whose fill takes the other key's item
 abbrev pub replace_acts : ℕ → Shape → List ℕ → ℕ → List ℕ → ℕ → ℕ → Place → List Place → Place → List Act
 replace_acts V sh w k v i e p kept end = evict_acts e p ++ put_acts V sh w k v i kept end
-
--- each item that was named still is
-abbrev pub KeepsNamed : Shape → List ℕ → List ℕ → Type 0
-KeepsNamed sh w later = (q j : ℕ) → Names sh w q j → (o : ℕ) × Names sh later o j
 
 -- from each quiet state in which the key can replace the other, at the item whose bit the hand found clear, they take the other out and put the key: four version changes more than for the moves
 abbrev pub EvictionsMakeRoom : ℕ → Type 0

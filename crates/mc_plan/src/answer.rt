@@ -15,7 +15,7 @@ pub enum Put {
     },
 }
 
-/// Why a `put` changed nothing.
+/// Why a `put` stored nothing.
 #[derive(Clone, Copy, Debug, PartialEq, Eq, Error)]
 pub enum PutError {
     /// No chain of displacements leads to an empty slot.

@@ -36,7 +36,7 @@ pub(crate) struct Books {
     pub(crate) checked: Checked,
     finder: Finder,
     free: FreeItems,
-    /// The item at which the hand stands.
+    /// The item at which the hand stands, but while a call sweeps: at which it stood when the call began.
     hand: u32,
     /// The version changes, with those of the plan.
     changes: u64,

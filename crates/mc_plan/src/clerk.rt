@@ -1,5 +1,5 @@
 //! The writer's bookkeeping, and its calls as a step machine: which act comes next, and what the call answers.
-ghost use Rattle.std.specs.Prelude.{ℕ, ◌≡◌, ◌+◌, ◌^◌, ◌<◌, ◌≤◌, ◌++◌, [], ◌∷◌, ◌↔◌, List, Some, None, IfOk, IfSome, IfNone, IsSome};
+ghost use Rattle.std.specs.Prelude.{ℕ, ◌≡◌, ◌+◌, ◌*◌, ◌<◌, ◌≤◌, ◌++◌, [], ◌∷◌, ◌↔◌, List, Some, None, IfOk, IfSome, IfNone, IsSome};
 ghost use Rattle.mc_words.specs.Checks.{shape_of};
 ghost use Rattle.mc_words.specs.Places.{IsWidth};
 ghost use Rattle.mc_core.specs.Acts.{IsAllowed};
@@ -63,7 +63,7 @@ impl<const V: usize> Clerk<V> {
     pub fn put<P: Peek>(&mut self, peek: &mut P, key: u64, value: [u64; V])
         requires { (s : State V) × Knows V self.old s × (P.words peek.old ≡ s.words) }
         ensures on { (s : State V) → Knows V self.old s → P.words peek.old ≡ s.words → IsOn V self.new (PutCall key value.entry) s [] }
-        ensures left { acts_left self.new ≤ 2 ^ 23 + 64 }
+        ensures left { acts_left self.new ≤ 2 * (shape_in self.new).items + 64 }
         ensures shape { shape_in self.new ≡ shape_in self.old }
         ensures same { P.words peek.new ≡ P.words peek.old }
     {

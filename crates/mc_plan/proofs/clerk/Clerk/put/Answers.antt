@@ -51,5 +51,5 @@ returns-clause-left g c =
           let waits = subst (λ (x : Start). IsStarted V b plan.items c.args.key c.args.value r.0 x) w.in-Waits.is started in
           let has = w.sweep.ensures V r.0 waits.1.known in
           let is : left_in c.match-put.self plan.items 0 ≡ w.sweep.result.left + 64 = ap (λ (st : Stage V). left_in st plan.items 0) w.self-is in
-          omega (arith, is, has.left, b.checked.sound.items, b.checked.sound.buckets)
+          omega (arith, is, has.left)
     ]
