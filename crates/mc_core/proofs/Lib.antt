@@ -13,6 +13,7 @@ pub mod Readers
 pub mod Sweeps
 pub mod Counted
 pub mod Counts
+pub mod Ranges
 pub mod Written
 pub mod Grown
 pub mod Forth

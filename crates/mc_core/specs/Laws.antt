@@ -1,11 +1,11 @@
 -- The laws of lawful lists of acts.
-use Rattle.std.specs.Prelude.{ℕ, ◌≡◌, ◌%◌, ◌^◌, ◌<◌, ◌≤◌, ◌↔◌, List, length, Some, slice_get}
+use Rattle.std.specs.Prelude.{ℕ, ◌≡◌, ◌%◌, ◌^◌, ◌<◌, ◌≤◌, ◌↔◌, All, List, length, Some, slice_get}
 use Rattle.mc_core.specs.Inner.{StateCounted}
 use Rattle.mc_core.specs.Lists.{IsLawful, Made, front, state_of}
 use Rattle.mc_core.specs.Lookups.{IsLookup}
 use Rattle.mc_core.specs.Phases.{running}
 use Rattle.mc_core.specs.Readings.{AreRead, IsBetween, Reading, RiseTo}
-use Rattle.mc_words.specs.History.{IsLegal, IsTrueAnswer, held}
+use Rattle.mc_words.specs.History.{IsChange, IsLegal, IsTrueAnswer, held}
 use Rattle.mc_words.specs.Keys.{stripe_of}
 use Rattle.mc_words.specs.Places.{version}
 use Rattle.mc_words.specs.Shapes.{IsShape}
@@ -57,3 +57,7 @@ CountsAlways V = (sh : Shape) (acts : List Made) (f : ℕ) → IsShape sh → Is
 -- the hand stands at an item
 abbrev pub HandStays : ℕ → Type 0
 HandStays V = (sh : Shape) (acts : List Made) (f : ℕ) → IsShape sh → IsLawful V sh acts → (front V sh acts f).hand < sh.items
+
+-- at each front the keys and the values of the history are in their ranges
+abbrev pub ChangesFit : ℕ → Type 0
+ChangesFit V = (sh : Shape) (acts : List Made) (f : ℕ) → IsLawful V sh acts → All (IsChange {V = V}) (front V sh acts f).history

@@ -1,7 +1,7 @@
 //! The laws of the core, one function each. A body does nothing: what it ensures is the law.
 ghost use Rattle.mc_core.specs.Course.{NextIsDetermined, CanEnd, LookupsAreShort};
 ghost use Rattle.mc_core.specs.Growth.{LawfulGrows, StatesFollow, FrontsStay, ReadingsStay, HistoriesGrow};
-ghost use Rattle.mc_core.specs.Laws.{AgreesAlways, StaysWhileEven, RepliesAreTrue, EvictsAreClear, CountsAlways, HandStays};
+ghost use Rattle.mc_core.specs.Laws.{AgreesAlways, StaysWhileEven, RepliesAreTrue, EvictsAreClear, CountsAlways, HandStays, ChangesFit};
 ghost use Rattle.mc_core.specs.Worlds.{WorldsAreTrue};
 ghost use Rattle.mc_core.specs.Writes.{WritesItsWord, KeepsItsWords, ReadsItsWord};
 
@@ -33,6 +33,11 @@ pub fn counts<const V: usize>()
 /// The hand never leaves the items.
 pub fn hand_stays<const V: usize>()
     ensures { HandStays V }
+{}
+
+/// A history names keys and values that a caller can have given.
+pub fn changes_fit<const V: usize>()
+    ensures { ChangesFit V }
 {}
 
 /// How a lawful list grows.
