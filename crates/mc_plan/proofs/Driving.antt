@@ -11,7 +11,7 @@ use Rattle.mc_core.specs.declared.act.Act.TheVariants.{Open, Slot, Item, Moment,
 use Rattle.mc_core.specs.declared.act.Deed.{Deed}
 use Rattle.mc_core.specs.declared.act.Deed.TheVariants as deed
 use Rattle.mc_core.proofs.Fronts.{after_all-append}
-use Rattle.mc_plan.specs.Desks.{key_after, IsTied}
+use Rattle.mc_plan.specs.Drivers.{key_after, IsTied}
 
 opened_running : (k : ℕ) (d : Deed) → running (opened k d) ≡ Some k
 opened_running k deed.Fill = refl

@@ -12,4 +12,4 @@ pub mod Sweeps
 pub mod Calls
 pub mod Free
 pub mod Clerks
-pub mod Desks
+pub mod Drivers

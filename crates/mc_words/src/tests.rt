@@ -46,6 +46,11 @@ fn how_far_apart_the_buckets_of_a_tag_are(rt: HostRuntime) -> Result<(), ShapeEr
         let zero = checked.first(0);
         assert_eq!(rt; checked.alt(zero, tag), offset, "tag {tag}");
     }
+    Ok(())
+}
+
+#[test]
+fn how_far_apart_they_are_among_four(rt: HostRuntime) -> Result<(), ShapeError> {
     let checked = shape(4, 16, Mix::Plain).check()?;
     for tag in 0..=255u8 {
         let offset = if tag % 2 == 0 { 1 } else { 3 };

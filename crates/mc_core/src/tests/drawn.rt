@@ -4,6 +4,7 @@ use crate::tests::drawing::{drawn_event, drawn_shape};
 use crate::world::World;
 use rand_core::Rng;
 use rand_pcg::Lcg64Xsh32;
+use std::alloc::Global;
 use std::test::Fail;
 
 /// The words of the world, the last ones are its bits, folded into one number.
@@ -65,26 +66,30 @@ fn lawful_of(rng: &mut Lcg64Xsh32, world: &mut World<1>, many: u32) -> Option<u3
     Some(lawful)
 }
 
+/// How many of 100,000 drawn events were lawful, 500 in each of 200 worlds; `None` where one changed what it must not.
+fn lawful_in_worlds(alloc: Global, seed: u64) -> Result<Option<u32>, Fail> {
+    let mut rng = Lcg64Xsh32::new(seed, 0);
+    let mut all: u32 = 0;
+    for _ in 0..200 {
+        let checked = drawn_shape(&mut rng).check()?;
+        let mut world: World<1> = World::new(alloc, &checked, 2)?;
+        let Some(lawful) = lawful_of(&mut rng, &mut world, 500) else {
+            return Ok(None);
+        };
+        all = all.saturating_add(lawful);
+    }
+    Ok(Some(all))
+}
+
 #[test]
 fn refused_events_leave_the_world_as_it_was(rt: HostRuntime) -> Result<(), Fail> {
     for seed in 1..21 {
-        let mut rng = Lcg64Xsh32::new(seed, 0);
-        let mut all: u32 = 0;
-        for n in 0..200 {
-            let checked = drawn_shape(&mut rng).check()?;
-            let mut world: World<1> = World::new(rt.alloc(), &checked, 2)?;
-            let Some(lawful) = lawful_of(&mut rng, &mut world, 500) else {
-                assert!(rt; false, "seed {seed}, world {n}");
-                return Ok(());
-            };
-            all = all.saturating_add(lawful);
-        }
+        let Some(all) = lawful_in_worlds(rt.alloc(), seed)? else {
+            assert!(rt; false, "seed {seed}");
+            return Ok(());
+        };
         assert!(rt;
-            all > 25_000,
-            "seed {seed}: {all} of 100000 events were lawful"
-        );
-        assert!(rt;
-            all < 90_000,
+            (25_001..90_000).contains(&all),
             "seed {seed}: {all} of 100000 events were lawful"
         );
     }

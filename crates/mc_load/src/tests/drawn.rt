@@ -127,7 +127,7 @@ fn shape_of(seed: u64, limit: u64, rng: &mut Lcg64Xsh32) -> Shape {
     let buckets = 1 << (1 + rng.next_u32() % 3);
     Shape {
         buckets,
-        items: 1 + rng.next_u32() % (4 * buckets - 1).min(15),
+        items: 1 + rng.next_u32() % (4 * buckets).min(16),
         stripes: 1,
         depth: (seed % 4) as u8,
         tries: (1 + rng.next_u32() % 3) as u8,

@@ -30,7 +30,7 @@ pub(super) enum Asked {
     End(usize),
 }
 
-/// The map after each change.
+/// The map after each change, with the items and the hand of now, and the look-ups that run.
 #[derive(Drop)]
 pub(super) struct Plain {
     alloc: Global,
@@ -120,6 +120,11 @@ impl Plain {
         self.items.iter().filter(|item| item.key.is_some()).count()
     }
 
+    /// How many keys the table can hold.
+    fn slots(&self) -> usize {
+        (self.shape.buckets as usize).saturating_mul(4)
+    }
+
     /// Stores a new key, for which another one goes where no item is free.
     fn store(&mut self, key: u64, value: u64, told: &str) -> Result<bool, AllocError> {
         let Some(moves) = moves_in(told) else {
@@ -166,10 +171,10 @@ impl Plain {
             let line = format!(in self.alloc; "renewed at {at}")?;
             return Ok(line.as_str() == told);
         }
-        // Both buckets of the key have to be full, and in a table of two no way leads out of them.
+        // Both buckets of the key have to be full, and no way leads to a hole where the whole table is.
         let held = self.held();
         let is_refused = told == "refused no path";
-        if is_refused || (self.shape.buckets == 2 && held == 8) {
+        if is_refused || held == self.slots() {
             return Ok(is_refused && held >= 8);
         }
         self.store(key, value, told)

@@ -1,11 +1,10 @@
-ghost use Rattle.std.specs.Prelude.{ℕ, ◌≡◌, ◌+◌, ◌<◌, ◌≤◌, IfOk, IfSome, IsTrue, Some, slice_set, length};
+ghost use Rattle.std.specs.Prelude.{◌≡◌, ◌+◌, ◌<◌, IfOk, IfSome, IsTrue, Some, slice_set, length};
 ghost use Rattle.mc_words.specs.Checks.{shape_of};
-ghost use Rattle.mc_words.specs.Places.{IsWidth};
 ghost use Rattle.mc_core.specs.Effects.{bumped, words_after};
 ghost use Rattle.mc_core.specs.Phases.{Phase, Quiet, running};
 ghost use Rattle.mc_core.specs.States.{opening};
 ghost use Rattle.mc_core.specs.declared.act.Act.TheVariants.{Close, Moment};
-ghost use Rattle.mc_plan.specs.Desks.{key_after, IsBeside, IsMaking};
+ghost use Rattle.mc_plan.specs.Drivers.{key_after, IsBeside, IsMaking};
 
 use crate::{Answer, Clerk, NoMemory, Peek, Put, PutError, Remove, moment, read};
 use mc_core::Act;
@@ -17,7 +16,7 @@ use std::test::Fail;
 /// The words of a table whose values have one word, the key of the deed that runs, the recency bits, and whether each is
 /// set again before it is read.
 #[derive(Drop)]
-struct Desk {
+struct Driver {
     checked: Checked,
     words: Vec<u64>,
     key: u64,
@@ -37,15 +36,15 @@ impl Peek for Look<'_> {
     }
 }
 
-impl Desk {
+impl Driver {
     #[tactic(auto, unfolding(mc_core::specs::States::opening))]
-    fn new(alloc: Global, checked: &Checked) -> Result<Desk, AllocError>
+    fn new(alloc: Global, checked: &Checked) -> Result<Driver, AllocError>
         ensures words { IfOk result (λ d. d.words.items ≡ (opening 1 (shape_of checked.now)).words) }
         ensures shape { IfOk result (λ d. d.checked ≡ checked.now) }
     {
         let words = vec![in alloc; 0; checked.recency_start::<1>()]?;
         let bits = vec![in alloc; 0; checked.shape().items as usize]?;
-        Ok(Desk {
+        Ok(Driver {
             checked: *checked,
             words,
             key: 0,
@@ -129,7 +128,7 @@ impl Desk {
     }
 }
 
-impl Desk {
+impl Driver {
     /// Puts a bit in the place of an item's, and tells the one that was there.
     fn swap(&mut self, i: u32, bit: u64) -> u64
         ensures words { self.new.words ≡ self.old.words }
@@ -161,34 +160,34 @@ impl Desk {
 }
 
 /// Makes the acts of the call that the clerk is in, and takes its answer.
-fn run(clerk: &mut Clerk<1>, desk: &mut Desk) -> Option<Answer>
-    requires { IsMaking clerk.old (shape_of desk.old.checked) desk.old.words.items desk.old.key }
-    ensures beside { IfSome result (λ a. IsBeside clerk.new (shape_of desk.new.checked) desk.new.words.items) }
+fn run(clerk: &mut Clerk<1>, driver: &mut Driver) -> Option<Answer>
+    requires { IsMaking clerk.old (shape_of driver.old.checked) driver.old.words.items driver.old.key }
+    ensures beside { IfSome result (λ a. IsBeside clerk.new (shape_of driver.new.checked) driver.new.words.items) }
 {
     'acts: while let Some(act) = clerk.next() {
-        if !desk.make(act) {
+        if !driver.make(act) {
             return None;
         }
-        let bit = desk.bit(act);
-        clerk.after(&mut Look(desk.words.as_slice()), bit);
+        let bit = driver.bit(act);
+        clerk.after(&mut Look(driver.words.as_slice()), bit);
     }
     clerk.answer()
 }
 
-fn put(clerk: &mut Clerk<1>, desk: &mut Desk, key: u64, value: u64) -> Option<Answer>
-    requires { IsBeside clerk.old (shape_of desk.old.checked) desk.old.words.items }
-    ensures beside { IfSome result (λ a. IsBeside clerk.new (shape_of desk.new.checked) desk.new.words.items) }
+fn put(clerk: &mut Clerk<1>, driver: &mut Driver, key: u64, value: u64) -> Option<Answer>
+    requires { IsBeside clerk.old (shape_of driver.old.checked) driver.old.words.items }
+    ensures beside { IfSome result (λ a. IsBeside clerk.new (shape_of driver.new.checked) driver.new.words.items) }
 {
-    clerk.put(&mut Look(desk.words.as_slice()), key, [value]);
-    run(clerk, desk)
+    clerk.put(&mut Look(driver.words.as_slice()), key, [value]);
+    run(clerk, driver)
 }
 
-fn remove(clerk: &mut Clerk<1>, desk: &mut Desk, key: u64) -> Option<Answer>
-    requires { IsBeside clerk.old (shape_of desk.old.checked) desk.old.words.items }
-    ensures beside { IfSome result (λ a. IsBeside clerk.new (shape_of desk.new.checked) desk.new.words.items) }
+fn remove(clerk: &mut Clerk<1>, driver: &mut Driver, key: u64) -> Option<Answer>
+    requires { IsBeside clerk.old (shape_of driver.old.checked) driver.old.words.items }
+    ensures beside { IfSome result (λ a. IsBeside clerk.new (shape_of driver.new.checked) driver.new.words.items) }
 {
-    clerk.remove(&mut Look(desk.words.as_slice()), key);
-    run(clerk, desk)
+    clerk.remove(&mut Look(driver.words.as_slice()), key);
+    run(clerk, driver)
 }
 
 fn checked_with(items: u32, depth: u8, limit: u64) -> Result<Checked, ShapeError> {
@@ -205,12 +204,12 @@ fn checked_with(items: u32, depth: u8, limit: u64) -> Result<Checked, ShapeError
 }
 
 /// The clerk of a new table, and its words.
-fn start(alloc: Global, checked: &Checked) -> Result<(Clerk<1>, Desk), NoMemory>
+fn start(alloc: Global, checked: &Checked) -> Result<(Clerk<1>, Driver), NoMemory>
     ensures beside { IfOk result (λ r. IsBeside r.0 (shape_of r.1.checked) r.1.words.items) }
 {
     let clerk = Clerk::new(alloc, checked)?;
-    let desk = Desk::new(alloc, checked)?;
-    Ok((clerk, desk))
+    let driver = Driver::new(alloc, checked)?;
+    Ok((clerk, driver))
 }
 
 fn stored(at: u64, moves: u8) -> Answer {
@@ -222,12 +221,12 @@ fn stored(at: u64, moves: u8) -> Answer {
 }
 
 /// Puts the keys, and tells whether each was stored without a move.
-fn store_all(clerk: &mut Clerk<1>, desk: &mut Desk, keys: &[u64]) -> bool
-    requires { IsBeside clerk.old (shape_of desk.old.checked) desk.old.words.items }
-    ensures beside { IsTrue result → IsBeside clerk.new (shape_of desk.new.checked) desk.new.words.items }
+fn store_all(clerk: &mut Clerk<1>, driver: &mut Driver, keys: &[u64]) -> bool
+    requires { IsBeside clerk.old (shape_of driver.old.checked) driver.old.words.items }
+    ensures beside { IsTrue result → IsBeside clerk.new (shape_of driver.new.checked) driver.new.words.items }
 {
     'keys: for (n, key) in keys.iter().enumerate() {
-        let Some(answer) = put(clerk, desk, *key, *key) else {
+        let Some(answer) = put(clerk, driver, *key, *key) else {
             return false;
         };
         if answer != stored(n as u64 + 1, 0) {
@@ -238,12 +237,12 @@ fn store_all(clerk: &mut Clerk<1>, desk: &mut Desk, keys: &[u64]) -> bool
 }
 
 /// What the words say of the key, and the length of the history.
-fn look_up(clerk: &Clerk<1>, desk: &Desk, key: u64) -> (Option<(u32, [u64; 1])>, u64)
-    requires { IsBeside clerk.now (shape_of desk.now.checked) desk.now.words.items }
+fn look_up(clerk: &Clerk<1>, driver: &Driver, key: u64) -> (Option<(u32, [u64; 1])>, u64)
+    requires { IsBeside clerk.now (shape_of driver.now.checked) driver.now.words.items }
 {
-    let mut look = Look(desk.words.as_slice());
-    let entry = read::<1, Look>(&desk.checked, &mut look, key);
-    (entry, moment(&desk.checked, &mut look))
+    let mut look = Look(driver.words.as_slice());
+    let entry = read::<1, Look>(&driver.checked, &mut look, key);
+    (entry, moment(&driver.checked, &mut look))
 }
 
 /// Eight keys of the buckets 0 and 1, the first of them under tag 1, so that it can go to bucket 3.
@@ -252,23 +251,26 @@ const FULL: [u64; 8] = [72057594037927936, 0, 4, 8, 12, 16, 20, 24];
 #[test]
 fn a_key_moves_to_make_room(rt: HostRuntime) -> Result<(), Fail> {
     let checked = checked_with(16, 2, 1 << 62)?;
-    let (mut clerk, mut desk) = start(rt.alloc(), &checked)?;
-    assert!(rt; store_all(&mut clerk, &mut desk, &FULL));
-    let answer = put(&mut clerk, &mut desk, 28, 5).ok_or("an act was not made")?;
+    let (mut clerk, mut driver) = start(rt.alloc(), &checked)?;
+    assert!(rt; store_all(&mut clerk, &mut driver, &FULL));
+    let answer = put(&mut clerk, &mut driver, 28, 5).ok_or("an act was not made")?;
     assert_eq!(rt; answer, stored(9, 1));
-    assert_eq!(rt; look_up(&clerk, &desk, 28), (Some((8, [5])), 9));
-    assert_eq!(rt; look_up(&clerk, &desk, FULL[0]), (Some((0, [FULL[0]])), 9));
-    assert_eq!(rt; look_up(&clerk, &desk, 32), (None, 9));
+    assert_eq!(rt; look_up(&clerk, &driver, 28), (Some((8, [5])), 9));
+    assert_eq!(rt;
+        look_up(&clerk, &driver, FULL[0]),
+        (Some((0, [FULL[0]])), 9)
+    );
+    assert_eq!(rt; look_up(&clerk, &driver, 32), (None, 9));
     Ok(())
 }
 
 #[test]
 fn two_keys_move_to_make_room(rt: HostRuntime) -> Result<(), Fail> {
     let checked = checked_with(16, 2, 1 << 62)?;
-    let (mut clerk, mut desk) = start(rt.alloc(), &checked)?;
+    let (mut clerk, mut driver) = start(rt.alloc(), &checked)?;
     let keys = [3, 7, 11, 15, 72057594037927936, 0, 4, 8, 12, 16, 20, 24];
-    assert!(rt; store_all(&mut clerk, &mut desk, &keys));
-    let answer = put(&mut clerk, &mut desk, 28, 1).ok_or("an act was not made")?;
+    assert!(rt; store_all(&mut clerk, &mut driver, &keys));
+    let answer = put(&mut clerk, &mut driver, 28, 1).ok_or("an act was not made")?;
     assert_eq!(rt; answer, stored(13, 2));
     Ok(())
 }
@@ -276,26 +278,26 @@ fn two_keys_move_to_make_room(rt: HostRuntime) -> Result<(), Fail> {
 #[test]
 fn a_key_without_a_path_is_refused(rt: HostRuntime) -> Result<(), Fail> {
     let checked = checked_with(16, 0, 1 << 62)?;
-    let (mut clerk, mut desk) = start(rt.alloc(), &checked)?;
-    assert!(rt; store_all(&mut clerk, &mut desk, &FULL));
-    let answer = put(&mut clerk, &mut desk, 28, 5).ok_or("an act was not made")?;
+    let (mut clerk, mut driver) = start(rt.alloc(), &checked)?;
+    assert!(rt; store_all(&mut clerk, &mut driver, &FULL));
+    let answer = put(&mut clerk, &mut driver, 28, 5).ok_or("an act was not made")?;
     assert_eq!(rt; answer, Answer::Put(Err(PutError::NoPath)));
-    assert_eq!(rt; look_up(&clerk, &desk, 28), (None, 8));
+    assert_eq!(rt; look_up(&clerk, &driver, 28), (None, 8));
     Ok(())
 }
 
 #[test]
 fn an_item_is_given_back_and_taken_again(rt: HostRuntime) -> Result<(), Fail> {
     let checked = checked_with(2, 2, 1 << 62)?;
-    let (mut clerk, mut desk) = start(rt.alloc(), &checked)?;
-    assert!(rt; store_all(&mut clerk, &mut desk, &[0, 1]));
-    let removed = remove(&mut clerk, &mut desk, 0).ok_or("an act was not made")?;
+    let (mut clerk, mut driver) = start(rt.alloc(), &checked)?;
+    assert!(rt; store_all(&mut clerk, &mut driver, &[0, 1]));
+    let removed = remove(&mut clerk, &mut driver, 0).ok_or("an act was not made")?;
     assert_eq!(rt; removed, Answer::Remove(Ok(Remove::Removed { at: 3 })));
-    let absent = remove(&mut clerk, &mut desk, 0).ok_or("an act was not made")?;
+    let absent = remove(&mut clerk, &mut driver, 0).ok_or("an act was not made")?;
     assert_eq!(rt; absent, Answer::Remove(Ok(Remove::NotThere { at: 3 })));
-    let answer = put(&mut clerk, &mut desk, 2, 5).ok_or("an act was not made")?;
+    let answer = put(&mut clerk, &mut driver, 2, 5).ok_or("an act was not made")?;
     assert_eq!(rt; answer, stored(4, 0));
-    assert_eq!(rt; look_up(&clerk, &desk, 2), (Some((0, [5])), 4));
+    assert_eq!(rt; look_up(&clerk, &driver, 2), (Some((0, [5])), 4));
     Ok(())
 }
 
@@ -310,40 +312,40 @@ fn replaced(at: u64, moves: u8, key: u64) -> Answer {
 #[test]
 fn the_first_item_without_a_mark_is_taken(rt: HostRuntime) -> Result<(), Fail> {
     let checked = checked_with(3, 2, 1 << 62)?;
-    let (mut clerk, mut desk) = start(rt.alloc(), &checked)?;
-    assert!(rt; store_all(&mut clerk, &mut desk, &[0, 1, 2]));
-    let first = put(&mut clerk, &mut desk, 3, 3).ok_or("an act was not made")?;
+    let (mut clerk, mut driver) = start(rt.alloc(), &checked)?;
+    assert!(rt; store_all(&mut clerk, &mut driver, &[0, 1, 2]));
+    let first = put(&mut clerk, &mut driver, 3, 3).ok_or("an act was not made")?;
     assert_eq!(rt; first, replaced(5, 0, 0));
-    assert_eq!(rt; look_up(&clerk, &desk, 0), (None, 5));
-    let _ = desk.swap(1, 1);
-    let second = put(&mut clerk, &mut desk, 4, 4).ok_or("an act was not made")?;
+    assert_eq!(rt; look_up(&clerk, &driver, 0), (None, 5));
+    let _ = driver.swap(1, 1);
+    let second = put(&mut clerk, &mut driver, 4, 4).ok_or("an act was not made")?;
     assert_eq!(rt; second, replaced(7, 0, 2));
-    assert_eq!(rt; look_up(&clerk, &desk, 4), (Some((2, [4])), 7));
+    assert_eq!(rt; look_up(&clerk, &driver, 4), (Some((2, [4])), 7));
     Ok(())
 }
 
 #[test]
 fn a_path_is_not_followed_past_the_victim(rt: HostRuntime) -> Result<(), Fail> {
     let checked = checked_with(8, 2, 1 << 62)?;
-    let (mut clerk, mut desk) = start(rt.alloc(), &checked)?;
-    assert!(rt; store_all(&mut clerk, &mut desk, &FULL));
-    let answer = put(&mut clerk, &mut desk, 28, 28).ok_or("an act was not made")?;
+    let (mut clerk, mut driver) = start(rt.alloc(), &checked)?;
+    assert!(rt; store_all(&mut clerk, &mut driver, &FULL));
+    let answer = put(&mut clerk, &mut driver, 28, 28).ok_or("an act was not made")?;
     assert_eq!(rt; answer, replaced(10, 0, FULL[0]));
-    assert_eq!(rt; look_up(&clerk, &desk, FULL[0]), (None, 10));
+    assert_eq!(rt; look_up(&clerk, &driver, FULL[0]), (None, 10));
     Ok(())
 }
 
 #[test]
 fn no_item_is_taken_where_every_bit_is_set(rt: HostRuntime) -> Result<(), Fail> {
     let checked = checked_with(2, 2, 1 << 62)?;
-    let (mut clerk, mut desk) = start(rt.alloc(), &checked)?;
-    assert!(rt; store_all(&mut clerk, &mut desk, &[0, 1]));
-    desk.marked = true;
-    let refused = put(&mut clerk, &mut desk, 2, 5).ok_or("an act was not made")?;
+    let (mut clerk, mut driver) = start(rt.alloc(), &checked)?;
+    assert!(rt; store_all(&mut clerk, &mut driver, &[0, 1]));
+    driver.marked = true;
+    let refused = put(&mut clerk, &mut driver, 2, 5).ok_or("an act was not made")?;
     assert_eq!(rt; refused, Answer::Put(Err(PutError::AllRecent)));
-    assert_eq!(rt; look_up(&clerk, &desk, 2), (None, 2));
-    desk.marked = false;
-    let first = put(&mut clerk, &mut desk, 2, 5).ok_or("an act was not made")?;
+    assert_eq!(rt; look_up(&clerk, &driver, 2), (None, 2));
+    driver.marked = false;
+    let first = put(&mut clerk, &mut driver, 2, 5).ok_or("an act was not made")?;
     assert_eq!(rt; first, replaced(4, 0, 0));
     Ok(())
 }
@@ -351,11 +353,11 @@ fn no_item_is_taken_where_every_bit_is_set(rt: HostRuntime) -> Result<(), Fail> 
 #[test]
 fn the_last_version_changes_are_for_a_removal(rt: HostRuntime) -> Result<(), Fail> {
     let checked = checked_with(16, 2, 8)?;
-    let (mut clerk, mut desk) = start(rt.alloc(), &checked)?;
-    assert!(rt; store_all(&mut clerk, &mut desk, &[0]));
-    let spent = put(&mut clerk, &mut desk, 1, 1).ok_or("an act was not made")?;
+    let (mut clerk, mut driver) = start(rt.alloc(), &checked)?;
+    assert!(rt; store_all(&mut clerk, &mut driver, &[0]));
+    let spent = put(&mut clerk, &mut driver, 1, 1).ok_or("an act was not made")?;
     assert_eq!(rt; spent, Answer::Put(Err(PutError::Spent)));
-    let removed = remove(&mut clerk, &mut desk, 0).ok_or("an act was not made")?;
+    let removed = remove(&mut clerk, &mut driver, 0).ok_or("an act was not made")?;
     assert_eq!(rt; removed, Answer::Remove(Ok(Remove::Removed { at: 2 })));
     Ok(())
 }
@@ -363,10 +365,10 @@ fn the_last_version_changes_are_for_a_removal(rt: HostRuntime) -> Result<(), Fai
 #[test]
 fn a_key_that_is_there_is_renewed(rt: HostRuntime) -> Result<(), Fail> {
     let checked = checked_with(16, 2, 1 << 62)?;
-    let (mut clerk, mut desk) = start(rt.alloc(), &checked)?;
-    assert!(rt; store_all(&mut clerk, &mut desk, &[7]));
-    let renewed = put(&mut clerk, &mut desk, 7, 9).ok_or("an act was not made")?;
+    let (mut clerk, mut driver) = start(rt.alloc(), &checked)?;
+    assert!(rt; store_all(&mut clerk, &mut driver, &[7]));
+    let renewed = put(&mut clerk, &mut driver, 7, 9).ok_or("an act was not made")?;
     assert_eq!(rt; renewed, Answer::Put(Ok(Put::Renewed { at: 2 })));
-    assert_eq!(rt; look_up(&clerk, &desk, 7), (Some((0, [9])), 2));
+    assert_eq!(rt; look_up(&clerk, &driver, 7), (Some((0, [9])), 2));
     Ok(())
 }

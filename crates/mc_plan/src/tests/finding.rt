@@ -1,4 +1,4 @@
-ghost use Rattle.std.specs.Prelude.{ℕ, ◌≡◌, ◌≤◌, IsTrue, length};
+ghost use Rattle.std.specs.Prelude.{◌≡◌, ◌≤◌, IsTrue, length};
 ghost use Rattle.mc_words.specs.Checks.{shape_of};
 ghost use Rattle.mc_words.specs.Places.{IsPlace, slot_number, word_count};
 ghost use Rattle.mc_plan.specs.Readable.{IsPlaced, IsPlacedAt};
@@ -63,16 +63,23 @@ fn found(checked: &Checked, table: &mut Table, key: u64) -> Option<Option<(Place
     }
 }
 
-/// Eight keys of the buckets 0 and 1 of four stand there, the first of them under tag 1.
+/// Keys of the buckets 0 and 1 of four, the first of them under tag 1.
+const KEYS: [u64; 8] = [72057594037927936, 0, 4, 8, 12, 16, 20, 24];
+
+/// A table in which these keys stand.
+fn filled() -> Table {
+    let mut table = table_of(&[4294967297, 2, 3, 4, 5, 6, 7, 8]);
+    for (i, key) in KEYS.iter().enumerate() {
+        table.list[18 + 2 * i] = *key;
+    }
+    table
+}
+
 #[test]
 fn keys_are_found_where_they_stand(rt: HostRuntime) -> Result<(), Fail> {
     let checked = checked_with(4, 2)?;
-    let keys = [72057594037927936, 0, 4, 8, 12, 16, 20, 24];
-    let mut table = table_of(&[4294967297, 2, 3, 4, 5, 6, 7, 8]);
-    for (i, key) in keys.iter().enumerate() {
-        table.list[18 + 2 * i] = *key;
-    }
-    for (i, key) in keys.iter().enumerate() {
+    let mut table = filled();
+    for (i, key) in KEYS.iter().enumerate() {
         let place = Place {
             bucket: (i / 4) as u32,
             slot: (i % 4) as u8,
@@ -80,6 +87,13 @@ fn keys_are_found_where_they_stand(rt: HostRuntime) -> Result<(), Fail> {
         let here = found(&checked, &mut table, *key);
         assert_eq!(rt; here, Some(Some((place, i as u32))), "{key}");
     }
+    Ok(())
+}
+
+#[test]
+fn keys_that_stand_nowhere_are_not_found(rt: HostRuntime) -> Result<(), Fail> {
+    let checked = checked_with(4, 2)?;
+    let mut table = filled();
     for key in [28, 1, 72057594037927940] {
         assert_eq!(rt; found(&checked, &mut table, key), Some(None), "{key}");
     }

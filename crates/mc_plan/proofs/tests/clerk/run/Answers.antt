@@ -6,7 +6,7 @@ use Rattle.mc_core.specs.Acts.{IsAllowed}
 use Rattle.mc_core.specs.Effects.{words_after}
 use Rattle.mc_core.specs.Lists.{after_all}
 use Rattle.mc_plan.specs.Clerks.{shape_in}
-use Rattle.mc_plan.specs.Desks.{IsTied}
+use Rattle.mc_plan.specs.Drivers.{IsTied}
 use Rattle.mc_plan.proofs.Driving.{tied_next, closes_tied, words_next}
 use Rattle.mc_plan.proofs.tests.clerk.run.Goals as goal
 use Rattle.mc_plan.proofs.tests.clerk.run.Goals.{Else-not-make}
@@ -21,8 +21,8 @@ now c bit =
     let on = c.acts.invariant in
     let sh = shape_in c.acts.clerk in
     let p = (after_all sh on.s on.acts).phase in
-    let made = c.make.ensures.made c.if-not-make.false p (closes_tied sh on.s on.acts c.in-Some.act bit c.acts.desk.key (may c) on.tied) in
-    words_next sh on.s on.acts c.in-Some.act bit c.acts.desk.key (may c) on.tied c.acts.desk.words.items c.make.new.self.words.items on.now (subst (λ (x : Shape). c.make.new.self.words.items ≡ words_after 1 x c.acts.desk.words.items p c.in-Some.act) (sym on.shape) made)
+    let made = c.make.ensures.made c.if-not-make.false p (closes_tied sh on.s on.acts c.in-Some.act bit c.acts.driver.key (may c) on.tied) in
+    words_next sh on.s on.acts c.in-Some.act bit c.acts.driver.key (may c) on.tied c.acts.driver.words.items c.make.new.self.words.items on.now (subst (λ (x : Shape). c.make.new.self.words.items ≡ words_after 1 x c.acts.driver.words.items p c.in-Some.act) (sym on.shape) made)
 
 pub after-requires : goal.after-requires
 after-requires c =
@@ -43,7 +43,7 @@ acts-preserved c =
       on = c.after.ensures.on on.call on.s on.acts c.in-Some.act on.on (sym c.in-Some.ensures.value) (c.as_slice.ensures.value ∙ words);
       now = subst (λ (x : Shape). c.bit-bit.new.self.words.items ≡ (after_all x on.s acts).words) (sym c.after.ensures.shape) words;
       tied = subst (λ (x : Shape). IsTied c.bit-bit.new.self.key (after_all x on.s acts).phase) (sym c.after.ensures.shape)
-          (subst (λ (k : ℕ). IsTied k (after_all (shape_in c.acts.clerk) on.s acts).phase) (sym (c.bit-bit.ensures.key ∙ c.make.ensures.key)) (tied_next (shape_in c.acts.clerk) on.s on.acts c.in-Some.act bit c.acts.desk.key (may e) on.tied));
+          (subst (λ (k : ℕ). IsTied k (after_all (shape_in c.acts.clerk) on.s acts).phase) (sym (c.bit-bit.ensures.key ∙ c.make.ensures.key)) (tied_next (shape_in c.acts.clerk) on.s on.acts c.in-Some.act bit c.acts.driver.key (may e) on.tied));
       shape = c.after.ensures.shape ∙ on.shape ∙ ap shape_of (sym (c.bit-bit.ensures.shape ∙ c.make.ensures.shape));
     }
 
