@@ -1,4 +1,4 @@
-# What the scripts here share, which read it by `.`: the program to measure, a folder that goes with the script, and `least`.
+# What `evictions.sh` and `fresh_puts.sh` share, which read it by `.`: the program to measure, a folder that goes with the script, and `least`.
 set -euo pipefail
 top=$(cd "$(dirname "$0")/.." && pwd)
 program=${1:-$top/crates/mcstep/out/mcstep}

@@ -1,5 +1,5 @@
 //! A world: one writer and its readers. Each event is one atomic step.
-ghost use Rattle.std.specs.Prelude.{◌≡◌, ◌<◌, length};
+ghost use Rattle.std.specs.Prelude.{◌≡◌, ◌<◌};
 
 use crate::event::{Event, Stepped, Unlawful};
 use crate::parts::Parts;

@@ -1,5 +1,5 @@
 // The options of `mcstep`.
-ghost use Rattle.std.specs.Prelude.{◌≡◌, ℕ, false, IfOk, MatchOption, codes, map, option_and_then};
+ghost use Rattle.std.specs.Prelude.{◌≡◌, false, IfOk, MatchOption, codes, map, option_and_then};
 ghost use Rattle.std.specs.List.{list_all};
 ghost use Rattle.std.specs.Char.{is_ascii_digit};
 ghost use Rattle.clap.specs.Words.{app_of, first_of, found_of, rows_of, rule_of};

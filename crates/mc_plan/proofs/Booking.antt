@@ -32,11 +32,11 @@ use Rattle.mc_plan.specs.Moves.{AreKeys}
 use Rattle.mc_plan.specs.Paths.{IsLeastPath}
 use Rattle.mc_plan.specs.Plans.{value_acts, fill_acts, renew_acts, remove_acts, moves_acts, first_place}
 use Rattle.mc_plan.specs.Readable.{IsFilled, IsPlaced}
-use Rattle.mc_plan.specs.Puts.{CanPut, TakesItem, GivesItem, put_acts}
+use Rattle.mc_plan.specs.Puts.{CanPut, TakesItem, put_acts}
 use Rattle.mc_words.proofs.Frames.{empty_names_none}
 use Rattle.mc_core.proofs.Counts.{opening_counted}
 use Rattle.mc_core.proofs.Holding.{opening_holds, zeros}
-use Rattle.mc_plan.proofs.Naming.{slot_given, kept_free, kept_named}
+use Rattle.mc_plan.proofs.Naming.{GivesItem, slot_given, kept_free, kept_named}
 use Rattle.mc_plan.proofs.Quiets.{agrees_quiet, keys_quiet, absent_held, stands_held, marked}
 use Rattle.mc_plan.proofs.Removing.{removes}
 use Rattle.mc_plan.proofs.Renewing.{renews}

@@ -1,5 +1,5 @@
 -- Which items are free and which are named where one slot was written.
-use Rattle.std.proofs.Common.{ℕ, ◌≡◌, ◌<◌, ◌∙◌, List, ap, sym, subst, inl, inr}
+use Rattle.std.proofs.Common.{ℕ, ◌≡◌, ◌≢◌, ◌<◌, ◌∙◌, List, ap, sym, subst, inl, inr}
 use Rattle.std.proofs.lemmas.Bool.{cases_eq}
 use Rattle.mc_words.specs.declared.shape.Shape.{Shape}
 use Rattle.mc_words.specs.Places.{slot}
@@ -7,7 +7,7 @@ use Rattle.mc_words.specs.Shapes.{IsShape}
 use Rattle.mc_words.specs.Standing.{Names, IsFree, HasFree}
 use Rattle.mc_words.proofs.Frames.{moved_names, empty_names_none, one_named}
 use Rattle.mc_plan.specs.Making.{SetsSlot, KeepsSlots}
-use Rattle.mc_plan.specs.Puts.{TakesItem, GivesItem}
+use Rattle.mc_plan.specs.Puts.{TakesItem}
 
 -- an empty slot that names an item now: that item is taken
 pub slot_taken : (sh : Shape) (w x : List ℕ) (p i word : ℕ) → IsShape sh → slot sh w p ≡ 0 → SetsSlot sh w x p word → Names sh x p i → TakesItem sh w x i
@@ -24,6 +24,12 @@ slot_taken sh w x p i word s empty set here = record {
         | inr apart ↦ (q, moved_names sh w x q j (set.others q n.in_table apart) n)
       ];
 }
+
+-- the item is free, and each other is free or named as it was
+pub record GivesItem (sh : Shape) (w later : List ℕ) (i : ℕ) : Type 0 where
+  pub freed : IsFree sh later i
+  pub free : (j : ℕ) → IsFree sh w j → IsFree sh later j
+  pub named : (q j : ℕ) → j ≢ i → Names sh w q j → (p : ℕ) × Names sh later p j
 
 -- a slot that named an item and is empty now: that item is free
 pub slot_given : (sh : Shape) (w x : List ℕ) (p i : ℕ) → IsShape sh → Names sh w p i → SetsSlot sh w x p 0 → IsFree sh x i → GivesItem sh w x i

@@ -14,10 +14,10 @@ use Rattle.mc_core.specs.declared.act.Act.{Act}
 use Rattle.mc_plan.specs.Making.{Makes, SetsSlot, KeepsItems, left, KeepsNamed}
 use Rattle.mc_plan.specs.Moves.{AreTaken, AreKeys}
 use Rattle.mc_plan.specs.Plans.{item_in, key_named, first_place, evict_acts, moves_acts, fill_acts}
-use Rattle.mc_plan.specs.Puts.{CanPut, TakesItem, GivesItem, put_acts}
+use Rattle.mc_plan.specs.Puts.{CanPut, TakesItem, put_acts}
 use Rattle.mc_plan.specs.Replacing.{CanReplace, EvictionsMakeRoom}
 use Rattle.mc_plan.proofs.Cutting.{cut_chain}
-use Rattle.mc_plan.proofs.Naming.{slot_given}
+use Rattle.mc_plan.proofs.Naming.{GivesItem, slot_given}
 use Rattle.mc_plan.proofs.Removing.{evicts}
 use Rattle.mc_plan.proofs.Room.{makes_then, puts_room}
 use Rattle.mc_plan.proofs.Steps.{chain_taken}

@@ -71,7 +71,7 @@ pub record MarksLast (V : ℕ) (sh : Shape) (w : List ℕ) (k : ℕ) (acts : Lis
   pub deeds : AreOfDeeds before
   pub stands : Stands V sh w k slot item
 
--- a put that succeeds ends with the mark of its key's item; there are no other marks, and the hand stands still
+-- the acts after the sweep: a put that succeeds ends with the mark of its key's item; there are no other marks, and none is one of the hand
 abbrev pub Marks : ℕ → Shape → List ℕ → Call → Answer → List Act → Type 0
 Marks V sh w (PutCall k v) (answer.Put (Ok told)) acts = MarksLast V sh w k acts
 Marks V sh w (PutCall k v) (answer.Put (Err why)) acts = AreOfDeeds acts

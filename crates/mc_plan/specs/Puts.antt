@@ -11,7 +11,7 @@ use Rattle.mc_words.specs.Standing.{Names, Stands, IsAbsent, IsFree}
 use Rattle.mc_core.specs.States.{State}
 use Rattle.mc_core.specs.declared.act.Act.{Act}
 use Rattle.mc_plan.specs.Laws.{IsValue}
-use Rattle.mc_plan.specs.Making.{IsQuiet, Makes, left}
+use Rattle.mc_plan.specs.Making.{IsQuiet, KeepsNamed, Makes, left}
 use Rattle.mc_plan.specs.Moves.{AreKeys}
 use Rattle.mc_plan.specs.Plans.{first_place, fill_acts, moves_acts}
 
@@ -27,13 +27,7 @@ pub record CanPut (V : ℕ) (sh : Shape) (w : List ℕ) (k i : ℕ) (places : Li
 pub record TakesItem (sh : Shape) (w later : List ℕ) (i : ℕ) : Type 0 where
   pub taken : (q : ℕ) × Names sh later q i
   pub free : (j : ℕ) → j ≢ i → IsFree sh w j → IsFree sh later j
-  pub named : (q j : ℕ) → Names sh w q j → (p : ℕ) × Names sh later p j
-
--- the item is free, and each other is free or named as it was
-pub record GivesItem (sh : Shape) (w later : List ℕ) (i : ℕ) : Type 0 where
-  pub freed : IsFree sh later i
-  pub free : (j : ℕ) → IsFree sh w j → IsFree sh later j
-  pub named : (q j : ℕ) → j ≢ i → Names sh w q j → (p : ℕ) × Names sh later p j
+  pub named : KeepsNamed sh w later
 
 -- the moves of the chain, and then a fill of its first place
 abbrev pub put_acts : ℕ → Shape → List ℕ → ℕ → List ℕ → ℕ → List Place → Place → List Act

@@ -135,7 +135,7 @@ impl Books {
         self.end(plan, item, 2 * path.places.len() as u64 + 2);
     }
 
-    /// Plans the put of a key that is not there, if an item is free.
+    /// Plans the put of a key that is not there: it is refused where no path leads to a hole, and waits where no item is free.
     fn store<const V: usize, P: Peek>(
         &mut self,
         peek: &mut P,

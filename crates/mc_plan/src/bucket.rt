@@ -1,5 +1,5 @@
-ghost use Rattle.std.specs.Prelude.{ℕ, ◌≡◌, ◌≢◌, ◌⊎◌, ◌+◌, ◌*◌, ◌<◌, IfSome, IfNone, MatchOption};
-ghost use Rattle.mc_words.specs.Chains.{IsHole, tag_in};
+ghost use Rattle.std.specs.Prelude.{ℕ, ◌≡◌, ◌≢◌, ◌+◌, ◌*◌, ◌<◌, IfSome, MatchOption};
+ghost use Rattle.mc_words.specs.Chains.{tag_in};
 ghost use Rattle.mc_words.specs.Checks.{shape_of};
 ghost use Rattle.mc_words.specs.Keys.{alternate};
 ghost use Rattle.mc_words.specs.Places.{slot};

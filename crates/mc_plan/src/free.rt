@@ -1,5 +1,5 @@
 //! Which items are free.
-ghost use Rattle.std.specs.Prelude.{ℕ, ◌≡◌, ◌≢◌, ◌<◌, ◌≤◌, IfOk, IfSome, IfNone};
+ghost use Rattle.std.specs.Prelude.{ℕ, ◌≡◌, ◌<◌, ◌≤◌, IfOk, IfSome, IfNone};
 
 use std::alloc::{AllocError, Global};
 use std::cmp::Reverse;

@@ -1,4 +1,4 @@
-ghost use Rattle.std.specs.Prelude.{ℕ, ◌≡◌, ◌<◌, Some, Contains, IfNone, IfSome, List, length, slice_get, take};
+ghost use Rattle.std.specs.Prelude.{ℕ, ◌≡◌, ◌<◌, Some, Contains, IfNone, IfSome, List, slice_get, take};
 ghost use Rattle.mc_words.specs.declared.shape.Shape.{Shape};
 ghost use Rattle.mc_words.specs.Chains.{IsChain};
 ghost use Rattle.mc_words.specs.Places.{IsPlace, slot_number};
@@ -43,7 +43,8 @@ impl Path {
         }
     }
 
-    /// The path up to the victim's place, which is empty once the victim is taken out.
+    /// The path up to the victim's place, which is empty once the victim is taken out. It stays as it is where that is none of
+    /// its places.
     pub fn cut_at(self, victim: Place) -> Path
         ensures cut { IsCut victim self.places.items self.hole result.places.items result.hole }
         ensures chain { (sh : Shape) (w later : List ℕ) (k : ℕ) → IsPlace sh victim → IsChain sh w k self.places.items self.hole → SetsSlot sh w later (slot_number victim) 0 → IsChain sh later k result.places.items result.hole }

@@ -1,10 +1,10 @@
-ghost use Rattle.std.specs.Prelude.{ℕ, ◌≡◌, ◌+◌, ◌-◌, ◌*◌, ◌^◌, ◌<◌, ◌≤◌, List, length, vec_capacity, Bool, IfSome, IfNone};
+ghost use Rattle.std.specs.Prelude.{ℕ, ◌≡◌, ◌+◌, ◌-◌, ◌^◌, ◌<◌, ◌≤◌, List, length, vec_capacity, Bool, IfSome, IfNone};
 ghost use Rattle.mc_words.specs.declared.place.Place.{Place};
 ghost use Rattle.mc_words.specs.declared.shape.Shape.{Shape};
 ghost use Rattle.mc_words.specs.Chains.{IsChain, NoChain};
 ghost use Rattle.mc_words.specs.Checks.{shape_of};
 ghost use Rattle.mc_plan.specs.Readable.{HasSlots, IsFilled};
-ghost use Rattle.mc_plan.specs.Search.{entry_at, depth_at, IsQueue, AreFull, IsFound, IsSearching, IsExpanding, GoesBack};
+ghost use Rattle.mc_plan.specs.Search.{entry_at, depth_at, IsQueue, AreFull, IsFound, IsSearching, GoesBack};
 
 use crate::bucket::{hole_in, other_bucket};
 use crate::peek::{Peek, slot_at};

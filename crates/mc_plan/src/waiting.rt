@@ -3,10 +3,10 @@ use crate::answer::{Put, PutError};
 use crate::path::Path;
 use crate::sweep::Sweep;
 
-/// How far a put is once its key was looked for.
+/// How far a put is once it was begun.
 #[derive(Drop)]
 pub(crate) enum Start {
-    /// It is planned, and this is its answer.
+    /// It is planned or refused, and this is its answer.
     Planned(Result<Put, PutError>),
     /// A path leads to a hole, and every item is in use.
     Waits(Path),

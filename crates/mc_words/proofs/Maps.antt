@@ -4,7 +4,7 @@ use Rattle.std.specs.List.{AllByRecursion, IsDistinct}
 use Rattle.std.specs.Map.{lookup, keys_of}
 use Rattle.std.proofs.lemmas.Bool.{eqb-true, eq-eqb, ne_eqb, cases_Bool, cond-true, cond-false}
 use Rattle.std.proofs.lemmas.Map.Keys.{IsDistinct-cons, IsDistinct-head, IsDistinct-tail}
-use Rattle.mc_words.specs.History.{key_of, without, changed, map_from, held, MayFollow, LegalFrom}
+use Rattle.mc_words.specs.History.{without, changed, map_from, held, MayFollow, LegalFrom}
 use Rattle.mc_words.specs.declared.history.Change.{Change}
 use Rattle.mc_words.specs.declared.history.Change.TheVariants.{Put, Remove, Evict}
 
@@ -45,6 +45,11 @@ held-remove h k = rw (map_from-push [] h (Remove k)) (lookup-without_same k (map
 pub held-evict : {n : ℕ} (h : List (Change n)) (k : ℕ) → held (h ++ Evict k ∷ []) k ≡ None
 unfolding held
 held-evict h k = rw (map_from-push [] h (Evict k)) (lookup-without_same k (map_from [] h))
+
+abbrev pub key_of : {n : ℕ} → Change n → ℕ
+key_of (Put k v) = k
+key_of (Remove k) = k
+key_of (Evict k) = k
 
 lookup-changed_other : {n : ℕ} (m : List (ℕ × List ℕ)) (c : Change n) (q : ℕ) → q ≢ key_of c → lookup (λ x. eqb q x) (changed m c) ≡ lookup (λ x. eqb q x) m
 lookup-changed_other m (Put k v) q ne = rw (ne_eqb q k ne) (lookup-without_other k q m ne)

@@ -4,9 +4,7 @@ use Rattle.mc_words.specs.declared.history.Change.{Change}
 use Rattle.mc_words.specs.declared.history.Change.TheVariants.{Put, Remove, Evict}
 use Rattle.mc_words.specs.declared.shape.Shape.{Shape}
 use Rattle.mc_words.specs.Chains.{IsLeastLength, NoChain}
-use Rattle.mc_words.specs.History.{held, key_count, IsLegal}
-use Rattle.mc_words.specs.Places.{version}
-use Rattle.mc_words.specs.Standing.{Agrees}
+use Rattle.mc_words.specs.History.{held, key_count}
 
 -- a table between two calls: its words, the item at which the hand stands, its history, and how many version changes were made
 pub record Quiet (V : ℕ) : Type 0 where
@@ -14,13 +12,6 @@ pub record Quiet (V : ℕ) : Type 0 where
   pub hand : ℕ
   pub history : List (Change V)
   pub changes : ℕ
-
--- the words agree with the history, which is legal; no version and no moment is more than the version changes
-pub record IsQuiet (V : ℕ) (sh : Shape) (s : Quiet V) : Type 0 where
-  pub agrees : Agrees V sh s.words None s.history
-  pub legal : IsLegal sh.items s.history
-  pub versions : (t : ℕ) → t < sh.stripes → version s.words t ≤ s.changes
-  pub moments : 2 * length s.history ≤ s.changes
 
 -- the history grew by these changes, and this many version changes were made
 pub record Grows (V : ℕ) (s t : Quiet V) (new : List (Change V)) (steps : ℕ) : Type 0 where

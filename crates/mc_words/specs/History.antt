@@ -6,11 +6,6 @@ use Rattle.mc_words.specs.declared.history.Change.TheVariants.{Put, Remove, Evic
 use Rattle.mc_words.specs.declared.history.Reply.{Reply}
 use Rattle.mc_words.specs.declared.history.Reply.TheVariants.{Found, Absent, Busy}
 
-abbrev pub key_of : {V : ℕ} → Change V → ℕ
-key_of (Put k v) = k
-key_of (Remove k) = k
-key_of (Evict k) = k
-
 -- the pairs without that of the key
 abbrev pub without : ℕ → List (ℕ × List ℕ) → List (ℕ × List ℕ)
 without k [] = []

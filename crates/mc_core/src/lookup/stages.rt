@@ -1,6 +1,6 @@
 //! One method a stage of a look-up. A caller that knows the stage may call it in place of `after`.
 ghost use Rattle.std.specs.Prelude.{◌≡◌, ◌+◌, ◌<◌, ℕ, MatchOption, MatchBool, Some, None};
-ghost use Rattle.mc_core.specs.Machine.{shape_for, stage_of, place_of, slots_from, values_from, ended, IsRestart, Takes, Restarts};
+ghost use Rattle.mc_core.specs.Machine.{stage_of, place_of, slots_from, values_from, ended, IsRestart, Takes, Restarts};
 ghost use Rattle.mc_core.specs.Met.{IsMet};
 ghost use Rattle.mc_core.specs.declared.access.Access.{Access};
 ghost use Rattle.mc_core.specs.declared.stage.Stage.{Stage};

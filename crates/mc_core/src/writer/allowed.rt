@@ -1,11 +1,11 @@
 //! Which act may come next, one function a phase.
-ghost use Rattle.std.specs.Prelude.{◌≡◌, ◌+◌, ◌<◌, ◌≤◌, ◌/◌, ◌↔◌, ℕ, Some, length, IsTrue, MatchOption, take, List};
+ghost use Rattle.std.specs.Prelude.{◌≡◌, ◌+◌, ◌<◌, ◌≤◌, ◌/◌, ◌↔◌, ℕ, Some, length, IsTrue, MatchOption, take};
 ghost use Rattle.mc_words.specs.Keys.{tag_of, alternate, slot_word, IsBucketOf};
 ghost use Rattle.mc_words.specs.Chains.{IsHole};
 ghost use Rattle.mc_words.specs.Places.{IsPlace, payload, slot, slot_number};
 ghost use Rattle.mc_words.specs.Standing.{Stands, IsAbsent, IsPresent, HasFree};
 ghost use Rattle.mc_core.specs.Acts.{MayFrom, MayOpen};
-ghost use Rattle.mc_core.specs.Phases.{Phase, Quiet, Filling, Keyed, Renewing, Removing, Moving, Moved};
+ghost use Rattle.mc_core.specs.Phases.{Quiet, Filling, Keyed, Renewing, Removing, Moving, Moved};
 ghost use Rattle.mc_core.specs.Tables.{StandsAt};
 ghost use Rattle.mc_core.specs.Writers.{shape_at, words_at, UsedWell, StandsWell, IsFreeItem};
 

@@ -1,7 +1,7 @@
 //! Making an act that is allowed, one function an act.
-ghost use Rattle.std.specs.Prelude.{◌≡◌, ◌+◌, ◌-◌, ◌^◌, ◌<◌, ◌≤◌, ℕ, List, [], ◌∷◌, OnOk, OnErr, length, take};
+ghost use Rattle.std.specs.Prelude.{◌≡◌, ◌+◌, ◌-◌, ◌^◌, ◌<◌, ℕ, List, [], ◌∷◌, OnOk, OnErr};
 ghost use Rattle.mc_words.specs.Keys.{stripe_of};
-ghost use Rattle.mc_words.specs.Places.{version, moment, payload};
+ghost use Rattle.mc_words.specs.Places.{version, moment};
 ghost use Rattle.mc_core.specs.Acts.{IsAllowed};
 ghost use Rattle.mc_core.specs.Inner.{StateHolds};
 ghost use Rattle.mc_core.specs.Phases.{opened, Closing};
