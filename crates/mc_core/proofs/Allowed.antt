@@ -1,8 +1,6 @@
 -- What is allowed, and what holds, where the progress of a deed is known.
-use Rattle.std.proofs.Common.{ℕ, ◌≡◌, ◌*◌, ◌<◌, List, Option, subst, sym, ◌∙◌, arith}
-use Rattle.mc_words.specs.Places.{IsPlace, slot_number}
+use Rattle.std.proofs.Common.{ℕ, ◌≡◌, List, Option, subst, sym, ◌∙◌}
 use Rattle.mc_words.specs.Standing.{Names, Stands, OnlyAt}
-use Rattle.mc_words.specs.declared.place.Place.{Place}
 use Rattle.mc_words.specs.declared.shape.Shape.{Shape}
 use Rattle.mc_core.specs.Acts.{MayFrom}
 use Rattle.mc_core.specs.Writers.{phase_at}
@@ -11,10 +9,6 @@ use Rattle.mc_core.specs.declared.progress.Progress.{Progress}
 
 pub may_at : (V : ℕ) (sh : Shape) (w : List ℕ) (hand : ℕ) (cleared : Option ℕ) (xs : List ℕ) (p q : Progress) (a : Act) → p ≡ q → MayFrom V sh w hand cleared (phase_at xs p) a → MayFrom V sh w hand cleared (phase_at xs q) a
 may_at V sh w hand cleared xs p q a e m = subst (λ (y : Progress). MayFrom V sh w hand cleared (phase_at xs y) a) e m
-
--- a slot whose number is one of the table is in the table
-pub number_place : (sh : Shape) (p : Place) → p.slot < 4 → slot_number p < 4 * sh.buckets → IsPlace sh p
-number_place sh p l n = record { in_table = omega arith; in_bucket = l }
 
 -- where a key stands once, no other slot names its item
 pub only_one : (V : ℕ) (sh : Shape) (w : List ℕ) (k q i p g : ℕ) → OnlyAt V sh w k q i → Stands V sh w k p g → (r : ℕ) → Names sh w r g → r ≡ p

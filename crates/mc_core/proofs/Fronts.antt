@@ -44,18 +44,6 @@ pub state_push : (V : ℕ) (sh : Shape) (acts : List Made) (m : Made) → state_
 unfolding state_of
 state_push V sh acts m = after_all-append sh (opening V sh) acts (m ∷ [])
 
-pub state_append : (V : ℕ) (sh : Shape) (acts more : List Made) → state_of V sh (acts ++ more) ≡ after_all sh (state_of V sh acts) more
-unfolding state_of
-state_append V sh acts more = after_all-append sh (opening V sh) acts more
-
-pub front_state : (V : ℕ) (sh : Shape) (acts : List Made) (f : ℕ) → front V sh acts f ≡ state_of V sh (take f acts)
-unfolding front state_of
-front_state V sh acts f = refl
-
-pub front_zero : (V : ℕ) (sh : Shape) (acts : List Made) → front V sh acts 0 ≡ opening V sh
-unfolding front
-front_zero V sh acts = refl
-
 -- the front of all acts is the state after them
 pub front_all : (V : ℕ) (sh : Shape) (acts : List Made) (f : ℕ) → length acts ≤ f → front V sh acts f ≡ state_of V sh acts
 unfolding front state_of
@@ -74,10 +62,6 @@ lawful_none V sh = tt
 pub lawful_push : (V : ℕ) (sh : Shape) (acts : List Made) (m : Made) → IsLawful V sh acts → IsAllowed sh (state_of V sh acts) m.act → IsLawful V sh (acts ++ m ∷ [])
 unfolding IsLawful state_of
 lawful_push V sh acts m l a = allowed_push sh (opening V sh) acts m l a
-
-pub lawful_take : (V : ℕ) (sh : Shape) (acts : List Made) (f : ℕ) → IsLawful V sh acts → IsLawful V sh (take f acts)
-unfolding IsLawful
-lawful_take V sh acts f l = allowed_take sh (opening V sh) f acts l
 
 -- the invariant holds at each front
 pub front_holds : (V : ℕ) (sh : Shape) (xs : List Made) (f : ℕ) → IsShape sh → IsLawful V sh xs → StateHolds sh (front V sh xs f)

@@ -66,10 +66,6 @@ made_one {V} old new e out before after same leads told = record {
       (next.0, (next.0, next.1, refl), next.3, (more.0, more.1, told ∙ ap (λ ys. before ++ ys) more.2));
 }
 
--- no event
-pub made_none : {V : ℕ} (old new : Parts V) (done : List (Done V)) → shape_of_parts {V = V} new ≡ shape_of_parts {V = V} old → ((seen : World V) → StandFor {V = V} old seen → StandFor {V = V} new seen) → HasMade {V = V} old new [] done done
-made_none {V} old new done same stays = record { shape = same; made = λ seen s. (seen, refl, stays seen s, ([], sym (append-nil seen.ended), sym (append-nil done))) }
-
 -- some events, and then some more
 pub made_then : {V : ℕ} (old mid new : Parts V) (es ds : List Event) (before between after : List (Done V)) → HasMade {V = V} old mid es before between → HasMade {V = V} mid new ds between after → HasMade {V = V} old new (es ++ ds) before after
 made_then {V} old mid new es ds before between after first second = record {

@@ -13,7 +13,6 @@ use Rattle.mc_core.specs.declared.event.Done.{Done}
 use Rattle.mc_core.specs.declared.event.Event.TheVariants as event
 use Rattle.mc_core.specs.declared.event.Stepped.{Stepped}
 use Rattle.mc_core.specs.declared.event.Stepped.TheVariants as stepped
-use Rattle.mc_core.specs.declared.event.Unlawful.{Unlawful}
 use Rattle.mc_core.specs.declared.event.Unlawful.TheVariants as unlawful
 use Rattle.mc_plan.specs.Clerks as clerks
 use Rattle.mc_plan.specs.Clerks.{Knows, IsOn, next_act, acts_left}
@@ -22,7 +21,7 @@ use Rattle.mc_plan.specs.declared.clerk.Clerk.{Clerk}
 use Rattle.mc_load.specs.declared.fault.Fault.TheVariants.{StillRunning}
 use Rattle.mc_load.specs.declared.player.Player.{Player}
 use Rattle.mc_load.specs.Replay.{Replay, Pending, AccessDoes, LookUpDoes}
-use Rattle.mc_load.specs.Players.{shape_in, most_steps, HasRoom, IsAt, FitsCall, Fits, ReadsSoFar}
+use Rattle.mc_load.specs.Players.{shape_in, most_steps, IsAt, FitsCall, Fits, ReadsSoFar}
 use Rattle.mc_load.specs.Texts.{done_line, end_text}
 use Rattle.mc_load.proofs.Bounds.{made_more}
 
@@ -121,16 +120,6 @@ pub no_reader : (V : ℕ) (old : Player V) (most r : ℕ) (s : Replay V) → Fit
 no_reader V old most r s fits past =
     let at = at_of V old most s.running s.world fits in omega (arith, past, at.readers)
 
--- a beginning is refused in no other way
-pub begin_refused : (V : ℕ) (old : Player V) (most r k : ℕ) (s : Replay V) (why : Unlawful) → HasRoom most → Fits V old most s → r < old.readers → Refuses (shape_in old) s.world (event.Begin r k) why → why ≡ unlawful.StillRunning
-begin_refused V old most r k s unlawful.NotLawful room fits there refused = absurd refused
-begin_refused V old most r k s unlawful.NoReader room fits there refused =
-    let at = at_of V old most s.running s.world fits in absurd (omega (arith, there, at.readers, refused))
-begin_refused V old most r k s unlawful.StillRunning room fits there refused = refl
-begin_refused V old most r k s unlawful.Limit room fits there refused =
-    let at = at_of V old most s.running s.world fits in absurd (refused.1 (omega (arith, room, at.events)))
-begin_refused V old most r k s unlawful.NoMemory room fits there refused = absurd refused
-
 -- ---- an access
 -- the world after an access, in the replay
 pub after_access : {V : ℕ} → Replay V → World V → Replay V
@@ -164,16 +153,6 @@ reads_more V old new most r n m x sound width so_far same shows steps =
       made = more.0;
       few = omega (arith, more.1);
     }
-
--- an access is refused only where no look-up runs
-pub access_refused : (V : ℕ) (old : Player V) (most r n : ℕ) (m : Replay V) (why : Unlawful) → HasRoom most → ReadsSoFar V old most r n m → r < old.readers → Refuses (shape_in old) m.world (event.Read r) why → (why ≡ unlawful.NotLawful) × (slice_get m.world.readers r ≡ Some None)
-access_refused V old most r n m unlawful.NotLawful room so_far there refused = (refl, refused)
-access_refused V old most r n m unlawful.NoReader room so_far there refused =
-    let at = at_of V old (most + n) m.running m.world so_far.fits in absurd (omega (arith, there, at.readers, refused))
-access_refused V old most r n m unlawful.StillRunning room so_far there refused = absurd refused
-access_refused V old most r n m unlawful.Limit room so_far there refused =
-    let at = at_of V old (most + n) m.running m.world so_far.fits in absurd (refused.1 (omega (arith, room, at.events, so_far.few)))
-access_refused V old most r n m unlawful.NoMemory room so_far there refused = absurd refused
 
 -- ---- what every player has
 pub sound_of : (V : ℕ) (player : Player V) (most : ℕ) (w : World V) → IsAt V player most w → IsShape (shape_in player)

@@ -17,7 +17,6 @@ use Rattle.mc_core.specs.States.{State}
 use Rattle.mc_core.specs.Worlds.{World, Steps, Runs, HasChanges, bit_of, given_of}
 use Rattle.mc_core.specs.declared.act.Act.{Act}
 use Rattle.mc_core.specs.declared.act.Act.TheVariants.{Open, Slot, Item, Moment, Close, Hand, Mark}
-use Rattle.mc_core.specs.declared.event.Event.{Event}
 use Rattle.mc_core.specs.declared.event.Event.TheVariants as event
 use Rattle.mc_plan.specs.Clerks as clerks
 use Rattle.mc_plan.specs.Clerks.{Call, Answered, Knows, IsOn, next_act, acts_left}
@@ -32,9 +31,6 @@ use Rattle.mc_load.specs.Players.{shape_in, most_steps, IsAt, IsIdle, IsInCall, 
 use Rattle.mc_load.specs.Replay.{pending}
 
 -- ---- acts of the writer in a world
-event_of : Made → Event
-event_of m = event.Write m.act
-
 -- no act is made
 pub makes_none : (V : ℕ) (sh : Shape) (w : World V) → WriterMakes V sh w [] w
 makes_none V sh w = (refl, sym (append-nil w.acts))

@@ -1,7 +1,7 @@
 -- What a command leaves, from what the player's calls leave.
-use Rattle.std.proofs.Common.{◌≡◌, ℕ, ◌+◌, ◌-◌, ◌<◌, ◌≤◌, true, false, List, [], ◌∷◌, ◌++◌, Option, Some, None, Result, Ok, Err, refl, sym, ap, ◌∙◌, subst, inl, inr, arith, append-nil}
+use Rattle.std.proofs.Common.{◌≡◌, ℕ, ◌+◌, ◌-◌, ◌<◌, true, false, List, [], ◌∷◌, ◌++◌, Option, Some, None, Result, Ok, Err, refl, sym, ap, ◌∙◌, subst, inl, inr, arith, append-nil}
 use Rattle.std.proofs.lemmas.Bool.{false≢true}
-use Rattle.std.specs.Prelude.{IsSome, OnOk, OnErr, is_some, ◌^◌}
+use Rattle.std.specs.Prelude.{OnOk, OnErr, is_some, ◌^◌}
 use Rattle.mc_words.specs.declared.history.Reply.{Reply}
 use Rattle.mc_words.specs.declared.shape.Shape.{Shape}
 use Rattle.mc_core.specs.Lists.{state_of}
@@ -111,16 +111,6 @@ begin_begun V old new most call s text none begins is =
     (inl (none, refl, inr (is, refl, unanswered V new most (pending call (state_of V (shape_in old) s.world.acts)) s.world (shape_in old) begins.1 begins.0)), (begins.0, fits_more V new most (most + most_steps) (Some (pending call (state_of V (shape_in old) s.world.acts))) s.world (omega arith) begins.1))
 
 -- ---- one act of a call after the other
--- no act was made yet
-pub acts_none : (V : ℕ) (player : Player V) (most : ℕ) (s : Replay V) → Fits V player most s → ActsSoFar V player most 0 s
-acts_none V player most s fits =
-    let here : most + 0 ≡ most = omega arith in
-    record { fits = subst (λ (n : ℕ). FitsCall V player n s.running s.world) (sym here) fits; few = few s.running fits; past = omega arith }
-  where
-    few : (running : Option (Pending V)) → FitsCall V player most running s.world → IsSome running → 0 + acts_left player.clerk ≤ most_steps
-    few None fits some = absurd (false≢true some)
-    few (Some p) fits some = omega (arith, fits.0.few)
-
 -- the call that runs, where the clerk has an act to make
 pub runs_in : (V : ℕ) (player : Player V) (most n : ℕ) (m : Replay V) (p : Pending V) → HasRoom most → ActsSoFar V player most n m → m.running ≡ Some p → IsRunning V player (most + n) p m.world × (most + n + acts_left player.clerk < 2 ^ 64 - 1)
 runs_in V player most n m p room so_far runs =

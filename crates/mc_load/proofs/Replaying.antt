@@ -1,7 +1,7 @@
 -- The lines of a replay, one after the other.
 use Rattle.std.proofs.Common.{◌≡◌, ℕ, ◌+◌, ◌-◌, ◌^◌, ◌<◌, ◌≤◌, ◌∙◌, true, false, Result, List, [], ◌∷◌, ◌++◌, Option, Some, None, Ok, Err, refl, sym, ap, subst, length, take, arith, inl, inr, take_all, append_assoc, append-nil, length-append}
 use Rattle.std.proofs.lemmas.Bool.{false≢true}
-use Rattle.std.proofs.KnownBytes.{Appends-trans, Appends-nil, Appends-kept, Keeps-refl}
+use Rattle.std.proofs.KnownBytes.{Appends-trans, Appends-nil, Appends-kept}
 use Rattle.std.specs.Io.BufRead.{first_line, drop_through}
 use Rattle.std.specs.Io.KnownBytes.{Keeps, Appends}
 use Rattle.mc_words.specs.declared.shape.Shape.{Shape}
@@ -66,11 +66,6 @@ one_line_more before = omega arith
 
 pub has_room : (before : ℕ) → before < 2 ^ 40 → HasRoom (most_before before)
 has_room before few = omega (arith, few)
-
--- a line that was not done
-pub stops_undone : (V : ℕ) (sh : Shape) (before : ℕ) (s t : Replay V) (a b c : Option (List ℕ)) → PlaysKnown V sh before s t a b c c (Err NoMemory)
-stops_undone V sh before s t None b c = tt
-stops_undone V sh before s t (Some x) b c = Keeps-refl c
 
 -- the first line of the bytes, refused, with its answers written
 refused_line : (V : ℕ) (sh : Shape) (before : ℕ) (s t : Replay V) (line text : List ℕ) (n : ℕ) (x : List ℕ) (b c d : Option (List ℕ)) (fault : Fault) → GivesLine (Some x) b line (Ok true)

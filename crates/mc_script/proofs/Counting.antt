@@ -17,10 +17,6 @@ pub record Counted (whole rest : List (List ℕ)) (i : ℕ) (are_good : Bool) (f
   pub good : are_good ≡ list_all is_number done
   pub values : are_good ≡ true → take i found ≡ map (digits_value 10) done
 
--- no word is read yet
-pub counted_none : (whole : List (List ℕ)) (found : List ℕ) → Counted whole whole 0 true found
-counted_none whole found = record { done = []; first = refl; count = refl; good = refl; values = λ _. refl }
-
 -- a word that is a number has its value
 number_some : (word : List ℕ) (n : ℕ) → Some n ≡ number_of word → (is_number word ≡ true) × (n ≡ digits_value 10 word)
 number_some word n e = at (is_number word) refl e

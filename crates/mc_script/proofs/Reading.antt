@@ -1,12 +1,12 @@
 -- What reading a line gives, from the bytes that were taken.
-use Rattle.std.proofs.Common.{◌≡◌, ◌≢◌, ℕ, zero, suc, ◌+◌, ◌<◌, ◌≤◌, inl, inr, true, false, All, List, [], ◌∷◌, ◌++◌, length, Option, Some, None, arith, refl, sym, ap, ◌∙◌, length-append, append-nil, Ok, Err, not, ◌==◌}
+use Rattle.std.proofs.Common.{◌≡◌, ◌≢◌, ℕ, zero, suc, ◌+◌, ◌<◌, ◌≤◌, inl, inr, true, false, All, List, [], ◌∷◌, ◌++◌, length, Option, Some, None, arith, sym, ap, ◌∙◌, length-append, append-nil, Ok, Err, not, ◌==◌}
 use Rattle.std.specs.Io.BufRead.{first_line, drop_through, strip_last}
-use Rattle.std.specs.Io.KnownBytes.{Consumes, Keeps, IsAtEnd}
+use Rattle.std.specs.Io.KnownBytes.{Consumes, IsAtEnd}
 use Rattle.std.proofs.lemmas.List.Elements.{All-append}
 use Rattle.std.proofs.lemmas.Bool.Decides.{nat_tests}
 use Rattle.mc_script.specs.Lines.{is_over, IsUnfinished, GivesLine}
 use Rattle.mc_script.specs.declared.line.ReadFault.TheVariants.{TooLong}
-use Rattle.std.proofs.KnownBytes.{Consumes-nil, Consumes-trans, Consumes-kept}
+use Rattle.std.proofs.KnownBytes.{Consumes-trans}
 use Rattle.mc_script.proofs.Cut.{over_cases, over_stays, last_line, ended_line, fits}
 
 -- one more byte that is no line feed
@@ -17,10 +17,6 @@ plain_more line b plain other = All-append (λ x. x ≢ 10) line (b ∷ []) plai
     one zero d lt = other
     one (suc k) d lt = absurd (omega arith)
 
--- nothing is read yet
-pub unfinished_none : (a : Option (List ℕ)) → IsUnfinished a a []
-unfinished_none a = record { taken = Consumes-nil a; plain = λ k d lt. absurd (omega arith); short = refl }
-
 -- a line grows by a byte that is no line feed
 pub unfinished_more : (a b c : Option (List ℕ)) (line : List ℕ) (x : ℕ) → IsUnfinished a b line → Consumes b c (x ∷ []) → x ≢ 10 → is_over (line ++ x ∷ []) ≡ false
     → IsUnfinished a c (line ++ x ∷ [])
@@ -29,10 +25,6 @@ unfinished_more a b c line x so_far took other short = record {
   plain = plain_more line x so_far.plain other;
   short = short;
 }
-
--- a failed read takes nothing
-pub unfinished_kept : (a b c : Option (List ℕ)) (line : List ℕ) → IsUnfinished a b line → Keeps b c → IsUnfinished a c line
-unfinished_kept a b c line so_far kept = record { taken = Consumes-kept a b c line so_far.taken kept; plain = so_far.plain; short = so_far.short }
 
 -- the input ended, and the line is too long
 pub gives_too_long_end : (a b c : Option (List ℕ)) (line : List ℕ) → IsUnfinished a b line → Consumes b c [] → IsAtEnd c → 4096 < length line → GivesLine a c line (Err TooLong)

@@ -5,4 +5,3 @@ pub mod Frames
 pub mod Count
 pub mod Apart
 pub mod Powers
-pub mod Holes
