@@ -54,6 +54,18 @@ impl Write for Narrow {
     }
 }
 
+/// Whether reading gives these lines one after the other, and then no more.
+fn gives_lines(bytes: &[u8], lines: &[&[u8]]) -> bool {
+    let mut input = bytes;
+    let mut line = Line::new();
+    for want in lines {
+        if read_line(&mut input, &mut line) != Ok(true) || line.as_slice() != *want {
+            return false;
+        }
+    }
+    read_line(&mut input, &mut line) == Ok(false) && read_line(&mut input, &mut line) == Ok(false)
+}
+
 #[test]
 fn bytes_and_their_lines(rt: HostRuntime) {
     let cases: [(&[u8], &[&[u8]]); 12] = [
@@ -71,14 +83,7 @@ fn bytes_and_their_lines(rt: HostRuntime) {
         (b"\0\xff\n \t\n", &[b"\0\xff", b" \t"]),
     ];
     for (bytes, lines) in cases {
-        let mut input = bytes;
-        let mut line = Line::new();
-        for want in lines {
-            assert!(rt; read_line(&mut input, &mut line) == Ok(true));
-            assert_eq!(rt; line.as_slice(), *want);
-        }
-        assert!(rt; read_line(&mut input, &mut line) == Ok(false));
-        assert!(rt; read_line(&mut input, &mut line) == Ok(false));
+        assert!(rt; gives_lines(bytes, lines), "{bytes:?}");
     }
 }
 

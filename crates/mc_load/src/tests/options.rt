@@ -1,4 +1,5 @@
 use super::{Case, PLAIN, first_wrong, run};
+use std::alloc::Global;
 use std::str;
 
 #[test]
@@ -73,6 +74,25 @@ fn texts_of_the_command_line(rt: HostRuntime) {
     }
 }
 
+/// The first option that the text doesn't name.
+fn missing_in(text: &str) -> Option<&'static str> {
+    for option in [
+        "--buckets",
+        "--items",
+        "--depth",
+        "--tries",
+        "--limit",
+        "--mix",
+        "--readers",
+        "--words",
+    ] {
+        if !text.contains(option) {
+            return Some(option);
+        }
+    }
+    None
+}
+
 #[test]
 fn help_goes_to_standard_output(rt: HostRuntime) {
     for words in [["mcstep", "--help"], ["mcstep", "-h"]] {
@@ -80,20 +100,18 @@ fn help_goes_to_standard_output(rt: HostRuntime) {
         assert_eq!(rt; outcome.status, 0);
         assert!(rt; outcome.errors.is_empty());
         let text = str::from_utf8(outcome.output.as_slice()).unwrap_or("");
-        for option in [
-            "--buckets",
-            "--items",
-            "--depth",
-            "--tries",
-            "--limit",
-            "--mix",
-            "--readers",
-            "--words",
-        ] {
-            assert!(rt; text.contains(option), "{option} is missing");
-        }
+        assert_eq!(rt; missing_in(text), None);
         assert!(rt; !text.contains("absent"));
     }
+}
+
+/// Whether a program that these words start reads nothing, writes nothing, and tells the text with status 2.
+fn is_refused(alloc: Global, words: &[&str], script: &[u8], text: &[u8]) -> bool {
+    let outcome = run(alloc, words, script);
+    outcome.status == 2
+        && outcome.errors.as_slice() == text
+        && outcome.output.is_empty()
+        && outcome.unread == script.len()
 }
 
 #[test]
@@ -123,13 +141,8 @@ fn refused_shapes(rt: HostRuntime) {
         (&["mcstep", "--items", "0", "--buckets", "3"], buckets),
     ];
     for (words, text) in cases {
-        for script in [b"".as_slice(), b"get 0\n".as_slice()] {
-            let outcome = run(rt.alloc(), words, script);
-            assert_eq!(rt; outcome.status, 2);
-            assert_eq!(rt; outcome.errors.as_slice(), text);
-            assert!(rt; outcome.output.is_empty());
-            assert_eq!(rt; outcome.unread, script.len());
-        }
+        assert!(rt; is_refused(rt.alloc(), words, b"", text));
+        assert!(rt; is_refused(rt.alloc(), words, b"get 0\n", text));
     }
 }
 
