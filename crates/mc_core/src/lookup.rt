@@ -6,7 +6,7 @@ ghost use Rattle.mc_core.specs.Stages.{slot_at, item_at, word_at, tries_owed};
 
 use crate::access::Access;
 use crate::stage::Stage;
-use mc_words::{Checked, Place, Reply};
+use mc_words::{Checked, Reply};
 
 mod stages;
 
