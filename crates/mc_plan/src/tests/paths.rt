@@ -65,6 +65,7 @@ fn shortest(checked: &Checked, table: &Table, bucket: u32, passed: u32, depth: u
         return best;
     }
     for slot in 0..4 {
+        // The bucket itself was passed, so a slot that leads nowhere is left out below.
         let next = onward(checked, table, bucket, slot).unwrap_or(bucket);
         let mark = 1 << (next % 32);
         if passed & mark == 0 {
