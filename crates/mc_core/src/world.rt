@@ -67,6 +67,7 @@ impl<const V: usize> World<V> {
     /// Makes one event, or refuses it.
     pub fn step(&mut self, event: Event) -> Result<Stepped<V>, Unlawful>
         ensures ok { IfOk result (λ out. (seen : worlds.World V) → Shows {V = V} self.old seen → (next : worlds.World V) × worlds.Steps V self.old.shape seen event next × worlds.Gives {V = V} seen event next out × Shows {V = V} self.new next) }
+        ensures told { IfOk result (λ out. (seen : worlds.World V) → Shows {V = V} self.old seen → worlds.IsReached V self.old.shape seen → (next : worlds.World V) × worlds.Steps V self.old.shape seen event next × worlds.Gives {V = V} seen event next out × Shows {V = V} self.new next × worlds.IsReached V self.old.shape next × All (worlds.IsTrueEnd V self.old.shape next) next.ended) }
         ensures refused { IfErr result (λ why. (seen : worlds.World V) → Shows {V = V} self.old seen → worlds.Refuses {V = V} self.old.shape seen event why) }
         ensures unchanged { OnErr result (self.new ≡ self.old) }
         ensures shape { self.new.shape ≡ self.old.shape }

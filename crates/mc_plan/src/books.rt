@@ -129,6 +129,7 @@ impl Books {
         ensures keys { AreKeys V (shape_of self.old.checked) (P.words peek.old) path.now.places.items }
         ensures books { self.new ≡ record self.old { changes = self.old.changes + (2 * length path.now.places.items + 2) } }
         ensures same { P.words peek.new ≡ P.words peek.old }
+        ensures kept { peek.new ≡ peek.old }
     {
         add_moves::<V, P>(&self.checked, peek, plan, path);
         add_fill(&self.checked, plan, key, value, item, path.first());
@@ -152,6 +153,7 @@ impl Books {
         ensures fits { array_vec_len plan.new ≤ 64 }
         ensures shape { self.new.checked ≡ self.old.checked }
         ensures same { P.words peek.new ≡ P.words peek.old }
+        ensures kept { peek.new ≡ peek.old }
     {
         let Some(path) = self.finder.path(peek, key) else {
             return Start::Planned(Err(PutError::NoPath));
@@ -182,6 +184,7 @@ impl Books {
         ensures wide { length value.now ≡ V }
         ensures shape { self.new.checked ≡ self.old.checked }
         ensures same { P.words peek.new ≡ P.words peek.old }
+        ensures kept { peek.new ≡ peek.old }
     {
         let most = 2 * (u64::from(self.checked.shape().depth) + 2);
         if self.is_spent(most) {
@@ -218,6 +221,7 @@ impl Books {
         ensures fits { array_vec_len plan.new ≤ 64 }
         ensures shape { self.new.checked ≡ self.old.checked }
         ensures same { P.words peek.new ≡ P.words peek.old }
+        ensures kept { peek.new ≡ peek.old }
     {
         let at = moment(&self.checked, peek) + 2;
         let evicted = key_at::<V, P>(&self.checked, peek, item);
@@ -248,6 +252,7 @@ impl Books {
         ensures fits { array_vec_len plan.new ≤ 64 }
         ensures shape { self.new.checked ≡ self.old.checked }
         ensures same { P.words peek.new ≡ P.words peek.old }
+        ensures kept { peek.new ≡ peek.old }
     {
         self.hand = waiting.sweep.hand();
         match waiting.sweep.victim() {
@@ -269,6 +274,7 @@ impl Books {
         ensures fits { array_vec_len plan.new ≤ 64 }
         ensures shape { self.new.checked ≡ self.old.checked }
         ensures same { P.words peek.new ≡ P.words peek.old }
+        ensures kept { peek.new ≡ peek.old }
     {
         if self.is_spent(2) {
             return Err(Spent);

@@ -66,6 +66,7 @@ impl<const V: usize> Clerk<V> {
         ensures left { acts_left self.new ≤ 2 * (shape_in self.new).items + 64 }
         ensures shape { shape_in self.new ≡ shape_in self.old }
         ensures same { P.words peek.new ≡ P.words peek.old }
+        ensures kept { peek.new ≡ peek.old }
     {
         self.plan.clear();
         self.made = 0;
@@ -87,6 +88,7 @@ impl<const V: usize> Clerk<V> {
         ensures left { acts_left self.new ≤ 64 }
         ensures shape { shape_in self.new ≡ shape_in self.old }
         ensures same { P.words peek.new ≡ P.words peek.old }
+        ensures kept { peek.new ≡ peek.old }
     {
         self.plan.clear();
         self.made = 0;
@@ -113,6 +115,7 @@ impl<const V: usize> Clerk<V> {
         ensures left { acts_left self.new ≤ 64 }
         ensures shape { shape_in self.new ≡ shape_in self.old }
         ensures same { P.words peek.new ≡ P.words peek.old }
+        ensures kept { peek.new ≡ peek.old }
     {
         let stage = mem::replace(&mut self.stage, Stage::Idle);
         if let Stage::Sweeping(waiting) = stage {
@@ -128,6 +131,7 @@ impl<const V: usize> Clerk<V> {
         ensures left { acts_left self.new < acts_left self.old }
         ensures shape { shape_in self.new ≡ shape_in self.old }
         ensures same { P.words peek.new ≡ P.words peek.old }
+        ensures kept { peek.new ≡ peek.old }
     {
         match &mut self.stage {
             Stage::Sweeping(waiting) => {

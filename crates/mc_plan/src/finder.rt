@@ -50,6 +50,7 @@ fn hole_in_either<P: Peek>(
     ensures first { IfNone result (IsFull (shape_of checked.now) (P.words peek.old) first) }
     ensures second { IfNone result (IsFull (shape_of checked.now) (P.words peek.old) second) }
     ensures same { P.words peek.new ≡ P.words peek.old }
+    ensures kept { peek.new ≡ peek.old }
 {
     if let Some(hole) = hole_in(checked, peek, first) {
         return Some(hole);
@@ -83,6 +84,7 @@ impl Finder {
         ensures none { IfNone result (NoChain self.old (P.words peek.old) key self.old.depth) }
         ensures finder { self.new ≡ self.old }
         ensures words { P.words peek.new ≡ P.words peek.old }
+        ensures kept { peek.new ≡ peek.old }
     {
         let checked = self.checked;
         let first = checked.first(key);

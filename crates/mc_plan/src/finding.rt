@@ -37,6 +37,7 @@ fn find_in<const V: usize, P: Peek>(
     ensures place { IfSome result (λ r. IsPlace (shape_of checked.now) r.0) }
     ensures none { IfNone result (IsNotAmong V (shape_of checked.now) (P.words peek.old) key bucket 4) }
     ensures same { P.words peek.new ≡ P.words peek.old }
+    ensures kept { peek.new ≡ peek.old }
 {
     for slot in 0..4 {
         let place = Place { bucket, slot };
@@ -66,6 +67,7 @@ pub fn find<const V: usize, P: Peek>(
     ensures place { IfSome result (λ r. IsPlace (shape_of checked.now) r.0) }
     ensures none { IfNone result (IsAbsent V (shape_of checked.now) (P.words peek.old) key) }
     ensures same { P.words peek.new ≡ P.words peek.old }
+    ensures kept { peek.new ≡ peek.old }
 {
     let tag = checked.tag(key);
     let first = checked.first(key);

@@ -35,6 +35,7 @@ fn key_in<const V: usize, P: Peek>(checked: &Checked, peek: &mut P, word: u64) -
     requires named { NamesSome (shape_of checked.now) word }
     ensures value { result ≡ item V (shape_of checked.now) (P.words peek.old) (item_in word) 0 }
     ensures same { P.words peek.new ≡ P.words peek.old }
+    ensures kept { peek.new ≡ peek.old }
 {
     let item = (word - 1) % (1 << 32);
     key_at::<V, P>(checked, peek, item as u32)
@@ -57,6 +58,7 @@ pub fn add_moves<const V: usize, P: Peek>(
     ensures many { array_vec_len acts.new ≡ array_vec_len acts.old + 4 * length path.now.places.items }
     ensures keys { AreKeys V (shape_of checked.now) (P.words peek.old) path.now.places.items }
     ensures same { P.words peek.new ≡ P.words peek.old }
+    ensures kept { peek.new ≡ peek.old }
 {
     let mut to = path.hole;
     let mut n = path.places.len();
@@ -83,6 +85,7 @@ pub fn plan_moves<const V: usize, P: Peek>(
     ensures items { result.items ≡ moves_acts V (shape_of checked.now) (P.words peek.old) path.now.places.items path.now.hole }
     ensures law { MakesRoom V (shape_of checked.now) (P.words peek.old) path.now.places.items path.now.hole result.items }
     ensures same { P.words peek.new ≡ P.words peek.old }
+    ensures kept { peek.new ≡ peek.old }
 {
     let mut acts = ArrayVec::new();
     add_moves::<V, P>(checked, peek, &mut acts, path);

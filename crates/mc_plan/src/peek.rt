@@ -13,7 +13,8 @@ pub trait Peek {
     fn word(&mut self, n: usize) -> u64
         requires { n < length (words self.old) }
         ensures value { result ≡ slice_index (words self.old) n }
-        ensures same { words self.new ≡ words self.old };
+        ensures same { words self.new ≡ words self.old }
+        ensures kept { self.new ≡ self.old };
 }
 
 /// The word of a slot.
@@ -23,6 +24,7 @@ pub(crate) fn slot_at<P: Peek>(checked: &Checked, peek: &mut P, place: Place) ->
     requires place { IsPlace (shape_of checked.now) place }
     ensures value { result ≡ slot (shape_of checked.now) (P.words peek.old) (slot_number place) }
     ensures same { P.words peek.new ≡ P.words peek.old }
+    ensures kept { peek.new ≡ peek.old }
 {
     peek.word(checked.slot_place(place))
 }
@@ -41,6 +43,7 @@ pub(crate) fn word_at<const V: usize, P: Peek>(
     requires word { j ≤ payload V }
     ensures value { result ≡ item V (shape_of checked.now) (P.words peek.old) i j }
     ensures same { P.words peek.new ≡ P.words peek.old }
+    ensures kept { peek.new ≡ peek.old }
 {
     peek.word(checked.item_place::<V>(i, j))
 }
@@ -52,6 +55,7 @@ pub(crate) fn key_at<const V: usize, P: Peek>(checked: &Checked, peek: &mut P, i
     requires item { i < (shape_of checked.now).items }
     ensures value { result ≡ item V (shape_of checked.now) (P.words peek.old) i 0 }
     ensures same { P.words peek.new ≡ P.words peek.old }
+    ensures kept { peek.new ≡ peek.old }
 {
     word_at::<V, P>(checked, peek, i, 0)
 }

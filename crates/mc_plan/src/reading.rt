@@ -16,6 +16,7 @@ pub fn moment<P: Peek>(checked: &Checked, peek: &mut P) -> u64
     requires { 0 < length (P.words peek.old) }
     ensures value { result ≡ moment (P.words peek.old) }
     ensures same { P.words peek.new ≡ P.words peek.old }
+    ensures kept { peek.new ≡ peek.old }
 {
     peek.word(checked.moment_place())
 }
@@ -27,6 +28,7 @@ fn value_at<const V: usize, P: Peek>(checked: &Checked, peek: &mut P, item: u32)
     requires item { item < (shape_of checked.now).items }
     ensures value { HasValue V (shape_of checked.now) (P.words peek.old) item result }
     ensures same { P.words peek.new ≡ P.words peek.old }
+    ensures kept { peek.new ≡ peek.old }
 {
     let mut value = [0; V];
     for j in 0..V {
@@ -47,6 +49,7 @@ pub fn read<const V: usize, P: Peek>(
     ensures item { IfSome result (λ r. (q : ℕ) × Stands V (shape_of checked.now) (P.words peek.old) key q r.0) }
     ensures none { (h : List (Change V)) → Agrees V (shape_of checked.now) (P.words peek.old) None h → IfNone result (held h key ≡ None) }
     ensures same { P.words peek.new ≡ P.words peek.old }
+    ensures kept { peek.new ≡ peek.old }
 {
     match find::<V, P>(checked, peek, key) {
         Some((_, item)) => Some((item, value_at::<V, P>(checked, peek, item))),

@@ -39,6 +39,10 @@ pub record IsShape (sh : Shape) : Type 0 where
   pub tries : HasTries sh
   pub limit : HasLimit sh
 
+-- each field is in its range
+abbrev pub IsInRange : Shape → Type 0
+IsInRange sh = HasBuckets sh × HasItems sh × HasStripes sh × HasDepth sh × HasTries sh × HasLimit sh
+
 -- the first fault of the shape
 abbrev pub Refuses : Shape → ShapeError → Type 0
 Refuses sh Buckets = ¬ HasBuckets sh

@@ -47,6 +47,7 @@ loop-n-preserved g c =
     record {
       within = omega (arith, old.within);
       same = c.key_in-key.ensures.same ∙ c.slot_at-word.ensures.same ∙ old.same;
+      kept = c.key_in-key.ensures.kept ∙ c.slot_at-word.ensures.kept ∙ old.kept;
       many = omega (arith, c.add_move.ensures.many, old.many, next);
       items = made.items;
       to = at ∙ made.end;

@@ -7,6 +7,7 @@ abbrev pub invariant-loop-n : goal.invariant-loop-n
 invariant-loop-n g l = record {
   within : l.n ≤ length l.path.places.items;
   same : g.P.Peek.words l.peek ≡ g.P.Peek.words l.initial.peek;
+  kept : l.peek ≡ l.initial.peek;
   many : length l.acts.items + 4 * l.n ≡ length l.initial.acts.items + 4 * length l.path.places.items;
   items : l.acts.items ≡ l.initial.acts.items ++ moves_acts g.row.V l.checked.shape (g.P.Peek.words l.initial.peek) (drop l.n l.path.places.items) l.path.hole;
   to : l.to ≡ first_place (drop l.n l.path.places.items) l.path.hole;

@@ -21,6 +21,10 @@ bucket g c = bucket_read (shape_of c.args.checked.now) (g.P.Peek.words c.args.pe
 same : (g : Over) (c : After-add g) → g.P.Peek.words c.slot_at-word.new.peek ≡ g.P.Peek.words c.args.peek.now
 same g c = c.slot_at-word.ensures.same ∙ c.loop-slot.invariant.same
 
+-- and so is the view
+kept : (g : Over) (c : After-add g) → c.slot_at-word.new.peek ≡ c.args.peek.now
+kept g c = c.slot_at-word.ensures.kept ∙ c.loop-slot.invariant.kept
+
 pub returns-in-Some-clause-found : goal.returns-in-Some-clause-found
 returns-in-Some-clause-found g c =
     let a = (goal.at.returns-in-Some-clause-found g c).After-add in
@@ -44,6 +48,7 @@ loop-slot-preserved g c =
     elim c.if-add.branch [
       | then-add+in_default u ↦ record {
         same = ap words u.peek-is ∙ u.in_default.ensures.same ∙ same g a;
+        kept = u.peek-is ∙ u.in_default.ensures.kept ∙ kept g a;
         queue = c.add.ensures.queue;
         room = c.add.ensures.room;
         size = c.add.ensures.size ∙ c.loop-slot.invariant.size;
@@ -52,6 +57,7 @@ loop-slot-preserved g c =
       }
       | else-add u ↦ record {
         same = ap words u.peek-is ∙ same g a;
+        kept = u.peek-is ∙ kept g a;
         queue = c.add.ensures.queue;
         room = c.add.ensures.room;
         size = c.add.ensures.size ∙ c.loop-slot.invariant.size;

@@ -6,6 +6,7 @@ use Rattle.mc_plan.proofs.search.expand.Given as goal
 abbrev pub invariant-loop-slot : goal.invariant-loop-slot
 invariant-loop-slot g l = record {
   same : g.P.Peek.words l.peek ≡ g.P.Peek.words l.initial.peek;
+  kept : l.peek ≡ l.initial.peek;
   queue : IsQueue l.queue.items l.seen.items;
   room : length l.seen.items ≤ vec_capacity l.queue;
   size : length l.seen.items ≡ (shape_of l.checked).buckets;

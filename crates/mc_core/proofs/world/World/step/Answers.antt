@@ -4,10 +4,13 @@ use Rattle.mc_core.specs.declared.act.Act.TheVariants as act
 use Rattle.mc_core.specs.declared.event.Event.TheVariants.{Write}
 use Rattle.mc_core.specs.declared.event.Unlawful.TheVariants as unlawful
 use Rattle.mc_core.specs.Seen.{Shown, Shows, MayAct}
-use Rattle.mc_core.specs.Worlds.{World, bit_of, given_of, Steps, Gives, Refuses}
+use Rattle.mc_core.specs.Worlds.{World, bit_of, given_of, Steps, Gives, Refuses, IsReached, IsTrueEnd}
+use Rattle.mc_words.specs.Shapes.{IsShape}
+use Rattle.std.specs.Prelude.{All}
+use Rattle.std.proofs.lemmas.Result.{IfOk-weaker}
 use Rattle.mc_core.specs.Parts.{shown_of}
 use Rattle.std.proofs.Common.{rules, subst}
-use Rattle.mc_core.proofs.Stepping.{reached_after, counted_after, lawful_after, given_after, leads_shown, refused_shown}
+use Rattle.mc_core.proofs.Stepping.{reached_push, reached_true, reached_after, counted_after, lawful_after, given_after, leads_shown, refused_shown}
 use Rattle.mc_core.proofs.world.World.step.Goals as goal
 
 pub step-requires : goal.step-requires
@@ -40,3 +43,15 @@ pub returns-clause-given : goal.returns-clause-given
 returns-clause-given g c =
     subst (λ (old : Shown g.row.V). (a : Act) → c.args.event ≡ Write a → IfOk c.step.result (λ out. out ≡ given_of {V = g.row.V} (bit_of old.bits a) a)) c.self.view_is
     (given_after c.self.inside.parts c.step.new.self c.args.event c.step.result c.self.invariant c.step.ensures.ok)
+
+pub returns-clause-told : goal.returns-clause-told
+returns-clause-told g c =
+    let sound : IsShape (shown_of {V = g.row.V} c.self.inside.parts).shape = c.self.inside.parts.writer.table.checked.sound in
+    subst (λ (old : Shown g.row.V). IfOk c.step.result (λ out. (seen : World g.row.V) → Shows {V = g.row.V} old seen → IsReached g.row.V old.shape seen →
+        (next : World g.row.V) × Steps g.row.V old.shape seen c.args.event next × Gives {V = g.row.V} seen c.args.event next out × Shows {V = g.row.V} (shown_of {V = g.row.V} c.step.new.self) next ×
+        IsReached g.row.V old.shape next × All (IsTrueEnd g.row.V old.shape next) next.ended)) c.self.view_is
+    (IfOk-weaker c.step.result _ _ (λ out leads seen shows reached.
+        let n = leads seen shows in
+        let r = reached_push g.row.V _ seen n.0 c.args.event reached n.1 in
+        (n.0, n.1, n.2, n.3, r, reached_true g.row.V _ n.0 sound r))
+    (leads_shown c.self.inside.parts c.step.new.self c.args.event c.step.result c.self.invariant c.step.ensures.ok))
