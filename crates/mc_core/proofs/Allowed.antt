@@ -2,9 +2,9 @@
 use Rattle.std.proofs.Common.{ℕ, ◌≡◌, List, Option, subst, sym, ◌∙◌}
 use Rattle.mc_words.specs.Standing.{Names, Stands, OnlyAt}
 use Rattle.mc_words.specs.declared.shape.Shape.{Shape}
-use Rattle.mc_core.specs.Acts.{MayFrom}
+use Rattle.mc_theory.specs.Acts.{MayFrom}
 use Rattle.mc_core.specs.Writers.{phase_at}
-use Rattle.mc_core.specs.declared.act.Act.{Act}
+use Rattle.mc_theory.specs.declared.act.Act.{Act}
 use Rattle.mc_core.specs.declared.progress.Progress.{Progress}
 
 pub may_at : (V : ℕ) (sh : Shape) (w : List ℕ) (hand : ℕ) (cleared : Option ℕ) (xs : List ℕ) (p q : Progress) (a : Act) → p ≡ q → MayFrom V sh w hand cleared (phase_at xs p) a → MayFrom V sh w hand cleared (phase_at xs q) a

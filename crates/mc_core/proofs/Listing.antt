@@ -5,16 +5,16 @@ use Rattle.std.proofs.lemmas.List.{append-nil, append_assoc, map-append}
 use Rattle.mc_words.specs.declared.shape.Shape.{Shape}
 use Rattle.mc_core.specs.Parts.{shape_of_parts, shown_of, StandFor, AreReached, HasMade}
 use Rattle.mc_core.specs.Seen.{Shown, Shows}
-use Rattle.mc_core.specs.Worlds.{World, Running, Ended, given_of, bit_of, Steps, Gives, Refuses, Runs, IsReached, StopsAt, HasRun, many_made, first_world}
-use Rattle.mc_core.specs.declared.act.Act.{Act}
-use Rattle.mc_core.specs.declared.act.Act.TheVariants as act
-use Rattle.mc_core.specs.declared.event.Done.{Done}
-use Rattle.mc_core.specs.declared.event.Event.{Event}
-use Rattle.mc_core.specs.declared.event.Event.TheVariants.{Write, Begin, Read}
-use Rattle.mc_core.specs.declared.event.Stepped.{Stepped}
-use Rattle.mc_core.specs.declared.event.Stepped.TheVariants as stepped
-use Rattle.mc_core.specs.declared.event.Unlawful.{Unlawful}
-use Rattle.mc_core.specs.declared.event.Unlawful.TheVariants as unlawful
+use Rattle.mc_theory.specs.Worlds.{World, Running, Ended, given_of, bit_of, Steps, Gives, Refuses, Runs, IsReached, StopsAt, HasRun, many_made, first_world}
+use Rattle.mc_theory.specs.declared.act.Act.{Act}
+use Rattle.mc_theory.specs.declared.act.Act.TheVariants as act
+use Rattle.mc_theory.specs.declared.event.Done.{Done}
+use Rattle.mc_theory.specs.declared.event.Event.{Event}
+use Rattle.mc_theory.specs.declared.event.Event.TheVariants.{Write, Begin, Read}
+use Rattle.mc_theory.specs.declared.event.Stepped.{Stepped}
+use Rattle.mc_theory.specs.declared.event.Stepped.TheVariants as stepped
+use Rattle.mc_theory.specs.declared.event.Unlawful.{Unlawful}
+use Rattle.mc_theory.specs.declared.event.Unlawful.TheVariants as unlawful
 use Rattle.mc_core.specs.declared.parts.Parts.{Parts}
 use Rattle.mc_core.proofs.Both.{set_there}
 use Rattle.mc_core.proofs.Stepping.{Leads, runs_append, stand_for}

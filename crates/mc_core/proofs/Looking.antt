@@ -6,31 +6,31 @@ use Rattle.mc_words.specs.Checks.{shape_of}
 use Rattle.mc_words.specs.declared.checked.Checked.{Checked}
 use Rattle.mc_words.specs.declared.history.Reply.{Reply}
 use Rattle.mc_words.specs.declared.shape.Shape.{Shape}
-use Rattle.mc_core.specs.Course.{BeginsWith}
-use Rattle.mc_core.specs.Lists.{IsLawful, state_of}
-use Rattle.mc_core.specs.Lookups.{IsLookup}
-use Rattle.mc_core.specs.Machine.{shape_for, next_at, next_of, reply_at, reply_now, LeftAt, Left, Takes}
+use Rattle.mc_lookup.specs.Course.{BeginsWith}
+use Rattle.mc_theory.specs.Lists.{IsLawful, state_of}
+use Rattle.mc_theory.specs.Lookups.{IsLookup}
+use Rattle.mc_lookup.specs.Machine.{shape_for, next_at, next_of, reply_at, reply_now, LeftAt, Left, Takes}
 use Rattle.mc_core.specs.Parts.{shape_of_parts, StandFor}
-use Rattle.mc_core.specs.Phases.{runs}
-use Rattle.mc_core.specs.Readings.{Reading, IsWordOf}
+use Rattle.mc_theory.specs.Phases.{runs}
+use Rattle.mc_theory.specs.Readings.{Reading, IsWordOf}
 use Rattle.mc_core.specs.Seen.{Both, IsRunning}
-use Rattle.mc_core.specs.States.{State}
-use Rattle.mc_core.specs.Worlds as worlds
-use Rattle.mc_core.specs.Worlds.{Running, Ended, bits_read, first_read, ReadsNext, EndsRead, GoesOn}
+use Rattle.mc_theory.specs.States.{State}
+use Rattle.mc_theory.specs.Worlds as worlds
+use Rattle.mc_theory.specs.Worlds.{Running, Ended, bits_read, first_read, ReadsNext, EndsRead, GoesOn}
 use Rattle.mc_core.specs.Writers.{state_in, words_at, shape_at, phase_at, UsedWell}
-use Rattle.mc_core.specs.declared.access.Access.{Access}
-use Rattle.mc_core.specs.declared.event.Done.{Done}
-use Rattle.mc_core.specs.declared.event.Event.TheVariants as event
-use Rattle.mc_core.specs.declared.event.Stepped.TheVariants as stepped
-use Rattle.mc_core.specs.declared.lookup.Lookup.{Lookup}
+use Rattle.mc_theory.specs.declared.access.Access.{Access}
+use Rattle.mc_theory.specs.declared.event.Done.{Done}
+use Rattle.mc_theory.specs.declared.event.Event.TheVariants as event
+use Rattle.mc_theory.specs.declared.event.Stepped.TheVariants as stepped
+use Rattle.mc_lookup.specs.declared.lookup.Lookup.{Lookup}
 use Rattle.mc_core.specs.declared.parts.Parts.{Parts}
 use Rattle.mc_core.specs.declared.reader.Reader.{Reader}
-use Rattle.mc_core.specs.declared.stage.Stage.{Stage}
-use Rattle.mc_core.specs.declared.stage.Stage.TheVariants.{First, Slot, Key, Value, Moment, Last, Mark, Over}
+use Rattle.mc_lookup.specs.declared.stage.Stage.{Stage}
+use Rattle.mc_lookup.specs.declared.stage.Stage.TheVariants.{First, Slot, Key, Value, Moment, Last, Mark, Over}
 use Rattle.mc_core.specs.declared.writer.Writer.{Writer}
 use Rattle.mc_core.proofs.Both.{both_set, both_some, both_none, set_there}
-use Rattle.mc_core.proofs.Course.{next_is_determined, can_end}
-use Rattle.mc_core.proofs.Taking.{at_stage, both_trans}
+use Rattle.mc_lookup.proofs.Course.{next_is_determined, can_end}
+use Rattle.mc_lookup.proofs.Taking.{at_stage, both_trans}
 
 -- ---- the end of a look-up
 over_at : {V : ℕ} (l : Lookup V) (st : Stage) (reply : Reply V) → reply_at {V = V} l st ≡ Some reply → LeftAt V (shape_for {V = V} l) l.key l.tries l.version l.value l.reply st [] reply

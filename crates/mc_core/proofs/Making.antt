@@ -3,21 +3,21 @@ use Rattle.std.proofs.Common.{ℕ, eqb, ◌⊎◌, ◌≢◌, ◌≡◌, ◌+◌
 use Rattle.std.specs.Prelude.{slice_set, Result, Ok, Err, OnOk}
 use Rattle.std.proofs.Math.Nat.{mod_self, mod-eq_of_lt}
 use Rattle.std.proofs.lemmas.Bool.{cond-true, cond-false, eq-eqb, ne_eqb}
-use Rattle.mc_core.specs.declared.act.Act.TheVariants.{Hand}
+use Rattle.mc_theory.specs.declared.act.Act.TheVariants.{Hand}
 use Rattle.std.proofs.lemmas.Grind.{take-set_at}
 use Rattle.mc_words.specs.Checks.{shape_of}
 use Rattle.mc_words.specs.declared.checked.Checked.{Checked}
 use Rattle.mc_words.specs.declared.history.Change.{Change}
-use Rattle.mc_core.specs.Phases.{Phase}
-use Rattle.mc_core.specs.States.{State}
+use Rattle.mc_theory.specs.Phases.{Phase}
+use Rattle.mc_theory.specs.States.{State}
 use Rattle.mc_words.specs.declared.shape.Shape.{Shape}
 use Rattle.mc_words.proofs.Places.{slot-with_version, slot-with_item}
 use Rattle.mc_words.proofs.Keys.{stripe_of-lt}
 use Rattle.mc_words.specs.Places.{with_item}
 use Rattle.mc_words.specs.Shapes.{IsShape}
-use Rattle.mc_core.specs.Effects.{words_after, phase_after, hand_after, cleared_after, history_after, changes_after, bumped}
+use Rattle.mc_theory.specs.Effects.{words_after, phase_after, hand_after, cleared_after, history_after, changes_after, bumped}
 use Rattle.mc_core.specs.Writers.{shape_at, words_at, phase_at, room_of, UsedIn, IsMade}
-use Rattle.mc_core.specs.declared.act.Act.{Act}
+use Rattle.mc_theory.specs.declared.act.Act.{Act}
 use Rattle.mc_core.specs.declared.progress.Progress.{Progress}
 use Rattle.mc_core.specs.declared.writer.Writer.{Writer}
 use Rattle.mc_core.proofs.Items.{used_kept}
@@ -52,13 +52,6 @@ used_item V sh w i j x flags free u = used_kept sh w (with_item V sh w i j x) fl
 -- one word more was written
 pub written_more : (V : ℕ) (xs : List ℕ) (c x : ℕ) → length xs ≡ V → c < V → take (c + 1) (slice_set xs c x) ≡ take c xs ++ x ∷ []
 written_more V xs c x l below = take-set_at xs c (c + 1) x refl (omega (arith, l))
-
--- the item after the last is the first
-pub turn_over : (i n : ℕ) → i + 1 ≡ n → 0 ≡ (i + 1) % n
-turn_over i n e = sym (subst (λ (y : ℕ). y % n ≡ 0) (sym e) (mod_self n))
-
-pub turn_on : (i n : ℕ) → i < n → i + 1 ≢ n → i + 1 ≡ (i + 1) % n
-turn_on i n l ne = sym (mod-eq_of_lt (omega arith))
 
 -- what the hand remembers of a bit
 pub cleared_by : (i bit : ℕ) (o : Option ℕ) → ((bit ≡ 0) × (o ≡ Some i)) ⊎ ((bit ≢ 0) × (o ≡ None)) → o ≡ cleared_after None (Hand i) bit

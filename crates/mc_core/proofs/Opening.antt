@@ -6,17 +6,17 @@ use Rattle.mc_words.proofs.Frames.{empty_names_none}
 use Rattle.mc_words.specs.Places.{word_count, slot, slot_place}
 use Rattle.mc_words.specs.declared.history.Change.{Change}
 use Rattle.mc_words.specs.declared.shape.Shape.{Shape}
-use Rattle.mc_core.specs.Lists.{state_of}
+use Rattle.mc_theory.specs.Lists.{state_of}
 use Rattle.mc_core.specs.Parts.{shape_of_parts, StandFor}
-use Rattle.mc_core.specs.Phases.{Phase, Quiet, runs}
+use Rattle.mc_theory.specs.Phases.{Phase, Quiet, runs}
 use Rattle.mc_core.specs.Seen.{Both, IsRunning}
-use Rattle.mc_core.specs.States.{State, opening}
-use Rattle.mc_core.specs.Worlds.{first_world, Running}
+use Rattle.mc_theory.specs.States.{State, opening}
+use Rattle.mc_theory.specs.Worlds.{first_world, Running}
 use Rattle.mc_core.specs.Writers.{state_in, phase_at, downs, UsedIn, UsedWell}
 use Rattle.mc_core.specs.declared.parts.Parts.{Parts}
 use Rattle.mc_core.specs.declared.reader.Reader.{Reader}
-use Rattle.mc_core.proofs.Fronts.{lawful_none, state_none}
-use Rattle.mc_core.proofs.Holding.{zeros}
+use Rattle.mc_theory.proofs.Fronts.{lawful_none, state_none}
+use Rattle.mc_theory.proofs.Holding.{zeros}
 
 -- the state of a new writer is the opening
 pub new_state : (V : ℕ) (sh : Shape) (words : List ℕ) (history : List (Change V)) → words ≡ replicate {A = ℕ} (word_count V sh) 0 → history ≡ [] →

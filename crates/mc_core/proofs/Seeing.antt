@@ -5,24 +5,24 @@ use Rattle.std.specs.Result.{is_err}
 use Rattle.std.proofs.lemmas.Bool.{false≢true}
 use Rattle.mc_words.specs.Checks.{shape_of}
 use Rattle.mc_words.specs.declared.checked.Checked.{Checked}
-use Rattle.mc_core.specs.Lists.{Made, IsLawful, state_of}
+use Rattle.mc_theory.specs.Lists.{Made, IsLawful, state_of}
 use Rattle.mc_words.specs.declared.shape.Shape.{Shape}
-use Rattle.mc_core.specs.Acts.{MayFrom, IsAllowed}
-use Rattle.mc_core.specs.Effects.{phase_after, changes_after, after_act}
-use Rattle.mc_core.specs.Inner.{StateHolds, StateCounted}
-use Rattle.mc_core.specs.Phases.{Phase, Quiet, Filling, Keyed, Placed, Renewing, Removing, Removed, Moving, Moved, Closing, runs}
+use Rattle.mc_theory.specs.Acts.{MayFrom, IsAllowed}
+use Rattle.mc_theory.specs.Effects.{phase_after, changes_after, after_act}
+use Rattle.mc_theory.specs.Inner.{StateHolds, StateCounted}
+use Rattle.mc_theory.specs.Phases.{Phase, Quiet, Filling, Keyed, Placed, Renewing, Removing, Removed, Moving, Moved, Closing, runs}
 use Rattle.mc_core.specs.Seen.{Both, IsRunning, ReadsIn}
 use Rattle.mc_core.specs.Parts.{shape_of_parts, StandFor}
-use Rattle.mc_core.specs.States.{State}
-use Rattle.mc_core.specs.Worlds as worlds
+use Rattle.mc_theory.specs.States.{State}
+use Rattle.mc_theory.specs.Worlds as worlds
 use Rattle.mc_core.specs.Writers.{state_in, words_at, phase_at, IsMade}
-use Rattle.mc_core.specs.declared.act.Act.{Act}
-use Rattle.mc_core.specs.declared.act.Act.TheVariants.{Open, Slot, Item, Moment, Close, Hand, Mark}
-use Rattle.mc_core.specs.declared.act.Deed.TheVariants as deed
+use Rattle.mc_theory.specs.declared.act.Act.{Act}
+use Rattle.mc_theory.specs.declared.act.Act.TheVariants.{Open, Slot, Item, Moment, Close, Hand, Mark}
+use Rattle.mc_theory.specs.declared.act.Deed.TheVariants as deed
 use Rattle.mc_core.specs.declared.parts.Parts.{Parts}
 use Rattle.mc_core.specs.declared.reader.Reader.{Reader}
-use Rattle.mc_core.proofs.Counts.{state_counted, state_hand}
-use Rattle.mc_core.proofs.Fronts.{state_holds, state_push, lawful_push}
+use Rattle.mc_theory.proofs.Counts.{state_counted, state_hand}
+use Rattle.mc_theory.proofs.Fronts.{state_holds, state_push, lawful_push}
 
 pub holds_of : {V : ℕ} (parts : Parts V) (seen : worlds.World V) → StandFor {V = V} parts seen → StateHolds (shape_of_parts {V = V} parts) (state_in {V = V} parts.writer)
 holds_of {V} parts seen s = subst (λ (y : State V). StateHolds (shape_of_parts {V = V} parts) y) (sym s.shows.state) (state_holds V (shape_of_parts {V = V} parts) seen.acts parts.writer.table.checked.sound s.shows.lawful)

@@ -1,23 +1,23 @@
 -- From the parts of a world to the world: it stands as some events leave it.
 use Rattle.std.proofs.Common.{ℕ, ◌≡◌, ◌+◌, List, [], ◌∷◌, ◌++◌, refl, sym, ◌∙◌, ap, subst, inl, inr, arith}
 use Rattle.std.specs.Prelude.{All, Result, Ok, Err, IfOk, IfErr, OnOk}
-use Rattle.mc_core.specs.Acts.{IsAllowed}
-use Rattle.mc_core.specs.Lists.{state_of}
-use Rattle.mc_core.specs.States.{State}
-use Rattle.mc_core.specs.declared.act.Act.{Act}
-use Rattle.mc_core.specs.declared.act.Act.TheVariants as act
-use Rattle.mc_core.specs.declared.event.Event.TheVariants.{Write, Begin, Read}
-use Rattle.mc_core.specs.declared.event.Unlawful.TheVariants as unlawful
+use Rattle.mc_theory.specs.Acts.{IsAllowed}
+use Rattle.mc_theory.specs.Lists.{state_of}
+use Rattle.mc_theory.specs.States.{State}
+use Rattle.mc_theory.specs.declared.act.Act.{Act}
+use Rattle.mc_theory.specs.declared.act.Act.TheVariants as act
+use Rattle.mc_theory.specs.declared.event.Event.TheVariants.{Write, Begin, Read}
+use Rattle.mc_theory.specs.declared.event.Unlawful.TheVariants as unlawful
 use Rattle.mc_words.specs.Shapes.{IsShape}
 use Rattle.mc_words.specs.declared.shape.Shape.{Shape}
 use Rattle.mc_core.specs.Parts.{shape_of_parts, shown_of, StandFor, AreReached}
 use Rattle.mc_core.specs.Seen.{Shows, MayAct}
-use Rattle.mc_core.specs.Worlds.{World, IsWithin, HasChanges, bit_of, given_of, Steps, Gives, Refuses, Runs, IsReached, IsTrueEnd, first_world}
-use Rattle.mc_core.specs.declared.event.Event.{Event}
-use Rattle.mc_core.specs.declared.event.Stepped.{Stepped}
-use Rattle.mc_core.specs.declared.event.Unlawful.{Unlawful}
+use Rattle.mc_theory.specs.Worlds.{World, IsWithin, HasChanges, bit_of, given_of, Steps, Gives, Refuses, Runs, IsReached, IsTrueEnd, first_world}
+use Rattle.mc_theory.specs.declared.event.Event.{Event}
+use Rattle.mc_theory.specs.declared.event.Stepped.{Stepped}
+use Rattle.mc_theory.specs.declared.event.Unlawful.{Unlawful}
 use Rattle.mc_core.specs.declared.parts.Parts.{Parts}
-use Rattle.mc_core.proofs.Reached.{worlds_are_true}
+use Rattle.mc_theory.proofs.Reached.{worlds_are_true}
 
 -- one event more
 pub runs_push : (V : ℕ) (sh : Shape) (w : World V) (es : List Event) (x y : World V) (e : Event) → Runs V sh w es x → Steps V sh x e y → Runs V sh w (es ++ e ∷ []) y

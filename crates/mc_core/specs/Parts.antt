@@ -1,12 +1,12 @@
 -- The parts of a world in memory.
 use Rattle.std.specs.Prelude.{ℕ, ◌≡◌, ◌+◌, ◌≤◌, List, ◌++◌, map}
 use Rattle.mc_words.specs.declared.shape.Shape.{Shape}
-use Rattle.mc_core.specs.Phases.{runs}
+use Rattle.mc_theory.specs.Phases.{runs}
 use Rattle.mc_core.specs.Seen.{Shown, Shows}
-use Rattle.mc_core.specs.Worlds as worlds
+use Rattle.mc_theory.specs.Worlds as worlds
 use Rattle.mc_core.specs.Writers.{shape_at, state_in, phase_at, UsedWell}
-use Rattle.mc_core.specs.declared.event.Done.{Done}
-use Rattle.mc_core.specs.declared.event.Event.{Event}
+use Rattle.mc_theory.specs.declared.event.Done.{Done}
+use Rattle.mc_theory.specs.declared.event.Event.{Event}
 use Rattle.mc_core.specs.declared.parts.Parts.{Parts}
 
 abbrev pub shape_of_parts : {V : ℕ} → Parts V → Shape

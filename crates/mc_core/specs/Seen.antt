@@ -2,19 +2,19 @@
 use Rattle.std.specs.Prelude.{ℕ, ◌≡◌, ◌-◌, ◌^◌, ◌<◌, ◌↔◌, List, ◌++◌, Option, Some, None, IsSome, slice_get, unwrap_or}
 use Rattle.mc_words.specs.declared.history.Reply.{Reply}
 use Rattle.mc_words.specs.declared.shape.Shape.{Shape}
-use Rattle.mc_core.specs.Acts.{IsAllowed}
-use Rattle.mc_core.specs.Effects.{after_act}
-use Rattle.mc_core.specs.Lists.{IsLawful, state_of}
-use Rattle.mc_core.specs.Lookups.{IsLookup}
-use Rattle.mc_core.specs.Machine.{shape_for, next_of, Left}
-use Rattle.mc_core.specs.Readings.{Reading}
-use Rattle.mc_core.specs.States.{State}
-use Rattle.mc_core.specs.Worlds as worlds
-use Rattle.mc_core.specs.Worlds.{HasChanges, bit_of}
-use Rattle.mc_core.specs.declared.act.Act.{Act}
-use Rattle.mc_core.specs.declared.act.Act.TheVariants as act
-use Rattle.mc_core.specs.declared.event.Event.{Event}
-use Rattle.mc_core.specs.declared.event.Event.TheVariants as event
+use Rattle.mc_theory.specs.Acts.{IsAllowed}
+use Rattle.mc_theory.specs.Effects.{after_act}
+use Rattle.mc_theory.specs.Lists.{IsLawful, state_of}
+use Rattle.mc_theory.specs.Lookups.{IsLookup}
+use Rattle.mc_lookup.specs.Machine.{shape_for, next_of, Left}
+use Rattle.mc_theory.specs.Readings.{Reading}
+use Rattle.mc_theory.specs.States.{State}
+use Rattle.mc_theory.specs.Worlds as worlds
+use Rattle.mc_theory.specs.Worlds.{HasChanges, bit_of}
+use Rattle.mc_theory.specs.declared.act.Act.{Act}
+use Rattle.mc_theory.specs.declared.act.Act.TheVariants as act
+use Rattle.mc_theory.specs.declared.event.Event.{Event}
+use Rattle.mc_theory.specs.declared.event.Event.TheVariants as event
 use Rattle.mc_core.specs.declared.reader.Reader.{Reader}
 
 -- what callers see of a world: of its readers those whose look-up runs, and how many events were counted

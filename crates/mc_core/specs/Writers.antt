@@ -4,10 +4,10 @@ use Rattle.mc_words.specs.Keys.{IsBucketOf}
 use Rattle.mc_words.specs.Places.{slot_number}
 use Rattle.mc_words.specs.Standing.{Names, Stands, IsFree}
 use Rattle.mc_words.specs.declared.shape.Shape.{Shape}
-use Rattle.mc_core.specs.Phases.{Phase, Quiet, Filling, Keyed, Placed, Renewing, Removing, Removed, Moving, Moved, Closing}
-use Rattle.mc_core.specs.Effects.{after_act}
-use Rattle.mc_core.specs.declared.act.Act.{Act}
-use Rattle.mc_core.specs.States.{State}
+use Rattle.mc_theory.specs.Phases.{Phase, Quiet, Filling, Keyed, Placed, Renewing, Removing, Removed, Moving, Moved, Closing}
+use Rattle.mc_theory.specs.Effects.{after_act}
+use Rattle.mc_theory.specs.declared.act.Act.{Act}
+use Rattle.mc_theory.specs.States.{State}
 use Rattle.mc_core.specs.Tables.{shape_in, words_in}
 use Rattle.mc_core.specs.declared.progress.Progress.{Progress}
 use Rattle.mc_core.specs.declared.progress.Progress.TheVariants as progress

@@ -1,11 +1,12 @@
 //! A world makes a list of events.
 ghost use Rattle.std.specs.Prelude.{◌≡◌, All, IfOk, OnErr};
 ghost use Rattle.mc_core.specs.Seen.{Shows};
-ghost use Rattle.mc_core.specs.Worlds as worlds;
-ghost use Rattle.mc_core.specs.Worlds.{HasRun, IsReached};
+ghost use Rattle.mc_theory.specs.Worlds as worlds;
+ghost use Rattle.mc_theory.specs.Worlds.{HasRun, IsReached};
 
-use crate::event::Event;
-use crate::outcome::{NoMemory, Run};
+use mc_theory::Event;
+use crate::outcome::Run;
+use mc_words::NoMemory;
 use crate::world::World;
 use std::alloc::Global;
 

@@ -1,32 +1,26 @@
-//! The core of the cache index: the atomic steps of the writer and of the readers, and what they mean together.
+//! A world in memory: one writer and its readers, whose atomic steps come in whatever order a caller names.
 //!
-//! A lawful list of acts is a run of the writer. Each act changes one word, and the laws of this crate say what
-//! holds of every such list and of every look-up that reads words of it, at whatever fronts.
+//! `World::step` makes one event, `run` a list of them. Their contracts say that a world in memory is one of the theory's
+//! at every step, and so that each lookup that ends has a true reply. The theory and the lookup machine are given out here.
 #![tactic(auto)]
 
-mod access;
-mod act;
-mod event;
 mod events;
-pub mod laws;
-mod lookup;
 mod outcome;
 mod parts;
+mod peek;
 mod progress;
 mod reader;
-mod stage;
 mod table;
 #[cfg(test)]
 mod tests;
 mod world;
 mod writer;
 
-pub use access::Access;
-pub use act::{Act, Deed};
-pub use event::{Done, Event, Stepped, Unlawful};
 pub use events::run;
-pub use lookup::Lookup;
-pub use mc_words::{Change, Reply};
-pub use outcome::{NoMemory, Run};
-pub use stage::Stage;
+pub use mc_lookup::{Lookup, Stage};
+pub use mc_theory::{
+    Access, Act, Change, Deed, Done, Event, Reply, Stepped, Unlawful, laws,
+};
+pub use mc_words::NoMemory;
+pub use outcome::Run;
 pub use world::{World, WorldError};

@@ -1,5 +1,4 @@
-use crate::event::{Done, Unlawful};
-use thiserror::Error;
+use mc_theory::{Done, Unlawful};
 
 /// What a list of events did.
 #[derive(Drop)]
@@ -9,8 +8,3 @@ pub struct Run<const V: usize> {
     /// The index of the first event that was refused, and why it was.
     pub stopped: Option<(usize, Unlawful)>,
 }
-
-/// There was no room for what the events of a list might tell or change.
-#[derive(Clone, Copy, Debug, PartialEq, Eq, Error)]
-#[error("no memory")]
-pub struct NoMemory;

@@ -2,7 +2,7 @@
 ghost use Rattle.std.specs.Prelude.{◌≡◌, length};
 ghost use Rattle.mc_core.specs.Writers.{shape_at};
 
-use crate::event::{Event, Stepped, Unlawful};
+use mc_theory::{Event, Stepped, Unlawful};
 use crate::reader::Reader;
 use crate::writer::Writer;
 
@@ -24,9 +24,9 @@ pub(crate) struct Parts<const V: usize> {
 
 impl<const V: usize> Parts<V> {
     ghost use Rattle.std.specs.Prelude.{IfOk, IfErr, OnErr, OnOk, ◌+◌, ◌≤◌};
-    ghost use Rattle.mc_core.specs.Worlds as worlds;
+    ghost use Rattle.mc_theory.specs.Worlds as worlds;
     ghost use Rattle.mc_core.specs.Writers.{room_of};
-    ghost use Rattle.mc_core.specs.declared.event.Unlawful.TheVariants as unlawful;
+    ghost use Rattle.mc_theory.specs.declared.event.Unlawful.TheVariants as unlawful;
     ghost use Rattle.mc_core.specs.Parts.{shape_of_parts, shown_of, StandFor};
     ghost use Rattle.mc_core.specs.Seen.{state_after};
 

@@ -1,4 +1,4 @@
-use crate::lookup::Lookup;
+use mc_lookup::Lookup;
 
 /// The look-up that a reader runs.
 #[derive(Clone, Copy)]

@@ -3,7 +3,7 @@ ghost use Rattle.std.specs.Prelude.{◌≡◌, ◌≤◌, length};
 ghost use Rattle.mc_words.specs.Checks.{shape_of};
 ghost use Rattle.mc_words.specs.Places.{word_count};
 
-use crate::access::Access;
+use mc_theory::Access;
 use mc_words::{Checked, Place};
 use std::alloc::{AllocError, Global};
 
@@ -26,9 +26,9 @@ impl<const V: usize> Table<V> {
     ghost use Rattle.mc_words.specs.Places.{IsWidth, IsPlace, payload, slot_number, slot, item, version, moment, with_version, with_moment, with_slot, with_item};
     ghost use Rattle.mc_words.specs.Standing.{Stands};
     ghost use Rattle.mc_core.specs.Tables.{shape_in, words_in, StandsAt, WritesTable};
-    ghost use Rattle.mc_core.specs.Effects.{bumped};
-    ghost use Rattle.mc_core.specs.Readings.{IsWordOf};
-    ghost use Rattle.mc_core.specs.Writes.{IsAccess};
+    ghost use Rattle.mc_theory.specs.Effects.{bumped};
+    ghost use Rattle.mc_theory.specs.Readings.{IsWordOf};
+    ghost use Rattle.mc_theory.specs.Writes.{IsAccess};
 
     /// The table of a new world: all words are 0, and all items are free.
     #[tactic(auto, unfolding(mc_words::specs::Recency::recency_words))]

@@ -1,7 +1,7 @@
 //! A world: one writer and its readers. Each event is one atomic step.
 ghost use Rattle.std.specs.Prelude.{◌≡◌, ◌<◌};
 
-use crate::event::{Event, Stepped, Unlawful};
+use mc_theory::{Event, Stepped, Unlawful};
 use crate::parts::Parts;
 use mc_words::{Change, Checked};
 use std::alloc::Global;
@@ -41,12 +41,12 @@ impl<const V: usize> World<V> {
     ghost use Rattle.mc_words.specs.Places.{IsWidth, all_words};
     ghost use Rattle.mc_words.specs.Shapes.{IsShape};
     ghost use Rattle.mc_core.specs.Seen.{Shows, MayAct, state_after};
-    ghost use Rattle.mc_core.specs.Worlds as worlds;
-    ghost use Rattle.mc_core.specs.Worlds.{bit_of, given_of};
-    ghost use Rattle.mc_core.specs.declared.act.Act.{Act};
-    ghost use Rattle.mc_core.specs.declared.act.Act.TheVariants as act;
-    ghost use Rattle.mc_core.specs.declared.event.Event.TheVariants.{Write};
-    ghost use Rattle.mc_core.specs.declared.event.Unlawful.TheVariants as unlawful;
+    ghost use Rattle.mc_theory.specs.Worlds as worlds;
+    ghost use Rattle.mc_theory.specs.Worlds.{bit_of, given_of};
+    ghost use Rattle.mc_theory.specs.declared.act.Act.{Act};
+    ghost use Rattle.mc_theory.specs.declared.act.Act.TheVariants as act;
+    ghost use Rattle.mc_theory.specs.declared.event.Event.TheVariants.{Write};
+    ghost use Rattle.mc_theory.specs.declared.event.Unlawful.TheVariants as unlawful;
     ghost use Rattle.mc_core.specs.declared.world.WorldError.TheVariants as error;
 
     /// A new world with so many readers: nothing was written, and no look-up runs.

@@ -1,10 +1,10 @@
 //! The writer of a world: its state, and which act it may make next.
 ghost use Rattle.std.specs.Prelude.{◌≡◌, ◌<◌, ◌≤◌, length};
 ghost use Rattle.std.specs.Prelude.{◌↔◌, IsTrue};
-ghost use Rattle.mc_core.specs.declared.act.Act.{Act};
+ghost use Rattle.mc_theory.specs.declared.act.Act.{Act};
 ghost use Rattle.mc_core.specs.Progresses.{count_at, fresh_slot};
 
-use crate::act::Act;
+use mc_theory::Act;
 use crate::progress::Progress;
 use crate::table::Table;
 use mc_words::{Change, Checked};
@@ -29,12 +29,12 @@ pub(crate) struct Writer<const V: usize> {
 }
 
 impl<const V: usize> Writer<V> {
-    ghost use Rattle.mc_core.specs.Acts.{IsAllowed};
+    ghost use Rattle.mc_theory.specs.Acts.{IsAllowed};
     ghost use Rattle.std.specs.Prelude.{◌^◌, IfOk, OnOk, OnErr};
     ghost use Rattle.mc_words.specs.Checks.{shape_of};
     ghost use Rattle.mc_words.specs.Places.{IsWidth};
-    ghost use Rattle.mc_core.specs.States.{opening};
-    ghost use Rattle.mc_core.specs.Inner.{StateHolds, StateCounted};
+    ghost use Rattle.mc_theory.specs.States.{opening};
+    ghost use Rattle.mc_theory.specs.Inner.{StateHolds, StateCounted};
     ghost use Rattle.mc_core.specs.Writers.{shape_at, room_of, state_in, UsedWell, IsMade, IsKept};
 
     /// The writer of a new world.

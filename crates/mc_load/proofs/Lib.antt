@@ -1,10 +1,2 @@
-pub mod Replaying
-pub mod Stepping
-pub mod Bounds
-pub mod Calling
-pub mod Accessing
-pub mod Commanding
-pub mod CommandLines
 pub mod Telling
 pub mod Running
-pub mod CommandLineRows

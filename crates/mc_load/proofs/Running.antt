@@ -5,8 +5,8 @@ use Rattle.mc_words.specs.declared.checked.Checked.{Checked}
 use Rattle.mc_words.specs.declared.shape.Shape.{Shape}
 use Rattle.mc_words.specs.Checks.{shape_of}
 use Rattle.mc_words.specs.Shapes.{IsShape}
-use Rattle.mc_load.specs.declared.options.Options.{Options}
-use Rattle.mc_load.specs.Options.{HasFault, IsUnread}
+use Rattle.mc_options.specs.declared.options.Options.{Options}
+use Rattle.mc_options.specs.Options.{HasFault, IsUnread}
 use Rattle.mc_load.specs.Programs.{Stream, Ends, IsUntouched, RunsOptions, Runs, TellsFault}
 use Rattle.mc_load.specs.Programs.Runs.{helps, refuses, is_short}
 

@@ -1,9 +1,2 @@
-pub mod Texts
-pub mod Told
-pub mod Faults
-pub mod Replay
-pub mod Scripts
-pub mod Players
-pub mod Steps
-pub mod Options
+pub mod ShapeTexts
 pub mod Programs

@@ -6,12 +6,13 @@ use Rattle.clap.specs.declared.error.kind.ErrorKind.TheVariants as kind
 use Rattle.mc_words.specs.declared.shape.Shape.{Shape}
 use Rattle.mc_words.specs.declared.shape.ShapeError.{ShapeError}
 use Rattle.mc_words.specs.Shapes.{IsShape, Refuses}
-use Rattle.mc_load.specs.declared.fault.Stop.{Stop}
-use Rattle.mc_load.specs.declared.options.Options.{Options}
-use Rattle.mc_load.specs.Faults.{exit_of}
-use Rattle.mc_load.specs.Options.{Gives, AsksHelp, IsFaulty}
-use Rattle.mc_load.specs.Scripts.{ReplaysKnown}
-use Rattle.mc_load.specs.Told.{shape_text, stop_text}
+use Rattle.mc_replay.specs.declared.fault.Stop.{Stop}
+use Rattle.mc_options.specs.declared.options.Options.{Options}
+use Rattle.mc_replay.specs.Faults.{exit_of}
+use Rattle.mc_options.specs.Options.{Gives, AsksHelp, IsFaulty}
+use Rattle.mc_replay.specs.Scripts.{ReplaysKnown}
+use Rattle.mc_replay.specs.FaultTexts.{stop_text}
+use Rattle.mc_load.specs.ShapeTexts.{shape_text}
 
 -- the bytes that a reader has left, or that a writer holds, where they are known: before a run and after it
 pub record Stream : Type 0 where

@@ -1,19 +1,13 @@
-//! The script engine of `mcstep` and the whole of its program.
+//! The body of the program `mcstep`, over any streams.
+//!
+//! `run_step` reads the words of the command line, replays the script over a table of the shape that they ask for, and
+//! tells a fault on standard error. The replay is a crate of its own, given out here.
 #![tactic(auto)]
 
-mod command;
-mod engine;
-mod fault;
-mod lines;
-mod options;
-mod player;
-mod reading;
 mod step;
 #[cfg(test)]
 mod tests;
-mod text;
 mod told;
 
-pub use engine::replay;
-pub use fault::ReplayError;
+pub use mc_replay::{ReplayError, replay};
 pub use step::run_step;

@@ -6,11 +6,11 @@ ghost use Rattle.mc_words.specs.Checks.{shape_of};
 ghost use Rattle.mc_words.specs.Places.{IsWidth};
 ghost use Rattle.mc_load.specs.Programs.{stream, Ends, RunsOptions, TellsFault, Runs};
 
-use crate::engine::play;
-use crate::options::{Options, options_of};
 use crate::told::{Refusal, Short, tell};
 use clap::Error;
 use clap::error::ErrorKind;
+use mc_options::{Options, options_of};
+use mc_replay::play;
 use mc_words::Checked;
 use std::alloc::Global;
 use std::convert::AsStr;

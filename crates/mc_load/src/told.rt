@@ -1,7 +1,7 @@
 // The lines that are told on standard error.
 ghost use Rattle.std.specs.Prelude.{◌++◌, IfSome, Some, codes};
 ghost use Rattle.mc_load.specs.Programs.{stream, Tells};
-ghost use Rattle.mc_load.specs.Told.{shape_text};
+ghost use Rattle.mc_load.specs.ShapeTexts.{shape_text};
 
 use mc_script::send;
 use mc_words::ShapeError;

@@ -14,34 +14,35 @@ use Rattle.mc_words.specs.Places.{IsWidth, moment, slot, slot_number, word_count
 use Rattle.mc_words.specs.Shapes.{IsShape}
 use Rattle.mc_words.specs.Standing.{Names, Stands, IsAbsent, IsFree}
 use Rattle.mc_words.proofs.Count.{full_from_named, room_from_free}
-use Rattle.mc_core.specs.States.{State, opening}
-use Rattle.mc_core.specs.declared.act.Act.{Act}
-use Rattle.mc_core.specs.declared.act.Act.TheVariants.{Mark}
+use Rattle.mc_theory.specs.States.{State, opening}
+use Rattle.mc_theory.specs.declared.act.Act.{Act}
+use Rattle.mc_theory.specs.declared.act.Act.TheVariants.{Mark}
 use Rattle.mc_plan.specs.declared.answer.Answer.{Answer}
 use Rattle.mc_plan.specs.declared.answer.Answer.TheVariants as answer
 use Rattle.mc_plan.specs.declared.answer.Put.TheVariants as put
 use Rattle.mc_plan.specs.declared.answer.Remove.TheVariants as remove
 use Rattle.mc_plan.specs.declared.books.Books.{Books}
-use Rattle.mc_plan.specs.declared.free.FreeItems.{FreeItems}
-use Rattle.mc_plan.specs.declared.path.Path.{Path}
+use Rattle.mc_search.specs.declared.free.FreeItems.{FreeItems}
+use Rattle.mc_search.specs.declared.path.Path.{Path}
 use Rattle.mc_plan.specs.Clerks.{Call, PutCall, RemoveCall, Means, Marks, AreOfDeeds, AreBooksOf, IsPlanned, quiet_of}
-use Rattle.mc_plan.specs.Free.{IsKept, IsFreeIn, Takes, Gives}
+use Rattle.mc_search.specs.Free.{IsKept, IsFreeIn, Takes, Gives}
 use Rattle.mc_plan.specs.Laws.{IsValue}
-use Rattle.mc_plan.specs.Making.{IsQuiet, KeepsSlots, left}
+use Rattle.mc_plan.specs.Making.{IsQuiet, left}
+use Rattle.mc_search.specs.Kept.{KeepsSlots}
 use Rattle.mc_plan.specs.Moves.{AreKeys}
-use Rattle.mc_plan.specs.Paths.{IsLeastPath}
-use Rattle.mc_plan.specs.Plans.{value_acts, fill_acts, renew_acts, remove_acts, moves_acts, first_place}
-use Rattle.mc_plan.specs.Readable.{IsFilled, IsPlaced}
+use Rattle.mc_search.specs.Paths.{IsLeastPath, first_place}
+use Rattle.mc_plan.specs.Plans.{value_acts, fill_acts, renew_acts, remove_acts, moves_acts}
+use Rattle.mc_search.specs.Readable.{IsFilled, IsPlaced}
 use Rattle.mc_plan.specs.Puts.{CanPut, TakesItem, put_acts}
 use Rattle.mc_words.proofs.Frames.{empty_names_none}
-use Rattle.mc_core.proofs.Counts.{opening_counted}
-use Rattle.mc_core.proofs.Holding.{opening_holds, zeros}
+use Rattle.mc_theory.proofs.Counts.{opening_counted}
+use Rattle.mc_theory.proofs.Holding.{opening_holds, zeros}
 use Rattle.mc_plan.proofs.Naming.{GivesItem, slot_given, kept_free, kept_named}
 use Rattle.mc_plan.proofs.Quiets.{agrees_quiet, keys_quiet, absent_held, stands_held, marked}
 use Rattle.mc_plan.proofs.Removing.{removes}
 use Rattle.mc_plan.proofs.Renewing.{renews}
 use Rattle.mc_plan.proofs.Room.{puts_room}
-use Rattle.mc_plan.proofs.Standing.{placed-quiet}
+use Rattle.mc_search.proofs.Standing.{placed-quiet}
 
 -- ---- acts of deeds
 pub deeds_then : (xs ys : List Act) → AreOfDeeds xs → AreOfDeeds ys → AreOfDeeds (xs ++ ys)

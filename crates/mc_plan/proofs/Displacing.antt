@@ -12,10 +12,11 @@ use Rattle.mc_words.specs.Places.{slot_number, slot, item}
 use Rattle.mc_words.specs.Shapes.{IsShape}
 use Rattle.mc_words.specs.Standing.{Names, Stands, Agrees, AgreesAt, IsAbsent, IsFree}
 use Rattle.mc_words.proofs.Frames.{moved_names, empty_names_none}
-use Rattle.mc_core.specs.States.{State}
+use Rattle.mc_theory.specs.States.{State}
 use Rattle.mc_plan.specs.Making.{left, IsQuiet, Makes}
 use Rattle.mc_plan.specs.Moves.{CanMove, MovesSlot, AreKeys, HasRoom, MovesMakeRoom}
-use Rattle.mc_plan.specs.Plans.{item_in, key_named, first_place, move_acts, moves_acts}
+use Rattle.mc_plan.specs.Plans.{item_in, key_named, move_acts, moves_acts}
+use Rattle.mc_search.specs.Paths.{first_place}
 use Rattle.mc_plan.proofs.Moving.{moves}
 use Rattle.mc_plan.proofs.Quiets.{agrees_quiet, makes_from_walk}
 use Rattle.mc_plan.proofs.Walks.{Walk, walk_none, walk_then}

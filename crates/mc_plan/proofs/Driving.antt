@@ -1,16 +1,16 @@
 -- Acts that are made on a plain list of words.
 use Rattle.std.proofs.Common.{ℕ, ◌≡◌, ◌∙◌, List, [], ◌∷◌, ◌++◌, Option, Some, ap, refl, sym, subst}
 use Rattle.mc_words.specs.declared.shape.Shape.{Shape}
-use Rattle.mc_core.specs.Acts.{IsAllowed, MayFrom}
-use Rattle.mc_core.specs.Effects.{phase_after, words_after}
-use Rattle.mc_core.specs.Lists.{Made, after_all}
-use Rattle.mc_core.specs.Phases.{Phase, Quiet, Filling, Keyed, Placed, Renewing, Removing, Removed, Moving, Moved, Closing, opened, running}
-use Rattle.mc_core.specs.States.{State}
-use Rattle.mc_core.specs.declared.act.Act.{Act}
-use Rattle.mc_core.specs.declared.act.Act.TheVariants.{Open, Slot, Item, Moment, Close, Hand, Mark}
-use Rattle.mc_core.specs.declared.act.Deed.{Deed}
-use Rattle.mc_core.specs.declared.act.Deed.TheVariants as deed
-use Rattle.mc_core.proofs.Fronts.{after_all-append}
+use Rattle.mc_theory.specs.Acts.{IsAllowed, MayFrom}
+use Rattle.mc_theory.specs.Effects.{phase_after, words_after}
+use Rattle.mc_theory.specs.Lists.{Made, after_all}
+use Rattle.mc_theory.specs.Phases.{Phase, Quiet, Filling, Keyed, Placed, Renewing, Removing, Removed, Moving, Moved, Closing, opened, running}
+use Rattle.mc_theory.specs.States.{State}
+use Rattle.mc_theory.specs.declared.act.Act.{Act}
+use Rattle.mc_theory.specs.declared.act.Act.TheVariants.{Open, Slot, Item, Moment, Close, Hand, Mark}
+use Rattle.mc_theory.specs.declared.act.Deed.{Deed}
+use Rattle.mc_theory.specs.declared.act.Deed.TheVariants as deed
+use Rattle.mc_theory.proofs.Fronts.{after_all-append}
 use Rattle.mc_plan.specs.Drivers.{key_after, IsTied}
 
 opened_running : (k : ℕ) (d : Deed) → running (opened k d) ≡ Some k

@@ -2,19 +2,19 @@
 use Rattle.std.proofs.Common.{ℕ, suc, ◌≡◌, ◌+◌, ◌%◌, ◌<◌, ◌∙◌, inr, List, [], ◌∷◌, ◌++◌, Option, Some, None, Err, ap, refl, sym, subst, drop, length, length-drop, append_assoc, append-nil, arith}
 use Rattle.std.specs.Prelude.{IsSome, slice_get}
 use Rattle.std.proofs.lemmas.List.{map-append, length-map, take-append-drop}
-use Rattle.mc_core.specs.Lists.{Made}
-use Rattle.mc_core.specs.States.{State}
-use Rattle.mc_core.specs.declared.act.Act.{Act}
+use Rattle.mc_theory.specs.Lists.{Made}
+use Rattle.mc_theory.specs.States.{State}
+use Rattle.mc_theory.specs.declared.act.Act.{Act}
 use Rattle.mc_plan.specs.Clerks.{Answered, Call, IsAt, IsOn, IsSweeping, MakesPlan, acts_of, next_act, next_in, shape_in}
 use Rattle.mc_plan.specs.Making.{made}
-use Rattle.mc_plan.specs.Sweeps.{Swept, HasSwept, hand_acts, next_item}
+use Rattle.mc_search.specs.Sweeps.{Swept, HasSwept, hand_acts, next_item}
 use Rattle.mc_plan.specs.declared.answer.Answer.{Answer}
 use Rattle.mc_plan.specs.declared.answer.Answer.TheVariants as answer
 use Rattle.mc_plan.specs.declared.answer.PutError.TheVariants as why
 use Rattle.mc_plan.specs.declared.clerk.Clerk.{Clerk}
 use Rattle.mc_plan.specs.declared.clerk.Stage.{Stage}
 use Rattle.mc_plan.specs.declared.clerk.Stage.TheVariants.{Idle, Sweeping, Planned}
-use Rattle.mc_plan.specs.declared.sweep.Sweep.{Sweep}
+use Rattle.mc_search.specs.declared.sweep.Sweep.{Sweep}
 use Rattle.mc_plan.specs.declared.waiting.Waiting.{Waiting}
 use Rattle.mc_plan.proofs.Hands.{hands_may, sweep_on}
 use Rattle.mc_plan.proofs.Onward.{next_below, whole_plan}

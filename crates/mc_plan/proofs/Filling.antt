@@ -11,12 +11,13 @@ use Rattle.mc_words.specs.Standing.{Stands, IsFree}
 use Rattle.mc_words.proofs.Frames.{moved_names}
 use Rattle.mc_words.proofs.Keys.{tag_of-lt}
 use Rattle.mc_words.proofs.Places.{slot-with_item, slot-with_slot_same, slot-with_slot_other, item-with_item_same, item-with_slot, length-with_item}
-use Rattle.mc_core.specs.Effects.{bumped}
-use Rattle.mc_core.specs.Phases.{Quiet, Keyed}
-use Rattle.mc_core.specs.States.{State}
-use Rattle.mc_core.specs.declared.act.Act.TheVariants.{Open, Slot, Item, Moment, Close}
-use Rattle.mc_core.specs.declared.act.Deed.TheVariants as deed
-use Rattle.mc_plan.specs.Making.{left, Makes, SetsSlot, CanFill, Fills}
+use Rattle.mc_theory.specs.Effects.{bumped}
+use Rattle.mc_theory.specs.Phases.{Quiet, Keyed}
+use Rattle.mc_theory.specs.States.{State}
+use Rattle.mc_theory.specs.declared.act.Act.TheVariants.{Open, Slot, Item, Moment, Close}
+use Rattle.mc_theory.specs.declared.act.Deed.TheVariants as deed
+use Rattle.mc_plan.specs.Making.{left, Makes, CanFill, Fills}
+use Rattle.mc_search.specs.Kept.{SetsSlot}
 use Rattle.mc_plan.specs.Plans.{value_acts, fill_acts}
 use Rattle.mc_plan.proofs.Quiets.{state, at_quiet, makes_from_walk}
 use Rattle.mc_plan.proofs.Slots.{valued, ended, slot-bumped, slot-valued, slot-ended, item-ended, key-valued, length-bumped, length-valued}

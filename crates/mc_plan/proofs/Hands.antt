@@ -4,22 +4,22 @@ use Rattle.std.specs.Option.{IfSome, is_some}
 use Rattle.std.specs.Prelude.{IsSome}
 use Rattle.mc_words.specs.Checks.{shape_of}
 use Rattle.mc_words.specs.Standing.{HasFree}
-use Rattle.mc_core.specs.Acts.{IsAllowed}
-use Rattle.mc_core.specs.Lists.{Made, AreAllowed, after_all}
-use Rattle.mc_core.specs.States.{State}
-use Rattle.mc_core.specs.Worlds.{HasChanges}
-use Rattle.mc_core.specs.declared.act.Act.{Act}
-use Rattle.mc_core.specs.declared.act.Act.TheVariants.{Hand}
+use Rattle.mc_theory.specs.Acts.{IsAllowed}
+use Rattle.mc_theory.specs.Lists.{Made, AreAllowed, after_all}
+use Rattle.mc_theory.specs.States.{State}
+use Rattle.mc_theory.specs.Worlds.{HasChanges}
+use Rattle.mc_theory.specs.declared.act.Act.{Act}
+use Rattle.mc_theory.specs.declared.act.Act.TheVariants.{Hand}
 use Rattle.mc_plan.specs.declared.books.Books.{Books}
 use Rattle.mc_plan.specs.declared.clerk.Clerk.{Clerk}
 use Rattle.mc_plan.specs.declared.clerk.Stage.{Stage}
 use Rattle.mc_plan.specs.declared.clerk.Stage.TheVariants.{Sweeping}
-use Rattle.mc_plan.specs.declared.path.Path.{Path}
-use Rattle.mc_plan.specs.declared.sweep.Sweep.{Sweep}
+use Rattle.mc_search.specs.declared.path.Path.{Path}
+use Rattle.mc_search.specs.declared.sweep.Sweep.{Sweep}
 use Rattle.mc_plan.specs.declared.waiting.Waiting.{Waiting}
 use Rattle.mc_plan.specs.Clerks.{Call, IsAt, IsOn, IsSweeping, Waits, hand_of, next_act, next_in, shape_in, swept}
-use Rattle.mc_plan.specs.Sweeps.{Swept, HasSwept, hand_acts, next_item}
-use Rattle.mc_plan.proofs.Circling.{next_parts, next_some}
+use Rattle.mc_search.specs.Sweeps.{Swept, HasSwept, hand_acts, next_item}
+use Rattle.mc_search.proofs.Circling.{next_parts, next_some}
 use Rattle.mc_plan.proofs.Naming.{full_has_none}
 use Rattle.mc_plan.proofs.Sweeping.{hand_acts_then, hand_next, sweep_allowed, swept_still}
 

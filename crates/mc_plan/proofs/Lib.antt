@@ -1,9 +1,3 @@
-pub mod Standing
-pub mod Readable
-pub mod Pushed
-pub mod Levels
-pub mod Least
-pub mod Way
 pub mod Values
 pub mod Steps
 pub mod Walks
@@ -16,13 +10,9 @@ pub mod Moving
 pub mod Displacing
 pub mod Naming
 pub mod Room
-pub mod Freeing
 pub mod Booking
 pub mod Onward
-pub mod Shown
 pub mod Driving
-pub mod Circling
-pub mod Cutting
 pub mod Sweeping
 pub mod Replacing
 pub mod Hands

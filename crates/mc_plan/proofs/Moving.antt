@@ -9,11 +9,11 @@ use Rattle.mc_words.specs.Shapes.{IsShape}
 use Rattle.mc_words.specs.Standing.{Stands}
 use Rattle.mc_words.proofs.Frames.{empty_names_none, moved_names}
 use Rattle.mc_words.proofs.Places.{slot-with_slot_same, slot-with_slot_other, item-with_slot, length-with_slot}
-use Rattle.mc_core.specs.Effects.{bumped}
-use Rattle.mc_core.specs.Phases.{Quiet}
-use Rattle.mc_core.specs.States.{State}
-use Rattle.mc_core.specs.declared.act.Act.TheVariants.{Open, Slot, Close}
-use Rattle.mc_core.specs.declared.act.Deed.TheVariants as deed
+use Rattle.mc_theory.specs.Effects.{bumped}
+use Rattle.mc_theory.specs.Phases.{Quiet}
+use Rattle.mc_theory.specs.States.{State}
+use Rattle.mc_theory.specs.declared.act.Act.TheVariants.{Open, Slot, Close}
+use Rattle.mc_theory.specs.declared.act.Deed.TheVariants as deed
 use Rattle.mc_plan.specs.Making.{left, Makes}
 use Rattle.mc_plan.specs.Moves.{CanMove, MovesSlot, Moves}
 use Rattle.mc_plan.specs.Plans.{move_acts}

@@ -6,7 +6,7 @@ use Rattle.mc_words.specs.Places.{slot}
 use Rattle.mc_words.specs.Shapes.{IsShape}
 use Rattle.mc_words.specs.Standing.{Names, IsFree, HasFree}
 use Rattle.mc_words.proofs.Frames.{moved_names, empty_names_none, one_named}
-use Rattle.mc_plan.specs.Making.{SetsSlot, KeepsSlots}
+use Rattle.mc_search.specs.Kept.{SetsSlot, KeepsSlots}
 use Rattle.mc_plan.specs.Puts.{TakesItem}
 
 -- an empty slot that names an item now: that item is taken

@@ -9,17 +9,17 @@ use Rattle.std.proofs.lemmas.Option.{slice_get_past, slice_get_read}
 use Rattle.mc_words.specs.Checks.{shape_of}
 use Rattle.mc_words.specs.declared.shape.Shape.{Shape}
 use Rattle.mc_words.specs.Places.{IsWidth}
-use Rattle.mc_core.specs.Acts.{IsAllowed, MayFrom}
-use Rattle.mc_core.specs.Effects.{after_act, changes_after, phase_after}
-use Rattle.mc_core.specs.Lists.{Made, AreAllowed, after_all}
-use Rattle.mc_core.specs.Phases.{Phase, Quiet, Filling, Keyed, Placed, Renewing, Removing, Removed, Moving, Moved, Closing, opened, runs}
-use Rattle.mc_core.specs.States.{State}
-use Rattle.mc_core.specs.Worlds.{HasChanges}
-use Rattle.mc_core.specs.declared.act.Act.{Act}
-use Rattle.mc_core.specs.declared.act.Act.TheVariants.{Open, Slot, Item, Moment, Close, Hand, Mark}
-use Rattle.mc_core.specs.declared.act.Deed.{Deed}
-use Rattle.mc_core.specs.declared.act.Deed.TheVariants as deed
-use Rattle.mc_core.proofs.Fronts.{after_all-append}
+use Rattle.mc_theory.specs.Acts.{IsAllowed, MayFrom}
+use Rattle.mc_theory.specs.Effects.{after_act, changes_after, phase_after}
+use Rattle.mc_theory.specs.Lists.{Made, AreAllowed, after_all}
+use Rattle.mc_theory.specs.Phases.{Phase, Quiet, Filling, Keyed, Placed, Renewing, Removing, Removed, Moving, Moved, Closing, opened, runs}
+use Rattle.mc_theory.specs.States.{State}
+use Rattle.mc_theory.specs.Worlds.{HasChanges}
+use Rattle.mc_theory.specs.declared.act.Act.{Act}
+use Rattle.mc_theory.specs.declared.act.Act.TheVariants.{Open, Slot, Item, Moment, Close, Hand, Mark}
+use Rattle.mc_theory.specs.declared.act.Deed.{Deed}
+use Rattle.mc_theory.specs.declared.act.Deed.TheVariants as deed
+use Rattle.mc_theory.proofs.Fronts.{after_all-append}
 use Rattle.mc_plan.specs.declared.answer.Answer.{Answer}
 use Rattle.mc_plan.specs.declared.answer.Answer.TheVariants as answer
 use Rattle.mc_plan.specs.declared.books.Books.{Books}
@@ -28,7 +28,7 @@ use Rattle.mc_plan.specs.declared.clerk.Stage.{Stage}
 use Rattle.mc_plan.specs.declared.clerk.Stage.TheVariants.{Idle, Sweeping, Planned}
 use Rattle.mc_plan.specs.Clerks.{Answered, AreBooksOf, Call, PutCall, RemoveCall, IsAt, IsOfDeed, AreOfDeeds, IsOn, IsPlanned, IsRunning, IsSweepOf, Knows, MakesPlan, Means, Marks, Runs, acts_of, next_act, next_in, shape_in, swept}
 use Rattle.mc_plan.specs.Making.{IsQuiet, made, left}
-use Rattle.mc_plan.specs.Sweeps.{Swept, hand_acts}
+use Rattle.mc_search.specs.Sweeps.{Swept, hand_acts}
 
 -- ---- the bit of an act that is none of the hand does nothing
 abbrev IsStill : Act → Type 0

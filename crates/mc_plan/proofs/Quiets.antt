@@ -6,12 +6,12 @@ use Rattle.mc_words.specs.declared.shape.Shape.{Shape}
 use Rattle.mc_words.specs.Shapes.{IsShape}
 use Rattle.mc_words.specs.History.{held}
 use Rattle.mc_words.specs.Standing.{Stands, Agrees, AgreesAt, IsAbsent}
-use Rattle.mc_core.specs.Lists.{AreAllowed}
-use Rattle.mc_core.specs.Phases.{Phase, Quiet, running}
-use Rattle.mc_core.specs.declared.act.Act.TheVariants.{Mark}
-use Rattle.mc_core.proofs.Deeds.{held_from_absent, held_from_present, some_from}
-use Rattle.mc_core.specs.States.{State}
-use Rattle.mc_core.specs.declared.act.Act.{Act}
+use Rattle.mc_theory.specs.Lists.{AreAllowed}
+use Rattle.mc_theory.specs.Phases.{Phase, Quiet, running}
+use Rattle.mc_theory.specs.declared.act.Act.TheVariants.{Mark}
+use Rattle.mc_theory.proofs.Deeds.{held_from_absent, held_from_present, some_from}
+use Rattle.mc_theory.specs.States.{State}
+use Rattle.mc_theory.specs.declared.act.Act.{Act}
 use Rattle.mc_plan.specs.Making.{IsQuiet, Makes, left, made}
 use Rattle.mc_plan.proofs.Walks.{Walk, walk_holds, walk_then}
 

@@ -11,12 +11,13 @@ use Rattle.mc_words.specs.Shapes.{IsShape}
 use Rattle.mc_words.specs.Standing.{Names, Stands, Agrees, AgreesAt, IsFree}
 use Rattle.mc_words.proofs.Frames.{empty_names_none, moved_names}
 use Rattle.mc_words.proofs.Places.{slot-with_slot_same, slot-with_slot_other, item-with_slot}
-use Rattle.mc_core.specs.Effects.{bumped, taken_out}
-use Rattle.mc_core.specs.Phases.{Quiet, Removing}
-use Rattle.mc_core.specs.States.{State}
-use Rattle.mc_core.specs.declared.act.Act.TheVariants.{Open, Slot, Moment, Close}
-use Rattle.mc_core.specs.declared.act.Deed.TheVariants as deed
-use Rattle.mc_plan.specs.Making.{left, Makes, SetsSlot, KeepsItems, Removes, Evicts}
+use Rattle.mc_theory.specs.Effects.{bumped, taken_out}
+use Rattle.mc_theory.specs.Phases.{Quiet, Removing}
+use Rattle.mc_theory.specs.States.{State}
+use Rattle.mc_theory.specs.declared.act.Act.TheVariants.{Open, Slot, Moment, Close}
+use Rattle.mc_theory.specs.declared.act.Deed.TheVariants as deed
+use Rattle.mc_plan.specs.Making.{left, Makes, Removes, Evicts}
+use Rattle.mc_search.specs.Kept.{SetsSlot, KeepsItems}
 use Rattle.mc_plan.specs.Plans.{remove_acts, evict_acts}
 use Rattle.mc_plan.proofs.Quiets.{state, at_quiet, makes_from_walk}
 use Rattle.mc_plan.proofs.Renewing.{stands_bumped}

@@ -10,12 +10,13 @@ use Rattle.mc_words.specs.Standing.{Stands}
 use Rattle.mc_words.proofs.Frames.{moved_names, stands_on, same-with_version}
 use Rattle.mc_words.proofs.Keys.{stripe_of-lt}
 use Rattle.mc_words.proofs.Places.{slot-with_item, item-with_item_word}
-use Rattle.mc_core.specs.Effects.{bumped}
-use Rattle.mc_core.specs.Phases.{Quiet, Renewing}
-use Rattle.mc_core.specs.States.{State}
-use Rattle.mc_core.specs.declared.act.Act.TheVariants.{Open, Item, Moment, Close}
-use Rattle.mc_core.specs.declared.act.Deed.TheVariants as deed
-use Rattle.mc_plan.specs.Making.{left, Makes, KeepsSlots, Renews}
+use Rattle.mc_theory.specs.Effects.{bumped}
+use Rattle.mc_theory.specs.Phases.{Quiet, Renewing}
+use Rattle.mc_theory.specs.States.{State}
+use Rattle.mc_theory.specs.declared.act.Act.TheVariants.{Open, Item, Moment, Close}
+use Rattle.mc_theory.specs.declared.act.Deed.TheVariants as deed
+use Rattle.mc_plan.specs.Making.{left, Makes, Renews}
+use Rattle.mc_search.specs.Kept.{KeepsSlots}
 use Rattle.mc_plan.specs.Plans.{value_acts, renew_acts}
 use Rattle.mc_plan.proofs.Filling.{take_payload}
 use Rattle.mc_plan.proofs.Quiets.{state, at_quiet, makes_from_walk}

@@ -9,14 +9,16 @@ use Rattle.mc_words.specs.History.{IsWord}
 use Rattle.mc_words.specs.Places.{slot_number, slot, item}
 use Rattle.mc_words.specs.Standing.{Names, Stands, IsAbsent, IsFree}
 use Rattle.mc_words.proofs.Frames.{moved_names, empty_names_none}
-use Rattle.mc_core.specs.States.{State}
-use Rattle.mc_core.specs.declared.act.Act.{Act}
-use Rattle.mc_plan.specs.Making.{Makes, SetsSlot, KeepsItems, left, KeepsNamed}
+use Rattle.mc_theory.specs.States.{State}
+use Rattle.mc_theory.specs.declared.act.Act.{Act}
+use Rattle.mc_plan.specs.Making.{Makes, left}
+use Rattle.mc_search.specs.Kept.{SetsSlot, KeepsItems, KeepsNamed}
 use Rattle.mc_plan.specs.Moves.{AreTaken, AreKeys}
-use Rattle.mc_plan.specs.Plans.{item_in, key_named, first_place, evict_acts, moves_acts, fill_acts}
+use Rattle.mc_plan.specs.Plans.{item_in, key_named, evict_acts, moves_acts, fill_acts}
+use Rattle.mc_search.specs.Paths.{first_place}
 use Rattle.mc_plan.specs.Puts.{CanPut, TakesItem, put_acts}
 use Rattle.mc_plan.specs.Replacing.{CanReplace, EvictionsMakeRoom}
-use Rattle.mc_plan.proofs.Cutting.{cut_chain}
+use Rattle.mc_search.proofs.Cutting.{cut_chain}
 use Rattle.mc_plan.proofs.Naming.{GivesItem, slot_given}
 use Rattle.mc_plan.proofs.Removing.{evicts}
 use Rattle.mc_plan.proofs.Room.{makes_then, puts_room}

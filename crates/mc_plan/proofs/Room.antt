@@ -6,11 +6,12 @@ use Rattle.mc_words.specs.declared.place.Place.{Place}
 use Rattle.mc_words.specs.declared.shape.Shape.{Shape}
 use Rattle.mc_words.specs.Places.{slot_number}
 use Rattle.mc_words.specs.Standing.{Stands}
-use Rattle.mc_core.specs.States.{State}
-use Rattle.mc_core.specs.declared.act.Act.{Act}
+use Rattle.mc_theory.specs.States.{State}
+use Rattle.mc_theory.specs.declared.act.Act.{Act}
 use Rattle.mc_plan.specs.Making.{IsQuiet, Makes, CanFill, left}
 use Rattle.mc_plan.specs.Moves.{HasRoom}
-use Rattle.mc_plan.specs.Plans.{first_place, fill_acts, moves_acts}
+use Rattle.mc_plan.specs.Plans.{fill_acts, moves_acts}
+use Rattle.mc_search.specs.Paths.{first_place}
 use Rattle.mc_plan.specs.Puts.{CanPut, TakesItem, PutsMakeRoom}
 use Rattle.mc_plan.proofs.Displacing.{room_made}
 use Rattle.mc_plan.proofs.Filling.{fills}

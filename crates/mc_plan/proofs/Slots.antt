@@ -6,7 +6,7 @@ use Rattle.mc_words.specs.Places.{slot, item, moment, with_item, with_moment}
 use Rattle.mc_words.specs.Shapes.{IsShape}
 use Rattle.mc_words.proofs.Keys.{stripe_of-lt}
 use Rattle.mc_words.proofs.Places.{slot-with_version, slot-with_item, slot-with_moment, item-with_version, item-with_moment, item-with_item_word, length-with_version, length-with_item}
-use Rattle.mc_core.specs.Effects.{bumped}
+use Rattle.mc_theory.specs.Effects.{bumped}
 
 -- the words of an item from word j on are these
 abbrev pub valued : ℕ → Shape → List ℕ → ℕ → ℕ → List ℕ → List ℕ

@@ -6,11 +6,11 @@ use Rattle.mc_words.specs.Chains.{IsOccupied, Leads, IsChain, beyond}
 use Rattle.mc_words.specs.Keys.{slot_word}
 use Rattle.mc_words.specs.Places.{slot_number, slot}
 use Rattle.mc_words.specs.Shapes.{IsShape}
-use Rattle.mc_core.specs.declared.act.Act.{Act}
+use Rattle.mc_theory.specs.declared.act.Act.{Act}
 use Rattle.mc_plan.specs.Moves.{AreTaken, AreKeys}
-use Rattle.mc_plan.specs.Paths.{IsCut}
-use Rattle.mc_plan.specs.Plans.{key_named, first_place, move_acts, moves_acts}
-use Rattle.mc_plan.specs.Readable.{IsFilled, NamesSome}
+use Rattle.mc_search.specs.Paths.{IsCut, first_place}
+use Rattle.mc_plan.specs.Plans.{key_named, move_acts, moves_acts}
+use Rattle.mc_search.specs.Readable.{IsFilled, NamesSome}
 
 -- the item in a word that names one
 pub item_in-named : (sh : Shape) (word : ℕ) → IsShape sh → NamesSome sh word → (1 ≤ word) × ((word - 1) % 2 ^ 32 < sh.items)

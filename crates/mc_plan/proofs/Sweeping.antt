@@ -6,18 +6,18 @@ use Rattle.std.specs.Option.{IsSome}
 use Rattle.mc_words.specs.declared.shape.Shape.{Shape}
 use Rattle.mc_words.specs.Shapes.{IsShape}
 use Rattle.mc_words.specs.Standing.{HasFree}
-use Rattle.mc_core.specs.Acts.{IsAllowed, MayFrom}
-use Rattle.mc_core.specs.Effects.{after_act}
-use Rattle.mc_core.specs.Lists.{Made, AreAllowed, after_all}
-use Rattle.mc_core.specs.Phases.{Phase, Quiet}
-use Rattle.mc_core.specs.States.{State}
-use Rattle.mc_core.specs.declared.act.Act.TheVariants.{Hand}
-use Rattle.mc_core.proofs.Counted.{counted_after}
-use Rattle.mc_core.proofs.Holding.{holds_after}
-use Rattle.mc_plan.specs.declared.sweep.Sweep.{Sweep}
+use Rattle.mc_theory.specs.Acts.{IsAllowed, MayFrom}
+use Rattle.mc_theory.specs.Effects.{after_act}
+use Rattle.mc_theory.specs.Lists.{Made, AreAllowed, after_all}
+use Rattle.mc_theory.specs.Phases.{Phase, Quiet}
+use Rattle.mc_theory.specs.States.{State}
+use Rattle.mc_theory.specs.declared.act.Act.TheVariants.{Hand}
+use Rattle.mc_theory.proofs.Counted.{counted_after}
+use Rattle.mc_theory.proofs.Holding.{holds_after}
+use Rattle.mc_search.specs.declared.sweep.Sweep.{Sweep}
 use Rattle.mc_plan.specs.Making.{IsQuiet}
-use Rattle.mc_plan.specs.Sweeps.{Swept, HasSwept, IsOver, IsSweep, hand_acts, next_from, next_item, victim_of}
-use Rattle.mc_plan.proofs.Circling.{sweep_push, victim_push}
+use Rattle.mc_search.specs.Sweeps.{Swept, HasSwept, IsOver, IsSweep, hand_acts, next_from, next_item, victim_of}
+use Rattle.mc_search.proofs.Circling.{sweep_push, victim_push}
 
 -- ---- readings
 -- the readings after the first are a sweep from the item after

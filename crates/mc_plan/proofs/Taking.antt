@@ -11,21 +11,21 @@ use Rattle.mc_words.specs.History.{IsWord, held}
 use Rattle.mc_words.specs.Places.{IsPlace, item, moment, slot_number}
 use Rattle.mc_words.specs.Standing.{Names, Stands, AgreesAt, IsAbsent}
 use Rattle.mc_words.specs.declared.shape.Shape.{Shape}
-use Rattle.mc_core.specs.States.{State}
-use Rattle.mc_core.specs.declared.act.Act.{Act}
-use Rattle.mc_core.specs.declared.act.Act.TheVariants.{Mark}
+use Rattle.mc_theory.specs.States.{State}
+use Rattle.mc_theory.specs.declared.act.Act.{Act}
+use Rattle.mc_theory.specs.declared.act.Act.TheVariants.{Mark}
 use Rattle.mc_plan.specs.declared.answer.Answer.TheVariants as answer
 use Rattle.mc_plan.specs.declared.answer.Put.TheVariants as put
 use Rattle.mc_plan.specs.declared.answer.PutError.TheVariants as why
 use Rattle.mc_plan.specs.declared.books.Books.{Books}
 use Rattle.mc_plan.specs.declared.waiting.Waiting.{Waiting}
 use Rattle.mc_plan.specs.Clerks.{Call, PutCall, Means, AreOfDeeds, AreBooksOf, IsPlanned, IsReplacing, IsSweeping, IsSweepOf, quiet_of, swept}
-use Rattle.mc_plan.specs.Making.{IsQuiet, KeepsNamed, Makes, left}
+use Rattle.mc_plan.specs.Making.{IsQuiet, Makes, left}
+use Rattle.mc_search.specs.Kept.{KeepsNamed}
 use Rattle.mc_plan.specs.Moves.{AreKeys}
-use Rattle.mc_plan.specs.Paths.{IsCut}
-use Rattle.mc_plan.specs.Plans.{first_place}
+use Rattle.mc_search.specs.Paths.{IsCut, first_place}
 use Rattle.mc_plan.specs.Replacing.{CanReplace, replace_acts}
-use Rattle.mc_plan.specs.Sweeps.{Swept, IsOver, victim_of}
+use Rattle.mc_search.specs.Sweeps.{Swept, IsOver, victim_of}
 use Rattle.mc_plan.proofs.Booking.{deeds_put, needs_item}
 use Rattle.mc_plan.proofs.Hands.{hands_may}
 use Rattle.mc_plan.proofs.Quiets.{agrees_quiet, keys_quiet, marked, stands_held}

@@ -2,14 +2,14 @@
 use Rattle.std.proofs.Common.{ℕ, ◌≡◌, List, [], ◌∷◌, ◌++◌, refl, sym, subst}
 use Rattle.mc_words.specs.declared.shape.Shape.{Shape}
 use Rattle.mc_words.specs.Shapes.{IsShape}
-use Rattle.mc_core.specs.Acts.{IsAllowed}
-use Rattle.mc_core.specs.Effects.{after_act}
-use Rattle.mc_core.specs.Inner.{StateHolds, StateCounted}
-use Rattle.mc_core.specs.Lists.{AreAllowed}
-use Rattle.mc_core.specs.States.{State}
-use Rattle.mc_core.specs.declared.act.Act.{Act}
-use Rattle.mc_core.proofs.Counted.{counted_after}
-use Rattle.mc_core.proofs.Holding.{holds_after}
+use Rattle.mc_theory.specs.Acts.{IsAllowed}
+use Rattle.mc_theory.specs.Effects.{after_act}
+use Rattle.mc_theory.specs.Inner.{StateHolds, StateCounted}
+use Rattle.mc_theory.specs.Lists.{AreAllowed}
+use Rattle.mc_theory.specs.States.{State}
+use Rattle.mc_theory.specs.declared.act.Act.{Act}
+use Rattle.mc_theory.proofs.Counted.{counted_after}
+use Rattle.mc_theory.proofs.Holding.{holds_after}
 use Rattle.mc_plan.specs.Making.{made, left}
 
 -- the acts are allowed one after the other, and lead from one state to the other

@@ -6,10 +6,10 @@ use Rattle.mc_words.specs.Checks.{shape_of}
 use Rattle.mc_words.specs.History.{IsWord}
 use Rattle.mc_words.specs.Places.{IsWidth}
 use Rattle.mc_words.specs.Standing.{Names, Stands, IsAbsent, IsFree}
-use Rattle.mc_core.specs.Lists.{Made, AreAllowed, after_all}
-use Rattle.mc_core.specs.States.{State}
-use Rattle.mc_core.specs.declared.act.Act.{Act}
-use Rattle.mc_core.specs.declared.act.Act.TheVariants.{Hand, Mark}
+use Rattle.mc_theory.specs.Lists.{Made, AreAllowed, after_all}
+use Rattle.mc_theory.specs.States.{State}
+use Rattle.mc_theory.specs.declared.act.Act.{Act}
+use Rattle.mc_theory.specs.declared.act.Act.TheVariants.{Hand, Mark}
 use Rattle.mc_plan.specs.declared.answer.Answer.{Answer}
 use Rattle.mc_plan.specs.declared.answer.Answer.TheVariants as answer
 use Rattle.mc_plan.specs.declared.answer.Put.TheVariants as put
@@ -18,15 +18,15 @@ use Rattle.mc_plan.specs.declared.books.Books.{Books}
 use Rattle.mc_plan.specs.declared.clerk.Clerk.{Clerk}
 use Rattle.mc_plan.specs.declared.clerk.Stage.{Stage}
 use Rattle.mc_plan.specs.declared.clerk.Stage.TheVariants.{Idle, Sweeping, Planned}
-use Rattle.mc_plan.specs.declared.path.Path.{Path}
+use Rattle.mc_search.specs.declared.path.Path.{Path}
 use Rattle.mc_plan.specs.declared.waiting.Start.{Start}
 use Rattle.mc_plan.specs.declared.waiting.Start.TheVariants as start
 use Rattle.mc_plan.specs.declared.waiting.Waiting.{Waiting}
 use Rattle.mc_plan.specs.Calls.{PutAnswers, RemoveAnswers}
-use Rattle.mc_plan.specs.Free.{IsKept, IsFreeIn}
+use Rattle.mc_search.specs.Free.{IsKept, IsFreeIn}
 use Rattle.mc_plan.specs.Making.{IsQuiet, made, left}
-use Rattle.mc_plan.specs.Paths.{IsLeastPath}
-use Rattle.mc_plan.specs.Sweeps.{Swept, IsSweep, HasSwept, IsOver, hand_acts, next_item, victim_of}
+use Rattle.mc_search.specs.Paths.{IsLeastPath}
+use Rattle.mc_search.specs.Sweeps.{Swept, IsSweep, HasSwept, IsOver, hand_acts, next_item, victim_of}
 
 -- a call of a clerk
 pub data Call : Type 0 where

@@ -1,11 +1,11 @@
 -- A clerk beside a plain list of words, as the tests drive it.
 use Rattle.std.specs.Prelude.{ℕ, ◌≡◌, List, Some}
 use Rattle.mc_words.specs.declared.shape.Shape.{Shape}
-use Rattle.mc_core.specs.Lists.{Made, after_all}
-use Rattle.mc_core.specs.Phases.{Phase, running}
-use Rattle.mc_core.specs.States.{State}
-use Rattle.mc_core.specs.declared.act.Act.{Act}
-use Rattle.mc_core.specs.declared.act.Act.TheVariants.{Open}
+use Rattle.mc_theory.specs.Lists.{Made, after_all}
+use Rattle.mc_theory.specs.Phases.{Phase, running}
+use Rattle.mc_theory.specs.States.{State}
+use Rattle.mc_theory.specs.declared.act.Act.{Act}
+use Rattle.mc_theory.specs.declared.act.Act.TheVariants.{Open}
 use Rattle.mc_plan.specs.declared.clerk.Clerk.{Clerk}
 use Rattle.mc_plan.specs.Clerks.{Call, Knows, IsOn, shape_in}
 

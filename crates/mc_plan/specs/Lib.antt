@@ -1,15 +1,9 @@
-pub mod Readable
-pub mod Paths
-pub mod Search
-pub mod Ready
 pub mod Plans
 pub mod Making
 pub mod Moves
 pub mod Puts
 pub mod Replacing
 pub mod Laws
-pub mod Sweeps
 pub mod Calls
-pub mod Free
 pub mod Clerks
 pub mod Drivers

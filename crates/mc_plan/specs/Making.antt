@@ -1,18 +1,19 @@
 -- What a plan is made from, and what it makes of a quiet state.
-use Rattle.std.specs.Prelude.{ℕ, ◌≡◌, ◌≢◌, ◌+◌, ◌*◌, ◌<◌, List, [], ◌∷◌, ◌++◌, map, Some}
+use Rattle.std.specs.Prelude.{ℕ, ◌≡◌, ◌+◌, ◌<◌, List, [], ◌∷◌, ◌++◌, map, Some}
 use Rattle.mc_words.specs.declared.history.Change.{Change}
 use Rattle.mc_words.specs.declared.history.Change.TheVariants.{Put, Remove, Evict}
 use Rattle.mc_words.specs.declared.place.Place.{Place}
 use Rattle.mc_words.specs.declared.shape.Shape.{Shape}
 use Rattle.mc_words.specs.Chains.{IsHole}
 use Rattle.mc_words.specs.Keys.{tag_of, slot_word, IsBucketOf}
-use Rattle.mc_words.specs.Places.{slot_number, slot, item}
-use Rattle.mc_words.specs.Standing.{Names, Stands, IsAbsent, IsFree}
-use Rattle.mc_core.specs.Inner.{StateHolds, StateCounted}
-use Rattle.mc_core.specs.Lists.{Made, AreAllowed, after_all}
-use Rattle.mc_core.specs.Phases.{Quiet}
-use Rattle.mc_core.specs.States.{State}
-use Rattle.mc_core.specs.declared.act.Act.{Act}
+use Rattle.mc_words.specs.Places.{slot_number}
+use Rattle.mc_words.specs.Standing.{Stands, IsAbsent, IsFree}
+use Rattle.mc_search.specs.Kept.{SetsSlot, KeepsSlots, KeepsItems}
+use Rattle.mc_theory.specs.Inner.{StateHolds, StateCounted}
+use Rattle.mc_theory.specs.Lists.{Made, AreAllowed, after_all}
+use Rattle.mc_theory.specs.Phases.{Quiet}
+use Rattle.mc_theory.specs.States.{State}
+use Rattle.mc_theory.specs.declared.act.Act.{Act}
 
 -- no deed runs, and the words agree with the history
 pub record IsQuiet (V : ℕ) (sh : Shape) (s : State V) : Type 0 where
@@ -35,22 +36,6 @@ pub record Makes (V : ℕ) (sh : Shape) (s : State V) (acts : List Act) (new : L
   pub history : (left V sh s acts).history ≡ s.history ++ new
   pub changes : (left V sh s acts).changes ≡ s.changes + steps
   pub hand : (left V sh s acts).hand ≡ s.hand
-
--- slot q of the later words holds this word, and the other slots hold what they held
-pub record SetsSlot (sh : Shape) (w later : List ℕ) (q word : ℕ) : Type 0 where
-  pub here : slot sh later q ≡ word
-  pub others : (o : ℕ) → o < 4 * sh.buckets → o ≢ q → slot sh later o ≡ slot sh w o
-
-abbrev pub KeepsSlots : Shape → List ℕ → List ℕ → Type 0
-KeepsSlots sh w later = (o : ℕ) → o < 4 * sh.buckets → slot sh later o ≡ slot sh w o
-
--- the items are as they were
-abbrev pub KeepsItems : ℕ → Shape → List ℕ → List ℕ → Type 0
-KeepsItems V sh w later = (i j : ℕ) → item V sh later i j ≡ item V sh w i j
-
--- each item that was named still is
-abbrev pub KeepsNamed : Shape → List ℕ → List ℕ → Type 0
-KeepsNamed sh w later = (q j : ℕ) → Names sh w q j → (o : ℕ) × Names sh later o j
 
 -- the key has room: an item that no slot names, and an empty slot in one of its buckets
 pub record CanFill (V : ℕ) (sh : Shape) (w : List ℕ) (k i : ℕ) (p : Place) : Type 0 where

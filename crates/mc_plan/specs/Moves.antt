@@ -8,10 +8,12 @@ use Rattle.mc_words.specs.Keys.{tag_of, alternate, IsBucketOf}
 use Rattle.mc_words.specs.Places.{slot_number, slot}
 use Rattle.mc_words.specs.Shapes.{IsShape}
 use Rattle.mc_words.specs.Standing.{Stands, IsAbsent, IsFree}
-use Rattle.mc_core.specs.States.{State}
-use Rattle.mc_core.specs.declared.act.Act.{Act}
-use Rattle.mc_plan.specs.Making.{IsQuiet, KeepsItems, KeepsNamed, Makes, left}
-use Rattle.mc_plan.specs.Plans.{key_named, first_place, moves_acts}
+use Rattle.mc_theory.specs.States.{State}
+use Rattle.mc_theory.specs.declared.act.Act.{Act}
+use Rattle.mc_plan.specs.Making.{IsQuiet, Makes, left}
+use Rattle.mc_search.specs.Kept.{KeepsItems, KeepsNamed}
+use Rattle.mc_plan.specs.Plans.{key_named, moves_acts}
+use Rattle.mc_search.specs.Paths.{first_place}
 
 -- the key stands in the slot, and the other slot is an empty one of the key's other bucket
 pub record CanMove (V : ℕ) (sh : Shape) (w : List ℕ) (k i : ℕ) (from to : Place) : Type 0 where

@@ -4,10 +4,11 @@ use Rattle.mc_words.specs.declared.place.Place.{Place}
 use Rattle.mc_words.specs.declared.shape.Shape.{Shape}
 use Rattle.mc_words.specs.Keys.{tag_of, slot_word}
 use Rattle.mc_words.specs.Places.{slot_number, slot, item}
-use Rattle.mc_core.specs.declared.act.Act.{Act}
-use Rattle.mc_core.specs.declared.act.Act.TheVariants.{Open, Slot, Item, Moment, Close}
-use Rattle.mc_core.specs.declared.act.Deed.{Deed}
-use Rattle.mc_core.specs.declared.act.Deed.TheVariants as deed
+use Rattle.mc_search.specs.Paths.{first_place}
+use Rattle.mc_theory.specs.declared.act.Act.{Act}
+use Rattle.mc_theory.specs.declared.act.Act.TheVariants.{Open, Slot, Item, Moment, Close}
+use Rattle.mc_theory.specs.declared.act.Deed.{Deed}
+use Rattle.mc_theory.specs.declared.act.Deed.TheVariants as deed
 
 -- these words are written into the item, from its word j on
 abbrev pub value_acts : ℕ → ℕ → List ℕ → List Act
@@ -45,11 +46,6 @@ item_in word = (word - 1) % 2 ^ 32
 -- the key of the item that the slot names
 abbrev pub key_named : ℕ → Shape → List ℕ → Place → ℕ
 key_named V sh w p = item V sh w (item_in (slot sh w (slot_number p))) 0
-
--- the first of the places, or the hole where there is none
-abbrev pub first_place : List Place → Place → Place
-first_place [] hole = hole
-first_place (p ∷ ps) hole = p
 
 -- the moves of a path: the item at the last place moves first
 abbrev pub moves_acts : ℕ → Shape → List ℕ → List Place → Place → List Act

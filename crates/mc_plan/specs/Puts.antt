@@ -8,12 +8,14 @@ use Rattle.mc_words.specs.History.{IsWord}
 use Rattle.mc_words.specs.Places.{slot_number}
 use Rattle.mc_words.specs.Shapes.{IsShape}
 use Rattle.mc_words.specs.Standing.{Names, Stands, IsAbsent, IsFree}
-use Rattle.mc_core.specs.States.{State}
-use Rattle.mc_core.specs.declared.act.Act.{Act}
+use Rattle.mc_theory.specs.States.{State}
+use Rattle.mc_theory.specs.declared.act.Act.{Act}
 use Rattle.mc_plan.specs.Laws.{IsValue}
-use Rattle.mc_plan.specs.Making.{IsQuiet, KeepsNamed, Makes, left}
+use Rattle.mc_plan.specs.Making.{IsQuiet, Makes, left}
+use Rattle.mc_search.specs.Kept.{KeepsNamed}
 use Rattle.mc_plan.specs.Moves.{AreKeys}
-use Rattle.mc_plan.specs.Plans.{first_place, fill_acts, moves_acts}
+use Rattle.mc_plan.specs.Plans.{fill_acts, moves_acts}
+use Rattle.mc_search.specs.Paths.{first_place}
 
 -- the key has a chain to a hole and a free item, and is not there
 pub record CanPut (V : ℕ) (sh : Shape) (w : List ℕ) (k i : ℕ) (places : List Place) (hole : Place) : Type 0 where

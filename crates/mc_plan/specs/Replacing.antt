@@ -8,13 +8,14 @@ use Rattle.mc_words.specs.History.{IsWord}
 use Rattle.mc_words.specs.Places.{IsPlace, slot_number}
 use Rattle.mc_words.specs.Shapes.{IsShape}
 use Rattle.mc_words.specs.Standing.{Stands, IsAbsent}
-use Rattle.mc_core.specs.States.{State}
-use Rattle.mc_core.specs.declared.act.Act.{Act}
+use Rattle.mc_theory.specs.States.{State}
+use Rattle.mc_theory.specs.declared.act.Act.{Act}
 use Rattle.mc_plan.specs.Laws.{IsValue}
-use Rattle.mc_plan.specs.Making.{IsQuiet, KeepsNamed, Makes, left}
+use Rattle.mc_plan.specs.Making.{IsQuiet, Makes, left}
+use Rattle.mc_search.specs.Kept.{KeepsNamed}
 use Rattle.mc_plan.specs.Moves.{AreKeys}
-use Rattle.mc_plan.specs.Paths.{IsCut}
-use Rattle.mc_plan.specs.Plans.{first_place, evict_acts}
+use Rattle.mc_search.specs.Paths.{IsCut, first_place}
+use Rattle.mc_plan.specs.Plans.{evict_acts}
 use Rattle.mc_plan.specs.Puts.{put_acts}
 
 -- the key is not there and has a chain to a hole, and the other key stands in the victim's slot, at which the chain is cut

@@ -6,28 +6,29 @@ ghost use Rattle.mc_words.specs.Checks.{shape_of};
 ghost use Rattle.mc_words.specs.History.{IsWord};
 ghost use Rattle.mc_words.specs.Places.{IsWidth, moment, word_count};
 ghost use Rattle.mc_words.specs.Standing.{IsAbsent};
-ghost use Rattle.mc_core.specs.States.{State, opening};
+ghost use Rattle.mc_theory.specs.States.{State, opening};
 ghost use Rattle.mc_plan.specs.Moves.{AreTaken, AreKeys};
 ghost use Rattle.mc_plan.specs.Plans.{renew_acts};
 ghost use Rattle.mc_plan.specs.Puts.{put_acts};
-ghost use Rattle.mc_plan.specs.Readable.{IsFilled};
+ghost use Rattle.mc_search.specs.Readable.{IsFilled};
 
 use crate::answer::{Put, PutError, Remove, Spent};
 use crate::fill::add_fill;
-use crate::finder::Finder;
-use crate::finding::find;
-use crate::free::FreeItems;
+use mc_search::Finder;
+use mc_search::find;
+use mc_search::FreeItems;
 use crate::moves::add_moves;
-use crate::no_memory::NoMemory;
-use crate::path::Path;
-use crate::peek::{Peek, key_at};
-use crate::reading::moment;
+use mc_words::NoMemory;
+use mc_search::Path;
+use mc_search::key_at;
+use mc_theory::Peek;
+use mc_search::moment;
 use crate::renew::add_renew;
-use crate::sweep::Sweep;
+use mc_search::Sweep;
 use crate::take_out::{add_evict, add_remove};
 use crate::waiting::{Start, Waiting};
 use arrayvec::ArrayVec;
-use mc_core::Act;
+use mc_theory::Act;
 use mc_words::Checked;
 use std::alloc::Global;
 
@@ -43,9 +44,9 @@ pub(crate) struct Books {
 }
 
 impl Books {
-    ghost use Rattle.mc_core.specs.declared.act.Act.TheVariants as act;
+    ghost use Rattle.mc_theory.specs.declared.act.Act.TheVariants as act;
     ghost use Rattle.mc_plan.specs.Clerks.{AreBooksOf, Call, IsPlanned, IsReplacing, IsStarted, IsSweepOf, IsSweeping, RemoveCall, quiet_of, swept};
-    ghost use Rattle.mc_plan.specs.Sweeps.{HasSwept, IsOver, Swept};
+    ghost use Rattle.mc_search.specs.Sweeps.{HasSwept, IsOver, Swept};
     ghost use Rattle.mc_plan.specs.declared.answer.Answer.TheVariants as answer;
 
     /// The books of a new table.

@@ -2,18 +2,18 @@
 ghost use Rattle.std.specs.Prelude.{◌≡◌, ◌+◌, ◌*◌, ◌<◌, ◌≤◌, ◌++◌, [], ◌∷◌, ◌↔◌, List, Some, None, IfOk, IfSome, IfNone, IsSome};
 ghost use Rattle.mc_words.specs.Checks.{shape_of};
 ghost use Rattle.mc_words.specs.Places.{IsWidth};
-ghost use Rattle.mc_core.specs.Acts.{IsAllowed};
-ghost use Rattle.mc_core.specs.Lists.{Made, after_all};
-ghost use Rattle.mc_core.specs.States.{State, opening};
-ghost use Rattle.mc_core.specs.Worlds.{HasChanges};
+ghost use Rattle.mc_theory.specs.Acts.{IsAllowed};
+ghost use Rattle.mc_theory.specs.Lists.{Made, after_all};
+ghost use Rattle.mc_theory.specs.States.{State, opening};
+ghost use Rattle.mc_theory.specs.Worlds.{HasChanges};
 
 use crate::answer::Answer;
 use crate::books::Books;
-use crate::no_memory::NoMemory;
-use crate::peek::Peek;
+use mc_words::NoMemory;
+use mc_theory::Peek;
 use crate::waiting::{Start, Waiting};
 use arrayvec::ArrayVec;
-use mc_core::Act;
+use mc_theory::Act;
 use mc_words::Checked;
 use std::alloc::Global;
 use std::mem;
@@ -40,9 +40,9 @@ pub struct Clerk<const V: usize> {
 }
 
 impl<const V: usize> Clerk<V> {
-    ghost use Rattle.mc_core.specs.declared.act.Act.{Act};
+    ghost use Rattle.mc_theory.specs.declared.act.Act.{Act};
     ghost use Rattle.mc_plan.specs.Clerks.{Call, PutCall, RemoveCall, Knows, IsOn, IsRunning, HasEndedSweep, Answered, next_act, acts_left, shape_in};
-    ghost use Rattle.mc_plan.specs.Sweeps.{Swept, hand_acts};
+    ghost use Rattle.mc_search.specs.Sweeps.{Swept, hand_acts};
 
     /// The clerk of a new table.
     pub fn new(alloc: Global, checked: &Checked) -> Result<Clerk<V>, NoMemory>

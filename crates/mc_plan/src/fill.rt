@@ -9,7 +9,7 @@ ghost use Rattle.mc_plan.specs.Plans.{fill_acts};
 
 use crate::value::{add_value, words_of};
 use arrayvec::ArrayVec;
-use mc_core::{Act, Deed};
+use mc_theory::{Act, Deed};
 use mc_words::{Checked, Place};
 
 /// Adds the acts that put a key, at a free item and in an empty slot of one of its buckets.

@@ -6,12 +6,13 @@ ghost use Rattle.mc_words.specs.Checks.{shape_of};
 ghost use Rattle.mc_words.specs.Places.{IsWidth, item, word_count};
 ghost use Rattle.mc_plan.specs.Moves.{AreTaken, AreKeys, MakesRoom};
 ghost use Rattle.mc_plan.specs.Plans.{item_in, move_acts, moves_acts};
-ghost use Rattle.mc_plan.specs.Readable.{IsFilled, NamesSome};
+ghost use Rattle.mc_search.specs.Readable.{IsFilled, NamesSome};
 
-use crate::path::Path;
-use crate::peek::{Peek, key_at, slot_at};
+use mc_search::Path;
+use mc_search::{key_at, slot_at};
+use mc_theory::Peek;
 use arrayvec::ArrayVec;
-use mc_core::{Act, Deed};
+use mc_theory::{Act, Deed};
 use mc_words::{Checked, Place};
 
 /// Adds the acts that move the key to an empty slot of its other bucket. The new slot is written before the old one

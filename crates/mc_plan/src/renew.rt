@@ -10,7 +10,7 @@ ghost use Rattle.mc_plan.specs.Plans.{renew_acts};
 
 use crate::value::{add_value, words_of};
 use arrayvec::ArrayVec;
-use mc_core::{Act, Deed};
+use mc_theory::{Act, Deed};
 
 /// Adds the acts that put a new value of the key that stands at the item.
 pub fn add_renew<const V: usize>(

@@ -7,7 +7,7 @@ ghost use Rattle.mc_plan.specs.Making.{Removes, Evicts};
 ghost use Rattle.mc_plan.specs.Plans.{take_out_acts, remove_acts, evict_acts};
 
 use arrayvec::ArrayVec;
-use mc_core::{Act, Deed};
+use mc_theory::{Act, Deed};
 use mc_words::Place;
 
 /// Adds the acts that take out the key that stands in the slot, by a removal or an eviction.

@@ -5,7 +5,7 @@ ghost use Rattle.mc_words.specs.History.{IsWord};
 ghost use Rattle.mc_plan.specs.Plans.{value_acts};
 
 use arrayvec::ArrayVec;
-use mc_core::Act;
+use mc_theory::Act;
 
 /// The words of a value as a slice.
 pub(crate) fn words_of<const V: usize>(value: &[u64; V]) -> &[u64]

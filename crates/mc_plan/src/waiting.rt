@@ -1,7 +1,7 @@
 //! A put that waits for an item.
 use crate::answer::{Put, PutError};
-use crate::path::Path;
-use crate::sweep::Sweep;
+use mc_search::Path;
+use mc_search::Sweep;
 
 /// How far a put is once it was begun.
 #[derive(Drop)]

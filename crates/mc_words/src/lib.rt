@@ -7,6 +7,7 @@
 mod checked;
 mod history;
 mod mix;
+mod no_memory;
 mod place;
 mod shape;
 #[cfg(test)]
@@ -15,5 +16,6 @@ mod tests;
 pub use checked::Checked;
 pub use history::{Change, Reply};
 pub use mix::Mix;
+pub use no_memory::NoMemory;
 pub use place::Place;
 pub use shape::{Shape, ShapeError};

@@ -1,17 +1,17 @@
 //! A world makes a list of events.
 ghost use Rattle.std.specs.Prelude.{◌≡◌, ◌+◌, ◌<◌, ◌≤◌, ◌++◌, ◌∷◌, [], vec_len, vec_capacity};
 
-use crate::event::{Done, Event, Stepped, Unlawful};
+use mc_theory::{Done, Event, Stepped, Unlawful};
 use crate::parts::Parts;
 use std::alloc::{AllocError, Global};
 
 impl<const V: usize> Parts<V> {
     ghost use Rattle.std.specs.Prelude.{◌≡◌, ◌≢◌, ◌+◌, ◌<◌, ◌≤◌, ◌∷◌, [], length, take, IfOk, IfErr, OnOk, OnErr, vec_len, vec_capacity};
     ghost use Rattle.mc_core.specs.Parts.{shape_of_parts, shown_of, StandFor, HasMade};
-    ghost use Rattle.mc_core.specs.Worlds as worlds;
-    ghost use Rattle.mc_core.specs.Worlds.{many_made, StopsAt};
+    ghost use Rattle.mc_theory.specs.Worlds as worlds;
+    ghost use Rattle.mc_theory.specs.Worlds.{many_made, StopsAt};
     ghost use Rattle.mc_core.specs.Writers.{room_of};
-    ghost use Rattle.mc_core.specs.declared.event.Unlawful.TheVariants as unlawful;
+    ghost use Rattle.mc_theory.specs.declared.event.Unlawful.TheVariants as unlawful;
 
     /// Makes the events up to the first that is refused: what the look-ups told that ended, and where it stopped.
     pub(crate) fn run(

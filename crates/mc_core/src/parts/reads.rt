@@ -1,23 +1,23 @@
 //! The readers of a world begin look-ups and make their accesses.
 ghost use Rattle.std.specs.Prelude.{◌≡◌, Some, IsSome};
-ghost use Rattle.mc_core.specs.Machine.{next_of, shape_for};
-ghost use Rattle.mc_core.specs.Writes.{IsAccess};
+ghost use Rattle.mc_lookup.specs.Machine.{next_of, shape_for};
+ghost use Rattle.mc_theory.specs.Writes.{IsAccess};
 
-use crate::access::Access;
-use crate::event::{Done, Stepped, Unlawful};
-use crate::lookup::Lookup;
+use mc_theory::Access;
+use mc_theory::{Done, Stepped, Unlawful};
+use mc_lookup::Lookup;
 use crate::parts::Parts;
 use crate::reader::Reader;
 
 impl<const V: usize> Parts<V> {
-    ghost use Rattle.mc_core.specs.declared.event.Unlawful.TheVariants as unlawful;
+    ghost use Rattle.mc_theory.specs.declared.event.Unlawful.TheVariants as unlawful;
     ghost use Rattle.std.specs.Prelude.{◌≡◌, ◌≢◌, ◌+◌, ◌-◌, ◌^◌, ◌<◌, Some, None, IfOk, IfErr, OnOk, OnErr, IsSome, length, slice_get, slice_set, unwrap_or};
     ghost use Rattle.mc_core.specs.Parts.{shape_of_parts, shown_of, StandFor};
     ghost use Rattle.mc_core.specs.Seen.{state_after};
-    ghost use Rattle.mc_core.specs.Worlds as worlds;
-    ghost use Rattle.mc_core.specs.Worlds.{bits_read};
-    ghost use Rattle.mc_core.specs.Writes.{IsAccess};
-    ghost use Rattle.mc_core.specs.declared.event.Event.TheVariants as event;
+    ghost use Rattle.mc_theory.specs.Worlds as worlds;
+    ghost use Rattle.mc_theory.specs.Worlds.{bits_read};
+    ghost use Rattle.mc_theory.specs.Writes.{IsAccess};
+    ghost use Rattle.mc_theory.specs.declared.event.Event.TheVariants as event;
 
     /// A reader begins a look-up of a key.
     pub(crate) fn begin(&mut self, reader: u32, key: u64) -> Result<Stepped<V>, Unlawful>

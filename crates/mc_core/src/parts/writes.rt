@@ -1,17 +1,17 @@
 //! The writer of a world makes its acts.
-use crate::act::Act;
-use crate::event::{Stepped, Unlawful, given_by};
+use mc_theory::Act;
+use mc_theory::{Stepped, Unlawful, given_by};
 use crate::parts::Parts;
 
 impl<const V: usize> Parts<V> {
     ghost use Rattle.std.specs.Prelude.{◌≡◌, ◌+◌, ◌-◌, ◌^◌, ◌<◌, ◌≤◌, ◌↔◌, IfOk, IfErr, OnOk, OnErr, IsTrue};
-    ghost use Rattle.mc_core.specs.Worlds as worlds;
-    ghost use Rattle.mc_core.specs.Worlds.{HasChanges, bit_of, bits_after};
+    ghost use Rattle.mc_theory.specs.Worlds as worlds;
+    ghost use Rattle.mc_theory.specs.Worlds.{HasChanges, bit_of, bits_after};
     ghost use Rattle.mc_core.specs.Writers.{room_of};
-    ghost use Rattle.mc_core.specs.declared.event.Unlawful.TheVariants as unlawful;
+    ghost use Rattle.mc_theory.specs.declared.event.Unlawful.TheVariants as unlawful;
     ghost use Rattle.mc_core.specs.Parts.{shape_of_parts, shown_of, StandFor};
     ghost use Rattle.mc_core.specs.Seen.{state_after, ReadsIn};
-    ghost use Rattle.mc_core.specs.declared.event.Event.TheVariants as event;
+    ghost use Rattle.mc_theory.specs.declared.event.Event.TheVariants as event;
 
     /// Whether the act passes no limit.
     fn is_within(&self, act: Act) -> bool

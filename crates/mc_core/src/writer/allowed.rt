@@ -4,12 +4,12 @@ ghost use Rattle.mc_words.specs.Keys.{tag_of, alternate, slot_word, IsBucketOf};
 ghost use Rattle.mc_words.specs.Chains.{IsHole};
 ghost use Rattle.mc_words.specs.Places.{IsPlace, payload, slot, slot_number};
 ghost use Rattle.mc_words.specs.Standing.{Stands, IsAbsent, IsPresent, HasFree};
-ghost use Rattle.mc_core.specs.Acts.{MayFrom, MayOpen};
-ghost use Rattle.mc_core.specs.Phases.{Quiet, Filling, Keyed, Renewing, Removing, Moving, Moved};
+ghost use Rattle.mc_theory.specs.Acts.{MayFrom, MayOpen};
+ghost use Rattle.mc_theory.specs.Phases.{Quiet, Filling, Keyed, Renewing, Removing, Moving, Moved};
 ghost use Rattle.mc_core.specs.Tables.{StandsAt};
 ghost use Rattle.mc_core.specs.Writers.{shape_at, words_at, UsedWell, StandsWell, IsFreeItem};
 
-use crate::act::{Act, Deed};
+use mc_theory::{Act, Deed};
 use crate::writer::Writer;
 use mc_words::Place;
 

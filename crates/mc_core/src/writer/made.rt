@@ -2,16 +2,16 @@
 ghost use Rattle.std.specs.Prelude.{◌≡◌, ◌+◌, ◌-◌, ◌^◌, ◌<◌, ℕ, List, [], ◌∷◌, OnOk, OnErr};
 ghost use Rattle.mc_words.specs.Keys.{stripe_of};
 ghost use Rattle.mc_words.specs.Places.{version, moment};
-ghost use Rattle.mc_core.specs.Acts.{IsAllowed};
-ghost use Rattle.mc_core.specs.Inner.{StateHolds};
-ghost use Rattle.mc_core.specs.Phases.{opened, Closing};
-ghost use Rattle.mc_core.specs.Effects.{change_of, phase_after};
+ghost use Rattle.mc_theory.specs.Acts.{IsAllowed};
+ghost use Rattle.mc_theory.specs.Inner.{StateHolds};
+ghost use Rattle.mc_theory.specs.Phases.{opened, Closing};
+ghost use Rattle.mc_theory.specs.Effects.{change_of, phase_after};
 ghost use Rattle.mc_core.specs.Progresses.{count_at, fresh_slot};
 ghost use Rattle.mc_core.specs.Writers.{shape_at, words_at, room_of, state_in, phase_at, UsedWell, IsMade, IsKept};
-ghost use Rattle.mc_core.specs.declared.act.Act.{Act};
+ghost use Rattle.mc_theory.specs.declared.act.Act.{Act};
 ghost use Rattle.mc_core.specs.declared.progress.Progress.{Progress};
 
-use crate::act::{Act, Deed};
+use mc_theory::{Act, Deed};
 use crate::progress::Progress;
 use crate::writer::Writer;
 use mc_words::Change;

@@ -1,12 +1,12 @@
 //! Writing a slot, one function for each place in a deed where a slot is written.
 ghost use Rattle.std.specs.Prelude.{◌≡◌, ℕ};
-ghost use Rattle.mc_core.specs.Acts.{IsAllowed};
-ghost use Rattle.mc_core.specs.Inner.{StateHolds};
+ghost use Rattle.mc_theory.specs.Acts.{IsAllowed};
+ghost use Rattle.mc_theory.specs.Inner.{StateHolds};
 ghost use Rattle.mc_core.specs.Writers.{shape_at, state_in, UsedWell, IsMade};
-ghost use Rattle.mc_core.specs.declared.act.Act.{Act};
+ghost use Rattle.mc_theory.specs.declared.act.Act.{Act};
 ghost use Rattle.mc_core.specs.declared.progress.Progress.{Progress};
 
-use crate::act::Act;
+use mc_theory::Act;
 use crate::progress::Progress;
 use crate::writer::Writer;
 use mc_words::Place;

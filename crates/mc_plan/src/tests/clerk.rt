@@ -1,9 +1,9 @@
 ghost use Rattle.std.specs.Prelude.{◌≡◌, ◌+◌, ◌<◌, IfOk, IfSome, IsTrue, Some, slice_set, length};
 ghost use Rattle.mc_words.specs.Checks.{shape_of};
-ghost use Rattle.mc_core.specs.Effects.{bumped, words_after};
-ghost use Rattle.mc_core.specs.Phases.{Phase, Quiet, running};
-ghost use Rattle.mc_core.specs.States.{opening};
-ghost use Rattle.mc_core.specs.declared.act.Act.TheVariants.{Close, Moment};
+ghost use Rattle.mc_theory.specs.Effects.{bumped, words_after};
+ghost use Rattle.mc_theory.specs.Phases.{Phase, Quiet, running};
+ghost use Rattle.mc_theory.specs.States.{opening};
+ghost use Rattle.mc_theory.specs.declared.act.Act.TheVariants.{Close, Moment};
 ghost use Rattle.mc_plan.specs.Drivers.{key_after, IsBeside, IsMaking};
 
 use crate::{Answer, Clerk, NoMemory, Peek, Put, PutError, Remove, moment, read};
@@ -37,7 +37,7 @@ impl Peek for Look<'_> {
 }
 
 impl Driver {
-    #[tactic(auto, unfolding(mc_core::specs::States::opening))]
+    #[tactic(auto, unfolding(mc_theory::specs::States::opening))]
     fn new(alloc: Global, checked: &Checked) -> Result<Driver, AllocError>
         ensures words { IfOk result (λ d. d.words.items ≡ (opening 1 (shape_of checked.now)).words) }
         ensures shape { IfOk result (λ d. d.checked ≡ checked.now) }

@@ -1,7 +1,7 @@
 ghost use Rattle.std.specs.Prelude.{◌≡◌, ◌≤◌, IsTrue, length};
 ghost use Rattle.mc_words.specs.Checks.{shape_of};
 ghost use Rattle.mc_words.specs.Places.{IsPlace, slot_number, word_count};
-ghost use Rattle.mc_plan.specs.Readable.{IsPlaced, IsPlacedAt};
+ghost use Rattle.mc_search.specs.Readable.{IsPlaced, IsPlacedAt};
 
 use crate::find;
 use crate::peek::{key_at, slot_at};

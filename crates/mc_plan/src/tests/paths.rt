@@ -3,7 +3,7 @@
 
 ghost use Rattle.std.specs.Prelude.{◌≡◌};
 ghost use Rattle.mc_words.specs.Checks.{shape_of};
-ghost use Rattle.mc_plan.specs.Readable.{HasSlots, IsFilled};
+ghost use Rattle.mc_search.specs.Readable.{HasSlots, IsFilled};
 
 use crate::tests::table::{Table, checked_with, is_readable, table_of};
 use crate::{Finder, Path};

@@ -1,6 +1,6 @@
 ghost use Rattle.std.specs.Prelude.{◌≡◌, IsTrue};
 ghost use Rattle.mc_words.specs.Checks.{shape_of};
-ghost use Rattle.mc_plan.specs.Readable.{HasSlots, IsFilled};
+ghost use Rattle.mc_search.specs.Readable.{HasSlots, IsFilled};
 
 use crate::peek::{Peek, slot_at};
 use mc_words::{Checked, Mix, Place, Shape, ShapeError};

@@ -1,9 +1,9 @@
 use Rattle.std.proofs.Common.{codes, map, sym}
 use Rattle.std.proofs.KnownBytes.{Keeps-refl}
 use Rattle.clap.specs.Words.{first_of, kind_of}
-use Rattle.mc_load.specs.Options.{texts_of}
+use Rattle.mc_options.specs.Options.{texts_of}
 use Rattle.mc_load.specs.Programs.Runs.{runs}
-use Rattle.mc_load.proofs.CommandLines.{number-bounds}
+use Rattle.mc_options.proofs.CommandLines.{number-bounds}
 use Rattle.mc_load.proofs.Running.{runs_fault}
 use Rattle.mc_load.proofs.step.run_step.Goals as goal
 

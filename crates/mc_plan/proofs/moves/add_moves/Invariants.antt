@@ -1,6 +1,7 @@
 use Rattle.std.proofs.Common.{◌≡◌, ◌+◌, ◌*◌, ◌≤◌, ◌++◌, drop, length}
 use Rattle.mc_plan.specs.Moves.{AreKeys}
-use Rattle.mc_plan.specs.Plans.{first_place, moves_acts}
+use Rattle.mc_plan.specs.Plans.{moves_acts}
+use Rattle.mc_search.specs.Paths.{first_place}
 use Rattle.mc_plan.proofs.moves.add_moves.Given as goal
 
 abbrev pub invariant-loop-n : goal.invariant-loop-n

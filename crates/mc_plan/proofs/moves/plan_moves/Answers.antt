@@ -1,5 +1,5 @@
 use Rattle.std.proofs.Common.{List, sym, subst}
-use Rattle.mc_core.specs.declared.act.Act.{Act}
+use Rattle.mc_theory.specs.declared.act.Act.{Act}
 use Rattle.mc_plan.specs.Moves.{MakesRoom}
 use Rattle.mc_plan.proofs.Displacing.{room_made}
 use Rattle.mc_plan.proofs.Steps.{chain_taken}

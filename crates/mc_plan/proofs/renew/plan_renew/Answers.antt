@@ -1,5 +1,5 @@
 use Rattle.std.proofs.Common.{List, sym, subst, arith}
-use Rattle.mc_core.specs.declared.act.Act.{Act}
+use Rattle.mc_theory.specs.declared.act.Act.{Act}
 use Rattle.mc_plan.specs.Making.{Renews}
 use Rattle.mc_plan.proofs.Renewing.{renews}
 use Rattle.mc_plan.proofs.Values.{payload_of, plan_is}

@@ -1,5 +1,5 @@
 use Rattle.std.proofs.Common.{List, sym, subst, arith}
-use Rattle.mc_core.specs.declared.act.Act.{Act}
+use Rattle.mc_theory.specs.declared.act.Act.{Act}
 use Rattle.mc_plan.specs.Making.{Removes}
 use Rattle.mc_plan.proofs.Removing.{removes}
 use Rattle.mc_plan.proofs.Values.{plan_is}

@@ -1,7 +1,7 @@
 use Rattle.std.proofs.Common.{refl, sym, subst, []}
 use Rattle.mc_words.specs.declared.shape.Shape.{Shape}
 use Rattle.mc_words.specs.Checks.{shape_of}
-use Rattle.mc_core.specs.Worlds.{first_world, IsReached}
+use Rattle.mc_theory.specs.Worlds.{first_world, IsReached}
 use Rattle.mc_core.proofs.world.World.new.Goals as goal
 
 pub invariant_of-result : goal.invariant_of-result

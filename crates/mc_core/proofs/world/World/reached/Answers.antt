@@ -2,8 +2,8 @@ use Rattle.std.proofs.Common.{subst}
 use Rattle.std.specs.Prelude.{All}
 use Rattle.mc_core.specs.Parts.{shape_of_parts}
 use Rattle.mc_core.specs.Seen.{Shown, Shows}
-use Rattle.mc_core.specs.Worlds.{World, IsReached, IsTrueEnd}
-use Rattle.mc_core.proofs.Reached.{worlds_are_true}
+use Rattle.mc_theory.specs.Worlds.{World, IsReached, IsTrueEnd}
+use Rattle.mc_theory.proofs.Reached.{worlds_are_true}
 use Rattle.mc_core.proofs.world.World.reached.Goals as goal
 
 pub returns-clause-events : goal.returns-clause-events

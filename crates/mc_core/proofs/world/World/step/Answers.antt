@@ -1,10 +1,10 @@
 use Rattle.std.specs.Prelude.{◌≡◌, ◌+◌, IfOk, IfErr, OnOk}
-use Rattle.mc_core.specs.declared.act.Act.{Act}
-use Rattle.mc_core.specs.declared.act.Act.TheVariants as act
-use Rattle.mc_core.specs.declared.event.Event.TheVariants.{Write}
-use Rattle.mc_core.specs.declared.event.Unlawful.TheVariants as unlawful
+use Rattle.mc_theory.specs.declared.act.Act.{Act}
+use Rattle.mc_theory.specs.declared.act.Act.TheVariants as act
+use Rattle.mc_theory.specs.declared.event.Event.TheVariants.{Write}
+use Rattle.mc_theory.specs.declared.event.Unlawful.TheVariants as unlawful
 use Rattle.mc_core.specs.Seen.{Shown, Shows, MayAct}
-use Rattle.mc_core.specs.Worlds.{World, bit_of, given_of, Steps, Gives, Refuses, IsReached, IsTrueEnd}
+use Rattle.mc_theory.specs.Worlds.{World, bit_of, given_of, Steps, Gives, Refuses, IsReached, IsTrueEnd}
 use Rattle.mc_words.specs.Shapes.{IsShape}
 use Rattle.std.specs.Prelude.{All}
 use Rattle.std.proofs.lemmas.Result.{IfOk-weaker}

@@ -2,7 +2,7 @@ use Rattle.mc_core.proofs.writer.Writer.clear_slot.Goals as goal
 use Rattle.std.proofs.Common.{refl, ◌+◌, ◌<◌, length, arith}
 use Rattle.mc_words.specs.Places.{slot_number}
 use Rattle.mc_core.specs.Writers.{shape_at, words_at}
-use Rattle.mc_core.specs.declared.act.Act.TheVariants as act
+use Rattle.mc_theory.specs.declared.act.Act.TheVariants as act
 use Rattle.mc_core.specs.declared.progress.Progress.TheVariants as progress
 use Rattle.mc_core.proofs.Allowed.{may_at, only_one}
 use Rattle.mc_core.proofs.Words.{holds_at}

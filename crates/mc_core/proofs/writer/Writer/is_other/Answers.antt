@@ -1,7 +1,7 @@
 use Rattle.mc_core.proofs.writer.Writer.is_other.Goals as goal
 use Rattle.std.proofs.lemmas.Bool.{false≢true}
 use Rattle.mc_core.specs.Writers.{shape_at, words_at}
-use Rattle.mc_core.proofs.Taking.{both_trans}
+use Rattle.mc_lookup.proofs.Taking.{both_trans}
 use Rattle.mc_core.proofs.Words.{across}
 
 pub returns-in-Some : goal.returns-in-Some

@@ -1,5 +1,5 @@
 use Rattle.mc_core.proofs.writer.Writer.is_whole.Goals as goal
-use Rattle.mc_core.proofs.Taking.{both_trans}
+use Rattle.mc_lookup.proofs.Taking.{both_trans}
 use Rattle.mc_core.proofs.Words.{all_words}
 
 pub returns : goal.returns

@@ -3,7 +3,7 @@ use Rattle.std.proofs.Common.{rules, sym, subst, arith}
 use Rattle.mc_words.proofs.Keys.{stripe_of-lt}
 use Rattle.mc_words.specs.Keys.{stripe_of}
 use Rattle.mc_core.specs.Writers.{shape_at, IsMade}
-use Rattle.mc_core.specs.declared.act.Act.{Act}
+use Rattle.mc_theory.specs.declared.act.Act.{Act}
 use Rattle.mc_core.proofs.Making.{on_ok}
 
 pub open-requires : goal.open-requires

@@ -3,9 +3,9 @@ use Rattle.std.proofs.Common.{refl, ap, ◌+◌, ◌<◌, ℕ, List, length, ari
 use Rattle.mc_words.specs.Keys.{tag_of}
 use Rattle.mc_words.specs.Places.{slot_number}
 use Rattle.mc_words.proofs.Keys.{tag_of-lt}
-use Rattle.mc_core.specs.Phases as phases
+use Rattle.mc_theory.specs.Phases as phases
 use Rattle.mc_core.specs.Writers.{shape_at, words_at}
-use Rattle.mc_core.specs.declared.act.Act.TheVariants as act
+use Rattle.mc_theory.specs.declared.act.Act.TheVariants as act
 use Rattle.mc_core.specs.declared.progress.Progress.TheVariants as progress
 use Rattle.mc_core.proofs.Allowed.{may_at}
 use Rattle.mc_core.proofs.Items.{some_free}

@@ -1,6 +1,6 @@
 use Rattle.std.proofs.Common.{◌≡◌, ◌∙◌, Some, None, sym}
 use Rattle.mc_words.specs.Checks.{shape_of}
-use Rattle.mc_plan.specs.Sweeps.{victim_of}
+use Rattle.mc_search.specs.Sweeps.{victim_of}
 use Rattle.mc_plan.proofs.Sweeping.{over_without}
 use Rattle.mc_plan.proofs.Taking.{recent_planned}
 use Rattle.mc_plan.proofs.books.Books.go_on.Goals as goal

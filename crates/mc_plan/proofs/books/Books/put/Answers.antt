@@ -5,9 +5,9 @@ use Rattle.mc_words.specs.Answers.{PutIsSpent}
 use Rattle.mc_words.specs.Checks.{shape_of}
 use Rattle.mc_words.specs.Places.{moment, slot_number}
 use Rattle.mc_words.specs.Standing.{Stands, IsAbsent}
-use Rattle.mc_core.specs.States.{State}
-use Rattle.mc_core.specs.declared.act.Act.{Act}
-use Rattle.mc_core.specs.declared.act.Act.TheVariants as act
+use Rattle.mc_theory.specs.States.{State}
+use Rattle.mc_theory.specs.declared.act.Act.{Act}
+use Rattle.mc_theory.specs.declared.act.Act.TheVariants as act
 use Rattle.mc_plan.specs.Clerks.{PutCall, AreBooksOf, IsPlanned, quiet_of}
 use Rattle.mc_plan.specs.declared.answer.Answer.TheVariants as answer
 use Rattle.mc_plan.specs.declared.answer.Put.TheVariants as put

@@ -2,9 +2,9 @@ use Rattle.std.proofs.Common.{ℕ, List, [], ◌∷◌, ◌++◌, Some, Ok, ◌�
 use Rattle.mc_words.specs.Checks.{shape_of}
 use Rattle.mc_words.specs.Places.{item, moment, slot_number}
 use Rattle.mc_words.specs.Standing.{Stands}
-use Rattle.mc_core.specs.States.{State}
-use Rattle.mc_core.specs.declared.act.Act.{Act}
-use Rattle.mc_core.specs.declared.act.Act.TheVariants as act
+use Rattle.mc_theory.specs.States.{State}
+use Rattle.mc_theory.specs.declared.act.Act.{Act}
+use Rattle.mc_theory.specs.declared.act.Act.TheVariants as act
 use Rattle.mc_plan.specs.Clerks.{Call, IsPlanned, IsReplacing, IsSweepOf, swept}
 use Rattle.mc_plan.specs.declared.answer.Answer.{Answer}
 use Rattle.mc_plan.specs.declared.answer.Answer.TheVariants as answer
@@ -13,7 +13,7 @@ use Rattle.mc_plan.specs.declared.books.Books.{Books}
 use Rattle.mc_plan.specs.Moves.{AreKeys, AreTaken}
 use Rattle.mc_plan.specs.Plans.{evict_acts}
 use Rattle.mc_plan.specs.Puts.{put_acts}
-use Rattle.mc_plan.specs.Readable.{IsFilled}
+use Rattle.mc_search.specs.Readable.{IsFilled}
 use Rattle.mc_plan.specs.Replacing.{replace_acts}
 use Rattle.mc_plan.proofs.Booking.{reaches, filled_in, placed_in}
 use Rattle.mc_plan.proofs.Steps.{chain_taken, cut_taken}

@@ -1,17 +1,17 @@
 use Rattle.std.proofs.Common.{ℕ, List, refl, [], ◌∷◌, ◌++◌, None, Ok, Err, ◌≡◌, ◌+◌, ◌*◌, ◌∙◌, ap, arith, length, sym, subst, rules}
 use Rattle.mc_words.specs.Checks.{shape_of}
 use Rattle.mc_words.specs.declared.shape.Shape.{Shape}
-use Rattle.mc_core.specs.declared.act.Act.{Act}
+use Rattle.mc_theory.specs.declared.act.Act.{Act}
 use Rattle.mc_plan.specs.Clerks.{PutCall, IsPlanned, Waits}
 use Rattle.mc_plan.specs.declared.answer.Answer.TheVariants as answer
-use Rattle.mc_core.specs.declared.act.Act.TheVariants as act
+use Rattle.mc_theory.specs.declared.act.Act.TheVariants as act
 use Rattle.mc_plan.specs.declared.answer.Put.TheVariants as put
 use Rattle.mc_plan.specs.declared.answer.PutError.TheVariants as why
 use Rattle.mc_plan.specs.declared.books.Books.{Books}
 use Rattle.mc_plan.specs.Moves.{AreTaken, AreKeys}
 use Rattle.mc_plan.specs.Puts.{put_acts}
-use Rattle.mc_plan.specs.Readable.{IsFilled}
-use Rattle.mc_plan.proofs.Freeing.{free_below}
+use Rattle.mc_search.specs.Readable.{IsFilled}
+use Rattle.mc_search.proofs.Freeing.{free_below}
 use Rattle.mc_plan.proofs.Steps.{chain_taken}
 use Rattle.mc_plan.proofs.Values.{payload_of}
 use Rattle.mc_plan.proofs.Booking.{idle_planned, books_still, path_refused, stored_planned, reaches, filled_in, none_in, least_in, moment_in, absent_in}

@@ -1,9 +1,9 @@
 use Rattle.std.proofs.Common.{ℕ, Option, Some, None, ◌≡◌, ◌∙◌, inl, inr, false, ap, refl, sym, subst}
 use Rattle.std.proofs.lemmas.Bool.{false≢true}
 use Rattle.std.specs.Option.{IsSome, is_some}
-use Rattle.mc_core.specs.declared.act.Act.{Act}
+use Rattle.mc_theory.specs.declared.act.Act.{Act}
 use Rattle.mc_plan.specs.Clerks.{IsRunning, Runs, hand_of, next_act, next_in}
-use Rattle.mc_plan.specs.Sweeps.{next_item}
+use Rattle.mc_search.specs.Sweeps.{next_item}
 use Rattle.mc_plan.specs.declared.clerk.Stage.{Stage}
 use Rattle.mc_plan.proofs.Onward.{on_runs, whole_call}
 use Rattle.mc_plan.proofs.clerk.Clerk.answer.Goals as goal

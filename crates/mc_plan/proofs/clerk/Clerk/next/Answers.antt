@@ -1,7 +1,7 @@
 use Rattle.std.proofs.Common.{◌≡◌, ◌∙◌, Some, ap, sym}
 use Rattle.std.specs.Prelude.{slice_get}
 use Rattle.mc_plan.specs.declared.clerk.Stage.{Stage}
-use Rattle.mc_core.specs.declared.act.Act.TheVariants.{Hand}
+use Rattle.mc_theory.specs.declared.act.Act.TheVariants.{Hand}
 use Rattle.mc_plan.specs.Clerks.{hand_of, next_act, next_in}
 use Rattle.mc_plan.proofs.Hands.{sweep_may}
 use Rattle.mc_plan.proofs.Onward.{at_stage, copied_is, plan_may}

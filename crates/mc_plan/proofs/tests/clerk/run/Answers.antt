@@ -2,9 +2,9 @@ use Rattle.std.proofs.Common.{ℕ, [], ◌∷◌, ◌++◌, ◌≡◌, ◌∙◌
 use Rattle.std.proofs.lemmas.Option.{IfSome_then}
 use Rattle.mc_words.specs.declared.shape.Shape.{Shape}
 use Rattle.mc_words.specs.Checks.{shape_of}
-use Rattle.mc_core.specs.Acts.{IsAllowed}
-use Rattle.mc_core.specs.Effects.{words_after}
-use Rattle.mc_core.specs.Lists.{after_all}
+use Rattle.mc_theory.specs.Acts.{IsAllowed}
+use Rattle.mc_theory.specs.Effects.{words_after}
+use Rattle.mc_theory.specs.Lists.{after_all}
 use Rattle.mc_plan.specs.Clerks.{shape_in}
 use Rattle.mc_plan.specs.Drivers.{IsTied}
 use Rattle.mc_plan.proofs.Driving.{tied_next, closes_tied, words_next}

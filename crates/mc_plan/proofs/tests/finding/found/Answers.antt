@@ -1,6 +1,6 @@
 use Rattle.std.proofs.Common.{ℕ, List, refl, sym, subst}
 use Rattle.mc_words.specs.Checks.{shape_of}
-use Rattle.mc_plan.specs.Readable.{IsPlaced}
+use Rattle.mc_search.specs.Readable.{IsPlaced}
 use Rattle.mc_plan.proofs.tests.finding.found.Goals as goal
 
 pub find-requires-clause-placed : goal.find-requires-clause-placed

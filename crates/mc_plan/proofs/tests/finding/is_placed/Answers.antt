@@ -1,7 +1,7 @@
 use Rattle.std.proofs.Common.{ℕ, ◌≡◌, ◌∙◌, ◌+◌, ◌*◌, ◌/◌, ◌%◌, List, below_more, refl, ap, subst, arith}
 use Rattle.mc_words.specs.declared.shape.Shape.{Shape}
 use Rattle.mc_words.specs.Checks.{shape_of}
-use Rattle.mc_plan.specs.Readable.{IsPlacedAt}
+use Rattle.mc_search.specs.Readable.{IsPlacedAt}
 use Rattle.mc_plan.proofs.tests.finding.is_placed.Goals as goal
 
 pub loop-q-preserved : goal.loop-q-preserved

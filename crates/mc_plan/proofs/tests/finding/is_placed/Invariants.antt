@@ -1,7 +1,7 @@
 use Rattle.std.proofs.Common.{ℕ, ◌≡◌, ◌<◌, ◌≤◌, length}
 use Rattle.mc_words.specs.Checks.{shape_of}
 use Rattle.mc_words.specs.Places.{word_count}
-use Rattle.mc_plan.specs.Readable.{IsPlacedAt}
+use Rattle.mc_search.specs.Readable.{IsPlacedAt}
 use Rattle.mc_plan.proofs.tests.finding.is_placed.Given as goal
 
 abbrev pub invariant-loop-q : goal.invariant-loop-q

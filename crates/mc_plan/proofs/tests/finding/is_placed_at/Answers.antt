@@ -8,7 +8,7 @@ use Rattle.mc_words.specs.Places.{IsPlace, slot, item, slot_number}
 use Rattle.mc_words.specs.Shapes.{IsShape}
 use Rattle.mc_words.specs.Standing.{Stands}
 use Rattle.mc_words.proofs.Frames.{one_named}
-use Rattle.mc_plan.specs.Readable.{IsPlacedAt}
+use Rattle.mc_search.specs.Readable.{IsPlacedAt}
 use Rattle.mc_plan.proofs.tests.finding.is_placed_at.Goals as goal
 use Rattle.mc_plan.proofs.tests.finding.is_placed_at.Goals.{After-alt-second}
 

@@ -1,5 +1,5 @@
 use Rattle.std.specs.Prelude.{List}
-use Rattle.mc_plan.specs.Sweeps.{Swept, HasSwept}
+use Rattle.mc_search.specs.Sweeps.{Swept, HasSwept}
 use Rattle.mc_plan.proofs.tests.sweep.swept.Given as goal
 
 abbrev pub invariant-loop-bit : goal.invariant-loop-bit

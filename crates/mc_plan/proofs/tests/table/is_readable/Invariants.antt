@@ -2,7 +2,7 @@ use Rattle.std.proofs.Common.{ℕ, ◌≡◌, ◌<◌, ◌⊎◌}
 use Rattle.mc_words.specs.Checks.{shape_of}
 use Rattle.mc_words.specs.Places.{slot}
 use Rattle.mc_words.specs.Standing.{Names}
-use Rattle.mc_plan.specs.Readable.{HasSlots}
+use Rattle.mc_search.specs.Readable.{HasSlots}
 use Rattle.mc_plan.proofs.tests.table.is_readable.Given as goal
 
 abbrev pub invariant-loop-q : goal.invariant-loop-q

@@ -1,5 +1,0 @@
-use Rattle.mc_core.proofs.laws.access_reads_its_word.Goals as goal
-use Rattle.mc_core.proofs.Written.{reads_its_word}
-
-pub returns : goal.returns
-returns g c = reads_its_word g.row.V

@@ -1,5 +1,0 @@
-use Rattle.mc_core.proofs.laws.act_writes_its_word.Goals as goal
-use Rattle.mc_core.proofs.Written.{writes_its_word}
-
-pub returns : goal.returns
-returns g c = writes_its_word g.row.V

@@ -1,5 +1,0 @@
-use Rattle.mc_core.proofs.laws.fronts_stay.Goals as goal
-use Rattle.mc_core.proofs.Fronts.{front_append}
-
-pub returns : goal.returns
-returns g c = front_append g.row.V

@@ -1,5 +1,0 @@
-use Rattle.mc_core.proofs.laws.histories_grow.Goals as goal
-use Rattle.mc_core.proofs.Histories.{history_rises}
-
-pub returns : goal.returns
-returns g c = history_rises g.row.V

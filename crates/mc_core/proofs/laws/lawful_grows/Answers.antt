@@ -1,5 +1,0 @@
-use Rattle.mc_core.proofs.laws.lawful_grows.Goals as goal
-use Rattle.mc_core.proofs.Grown.{lawful_grows}
-
-pub returns : goal.returns
-returns g c = lawful_grows g.row.V

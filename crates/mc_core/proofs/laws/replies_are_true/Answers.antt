@@ -1,5 +1,0 @@
-use Rattle.mc_core.proofs.laws.replies_are_true.Goals as goal
-use Rattle.mc_core.proofs.Readers.{replies_are_true}
-
-pub returns : goal.returns
-returns g c = replies_are_true g.row.V

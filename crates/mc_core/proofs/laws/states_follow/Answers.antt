@@ -1,5 +1,0 @@
-use Rattle.mc_core.proofs.laws.states_follow.Goals as goal
-use Rattle.mc_core.proofs.Grown.{states_follow}
-
-pub returns : goal.returns
-returns g c = states_follow g.row.V

@@ -1,5 +1,0 @@
-use Rattle.mc_core.proofs.laws.words_keep_their_number.Goals as goal
-use Rattle.mc_core.proofs.Written.{keeps_its_words}
-
-pub returns : goal.returns
-returns g c = keeps_its_words g.row.V

@@ -1,7 +1,0 @@
-use Rattle.mc_core.specs.Machine.{Left}
-use Rattle.mc_core.proofs.Taking.{both_refl}
-use Rattle.mc_core.proofs.lookup.Lookup.begin.Goals as goal
-
-pub returns-clause-left : goal.returns-clause-left
-unfolding Left
-returns-clause-left g c = λ rs reply. rw c.shape.ensures both_refl

@@ -1,0 +1,5 @@
+pub mod Forth
+pub mod Back
+pub mod Feeding
+pub mod Taking
+pub mod Course

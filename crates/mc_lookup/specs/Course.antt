@@ -1,0 +1,20 @@
+-- What is left of a look-up begins with the access that comes next, and there is always a way to its end.
+use Rattle.std.specs.Prelude.{ℕ, ◌≡◌, List, [], ◌∷◌, Option, Some, None}
+use Rattle.mc_words.specs.declared.history.Reply.{Reply}
+use Rattle.mc_lookup.specs.Machine.{next_of, Left}
+use Rattle.mc_theory.specs.Readings.{Reading}
+use Rattle.mc_theory.specs.declared.access.Access.{Access}
+use Rattle.mc_lookup.specs.declared.lookup.Lookup.{Lookup}
+
+-- the readings begin with one by this access; where there is none, they are none, and the reply is that of the look-up
+abbrev pub BeginsWith : {V : ℕ} → Lookup V → Option Access → List Reading → Reply V → Type 0
+BeginsWith l (Some a) rs reply = (r : Reading) × (more : List Reading) × (rs ≡ r ∷ more) × (r.access ≡ a)
+BeginsWith l None rs reply = (rs ≡ []) × (reply ≡ l.reply)
+
+-- the access that comes next is the only one with which the look-up can go on
+abbrev pub NextIsDetermined : ℕ → Type 0
+NextIsDetermined V = (l : Lookup V) (rs : List Reading) (reply : Reply V) → Left l rs reply → BeginsWith l (next_of l) rs reply
+
+-- some readings end the look-up
+abbrev pub CanEnd : ℕ → Type 0
+CanEnd V = (l : Lookup V) → (rs : List Reading) × (reply : Reply V) × Left l rs reply

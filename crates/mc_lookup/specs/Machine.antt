@@ -1,0 +1,121 @@
+-- The reader's machine: what it reads next, and what is left of its look-up.
+use Rattle.std.specs.Prelude.{ℕ, ◌≡◌, ◌+◌, ◌-◌, ◌*◌, ◌<◌, ◌≤◌, ◌⊎◌, ◌↔◌, nat_lt, if◌then◌else◌, List, [], ◌∷◌, take, drop, Option, Some, None}
+use Rattle.mc_words.specs.Checks.{shape_of}
+use Rattle.mc_words.specs.declared.history.Reply.{Reply}
+use Rattle.mc_words.specs.declared.place.Place.{Place}
+use Rattle.mc_words.specs.declared.shape.Shape.{Shape}
+use Rattle.mc_theory.specs.Lookups.{Marks, slots_for, IsLookup}
+use Rattle.mc_theory.specs.Readings.{Reading}
+use Rattle.mc_lookup.specs.Rest.{RestSlots, RestKey, RestValues, RestMoment, RestLast}
+use Rattle.mc_theory.specs.declared.access.Access.{Access}
+use Rattle.mc_theory.specs.declared.access.Access.TheVariants as access
+use Rattle.mc_lookup.specs.declared.lookup.Lookup.{Lookup}
+use Rattle.mc_lookup.specs.declared.stage.Stage.{Stage}
+use Rattle.mc_lookup.specs.declared.stage.Stage.TheVariants.{First, Slot, Key, Value, Moment, Last, Mark, Over}
+
+abbrev pub shape_for : {V : ℕ} → Lookup V → Shape
+shape_for l = shape_of l.checked
+
+abbrev pub stage_of : {V : ℕ} → Lookup V → Stage
+stage_of l = l.stage
+
+-- slot j of the eight: four of the first bucket, then four of the second
+abbrev pub place_in : ℕ → ℕ → ℕ → Place
+place_in first second j = if nat_lt j 4 then record { bucket = first; slot = j } else record { bucket = second; slot = j - 4 }
+
+abbrev pub place_of : {V : ℕ} → Lookup V → ℕ → Place
+place_of l j = place_in l.first l.second j
+
+abbrev pub next_at : {V : ℕ} → Lookup V → Stage → Option Access
+next_at l First = Some (access.Version l.stripe)
+next_at l (Slot j) = Some (access.Slot (place_of l j))
+next_at l (Key j i) = Some (access.Key i)
+next_at l (Value i c) = Some (access.Value i (c + 1))
+next_at l (Moment hit) = Some access.Moment
+next_at l (Last hit at) = Some (access.Version l.stripe)
+next_at l (Mark i) = Some (access.Mark i)
+next_at l Over = None
+
+-- the access that the look-up makes next
+abbrev pub next_of : {V : ℕ} → Lookup V → Option Access
+next_of l = next_at l l.stage
+
+abbrev pub reply_at : {V : ℕ} → Lookup V → Stage → Option (Reply V)
+reply_at l Over = Some l.reply
+reply_at l _ = None
+
+-- the reply, once nothing is left to read
+abbrev pub reply_now : {V : ℕ} → Lookup V → Option (Reply V)
+reply_now l = reply_at l l.stage
+
+-- the stage before slot j, of which there are eight
+abbrev pub slots_from : ℕ → Stage
+slots_from j = if nat_lt j 8 then Slot j else Moment None
+
+-- the stage before another word of the value, of which there are V
+abbrev pub values_from : ℕ → ℕ → ℕ → Stage
+values_from V i c = if nat_lt c V then Value i c else Moment (Some i)
+
+-- the stage after a try that stands
+abbrev pub ended : Option ℕ → Stage
+ended None = Over
+ended (Some i) = Mark i
+
+-- the stage after a try that was spoiled
+abbrev pub IsRestart : Stage → Type 0
+IsRestart stage = (stage ≡ First) ⊎ (stage ≡ Over)
+
+-- the words of the value that were read
+abbrev pub value_for : Option ℕ → List ℕ → List ℕ
+value_for None v = []
+value_for (Some i) v = v
+
+-- what is left at a stage: of this key, with so many tries left, this first version and these words of the value
+abbrev pub LeftAt : (V : ℕ) → Shape → ℕ → ℕ → ℕ → List ℕ → Reply V → Stage → List Reading → Reply V → Type 0
+LeftAt V sh k t x v told First rs reply = IsLookup V sh k t rs reply
+LeftAt V sh k t x v told (Slot j) rs reply = RestSlots V sh k t x (drop j (slots_for sh k)) rs reply
+LeftAt V sh k t x v told (Key j i) rs reply = RestKey V sh k t x i (drop j (slots_for sh k)) rs reply
+LeftAt V sh k t x v told (Value i c) rs reply = RestValues V sh k t x i (take c v) rs reply
+LeftAt V sh k t x v told (Moment hit) rs reply = RestMoment V sh k t x hit (value_for hit v) rs reply
+LeftAt V sh k t x v told (Last hit at) rs reply = RestLast V sh k t x hit (value_for hit v) at rs reply
+LeftAt V sh k t x v told (Mark i) rs reply = Marks (Some i) rs × (reply ≡ told)
+LeftAt V sh k t x v told Over rs reply = (rs ≡ []) × (reply ≡ told)
+
+-- these readings are left of the look-up, and this is what it then replies
+unfoldable pub Left : {V : ℕ} → Lookup V → List Reading → Reply V → Type 0
+Left {V} l rs reply = LeftAt V (shape_for l) l.key l.tries l.version l.value l.reply l.stage rs reply
+
+-- how many accesses are left at most: of the running try, without those of the tries after it and the mark
+abbrev pub steps_of_try : ℕ → Stage → ℕ
+steps_of_try V First = 0
+steps_of_try V (Slot j) = 2 * (8 - j) + V + 2
+steps_of_try V (Key j i) = 1 + 2 * (8 - j) + V + 2
+steps_of_try V (Value i c) = V - c + 2
+steps_of_try V (Moment hit) = 2
+steps_of_try V (Last hit at) = 1
+steps_of_try V (Mark i) = 0
+steps_of_try V Over = 0
+
+abbrev pub steps_at : ℕ → ℕ → Stage → ℕ
+steps_at V t (Mark i) = 1
+steps_at V t Over = 0
+steps_at V t stage = steps_of_try V stage + t * (19 + V) + 1
+
+-- how many accesses the look-up makes at most before it has its reply
+abbrev pub steps_left : {V : ℕ} → Lookup V → ℕ
+steps_left {V} l = steps_at V l.tries l.stage
+
+-- a reading of this word, by this access, leads from one look-up to the other: what is left of the first is that reading and what is left of the second
+pub record Takes {V : ℕ} (old : Lookup V) (a : Access) (word : ℕ) (new : Lookup V) : Type 0 where
+  pub shape : new.checked ≡ old.checked
+  pub key : new.key ≡ old.key
+  pub left : (f : ℕ) (rs : List Reading) (reply : Reply V) → Left new rs reply ↔ Left old (record { access = a; word = word; front = f } ∷ rs) reply
+  pub fewer : steps_left new < steps_left old
+
+-- a look-up at the start of a try, or over where no try is left
+pub record Restarts {V : ℕ} (old new : Lookup V) : Type 0 where
+  pub shape : new.checked ≡ old.checked
+  pub key : new.key ≡ old.key
+  pub left : (rs : List Reading) (reply : Reply V) → Left new rs reply ↔ IsLookup V (shape_for old) old.key old.tries rs reply
+  pub most : steps_left new ≤ old.tries * (19 + V) + 1
+  pub stage : new.stage ≡ (if nat_lt 0 old.tries then First else Over)

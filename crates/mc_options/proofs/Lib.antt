@@ -1,0 +1,2 @@
+pub mod CommandLines
+pub mod CommandLineRows

@@ -1,0 +1,120 @@
+-- What the words of a command line ask of `mcstep`; the first of them is the program's own name.
+-- The library `clap` defines how words are read: `fault_of` gives the kind of their first fault, and `matches_of` the
+-- text of each option, which is its default's where the option isn't given.
+use Rattle.std.specs.Prelude.{◌≡◌, ◌≢◌, ◌⊎◌, ◌&&◌, ℕ, pos, List, [], ◌∷◌, Option, Some, None, Result, map, length, codes, fold, nat_le, nat_lt, option_and_then, if◌then◌else◌, MatchResult}
+use Rattle.std.specs.List.{list_all}
+use Rattle.std.specs.Borrow.{Bor}
+use Rattle.std.specs.Char.{is_ascii_digit}
+use Rattle.std.specs.Str.{bytes_eq}
+use Rattle.std.specs.Str.Parse.{digits_value}
+use Rattle.clap.specs.Words.{App, IsAmong, Kinds, Row, Rule, Text, fault_of, first_of, kind_of, matches_of, new_app, new_rule, with_rule}
+use Rattle.clap.specs.declared.builder.value_parser.ValueParser.{ValueParser}
+use Rattle.clap.specs.declared.builder.value_parser.ValueParser.TheVariants as parser
+use Rattle.clap.specs.declared.error.Error.{Error}
+use Rattle.clap.specs.declared.error.kind.ErrorKind.{ErrorKind}
+use Rattle.clap.specs.declared.error.kind.ErrorKind.TheVariants as kind
+use Rattle.mc_words.specs.declared.mix.Mix.{Mix}
+use Rattle.mc_words.specs.declared.mix.Mix.TheVariants.{Plain, Fmix}
+use Rattle.mc_options.specs.declared.options.Options.{Options}
+
+-- ---- the options
+
+-- the names that `--mix` takes, wherever they stand in memory
+abbrev pub Names : Type 0
+Names = Bor (List (Bor Text))
+
+abbrev pub AreMixes : Names → Type 0
+AreMixes names = map (λ name. name.now) names.now ≡ codes "plain" ∷ codes "fmix" ∷ []
+
+-- an option `--name` with one value, and its default
+abbrev pub option : Text → ValueParser → Text → Rule
+option name takes default = record (new_rule name) { long = Some name; parser = Some takes; defaults = default ∷ [] }
+
+abbrev pub sizes : List Rule
+sizes =
+    option (codes "buckets") (parser.Signed (pos 0) (pos 4294967295)) (codes "4")
+    ∷ option (codes "items") (parser.Signed (pos 0) (pos 4294967295)) (codes "16")
+    ∷ []
+
+abbrev pub bounds : List Rule
+bounds =
+    option (codes "depth") (parser.Signed (pos 0) (pos 255)) (codes "2")
+    ∷ option (codes "tries") (parser.Signed (pos 0) (pos 255)) (codes "2")
+    ∷ option (codes "limit") (parser.Unsigned 0 18446744073709551615) (codes "4611686018427387904")
+    ∷ []
+
+abbrev pub others : Names → List Rule
+others mixes =
+    option (codes "mix") (parser.Names mixes) (codes "plain")
+    ∷ option (codes "readers") (parser.Signed (pos 0) (pos 4294967295)) (codes "2")
+    ∷ option (codes "words") (parser.Signed (pos 1) (pos 2)) (codes "1")
+    ∷ []
+
+-- the command with these options after its own
+abbrev pub with_rules : App → List Rule → App
+with_rules app rules = fold with_rule app rules
+
+abbrev pub program : Names → App
+program mixes = with_rules (with_rules (with_rules (new_app (codes "mcstep")) sizes) bounds) (others mixes)
+
+-- ---- what their texts say
+
+-- the number that decimal digits say, where it lies between the bounds
+abbrev pub number_in : ℕ → ℕ → Text → Option ℕ
+number_in least most text =
+    if nat_lt 0 (length text) && list_all is_ascii_digit text && nat_le least (digits_value 10 text) && nat_le (digits_value 10 text) most then Some (digits_value 10 text)
+    else None
+
+abbrev pub mix_in : Text → Option Mix
+mix_in text = if bytes_eq text (codes "fmix") then Some Fmix else if bytes_eq text (codes "plain") then Some Plain else None
+
+-- the texts of the options say these values
+pub record Says (rows : List Row) (o : Options) : Type 0 where
+  pub buckets : option_and_then (number_in 0 4294967295) (first_of (codes "buckets") rows) ≡ Some o.shape.buckets
+  pub items : option_and_then (number_in 0 4294967295) (first_of (codes "items") rows) ≡ Some o.shape.items
+  pub depth : option_and_then (number_in 0 255) (first_of (codes "depth") rows) ≡ Some o.shape.depth
+  pub tries : option_and_then (number_in 0 255) (first_of (codes "tries") rows) ≡ Some o.shape.tries
+  pub limit : option_and_then (number_in 0 18446744073709551615) (first_of (codes "limit") rows) ≡ Some o.shape.limit
+  pub mix : option_and_then mix_in (first_of (codes "mix") rows) ≡ Some o.shape.mix
+  pub readers : option_and_then (number_in 0 4294967295) (first_of (codes "readers") rows) ≡ Some o.readers
+  pub words : option_and_then (number_in 1 2) (first_of (codes "words") rows) ≡ Some o.words
+  pub stripes : o.shape.stripes ≡ 1
+
+-- ---- what the words ask for
+
+-- the kinds of the words' first fault; none where they are taken
+unfoldable pub faults_of : Names → List Text → Kinds
+faults_of mixes words = fault_of (program mixes) words
+
+-- the options with their texts
+unfoldable pub texts_of : Names → List Text → List Row
+texts_of mixes words = matches_of (program mixes) words
+
+-- the words are taken, and say these options
+abbrev pub Gives : List Text → Options → Type 0
+Gives words o = (mixes : Names) × AreMixes mixes × (faults_of mixes words ≡ []) × Says (texts_of mixes words) o
+
+-- the words are taken, but some text doesn't say a value of its option, as a number with a sign
+abbrev pub SaysNothing : List Text → Type 0
+SaysNothing words =
+    (mixes : Names) × AreMixes mixes × (faults_of mixes words ≡ []) × ((o : Options) → Says (texts_of mixes words) o → ⊥)
+
+-- the words have a fault of this kind
+abbrev pub HasFault : List Text → ErrorKind → Type 0
+HasFault words k = (mixes : Names) × AreMixes mixes × IsAmong k (faults_of mixes words)
+
+-- the words ask for help
+abbrev pub AsksHelp : List Text → Type 0
+AsksHelp words = HasFault words kind.DisplayHelp
+
+-- the words have another fault
+abbrev pub IsFaulty : List Text → Type 0
+IsFaulty words = ((k : ErrorKind) × (k ≢ kind.DisplayHelp) × HasFault words k) ⊎ SaysNothing words
+
+-- why no options are read: memory was short, of which no clause can say more, or the words have a fault of this kind
+abbrev pub IsUnread : List Text → ErrorKind → Type 0
+IsUnread words k = (k ≡ kind.OutOfMemory) ⊎ (HasFault words k ⊎ ((k ≡ kind.ValueValidation) × SaysNothing words))
+
+-- the options that the words say, or why there are none
+abbrev pub Reads : List Text → Result Options Error → Type 0
+Reads words r = MatchResult r (Gives words) (λ e. IsUnread words (kind_of e))

@@ -1,0 +1,229 @@
+// The options of `mcstep`.
+ghost use Rattle.std.specs.Prelude.{◌≡◌, false, IfOk, MatchOption, codes, map, option_and_then};
+ghost use Rattle.std.specs.List.{list_all};
+ghost use Rattle.std.specs.Char.{is_ascii_digit};
+ghost use Rattle.clap.specs.Words.{app_of, first_of, found_of, rows_of, rule_of};
+ghost use Rattle.mc_options.specs.Options.{AreMixes, Names, Reads, Says, bounds, mix_in, number_in, option, others, program, sizes, with_rules};
+
+use clap::builder::ValueParser;
+use clap::error::ErrorKind;
+use clap::{Arg, ArgMatches, Command, Error, value_parser};
+use mc_words::{Mix, Shape};
+use std::alloc::{AllocError, Global};
+use std::convert::AsStr;
+
+/// What the command line asks for.
+#[derive(Clone, Copy, Debug, PartialEq, Eq)]
+pub struct Options {
+    pub shape: Shape,
+    pub readers: u32,
+    /// Words of a value: 1 or 2.
+    pub words: u8,
+}
+
+/// The most that a `u32` can be.
+const MOST_SIZE: u64 = 4_294_967_295;
+
+/// The most that a `u8` can be.
+const MOST_BOUND: u64 = 255;
+
+/// An option with one value.
+fn option<'a>(
+    alloc: Global,
+    name: &'a str,
+    takes: ValueParser<'a>,
+    default: &'a str,
+    help: &'a str,
+) -> Arg<'a>
+    ensures rule { rule_of result ≡ option name.entry.now takes.entry default.entry.now }
+    ensures local { result.global ≡ false }
+{
+    Arg::new(alloc, name)
+        .long(name)
+        .value_parser(takes)
+        .default_value(default)
+        .help(help)
+}
+
+fn with_sizes<'a>(alloc: Global, command: Command<'a>) -> Result<Command<'a>, AllocError>
+    ensures { IfOk result (λ c. app_of c ≡ with_rules (app_of command.entry) sizes) }
+{
+    let buckets = option(
+        alloc,
+        "buckets",
+        value_parser!(u32),
+        "4",
+        "Buckets of four slots, a power of two",
+    );
+    let items = option(
+        alloc,
+        "items",
+        value_parser!(u32),
+        "16",
+        "The most keys, up to four times the buckets",
+    );
+    command.arg(buckets)?.arg(items)
+}
+
+fn with_bounds<'a>(alloc: Global, command: Command<'a>) -> Result<Command<'a>, AllocError>
+    ensures { IfOk result (λ c. app_of c ≡ with_rules (app_of command.entry) bounds) }
+{
+    let depth = option(
+        alloc,
+        "depth",
+        value_parser!(u8),
+        "2",
+        "The most keys that a put moves, up to 8",
+    );
+    let tries = option(
+        alloc,
+        "tries",
+        value_parser!(u8),
+        "2",
+        "Tries of a look-up, from 1 to 64",
+    );
+    let limit = option(
+        alloc,
+        "limit",
+        value_parser!(u64),
+        "4611686018427387904",
+        "The most version changes",
+    );
+    command.arg(depth)?.arg(tries)?.arg(limit)
+}
+
+fn with_others<'a>(alloc: Global, command: Command<'a>) -> Result<Command<'a>, AllocError>
+    ensures { IfOk result (λ c. (mixes : Names) × AreMixes mixes × (app_of c ≡ with_rules (app_of command.entry) (others mixes))) }
+{
+    let names = ["plain", "fmix"].as_slice();
+    let mix = option(
+        alloc,
+        "mix",
+        ValueParser::Names(names),
+        "plain",
+        "How keys are mixed",
+    );
+    let readers = option(
+        alloc,
+        "readers",
+        value_parser!(u32),
+        "2",
+        "Readers, from 1 to 1024",
+    );
+    let words = option(
+        alloc,
+        "words",
+        value_parser!(u8).range(1..=2),
+        "1",
+        "Words of a value",
+    );
+    command.arg(mix)?.arg(readers)?.arg(words)
+}
+
+fn command<'a>(alloc: Global) -> Result<Command<'a>, AllocError>
+    ensures { IfOk result (λ c. (mixes : Names) × AreMixes mixes × (app_of c ≡ program mixes)) }
+{
+    let plain = Command::new(alloc, "mcstep").about("Replays a script of cache calls");
+    let sized = with_sizes(alloc, plain)?;
+    let bounded = with_bounds(alloc, sized)?;
+    with_others(alloc, bounded)
+}
+
+fn are_digits(text: &str) -> bool
+    ensures { result ≡ list_all is_ascii_digit text.now }
+{
+    text.as_bytes().iter().all(|b| b.is_ascii_digit())
+}
+
+/// The number that a text of decimal digits says, where it lies between the bounds.
+fn number_in(text: &str, least: u64, most: u64) -> Option<u64>
+    ensures { result ≡ number_in least most text.now }
+{
+    if text.is_empty() || !are_digits(text) {
+        return None;
+    }
+    match text.parse::<u64>() {
+        Ok(value) => {
+            if least <= value && value <= most {
+                Some(value)
+            } else {
+                None
+            }
+        }
+        Err(_) => None,
+    }
+}
+
+fn mix_in(text: &str) -> Option<Mix>
+    ensures { result ≡ mix_in text.now }
+{
+    if text == "fmix" {
+        Some(Mix::Fmix)
+    } else if text == "plain" {
+        Some(Mix::Plain)
+    } else {
+        None
+    }
+}
+
+/// The number that an option says.
+fn number(matches: &ArgMatches, name: &str, least: u64, most: u64) -> Option<u64>
+    ensures { result ≡ option_and_then (number_in least most) (first_of name.now (rows_of (found_of matches.now))) }
+{
+    match matches.get_str(name) {
+        Some(text) => number_in(text, least, most),
+        None => None,
+    }
+}
+
+fn mix(matches: &ArgMatches) -> Option<Mix>
+    ensures { result ≡ option_and_then mix_in (first_of (codes "mix") (rows_of (found_of matches.now))) }
+{
+    match matches.get_str("mix") {
+        Some(text) => mix_in(text),
+        None => None,
+    }
+}
+
+/// The options that the matches say.
+fn options_in(matches: &ArgMatches) -> Option<Options>
+    ensures { MatchOption result ((o : Options) → Says (rows_of (found_of matches.now)) o → ⊥) (Says (rows_of (found_of matches.now))) }
+{
+    let buckets = number(matches, "buckets", 0, MOST_SIZE)?;
+    let items = number(matches, "items", 0, MOST_SIZE)?;
+    let depth = number(matches, "depth", 0, MOST_BOUND)?;
+    let tries = number(matches, "tries", 0, MOST_BOUND)?;
+    let limit = number(matches, "limit", 0, u64::MAX)?;
+    let mix = mix(matches)?;
+    let readers = number(matches, "readers", 0, MOST_SIZE)?;
+    let words = number(matches, "words", 1, 2)?;
+    let shape = Shape {
+        buckets: buckets as u32,
+        items: items as u32,
+        stripes: 1,
+        depth: depth as u8,
+        tries: tries as u8,
+        limit,
+        mix,
+    };
+    Some(Options {
+        shape,
+        readers: readers as u32,
+        words: words as u8,
+    })
+}
+
+/// The options of the words, the program's own name first.
+pub fn options_of<S: AsStr>(alloc: Global, words: &[S]) -> Result<Options, Error>
+    ensures { Reads (map S.text words.now) result }
+{
+    let mut command = command(alloc)?;
+    let matches = match command.try_get_matches_from_mut(words) {
+        Ok(matches) => matches,
+        Err(error) => return Err(error),
+    };
+    match options_in(&matches) {
+        Some(options) => Ok(options),
+        None => Err(command.error(ErrorKind::ValueValidation, "a number has digits only")?),
+    }
+}

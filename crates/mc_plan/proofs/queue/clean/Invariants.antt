@@ -1,9 +1,0 @@
-use Rattle.std.proofs.Common.{◌≡◌, ℕ, ◌<◌, ◌≤◌, length, true, false, get_or}
-use Rattle.mc_plan.specs.Search.{bucket_at}
-use Rattle.mc_plan.proofs.queue.clean.Given as goal
-
-abbrev pub invariant-marks : goal.invariant-marks
-invariant-marks l = record {
-  size : length l.seen.items ≡ length l.initial.seen.items;
-  left : (b : ℕ) → get_or l.seen.items b false ≡ true → (k : ℕ) × (l.entry-index ≤ k) × (k < length l.entry-items) × (bucket_at l.entry-items k ≡ b);
-}

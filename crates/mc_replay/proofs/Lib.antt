@@ -1,0 +1,6 @@
+pub mod Replaying
+pub mod Stepping
+pub mod Bounds
+pub mod Calling
+pub mod Accessing
+pub mod Commanding

@@ -1,0 +1,242 @@
+-- The lines of a replay, one after the other.
+use Rattle.std.proofs.Common.{◌≡◌, ℕ, ◌+◌, ◌-◌, ◌^◌, ◌<◌, ◌≤◌, ◌∙◌, true, false, Result, List, [], ◌∷◌, ◌++◌, Option, Some, None, Ok, Err, refl, sym, ap, subst, length, take, arith, inl, inr, take_all, append_assoc, append-nil, length-append}
+use Rattle.std.proofs.lemmas.Bool.{false≢true}
+use Rattle.std.proofs.KnownBytes.{Appends-trans, Appends-nil, Appends-kept}
+use Rattle.std.specs.Io.BufRead.{first_line, drop_through}
+use Rattle.std.specs.Io.KnownBytes.{Keeps, Appends}
+use Rattle.mc_words.specs.declared.shape.Shape.{Shape}
+use Rattle.mc_script.specs.declared.command.Command.{Command}
+use Rattle.mc_script.specs.declared.command.LineFault.{LineFault}
+use Rattle.mc_script.specs.declared.command.LineFault.TheVariants as said
+use Rattle.mc_script.specs.Commands.{command_in}
+use Rattle.mc_script.specs.Lines.{lines_of, GivesLine}
+use Rattle.mc_script.specs.declared.line.ReadFault.TheVariants as over
+use Rattle.mc_script.proofs.Lines.{lines-step, lines-nil}
+use Rattle.mc_replay.specs.declared.fault.Fault.{Fault}
+use Rattle.mc_replay.specs.declared.fault.Fault.TheVariants.{ReadFailed, NoMemory, TooLong, NotACommand, BadNumber, NoSuchReader, StillRunning, NothingToStep, WriteFailed}
+use Rattle.mc_replay.specs.Replay.{Replay, first_replay, Does}
+use Rattle.mc_replay.specs.Scripts.{SaidDoes, IsTooLong, IsReaders, LineDoes, Plays, Stopped, StopsUndone, StopsRefused, ReplaysKnown}
+use Rattle.mc_replay.specs.Faults.{fault_of}
+use Rattle.mc_replay.specs.Players.{DoneAs, HasRoom, most_before, most_steps}
+use Rattle.mc_replay.specs.Steps.{DoesLine, PlaysKnown, SoFar, KnownSoFar, is_wanting}
+
+-- ---- one line
+not_long : (before : ℕ) (line : List ℕ) → length line ≤ 4096 → before < 2 ^ 40 → IsTooLong before line → ⊥
+not_long before line short few long = elim long [ inl l ↦ absurd (omega arith) | inr l ↦ absurd (omega arith) ]
+
+-- a line that says a command, which was done
+pub line_done : (V : ℕ) (sh : Shape) (before : ℕ) (s t : Replay V) (line text : List ℕ) (c : Command V) (fault : Option Fault) → length line ≤ 4096 → before < 2 ^ 40 → command_in V line ≡ Ok (Some c)
+    → Does sh s c text fault t → LineDoes V sh before s line text fault t
+line_done V sh before s t line text c fault short few says does =
+    inr (not_long before line short few, subst (λ r. SaidDoes sh s r text fault t) (sym says) does)
+
+-- a line after so many others is one too many
+pub line_too_many : (V : ℕ) (sh : Shape) (before : ℕ) (s : Replay V) (line text : List ℕ) → 2 ^ 40 ≤ before → text ≡ [] → LineDoes V sh before s line text (Some TooLong) s
+line_too_many V sh before s line text many none = inl (inr many, refl, none, refl)
+
+-- a line that says no command
+pub line_faulty : (V : ℕ) (sh : Shape) (before : ℕ) (s : Replay V) (line text : List ℕ) (f : LineFault) → length line ≤ 4096 → before < 2 ^ 40 → command_in V line ≡ Err f → text ≡ [] → DoesLine V sh before s line text s (Err (fault_of f))
+line_faulty V sh before s line text said.NotACommand short few says none =
+    inr (not_long before line short few, subst (λ r. SaidDoes sh s r text (Some NotACommand) s) (sym says) (none, refl, refl))
+line_faulty V sh before s line text said.BadNumber short few says none =
+    inr (not_long before line short few, subst (λ r. SaidDoes sh s r text (Some BadNumber) s) (sym says) (none, refl, refl))
+
+-- a line that says a command does what the command does
+pub line_does : (V : ℕ) (sh : Shape) (before : ℕ) (s t : Replay V) (line text : List ℕ) (c : Command V) (r : Result (Unit {0}) Fault) → length line ≤ 4096 → before < 2 ^ 40 → command_in V line ≡ Ok (Some c)
+    → DoneAs (Does sh s c) text t r → DoesLine V sh before s line text t r
+line_does V sh before s t line text c (Ok u) short few says does = line_done V sh before s t line text c None short few says does
+line_does V sh before s t line text c (Err NoMemory) short few says does = tt
+line_does V sh before s t line text c (Err ReadFailed) short few says does = does
+line_does V sh before s t line text c (Err WriteFailed) short few says does = does
+line_does V sh before s t line text c (Err TooLong) short few says does = line_done V sh before s t line text c (Some TooLong) short few says does
+line_does V sh before s t line text c (Err NotACommand) short few says does = line_done V sh before s t line text c (Some NotACommand) short few says does
+line_does V sh before s t line text c (Err BadNumber) short few says does = line_done V sh before s t line text c (Some BadNumber) short few says does
+line_does V sh before s t line text c (Err NoSuchReader) short few says does = line_done V sh before s t line text c (Some NoSuchReader) short few says does
+line_does V sh before s t line text c (Err StillRunning) short few says does = line_done V sh before s t line text c (Some StillRunning) short few says does
+line_does V sh before s t line text c (Err NothingToStep) short few says does = line_done V sh before s t line text c (Some NothingToStep) short few says does
+
+-- a line that is skipped
+pub line_skipped : (V : ℕ) (sh : Shape) (before : ℕ) (s : Replay V) (line text : List ℕ) → length line ≤ 4096 → before < 2 ^ 40 → command_in V line ≡ Ok None → text ≡ [] → LineDoes V sh before s line text None s
+line_skipped V sh before s line text short few says none =
+    inr (not_long before line short few, subst (λ r. SaidDoes sh s r text None s) (sym says) (none, refl, refl))
+
+-- the events of one line more
+pub one_line_more : (before : ℕ) → most_before before + most_steps ≡ most_before (before + 1)
+one_line_more before = omega arith
+
+pub has_room : (before : ℕ) → before < 2 ^ 40 → HasRoom (most_before before)
+has_room before few = omega (arith, few)
+
+-- the first line of the bytes, refused, with its answers written
+refused_line : (V : ℕ) (sh : Shape) (before : ℕ) (s t : Replay V) (line text : List ℕ) (n : ℕ) (x : List ℕ) (b c d : Option (List ℕ)) (fault : Fault) → GivesLine (Some x) b line (Ok true)
+    → LineDoes V sh before s line text (Some fault) t → Appends c d (take n text) → n ≡ length text → (0 < length x) × (out : List ℕ) × LineDoes V sh before s (first_line x) out (Some fault) t × Appends c d out
+refused_line V sh before s t line text n x b c d fault gives does wrote all =
+    (gives.0, text, subst (λ (l : List ℕ). LineDoes V sh before s l text (Some fault) t) gives.1 does, subst (Appends c d) (take_all n text (omega (arith, all))) wrote)
+
+-- a line that is refused, and what it had answered was written
+pub stops_refused : (V : ℕ) (sh : Shape) (before : ℕ) (s t : Replay V) (line text : List ℕ) (n : ℕ) (a b c d : Option (List ℕ)) (fault : Fault) → GivesLine a b line (Ok true)
+    → DoesLine V sh before s line text t (Err fault) → (fault ≡ NoMemory → ⊥) → Appends c d (take n text) → n ≡ length text → PlaysKnown V sh before s t a b c d (Err fault)
+stops_refused V sh before s t line text n None b c d fault gives does other wrote all = tt
+stops_refused V sh before s t line text n (Some x) b c d ReadFailed gives does other wrote all = absurd does
+stops_refused V sh before s t line text n (Some x) b c d NoMemory gives does other wrote all = absurd (other refl)
+stops_refused V sh before s t line text n (Some x) b c d WriteFailed gives does other wrote all = absurd does
+stops_refused V sh before s t line text n (Some x) b c d TooLong gives does other wrote all = refused_line V sh before s t line text n x b c d TooLong gives does wrote all
+stops_refused V sh before s t line text n (Some x) b c d NotACommand gives does other wrote all = refused_line V sh before s t line text n x b c d NotACommand gives does wrote all
+stops_refused V sh before s t line text n (Some x) b c d BadNumber gives does other wrote all = refused_line V sh before s t line text n x b c d BadNumber gives does wrote all
+stops_refused V sh before s t line text n (Some x) b c d NoSuchReader gives does other wrote all = refused_line V sh before s t line text n x b c d NoSuchReader gives does wrote all
+stops_refused V sh before s t line text n (Some x) b c d StillRunning gives does other wrote all = refused_line V sh before s t line text n x b c d StillRunning gives does wrote all
+stops_refused V sh before s t line text n (Some x) b c d NothingToStep gives does other wrote all = refused_line V sh before s t line text n x b c d NothingToStep gives does wrote all
+
+-- a line whose answers were written
+pub plays_whole : (V : ℕ) (sh : Shape) (before : ℕ) (s t : Replay V) (line text : List ℕ) (n : ℕ) (a b c d : Option (List ℕ)) → GivesLine a b line (Ok true)
+    → LineDoes V sh before s line text None t → Appends c d (take n text) → n ≡ length text → PlaysKnown V sh before s t a b c d (Ok true)
+plays_whole V sh before s t line text n None b c d gives does wrote all = tt
+plays_whole V sh before s t line text n (Some x) b c d gives does wrote all =
+    (gives.0, text, subst (λ (l : List ℕ). LineDoes V sh before s l text None t) gives.1 does, gives.3, subst (Appends c d) (take_all n text (omega (arith, all))) wrote)
+
+-- a line whose answers were not all written
+pub plays_part : (V : ℕ) (sh : Shape) (before : ℕ) (s t : Replay V) (line text : List ℕ) (fault : Option Fault) (n : ℕ) (a b c d : Option (List ℕ)) → GivesLine a b line (Ok true)
+    → LineDoes V sh before s line text fault t → Appends c d (take n text) → n < length text → PlaysKnown V sh before s t a b c d (Err WriteFailed)
+plays_part V sh before s t line text fault n None b c d gives does wrote part = tt
+plays_part V sh before s t line text fault n (Some x) b c d gives does wrote part =
+    (gives.0, text, fault, n, subst (λ (l : List ℕ). LineDoes V sh before s l text fault t) gives.1 does, part, wrote)
+
+pub not_wanting : (fault : Fault) → is_wanting (Err fault) ≡ false → fault ≡ NoMemory → ⊥
+not_wanting fault other e = false≢true (sym other ∙ ap (λ (f : Fault). is_wanting (Err f)) e)
+
+-- a line whose answers were not all written
+pub plays_cut : (V : ℕ) (sh : Shape) (before : ℕ) (s t : Replay V) (line text : List ℕ) (n : ℕ) (a b c d : Option (List ℕ)) (done : Result (Unit {0}) Fault) → GivesLine a b line (Ok true)
+    → DoesLine V sh before s line text t done → is_wanting done ≡ false → Appends c d (take n text) → n < length text → PlaysKnown V sh before s t a b c d (Err WriteFailed)
+plays_cut V sh before s t line text n a b c d (Ok u) gives does other wrote part = plays_part V sh before s t line text None n a b c d gives does wrote part
+plays_cut V sh before s t line text n a b c d (Err ReadFailed) gives does other wrote part = absurd does
+plays_cut V sh before s t line text n a b c d (Err NoMemory) gives does other wrote part = absurd (false≢true (sym other))
+plays_cut V sh before s t line text n a b c d (Err WriteFailed) gives does other wrote part = absurd does
+plays_cut V sh before s t line text n a b c d (Err TooLong) gives does other wrote part = plays_part V sh before s t line text (Some TooLong) n a b c d gives does wrote part
+plays_cut V sh before s t line text n a b c d (Err NotACommand) gives does other wrote part = plays_part V sh before s t line text (Some NotACommand) n a b c d gives does wrote part
+plays_cut V sh before s t line text n a b c d (Err BadNumber) gives does other wrote part = plays_part V sh before s t line text (Some BadNumber) n a b c d gives does wrote part
+plays_cut V sh before s t line text n a b c d (Err NoSuchReader) gives does other wrote part = plays_part V sh before s t line text (Some NoSuchReader) n a b c d gives does wrote part
+plays_cut V sh before s t line text n a b c d (Err StillRunning) gives does other wrote part = plays_part V sh before s t line text (Some StillRunning) n a b c d gives does wrote part
+plays_cut V sh before s t line text n a b c d (Err NothingToStep) gives does other wrote part = plays_part V sh before s t line text (Some NothingToStep) n a b c d gives does wrote part
+
+-- a line that is too long to be read
+pub plays_over : (V : ℕ) (sh : Shape) (before : ℕ) (s : Replay V) (line : List ℕ) (a b c : Option (List ℕ)) → GivesLine a b line (Err over.TooLong) → PlaysKnown V sh before s s a b c c (Err TooLong)
+plays_over V sh before s line None b c gives = tt
+plays_over V sh before s line (Some x) b c gives = (gives.0, [], inl (inl gives.1, refl, refl, refl), Appends-nil c)
+
+-- ---- line after line
+-- lines that were played, and one more
+plays_push : (V : ℕ) (sh : Shape) (n : ℕ) (s m t : Replay V) (lines : List (List ℕ)) (line text own : List ℕ) → Plays V sh n s lines text m → LineDoes V sh (n + length lines) m line own None t
+    → Plays V sh n s (lines ++ line ∷ []) (text ++ own) t
+plays_push V sh n s m t [] line text own plays does =
+    let here : n + 0 ≡ n = omega arith in
+    let same : LineDoes V sh n s line own None t = subst (λ (x : Replay V). LineDoes V sh n x line own None t) plays.1 (subst (λ (k : ℕ). LineDoes V sh k m line own None t) here does) in
+    (t, own, [], same, (refl, refl), ap (λ (x : List ℕ). x ++ own) plays.0 ∙ sym (append-nil own))
+plays_push V sh n s m t (l ∷ lines) line text own plays does =
+    let next : n + length (l ∷ lines) ≡ n + 1 + length lines = omega arith in
+    let rest = plays_push V sh (n + 1) plays.0 m t lines line plays.2 own plays.4 (subst (λ (k : ℕ). LineDoes V sh k m line own None t) next does) in
+    (plays.0, plays.1, plays.2 ++ own, plays.3, rest, ap (λ (x : List ℕ). x ++ own) plays.5 ∙ append_assoc plays.1 plays.2 own)
+
+-- no line is played yet
+pub known_none : (V : ℕ) (sh : Shape) (start : Replay V) (a old : Option (List ℕ)) → KnownSoFar V sh start a a old old 0 start
+known_none V sh start None old = tt
+known_none V sh start (Some x) old = record { done = []; text = []; parts = refl; count = refl; played = (refl, refl); written = Appends-nil old }
+
+-- one more line was played
+pub known_more : (V : ℕ) (sh : Shape) (start : Replay V) (a b c old new newer : Option (List ℕ)) (before : ℕ) (s t : Replay V) → KnownSoFar V sh start a b old new before s
+    → PlaysKnown V sh before s t b c new newer (Ok true) → KnownSoFar V sh start a c old newer (before + 1) t
+known_more V sh start None b c old new newer before s t so_far plays = tt
+known_more V sh start (Some x) None c old new newer before s t so_far plays = absurd so_far
+known_more V sh start (Some x) (Some y) None old new newer before s t so_far plays = absurd (cc (plays.3))
+known_more V sh start (Some x) (Some y) (Some z) old new newer before s t so_far plays =
+    let rest : z ≡ drop_through 10 y = cc (plays.3) in
+    let line = first_line y in
+    let count : 0 + length so_far.done ≡ before = omega (arith, so_far.count) in
+    record {
+      done = so_far.done ++ line ∷ [];
+      text = so_far.text ++ plays.1;
+      parts = rw rest (so_far.parts ∙ ap (λ (l : List (List ℕ)). so_far.done ++ l) (lines-step y plays.0) ∙ sym (append_assoc so_far.done (line ∷ []) (lines_of (drop_through 10 y))));
+      count = length-append so_far.done (line ∷ []) ∙ omega (arith, so_far.count);
+      played = plays_push V sh 0 start s t so_far.done line so_far.text plays.1 so_far.played (subst (λ (k : ℕ). LineDoes V sh k s line plays.1 None t) (sym count) plays.2);
+      written = Appends-trans _ _ _ _ _ so_far.written plays.4;
+    }
+
+-- the whole script was played
+pub replays_all : (V : ℕ) (sh : Shape) (readers : ℕ) (a b c old new newer : Option (List ℕ)) (before : ℕ) (s t : Replay V) → IsReaders readers → KnownSoFar V sh (first_replay V sh readers) a b old new before s
+    → PlaysKnown V sh before s t b c new newer (Ok false) → ReplaysKnown V sh readers a old newer (Ok tt)
+replays_all V sh readers None b c old new newer before s t many so_far plays = tt
+replays_all V sh readers (Some x) None c old new newer before s t many so_far plays = absurd so_far
+replays_all V sh readers (Some x) (Some y) c old new newer before s t many so_far plays =
+    let none : lines_of y ≡ [] = ap lines_of plays.0 ∙ lines-nil in
+    let whole : lines_of x ≡ so_far.done = so_far.parts ∙ ap (λ (l : List (List ℕ)). so_far.done ++ l) none ∙ append-nil so_far.done in
+    (many, (so_far.text, s, subst (λ (l : List (List ℕ)). Plays V sh 0 (first_replay V sh readers) l so_far.text s) (sym whole) so_far.played, Appends-kept _ _ _ _ so_far.written plays.1))
+
+stopped : (V : ℕ) (sh : Shape) (start : Replay V) (lines left : List (List ℕ)) (old new : Option (List ℕ)) (before : ℕ) (s : Replay V) (so_far : SoFar V sh start lines left old new before s) → Stopped V sh start lines (before + 1) left so_far.text s
+stopped V sh start lines left old new before s so_far = record {
+  done = so_far.done;
+  parts = so_far.parts;
+  count = omega (arith, so_far.count);
+  played = so_far.played;
+}
+
+stopped_line : (V : ℕ) (sh : Shape) (start : Replay V) (lines : List (List ℕ)) (y : List ℕ) (old new : Option (List ℕ)) (before : ℕ) (s : Replay V) (so_far : SoFar V sh start lines (lines_of y) old new before s) → 0 < length y
+    → Stopped V sh start lines (before + 1) (first_line y ∷ lines_of (drop_through 10 y)) so_far.text s
+stopped_line V sh start lines y old new before s so_far some =
+    subst (λ (l : List (List ℕ)). Stopped V sh start lines (before + 1) l so_far.text s) (lines-step y some) (stopped V sh start lines (lines_of y) old new before s so_far)
+
+one_back : (before : ℕ) → before + 1 - 1 ≡ before
+one_back before = omega arith
+
+refused : (V : ℕ) (sh : Shape) (start : Replay V) (x y : List ℕ) (old new newer : Option (List ℕ)) (before : ℕ) (s t : Replay V) (fault : Fault) (so_far : SoFar V sh start (lines_of x) (lines_of y) old new before s)
+    → (0 < length y) × (text : List ℕ) × LineDoes V sh before s (first_line y) text (Some fault) t × Appends new newer text
+    → StopsRefused V sh start (lines_of x) old newer (before + 1) fault
+refused V sh start x y old new newer before s t fault so_far plays = (
+  first_line y,
+  lines_of (drop_through 10 y),
+  so_far.text,
+  s,
+  t,
+  plays.1,
+  stopped_line V sh start (lines_of x) y old new before s so_far plays.0,
+  subst (λ (k : ℕ). LineDoes V sh k s (first_line y) plays.1 (Some fault) t) (sym (one_back before)) plays.2,
+  Appends-trans _ _ _ _ _ so_far.written plays.3,
+)
+
+undone : (V : ℕ) (sh : Shape) (start : Replay V) (x y : List ℕ) (old new newer : Option (List ℕ)) (before : ℕ) (s : Replay V) (so_far : SoFar V sh start (lines_of x) (lines_of y) old new before s) → Keeps new newer
+    → StopsUndone V sh start (lines_of x) old newer (before + 1)
+undone V sh start x y old new newer before s so_far kept =
+    (lines_of y, so_far.text, s, stopped V sh start (lines_of x) (lines_of y) old new before s so_far, Appends-kept _ _ _ _ so_far.written kept)
+
+after_first : (before : ℕ) → 0 < before + 1
+after_first before = omega arith
+
+-- the script stopped
+pub replays_part : (V : ℕ) (sh : Shape) (readers : ℕ) (a b c old new newer : Option (List ℕ)) (before : ℕ) (s t : Replay V) (fault : Fault) → IsReaders readers
+    → KnownSoFar V sh (first_replay V sh readers) a b old new before s → PlaysKnown V sh before s t b c new newer (Err fault) → ReplaysKnown V sh readers a old newer (Err (record { line = before + 1; fault = fault }))
+replays_part V sh readers None b c old new newer before s t fault many so_far plays = tt
+replays_part V sh readers (Some x) None c old new newer before s t fault many so_far plays = absurd so_far
+replays_part V sh readers (Some x) (Some y) c old new newer before s t ReadFailed many so_far plays = inr (after_first before, many, undone V sh _ x y old new newer before s so_far plays)
+replays_part V sh readers (Some x) (Some y) c old new newer before s t NoMemory many so_far plays = inr (after_first before, many, undone V sh _ x y old new newer before s so_far plays)
+replays_part V sh readers (Some x) (Some y) c old new newer before s t TooLong many so_far plays = inr (after_first before, many, refused V sh _ x y old new newer before s t TooLong so_far plays)
+replays_part V sh readers (Some x) (Some y) c old new newer before s t NotACommand many so_far plays = inr (after_first before, many, refused V sh _ x y old new newer before s t NotACommand so_far plays)
+replays_part V sh readers (Some x) (Some y) c old new newer before s t BadNumber many so_far plays = inr (after_first before, many, refused V sh _ x y old new newer before s t BadNumber so_far plays)
+replays_part V sh readers (Some x) (Some y) c old new newer before s t NoSuchReader many so_far plays = inr (after_first before, many, refused V sh _ x y old new newer before s t NoSuchReader so_far plays)
+replays_part V sh readers (Some x) (Some y) c old new newer before s t StillRunning many so_far plays = inr (after_first before, many, refused V sh _ x y old new newer before s t StillRunning so_far plays)
+replays_part V sh readers (Some x) (Some y) c old new newer before s t NothingToStep many so_far plays = inr (after_first before, many, refused V sh _ x y old new newer before s t NothingToStep so_far plays)
+replays_part V sh readers (Some x) (Some y) c old new newer before s t WriteFailed many so_far plays = inr (
+  after_first before,
+  many,
+  (
+    first_line y,
+    lines_of (drop_through 10 y),
+    so_far.text,
+    s,
+    t,
+    plays.1,
+    plays.2,
+    plays.3,
+    stopped_line V sh _ (lines_of x) y old new before s so_far plays.0,
+    subst (λ (k : ℕ). LineDoes V sh k s (first_line y) plays.1 plays.2 t) (sym (one_back before)) plays.4,
+    plays.5,
+    Appends-trans _ _ _ _ _ so_far.written plays.6,
+  ),
+)

@@ -1,0 +1,46 @@
+use Rattle.std.proofs.Common.{◌≡◌, ℕ, ◌+◌, ◌<◌, ◌≤◌, arith, refl, None, sym, subst, rules, Ok, Err, Some, [], string_bytes}
+use Rattle.std.specs.Prelude.{OnOk, ◌^◌}
+use Rattle.mc_script.specs.Commands.{command_in}
+use Rattle.mc_replay.specs.Players.{shape_in, most_before, FitsStill}
+use Rattle.mc_replay.specs.Steps.{DoesLine}
+use Rattle.mc_replay.specs.declared.fault.Fault.{Fault}
+use Rattle.mc_replay.specs.declared.player.Player.{Player}
+use Rattle.mc_replay.proofs.Accessing.{fits_more}
+use Rattle.mc_replay.proofs.Replaying.{line_skipped, line_too_many, line_faulty, line_does, one_line_more, has_room}
+use Rattle.mc_replay.proofs.engine.do_line.Goals as goal
+
+pub returns-then-before-ge-MOST_LINES-clause-does : goal.returns-then-before-ge-MOST_LINES-clause-does
+returns-then-before-ge-MOST_LINES-clause-does g c = λ s fits.
+    let empty : string_bytes c.clear.new.self ≡ [] = search rules in
+    (s, line_too_many g.row.V _ c.args.before s c.args.line.now (string_bytes c.clear.new.self) (search rules) empty, tt)
+
+pub returns-in-Err-clause-does : goal.returns-in-Err-clause-does
+returns-in-Err-clause-does g c = λ s fits.
+    let empty : string_bytes c.clear.new.self ≡ [] = search rules in
+    let few : c.args.before < 2 ^ 40 = search rules in
+    let says : command_in g.row.V c.args.line.now ≡ Err c.in-Err.fault = search rules in
+    let faulty = line_faulty g.row.V (shape_in c.args.player.now) c.args.before s c.args.line.now (string_bytes c.clear.new.self) c.in-Err.fault c.requires.short few says empty in
+    (s, subst (λ (f : Fault). DoesLine g.row.V (shape_in c.args.player.now) c.args.before s c.args.line.now (string_bytes c.clear.new.self) s (Err f)) (sym c.of_line.ensures) faulty, tt)
+
+pub returns-in-Ok-Some-clause-does : goal.returns-in-Ok-Some-clause-does
+returns-in-Ok-Some-clause-does g c = λ s fits.
+    let few : c.args.before < 2 ^ 40 = search rules in
+    let says : command_in g.row.V c.args.line.now ≡ Ok (Some c.in-Ok-Some.command) = search rules in
+    let did = c.do_command.ensures (most_before c.args.before) s (has_room c.args.before few) fits in
+    let old : Player g.row.V = c.args.player.now in
+    let new : Player g.row.V = c.do_command.new.player in (
+      did.0,
+      line_does g.row.V (shape_in old) c.args.before s did.0 c.args.line.now (string_bytes c.do_command.new.text) c.in-Ok-Some.command c.do_command.result c.requires.short few says did.1,
+      subst (λ (n : ℕ). OnOk c.do_command.result (FitsStill g.row.V old new n did.0)) (one_line_more c.args.before) did.2,
+    )
+
+pub returns-in-Ok-None-clause-does : goal.returns-in-Ok-None-clause-does
+returns-in-Ok-None-clause-does g c = λ s fits.
+    let empty : string_bytes c.clear.new.self ≡ [] = search rules in
+    let few : c.args.before < 2 ^ 40 = search rules in
+    let says : command_in g.row.V c.args.line.now ≡ Ok None = search rules in
+    let more : most_before c.args.before ≤ most_before (c.args.before + 1) = omega arith in (
+      s,
+      line_skipped g.row.V (shape_in c.args.player.now) c.args.before s c.args.line.now (string_bytes c.clear.new.self) c.requires.short few says empty,
+      (refl, fits_more g.row.V c.args.player.now (most_before c.args.before) (most_before (c.args.before + 1)) s.running s.world more fits),
+    )

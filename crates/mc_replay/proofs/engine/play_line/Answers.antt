@@ -1,0 +1,56 @@
+use Rattle.std.proofs.Common.{◌≡◌, ◌∙◌, ap, sym, subst, rules, Ok, Err, true, false, length, string_bytes}
+use Rattle.mc_script.specs.Lines.{GivesLine}
+use Rattle.mc_script.specs.declared.line.ReadFault.TheVariants as over
+use Rattle.std.specs.Prelude.{ℕ, List}
+use Rattle.mc_replay.specs.Players.{shape_in}
+use Rattle.mc_replay.specs.Steps.{DoesLine, is_wanting}
+use Rattle.mc_replay.proofs.Replaying.{plays_whole, plays_cut, plays_over, stops_refused, not_wanting}
+use Rattle.mc_replay.proofs.engine.play_line.Goals as goal
+
+pub returns-in-Err-TooLong-clause-plays : goal.returns-in-Err-TooLong-clause-plays
+returns-in-Err-TooLong-clause-plays g c = λ s fits.
+    let gives : GivesLine (g.R.Read.remaining c.args.input.now) (g.R.Read.remaining c.read_line.new.reader) c.read_line.new.line.items (Err over.TooLong) = search rules in
+    (s, plays_over g.row.V (shape_in c.args.player.now) c.args.before s c.read_line.new.line.items (g.R.Read.remaining c.args.input.now) (g.R.Read.remaining c.read_line.new.reader) (g.W.Write.contents c.args.output.now) gives, λ e. absurd (cc e))
+
+pub returns-then-not-is_whole-clause-plays : goal.returns-then-not-is_whole-clause-plays
+returns-then-not-is_whole-clause-plays g c = λ s fits.
+    let did = c.do_line-done.ensures.does s fits in
+    let line = c.read_line.new.line.items in
+    let text = string_bytes c.do_line-done.new.text in
+    let gives : GivesLine (g.R.Read.remaining c.args.input.now) (g.R.Read.remaining c.read_line.new.reader) line (Ok true) = search rules in
+    let wrote = rw c.as_bytes.ensures.value at c.send-is_whole.ensures.taken in
+    let part = rw c.as_bytes.ensures.value at (c.send-is_whole.ensures.part c.if-not-is_whole.true) in (
+      did.0,
+      plays_cut g.row.V (shape_in c.args.player.now) c.args.before s did.0 line text c.send-is_whole.result.0 (g.R.Read.remaining c.args.input.now) (g.R.Read.remaining c.read_line.new.reader) (g.W.Write.contents c.args.output.now) (g.W.Write.contents c.send-is_whole.new.to)
+          c.do_line-done.result gives (rw c.as_slice.ensures.value at did.1) (sym c.is_wanting.ensures ∙ c.if-is_wanting.false) wrote part,
+      λ e. absurd (cc e),
+    )
+
+pub returns-in-Ok-clause-plays : goal.returns-in-Ok-clause-plays
+returns-in-Ok-clause-plays g c = λ s fits.
+    let did = c.in-Ok.ensures.does s fits in
+    let line = c.read_line.new.line.items in
+    let text = string_bytes c.do_line-done.new.text in
+    let gives : GivesLine (g.R.Read.remaining c.args.input.now) (g.R.Read.remaining c.read_line.new.reader) line (Ok true) = search rules in
+    let wrote = rw c.as_bytes.ensures.value at c.send-is_whole.ensures.taken in
+    let all : c.send-is_whole.result.0 ≡ length text = c.send-is_whole.ensures.all c.if-not-is_whole.false ∙ ap length c.as_bytes.ensures.value in (
+      did.0,
+      plays_whole g.row.V (shape_in c.args.player.now) c.args.before s did.0 line text c.send-is_whole.result.0 (g.R.Read.remaining c.args.input.now) (g.R.Read.remaining c.read_line.new.reader) (g.W.Write.contents c.args.output.now) (g.W.Write.contents c.send-is_whole.new.to)
+          gives (rw c.as_slice.ensures.value at did.1) wrote all,
+      λ e. did.2,
+    )
+
+pub returns-in-Err-clause-plays : goal.returns-in-Err-clause-plays
+returns-in-Err-clause-plays g c = λ s fits.
+    let did = c.in-Err.ensures.does s fits in
+    let line = c.read_line.new.line.items in
+    let text = string_bytes c.do_line-done.new.text in
+    let gives : GivesLine (g.R.Read.remaining c.args.input.now) (g.R.Read.remaining c.read_line.new.reader) line (Ok true) = search rules in
+    let wrote = rw c.as_bytes.ensures.value at c.send-is_whole.ensures.taken in
+    let all : c.send-is_whole.result.0 ≡ length text = c.send-is_whole.ensures.all c.if-not-is_whole.false ∙ ap length c.as_bytes.ensures.value in
+    let other : is_wanting (Err c.in-Err.fault) ≡ false = ap is_wanting (sym c.in-Err.is) ∙ sym c.is_wanting.ensures ∙ c.if-is_wanting.false in (
+      did.0,
+      stops_refused g.row.V (shape_in c.args.player.now) c.args.before s did.0 line text c.send-is_whole.result.0 (g.R.Read.remaining c.args.input.now) (g.R.Read.remaining c.read_line.new.reader) (g.W.Write.contents c.args.output.now) (g.W.Write.contents c.send-is_whole.new.to)
+          c.in-Err.fault gives (subst (λ (l : List ℕ). DoesLine g.row.V (shape_in {V = g.row.V} c.args.player.now) c.args.before s l text did.0 (Err c.in-Err.fault)) c.as_slice.ensures.value did.1) (not_wanting c.in-Err.fault other) wrote all,
+      λ e. absurd (cc e),
+    )

@@ -1,0 +1,28 @@
+use Rattle.std.proofs.Common.{rules, arith}
+use Rattle.mc_theory.specs.Lists.{state_of}
+use Rattle.mc_plan.specs.Clerks.{Call, PutCall}
+use Rattle.mc_replay.specs.Players.{shape_in}
+use Rattle.mc_replay.specs.Replay.{pending}
+use Rattle.mc_replay.specs.declared.player.Player.{Player}
+use Rattle.mc_replay.proofs.Calling.{whole_at_once, whole_in_time}
+use Rattle.mc_replay.proofs.player.Player.put.Goals as goal
+
+pub finish-requires : goal.finish-requires
+finish-requires g c =
+    let first = c.requires in
+    let runs = c.in-None.ensures first.0 first.1 first.2 in
+    (search rules, (runs.1.1, (_, _, _, runs.1.0, omega (arith, runs.1.0.few, first.3))))
+
+pub returns-in-Some-clause-made : goal.returns-in-Some-clause-made
+returns-in-Some-clause-made g c = λ most w idle room.
+    let begins = c.in-Some.ensures most w idle in
+    whole_at_once g.row.V c.args.self.now c.begin_put.new.self most (PutCall c.args.key c.args.value) w c.in-Some.answer begins.0 begins.1
+
+pub returns-in-Ok-clause-made : goal.returns-in-Ok-clause-made
+returns-in-Ok-clause-made g c = λ most w idle room.
+    let old : Player g.row.V = c.args.self.now in
+    let mid : Player g.row.V = c.begin_put.new.self in
+    let call : Call = PutCall c.args.key c.args.value in
+    let begins = c.in-None.ensures most w idle in
+    let done = c.in-Ok.ensures.made most (pending call (state_of g.row.V (shape_in old) w.acts)) w begins.1.0 (omega (arith, begins.1.0.few, room)) in
+    whole_in_time g.row.V old mid c.finish.new.self most call w c.in-Ok.answer begins.0 begins.1.0.few done

@@ -1,0 +1,26 @@
+-- What is told of a fault, without the line's end.
+use Rattle.std.specs.Prelude.{ℕ, List, ◌==◌, ◌++◌, codes, if◌then◌else◌}
+use Rattle.std.specs.Fmt.{decimal}
+use Rattle.mc_replay.specs.declared.fault.Fault.{Fault}
+use Rattle.mc_replay.specs.declared.fault.Fault.TheVariants as fault
+use Rattle.mc_replay.specs.declared.fault.Stop.{Stop}
+
+abbrev pub fault_text : Fault → List ℕ
+fault_text fault.ReadFailed = codes "read failed"
+fault_text fault.NoMemory = codes "no memory"
+fault_text fault.TooLong = codes "too long"
+fault_text fault.NotACommand = codes "not a command"
+fault_text fault.BadNumber = codes "bad number"
+fault_text fault.NoSuchReader = codes "no such reader"
+fault_text fault.StillRunning = codes "still running"
+fault_text fault.NothingToStep = codes "nothing to step"
+fault_text fault.WriteFailed = codes "write failed"
+
+-- what is told where no line was read
+abbrev pub refusal_text : Fault → List ℕ
+refusal_text fault.NoSuchReader = codes "readers must be from 1 to 1024"
+refusal_text f = fault_text f
+
+-- where and why a script stopped; at line 0 no line was read
+abbrev pub stop_text : Stop → List ℕ
+stop_text stop = if stop.line == 0 then codes "refused: " ++ refusal_text stop.fault else codes "line " ++ decimal stop.line ++ codes ": " ++ fault_text stop.fault

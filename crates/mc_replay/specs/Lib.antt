@@ -1,0 +1,7 @@
+pub mod Texts
+pub mod Faults
+pub mod Replay
+pub mod Scripts
+pub mod Players
+pub mod Steps
+pub mod FaultTexts

@@ -1,0 +1,186 @@
+-- What a player of a replay shows of the replay that it is.
+use Rattle.std.specs.Prelude.{ℕ, ◌≡◌, ◌+◌, ◌-◌, ◌*◌, ◌^◌, ◌<◌, ◌≤◌, List, [], ◌∷◌, ◌++◌, length, slice_get, Option, Some, None, IsSome, Result, Ok, Err, OnOk}
+use Rattle.mc_words.specs.declared.history.Reply.{Reply}
+use Rattle.mc_words.specs.declared.shape.Shape.{Shape}
+use Rattle.mc_theory.specs.Lists.{Made, after_all, state_of}
+use Rattle.mc_core.specs.Seen.{Shows}
+use Rattle.mc_theory.specs.Worlds.{World, Running}
+use Rattle.mc_theory.specs.declared.act.Act.TheVariants.{Mark}
+use Rattle.mc_theory.specs.declared.event.Stepped.{Stepped}
+use Rattle.mc_theory.specs.declared.event.Stepped.TheVariants as stepped
+use Rattle.mc_plan.specs.Clerks as clerks
+use Rattle.mc_plan.specs.Clerks.{Call, Answered, Knows, IsOn, next_act, acts_left}
+use Rattle.mc_plan.specs.declared.answer.Answer.{Answer}
+use Rattle.mc_replay.specs.declared.fault.Fault.{Fault}
+use Rattle.mc_replay.specs.declared.fault.Fault.TheVariants.{ReadFailed, NoMemory, NoSuchReader, WriteFailed}
+use Rattle.mc_replay.specs.declared.player.Player.{Player}
+use Rattle.mc_replay.specs.Replay.{Replay, Pending, pending, WriterMakes, LooksUp, ActDoes}
+use Rattle.mc_replay.specs.Scripts.{IsReaders}
+
+abbrev pub shape_in : {V : ℕ} → Player V → Shape
+shape_in player = player.world.shape
+
+-- how many events one line has at most
+abbrev pub most_steps : ℕ
+most_steps = 2 ^ 24 - 1
+
+-- how many events there are at most before so many lines are done
+abbrev pub most_before : ℕ → ℕ
+most_before lines = lines * most_steps
+
+-- how many accesses one look-up makes at most
+abbrev pub most_accesses : ℕ
+most_accesses = 64 * 27 + 1
+
+-- the look-up that the reader runs, if it runs one, has made at least n accesses
+abbrev pub HasMade : {V : ℕ} → World V → ℕ → ℕ → Type 0
+HasMade w r n = (run : Running) → slice_get w.readers r ≡ Some (Some run) → n ≤ length run.sofar
+
+-- there is room for the events of one line more
+abbrev pub HasRoom : ℕ → Type 0
+HasRoom most = most + most_steps < 2 ^ 64 - 1
+
+-- the player shows this world, in which there were at most so many events
+pub record IsAt (V : ℕ) (player : Player V) (most : ℕ) (w : World V) : Type 0 where
+  pub world : Shows {V = V} player.world w
+  pub shape : clerks.shape_in player.clerk ≡ shape_in player
+  pub readers : length w.readers ≡ player.readers
+  pub events : w.events ≤ most
+
+-- no call of the writer runs
+pub record IsIdle (V : ℕ) (player : Player V) (most : ℕ) (w : World V) : Type 0 where
+  pub at : IsAt V player most w
+  pub knows : Knows V player.clerk (state_of V (shape_in player) w.acts)
+
+-- the writer's call runs, or its answer is still to be told
+pub record IsInCall (V : ℕ) (player : Player V) (most : ℕ) (p : Pending V) (w : World V) : Type 0 where
+  pub at : IsAt V player most w
+  pub on : IsOn V player.clerk p.call p.from p.acts
+  pub now : after_all (shape_in player) p.from p.acts ≡ state_of V (shape_in player) w.acts
+  pub few : acts_left player.clerk ≤ most_steps
+
+-- the same, with an act to make
+abbrev pub IsRunning : (V : ℕ) → Player V → ℕ → Pending V → World V → Type 0
+IsRunning V player most p w = IsInCall V player most p w × IsSome (next_act player.clerk)
+
+abbrev pub FitsCall : (V : ℕ) → Player V → ℕ → Option (Pending V) → World V → Type 0
+FitsCall V player most None w = IsIdle V player most w
+FitsCall V player most (Some p) w = IsRunning V player most p w
+
+-- the player is this replay, in which there were at most so many events
+abbrev pub Fits : (V : ℕ) → Player V → ℕ → Replay V → Type 0
+Fits V player most s = FitsCall V player most s.running s.world
+
+-- some acts more of the call
+abbrev pub with_acts : {V : ℕ} → Pending V → List Made → Pending V
+with_acts p acts = record { call = p.call; from = p.from; acts = p.acts ++ acts }
+
+-- a call began, or is answered where it needs no act
+abbrev pub BeginsAs : (V : ℕ) → Shape → Player V → ℕ → Call → World V → Option Answer → Type 0
+BeginsAs V sh new most call w (Some a) = Answered V sh call (state_of V sh w.acts) [] a × IsIdle V new most w
+BeginsAs V sh new most call w None = IsRunning V new most (pending call (state_of V sh w.acts)) w
+
+abbrev pub Begins : (V : ℕ) → Player V → Player V → ℕ → Call → World V → Option Answer → Type 0
+Begins V old new most call w told = (shape_in new ≡ shape_in old) × BeginsAs V (shape_in old) new most call w told
+
+-- after an act the call goes on, or is answered
+abbrev pub GoesOn : (V : ℕ) → Player V → Player V → ℕ → Pending V → World V → Option Answer → Type 0
+GoesOn V old new most p x (Some a) = Answered V (shape_in old) p.call p.from p.acts a × IsIdle V new most x
+GoesOn V old new most p x None = IsRunning V new most p x × (acts_left new.clerk < acts_left old.clerk)
+
+-- the writer made one act of the call that runs
+pub record MakesAct (V : ℕ) (old new : Player V) (most : ℕ) (p : Pending V) (w : World V) (told : Option Answer) : Type 0 where
+  pub made : Made
+  pub after : World V
+  pub makes : WriterMakes V (shape_in old) w (made ∷ []) after
+  pub shape : shape_in new ≡ shape_in old
+  pub goes_on : GoesOn V old new (most + 1) (with_acts p (made ∷ [])) after told
+
+-- the writer made the other acts of the call, which is answered
+pub record Completes (V : ℕ) (old new : Player V) (most : ℕ) (p : Pending V) (w : World V) (a : Answer) : Type 0 where
+  pub acts : List Made
+  pub after : World V
+  pub makes : WriterMakes V (shape_in old) w acts after
+  pub shape : shape_in new ≡ shape_in old
+  pub answered : Answered V (shape_in old) p.call p.from (p.acts ++ acts) a
+  pub idle : IsIdle V new (most + acts_left old.clerk) after
+
+-- a whole call
+pub record CallIsWhole (V : ℕ) (old new : Player V) (most : ℕ) (call : Call) (w : World V) (a : Answer) : Type 0 where
+  pub acts : List Made
+  pub after : World V
+  pub makes : WriterMakes V (shape_in old) w acts after
+  pub shape : shape_in new ≡ shape_in old
+  pub answered : Answered V (shape_in old) call (state_of V (shape_in old) w.acts) acts a
+  pub idle : IsIdle V new (most + most_steps) after
+
+-- the writer marked an item
+pub record IsMarked (V : ℕ) (old new : Player V) (most i : ℕ) (w : World V) : Type 0 where
+  pub after : World V
+  pub makes : WriterMakes V (shape_in old) w (record { act = Mark i; bit = 0 } ∷ []) after
+  pub shape : shape_in new ≡ shape_in old
+  pub idle : IsIdle V new (most + 1) after
+
+-- a whole look-up by the writer
+pub record Looks (V : ℕ) (old new : Player V) (most k : ℕ) (w : World V) (reply : Reply V) : Type 0 where
+  pub acts : List Made
+  pub after : World V
+  pub looks : LooksUp (shape_in old) (state_of V (shape_in old) w.acts) k reply acts
+  pub makes : WriterMakes V (shape_in old) w acts after
+  pub shape : shape_in new ≡ shape_in old
+  pub idle : IsIdle V new (most + most_steps) after
+
+-- after so many accesses of a reader's look-up
+pub record ReadsSoFar (V : ℕ) (player : Player V) (most r n : ℕ) (m : Replay V) : Type 0 where
+  pub fits : FitsCall V player (most + n) m.running m.world
+  pub made : HasMade m.world r n
+  pub few : n ≤ most_accesses
+
+-- why nothing was opened
+abbrev pub IsRefusedAs : ℕ → Fault → Type 0
+IsRefusedAs readers NoSuchReader = IsReaders readers → ⊥
+IsRefusedAs readers NoMemory = IsReaders readers
+IsRefusedAs readers fault = ⊥
+
+-- the bit that an event gave; most give none
+abbrev pub bit_given : {V : ℕ} → Stepped V → ℕ
+bit_given (stepped.Word bit) = bit
+bit_given given = 0
+
+-- what was done and written, or the fault; where memory was wanting nothing is said
+abbrev pub DoneAs : {V : ℕ} → (List ℕ → Option Fault → Replay V → Type 0) → List ℕ → Replay V → Result (Unit {0}) Fault → Type 0
+DoneAs P text t (Ok u) = P text None t
+DoneAs P text t (Err NoMemory) = Unit {0}
+DoneAs P text t (Err ReadFailed) = ⊥
+DoneAs P text t (Err WriteFailed) = ⊥
+DoneAs P text t (Err fault) = P text (Some fault) t
+
+-- the player is this replay, over a table of the same shape
+abbrev pub FitsStill : (V : ℕ) → Player V → Player V → ℕ → Replay V → Type 0
+FitsStill V old new most t = (shape_in new ≡ shape_in old) × Fits V new most t
+
+-- whatever replay the player was, it leads on as P says
+abbrev pub DoesBy : (V : ℕ) → Player V → Player V → List ℕ → Result (Unit {0}) Fault → (Shape → Replay V → List ℕ → Option Fault → Replay V → Type 0) → Type 0
+DoesBy V old new text result P =
+    (most : ℕ) (s : Replay V) → HasRoom most → Fits V old most s →
+    (t : Replay V) × DoneAs (P (shape_in old) s) text t result × OnOk result (FitsStill V old new (most + most_steps) t)
+
+-- a command can be done: there is room for its events, and nothing was written yet
+abbrev pub CanDo : (V : ℕ) → Player V → List ℕ → Type 0
+CanDo V player text = (text ≡ []) × ((most : ℕ) × (s : Replay V) × HasRoom most × Fits V player most s)
+
+-- a call runs, and there is room for its acts
+abbrev pub CanAct : (V : ℕ) → Player V → Type 0
+CanAct V player = (most : ℕ) × (p : Pending V) × (w : World V) × IsRunning V player most p w × (most + acts_left player.clerk < 2 ^ 64 - 1)
+
+-- after so many acts of calls, in which there were at most so many events
+pub record ActsSoFar (V : ℕ) (player : Player V) (most n : ℕ) (m : Replay V) : Type 0 where
+  pub fits : FitsCall V player (most + n) m.running m.world
+  pub few : IsSome m.running → n + acts_left player.clerk ≤ most_steps
+  pub past : n ≤ most_steps
+
+-- one act of the call, and the line of its answer where it was the last
+abbrev pub ActsOnce : (V : ℕ) → Player V → Player V → List ℕ → List ℕ → Type 0
+ActsOnce V old new before after =
+    (most n : ℕ) (m : Replay V) (p : Pending V) → HasRoom most → ActsSoFar V old most n m → m.running ≡ Some p →
+    (t : Replay V) × (own : List ℕ) × ActDoes (shape_in old) m p own t × (after ≡ before ++ own) × ActsSoFar V new most (n + 1) t × (shape_in new ≡ shape_in old)

@@ -1,0 +1,60 @@
+-- The lines that are written for answers.
+use Rattle.std.specs.Prelude.{ℕ, List, [], ◌++◌, ◌∷◌, codes, Some, None, Ok, Err}
+use Rattle.std.specs.Fmt.{decimal}
+use Rattle.std.specs.List.{flat_map}
+use Rattle.mc_words.specs.declared.history.Reply.{Reply}
+use Rattle.mc_words.specs.declared.history.Reply.TheVariants.{Found, Absent, Busy}
+use Rattle.mc_theory.specs.declared.event.Done.{Done}
+use Rattle.mc_theory.specs.declared.event.Stepped.{Stepped}
+use Rattle.mc_theory.specs.declared.event.Stepped.TheVariants as stepped
+use Rattle.mc_plan.specs.declared.answer.Answer.{Answer}
+use Rattle.mc_plan.specs.declared.answer.Answer.TheVariants as answer
+use Rattle.mc_plan.specs.declared.answer.Put.{Put}
+use Rattle.mc_plan.specs.declared.answer.Put.TheVariants.{Stored, Renewed}
+use Rattle.mc_plan.specs.declared.answer.PutError.TheVariants.{NoPath, AllRecent, Spent}
+use Rattle.mc_plan.specs.declared.answer.Remove.TheVariants.{Removed, NotThere}
+
+-- the words of a value, a blank before each
+abbrev pub words_text : List ℕ → List ℕ
+words_text words = flat_map (λ word. 32 ∷ decimal word) words
+
+abbrev pub put_text : Put → List ℕ
+put_text (Stored at moves None) = codes "stored at " ++ decimal at ++ codes " moves " ++ decimal moves
+put_text (Stored at moves (Some key)) = codes "stored at " ++ decimal at ++ codes " moves " ++ decimal moves ++ codes " evicted " ++ decimal key
+put_text (Renewed at) = codes "renewed at " ++ decimal at
+
+abbrev pub answer_text : Answer → List ℕ
+answer_text (answer.Put (Ok put)) = put_text put
+answer_text (answer.Put (Err NoPath)) = codes "refused no path"
+answer_text (answer.Put (Err AllRecent)) = codes "refused all recent"
+answer_text (answer.Put (Err Spent)) = codes "refused spent"
+answer_text (answer.Remove (Ok (Removed at))) = codes "removed at " ++ decimal at
+answer_text (answer.Remove (Ok (NotThere at))) = codes "not there at " ++ decimal at
+answer_text (answer.Remove (Err spent)) = codes "refused spent"
+
+abbrev pub reply_text : {V : ℕ} → Reply V → List ℕ
+reply_text (Found value at) = codes "found" ++ words_text value ++ codes " at " ++ decimal at
+reply_text (Absent at) = codes "absent at " ++ decimal at
+reply_text Busy = codes "busy"
+
+-- a reader's look-up that has ended
+abbrev pub done_text : {V : ℕ} → Done V → List ℕ
+done_text done = codes "reader " ++ decimal done.reader ++ codes " " ++ reply_text done.reply
+
+-- a line has its end
+abbrev pub line : List ℕ → List ℕ
+line text = text ++ 10 ∷ []
+
+abbrev pub answer_line : Answer → List ℕ
+answer_line a = line (answer_text a)
+
+abbrev pub reply_line : {V : ℕ} → Reply V → List ℕ
+reply_line reply = line (reply_text reply)
+
+abbrev pub done_line : {V : ℕ} → Done V → List ℕ
+done_line done = line (done_text done)
+
+-- what is written after an access: the line of the look-up that it ended
+abbrev pub end_text : {V : ℕ} → Stepped V → List ℕ
+end_text (stepped.Done done) = done_line done
+end_text given = []

@@ -1,0 +1,151 @@
+// A script from a reader, and the lines of its answers to a writer.
+ghost use Rattle.std.specs.Prelude.{◌≡◌, ℕ, ◌≤◌, ◌<◌, ◌+◌, ◌^◌, true, length, Result, Ok, OnOk, string_bytes};
+ghost use Rattle.mc_words.specs.Checks.{shape_of};
+ghost use Rattle.mc_words.specs.Places.{IsWidth};
+ghost use Rattle.mc_replay.specs.Faults.{told};
+ghost use Rattle.mc_replay.specs.Replay.{Replay, first_replay};
+ghost use Rattle.mc_replay.specs.Scripts.{ReplaysKnown, IsReaders};
+ghost use Rattle.mc_replay.specs.Players.{Fits, FitsStill, shape_in, most_before};
+ghost use Rattle.mc_replay.specs.Steps.{DoesLine, PlaysKnown, is_wanting};
+ghost use Rattle.mc_replay.specs.declared.fault.Stop.{Stop};
+
+use crate::command::do_command;
+use crate::fault::{Fault, ReplayError, Stop};
+use crate::player::Player;
+use mc_script::{Line, ReadFault, parse, read_line, send};
+use mc_words::Checked;
+use std::alloc::Global;
+use std::io::{BufRead, Write};
+
+/// The most lines of a script.
+const MOST_LINES: u64 = 1 << 40;
+
+/// Does what a line says, and puts the lines of its answers into `text`.
+fn do_line<const V: usize>(
+    player: &mut Player<V>,
+    text: &mut String,
+    before: u64,
+    line: &[u8],
+) -> Result<(), Fault>
+    requires fits { (s : Replay V) × Fits V player.old (most_before before) s }
+    requires short { length line.now ≤ 4096 }
+    ensures does { (s : Replay V) → Fits V player.old (most_before before) s → (t : Replay V) × DoesLine V (shape_in player.old) before s line.now (string_bytes text.new) t result × OnOk result (FitsStill V player.old player.new (most_before (before + 1)) t) }
+    ensures few { OnOk result (before < 2 ^ 40) }
+{
+    text.clear();
+    if before >= MOST_LINES {
+        return Err(Fault::TooLong);
+    }
+    match parse(line) {
+        Err(fault) => Err(Fault::of_line(fault)),
+        Ok(None) => Ok(()),
+        Ok(Some(command)) => do_command(player, text, command),
+    }
+}
+
+/// Whether memory was wanting.
+fn is_wanting(done: Result<(), Fault>) -> bool
+    ensures { result ≡ is_wanting done }
+{
+    match done {
+        Err(Fault::NoMemory) => true,
+        _ => false,
+    }
+}
+
+/// Reads the next line, does it and writes its answers: `false` where there is none.
+fn play_line<const V: usize, R: BufRead, W: Write>(
+    player: &mut Player<V>,
+    text: &mut String,
+    before: u64,
+    input: &mut R,
+    output: &mut W,
+) -> Result<bool, Fault>
+    requires { (s : Replay V) × Fits V player.old (most_before before) s }
+    ensures plays { (s : Replay V) → Fits V player.old (most_before before) s → (t : Replay V) ×
+        PlaysKnown V (shape_in player.old) before s t (R.remaining input.old) (R.remaining input.new) (W.contents output.old) (W.contents output.new) result × (result ≡ Ok true → FitsStill V player.old player.new (most_before (before + 1)) t) }
+    ensures few { result ≡ Ok true → before < 2 ^ 40 }
+{
+    let mut line = Line::new();
+    match read_line(input, &mut line) {
+        Err(ReadFault::ReadFailed) => return Err(Fault::ReadFailed),
+        Err(ReadFault::TooLong) => return Err(Fault::TooLong),
+        Ok(false) => return Ok(false),
+        Ok(true) => {}
+    }
+    let done = do_line(player, text, before, line.as_slice());
+    if is_wanting(done) {
+        return Err(Fault::NoMemory);
+    }
+    let (_, is_whole) = send(output, text.as_bytes());
+    if !is_whole {
+        return Err(Fault::WriteFailed);
+    }
+    match done {
+        Ok(()) => Ok(true),
+        Err(fault) => Err(fault),
+    }
+}
+
+/// Plays the lines one after the other, up to the first that is refused.
+fn play_lines<const V: usize, R: BufRead, W: Write>(
+    alloc: Global,
+    player: &mut Player<V>,
+    input: &mut R,
+    output: &mut W,
+) -> Result<(), Stop>
+    requires { (readers : ℕ) × IsReaders readers × Fits V player.old 0 (first_replay V (shape_in player.old) readers) }
+    ensures { (readers : ℕ) → IsReaders readers → Fits V player.old 0 (first_replay V (shape_in player.old) readers) → ReplaysKnown V (shape_in player.old) readers (R.remaining input.old) (W.contents output.old) (W.contents output.new) result }
+{
+    let mut text = String::new(alloc);
+    'lines: for before in 0..u64::MAX {
+        match play_line(player, &mut text, before, input, output) {
+            Ok(true) => {}
+            Ok(false) => return Ok(()),
+            Err(fault) => {
+                let line = before + 1;
+                return Err(Stop { line, fault });
+            }
+        }
+    }
+    unreachable!()
+}
+
+/// Replays the script that is left to read.
+pub fn play<const V: usize, R: BufRead, W: Write>(
+    alloc: Global,
+    checked: &Checked,
+    readers: u32,
+    input: &mut R,
+    output: &mut W,
+) -> Result<(), Stop>
+    requires { IsWidth V }
+    ensures { ReplaysKnown V (shape_of checked.now) readers (R.remaining input.old) (W.contents output.old) (W.contents output.new) result }
+{
+    match Player::<V>::new(alloc, checked, readers) {
+        Ok(mut player) => play_lines(alloc, &mut player, input, output),
+        Err(fault) => Err(Stop { line: 0, fault }),
+    }
+}
+
+/// Replays the script that is left to read, and writes the lines of its answers.
+///
+/// The readers are numbered from 0, and there are from 1 to 1024 of them.
+pub fn replay<const V: usize, R: BufRead, W: Write>(
+    alloc: Global,
+    checked: &Checked,
+    readers: u32,
+    input: &mut R,
+    output: &mut W,
+) -> Result<(), ReplayError>
+    requires { IsWidth V }
+    ensures { (r : Result (Unit {0}) Stop) × ReplaysKnown V (shape_of checked.now) readers (R.remaining input.old) (W.contents output.old) (W.contents output.new) r × (result ≡ told r) }
+{
+    match play::<V, R, W>(alloc, checked, readers, input, output) {
+        Ok(()) => Ok(()),
+        Err(stop) => Err(ReplayError {
+            line: stop.line,
+            number: stop.fault.number(),
+        }),
+    }
+}

@@ -1,0 +1,102 @@
+//! The lines that are written for answers.
+ghost use Rattle.std.specs.Prelude.{Some};
+ghost use Rattle.mc_replay.specs.Texts.{answer_text, done_text, put_text, reply_text, words_text};
+
+use mc_core::{Done, Reply};
+use mc_plan::{Answer, Put, PutError, Remove, Spent};
+use std::fmt;
+
+/// What a `put` did, as a line says it.
+#[derive(Clone, Copy)]
+struct PutLine(Put);
+
+impl fmt::Display for PutLine {
+    ghost output = { λ line. Some (put_text line.0) };
+
+    fn fmt<W: fmt::Write>(&self, f: &mut fmt::Formatter<W>) -> fmt::Result {
+        match self.0 {
+            Put::Stored {
+                at,
+                moves,
+                evicted: None,
+            } => write!(f, "stored at {at} moves {moves}"),
+            Put::Stored {
+                at,
+                moves,
+                evicted: Some(key),
+            } => write!(f, "stored at {at} moves {moves} evicted {key}"),
+            Put::Renewed { at } => write!(f, "renewed at {at}"),
+        }
+    }
+}
+
+/// The line of a call's answer, without its end.
+#[derive(Clone, Copy)]
+pub(crate) struct AnswerLine(pub(crate) Answer);
+
+impl fmt::Display for AnswerLine {
+    ghost output = { λ line. Some (answer_text line.0) };
+
+    fn fmt<W: fmt::Write>(&self, f: &mut fmt::Formatter<W>) -> fmt::Result {
+        match self.0 {
+            Answer::Put(Ok(put)) => {
+                let put = PutLine(put);
+                write!(f, "{put}")
+            }
+            Answer::Put(Err(PutError::NoPath)) => write!(f, "refused no path"),
+            Answer::Put(Err(PutError::AllRecent)) => write!(f, "refused all recent"),
+            Answer::Put(Err(PutError::Spent)) => write!(f, "refused spent"),
+            Answer::Remove(Ok(Remove::Removed { at })) => write!(f, "removed at {at}"),
+            Answer::Remove(Ok(Remove::NotThere { at })) => write!(f, "not there at {at}"),
+            Answer::Remove(Err(Spent)) => write!(f, "refused spent"),
+        }
+    }
+}
+
+/// The words of a value, a blank before each.
+#[derive(Clone, Copy)]
+struct Words<'a>(&'a [u64]);
+
+impl<'a> fmt::Display for Words<'a> {
+    ghost output = { λ words. Some (words_text words.0.now) };
+
+    fn fmt<W: fmt::Write>(&self, f: &mut fmt::Formatter<W>) -> fmt::Result {
+        for word in self.0 {
+            write!(f, " {word}")?;
+        }
+        Ok(())
+    }
+}
+
+/// The line of a look-up's reply, without its end.
+#[derive(Clone, Copy)]
+pub(crate) struct ReplyLine<const V: usize>(pub(crate) Reply<V>);
+
+impl<const V: usize> fmt::Display for ReplyLine<V> {
+    ghost output = { λ line. Some (reply_text line.0) };
+
+    fn fmt<W: fmt::Write>(&self, f: &mut fmt::Formatter<W>) -> fmt::Result {
+        match &self.0 {
+            Reply::Found { value, at } => {
+                let words = Words(value);
+                write!(f, "found{words} at {at}")
+            }
+            Reply::Absent { at } => write!(f, "absent at {at}"),
+            Reply::Busy => write!(f, "busy"),
+        }
+    }
+}
+
+/// The line of a reader's look-up that has ended, without its end.
+#[derive(Clone, Copy)]
+pub(crate) struct DoneLine<const V: usize>(pub(crate) Done<V>);
+
+impl<const V: usize> fmt::Display for DoneLine<V> {
+    ghost output = { λ line. Some (done_text line.0) };
+
+    fn fmt<W: fmt::Write>(&self, f: &mut fmt::Formatter<W>) -> fmt::Result {
+        let reader = self.0.reader;
+        let reply = ReplyLine(self.0.reply);
+        write!(f, "reader {reader} {reply}")
+    }
+}

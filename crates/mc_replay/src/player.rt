@@ -1,0 +1,188 @@
+//! A world of one writer and some readers, and the writer's clerk.
+ghost use Rattle.std.specs.Prelude.{◌≡◌, ◌+◌, ◌^◌, ◌-◌, ◌<◌, ℕ, IfOk, IfErr, OnOk, OnErr, IsSome, Err, is_some};
+ghost use Rattle.mc_words.specs.Checks.{shape_of};
+ghost use Rattle.mc_words.specs.Places.{IsWidth};
+ghost use Rattle.mc_theory.specs.Worlds as worlds;
+ghost use Rattle.mc_theory.specs.declared.event.Unlawful.TheVariants as unlawful;
+ghost use Rattle.mc_plan.specs.Clerks.{PutCall, RemoveCall, next_act, acts_left};
+ghost use Rattle.mc_replay.specs.Replay.{Pending, first_replay};
+ghost use Rattle.mc_replay.specs.Scripts.{IsReaders};
+ghost use Rattle.mc_replay.specs.Players.{Begins, Completes, Fits, HasRoom, IsIdle, IsInCall, MakesAct, CallIsWhole, IsMarked, Looks, shape_in, bit_given, IsRefusedAs};
+ghost use Rattle.mc_replay.specs.declared.fault.Fault.TheVariants.{NoMemory};
+
+use crate::fault::Fault;
+use mc_core::{Act, Event, Reply, Stepped, Unlawful, World, WorldError};
+use mc_plan::{Answer, Clerk, moment, read};
+use mc_words::Checked;
+use std::alloc::Global;
+
+#[derive(Drop)]
+pub(crate) struct Player<const V: usize> {
+    pub(crate) world: World<V>,
+    clerk: Clerk<V>,
+    /// How many readers there are.
+    pub(crate) readers: u32,
+}
+
+/// The bit that the hand read; other acts read none.
+fn bit_in<const V: usize>(given: Stepped<V>) -> u64
+    ensures { result ≡ bit_given given.entry }
+{
+    match given {
+        Stepped::Word(bit) => bit,
+        Stepped::Nothing | Stepped::Done(_) => 0,
+    }
+}
+
+/// An act that is allowed and passes no limit is refused only for want of memory.
+fn fault_of(why: Unlawful) -> Fault
+    requires { why ≡ unlawful.NoMemory }
+    ensures { result ≡ NoMemory }
+{
+    let _ = why;
+    Fault::NoMemory
+}
+
+impl<const V: usize> Player<V> {
+    /// A new world, and the clerk of its writer.
+    pub(crate) fn new(alloc: Global, checked: &Checked, readers: u32) -> Result<Player<V>, Fault>
+        requires { IsWidth V }
+        ensures fits { IfOk result (λ player. Fits V player 0 (first_replay V (shape_of checked.now) readers)) }
+        ensures shape { IfOk result (λ player. shape_in player ≡ shape_of checked.now) }
+        ensures readers { OnOk result (IsReaders readers) }
+        ensures refused { IfErr result (λ fault. IsRefusedAs readers fault) }
+    {
+        let world = match World::new(alloc, checked, readers) {
+            Ok(world) => world,
+            Err(WorldError::Readers) => return Err(Fault::NoSuchReader),
+            Err(WorldError::NoMemory) => return Err(Fault::NoMemory),
+        };
+        match Clerk::new(alloc, checked) {
+            Ok(clerk) => Ok(Player {
+                world,
+                clerk,
+                readers,
+            }),
+            Err(_) => Err(Fault::NoMemory),
+        }
+    }
+
+    /// Whether a call of the writer runs.
+    pub(crate) fn is_running(&self) -> bool
+        ensures { result ≡ is_some (next_act self.now.clerk) }
+    {
+        self.clerk.next().is_some()
+    }
+
+    /// The writer makes the next act of its call, and answers the call after its last one. Only memory for the history
+    /// may be wanting.
+    pub(crate) fn act(&mut self) -> Result<Option<Answer>, Fault>
+        requires runs { IsSome (next_act self.old.clerk) }
+        requires call { (most : ℕ) × (p : Pending V) × (w : worlds.World V) × IsInCall V self.old most p w × (most + acts_left self.old.clerk < 2 ^ 64 - 1) }
+        ensures made { IfOk result (λ told. (most : ℕ) (p : Pending V) (w : worlds.World V) → IsInCall V self.old most p w → most + acts_left self.old.clerk < 2 ^ 64 - 1 → MakesAct V self.old self.new most p w told) }
+        ensures refused { OnErr result (result ≡ Err NoMemory) }
+    {
+        match self.clerk.next() {
+            None => Ok(None),
+            Some(act) => match self.world.step(Event::Write(act)) {
+                Ok(given) => {
+                    self.clerk.after(&mut &self.world, bit_in(given));
+                    Ok(self.clerk.answer())
+                }
+                Err(why) => Err(fault_of(why)),
+            },
+        }
+    }
+
+    /// Makes the acts of the call that runs, up to its answer.
+    fn finish(&mut self) -> Result<Answer, Fault>
+        requires runs { IsSome (next_act self.old.clerk) }
+        requires call { (most : ℕ) × (p : Pending V) × (w : worlds.World V) × IsInCall V self.old most p w × (most + acts_left self.old.clerk < 2 ^ 64 - 1) }
+        ensures made { IfOk result (λ a. (most : ℕ) (p : Pending V) (w : worlds.World V) → IsInCall V self.old most p w → most + acts_left self.old.clerk < 2 ^ 64 - 1 → Completes V self.old self.new most p w a) }
+        ensures refused { OnErr result (result ≡ Err NoMemory) }
+    {
+        'acts: loop {
+            match self.act() {
+                Ok(Some(answer)) => return Ok(answer),
+                Ok(None) => {}
+                Err(fault) => return Err(fault),
+            }
+        }
+    }
+
+    /// Begins a `put`; the answer, where it needs no act.
+    pub(crate) fn begin_put(&mut self, key: u64, value: [u64; V]) -> Option<Answer>
+        requires { (most : ℕ) × (w : worlds.World V) × IsIdle V self.old most w }
+        ensures { (most : ℕ) (w : worlds.World V) → IsIdle V self.old most w → Begins V self.old self.new most (PutCall key value.entry) w result }
+    {
+        self.clerk.put(&mut &self.world, key, value);
+        self.clerk.answer()
+    }
+
+    /// Begins a `remove`; the answer, where it needs no act.
+    pub(crate) fn begin_remove(&mut self, key: u64) -> Option<Answer>
+        requires { (most : ℕ) × (w : worlds.World V) × IsIdle V self.old most w }
+        ensures { (most : ℕ) (w : worlds.World V) → IsIdle V self.old most w → Begins V self.old self.new most (RemoveCall key) w result }
+    {
+        self.clerk.remove(&mut &self.world, key);
+        self.clerk.answer()
+    }
+
+    /// A whole `put`.
+    pub(crate) fn put(&mut self, key: u64, value: [u64; V]) -> Result<Answer, Fault>
+        requires { (most : ℕ) × (w : worlds.World V) × IsIdle V self.old most w × HasRoom most }
+        ensures made { IfOk result (λ a. (most : ℕ) (w : worlds.World V) → IsIdle V self.old most w → HasRoom most → CallIsWhole V self.old self.new most (PutCall key value.entry) w a) }
+        ensures refused { OnErr result (result ≡ Err NoMemory) }
+    {
+        match self.begin_put(key, value) {
+            Some(answer) => Ok(answer),
+            None => match self.finish() {
+                Ok(answer) => Ok(answer),
+                Err(fault) => Err(fault),
+            },
+        }
+    }
+
+    /// A whole `remove`.
+    pub(crate) fn remove(&mut self, key: u64) -> Result<Answer, Fault>
+        requires { (most : ℕ) × (w : worlds.World V) × IsIdle V self.old most w × HasRoom most }
+        ensures made { IfOk result (λ a. (most : ℕ) (w : worlds.World V) → IsIdle V self.old most w → HasRoom most → CallIsWhole V self.old self.new most (RemoveCall key) w a) }
+        ensures refused { OnErr result (result ≡ Err NoMemory) }
+    {
+        match self.begin_remove(key) {
+            Some(answer) => Ok(answer),
+            None => match self.finish() {
+                Ok(answer) => Ok(answer),
+                Err(fault) => Err(fault),
+            },
+        }
+    }
+
+    /// Marks an item.
+    fn mark(&mut self, item: u32)
+        requires { (most : ℕ) × (w : worlds.World V) × IsIdle V self.old most w × HasRoom most × (item < (shape_in self.old).items) }
+        ensures { (most : ℕ) (w : worlds.World V) → IsIdle V self.old most w → HasRoom most → IsMarked V self.old self.new most item w }
+    {
+        match self.world.step(Event::Write(Act::Mark(item))) {
+            Ok(_) => {}
+            Err(_) => unreachable!(),
+        }
+    }
+
+    /// Looks a key up for the writer, which marks its item.
+    pub(crate) fn get(&mut self, key: u64) -> Reply<V>
+        requires { (most : ℕ) × (w : worlds.World V) × IsIdle V self.old most w × HasRoom most }
+        ensures { (most : ℕ) (w : worlds.World V) → IsIdle V self.old most w → HasRoom most → Looks V self.old self.new most key w result }
+    {
+        let checked = self.world.checked();
+        let at = moment(&checked, &mut &self.world);
+        match read(&checked, &mut &self.world, key) {
+            None => Reply::Absent { at },
+            Some(found) => {
+                let value = found.1;
+                self.mark(found.0);
+                Reply::Found { value, at }
+            }
+        }
+    }
+}

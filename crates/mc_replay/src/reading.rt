@@ -1,0 +1,96 @@
+// The lines of readers.
+ghost use Rattle.std.specs.Prelude.{◌≡◌, ◌<◌, ◌≤◌, ◌++◌, [], Err, OnOk, OnErr, IfOk, IfErr, string_bytes};
+ghost use Rattle.mc_replay.specs.Replay.{AccessesDo, LookUpDoes, ReadsDo};
+ghost use Rattle.mc_replay.specs.Players.{CanDo, DoesBy};
+ghost use Rattle.mc_replay.specs.declared.fault.Fault.TheVariants.{NoMemory, NoSuchReader};
+ghost use Rattle.mc_replay.specs.Texts.{end_text};
+
+use crate::fault::Fault;
+use crate::lines::DoneLine;
+use crate::player::Player;
+use crate::text::add_line;
+use mc_core::{Event, Stepped, Unlawful};
+
+/// The reader of this number.
+fn reader_of<const V: usize>(player: &Player<V>, reader: u64) -> Result<u32, Fault>
+    ensures ok { IfOk result (λ r. (r ≡ reader) × (r < player.now.readers)) }
+    ensures err { IfErr result (λ fault. (fault ≡ NoSuchReader) × (player.now.readers ≤ reader)) }
+{
+    if reader < u64::from(player.readers) {
+        Ok(reader as u32)
+    } else {
+        Err(Fault::NoSuchReader)
+    }
+}
+
+/// A reader begins a look-up.
+pub(crate) fn begin_get<const V: usize>(
+    player: &mut Player<V>,
+    reader: u64,
+    key: u64,
+) -> Result<(), Fault>
+    requires { CanDo V player.old [] }
+    ensures { DoesBy V player.old player.new [] result (λ sh s. LookUpDoes sh s reader key) }
+{
+    let reader = match reader_of(player, reader) {
+        Ok(reader) => reader,
+        Err(fault) => return Err(fault),
+    };
+    match player.world.step(Event::Begin(reader, key)) {
+        Ok(_) => Ok(()),
+        Err(Unlawful::StillRunning) => Err(Fault::StillRunning),
+        Err(_) => unreachable!(),
+    }
+}
+
+/// Adds the line of a look-up that has ended.
+fn tell_end<const V: usize>(text: &mut String, given: Stepped<V>) -> Result<(), Fault>
+    ensures ok { OnOk result (string_bytes text.new ≡ string_bytes text.old ++ end_text given.entry) }
+    ensures err { OnErr result (result ≡ Err NoMemory) }
+{
+    match given {
+        Stepped::Done(done) => add_line(text, &DoneLine(done)),
+        Stepped::Nothing | Stepped::Word(_) => Ok(()),
+    }
+}
+
+/// So many accesses of a reader, up to the last of its look-up.
+fn accesses<const V: usize>(
+    player: &mut Player<V>,
+    text: &mut String,
+    reader: u32,
+    many: u64,
+) -> Result<(), Fault>
+    requires can { CanDo V player.old (string_bytes text.old) }
+    requires reader { reader < player.old.readers }
+    ensures { DoesBy V player.old player.new (string_bytes text.new) result (λ sh s. AccessesDo sh many s reader) }
+{
+    'accesses: for _ in 0..many {
+        let given = match player.world.step(Event::Read(reader)) {
+            Ok(given) => given,
+            Err(Unlawful::NotLawful) => return Err(Fault::NothingToStep),
+            Err(_) => unreachable!(),
+        };
+        match tell_end(text, given) {
+            Ok(()) => {}
+            Err(fault) => return Err(fault),
+        }
+    }
+    Ok(())
+}
+
+/// A reader's accesses, if there is such a reader.
+pub(crate) fn reads<const V: usize>(
+    player: &mut Player<V>,
+    text: &mut String,
+    reader: u64,
+    many: u64,
+) -> Result<(), Fault>
+    requires { CanDo V player.old (string_bytes text.old) }
+    ensures { DoesBy V player.old player.new (string_bytes text.new) result (λ sh s. ReadsDo sh s reader many) }
+{
+    match reader_of(player, reader) {
+        Ok(reader) => accesses(player, text, reader, many),
+        Err(fault) => Err(fault),
+    }
+}

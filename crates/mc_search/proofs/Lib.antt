@@ -1,0 +1,9 @@
+pub mod Standing
+pub mod Readable
+pub mod Pushed
+pub mod Levels
+pub mod Least
+pub mod Way
+pub mod Circling
+pub mod Cutting
+pub mod Freeing

@@ -1,0 +1,58 @@
+-- Where a key does not stand, slot by slot, and that a key stands in its buckets alone.
+use Rattle.std.proofs.Common.{ℕ, ◌≡◌, ◌≢◌, ◌+◌, ◌*◌, ◌/◌, ◌%◌, ◌<◌, inl, inr, List, Option, Some, None, sym, ◌∙◌, ap, subst, arith}
+use Rattle.mc_words.specs.declared.shape.Shape.{Shape}
+use Rattle.mc_words.specs.Keys.{tag_of, slot_word, first_of, second_of, IsBucketOf}
+use Rattle.mc_words.specs.Places.{slot, item}
+use Rattle.mc_words.specs.Shapes.{IsShape}
+use Rattle.std.proofs.lemmas.Grind.{same_number_lists}
+use Rattle.mc_words.specs.Standing.{Stands, HasValue, IsAbsent, AgreesAt, Agrees}
+use Rattle.mc_words.specs.History.{held}
+use Rattle.mc_words.specs.declared.history.Change.{Change}
+use Rattle.mc_words.proofs.Frames.{slot_word-parts}
+use Rattle.mc_search.specs.Readable.{IsPlaced, NamesNone, IsNotAt, IsNotAmong}
+
+-- a slot whose word names no item under the tag
+pub not_at-none : (V : ℕ) (sh : Shape) (w v : List ℕ) (k q word tag : ℕ) → v ≡ w → word ≡ slot sh v q → tag ≡ tag_of sh k → NamesNone sh tag word → IsNotAt V sh w k q
+not_at-none V sh w v k q word tag same read is none i l e =
+    absurd (none i l (read ∙ ap (λ (y : List ℕ). slot sh y q) same ∙ e ∙ ap (λ t. slot_word t i) (sym is)))
+
+-- a slot whose word names an item of another key
+pub not_at-other : (V : ℕ) (sh : Shape) (w v u : List ℕ) (k q word tag g stored : ℕ) → IsShape sh → v ≡ w → word ≡ slot sh v q → tag ≡ tag_of sh k → g < sh.items → word ≡ slot_word tag g → u ≡ v → stored ≡ item V sh u g 0 → stored ≢ k → IsNotAt V sh w k q
+not_at-other V sh w v u k q word tag g stored s same read is lg names again key ne i l e at =
+    let both : slot_word (tag_of sh k) i ≡ slot_word tag g = sym e ∙ sym (read ∙ ap (λ (y : List ℕ). slot sh y q) same) ∙ names in
+    let items = s.items.1 in
+    let buckets = s.buckets.1 in
+    let one : i ≡ g = (slot_word-parts (tag_of sh k) tag i g (omega arith) (omega arith) both).1 in
+    ne (key ∙ ap (λ (y : List ℕ). item V sh y g 0) (again ∙ same) ∙ ap (λ y. item V sh w y 0) (sym one) ∙ at)
+
+-- a key that stands under its tag in its buckets alone, and not there, stands nowhere
+pub absent_from-buckets : (V : ℕ) (sh : Shape) (w : List ℕ) (k : ℕ) → IsPlaced V sh w k → IsNotAmong V sh w k (first_of sh k) 4 → IsNotAmong V sh w k (second_of sh k) 4 → IsAbsent V sh w k
+absent_from-buckets V sh w k placed one two q i s =
+    let at = placed q i s in
+    let there : (b : ℕ) → q / 4 ≡ b → IsNotAmong V sh w k b 4 → ⊥ =
+    λ b e none.
+    let is : q ≡ 4 * b + q % 4 = omega arith in
+    none (q % 4) (omega arith) i s.names.in_items (ap (slot sh w) (sym is) ∙ at.0) s.key in
+    elim at.1 [ inl e ↦ there (first_of sh k) e one | inr e ↦ there (second_of sh k) e two ]
+
+-- where the words agree with what a map says of the key, the key is found
+pub placed-agrees : (V : ℕ) (sh : Shape) (w : List ℕ) (k : ℕ) (o : Option (List ℕ)) → AgreesAt V sh w k o → IsPlaced V sh w k
+placed-agrees V sh w k None a q i s = absurd (a q i s)
+placed-agrees V sh w k (Some v) a q i s =
+    let is = a.2.once q i s in
+    (ap (slot sh w) is.0 ∙ a.2.tagged ∙ ap (λ y. slot_word (tag_of sh k) y) (sym is.1), subst (λ (y : ℕ). IsBucketOf sh k (y / 4)) (sym is.0) a.2.placed)
+
+-- where the words agree with a history and no deed runs, every key is found
+pub placed-quiet : (V : ℕ) (sh : Shape) (w : List ℕ) (h : List (Change V)) (k : ℕ) → Agrees V sh w None h → IsPlaced V sh w k
+placed-quiet V sh w h k a = placed-agrees V sh w k (held h k) (a.keys k (λ e. cc))
+
+-- ---- the value of a key that stands
+value_is : (V : ℕ) (sh : Shape) (w : List ℕ) (i : ℕ) (v x : List ℕ) → HasValue V sh w i v → HasValue V sh w i x → x ≡ v
+value_is V sh w i v x a b =
+    same_number_lists x v (b.0 ∙ sym a.0) (λ j l. sym (b.1 j l) ∙ a.1 j (omega (arith, a.0, b.0, l)))
+
+pub held_value : (V : ℕ) (sh : Shape) (w : List ℕ) (k q i : ℕ) (v : List ℕ) (o : Option (List ℕ)) → AgreesAt V sh w k o → Stands V sh w k q i → HasValue V sh w i v → o ≡ Some v
+held_value V sh w k q i v None a stands value = absurd (a q i stands)
+held_value V sh w k q i v (Some x) a stands value =
+    let same : i ≡ a.1 = (a.2.once q i stands).1 in
+    ap Some (value_is V sh w a.1 v x (rw same at value) a.3)

@@ -1,0 +1,24 @@
+use Rattle.std.proofs.Common.{ℕ, ◌∙◌, List, Option, Some, None, IfNone, ap, subst}
+use Rattle.mc_words.specs.Checks.{shape_of}
+use Rattle.mc_words.specs.Keys.{alternate, first_of}
+use Rattle.mc_search.specs.Readable.{IsNotAmong}
+use Rattle.mc_search.proofs.Standing.{absent_from-buckets}
+use Rattle.mc_search.proofs.finding.find.Goals as goal
+
+-- what follows where nothing was found
+where_none : (A : Type 0) (P Q : Type 0) (o : Option A) → (P → Q) → IfNone o P → IfNone o Q
+where_none A P Q None f h = f h
+where_none A P Q (Some a) f h = tt
+
+pub returns-clause-none : goal.returns-clause-none
+returns-clause-none g c =
+    let w = g.P.Peek.words c.args.peek.now in
+    let sh = shape_of c.args.checked.now in
+    let k = c.args.key in
+    let second = c.alt-second.ensures.bucket ∙ ap (λ b. alternate sh b c.tag-tag.result) c.first-first.ensures.bucket ∙ ap (alternate sh (first_of sh k)) c.tag-tag.ensures in
+    where_none _ _ _ c.find_in-2.result
+    (λ none. absent_from-buckets g.row.V sh w k c.requires.placed
+    (subst (λ (b : ℕ). IsNotAmong g.row.V sh w k b 4) c.first-first.ensures.bucket c.in_default.ensures.none)
+    (subst (λ (b : ℕ). IsNotAmong g.row.V sh w k b 4) second
+    (subst (λ (v : List ℕ). IsNotAmong g.row.V sh v k c.alt-second.result 4) c.in_default.ensures.same none)))
+    c.find_in-2.ensures.none

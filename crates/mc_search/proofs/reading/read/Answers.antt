@@ -1,0 +1,24 @@
+use Rattle.std.proofs.Common.{List, subst}
+use Rattle.std.specs.Prelude.{ℕ}
+use Rattle.mc_words.specs.Checks.{shape_of}
+use Rattle.mc_words.specs.History.{held}
+use Rattle.mc_words.specs.Places.{slot_number}
+use Rattle.mc_words.specs.Standing.{HasValue}
+use Rattle.mc_theory.proofs.Deeds.{held_from_absent}
+use Rattle.mc_search.proofs.Standing.{held_value, placed-quiet}
+use Rattle.mc_search.proofs.reading.read.Goals as goal
+
+pub find-requires-clause-placed : goal.find-requires-clause-placed
+find-requires-clause-placed g c = placed-quiet g.row.V (shape_of c.args.checked.now) (g.P.Peek.words c.args.peek.now) c.requires.agrees.0 c.args.key c.requires.agrees.1
+
+pub returns-in-Some-clause-found : goal.returns-in-Some-clause-found
+returns-in-Some-clause-found g c h agrees =
+    let V = g.row.V in
+    let sh = shape_of c.args.checked.now in
+    let w = g.P.Peek.words c.args.peek.now in
+    let value = subst (λ (x : List ℕ). HasValue V sh x c.in-Some.item c.value_at.result) c.find.ensures.same c.value_at.ensures.value in
+    held_value V sh w c.args.key (slot_number c.in-Some.field-0-0) c.in-Some.item c.value_at.result (held h c.args.key) (agrees.keys c.args.key (λ e. cc)) c.in-Some.ensures.found value
+
+pub returns-in-None-clause-none : goal.returns-in-None-clause-none
+returns-in-None-clause-none g c h agrees =
+    held_from_absent g.row.V (shape_of c.args.checked.now) (g.P.Peek.words c.args.peek.now) c.args.key (held h c.args.key) (agrees.keys c.args.key (λ e. cc)) c.in-None.ensures.none

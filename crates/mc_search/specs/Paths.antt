@@ -1,0 +1,23 @@
+-- A shortest path to a hole.
+use Rattle.std.specs.Prelude.{ℕ, ◌≡◌, ◌≤◌, ◌⊎◌, [], ◌∷◌, ◌++◌, Contains, List, length}
+use Rattle.mc_words.specs.declared.place.Place.{Place}
+use Rattle.mc_words.specs.declared.shape.Shape.{Shape}
+use Rattle.mc_words.specs.Chains.{IsChain}
+use Rattle.mc_search.specs.declared.path.Path.{Path}
+
+-- a chain from the key, within the depth of the shape, and none is shorter
+pub record IsLeastPath (sh : Shape) (w : List ℕ) (k : ℕ) (p : Path) : Type 0 where
+  pub chain : IsChain sh w k p.places.items p.hole
+  pub within : length p.places.items ≤ sh.depth
+  pub least : (places : List Place) (hole : Place) → IsChain sh w k places hole → length p.places.items ≤ length places
+
+-- the places before the victim, and the victim's as the hole; or all of them, where the victim is none of the places
+abbrev pub IsCut : Place → List Place → Place → List Place → Place → Type 0
+IsCut victim places hole kept end =
+    ((after : List Place) × (places ≡ kept ++ victim ∷ after) × (Contains kept victim → ⊥) × (end ≡ victim)) ⊎
+    ((Contains places victim → ⊥) × (kept ≡ places) × (end ≡ hole))
+
+-- the first of the places, or the hole where there is none
+abbrev pub first_place : List Place → Place → Place
+first_place [] hole = hole
+first_place (p ∷ ps) hole = p

@@ -1,0 +1,40 @@
+ghost use Rattle.std.specs.Prelude.{ℕ, ◌≡◌, ◌≢◌, ◌+◌, ◌*◌, ◌<◌, IfSome, MatchOption};
+ghost use Rattle.mc_words.specs.Chains.{tag_in};
+ghost use Rattle.mc_words.specs.Checks.{shape_of};
+ghost use Rattle.mc_words.specs.Keys.{alternate};
+ghost use Rattle.mc_words.specs.Places.{slot};
+ghost use Rattle.mc_search.specs.Readable.{HasSlots, NamesSome, IsFull, IsHoleIn};
+
+use crate::word::slot_at;
+use mc_theory::Peek;
+use mc_words::{Checked, Place};
+
+/// The other bucket of the item that a slot's word names.
+#[tactic(auto, unfolding(mc_words::specs::Chains::tag_in))]
+pub(crate) fn other_bucket(checked: &Checked, bucket: u32, word: u64) -> u32
+    requires in_table { bucket < (shape_of checked.now).buckets }
+    requires named { NamesSome (shape_of checked.now) word }
+    ensures value { result ≡ alternate (shape_of checked.now) bucket (tag_in word) }
+    ensures in_table { result < (shape_of checked.now).buckets }
+{
+    let tag = (word - 1) >> 32;
+    checked.alt(bucket, tag as u8)
+}
+
+/// The least empty slot of the bucket.
+pub(crate) fn hole_in<P: Peek>(checked: &Checked, peek: &mut P, bucket: u32) -> Option<Place>
+    requires words { HasSlots (shape_of checked.now) (P.words peek.old) }
+    requires in_table { bucket < (shape_of checked.now).buckets }
+    ensures found { MatchOption result (IsFull (shape_of checked.now) (P.words peek.old) bucket) (IsHoleIn (shape_of checked.now) (P.words peek.old) bucket) }
+    ensures least { IfSome result (λ h. (j : ℕ) → j < h.slot → slot (shape_of checked.now) (P.words peek.old) (4 * bucket + j) ≢ 0) }
+    ensures same { P.words peek.new ≡ P.words peek.old }
+    ensures kept { peek.new ≡ peek.old }
+{
+    for slot in 0..4 {
+        let place = Place { bucket, slot };
+        if slot_at(checked, peek, place) == 0 {
+            return Some(place);
+        }
+    }
+    None
+}

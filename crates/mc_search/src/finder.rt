@@ -1,0 +1,109 @@
+ghost use Rattle.std.specs.Prelude.{◌≡◌, ◌⊎◌, ◌<◌, IfOk, IfSome, IfNone};
+ghost use Rattle.mc_words.specs.Chains.{NoChain};
+ghost use Rattle.mc_words.specs.Checks.{shape_of};
+ghost use Rattle.mc_search.specs.Paths.{IsLeastPath};
+ghost use Rattle.mc_search.specs.Readable.{HasSlots, IsFilled, IsFull, IsHoleIn};
+
+use crate::bucket::hole_in;
+use crate::path::Path;
+use mc_theory::Peek;
+use crate::queue::{Entry, clean, start};
+use crate::search::{search, trace};
+use arrayvec::ArrayVec;
+use mc_words::{Checked, NoMemory, Place};
+use std::alloc::Global;
+use std::marker::Model;
+
+/// Finds shortest paths to a hole in tables of one shape. Its memory is taken once.
+#[derive(Drop)]
+pub struct Finder {
+    checked: Checked,
+    queue: Vec<Entry>,
+    /// For each bucket, whether it is in the queue.
+    seen: Vec<bool>,
+}
+
+impl Model for Finder {
+    ghost use Rattle.mc_words.specs.declared.shape.Shape.{Shape};
+
+    ghost Value = { Shape };
+
+    ghost use Rattle.mc_search.specs.Ready.{IsReady};
+
+    ghost view = { λ f. f.checked.shape };
+
+    ghost invariant = { λ f. IsReady f };
+}
+
+/// A hole in one of the two buckets, the first before the second.
+fn hole_in_either<P: Peek>(
+    checked: &Checked,
+    peek: &mut P,
+    first: u32,
+    second: u32,
+) -> Option<Place>
+    requires words { HasSlots (shape_of checked.now) (P.words peek.old) }
+    requires first { first < (shape_of checked.now).buckets }
+    requires second { second < (shape_of checked.now).buckets }
+    ensures found { IfSome result (λ h. IsHoleIn (shape_of checked.now) (P.words peek.old) first h ⊎ IsHoleIn (shape_of checked.now) (P.words peek.old) second h) }
+    ensures first { IfNone result (IsFull (shape_of checked.now) (P.words peek.old) first) }
+    ensures second { IfNone result (IsFull (shape_of checked.now) (P.words peek.old) second) }
+    ensures same { P.words peek.new ≡ P.words peek.old }
+    ensures kept { peek.new ≡ peek.old }
+{
+    if let Some(hole) = hole_in(checked, peek, first) {
+        return Some(hole);
+    }
+    hole_in(checked, peek, second)
+}
+
+impl Finder {
+    /// A finder for tables of the shape.
+    pub fn new(alloc: Global, checked: &Checked) -> Result<Finder, NoMemory>
+        ensures { IfOk result (λ f. f ≡ shape_of checked.now) }
+    {
+        let buckets = checked.shape().buckets as usize;
+        let queue = Vec::with_capacity(alloc, buckets)?;
+        let mut seen = Vec::new(alloc);
+        seen.resize(buckets, false)?;
+        Ok(Finder {
+            checked: *checked,
+            queue,
+            seen,
+        })
+    }
+
+    /// A shortest path for the key, if there is one within the depth of the shape.
+    ///
+    /// Of several it is the first of a search breadth first, which looks at a bucket's slots in order.
+    pub fn path<P: Peek>(&mut self, peek: &mut P, key: u64) -> Option<Path>
+        requires words { HasSlots self.old (P.words peek.old) }
+        requires filled { IsFilled self.old (P.words peek.old) }
+        ensures found { IfSome result (IsLeastPath self.old (P.words peek.old) key) }
+        ensures none { IfNone result (NoChain self.old (P.words peek.old) key self.old.depth) }
+        ensures finder { self.new ≡ self.old }
+        ensures words { P.words peek.new ≡ P.words peek.old }
+        ensures kept { peek.new ≡ peek.old }
+    {
+        let checked = self.checked;
+        let first = checked.first(key);
+        let second = checked.alt(first, checked.tag(key));
+        if let Some(hole) = hole_in_either(&checked, peek, first, second) {
+            return Some(Path {
+                places: ArrayVec::new(),
+                hole,
+            });
+        }
+        start(&mut self.queue, &mut self.seen, first, second);
+        let found = search(&checked, &mut self.queue, &mut self.seen, peek);
+        let path = match found {
+            Some(hole) => Some(Path {
+                places: trace(&self.queue, self.queue.len() - 1),
+                hole,
+            }),
+            None => None,
+        };
+        clean(&mut self.queue, &mut self.seen);
+        path
+    }
+}

@@ -1,0 +1,70 @@
+//! Which items are free.
+ghost use Rattle.std.specs.Prelude.{ℕ, ◌≡◌, ◌<◌, ◌≤◌, IfOk, IfSome, IfNone};
+
+use std::alloc::{AllocError, Global};
+use std::cmp::Reverse;
+use std::collections::BinaryHeap;
+
+/// The items that no slot names. Its memory is taken once.
+#[derive(Drop)]
+pub struct FreeItems {
+    items: u32,
+    /// The items from this one on were never taken.
+    fresh: u32,
+    /// The items that were taken and given back.
+    returned: BinaryHeap<Reverse<u32>>,
+}
+
+impl FreeItems {
+    ghost use Rattle.mc_search.specs.Free.{IsKept, IsFreeIn, Takes, Gives};
+
+    /// All items of a table.
+    pub fn new(alloc: Global, items: u32) -> Result<FreeItems, AllocError>
+        ensures kept { IfOk result IsKept }
+        ensures items { IfOk result (λ f. f.items ≡ items) }
+        ensures all { IfOk result (λ f. (i : ℕ) → i < items → IsFreeIn f i) }
+    {
+        let returned = BinaryHeap::with_capacity(alloc, items as usize)?;
+        Ok(FreeItems {
+            items,
+            fresh: 0,
+            returned,
+        })
+    }
+
+    /// Takes the least free item.
+    pub fn take_least(&mut self) -> Option<u32>
+        requires { IsKept self.old }
+        ensures kept { IsKept self.new }
+        ensures items { self.new.items ≡ self.old.items }
+        ensures free { IfSome result (IsFreeIn self.old) }
+        ensures takes { IfSome result (Takes self.old self.new) }
+        ensures least { IfSome result (λ i. (j : ℕ) → IsFreeIn self.old j → i ≤ j) }
+        ensures none { IfNone result ((j : ℕ) → IsFreeIn self.old j → ⊥) }
+        ensures same { IfNone result ((j : ℕ) → IsFreeIn self.new j → ⊥) }
+    {
+        if let Some(item) = self.returned.pop() {
+            return Some(item.0);
+        }
+        if self.fresh == self.items {
+            return None;
+        }
+        self.fresh += 1;
+        Some(self.fresh - 1)
+    }
+
+    /// Gives an item back.
+    pub fn give(&mut self, item: u32)
+        requires kept { IsKept self.old }
+        requires in_items { item < self.old.items }
+        requires taken { IsFreeIn self.old item → ⊥ }
+        ensures kept { IsKept self.new }
+        ensures items { self.new.items ≡ self.old.items }
+        ensures gives { Gives self.old self.new item }
+    {
+        match self.returned.push(Reverse(item)) {
+            Ok(()) => {}
+            Err(_) => unreachable!(),
+        }
+    }
+}

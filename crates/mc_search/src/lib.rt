@@ -1,0 +1,27 @@
+//! Where a key stands, and how to make room for one more.
+//!
+//! `find` gives a key's slot and item, and a `Finder` a least path of displacements to an empty slot, breadth first. A
+//! `Sweep` is CLOCK's hand on its way round the items, and `FreeItems` keeps those that no slot names. The words of the
+//! table are read through `Peek`, so the same code serves a list of words, a world and shared words.
+#![tactic(auto)]
+
+mod bucket;
+mod finder;
+mod finding;
+mod free;
+mod path;
+mod queue;
+mod reading;
+mod search;
+mod sweep;
+mod word;
+
+pub use finder::Finder;
+pub use finding::find;
+pub use free::FreeItems;
+pub use mc_theory::Peek;
+pub use mc_words::NoMemory;
+pub use path::Path;
+pub use reading::{moment, read};
+pub use sweep::Sweep;
+pub use word::{key_at, slot_at, word_at};

@@ -1,0 +1,64 @@
+ghost use Rattle.std.specs.Prelude.{ℕ, ◌≡◌, ◌<◌, Some, Contains, IfNone, IfSome, List, slice_get, take};
+ghost use Rattle.mc_words.specs.declared.shape.Shape.{Shape};
+ghost use Rattle.mc_words.specs.Chains.{IsChain};
+ghost use Rattle.mc_words.specs.Places.{IsPlace, slot_number};
+ghost use Rattle.mc_search.specs.Kept.{SetsSlot};
+ghost use Rattle.mc_search.specs.Paths.{first_place};
+
+use arrayvec::ArrayVec;
+use mc_words::Place;
+
+/// How to make room for a key: the item at the last place moves to the hole, the item at the place before it to
+/// the place that became empty, and so on. The key then goes to the first place, or to the hole where there is none.
+#[derive(Drop)]
+pub struct Path {
+    pub places: ArrayVec<Place, 8>,
+    pub hole: Place,
+}
+
+/// Which of the places this is.
+fn index_of(places: &[Place], place: Place) -> Option<usize>
+    ensures found { IfSome result (λ n. slice_get places.now n ≡ Some place) }
+    ensures first { IfSome result (λ n. Contains (take n places.now) place → ⊥) }
+    ensures none { IfNone result (Contains places.now place → ⊥) }
+{
+    for (n, other) in places.iter().enumerate() {
+        if *other == place {
+            return Some(n);
+        }
+    }
+    None
+}
+
+impl Path {
+    ghost use Rattle.mc_search.specs.Paths.{IsCut};
+
+    /// Where the key goes.
+    pub fn first(&self) -> Place
+        ensures { result ≡ first_place self.now.places.items self.now.hole }
+    {
+        match self.places.first() {
+            Some(place) => *place,
+            None => self.hole,
+        }
+    }
+
+    /// The path up to the victim's place, which is empty once the victim is taken out. It stays as it is where that is none of
+    /// its places.
+    pub fn cut_at(self, victim: Place) -> Path
+        ensures cut { IsCut victim self.places.items self.hole result.places.items result.hole }
+        ensures chain { (sh : Shape) (w later : List ℕ) (k : ℕ) → IsPlace sh victim → IsChain sh w k self.places.items self.hole → SetsSlot sh w later (slot_number victim) 0 → IsChain sh later k result.places.items result.hole }
+    {
+        match index_of(self.places.as_slice(), victim) {
+            Some(n) => {
+                let mut places = self.places;
+                places.truncate(n);
+                Path {
+                    places,
+                    hole: victim,
+                }
+            }
+            None => self,
+        }
+    }
+}

@@ -1,0 +1,59 @@
+// What the words of a quiet table say.
+ghost use Rattle.std.specs.Prelude.{ℕ, ◌≡◌, ◌<◌, ◌≤◌, List, Some, None, length, IfSome, IfNone};
+ghost use Rattle.mc_words.specs.declared.history.Change.{Change};
+ghost use Rattle.mc_words.specs.Checks.{shape_of};
+ghost use Rattle.mc_words.specs.History.{held};
+ghost use Rattle.mc_words.specs.Places.{IsWidth, moment, word_count};
+ghost use Rattle.mc_words.specs.Standing.{Agrees, HasValue, Stands};
+
+use crate::finding::find;
+use crate::word::word_at;
+use mc_theory::Peek;
+use mc_words::Checked;
+
+/// The length of the history.
+#[tactic(auto, unfolding(mc_words::specs::Places::moment))]
+pub fn moment<P: Peek>(checked: &Checked, peek: &mut P) -> u64
+    requires { 0 < length (P.words peek.old) }
+    ensures value { result ≡ moment (P.words peek.old) }
+    ensures same { P.words peek.new ≡ P.words peek.old }
+    ensures kept { peek.new ≡ peek.old }
+{
+    peek.word(checked.moment_place())
+}
+
+/// The words of an item after its key.
+fn value_at<const V: usize, P: Peek>(checked: &Checked, peek: &mut P, item: u32) -> [u64; V]
+    requires width { IsWidth V }
+    requires words { word_count V (shape_of checked.now) ≤ length (P.words peek.old) }
+    requires item { item < (shape_of checked.now).items }
+    ensures value { HasValue V (shape_of checked.now) (P.words peek.old) item result }
+    ensures same { P.words peek.new ≡ P.words peek.old }
+    ensures kept { peek.new ≡ peek.old }
+{
+    let mut value = [0; V];
+    for j in 0..V {
+        value[j] = word_at::<V, P>(checked, peek, item, j as u8 + 1);
+    }
+    value
+}
+
+/// The item at which the key stands, and its value.
+pub fn read<const V: usize, P: Peek>(
+    checked: &Checked,
+    peek: &mut P,
+    key: u64,
+) -> Option<(u32, [u64; V])>
+    requires width { IsWidth V }
+    requires agrees { (h : List (Change V)) × Agrees V (shape_of checked.now) (P.words peek.old) None h }
+    ensures found { (h : List (Change V)) → Agrees V (shape_of checked.now) (P.words peek.old) None h → IfSome result (λ r. held h key ≡ Some r.1) }
+    ensures item { IfSome result (λ r. (q : ℕ) × Stands V (shape_of checked.now) (P.words peek.old) key q r.0) }
+    ensures none { (h : List (Change V)) → Agrees V (shape_of checked.now) (P.words peek.old) None h → IfNone result (held h key ≡ None) }
+    ensures same { P.words peek.new ≡ P.words peek.old }
+    ensures kept { peek.new ≡ peek.old }
+{
+    match find::<V, P>(checked, peek, key) {
+        Some((_, item)) => Some((item, value_at::<V, P>(checked, peek, item))),
+        None => None,
+    }
+}

@@ -1,0 +1,51 @@
+//! The words that a search reads.
+ghost use Rattle.std.specs.Prelude.{◌≡◌, ◌<◌, ◌≤◌, length};
+ghost use Rattle.mc_words.specs.Checks.{shape_of};
+ghost use Rattle.mc_words.specs.Places.{IsPlace, IsWidth, payload, slot_number, slot, item, word_count};
+ghost use Rattle.mc_search.specs.Readable.{HasSlots};
+
+use mc_theory::Peek;
+use mc_words::{Checked, Place};
+
+/// The word of a slot.
+#[tactic(auto, unfolding(mc_words::specs::Places::slot))]
+pub fn slot_at<P: Peek>(checked: &Checked, peek: &mut P, place: Place) -> u64
+    requires words { HasSlots (shape_of checked.now) (P.words peek.old) }
+    requires place { IsPlace (shape_of checked.now) place }
+    ensures value { result ≡ slot (shape_of checked.now) (P.words peek.old) (slot_number place) }
+    ensures same { P.words peek.new ≡ P.words peek.old }
+    ensures kept { peek.new ≡ peek.old }
+{
+    peek.word(checked.slot_place(place))
+}
+
+/// A word of an item.
+#[tactic(auto, unfolding(mc_words::specs::Places::item))]
+pub fn word_at<const V: usize, P: Peek>(
+    checked: &Checked,
+    peek: &mut P,
+    i: u32,
+    j: u8,
+) -> u64
+    requires width { IsWidth V }
+    requires words { word_count V (shape_of checked.now) ≤ length (P.words peek.old) }
+    requires item { i < (shape_of checked.now).items }
+    requires word { j ≤ payload V }
+    ensures value { result ≡ item V (shape_of checked.now) (P.words peek.old) i j }
+    ensures same { P.words peek.new ≡ P.words peek.old }
+    ensures kept { peek.new ≡ peek.old }
+{
+    peek.word(checked.item_place::<V>(i, j))
+}
+
+/// The key of an item.
+pub fn key_at<const V: usize, P: Peek>(checked: &Checked, peek: &mut P, i: u32) -> u64
+    requires width { IsWidth V }
+    requires words { word_count V (shape_of checked.now) ≤ length (P.words peek.old) }
+    requires item { i < (shape_of checked.now).items }
+    ensures value { result ≡ item V (shape_of checked.now) (P.words peek.old) i 0 }
+    ensures same { P.words peek.new ≡ P.words peek.old }
+    ensures kept { peek.new ≡ peek.old }
+{
+    word_at::<V, P>(checked, peek, i, 0)
+}

@@ -1,0 +1,12 @@
+pub mod Phases
+pub mod States
+pub mod Acts
+pub mod Effects
+pub mod Lists
+pub mod Inner
+pub mod Readings
+pub mod Lookups
+pub mod Worlds
+pub mod Laws
+pub mod Growth
+pub mod Writes

@@ -1,0 +1,90 @@
+//! The laws of lists of acts, of lookups and of worlds, one function each. A body does nothing: what it ensures is the law.
+ghost use Rattle.mc_theory.specs.Growth.{LawfulGrows, StatesFollow, FrontsStay, ReadingsStay, HistoriesGrow};
+ghost use Rattle.mc_theory.specs.Laws.{AgreesAlways, StaysWhileEven, RepliesAreTrue, EvictsAreClear, CountsAlways, HandStays, ChangesFit, LookupsAreShort};
+ghost use Rattle.mc_theory.specs.Worlds.{WorldsAreTrue};
+ghost use Rattle.mc_theory.specs.Writes.{WritesItsWord, KeepsItsWords, ReadsItsWord};
+
+/// At every front of a lawful list of acts the words agree with the history, which is legal.
+pub fn agrees<const V: usize>()
+    ensures { AgreesAlways V }
+{}
+
+/// While the version of a key's stripe stays at one even number, nothing of the key changes.
+pub fn stays_while_even<const V: usize>()
+    ensures { StaysWhileEven V }
+{}
+
+/// A look-up that read words of one lawful list, at fronts that don't fall, replies what the map held at a moment of its span.
+pub fn replies_are_true<const V: usize>()
+    ensures { RepliesAreTrue V }
+{}
+
+/// Whoever is evicted had a clear recency bit when the hand read it.
+pub fn evictions_are_clear<const V: usize>()
+    ensures { EvictsAreClear V }
+{}
+
+/// A bound on the number of version changes bounds every version and the moment.
+pub fn counts<const V: usize>()
+    ensures { CountsAlways V }
+{}
+
+/// The hand never leaves the items.
+pub fn hand_stays<const V: usize>()
+    ensures { HandStays V }
+{}
+
+/// A history names keys and values that a caller can have given.
+pub fn changes_fit<const V: usize>()
+    ensures { ChangesFit V }
+{}
+
+/// How a lawful list grows.
+pub fn lawful_grows<const V: usize>()
+    ensures { LawfulGrows V }
+{}
+
+/// How the state of a list follows from its acts.
+pub fn states_follow<const V: usize>()
+    ensures { StatesFollow V }
+{}
+
+/// What the writer does next changes no earlier front.
+pub fn fronts_stay<const V: usize>()
+    ensures { FrontsStay V }
+{}
+
+/// What was read stays read.
+pub fn readings_stay<const V: usize>()
+    ensures { ReadingsStay V }
+{}
+
+/// The history only grows.
+pub fn histories_grow<const V: usize>()
+    ensures { HistoriesGrow V }
+{}
+
+/// Each act is a write of one word, at a place of the table.
+pub fn act_writes_its_word<const V: usize>()
+    ensures { WritesItsWord V }
+{}
+
+/// The number of words never changes.
+pub fn words_keep_their_number<const V: usize>()
+    ensures { KeepsItsWords V }
+{}
+
+/// Each access is a reading of one word, at a place of the table.
+pub fn access_reads_its_word<const V: usize>()
+    ensures { ReadsItsWord V }
+{}
+
+/// No look-up reads more words than its tries allow.
+pub fn lookups_are_short<const V: usize>()
+    ensures { LookupsAreShort V }
+{}
+
+/// Whatever the writer and the readers do, one atomic step after the other: each look-up that ends replies what the map held at a moment between its first reading and its last.
+pub fn worlds_are_true<const V: usize>()
+    ensures { WorldsAreTrue V }
+{}

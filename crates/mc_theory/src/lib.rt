@@ -1,0 +1,18 @@
+//! The theory of the cache index: the atomic steps of the writer and of the readers, and what they mean together.
+//!
+//! An act is one step of the writer, an access one of a reader. A lawful list of acts is a run of the writer, and the
+//! laws of this crate say what holds of every such list, and of every lookup that reads words of it, whatever the order.
+//! Nothing here is stored in memory: a world in memory, plans and shared words stand on these laws side by side.
+#![tactic(auto)]
+
+mod access;
+mod act;
+mod event;
+pub mod laws;
+mod peek;
+
+pub use access::Access;
+pub use act::{Act, Deed};
+pub use event::{Done, Event, Stepped, Unlawful, given_by};
+pub use mc_words::{Change, Reply};
+pub use peek::Peek;
