@@ -36,13 +36,13 @@ impl<const V: usize> Model for World<V> {
 }
 
 impl<const V: usize> World<V> {
-    ghost use Rattle.std.specs.Prelude.{ℕ, ◌≡◌, ◌+◌, ◌-◌, ◌^◌, ◌<◌, ◌≤◌, ◌++◌, ◌↔◌, ◌⊎◌, All, IfOk, IfErr, IsErrOf, OnOk, OnErr, slice_index};
+    ghost use Rattle.std.specs.Prelude.{ℕ, ◌≡◌, ◌+◌, ◌-◌, ◌^◌, ◌<◌, ◌≤◌, ◌++◌, ◌↔◌, ◌⊎◌, All, IfOk, IfErr, IsErrOf, OnOk, OnErr, length, slice_index};
     ghost use Rattle.mc_words.specs.Checks.{shape_of};
     ghost use Rattle.mc_words.specs.Places.{IsWidth, all_words};
     ghost use Rattle.mc_words.specs.Shapes.{IsShape};
     ghost use Rattle.mc_core.specs.Seen.{Shows, MayAct, state_after};
     ghost use Rattle.mc_theory.specs.Worlds as worlds;
-    ghost use Rattle.mc_theory.specs.Worlds.{bit_of, given_of};
+    ghost use Rattle.mc_theory.specs.Worlds.{IsBit, bit_of, given_of};
     ghost use Rattle.mc_theory.specs.declared.act.Act.{Act};
     ghost use Rattle.mc_theory.specs.declared.act.Act.TheVariants as act;
     ghost use Rattle.mc_theory.specs.declared.event.Event.TheVariants.{Write};
@@ -84,6 +84,8 @@ impl<const V: usize> World<V> {
         ensures shape { IsShape self.now.shape }
         ensures events { (seen : worlds.World V) × worlds.IsReached V self.now.shape seen × Shows {V = V} self.now seen × All (worlds.IsTrueEnd V self.now.shape seen) seen.ended }
         ensures limit { self.now.state.changes ≤ self.now.shape.limit }
+        ensures bits { All IsBit self.now.bits }
+        ensures items { length self.now.bits ≡ self.now.shape.items }
     {
         let _parts = &self.parts;
     }

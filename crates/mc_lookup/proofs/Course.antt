@@ -1,5 +1,6 @@
 -- The access that comes next is the only one with which a look-up can go on, and some readings end it.
 use Rattle.std.proofs.Common.{ℕ, zero, suc, ◌≡◌, ◌+◌, ◌-◌, ◌<◌, ◌≤◌, List, [], ◌∷◌, ◌++◌, length, take, drop, replicate, Option, Some, None, refl, sym, ◌∙◌, ap, subst, inl, inr, arith}
+use Rattle.std.specs.Prelude.{IfSome}
 use Rattle.std.proofs.lemmas.List.{length-take, length-append, length-replicate}
 use Rattle.mc_words.specs.Keys.{stripe_of, tag_of}
 use Rattle.mc_words.specs.Places.{payload}
@@ -7,21 +8,23 @@ use Rattle.mc_words.specs.declared.history.Reply.{Reply}
 use Rattle.mc_words.specs.declared.history.Reply.TheVariants.{Busy}
 use Rattle.mc_words.specs.declared.place.Place.{Place}
 use Rattle.mc_words.specs.declared.shape.Shape.{Shape}
-use Rattle.mc_lookup.specs.Course.{BeginsWith, NextIsDetermined, CanEnd}
+use Rattle.mc_lookup.specs.Course.{BeginsWith, NextIsDetermined, NextIsInTable, CanEnd}
 use Rattle.mc_theory.specs.Lookups.{slots_for, ReadsValues, Scans, IsLookup}
 use Rattle.mc_lookup.specs.Machine.{shape_for, next_at, place_of, value_for, LeftAt}
 use Rattle.mc_theory.specs.Readings.{Reading}
 use Rattle.mc_lookup.specs.Rest.{RestMoment, RestValues, RestSlots, RestKey, RestLast}
 use Rattle.mc_lookup.specs.Stages.{slot_at, word_at, tries_owed}
+use Rattle.mc_theory.specs.Writes.{IsAccess}
 use Rattle.mc_theory.specs.declared.access.Access.{Access}
 use Rattle.mc_theory.specs.declared.access.Access.TheVariants as access
 use Rattle.mc_lookup.specs.declared.lookup.Lookup.{Lookup}
 use Rattle.mc_lookup.specs.declared.stage.Stage.{Stage}
 use Rattle.mc_lookup.specs.declared.stage.Stage.TheVariants.{First, Slot, Key, Value, Moment, Last, Mark, Over}
 use Rattle.mc_words.proofs.Frames.{slot_word-some}
+use Rattle.mc_words.proofs.Keys.{stripe_of-lt}
 use Rattle.mc_lookup.proofs.Forth.{from_odd}
 use Rattle.mc_lookup.proofs.Back.{first_reading, slot_reading, value_reading}
-use Rattle.mc_lookup.proofs.Taking.{at_stage, slots_at}
+use Rattle.mc_lookup.proofs.Taking.{at_stage, place_in_table, slots_at}
 
 -- ---- the next access
 begins_at : {V : ℕ} (l : Lookup V) (st : Stage) (rs : List Reading) (reply : Reply V) → slot_at st < 8 → word_at st < V → tries_owed st ≤ l.tries → LeftAt V (shape_for {V = V} l) l.key l.tries l.version l.value l.reply st rs reply → BeginsWith {V = V} l (next_at {V = V} l st) rs reply
@@ -118,3 +121,22 @@ pub can_end : (V : ℕ) → CanEnd V
 can_end V l =
     let e = ends_at {V = V} l l.stage l.word_in in
     (e.0, e.1, (at_stage {V = V} l l.stage e.0 e.1 refl).0 e.2)
+
+-- ---- it is one of the table
+-- at each stage
+pub next_at_in : {V : ℕ} (l : Lookup V) (st : Stage) → l.stage ≡ st → IfSome (next_at {V = V} l st) (IsAccess V (shape_for {V = V} l))
+unfolding payload
+next_at_in {V} l First e = rw l.stripe_is (stripe_of-lt (shape_for {V = V} l) l.key l.checked.sound)
+next_at_in {V} l (Slot j) e = place_in_table (shape_for {V = V} l) l.key l.first l.second j l.checked.sound l.first_is l.second_is (rw e at l.slot_in)
+next_at_in {V} l (Key j i) e = rw e at l.item_in
+next_at_in {V} l (Value i c) e =
+    let word = rw e at l.word_in in
+    (rw e at l.item_in, omega arith, omega (arith, word))
+next_at_in {V} l (Moment hit) e = tt
+next_at_in {V} l (Last hit at) e = rw l.stripe_is (stripe_of-lt (shape_for {V = V} l) l.key l.checked.sound)
+next_at_in {V} l (Mark i) e = rw e at l.item_in
+next_at_in {V} l Over e = tt
+
+-- and so the access that comes next
+pub next_is_in_table : (V : ℕ) → NextIsInTable V
+next_is_in_table V l a e = subst (λ (o : Option Access). IfSome o (IsAccess V (shape_for {V = V} l))) e (next_at_in {V = V} l l.stage refl)

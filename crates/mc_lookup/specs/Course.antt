@@ -1,8 +1,9 @@
 -- What is left of a look-up begins with the access that comes next, and there is always a way to its end.
 use Rattle.std.specs.Prelude.{ℕ, ◌≡◌, List, [], ◌∷◌, Option, Some, None}
 use Rattle.mc_words.specs.declared.history.Reply.{Reply}
-use Rattle.mc_lookup.specs.Machine.{next_of, Left}
+use Rattle.mc_lookup.specs.Machine.{next_of, shape_for, Left}
 use Rattle.mc_theory.specs.Readings.{Reading}
+use Rattle.mc_theory.specs.Writes.{IsAccess}
 use Rattle.mc_theory.specs.declared.access.Access.{Access}
 use Rattle.mc_lookup.specs.declared.lookup.Lookup.{Lookup}
 
@@ -14,6 +15,10 @@ BeginsWith l None rs reply = (rs ≡ []) × (reply ≡ l.reply)
 -- the access that comes next is the only one with which the look-up can go on
 abbrev pub NextIsDetermined : ℕ → Type 0
 NextIsDetermined V = (l : Lookup V) (rs : List Reading) (reply : Reply V) → Left l rs reply → BeginsWith l (next_of l) rs reply
+
+-- it is one of the table
+abbrev pub NextIsInTable : ℕ → Type 0
+NextIsInTable V = (l : Lookup V) (a : Access) → next_of l ≡ Some a → IsAccess V (shape_for l) a
 
 -- some readings end the look-up
 abbrev pub CanEnd : ℕ → Type 0

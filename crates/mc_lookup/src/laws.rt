@@ -1,5 +1,5 @@
 //! The laws of the lookup machine, one function each. A body does nothing: what it ensures is the law.
-ghost use Rattle.mc_lookup.specs.Course.{CanEnd, NextIsDetermined};
+ghost use Rattle.mc_lookup.specs.Course.{CanEnd, NextIsDetermined, NextIsInTable};
 
 /// The access that a look-up asks for is the only one with which it can go on.
 pub fn next_is_determined<const V: usize>()
@@ -9,4 +9,9 @@ pub fn next_is_determined<const V: usize>()
 /// Every look-up can be ended by some readings.
 pub fn lookups_can_end<const V: usize>()
     ensures { CanEnd V }
+{}
+
+/// No lookup asks for what the table doesn't have.
+pub fn next_is_in_table<const V: usize>()
+    ensures { NextIsInTable V }
 {}

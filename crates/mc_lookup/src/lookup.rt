@@ -57,6 +57,7 @@ impl<const V: usize> Lookup<V> {
         ensures left { (rs : List Reading) (reply : Reply V) → Left {V = V} result rs reply ↔ IsLookup V (shape_of checked.now) key (shape_of checked.now).tries rs reply }
         ensures steps { steps_left {V = V} result ≡ (shape_of checked.now).tries * (19 + V) + 1 }
         ensures running { IsSome (next_of {V = V} result) }
+        ensures stage { stage_of {V = V} result ≡ Stage.First }
     {
         let tag = checked.tag(key);
         let first = checked.first(key);
@@ -80,6 +81,13 @@ impl<const V: usize> Lookup<V> {
         ensures { result ≡ self.now.key }
     {
         self.key
+    }
+
+    /// The stripe of the key.
+    pub fn stripe(&self) -> u32
+        ensures { result ≡ stripe_of (shape_for {V = V} self.now) self.now.key }
+    {
+        self.stripe
     }
 
     /// Where the look-up stands.

@@ -54,6 +54,15 @@ pub front_append : (V : ℕ) (sh : Shape) (acts more : List Made) (f : ℕ) → 
 unfolding front
 front_append V sh acts more f l = ap (λ y. after_all sh (opening V sh) y) (take-append-le f acts more l)
 
+-- the state of a list, and of more acts after it
+pub state_append : (V : ℕ) (sh : Shape) (acts more : List Made) → state_of V sh (acts ++ more) ≡ after_all sh (state_of V sh acts) more
+unfolding state_of
+state_append V sh acts more = after_all-append sh (opening V sh) acts more
+
+-- the front of all acts is the state after them in a longer list too
+pub front_old : (V : ℕ) (sh : Shape) (acts more : List Made) → front V sh (acts ++ more) (length acts) ≡ state_of V sh acts
+front_old V sh acts more = front_append V sh acts more (length acts) (omega arith) ∙ front_all V sh acts (length acts) (omega arith)
+
 -- ---- lawful lists
 pub lawful_none : (V : ℕ) (sh : Shape) → IsLawful V sh []
 unfolding IsLawful

@@ -19,3 +19,5 @@ pub mod Grown
 pub mod Lengths
 pub mod Reached
 pub mod Turns
+pub mod Bits
+pub mod Spans

@@ -1,10 +1,10 @@
 -- Every reached world is sound, and every lookup that ended has a true answer.
-use Rattle.std.proofs.Common.{ℕ, zero, suc, ◌≡◌, ◌+◌, ◌^◌, ◌<◌, ◌≤◌, ◌⊎◌, List, [], ◌∷◌, ◌++◌, length, get_or, replicate, Option, Some, None, sym, subst, inl, inr, arith}
+use Rattle.std.proofs.Common.{ℕ, zero, suc, ◌≡◌, ◌+◌, ◌^◌, ◌<◌, ◌≤◌, ◌⊎◌, List, [], ◌∷◌, ◌++◌, length, get_or, replicate, Option, Some, None, refl, ap, sym, subst, inl, inr, arith}
 use Rattle.std.specs.Prelude.{slice_get, slice_set}
 use Rattle.std.specs.List.{All}
 use Rattle.std.proofs.lemmas.List.{length_push}
 use Rattle.std.proofs.lemmas.List.Elements.{All-push, All-weaker}
-use Rattle.mc_theory.specs.Lists.{IsLawful, Made, front}
+use Rattle.mc_theory.specs.Lists.{IsLawful, Made}
 use Rattle.mc_theory.specs.Lookups.{IsLookup}
 use Rattle.mc_theory.specs.Phases.{runs}
 use Rattle.mc_theory.specs.Readings.{AreRead, IsWordOf, Reading, RiseTo}
@@ -16,19 +16,8 @@ use Rattle.mc_words.specs.Shapes.{IsShape}
 use Rattle.mc_theory.proofs.Fronts.{front_all, lawful_none, lawful_push}
 use Rattle.mc_theory.proofs.Grown.{readings_stay}
 use Rattle.mc_theory.proofs.Readers.{lookup_true}
+use Rattle.mc_theory.proofs.Readings.{read_push, rise_on, rise_push}
 use Rattle.mc_words.specs.declared.shape.Shape.{Shape}
-
-rise_push : (d : ℕ) (rs : List Reading) (e g : ℕ) → e ≤ g → RiseTo d rs e → RiseTo d rs g
-rise_push d [] e g l up = omega arith
-rise_push d (r ∷ rs) e g l up = (up.0, rise_push r.front rs e g l up.1)
-
-rise_more : (d : ℕ) (rs : List Reading) (r : Reading) (e : ℕ) → r.front ≡ e → RiseTo d rs e → RiseTo d (rs ++ r ∷ []) e
-rise_more d [] r e h up = (omega arith, omega arith)
-rise_more d (x ∷ xs) r e h up = (up.0, rise_more x.front xs r e h up.1)
-
-read_more : (V : ℕ) (sh : Shape) (acts : List Made) (rs : List Reading) (r : Reading) → AreRead V sh acts rs → IsWordOf V sh (front V sh acts r.front).words r.access r.word → AreRead V sh acts (rs ++ r ∷ [])
-read_more V sh acts [] r a w = (w, tt)
-read_more V sh acts (x ∷ xs) r a w = (a.0, read_more V sh acts xs r a.1 w)
 
 -- ---- what holds of a reader
 pub record IsSound (V : ℕ) (sh : Shape) (acts : List Made) (k : ℕ) (rs : List Reading) (stop : ℕ) : Type 0 where
@@ -40,32 +29,32 @@ pub record IsSound (V : ℕ) (sh : Shape) (acts : List Made) (k : ℕ) (rs : Lis
 sound_push : (V : ℕ) (sh : Shape) (acts : List Made) (x : Made) (k : ℕ) (rs : List Reading) (stop g : ℕ) → stop ≤ g → g ≤ length acts + 1 → IsSound V sh acts k rs stop → IsSound V sh (acts ++ x ∷ []) k rs g
 sound_push V sh acts x k rs stop g a b s = record {
   in_range = s.in_range;
-  read = readings_stay V sh acts (x ∷ []) rs (start_of rs) (rise_push (start_of rs) rs stop (length acts) s.fits s.rise) s.read;
-  rise = rise_push (start_of rs) rs stop g a s.rise;
+  read = readings_stay V sh acts (x ∷ []) rs (start_of rs) (rise_on (start_of rs) rs stop (length acts) s.rise s.fits) s.read;
+  rise = rise_on (start_of rs) rs stop g s.rise a;
   fits = omega (arith, length_push acts x);
 }
 
 rise_start : (rs : List Reading) (r : Reading) (e : ℕ) → r.front ≡ e → RiseTo (start_of rs) rs e → RiseTo (start_of (rs ++ r ∷ [])) (rs ++ r ∷ []) e
 rise_start [] r e h up = (omega arith, omega arith)
-rise_start (x ∷ xs) r e h up = (omega arith, rise_more x.front xs r e h up.1)
+rise_start (x ∷ xs) r e h up = (omega arith, rise_push x.front xs r e (rise_on x.front xs e r.front up.1 (omega arith)) (omega arith))
 
 sound_more : (V : ℕ) (sh : Shape) (w : World V) (run : Running) (r : Reading) → IsSound V sh w.acts run.key run.sofar (length w.acts) → ReadsNext V sh w run r → IsSound V sh w.acts run.key (run.sofar ++ r ∷ []) (length w.acts)
 sound_more V sh w run r s next = record {
   in_range = s.in_range;
-  read = read_more V sh w.acts run.sofar r s.read (subst (λ (y : State V). IsWordOf V sh y.words r.access r.word) (sym (front_all V sh w.acts r.front (omega (arith, next.now)))) next.word);
+  read = read_push V sh w.acts run.sofar r s.read (subst (λ (y : State V). IsWordOf V sh y.words r.access r.word) (sym (front_all V sh w.acts r.front (omega (arith, next.now)))) next.word, tt);
   rise = rise_start run.sofar r (length w.acts) next.now s.rise;
   fits = omega arith;
 }
 
 -- ---- the readers, by number
-read_after_set : {A : Type 0} (xs : List A) (i r : ℕ) (o x : A) → slice_get (slice_set xs i o) r ≡ Some x → (o ≡ x) ⊎ (slice_get xs r ≡ Some x)
+pub read_after_set : {A : Type 0} (xs : List A) (i r : ℕ) (o x : A) → slice_get (slice_set xs i o) r ≡ Some x → ((r ≡ i) × (o ≡ x)) ⊎ (slice_get xs r ≡ Some x)
 read_after_set [] i r o x e = inr e
-read_after_set (y ∷ ys) zero zero o x e = inl (cc)
+read_after_set (y ∷ ys) zero zero o x e = inl (refl, cc)
 read_after_set (y ∷ ys) zero (suc r) o x e = inr e
 read_after_set (y ∷ ys) (suc i) zero o x e = inr e
-read_after_set (y ∷ ys) (suc i) (suc r) o x e = read_after_set ys i r o x e
+read_after_set (y ∷ ys) (suc i) (suc r) o x e = elim (read_after_set ys i r o x e) [ inl new ↦ inl (ap suc new.0, new.1) | inr old ↦ inr old ]
 
-all_idle : (m r : ℕ) (run : Running) → slice_get (replicate {A = Option Running} m None) r ≡ Some (Some run) → ⊥
+pub all_idle : (m r : ℕ) (run : Running) → slice_get (replicate {A = Option Running} m None) r ≡ Some (Some run) → ⊥
 all_idle zero r run e = cc
 all_idle (suc m) zero run e = cc
 all_idle (suc m) (suc r) run e = all_idle m r run e
@@ -102,7 +91,7 @@ step_holds V sh w x (Begin r k) h s =
     subst (λ (z : World V). WorldHolds V sh z) (sym s.3) (record {
       lawful = h.lawful;
       running = λ q run e. elim (read_after_set w.readers r q (Some new) (Some run) e) [
-        | inl is ↦ sound_of V sh w.acts new run is (record { in_range = s.1; read = tt; rise = omega arith; fits = omega arith })
+        | inl is ↦ sound_of V sh w.acts new run is.1 (record { in_range = s.1; read = tt; rise = omega arith; fits = omega arith })
         | inr old ↦ h.running q run old
       ];
       ended = h.ended;
@@ -115,7 +104,7 @@ step_holds V sh w x (Read r) h s =
       | inl over ↦ subst (λ (z : World V). WorldHolds V sh z) (sym over.2) (record {
         lawful = h.lawful;
         running = λ q other e. elim (read_after_set w.readers r q None (Some other) e) [
-          | inl is ↦ absurd (cc (is))
+          | inl is ↦ absurd (cc (is.1))
           | inr old ↦ h.running q other old
         ];
         ended = All-push (EndedWell V sh w.acts) w.ended _ h.ended (sound, over.1);
@@ -125,7 +114,7 @@ step_holds V sh w x (Read r) h s =
           subst (λ (z : World V). WorldHolds V sh z) (sym more.1) (record {
             lawful = h.lawful;
             running = λ q other e. elim (read_after_set w.readers r q (Some new) (Some other) e) [
-              | inl is ↦ sound_of V sh w.acts new other is sound
+              | inl is ↦ sound_of V sh w.acts new other is.1 sound
               | inr old ↦ h.running q other old
             ];
             ended = h.ended;

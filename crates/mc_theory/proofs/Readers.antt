@@ -146,7 +146,7 @@ pub stays_while_even : (V : ℕ) → StaysWhileEven V
 stays_while_even V sh acts f e g k shape lawful a b even same =
     let w = window V sh acts k f g shape lawful (omega arith) even same in
     let kept = w.kept f e (omega arith) a b in
-    ((λ q i. (stands_on V sh (front V sh acts f).words (front V sh acts e).words k q i kept.same, kept.same.back q i)), kept.told)
+    ((λ q i. (stands_on V sh (front V sh acts f).words (front V sh acts e).words k q i kept.same, kept.same.back q i)), (λ q i j at. kept.same.items q i at j), kept.told)
 
 pub replies_are_true : (V : ℕ) → RepliesAreTrue V
 replies_are_true V = lookup_true V

@@ -7,7 +7,7 @@ use Rattle.mc_theory.specs.Phases.{running}
 use Rattle.mc_theory.specs.Readings.{AreRead, IsBetween, Reading, RiseTo}
 use Rattle.mc_words.specs.History.{IsChange, IsLegal, IsTrueAnswer, held}
 use Rattle.mc_words.specs.Keys.{stripe_of}
-use Rattle.mc_words.specs.Places.{payload, version}
+use Rattle.mc_words.specs.Places.{item, payload, version}
 use Rattle.mc_words.specs.Shapes.{IsShape}
 use Rattle.mc_words.specs.Standing.{Agrees, Stands}
 use Rattle.mc_theory.specs.declared.act.Act.{Act}
@@ -22,13 +22,14 @@ AgreesAlways V =
     (sh : Shape) (acts : List Made) (f : ℕ) → IsShape sh → IsLawful V sh acts →
     Agrees V sh (front V sh acts f).words (running (front V sh acts f).phase) (front V sh acts f).history × IsLegal sh.items (front V sh acts f).history
 
--- while the version of a key's stripe stays at an even number, the key stands where it stood, and the map says of it what it said
+-- while the version of a key's stripe stays at an even number, the key stands where it stood, with the words it had, and the map says of it what it said
 abbrev pub StaysWhileEven : ℕ → Type 0
 StaysWhileEven V =
     (sh : Shape) (acts : List Made) (f e g k : ℕ) → IsShape sh → IsLawful V sh acts → f ≤ e → e ≤ g →
     version (front V sh acts f).words (stripe_of sh k) % 2 ≡ 0 →
     version (front V sh acts g).words (stripe_of sh k) ≡ version (front V sh acts f).words (stripe_of sh k) →
     ((q i : ℕ) → Stands V sh (front V sh acts f).words k q i ↔ Stands V sh (front V sh acts e).words k q i) ×
+    ((q i j : ℕ) → Stands V sh (front V sh acts f).words k q i → j ≤ payload V → item V sh (front V sh acts e).words i j ≡ item V sh (front V sh acts f).words i j) ×
     (held (front V sh acts e).history k ≡ held (front V sh acts f).history k)
 
 -- a reply of readings at fronts that do not fall is true, at a moment of their span

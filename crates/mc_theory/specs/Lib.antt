@@ -10,3 +10,4 @@ pub mod Worlds
 pub mod Laws
 pub mod Growth
 pub mod Writes
+pub mod Spans

@@ -44,6 +44,10 @@ pub record World (V : ℕ) : Type 0 where
 abbrev pub first_world : (V : ℕ) → Shape → ℕ → World V
 first_world V sh readers = record { acts = []; bits = replicate sh.items 0; readers = replicate readers None; ended = []; events = 0 }
 
+-- what a recency bit may be
+abbrev pub IsBit : ℕ → Type 0
+IsBit b = (b ≡ 0) ⊎ (b ≡ 1)
+
 -- the bit that an act reads, and the bits after it
 abbrev pub bit_of : List ℕ → Act → ℕ
 bit_of bits (act.Hand i) = slice_index bits i
@@ -192,3 +196,7 @@ abbrev pub WorldsAreTrue : ℕ → Type 0
 WorldsAreTrue V =
     (sh : Shape) (readers : ℕ) (es : List Event) (w : World V) → IsShape sh → Runs V sh (first_world V sh readers) es w →
     IsLawful V sh w.acts × All (IsTrueEnd V sh w) w.ended
+
+-- whatever the events are: there is a recency bit for each item, and each is 0 or 1
+abbrev pub BitsStay : ℕ → Type 0
+BitsStay V = (sh : Shape) (w : World V) → IsReached V sh w → (length w.bits ≡ sh.items) × All IsBit w.bits

@@ -1,5 +1,6 @@
 -- The one word that an act writes, and the one that an access reads.
-use Rattle.std.specs.Prelude.{ℕ, ◌≡◌, ◌+◌, ◌^◌, ◌<◌, ◌≤◌, List, length, Option, Some, None, slice_index, slice_set}
+use Rattle.std.specs.Prelude.{ℕ, ◌≡◌, ◌+◌, ◌^◌, ◌<◌, ◌≤◌, All, List, length, Option, Some, None, slice_index, slice_set}
+use Rattle.mc_words.specs.History.{IsWord}
 use Rattle.mc_words.specs.Keys.{stripe_of}
 use Rattle.mc_words.specs.Places.{payload, IsPlace, slot_number, version_place, slot_place, item_place, word_count, moment, version}
 use Rattle.mc_words.specs.Shapes.{IsShape}
@@ -47,9 +48,29 @@ WritesItsWord V =
     ((after_act sh (state_of V sh acts) m.act m.bit).words ≡ written (state_of V sh acts).words (write_of V sh (state_of V sh acts).words (state_of V sh acts).phase m.act)) ×
     FitsIn (state_of V sh acts).words (write_of V sh (state_of V sh acts).words (state_of V sh acts).phase m.act)
 
+-- the slot, the item and the word of an item that an act names are of a table of this shape
+abbrev pub NamesIn : ℕ → Shape → Act → Type 0
+NamesIn V sh (act.Slot p x) = IsPlace sh p
+NamesIn V sh (act.Item i j x) = (i < sh.items) × (j ≤ payload V)
+NamesIn V sh (act.Hand i) = i < sh.items
+NamesIn V sh (act.Mark i) = i < sh.items
+NamesIn V sh (act.Open k d) = Unit {0}
+NamesIn V sh act.Moment = Unit {0}
+NamesIn V sh act.Close = Unit {0}
+
+-- what an allowed act names is of the table
+abbrev pub ActsNameTheTable : ℕ → Type 0
+ActsNameTheTable V =
+    (sh : Shape) (acts : List Made) (a : Act) → IsShape sh → IsLawful V sh acts → IsAllowed sh (state_of V sh acts) a → NamesIn V sh a
+
 -- no act changes the number of words
 abbrev pub KeepsItsWords : ℕ → Type 0
 KeepsItsWords V = (sh : Shape) (acts : List Made) (f : ℕ) → length (front V sh acts f).words ≡ word_count V sh
+
+-- each word of a front is below 2^64, while the version changes are
+abbrev pub WordsFit : ℕ → Type 0
+WordsFit V =
+    (sh : Shape) (acts : List Made) (f : ℕ) → IsShape sh → IsLawful V sh acts → (front V sh acts f).changes < 2 ^ 64 → All IsWord (front V sh acts f).words
 
 -- the place that an access reads; a mark reads none
 abbrev pub place_read : ℕ → Shape → Access → Option ℕ

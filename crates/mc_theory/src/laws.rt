@@ -1,8 +1,9 @@
 //! The laws of lists of acts, of lookups and of worlds, one function each. A body does nothing: what it ensures is the law.
-ghost use Rattle.mc_theory.specs.Growth.{LawfulGrows, StatesFollow, FrontsStay, ReadingsStay, HistoriesGrow};
+ghost use Rattle.mc_theory.specs.Growth.{LawfulGrows, StatesFollow, FrontsStay, ReadingsStay, ReadingsGrow, HistoriesGrow};
 ghost use Rattle.mc_theory.specs.Laws.{AgreesAlways, StaysWhileEven, RepliesAreTrue, EvictsAreClear, CountsAlways, HandStays, ChangesFit, LookupsAreShort};
-ghost use Rattle.mc_theory.specs.Worlds.{WorldsAreTrue};
-ghost use Rattle.mc_theory.specs.Writes.{WritesItsWord, KeepsItsWords, ReadsItsWord};
+ghost use Rattle.mc_theory.specs.Spans.{EventsTellHistories, EndsTellSpans, WorldsArePlainlyTrue};
+ghost use Rattle.mc_theory.specs.Worlds.{WorldsAreTrue, BitsStay};
+ghost use Rattle.mc_theory.specs.Writes.{WritesItsWord, ActsNameTheTable, KeepsItsWords, WordsFit, ReadsItsWord};
 
 /// At every front of a lawful list of acts the words agree with the history, which is legal.
 pub fn agrees<const V: usize>()
@@ -59,6 +60,11 @@ pub fn readings_stay<const V: usize>()
     ensures { ReadingsStay V }
 {}
 
+/// How readings go on.
+pub fn readings_grow<const V: usize>()
+    ensures { ReadingsGrow V }
+{}
+
 /// The history only grows.
 pub fn histories_grow<const V: usize>()
     ensures { HistoriesGrow V }
@@ -69,9 +75,19 @@ pub fn act_writes_its_word<const V: usize>()
     ensures { WritesItsWord V }
 {}
 
+/// No act names what the table doesn't have.
+pub fn acts_name_the_table<const V: usize>()
+    ensures { ActsNameTheTable V }
+{}
+
 /// The number of words never changes.
 pub fn words_keep_their_number<const V: usize>()
     ensures { KeepsItsWords V }
+{}
+
+/// Each word can stand in a `u64`.
+pub fn words_fit<const V: usize>()
+    ensures { WordsFit V }
 {}
 
 /// Each access is a reading of one word, at a place of the table.
@@ -87,4 +103,24 @@ pub fn lookups_are_short<const V: usize>()
 /// Whatever the writer and the readers do, one atomic step after the other: each look-up that ends replies what the map held at a moment between its first reading and its last.
 pub fn worlds_are_true<const V: usize>()
     ensures { WorldsAreTrue V }
+{}
+
+/// A recency bit is never anything but 0 or 1.
+pub fn bits_stay<const V: usize>()
+    ensures { BitsStay V }
+{}
+
+/// The acts in a list of events tell the history that a world has after them, without its words.
+pub fn events_tell_histories<const V: usize>()
+    ensures { EventsTellHistories V }
+{}
+
+/// What a look-up that ended tells of its first access and its last is where these stand in the list of events.
+pub fn ends_tell_spans<const V: usize>()
+    ensures { EndsTellSpans V }
+{}
+
+/// The theorem on worlds in terms of a list of events and of what the look-ups tell alone: no word of the table is named.
+pub fn worlds_are_plainly_true<const V: usize>()
+    ensures { WorldsArePlainlyTrue V }
 {}

@@ -1,8 +1,9 @@
-use Rattle.std.proofs.Common.{subst}
+use Rattle.std.proofs.Common.{ℕ, ◌≡◌, List, length, subst, sym}
 use Rattle.std.specs.Prelude.{All}
-use Rattle.mc_core.specs.Parts.{shape_of_parts}
+use Rattle.mc_core.specs.Parts.{shape_of_parts, shown_of}
 use Rattle.mc_core.specs.Seen.{Shown, Shows}
-use Rattle.mc_theory.specs.Worlds.{World, IsReached, IsTrueEnd}
+use Rattle.mc_theory.specs.Worlds.{World, IsBit, IsReached, IsTrueEnd}
+use Rattle.mc_theory.proofs.Bits.{bits_stay}
 use Rattle.mc_theory.proofs.Reached.{worlds_are_true}
 use Rattle.mc_core.proofs.world.World.reached.Goals as goal
 
@@ -13,3 +14,19 @@ returns-clause-events g c =
     let true = (worlds_are_true g.row.V (shape_of_parts p) is.reached.readers is.reached.events is.seen p.writer.table.checked.sound is.reached.runs).1 in
     subst (λ (now : Shown g.row.V). (seen : World g.row.V) × IsReached g.row.V now.shape seen × Shows {V = g.row.V} now seen × All (IsTrueEnd g.row.V now.shape seen) seen.ended) c.self.view_is
     (is.seen, is.reached, is.stand.shows, true)
+
+-- the bits that are shown are those of the events
+bits_now : (V : ℕ) (now : Shown V) (seen : World V) → Shows {V = V} now seen → IsReached V now.shape seen → (length now.bits ≡ now.shape.items) × All IsBit now.bits
+bits_now V now seen shows reached = subst (λ (bits : List ℕ). (length bits ≡ now.shape.items) × All IsBit bits) (sym shows.bits) (bits_stay V now.shape seen reached)
+
+pub returns-clause-bits : goal.returns-clause-bits
+returns-clause-bits g c =
+    let is = c.self.invariant in
+    let p = c.self.inside.parts in
+    subst (λ (now : Shown g.row.V). All IsBit now.bits) c.self.view_is (bits_now g.row.V (shown_of {V = g.row.V} p) is.seen is.stand.shows is.reached).1
+
+pub returns-clause-items : goal.returns-clause-items
+returns-clause-items g c =
+    let is = c.self.invariant in
+    let p = c.self.inside.parts in
+    subst (λ (now : Shown g.row.V). length now.bits ≡ now.shape.items) c.self.view_is (bits_now g.row.V (shown_of {V = g.row.V} p) is.seen is.stand.shows is.reached).0

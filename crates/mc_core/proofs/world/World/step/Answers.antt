@@ -48,10 +48,10 @@ pub returns-clause-told : goal.returns-clause-told
 returns-clause-told g c =
     let sound : IsShape (shown_of {V = g.row.V} c.self.inside.parts).shape = c.self.inside.parts.writer.table.checked.sound in
     subst (λ (old : Shown g.row.V). IfOk c.step.result (λ out. (seen : World g.row.V) → Shows {V = g.row.V} old seen → IsReached g.row.V old.shape seen →
-        (next : World g.row.V) × Steps g.row.V old.shape seen c.args.event next × Gives {V = g.row.V} seen c.args.event next out × Shows {V = g.row.V} (shown_of {V = g.row.V} c.step.new.self) next ×
-        IsReached g.row.V old.shape next × All (IsTrueEnd g.row.V old.shape next) next.ended)) c.self.view_is
+    (next : World g.row.V) × Steps g.row.V old.shape seen c.args.event next × Gives {V = g.row.V} seen c.args.event next out × Shows {V = g.row.V} (shown_of {V = g.row.V} c.step.new.self) next ×
+    IsReached g.row.V old.shape next × All (IsTrueEnd g.row.V old.shape next) next.ended)) c.self.view_is
     (IfOk-weaker c.step.result _ _ (λ out leads seen shows reached.
-        let n = leads seen shows in
-        let r = reached_push g.row.V _ seen n.0 c.args.event reached n.1 in
-        (n.0, n.1, n.2, n.3, r, reached_true g.row.V _ n.0 sound r))
+    let n = leads seen shows in
+    let r = reached_push g.row.V _ seen n.0 c.args.event reached n.1 in
+    (n.0, n.1, n.2, n.3, r, reached_true g.row.V _ n.0 sound r))
     (leads_shown c.self.inside.parts c.step.new.self c.args.event c.step.result c.self.invariant c.step.ensures.ok))

@@ -1,0 +1,5 @@
+use Rattle.mc_lookup.proofs.Course.{next_is_in_table}
+use Rattle.mc_lookup.proofs.laws.next_is_in_table.Goals as goal
+
+pub returns : goal.returns
+returns g c = next_is_in_table g.row.V

@@ -1,0 +1,5 @@
+use Rattle.mc_theory.proofs.Spans.{ends_tell_spans}
+use Rattle.mc_theory.proofs.laws.ends_tell_spans.Goals as goal
+
+pub returns : goal.returns
+returns g c = ends_tell_spans g.row.V

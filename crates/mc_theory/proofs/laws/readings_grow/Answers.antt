@@ -1,0 +1,5 @@
+use Rattle.mc_theory.proofs.Grown.{readings_grow}
+use Rattle.mc_theory.proofs.laws.readings_grow.Goals as goal
+
+pub returns : goal.returns
+returns g c = readings_grow g.row.V
