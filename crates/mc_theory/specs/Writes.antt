@@ -67,7 +67,7 @@ ActsNameTheTable V =
 abbrev pub KeepsItsWords : ℕ → Type 0
 KeepsItsWords V = (sh : Shape) (acts : List Made) (f : ℕ) → length (front V sh acts f).words ≡ word_count V sh
 
--- each word of a front is below 2^64, while the version changes are
+-- while there were fewer than 2^64 version changes, each word is below 2^64
 abbrev pub WordsFit : ℕ → Type 0
 WordsFit V =
     (sh : Shape) (acts : List Made) (f : ℕ) → IsShape sh → IsLawful V sh acts → (front V sh acts f).changes < 2 ^ 64 → All IsWord (front V sh acts f).words

@@ -120,7 +120,7 @@ pub fn ends_tell_spans<const V: usize>()
     ensures { EndsTellSpans V }
 {}
 
-/// The theorem on worlds in terms of a list of events and of what the look-ups tell alone: no word of the table is named.
+/// Each look-up that ends has a true reply, said in terms of the list of events and of what the look-up tells: no word of the table is named of it.
 pub fn worlds_are_plainly_true<const V: usize>()
     ensures { WorldsArePlainlyTrue V }
 {}
