@@ -4,18 +4,18 @@ use Rattle.clap.specs.declared.error.kind.ErrorKind.{ErrorKind}
 use Rattle.mc_words.specs.declared.checked.Checked.{Checked}
 use Rattle.mc_words.specs.declared.shape.Shape.{Shape}
 use Rattle.mc_words.specs.Checks.{shape_of}
-use Rattle.mc_words.specs.Shapes.{IsShape}
+use Rattle.mc_words.specs.Shapes.{IsInRange}
 use Rattle.mc_options.specs.declared.options.Options.{Options}
 use Rattle.mc_options.specs.Options.{HasFault, IsUnread}
 use Rattle.mc_load.specs.Programs.{Stream, Ends, IsUntouched, RunsOptions, Runs, TellsFault}
 use Rattle.mc_load.specs.Programs.Runs.{helps, refuses, is_short}
 
 -- a replay over the shape that was checked
-pub runs_accepted : (o : Options) (V : ℕ) (c : Checked) (input output errors : Stream) (status : ℕ) → shape_of c ≡ o.shape → V ≡ o.words → Ends V (shape_of c) o.readers input output errors status
+pub runs_accepted : (o : Options) (V : ℕ) (c : Checked) (input output errors : Stream) (status : ℕ) → (shape_of c ≡ o.shape) × IsInRange o.shape → V ≡ o.words → Ends V (shape_of c) o.readers input output errors status
     → RunsOptions o input output errors status
 runs_accepted o V c input output errors status shape width ends =
     let at_width = subst (λ (v : ℕ). Ends v (shape_of c) o.readers input output errors status) width ends in
-    inl (subst IsShape shape c.sound, subst (λ (sh : Shape). Ends o.words sh o.readers input output errors status) shape at_width)
+    inl (shape.1, subst (λ (sh : Shape). Ends o.words sh o.readers input output errors status) shape.0 at_width)
 
 -- the end of a run whose words give no options
 pub runs_fault : (words : List (List ℕ)) (k : ErrorKind) (input output errors : Stream) (status : ℕ) → IsUnread words k → IsUntouched input → TellsFault k output errors status → Runs words input output errors status

@@ -8,13 +8,14 @@ use Rattle.mc_words.specs.Standing.{Agrees, Stands}
 use Rattle.mc_words.specs.declared.history.Reply.TheVariants.{Found, Absent}
 use Rattle.mc_words.specs.declared.shape.Shape.{Shape}
 use Rattle.mc_theory.proofs.Fronts.{after_all-append, state_push}
+use Rattle.mc_core.proofs.Stepping.{reached_append}
 use Rattle.mc_theory.specs.Acts.{IsAllowed}
 use Rattle.mc_theory.specs.Effects.{after_act}
 use Rattle.mc_theory.specs.Lists.{Made, after_all, state_of}
 use Rattle.mc_theory.specs.Phases.{Phase, running}
 use Rattle.mc_core.specs.Seen.{Shown, Shows, MayAct, state_after}
 use Rattle.mc_theory.specs.States.{State}
-use Rattle.mc_theory.specs.Worlds.{World, Steps, Runs, HasChanges, bit_of, given_of}
+use Rattle.mc_theory.specs.Worlds.{World, IsReached, Steps, Runs, HasChanges, bit_of, given_of}
 use Rattle.mc_theory.specs.declared.act.Act.{Act}
 use Rattle.mc_theory.specs.declared.act.Act.TheVariants.{Open, Slot, Item, Moment, Close, Hand, Mark}
 use Rattle.mc_theory.specs.declared.event.Event.TheVariants as event
@@ -81,6 +82,7 @@ at_after_one : (V : ℕ) (old new : Player V) (most : ℕ) (w x : World V) (m : 
     → new.readers ≡ old.readers → clerks.shape_in new.clerk ≡ clerks.shape_in old.clerk → IsAt V new (most + 1) x
 at_after_one V old new most w x m at same shows makes events many clerk = record {
   world = shows;
+  reached = subst (λ (y : Shape). IsReached V y x) (sym same) (reached_append V (shape_in old) w x (event.Write m.act ∷ []) at.reached makes.0);
   shape = clerk ∙ at.shape ∙ sym same;
   readers = ap length (makes_readers V (shape_in old) w x (m ∷ []) makes) ∙ at.readers ∙ sym many;
   events = omega (arith, events, at.events);
@@ -104,6 +106,7 @@ call_is_over V old new most p w call world many clerk knows =
     record {
       at = record {
         world = subst (λ (y : Shown V). Shows {V = V} y w) (sym world) call.at.world;
+        reached = subst (λ (y : Shape). IsReached V y w) (sym same) call.at.reached;
         shape = clerk ∙ call.at.shape ∙ sym same;
         readers = call.at.readers ∙ sym many;
         events = call.at.events;
@@ -199,6 +202,7 @@ begun V old mid most call w idle world readers clerk on few =
     record {
       at = record {
         world = subst (λ (y : Shown V). Shows {V = V} y w) (sym world) idle.at.world;
+        reached = subst (λ (y : Shape). IsReached V y w) (sym same) idle.at.reached;
         shape = clerk ∙ idle.at.shape ∙ sym same;
         readers = idle.at.readers ∙ sym readers;
         events = idle.at.events;
@@ -245,7 +249,7 @@ makes_nothing V player most p w runs =
 -- more events may be counted
 in_call_more : (V : ℕ) (player : Player V) (most more : ℕ) (p : Pending V) (w : World V) → most ≤ more → IsInCall V player most p w → IsInCall V player more p w
 in_call_more V player most more p w le call = record {
-  at = record { world = call.at.world; shape = call.at.shape; readers = call.at.readers; events = omega (arith, call.at.events, le) };
+  at = record { world = call.at.world; reached = call.at.reached; shape = call.at.shape; readers = call.at.readers; events = omega (arith, call.at.events, le) };
   on = call.on;
   now = call.now;
   few = call.few;
@@ -253,7 +257,7 @@ in_call_more V player most more p w le call = record {
 
 pub idle_more : (V : ℕ) (player : Player V) (most more : ℕ) (w : World V) → most ≤ more → IsIdle V player most w → IsIdle V player more w
 idle_more V player most more w le idle = record {
-  at = record { world = idle.at.world; shape = idle.at.shape; readers = idle.at.readers; events = omega (arith, idle.at.events, le) };
+  at = record { world = idle.at.world; reached = idle.at.reached; shape = idle.at.shape; readers = idle.at.readers; events = omega (arith, idle.at.events, le) };
   knows = idle.knows;
 }
 

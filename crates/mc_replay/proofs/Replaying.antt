@@ -1,7 +1,7 @@
 -- The lines of a replay, one after the other.
 use Rattle.std.proofs.Common.{◌≡◌, ℕ, ◌+◌, ◌-◌, ◌^◌, ◌<◌, ◌≤◌, ◌∙◌, true, false, Result, List, [], ◌∷◌, ◌++◌, Option, Some, None, Ok, Err, refl, sym, ap, subst, length, take, arith, inl, inr, take_all, append_assoc, append-nil, length-append}
 use Rattle.std.proofs.lemmas.Bool.{false≢true}
-use Rattle.std.proofs.KnownBytes.{Appends-trans, Appends-nil, Appends-kept}
+use Rattle.std.proofs.KnownBytes.{Appends-trans, Appends-nil, Appends-kept, Keeps-refl}
 use Rattle.std.specs.Io.BufRead.{first_line, drop_through}
 use Rattle.std.specs.Io.KnownBytes.{Keeps, Appends}
 use Rattle.mc_words.specs.declared.shape.Shape.{Shape}
@@ -9,16 +9,16 @@ use Rattle.mc_script.specs.declared.command.Command.{Command}
 use Rattle.mc_script.specs.declared.command.LineFault.{LineFault}
 use Rattle.mc_script.specs.declared.command.LineFault.TheVariants as said
 use Rattle.mc_script.specs.Commands.{command_in}
-use Rattle.mc_script.specs.Lines.{lines_of, GivesLine}
+use Rattle.mc_script.specs.Lines.{lines_of, after_lines, GivesLine}
 use Rattle.mc_script.specs.declared.line.ReadFault.TheVariants as over
-use Rattle.mc_script.proofs.Lines.{lines-step, lines-nil}
+use Rattle.mc_script.proofs.Lines.{lines-step, lines-nil, after_lines-step, after_lines-zero}
 use Rattle.mc_replay.specs.declared.fault.Fault.{Fault}
 use Rattle.mc_replay.specs.declared.fault.Fault.TheVariants.{ReadFailed, NoMemory, TooLong, NotACommand, BadNumber, NoSuchReader, StillRunning, NothingToStep, WriteFailed}
 use Rattle.mc_replay.specs.Replay.{Replay, first_replay, Does}
-use Rattle.mc_replay.specs.Scripts.{SaidDoes, IsTooLong, IsReaders, LineDoes, Plays, Stopped, StopsUndone, StopsRefused, ReplaysKnown}
+use Rattle.mc_replay.specs.Scripts.{SaidDoes, IsTooLong, IsReaders, LineDoes, Plays, Stopped, StopsUndone, StopsRefused, StopsBy, StopsBefore, ReadsStopped, ReadsScript, ReplaysKnown}
 use Rattle.mc_replay.specs.Faults.{fault_of}
-use Rattle.mc_replay.specs.Players.{DoneAs, HasRoom, most_before, most_steps}
-use Rattle.mc_replay.specs.Steps.{DoesLine, PlaysKnown, SoFar, KnownSoFar, is_wanting}
+use Rattle.mc_replay.specs.Players.{DoneAs, HasRoom, IsRefusedAs, most_before, most_steps}
+use Rattle.mc_replay.specs.Steps.{DoesLine, PlaysLine, PlaysKnown, SoFar, KnownSoFar, is_wanting}
 
 -- ---- one line
 not_long : (before : ℕ) (line : List ℕ) → length line ≤ 4096 → before < 2 ^ 40 → IsTooLong before line → ⊥
@@ -69,9 +69,9 @@ has_room before few = omega (arith, few)
 
 -- the first line of the bytes, refused, with its answers written
 refused_line : (V : ℕ) (sh : Shape) (before : ℕ) (s t : Replay V) (line text : List ℕ) (n : ℕ) (x : List ℕ) (b c d : Option (List ℕ)) (fault : Fault) → GivesLine (Some x) b line (Ok true)
-    → LineDoes V sh before s line text (Some fault) t → Appends c d (take n text) → n ≡ length text → (0 < length x) × (out : List ℕ) × LineDoes V sh before s (first_line x) out (Some fault) t × Appends c d out
+    → LineDoes V sh before s line text (Some fault) t → Appends c d (take n text) → n ≡ length text → (out : List ℕ) × LineDoes V sh before s (first_line x) out (Some fault) t × Appends c d out
 refused_line V sh before s t line text n x b c d fault gives does wrote all =
-    (gives.0, text, subst (λ (l : List ℕ). LineDoes V sh before s l text (Some fault) t) gives.1 does, subst (Appends c d) (take_all n text (omega (arith, all))) wrote)
+    (text, subst (λ (l : List ℕ). LineDoes V sh before s l text (Some fault) t) gives.1 does, subst (Appends c d) (take_all n text (omega (arith, all))) wrote)
 
 -- a line that is refused, and what it had answered was written
 pub stops_refused : (V : ℕ) (sh : Shape) (before : ℕ) (s t : Replay V) (line text : List ℕ) (n : ℕ) (a b c d : Option (List ℕ)) (fault : Fault) → GivesLine a b line (Ok true)
@@ -80,26 +80,41 @@ stops_refused V sh before s t line text n None b c d fault gives does other wrot
 stops_refused V sh before s t line text n (Some x) b c d ReadFailed gives does other wrote all = absurd does
 stops_refused V sh before s t line text n (Some x) b c d NoMemory gives does other wrote all = absurd (other refl)
 stops_refused V sh before s t line text n (Some x) b c d WriteFailed gives does other wrote all = absurd does
-stops_refused V sh before s t line text n (Some x) b c d TooLong gives does other wrote all = refused_line V sh before s t line text n x b c d TooLong gives does wrote all
-stops_refused V sh before s t line text n (Some x) b c d NotACommand gives does other wrote all = refused_line V sh before s t line text n x b c d NotACommand gives does wrote all
-stops_refused V sh before s t line text n (Some x) b c d BadNumber gives does other wrote all = refused_line V sh before s t line text n x b c d BadNumber gives does wrote all
-stops_refused V sh before s t line text n (Some x) b c d NoSuchReader gives does other wrote all = refused_line V sh before s t line text n x b c d NoSuchReader gives does wrote all
-stops_refused V sh before s t line text n (Some x) b c d StillRunning gives does other wrote all = refused_line V sh before s t line text n x b c d StillRunning gives does wrote all
-stops_refused V sh before s t line text n (Some x) b c d NothingToStep gives does other wrote all = refused_line V sh before s t line text n x b c d NothingToStep gives does wrote all
+stops_refused V sh before s t line text n (Some x) b c d TooLong gives does other wrote all = (inr (line, gives), refused_line V sh before s t line text n x b c d TooLong gives does wrote all)
+stops_refused V sh before s t line text n (Some x) b c d NotACommand gives does other wrote all = ((line, gives), refused_line V sh before s t line text n x b c d NotACommand gives does wrote all)
+stops_refused V sh before s t line text n (Some x) b c d BadNumber gives does other wrote all = ((line, gives), refused_line V sh before s t line text n x b c d BadNumber gives does wrote all)
+stops_refused V sh before s t line text n (Some x) b c d NoSuchReader gives does other wrote all = ((line, gives), refused_line V sh before s t line text n x b c d NoSuchReader gives does wrote all)
+stops_refused V sh before s t line text n (Some x) b c d StillRunning gives does other wrote all = ((line, gives), refused_line V sh before s t line text n x b c d StillRunning gives does wrote all)
+stops_refused V sh before s t line text n (Some x) b c d NothingToStep gives does other wrote all = ((line, gives), refused_line V sh before s t line text n x b c d NothingToStep gives does wrote all)
 
 -- a line whose answers were written
 pub plays_whole : (V : ℕ) (sh : Shape) (before : ℕ) (s t : Replay V) (line text : List ℕ) (n : ℕ) (a b c d : Option (List ℕ)) → GivesLine a b line (Ok true)
     → LineDoes V sh before s line text None t → Appends c d (take n text) → n ≡ length text → PlaysKnown V sh before s t a b c d (Ok true)
 plays_whole V sh before s t line text n None b c d gives does wrote all = tt
 plays_whole V sh before s t line text n (Some x) b c d gives does wrote all =
-    (gives.0, text, subst (λ (l : List ℕ). LineDoes V sh before s l text None t) gives.1 does, gives.3, subst (Appends c d) (take_all n text (omega (arith, all))) wrote)
+    ((line, gives), (text, subst (λ (l : List ℕ). LineDoes V sh before s l text None t) gives.1 does, subst (Appends c d) (take_all n text (omega (arith, all))) wrote))
 
 -- a line whose answers were not all written
 pub plays_part : (V : ℕ) (sh : Shape) (before : ℕ) (s t : Replay V) (line text : List ℕ) (fault : Option Fault) (n : ℕ) (a b c d : Option (List ℕ)) → GivesLine a b line (Ok true)
     → LineDoes V sh before s line text fault t → Appends c d (take n text) → n < length text → PlaysKnown V sh before s t a b c d (Err WriteFailed)
 plays_part V sh before s t line text fault n None b c d gives does wrote part = tt
 plays_part V sh before s t line text fault n (Some x) b c d gives does wrote part =
-    (gives.0, text, fault, n, subst (λ (l : List ℕ). LineDoes V sh before s l text fault t) gives.1 does, part, wrote)
+    ((line, gives), (text, fault, n, subst (λ (l : List ℕ). LineDoes V sh before s l text fault t) gives.1 does, part, wrote))
+
+-- no line is left
+pub plays_none : (V : ℕ) (sh : Shape) (before : ℕ) (s : Replay V) (line : List ℕ) (a b c : Option (List ℕ)) → GivesLine a b line (Ok false) → PlaysKnown V sh before s s a b c c (Ok false)
+plays_none V sh before s line None b c gives = tt
+plays_none V sh before s line (Some x) b c gives = ((line, gives), Keeps-refl c)
+
+-- the line could not be read
+pub plays_unread : (V : ℕ) (sh : Shape) (before : ℕ) (s : Replay V) (line : List ℕ) (a b c : Option (List ℕ)) → GivesLine a b line (Err over.ReadFailed) → PlaysKnown V sh before s s a b c c (Err ReadFailed)
+plays_unread V sh before s line None b c gives = tt
+plays_unread V sh before s line (Some x) b c gives = ((line, gives), Keeps-refl c)
+
+-- memory was wanting for the line
+pub plays_wanting : (V : ℕ) (sh : Shape) (before : ℕ) (s : Replay V) (line : List ℕ) (a b c : Option (List ℕ)) → GivesLine a b line (Ok true) → PlaysKnown V sh before s s a b c c (Err NoMemory)
+plays_wanting V sh before s line None b c gives = tt
+plays_wanting V sh before s line (Some x) b c gives = ((line, gives), Keeps-refl c)
 
 pub not_wanting : (fault : Fault) → is_wanting (Err fault) ≡ false → fault ≡ NoMemory → ⊥
 not_wanting fault other e = false≢true (sym other ∙ ap (λ (f : Fault). is_wanting (Err f)) e)
@@ -121,7 +136,8 @@ plays_cut V sh before s t line text n a b c d (Err NothingToStep) gives does oth
 -- a line that is too long to be read
 pub plays_over : (V : ℕ) (sh : Shape) (before : ℕ) (s : Replay V) (line : List ℕ) (a b c : Option (List ℕ)) → GivesLine a b line (Err over.TooLong) → PlaysKnown V sh before s s a b c c (Err TooLong)
 plays_over V sh before s line None b c gives = tt
-plays_over V sh before s line (Some x) b c gives = (gives.0, [], inl (inl gives.1, refl, refl, refl), Appends-nil c)
+plays_over V sh before s line (Some x) b c gives =
+    (inl (line, gives), ([], inl (inl gives.1, refl, refl, refl), Appends-nil c))
 
 -- ---- line after line
 -- lines that were played, and one more
@@ -139,36 +155,38 @@ plays_push V sh n s m t (l ∷ lines) line text own plays does =
 -- no line is played yet
 pub known_none : (V : ℕ) (sh : Shape) (start : Replay V) (a old : Option (List ℕ)) → KnownSoFar V sh start a a old old 0 start
 known_none V sh start None old = tt
-known_none V sh start (Some x) old = record { done = []; text = []; parts = refl; count = refl; played = (refl, refl); written = Appends-nil old }
+known_none V sh start (Some x) old = (sym (after_lines-zero x), record { done = []; text = []; parts = refl; count = refl; played = (refl, refl); written = Appends-nil old })
 
 -- one more line was played
 pub known_more : (V : ℕ) (sh : Shape) (start : Replay V) (a b c old new newer : Option (List ℕ)) (before : ℕ) (s t : Replay V) → KnownSoFar V sh start a b old new before s
     → PlaysKnown V sh before s t b c new newer (Ok true) → KnownSoFar V sh start a c old newer (before + 1) t
 known_more V sh start None b c old new newer before s t so_far plays = tt
 known_more V sh start (Some x) None c old new newer before s t so_far plays = absurd so_far
-known_more V sh start (Some x) (Some y) None old new newer before s t so_far plays = absurd (cc (plays.3))
+known_more V sh start (Some x) (Some y) None old new newer before s t so_far plays = absurd (cc (plays.0.1.3))
 known_more V sh start (Some x) (Some y) (Some z) old new newer before s t so_far plays =
-    let rest : z ≡ drop_through 10 y = cc (plays.3) in
+    let rest : z ≡ drop_through 10 y = cc (plays.0.1.3) in
     let line = first_line y in
-    let count : 0 + length so_far.done ≡ before = omega (arith, so_far.count) in
-    record {
-      done = so_far.done ++ line ∷ [];
-      text = so_far.text ++ plays.1;
-      parts = rw rest (so_far.parts ∙ ap (λ (l : List (List ℕ)). so_far.done ++ l) (lines-step y plays.0) ∙ sym (append_assoc so_far.done (line ∷ []) (lines_of (drop_through 10 y))));
-      count = length-append so_far.done (line ∷ []) ∙ omega (arith, so_far.count);
-      played = plays_push V sh 0 start s t so_far.done line so_far.text plays.1 so_far.played (subst (λ (k : ℕ). LineDoes V sh k s line plays.1 None t) (sym count) plays.2);
-      written = Appends-trans _ _ _ _ _ so_far.written plays.4;
-    }
+    let count : 0 + length so_far.1.done ≡ before = omega (arith, so_far.1.count) in (
+      rest ∙ ap (drop_through 10) so_far.0 ∙ sym (after_lines-step before x),
+      record {
+        done = so_far.1.done ++ line ∷ [];
+        text = so_far.1.text ++ plays.1.0;
+        parts = rw rest (so_far.1.parts ∙ ap (λ (l : List (List ℕ)). so_far.1.done ++ l) (lines-step y plays.0.1.0) ∙ sym (append_assoc so_far.1.done (line ∷ []) (lines_of (drop_through 10 y))));
+        count = length-append so_far.1.done (line ∷ []) ∙ omega (arith, so_far.1.count);
+        played = plays_push V sh 0 start s t so_far.1.done line so_far.1.text plays.1.0 so_far.1.played (subst (λ (k : ℕ). LineDoes V sh k s line plays.1.0 None t) (sym count) plays.1.1);
+        written = Appends-trans _ _ _ _ _ so_far.1.written plays.1.2;
+      },
+    )
 
 -- the whole script was played
 pub replays_all : (V : ℕ) (sh : Shape) (readers : ℕ) (a b c old new newer : Option (List ℕ)) (before : ℕ) (s t : Replay V) → IsReaders readers → KnownSoFar V sh (first_replay V sh readers) a b old new before s
-    → PlaysKnown V sh before s t b c new newer (Ok false) → ReplaysKnown V sh readers a old newer (Ok tt)
+    → PlaysKnown V sh before s t b c new newer (Ok false) → ReplaysKnown V sh readers a c old newer (Ok tt)
 replays_all V sh readers None b c old new newer before s t many so_far plays = tt
 replays_all V sh readers (Some x) None c old new newer before s t many so_far plays = absurd so_far
 replays_all V sh readers (Some x) (Some y) c old new newer before s t many so_far plays =
-    let none : lines_of y ≡ [] = ap lines_of plays.0 ∙ lines-nil in
-    let whole : lines_of x ≡ so_far.done = so_far.parts ∙ ap (λ (l : List (List ℕ)). so_far.done ++ l) none ∙ append-nil so_far.done in
-    (many, (so_far.text, s, subst (λ (l : List (List ℕ)). Plays V sh 0 (first_replay V sh readers) l so_far.text s) (sym whole) so_far.played, Appends-kept _ _ _ _ so_far.written plays.1))
+    let none : lines_of y ≡ [] = ap lines_of plays.0.1.0 ∙ lines-nil in
+    let whole : lines_of x ≡ so_far.1.done = so_far.1.parts ∙ ap (λ (l : List (List ℕ)). so_far.1.done ++ l) none ∙ append-nil so_far.1.done in
+    (plays.0.1.1, (many, (so_far.1.text, s, subst (λ (l : List (List ℕ)). Plays V sh 0 (first_replay V sh readers) l so_far.1.text s) (sym whole) so_far.1.played, Appends-kept _ _ _ _ so_far.1.written plays.1)))
 
 stopped : (V : ℕ) (sh : Shape) (start : Replay V) (lines left : List (List ℕ)) (old new : Option (List ℕ)) (before : ℕ) (s : Replay V) (so_far : SoFar V sh start lines left old new before s) → Stopped V sh start lines (before + 1) left so_far.text s
 stopped V sh start lines left old new before s so_far = record {
@@ -187,18 +205,18 @@ one_back : (before : ℕ) → before + 1 - 1 ≡ before
 one_back before = omega arith
 
 refused : (V : ℕ) (sh : Shape) (start : Replay V) (x y : List ℕ) (old new newer : Option (List ℕ)) (before : ℕ) (s t : Replay V) (fault : Fault) (so_far : SoFar V sh start (lines_of x) (lines_of y) old new before s)
-    → (0 < length y) × (text : List ℕ) × LineDoes V sh before s (first_line y) text (Some fault) t × Appends new newer text
+    → 0 < length y → (text : List ℕ) × LineDoes V sh before s (first_line y) text (Some fault) t × Appends new newer text
     → StopsRefused V sh start (lines_of x) old newer (before + 1) fault
-refused V sh start x y old new newer before s t fault so_far plays = (
+refused V sh start x y old new newer before s t fault so_far some plays = (
   first_line y,
   lines_of (drop_through 10 y),
   so_far.text,
   s,
   t,
-  plays.1,
-  stopped_line V sh start (lines_of x) y old new before s so_far plays.0,
-  subst (λ (k : ℕ). LineDoes V sh k s (first_line y) plays.1 (Some fault) t) (sym (one_back before)) plays.2,
-  Appends-trans _ _ _ _ _ so_far.written plays.3,
+  plays.0,
+  stopped_line V sh start (lines_of x) y old new before s so_far some,
+  subst (λ (k : ℕ). LineDoes V sh k s (first_line y) plays.0 (Some fault) t) (sym (one_back before)) plays.1,
+  Appends-trans _ _ _ _ _ so_far.written plays.2,
 )
 
 undone : (V : ℕ) (sh : Shape) (start : Replay V) (x y : List ℕ) (old new newer : Option (List ℕ)) (before : ℕ) (s : Replay V) (so_far : SoFar V sh start (lines_of x) (lines_of y) old new before s) → Keeps new newer
@@ -209,34 +227,62 @@ undone V sh start x y old new newer before s so_far kept =
 after_first : (before : ℕ) → 0 < before + 1
 after_first before = omega arith
 
+-- there is a line that is too long
+some_long : (y : List ℕ) (rest : Option (List ℕ)) → ReadsStopped y rest TooLong → 0 < length y
+some_long y rest (inl over) = over.1.0
+some_long y rest (inr read) = read.1.0
+
+-- what was read where the script stopped
+read_until : (x y : List ℕ) (rest : Option (List ℕ)) (before : ℕ) (fault : Fault) → y ≡ after_lines before x → ReadsStopped y rest fault → ReadsScript x rest (Err (record { line = before + 1; fault = fault }))
+read_until x y rest before fault is reads =
+    inr (after_first before, subst (λ (l : List ℕ). ReadsStopped l rest fault) (is ∙ ap (λ (k : ℕ). after_lines k x) (sym (one_back before))) reads)
+
+-- what was done and written where the script stopped
+stops_by : (V : ℕ) (sh : Shape) (start : Replay V) (x y : List ℕ) (rest old new newer : Option (List ℕ)) (before : ℕ) (s t : Replay V) (fault : Fault) → SoFar V sh start (lines_of x) (lines_of y) old new before s
+    → ReadsStopped y rest fault → PlaysLine V sh before s t y new newer (Err fault) → StopsBy V sh start (lines_of x) old newer (before + 1) fault
+stops_by V sh start x y rest old new newer before s t ReadFailed so_far reads plays = undone V sh start x y old new newer before s so_far plays
+stops_by V sh start x y rest old new newer before s t NoMemory so_far reads plays = undone V sh start x y old new newer before s so_far plays
+stops_by V sh start x y rest old new newer before s t TooLong so_far reads plays = refused V sh start x y old new newer before s t TooLong so_far (some_long y rest reads) plays
+stops_by V sh start x y rest old new newer before s t NotACommand so_far reads plays = refused V sh start x y old new newer before s t NotACommand so_far reads.1.0 plays
+stops_by V sh start x y rest old new newer before s t BadNumber so_far reads plays = refused V sh start x y old new newer before s t BadNumber so_far reads.1.0 plays
+stops_by V sh start x y rest old new newer before s t NoSuchReader so_far reads plays = refused V sh start x y old new newer before s t NoSuchReader so_far reads.1.0 plays
+stops_by V sh start x y rest old new newer before s t StillRunning so_far reads plays = refused V sh start x y old new newer before s t StillRunning so_far reads.1.0 plays
+stops_by V sh start x y rest old new newer before s t NothingToStep so_far reads plays = refused V sh start x y old new newer before s t NothingToStep so_far reads.1.0 plays
+stops_by V sh start x y rest old new newer before s t WriteFailed so_far reads plays = (
+  first_line y,
+  lines_of (drop_through 10 y),
+  so_far.text,
+  s,
+  t,
+  plays.0,
+  plays.1,
+  plays.2,
+  stopped_line V sh start (lines_of x) y old new before s so_far reads.1.0,
+  subst (λ (k : ℕ). LineDoes V sh k s (first_line y) plays.0 plays.1 t) (sym (one_back before)) plays.3,
+  plays.4,
+  Appends-trans _ _ _ _ _ so_far.written plays.5,
+)
+
 -- the script stopped
 pub replays_part : (V : ℕ) (sh : Shape) (readers : ℕ) (a b c old new newer : Option (List ℕ)) (before : ℕ) (s t : Replay V) (fault : Fault) → IsReaders readers
-    → KnownSoFar V sh (first_replay V sh readers) a b old new before s → PlaysKnown V sh before s t b c new newer (Err fault) → ReplaysKnown V sh readers a old newer (Err (record { line = before + 1; fault = fault }))
+    → KnownSoFar V sh (first_replay V sh readers) a b old new before s → PlaysKnown V sh before s t b c new newer (Err fault) → ReplaysKnown V sh readers a c old newer (Err (record { line = before + 1; fault = fault }))
 replays_part V sh readers None b c old new newer before s t fault many so_far plays = tt
 replays_part V sh readers (Some x) None c old new newer before s t fault many so_far plays = absurd so_far
-replays_part V sh readers (Some x) (Some y) c old new newer before s t ReadFailed many so_far plays = inr (after_first before, many, undone V sh _ x y old new newer before s so_far plays)
-replays_part V sh readers (Some x) (Some y) c old new newer before s t NoMemory many so_far plays = inr (after_first before, many, undone V sh _ x y old new newer before s so_far plays)
-replays_part V sh readers (Some x) (Some y) c old new newer before s t TooLong many so_far plays = inr (after_first before, many, refused V sh _ x y old new newer before s t TooLong so_far plays)
-replays_part V sh readers (Some x) (Some y) c old new newer before s t NotACommand many so_far plays = inr (after_first before, many, refused V sh _ x y old new newer before s t NotACommand so_far plays)
-replays_part V sh readers (Some x) (Some y) c old new newer before s t BadNumber many so_far plays = inr (after_first before, many, refused V sh _ x y old new newer before s t BadNumber so_far plays)
-replays_part V sh readers (Some x) (Some y) c old new newer before s t NoSuchReader many so_far plays = inr (after_first before, many, refused V sh _ x y old new newer before s t NoSuchReader so_far plays)
-replays_part V sh readers (Some x) (Some y) c old new newer before s t StillRunning many so_far plays = inr (after_first before, many, refused V sh _ x y old new newer before s t StillRunning so_far plays)
-replays_part V sh readers (Some x) (Some y) c old new newer before s t NothingToStep many so_far plays = inr (after_first before, many, refused V sh _ x y old new newer before s t NothingToStep so_far plays)
-replays_part V sh readers (Some x) (Some y) c old new newer before s t WriteFailed many so_far plays = inr (
-  after_first before,
-  many,
-  (
-    first_line y,
-    lines_of (drop_through 10 y),
-    so_far.text,
-    s,
-    t,
-    plays.1,
-    plays.2,
-    plays.3,
-    stopped_line V sh _ (lines_of x) y old new before s so_far plays.0,
-    subst (λ (k : ℕ). LineDoes V sh k s (first_line y) plays.1 plays.2 t) (sym (one_back before)) plays.4,
-    plays.5,
-    Appends-trans _ _ _ _ _ so_far.written plays.6,
-  ),
-)
+replays_part V sh readers (Some x) (Some y) c old new newer before s t fault many so_far plays =
+    (read_until x y c before fault so_far.0 plays.0, inr (after_first before, many, stops_by V sh _ x y c old new newer before s t fault so_far.1 plays.0 plays.1))
+
+-- no line was read
+pub replays_none : (V : ℕ) (sh : Shape) (readers : ℕ) (a old : Option (List ℕ)) (fault : Fault) → IsRefusedAs readers fault → ReplaysKnown V sh readers a a old old (Err (record { line = 0; fault = fault }))
+replays_none V sh readers None old fault refused = tt
+replays_none V sh readers (Some x) old fault refused = (inl (refl, refl), inl (refl, stops_before fault refused))
+  where
+    stops_before : (fault : Fault) → IsRefusedAs readers fault → StopsBefore readers old old fault
+    stops_before NoSuchReader refused = (refused, Keeps-refl old)
+    stops_before NoMemory refused = (refused, Keeps-refl old)
+    stops_before ReadFailed refused = absurd refused
+    stops_before TooLong refused = absurd refused
+    stops_before NotACommand refused = absurd refused
+    stops_before BadNumber refused = absurd refused
+    stops_before StillRunning refused = absurd refused
+    stops_before NothingToStep refused = absurd refused
+    stops_before WriteFailed refused = absurd refused

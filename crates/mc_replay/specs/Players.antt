@@ -4,7 +4,7 @@ use Rattle.mc_words.specs.declared.history.Reply.{Reply}
 use Rattle.mc_words.specs.declared.shape.Shape.{Shape}
 use Rattle.mc_theory.specs.Lists.{Made, after_all, state_of}
 use Rattle.mc_core.specs.Seen.{Shows}
-use Rattle.mc_theory.specs.Worlds.{World, Running}
+use Rattle.mc_theory.specs.Worlds.{World, Running, IsReached}
 use Rattle.mc_theory.specs.declared.act.Act.TheVariants.{Mark}
 use Rattle.mc_theory.specs.declared.event.Stepped.{Stepped}
 use Rattle.mc_theory.specs.declared.event.Stepped.TheVariants as stepped
@@ -40,9 +40,10 @@ HasMade w r n = (run : Running) → slice_get w.readers r ≡ Some (Some run) �
 abbrev pub HasRoom : ℕ → Type 0
 HasRoom most = most + most_steps < 2 ^ 64 - 1
 
--- the player shows this world, in which there were at most so many events
+-- the player shows this world, to which some events led from a new one, at most so many
 pub record IsAt (V : ℕ) (player : Player V) (most : ℕ) (w : World V) : Type 0 where
   pub world : Shows {V = V} player.world w
+  pub reached : IsReached V (shape_in player) w
   pub shape : clerks.shape_in player.clerk ≡ shape_in player
   pub readers : length w.readers ≡ player.readers
   pub events : w.events ≤ most

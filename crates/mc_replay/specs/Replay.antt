@@ -7,7 +7,7 @@ use Rattle.mc_words.specs.Answers.{Finds, Misses}
 use Rattle.mc_words.specs.Standing.{Stands}
 use Rattle.mc_theory.specs.Lists.{Made, state_of}
 use Rattle.mc_theory.specs.States.{State}
-use Rattle.mc_theory.specs.Worlds.{World, Running, Ended, first_world, Steps, Runs}
+use Rattle.mc_theory.specs.Worlds.{World, Running, Ended, IsTrueEnd, first_world, Steps, Runs}
 use Rattle.mc_theory.specs.declared.act.Act.TheVariants.{Mark}
 use Rattle.mc_theory.specs.declared.event.Event.TheVariants as event
 use Rattle.mc_plan.specs.Clerks.{Call, PutCall, RemoveCall, Answered, quiet_of}
@@ -109,14 +109,14 @@ ActsDo {V} sh (suc n) s text fault t =
     ((s.running ≡ None) × (text ≡ []) × (fault ≡ Some NothingToStep) × (t ≡ s)) ⊎
     ((p : Pending V) × (m : Replay V) × (first : List ℕ) × (rest : List ℕ) × (s.running ≡ Some p) × ActDoes sh s p first m × ActsDo sh n m rest fault t × (text ≡ first ++ rest))
 
--- what is written of a look-up that has ended
-abbrev pub IsTold : {V : ℕ} → List (Ended V) → List (Ended V) → List ℕ → Type 0
-IsTold {V} old new text = ((new ≡ old) × (text ≡ [])) ⊎ ((e : Ended V) × (new ≡ old ++ e ∷ []) × (text ≡ done_line e.told))
+-- what is written after an access: nothing, or the line of the look-up that it ended, whose reply is true of the history at a moment of its span
+abbrev pub IsTold : {V : ℕ} → Shape → World V → World V → List ℕ → Type 0
+IsTold {V} sh w x text = ((x.ended ≡ w.ended) × (text ≡ [])) ⊎ ((e : Ended V) × (x.ended ≡ w.ended ++ e ∷ []) × IsTrueEnd V sh x e × (text ≡ done_line e.told))
 
 -- one access of a reader's look-up; after its last access the look-up is told
 pub record AccessDoes (V : ℕ) (sh : Shape) (s : Replay V) (r : ℕ) (text : List ℕ) (t : Replay V) : Type 0 where
   pub steps : Steps V sh s.world (event.Read r) t.world
-  pub told : IsTold s.world.ended t.world.ended text
+  pub told : IsTold sh s.world t.world text
   pub writer : t.running ≡ s.running
 
 -- so many accesses, or those up to the first that cannot be made

@@ -1,11 +1,13 @@
--- What is written for a script, and where and why it stops.
-use Rattle.std.specs.Prelude.{◌≡◌, ℕ, ◌+◌, ◌-◌, ◌^◌, ◌<◌, ◌≤◌, ◌⊎◌, List, [], ◌∷◌, ◌++◌, length, take, Option, Some, None, Result, Ok, Err}
+-- What is read of a script and written for it, and where and why it stops.
+use Rattle.std.specs.Prelude.{◌≡◌, ℕ, ◌+◌, ◌-◌, ◌^◌, ◌<◌, ◌≤◌, ◌⊎◌, List, [], ◌∷◌, ◌++◌, length, take, Option, Some, None, Bool, true, Result, Ok, Err}
 use Rattle.std.specs.Io.KnownBytes.{Keeps, Appends}
 use Rattle.mc_words.specs.declared.shape.Shape.{Shape}
 use Rattle.mc_script.specs.declared.command.Command.{Command}
 use Rattle.mc_script.specs.declared.command.LineFault.{LineFault}
 use Rattle.mc_script.specs.Commands.{command_in}
-use Rattle.mc_script.specs.Lines.{lines_of}
+use Rattle.mc_script.specs.Lines.{lines_of, after_lines, GivesLine}
+use Rattle.mc_script.specs.declared.line.ReadFault.{ReadFault}
+use Rattle.mc_script.specs.declared.line.ReadFault.TheVariants as read
 use Rattle.mc_replay.specs.declared.fault.Fault.{Fault}
 use Rattle.mc_replay.specs.declared.fault.Fault.TheVariants.{ReadFailed, NoMemory, TooLong, NoSuchReader, WriteFailed}
 use Rattle.mc_replay.specs.declared.fault.Stop.{Stop}
@@ -82,7 +84,24 @@ Replays V sh readers lines old new (Err stop) =
     ((stop.line ≡ 0) × StopsBefore readers old new stop.fault) ⊎
     ((0 < stop.line) × IsReaders readers × StopsBy V sh (first_replay V sh readers) lines old new stop.line stop.fault)
 
--- the same, where the bytes of the script are known
-abbrev pub ReplaysKnown : (V : ℕ) → Shape → ℕ → Option (List ℕ) → Option (List ℕ) → Option (List ℕ) → Result (Unit {0}) Stop → Type 0
-ReplaysKnown V sh readers None old new r = Unit {0}
-ReplaysKnown V sh readers (Some bytes) old new r = Replays V sh readers (lines_of bytes) old new r
+-- of these bytes one line was read, with this result: what is left is what the reading of a line leaves
+abbrev pub ReadsLine : List ℕ → Option (List ℕ) → Result Bool ReadFault → Type 0
+ReadsLine bytes rest r = (line : List ℕ) × GivesLine (Some bytes) rest line r
+
+-- what is read for the line at which a script stops: a beginning of it, as much as shows that it is too long, or the line and nothing behind it
+abbrev pub ReadsStopped : List ℕ → Option (List ℕ) → Fault → Type 0
+ReadsStopped bytes rest ReadFailed = ReadsLine bytes rest (Err read.ReadFailed)
+ReadsStopped bytes rest TooLong = ReadsLine bytes rest (Err read.TooLong) ⊎ ReadsLine bytes rest (Ok true)
+ReadsStopped bytes rest fault = ReadsLine bytes rest (Ok true)
+
+-- what a replay of these bytes reads: all, or nothing, or the lines before the one at which it stops and what is read for that one
+abbrev pub ReadsScript : List ℕ → Option (List ℕ) → Result (Unit {0}) Stop → Type 0
+ReadsScript bytes rest (Ok u) = rest ≡ Some []
+ReadsScript bytes rest (Err stop) =
+    ((stop.line ≡ 0) × (rest ≡ Some bytes)) ⊎
+    ((0 < stop.line) × ReadsStopped (after_lines (stop.line - 1) bytes) rest stop.fault)
+
+-- what is read and written, where the bytes of the script are known
+abbrev pub ReplaysKnown : (V : ℕ) → Shape → ℕ → Option (List ℕ) → Option (List ℕ) → Option (List ℕ) → Option (List ℕ) → Result (Unit {0}) Stop → Type 0
+ReplaysKnown V sh readers None rest old new r = Unit {0}
+ReplaysKnown V sh readers (Some bytes) rest old new r = ReadsScript bytes rest r × Replays V sh readers (lines_of bytes) old new r

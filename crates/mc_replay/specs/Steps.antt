@@ -1,13 +1,13 @@
 -- What one line of a replay does, as its parts hand it on.
-use Rattle.std.specs.Prelude.{◌≡◌, ℕ, ◌<◌, Bool, true, false, List, [], ◌++◌, length, take, Option, Some, None, Result, Ok, Err}
-use Rattle.std.specs.Io.BufRead.{first_line, drop_through}
+use Rattle.std.specs.Prelude.{◌≡◌, ℕ, ◌<◌, Bool, true, false, List, ◌++◌, length, take, Option, Some, None, Result, Ok, Err}
+use Rattle.std.specs.Io.BufRead.{first_line}
 use Rattle.std.specs.Io.KnownBytes.{Keeps, Appends}
 use Rattle.mc_words.specs.declared.shape.Shape.{Shape}
-use Rattle.mc_script.specs.Lines.{lines_of}
+use Rattle.mc_script.specs.Lines.{lines_of, after_lines}
 use Rattle.mc_replay.specs.declared.fault.Fault.{Fault}
 use Rattle.mc_replay.specs.declared.fault.Fault.TheVariants.{ReadFailed, NoMemory, WriteFailed}
 use Rattle.mc_replay.specs.Replay.{Replay}
-use Rattle.mc_replay.specs.Scripts.{LineDoes, Plays}
+use Rattle.mc_replay.specs.Scripts.{LineDoes, Plays, ReadsLine, ReadsStopped}
 use Rattle.mc_replay.specs.Players.{DoneAs}
 
 -- what was done for a line, and the text of its answers
@@ -19,21 +19,26 @@ abbrev pub is_wanting : Result (Unit {0}) Fault → Bool
 is_wanting (Err NoMemory) = true
 is_wanting r = false
 
--- what was read, done and written for the next line of these bytes
-abbrev pub PlaysLine : (V : ℕ) → Shape → ℕ → Replay V → Replay V → List ℕ → Option (List ℕ) → Option (List ℕ) → Option (List ℕ) → Result Bool Fault → Type 0
-PlaysLine V sh before s t bytes rest old new (Ok false) = (bytes ≡ []) × Keeps old new
-PlaysLine V sh before s t bytes rest old new (Ok true) =
-    (0 < length bytes) × (text : List ℕ) × LineDoes V sh before s (first_line bytes) text None t × (rest ≡ Some (drop_through 10 bytes)) × Appends old new text
-PlaysLine V sh before s t bytes rest old new (Err ReadFailed) = Keeps old new
-PlaysLine V sh before s t bytes rest old new (Err NoMemory) = Keeps old new
-PlaysLine V sh before s t bytes rest old new (Err WriteFailed) =
-    (0 < length bytes) × (text : List ℕ) × (fault : Option Fault) × (n : ℕ) × LineDoes V sh before s (first_line bytes) text fault t × (n < length text) × Appends old new (take n text)
-PlaysLine V sh before s t bytes rest old new (Err fault) =
-    (0 < length bytes) × (text : List ℕ) × LineDoes V sh before s (first_line bytes) text (Some fault) t × Appends old new text
+-- what was done and written for the next line of these bytes
+abbrev pub PlaysLine : (V : ℕ) → Shape → ℕ → Replay V → Replay V → List ℕ → Option (List ℕ) → Option (List ℕ) → Result Bool Fault → Type 0
+PlaysLine V sh before s t bytes old new (Ok false) = Keeps old new
+PlaysLine V sh before s t bytes old new (Ok true) =
+    (text : List ℕ) × LineDoes V sh before s (first_line bytes) text None t × Appends old new text
+PlaysLine V sh before s t bytes old new (Err ReadFailed) = Keeps old new
+PlaysLine V sh before s t bytes old new (Err NoMemory) = Keeps old new
+PlaysLine V sh before s t bytes old new (Err WriteFailed) =
+    (text : List ℕ) × (fault : Option Fault) × (n : ℕ) × LineDoes V sh before s (first_line bytes) text fault t × (n < length text) × Appends old new (take n text)
+PlaysLine V sh before s t bytes old new (Err fault) =
+    (text : List ℕ) × LineDoes V sh before s (first_line bytes) text (Some fault) t × Appends old new text
+
+-- what was read for it
+abbrev pub ReadsNext : List ℕ → Option (List ℕ) → Result Bool Fault → Type 0
+ReadsNext bytes rest (Ok more) = ReadsLine bytes rest (Ok more)
+ReadsNext bytes rest (Err fault) = ReadsStopped bytes rest fault
 
 abbrev pub PlaysKnown : (V : ℕ) → Shape → ℕ → Replay V → Replay V → Option (List ℕ) → Option (List ℕ) → Option (List ℕ) → Option (List ℕ) → Result Bool Fault → Type 0
 PlaysKnown V sh before s t None rest old new r = Unit {0}
-PlaysKnown V sh before s t (Some bytes) rest old new r = PlaysLine V sh before s t bytes rest old new r
+PlaysKnown V sh before s t (Some bytes) rest old new r = ReadsNext bytes rest r × PlaysLine V sh before s t bytes old new r
 
 -- after so many lines that were not refused: which they are, and what was written
 pub record SoFar (V : ℕ) (sh : Shape) (start : Replay V) (lines left : List (List ℕ)) (old new : Option (List ℕ)) (before : ℕ) (s : Replay V) : Type 0 where
@@ -47,4 +52,4 @@ pub record SoFar (V : ℕ) (sh : Shape) (start : Replay V) (lines left : List (L
 abbrev pub KnownSoFar : (V : ℕ) → Shape → Replay V → Option (List ℕ) → Option (List ℕ) → Option (List ℕ) → Option (List ℕ) → ℕ → Replay V → Type 0
 KnownSoFar V sh start None left old new before s = Unit {0}
 KnownSoFar V sh start (Some all) None old new before s = ⊥
-KnownSoFar V sh start (Some all) (Some left) old new before s = SoFar V sh start (lines_of all) (lines_of left) old new before s
+KnownSoFar V sh start (Some all) (Some left) old new before s = (left ≡ after_lines before all) × SoFar V sh start (lines_of all) (lines_of left) old new before s

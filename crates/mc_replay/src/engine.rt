@@ -95,7 +95,7 @@ fn play_lines<const V: usize, R: BufRead, W: Write>(
     output: &mut W,
 ) -> Result<(), Stop>
     requires { (readers : ℕ) × IsReaders readers × Fits V player.old 0 (first_replay V (shape_in player.old) readers) }
-    ensures { (readers : ℕ) → IsReaders readers → Fits V player.old 0 (first_replay V (shape_in player.old) readers) → ReplaysKnown V (shape_in player.old) readers (R.remaining input.old) (W.contents output.old) (W.contents output.new) result }
+    ensures { (readers : ℕ) → IsReaders readers → Fits V player.old 0 (first_replay V (shape_in player.old) readers) → ReplaysKnown V (shape_in player.old) readers (R.remaining input.old) (R.remaining input.new) (W.contents output.old) (W.contents output.new) result }
 {
     let mut text = String::new(alloc);
     'lines: for before in 0..u64::MAX {
@@ -120,7 +120,7 @@ pub fn play<const V: usize, R: BufRead, W: Write>(
     output: &mut W,
 ) -> Result<(), Stop>
     requires { IsWidth V }
-    ensures { ReplaysKnown V (shape_of checked.now) readers (R.remaining input.old) (W.contents output.old) (W.contents output.new) result }
+    ensures { ReplaysKnown V (shape_of checked.now) readers (R.remaining input.old) (R.remaining input.new) (W.contents output.old) (W.contents output.new) result }
 {
     match Player::<V>::new(alloc, checked, readers) {
         Ok(mut player) => play_lines(alloc, &mut player, input, output),
@@ -139,7 +139,7 @@ pub fn replay<const V: usize, R: BufRead, W: Write>(
     output: &mut W,
 ) -> Result<(), ReplayError>
     requires { IsWidth V }
-    ensures { (r : Result (Unit {0}) Stop) × ReplaysKnown V (shape_of checked.now) readers (R.remaining input.old) (W.contents output.old) (W.contents output.new) r × (result ≡ told r) }
+    ensures { (r : Result (Unit {0}) Stop) × ReplaysKnown V (shape_of checked.now) readers (R.remaining input.old) (R.remaining input.new) (W.contents output.old) (W.contents output.new) r × (result ≡ told r) }
 {
     match play::<V, R, W>(alloc, checked, readers, input, output) {
         Ok(()) => Ok(()),

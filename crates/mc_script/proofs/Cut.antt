@@ -1,11 +1,12 @@
 -- The first line of some bytes, known from a front of them.
-use Rattle.std.proofs.Common.{◌≡◌, ◌≢◌, ℕ, ◌+◌, ◌-◌, ◌<◌, ◌≤◌, ◌⊎◌, inl, inr, Bool, true, false, All, List, [], ◌∷◌, ◌++◌, length, take, slice_index, cond, arith, refl, sym, ap, ◌∙◌, length-append, append-nil, length-take-le}
+use Rattle.std.proofs.Common.{◌≡◌, ◌≢◌, ℕ, ◌+◌, ◌-◌, ◌<◌, ◌≤◌, ◌⊎◌, inl, inr, Bool, true, false, All, List, [], ◌∷◌, ◌++◌, length, take, slice_index, cond, arith, refl, sym, ap, ◌∙◌, length-append, append-nil, length-take-le, eq-eqb, ne_eqb}
 use Rattle.std.specs.Io.BufRead.{first_line, take_through, drop_through, strip_last, ends_with_byte}
 use Rattle.std.proofs.BufReadLemmas.{take_through-append, drop_through-append}
 use Rattle.std.proofs.Math.Seq.{take-append-add}
 use Rattle.std.proofs.lemmas.Grind.{common_steps}
+use Rattle.std.proofs.lemmas.Bool.{cond-true, cond-false}
 use Rattle.std.proofs.lemmas.Bool.Decides.{nat_tests}
-use Rattle.mc_script.specs.Lines.{is_over}
+use Rattle.mc_script.specs.Lines.{is_over, length_over}
 
 -- bytes are over by two more, or by one that is no carriage return
 pub over_cases : (line : List ℕ) → is_over line ≡ true → (4097 < length line) ⊎ ((length line ≡ 4097) × (slice_index line 4096 ≢ 13))
@@ -136,3 +137,27 @@ fits line short = at (ends_with_byte 13 line) refl (over_not line short) (ends_c
       | inr h ↦ let full : length line ≡ 4097 = h.0 in let last : slice_index line 4096 ≡ 13 = h.1 in let t : ends_with_byte 13 line ≡ true = grind (arith, nat_tests) in absurd (cc)
     ]
     at true is le ends = let n = length-take-le (length line - 1) line (omega arith) in omega (arith, n)
+
+-- bytes that became too many by their last one are as many as show it, whatever follows
+pub length_over-first : (line more : List ℕ) (x : ℕ) → is_over line ≡ false → is_over (line ++ x ∷ []) ≡ true → length_over ((line ++ x ∷ []) ++ more) ≡ length (line ++ x ∷ [])
+length_over-first line more x short over =
+    let len = length-append line (x ∷ []) in
+    at (over_else line short) (over_cases (line ++ x ∷ []) over) len
+  where
+    at : (length line ≤ 4096) ⊎ ((length line ≡ 4097) × (slice_index line 4096 ≡ 13)) → (4097 < length (line ++ x ∷ [])) ⊎ ((length (line ++ x ∷ []) ≡ 4097) × (slice_index (line ++ x ∷ []) 4096 ≢ 13)) → length (line ++ x ∷ []) ≡ length line + 1
+        → length_over ((line ++ x ∷ []) ++ more) ≡ length (line ++ x ∷ [])
+    at (inl fits) (inl many) len = absurd (omega arith)
+    at (inl fits) (inr plain) len =
+        let same : slice_index ((line ++ x ∷ []) ++ more) 4096 ≡ slice_index (line ++ x ∷ []) 4096 = grind (arith, common_steps) in
+        let other : slice_index ((line ++ x ∷ []) ++ more) 4096 ≢ 13 = rw same plain.1 in
+        cond-false _ 4098 4097 (ne_eqb _ 13 other) ∙ sym plain.0
+    at (inr full) over len =
+        let same : slice_index ((line ++ x ∷ []) ++ more) 4096 ≡ slice_index line 4096 = grind (arith, common_steps) in
+        cond-true _ 4098 4097 (eq-eqb _ 13 (same ∙ full.1)) ∙ omega (arith, len, full.0)
+
+-- bytes that are not over, and too many for a line, end in a carriage return
+pub length_over-last : (line : List ℕ) → is_over line ≡ false → 4096 < length line → (length_over line ≡ 4098) × (length line ≡ 4097)
+length_over-last line short long = elim (over_else line short) [
+  | inl fits ↦ absurd (omega arith)
+  | inr full ↦ (cond-true _ 4098 4097 (eq-eqb _ 13 full.1), full.0)
+]

@@ -1,8 +1,8 @@
 -- The lines of some bytes, one after the other.
-use Rattle.std.proofs.Common.{◌≡◌, ℕ, zero, suc, ◌<◌, ◌≤◌, List, [], ◌∷◌, length, refl, ap, arith, inl, inr, eq-eqb, ne_eqb}
+use Rattle.std.proofs.Common.{◌≡◌, ℕ, zero, suc, ◌<◌, ◌≤◌, List, [], ◌∷◌, ◌+◌, length, refl, ap, ◌∙◌, arith, inl, inr, eq-eqb, ne_eqb}
 use Rattle.std.specs.Io.BufRead.{first_line, drop_through}
 use Rattle.std.proofs.lemmas.Bool.{cond-true, cond-false, cases_eq}
-use Rattle.mc_script.specs.Lines.{lines_within, lines_of}
+use Rattle.mc_script.specs.Lines.{lines_within, lines_of, after_lines}
 
 -- what follows a line is shorter
 length-drop_through : (byte x : ℕ) (xs : List ℕ) → length (drop_through byte (x ∷ xs)) ≤ length xs
@@ -39,3 +39,20 @@ lines-step (x ∷ xs) some =
 pub lines-nil : lines_of [] ≡ []
 unfolding lines_within
 lines-nil = refl
+
+-- one line more is the first line of the bytes behind the others
+pub after_lines-step : (n : ℕ) (xs : List ℕ) → after_lines (n + 1) xs ≡ drop_through 10 (after_lines n xs)
+unfolding after_lines
+after_lines-step n xs = ap (λ (k : ℕ). after_lines k xs) (one_more n) ∙ step n xs
+  where
+    one_more : (k : ℕ) → k + 1 ≡ suc k
+    one_more k = omega arith
+
+    step : (k : ℕ) (xs : List ℕ) → after_lines (suc k) xs ≡ drop_through 10 (after_lines k xs)
+    step zero xs = refl
+    step (suc k) xs = step k (drop_through 10 xs)
+
+-- no line is passed over
+pub after_lines-zero : (xs : List ℕ) → after_lines 0 xs ≡ xs
+unfolding after_lines
+after_lines-zero xs = refl

@@ -1,13 +1,14 @@
 -- What reading a line gives, from the bytes that were taken.
-use Rattle.std.proofs.Common.{◌≡◌, ◌≢◌, ℕ, zero, suc, ◌+◌, ◌<◌, ◌≤◌, inl, inr, true, false, All, List, [], ◌∷◌, ◌++◌, length, Option, Some, None, arith, sym, ap, ◌∙◌, length-append, append-nil, Ok, Err, not, ◌==◌}
+use Rattle.std.proofs.Common.{◌≡◌, ◌≢◌, ℕ, zero, suc, ◌+◌, ◌<◌, ◌≤◌, inl, inr, true, false, All, List, [], ◌∷◌, ◌++◌, length, Option, Some, None, arith, sym, ap, ◌∙◌, length-append, append-nil, take, drop, take_all, drop_of_length-le, Ok, Err, not, ◌==◌}
 use Rattle.std.specs.Io.BufRead.{first_line, drop_through, strip_last}
 use Rattle.std.specs.Io.KnownBytes.{Consumes, IsAtEnd}
 use Rattle.std.proofs.lemmas.List.Elements.{All-append}
+use Rattle.std.proofs.Math.Seq.{take-append_seam, drop-append_seam}
 use Rattle.std.proofs.lemmas.Bool.Decides.{nat_tests}
-use Rattle.mc_script.specs.Lines.{is_over, IsUnfinished, GivesLine}
+use Rattle.mc_script.specs.Lines.{is_over, length_over, IsUnfinished, GivesLine}
 use Rattle.mc_script.specs.declared.line.ReadFault.TheVariants.{TooLong}
 use Rattle.std.proofs.KnownBytes.{Consumes-trans}
-use Rattle.mc_script.proofs.Cut.{over_cases, over_stays, last_line, ended_line, fits}
+use Rattle.mc_script.proofs.Cut.{over_cases, over_stays, last_line, ended_line, fits, length_over-first, length_over-last}
 
 -- one more byte that is no line feed
 plain_more : (line : List ℕ) (b : ℕ) → All (λ x. x ≢ 10) line → b ≢ 10 → All (λ x. x ≢ 10) (line ++ b ∷ [])
@@ -34,7 +35,8 @@ gives_too_long_end (Some x) (Some y) None line so_far none end long = absurd non
 gives_too_long_end (Some x) (Some y) (Some z) line so_far none end long =
     let whole : x ≡ line = so_far.taken ∙ ap (λ l. line ++ l) (none ∙ end) ∙ append-nil line in
     let last = (last_line line so_far.plain).0 in
-    rw whole (omega (arith, long), omega (arith, long, ap length last))
+    let over = length_over-last line so_far.short long in
+    rw whole (omega (arith, long), omega (arith, long, ap length last), sym (take_all _ line (omega (arith, over.0, over.1))), ap Some (end ∙ sym (drop_of_length-le line (omega (arith, over.0, over.1)))))
 
 -- the input ended, and with it the line, if there is one
 pub gives_last : (a b c : Option (List ℕ)) (line : List ℕ) → IsUnfinished a b line → Consumes b c [] → IsAtEnd c → length line ≤ 4096 → GivesLine a c line (Ok (not (length line == 0)))
@@ -62,19 +64,23 @@ gives_ended (Some x) (Some y) (Some z) line new so_far feed is =
     let len = length-append line (10 ∷ z) in
     rw whole (omega (arith, len), is ∙ sym ended.0, rw is (fits line so_far.short), ap Some (sym ended.1))
 
--- the line is too long already
-too_long : (a b : Option (List ℕ)) (line : List ℕ) → Consumes a b line → All (λ x. x ≢ 10) line → is_over line ≡ true → GivesLine a b line (Err TooLong)
-too_long None b line took plain over = tt
-too_long (Some x) None line took plain over = absurd took
-too_long (Some x) (Some y) line took plain over =
-    let len = length-append line y in
-    rw took (over_some line over len, over_stays line y plain over)
-  where
-    over_some : (line : List ℕ) → is_over line ≡ true → length (line ++ y) ≡ length line + length y → 0 < length (line ++ y)
-    over_some line over len = elim (over_cases line over) [ inl h ↦ omega arith | inr h ↦ omega (arith, h.0) ]
-
 -- one more byte made the line too long
 pub gives_over : (a b c : Option (List ℕ)) (line : List ℕ) (x : ℕ) → IsUnfinished a b line → Consumes b c (x ∷ []) → x ≢ 10 → is_over (line ++ x ∷ []) ≡ true
     → GivesLine a c (line ++ x ∷ []) (Err TooLong)
 gives_over a b c line x so_far took other over =
-    too_long a c (line ++ x ∷ []) (Consumes-trans a b c line (x ∷ []) so_far.taken took) (plain_more line x so_far.plain other) over
+    too_long a c (line ++ x ∷ []) (Consumes-trans a b c line (x ∷ []) so_far.taken took) (plain_more line x so_far.plain other) over (λ more. length_over-first line more x so_far.short over)
+  where
+    some : (line more : List ℕ) → is_over line ≡ true → length (line ++ more) ≡ length line + length more → 0 < length (line ++ more)
+    some line more over len = elim (over_cases line over) [ inl h ↦ omega arith | inr h ↦ omega (arith, h.0) ]
+
+    too_long : (a b : Option (List ℕ)) (line : List ℕ) → Consumes a b line → All (λ x. x ≢ 10) line → is_over line ≡ true → ((more : List ℕ) → length_over (line ++ more) ≡ length line) → GivesLine a b line (Err TooLong)
+    too_long None b line took plain over first = tt
+    too_long (Some x) None line took plain over first = absurd took
+    too_long (Some x) (Some y) line took plain over first =
+        let len = length-append line y in
+        rw took (
+          some line y over len,
+          over_stays line y plain over,
+          sym (ap (λ k. take k (line ++ y)) (first y) ∙ take-append_seam line y),
+          ap Some (sym (ap (λ k. drop k (line ++ y)) (first y) ∙ drop-append_seam line y)),
+        )

@@ -4,8 +4,23 @@ use Rattle.mc_script.specs.declared.line.ReadFault.TheVariants as over
 use Rattle.std.specs.Prelude.{ℕ, List}
 use Rattle.mc_replay.specs.Players.{shape_in}
 use Rattle.mc_replay.specs.Steps.{DoesLine, is_wanting}
-use Rattle.mc_replay.proofs.Replaying.{plays_whole, plays_cut, plays_over, stops_refused, not_wanting}
+use Rattle.mc_replay.proofs.Replaying.{plays_whole, plays_cut, plays_over, plays_none, plays_unread, plays_wanting, stops_refused, not_wanting}
 use Rattle.mc_replay.proofs.engine.play_line.Goals as goal
+
+pub returns-in-Err-ReadFailed-clause-plays : goal.returns-in-Err-ReadFailed-clause-plays
+returns-in-Err-ReadFailed-clause-plays g c = λ s fits.
+    let gives : GivesLine (g.R.Read.remaining c.args.input.now) (g.R.Read.remaining c.read_line.new.reader) c.read_line.new.line.items (Err over.ReadFailed) = search rules in
+    (s, plays_unread g.row.V (shape_in c.args.player.now) c.args.before s c.read_line.new.line.items (g.R.Read.remaining c.args.input.now) (g.R.Read.remaining c.read_line.new.reader) (g.W.Write.contents c.args.output.now) gives, λ e. absurd (cc e))
+
+pub returns-in-Ok-false-clause-plays : goal.returns-in-Ok-false-clause-plays
+returns-in-Ok-false-clause-plays g c = λ s fits.
+    let gives : GivesLine (g.R.Read.remaining c.args.input.now) (g.R.Read.remaining c.read_line.new.reader) c.read_line.new.line.items (Ok false) = search rules in
+    (s, plays_none g.row.V (shape_in c.args.player.now) c.args.before s c.read_line.new.line.items (g.R.Read.remaining c.args.input.now) (g.R.Read.remaining c.read_line.new.reader) (g.W.Write.contents c.args.output.now) gives, λ e. absurd (cc e))
+
+pub returns-then-is_wanting-clause-plays : goal.returns-then-is_wanting-clause-plays
+returns-then-is_wanting-clause-plays g c = λ s fits.
+    let gives : GivesLine (g.R.Read.remaining c.args.input.now) (g.R.Read.remaining c.read_line.new.reader) c.read_line.new.line.items (Ok true) = search rules in
+    (s, plays_wanting g.row.V (shape_in c.args.player.now) c.args.before s c.read_line.new.line.items (g.R.Read.remaining c.args.input.now) (g.R.Read.remaining c.read_line.new.reader) (g.W.Write.contents c.args.output.now) gives, λ e. absurd (cc e))
 
 pub returns-in-Err-TooLong-clause-plays : goal.returns-in-Err-TooLong-clause-plays
 returns-in-Err-TooLong-clause-plays g c = λ s fits.

@@ -1,6 +1,6 @@
-use Rattle.std.proofs.Common.{◌≡◌, ℕ, ◌+◌, ◌++◌, List, refl, subst, sym, ◌∙◌, arith, Some, None, string_bytes}
+use Rattle.std.proofs.Common.{◌≡◌, ℕ, ◌+◌, ◌++◌, All, List, refl, subst, sym, ◌∙◌, arith, Some, None, string_bytes}
 use Rattle.mc_words.specs.declared.shape.Shape.{Shape}
-use Rattle.mc_theory.specs.Worlds.{Steps}
+use Rattle.mc_theory.specs.Worlds.{IsTrueEnd, Steps}
 use Rattle.mc_theory.specs.declared.event.Event.TheVariants as event
 use Rattle.mc_replay.specs.declared.player.Player.{Player}
 use Rattle.mc_replay.specs.declared.fault.Fault.TheVariants.{NothingToStep}
@@ -24,9 +24,10 @@ accesses-preserved g c =
           let so_far = c.accesses.invariant.made most s room fits in
           let m = so_far.0 in
           let at = at_of g.row.V mid _ m.running m.world so_far.2.fits in
-          let did = c.in-Ok.ensures.ok m.world at.world in
+          let did = c.in-Ok.ensures.told m.world at.world at.reached in
           let steps : Steps g.row.V (shape_in old) m.world (event.Read c.args.reader) did.0 = subst (λ (y : Shape). Steps g.row.V y m.world (event.Read c.args.reader) did.0) c.accesses.invariant.shape did.1 in
-          let access = access_done g.row.V (shape_in old) m did.0 c.args.reader c.in-Ok.given steps did.2 in
+          let true = subst (λ (y : Shape). All (IsTrueEnd g.row.V y did.0) did.0.ended) c.accesses.invariant.shape did.5 in
+          let access = access_done g.row.V (shape_in old) m did.0 c.args.reader c.in-Ok.given steps did.2 true in
           let pushed = accesses_push (shape_in old) c.accesses.counter s m (after_access m did.0) c.args.reader (string_bytes c.accesses.text) (end_text c.in-Ok.given) so_far.1 access in
           let more = reads_more g.row.V mid new most c.args.reader c.accesses.counter m did.0 (sound_of g.row.V mid _ m.world at) (width_of g.row.V mid _ m.running m.world so_far.2.fits) so_far.2 same did.3 did.1 in
           (after_access m did.0, subst (λ (t : List ℕ). AccessesDo (shape_in old) (c.accesses.counter + 1) s c.args.reader t None (after_access m did.0)) (sym c.in-Ok-tell_end.ensures.ok) (subst (λ (n : ℕ). AccessesDo (shape_in old) n s c.args.reader (string_bytes c.accesses.text ++ end_text c.in-Ok.given) None (after_access m did.0)) (one_more c.accesses.counter) pushed), more);
