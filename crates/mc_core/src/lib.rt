@@ -11,8 +11,6 @@ mod peek;
 mod progress;
 mod reader;
 mod table;
-#[cfg(test)]
-mod tests;
 mod world;
 mod writer;
 

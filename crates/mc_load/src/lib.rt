@@ -5,8 +5,6 @@
 #![tactic(auto)]
 
 mod step;
-#[cfg(test)]
-mod tests;
 mod told;
 
 pub use mc_replay::{ReplayError, replay};

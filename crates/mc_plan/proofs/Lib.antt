@@ -12,7 +12,6 @@ pub mod Naming
 pub mod Room
 pub mod Booking
 pub mod Onward
-pub mod Driving
 pub mod Sweeping
 pub mod Replacing
 pub mod Hands

@@ -6,4 +6,3 @@ pub mod Replacing
 pub mod Laws
 pub mod Calls
 pub mod Clerks
-pub mod Drivers

@@ -23,6 +23,3 @@ pub use mc_search::{Finder, NoMemory, Path, Peek, Sweep, find, moment, read};
 pub use moves::{add_move, add_moves, plan_moves};
 pub use renew::{add_renew, plan_renew};
 pub use take_out::{add_evict, add_remove, plan_evict, plan_remove};
-
-#[cfg(test)]
-mod tests;

@@ -8,8 +8,6 @@ mod line;
 mod number;
 mod output;
 mod step;
-#[cfg(test)]
-mod tests;
 mod words;
 
 pub use command::{Command, LineFault, parse};

@@ -10,8 +10,6 @@ mod mix;
 mod no_memory;
 mod place;
 mod shape;
-#[cfg(test)]
-mod tests;
 
 pub use checked::Checked;
 pub use history::{Change, Reply};

@@ -1,3 +1,0 @@
-mod drawing;
-mod drawn;
-mod rows;

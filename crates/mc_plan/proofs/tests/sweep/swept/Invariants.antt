@@ -1,6 +1,0 @@
-use Rattle.std.specs.Prelude.{List}
-use Rattle.mc_search.specs.Sweeps.{Swept, HasSwept}
-use Rattle.mc_plan.proofs.tests.sweep.swept.Given as goal
-
-abbrev pub invariant-loop-bit : goal.invariant-loop-bit
-invariant-loop-bit l = (rs : List Swept) × HasSwept l.sweep l.items l.hand rs

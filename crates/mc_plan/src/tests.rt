@@ -1,5 +1,0 @@
-mod clerk;
-mod finding;
-mod paths;
-mod sweep;
-mod table;

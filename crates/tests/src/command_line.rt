@@ -1,0 +1,125 @@
+//! Command lines that are refused before a line is read, and the one that asks for help.
+use mc_load::run_step;
+use std::alloc::{AllocError, Global};
+use std::str;
+
+/// Options, and how the text begins that is told of them.
+const REFUSED: &str = "\
+--other|error: unexpected argument '--other' found
+--stripes 1|error: unexpected argument '--stripes' found
+script|error: unexpected argument 'script' found
+--buckets|error: 
+--items |error: 
+--depth 256|error: 
+--depth +2|error: 
+--tries 256|error: 
+--limit 18446744073709551616|error: 
+--limit +8|error: 
+--readers 4294967296|error: 
+--readers=-1|error: 
+--words 0|error: 
+--words 3|error: 
+--words 256|error: 
+--words +1|error: 
+--buckets 4294967296|error: 
+--buckets 18446744073709551620|error: 
+--buckets +4|error: 
+--buckets=-4|error: 
+--buckets 4.0|error: 
+--items +4|error: 
+--mix other|error: 
+--buckets 3 --words 3|error: 
+--buckets 3|refused: buckets
+--items 0|refused: items
+--depth 9|refused: depth
+--tries 65|refused: tries
+--limit 4611686018427387905|refused: limit
+--readers 0|refused: readers";
+
+const SCRIPT: &[u8] = b"get 0\n";
+
+/// What a run of the program leaves.
+#[derive(Drop)]
+struct Outcome {
+    status: u8,
+    output: Vec<u8>,
+    errors: Vec<u8>,
+    /// How many bytes of the script were not read.
+    unread: usize,
+}
+
+/// Runs the program with these options, parted by blanks.
+fn run(alloc: Global, options: &str) -> Result<Outcome, AllocError> {
+    let mut words = vec![in alloc; "mcstep"]?;
+    for option in options.split(' ') {
+        words.push(option)?;
+    }
+    let mut input = SCRIPT;
+    let mut output = Vec::new(alloc);
+    let mut errors = Vec::new(alloc);
+    let status = run_step(
+        alloc,
+        words.as_slice(),
+        &mut input,
+        &mut output,
+        &mut errors,
+    );
+    let unread = input.len();
+    Ok(Outcome {
+        status,
+        output,
+        errors,
+        unread,
+    })
+}
+
+#[test]
+fn a_refused_command_line_reads_and_writes_nothing(rt: HostRuntime) -> Result<(), AllocError> {
+    for case in REFUSED.lines() {
+        let Some((options, text)) = case.split_once("|") else {
+            assert!(rt; false, "{case} is no case");
+            return Ok(());
+        };
+        let outcome = run(rt.alloc(), options)?;
+        assert_eq!(rt; outcome.status, 2, "the status of {options}");
+        assert!(rt; outcome.output.is_empty(), "{options} writes nothing");
+        assert_eq!(rt; outcome.unread, SCRIPT.len(), "{options} reads nothing");
+        assert!(rt;
+            outcome.errors.as_slice().starts_with(text.as_bytes()),
+            "{options} tells its fault"
+        );
+    }
+    Ok(())
+}
+
+/// The first option that the text doesn't name.
+fn missing_in(text: &str) -> Option<&'static str> {
+    for option in [
+        "--buckets",
+        "--items",
+        "--depth",
+        "--tries",
+        "--limit",
+        "--mix",
+        "--readers",
+        "--words",
+    ] {
+        if !text.contains(option) {
+            return Some(option);
+        }
+    }
+    None
+}
+
+#[test]
+fn help_goes_to_standard_output(rt: HostRuntime) -> Result<(), AllocError> {
+    for option in ["--help", "-h"] {
+        let outcome = run(rt.alloc(), option)?;
+        assert_eq!(rt; outcome.status, 0);
+        assert!(rt; outcome.errors.is_empty());
+        let text = str::from_utf8(outcome.output.as_slice()).unwrap_or("");
+        assert_eq!(rt; missing_in(text), None);
+        assert_eq!(rt; outcome.unread, SCRIPT.len());
+    }
+    Ok(())
+}

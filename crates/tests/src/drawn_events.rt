@@ -1,0 +1,119 @@
+//! Worlds that make drawn events, lawful or not: what a refused event leaves, and how far the versions come.
+use crate::drawing::{Writer, drawn_shape};
+use mc_core::World;
+use mc_words::Checked;
+use rand_core::Rng;
+use rand_pcg::Lcg64Xsh32;
+use std::alloc::Global;
+use std::test::Fail;
+
+/// The words of the world, the last ones are its bits, folded into one number, and the length of its history.
+fn seen_of(world: &World<1>) -> (u64, usize) {
+    let mut fold: u64 = 1;
+    for n in 0..world.checked().words::<1>() {
+        fold = fold
+            .wrapping_mul(0x100_0000_01b3)
+            .wrapping_add(world.word(n));
+    }
+    (fold, world.history().len())
+}
+
+/// Whether no version is more than the limit.
+fn is_within(world: &World<1>) -> bool {
+    let shape = world.checked().shape();
+    for s in 0..shape.stripes {
+        let n = world.checked().version_place(s);
+        if world.word(n) > shape.limit {
+            return false;
+        }
+    }
+    true
+}
+
+/// A world that is asked to make drawn events, and a second one that is asked only for those that the first has made.
+#[derive(Drop)]
+struct Pair {
+    world: World<1>,
+    lawful: World<1>,
+    writer: Writer,
+}
+
+impl Pair {
+    fn new(alloc: Global, checked: &Checked) -> Result<Pair, Fail> {
+        Ok(Pair {
+            world: World::new(alloc, checked, 2)?,
+            lawful: World::new(alloc, checked, 2)?,
+            writer: Writer::new(checked),
+        })
+    }
+
+    /// Whether the event was made; nothing where a refused one changed the world, or the second world gave something else.
+    fn step(&mut self, rng: &mut Lcg64Xsh32) -> Option<bool> {
+        let event = self.writer.drawn_event(rng);
+        let before = seen_of(&self.world);
+        let given = self.world.step(event);
+        if !is_within(&self.world) {
+            return None;
+        }
+        if given.is_err() {
+            return if seen_of(&self.world) == before {
+                Some(false)
+            } else {
+                None
+            };
+        }
+        self.writer.made(event);
+        if self.lawful.step(event) == given {
+            Some(true)
+        } else {
+            None
+        }
+    }
+
+    /// Whether both worlds have the same words and the same history.
+    fn is_one(&self) -> bool {
+        seen_of(&self.world) == seen_of(&self.lawful)
+            && self.world.history() == self.lawful.history()
+    }
+}
+
+/// How many of 500 drawn events were lawful; nothing where one did what it may not.
+fn lawful_of(rng: &mut Lcg64Xsh32, pair: &mut Pair) -> Option<u32> {
+    let mut lawful: u32 = 0;
+    for _ in 0..500 {
+        if pair.step(rng)? {
+            lawful = lawful.saturating_add(1);
+        }
+    }
+    if pair.is_one() { Some(lawful) } else { None }
+}
+
+/// How many of 100,000 drawn events were lawful, 500 in each of 200 worlds; `None` where one changed what it must not.
+fn lawful_in_worlds(alloc: Global, seed: u64) -> Result<Option<u32>, Fail> {
+    let mut rng = Lcg64Xsh32::new(seed, 0);
+    let mut all: u32 = 0;
+    for _ in 0..200 {
+        let checked = drawn_shape(&mut rng).check()?;
+        let mut pair = Pair::new(alloc, &checked)?;
+        let Some(lawful) = lawful_of(&mut rng, &mut pair) else {
+            return Ok(None);
+        };
+        all = all.saturating_add(lawful);
+    }
+    Ok(Some(all))
+}
+
+#[test]
+fn refused_events_leave_the_world_as_it_was(rt: HostRuntime) -> Result<(), Fail> {
+    for seed in 1..21 {
+        let Some(all) = lawful_in_worlds(rt.alloc(), seed)? else {
+            assert!(rt; false, "seed {seed}");
+            return Ok(());
+        };
+        assert!(rt;
+            (25_001..90_000).contains(&all),
+            "seed {seed}: {all} of 100000 events were lawful"
+        );
+    }
+    Ok(())
+}

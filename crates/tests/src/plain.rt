@@ -1,0 +1,287 @@
+//! A plain map beside a replay, and the order in which a put goes.
+use mc_words::Shape;
+use std::alloc::{AllocError, Global};
+
+/// What a key has from a change on: its value and its item, or nothing.
+type Entry = Option<(u64, usize)>;
+
+/// The key that holds an item, and the item's mark.
+#[derive(Clone, Copy, Default)]
+struct Item {
+    key: Option<u64>,
+    marked: bool,
+}
+
+/// A look-up by single accesses, and how many changes and version changes there were before it.
+#[derive(Clone, Copy)]
+struct LookUp {
+    key: u64,
+    changes: usize,
+    versions: u64,
+}
+
+/// What a line of a script asks for. A look-up of a reader is answered where it ends.
+#[derive(Clone, Copy)]
+pub(crate) enum Asked {
+    Put(u64, u64),
+    Remove(u64),
+    Get(u64),
+    Begin(usize, u64),
+    End(usize),
+}
+
+/// The map after each change, with the items and the hand of now, and the look-ups that run.
+#[derive(Drop)]
+pub(crate) struct Plain {
+    alloc: Global,
+    shape: Shape,
+    changes: Vec<(u64, Entry)>,
+    versions: u64,
+    items: Vec<Item>,
+    hand: usize,
+    look_ups: [Option<LookUp>; 2],
+}
+
+/// The number of moves in the line of a put.
+fn moves_in(told: &str) -> Option<u64> {
+    told.split(' ').nth(4)?.parse::<u64>().ok()
+}
+
+/// The moment in the line of a look-up.
+fn moment_in(told: &str) -> Option<usize> {
+    told.split_once(" at ")?.1.parse::<usize>().ok()
+}
+
+impl Plain {
+    pub(crate) fn new(alloc: Global, shape: Shape) -> Result<Plain, AllocError> {
+        Ok(Plain {
+            alloc,
+            shape,
+            changes: Vec::new(alloc),
+            versions: 0,
+            items: vec![in alloc; Item::default(); shape.items as usize]?,
+            hand: 0,
+            look_ups: [None; 2],
+        })
+    }
+
+    /// What the key had after so many changes.
+    fn entry(&self, key: u64, changes: usize) -> Entry {
+        let made = self.changes.as_slice().get(..changes)?;
+        let last = made.iter().rev().find(|change| change.0 == key)?;
+        last.1
+    }
+
+    fn change(&mut self, key: u64, entry: Entry) -> Result<(), AllocError> {
+        self.changes.push((key, entry))?;
+        self.versions = self.versions.saturating_add(2);
+        Ok(())
+    }
+
+    /// Whether so many version changes more would pass the limit.
+    fn is_spent(&self, more: u64) -> bool {
+        self.versions.saturating_add(more) > self.shape.limit
+    }
+
+    fn set(&mut self, item: usize, key: Option<u64>, marked: bool) {
+        if let Some(place) = self.items.get_mut(item) {
+            *place = Item { key, marked };
+        }
+    }
+
+    fn mark(&mut self, item: usize) {
+        if let Some(place) = self.items.get_mut(item) {
+            place.marked = true;
+        }
+    }
+
+    /// The first free item.
+    fn free(&self) -> Option<usize> {
+        self.items.iter().position(|item| item.key.is_none())
+    }
+
+    /// The item at which the hand ends, and its key.
+    fn victim(&mut self) -> Option<(usize, u64)> {
+        for _ in 0..self.items.len().saturating_mul(2) {
+            let item = self.hand;
+            let next = item.saturating_add(1);
+            self.hand = if next < self.items.len() { next } else { 0 };
+            let place = self.items.get_mut(item)?;
+            if !place.marked {
+                return place.key.map(|key| (item, key));
+            }
+            place.marked = false;
+        }
+        None
+    }
+
+    /// How many keys the map has.
+    fn held(&self) -> usize {
+        self.items.iter().filter(|item| item.key.is_some()).count()
+    }
+
+    /// How many keys the table can hold.
+    fn slots(&self) -> usize {
+        (self.shape.buckets as usize).saturating_mul(4)
+    }
+
+    /// Stores a new key, for which another one goes where no item is free.
+    fn store(&mut self, key: u64, value: u64, told: &str) -> Result<bool, AllocError> {
+        let Some(moves) = moves_in(told) else {
+            return Ok(false);
+        };
+        // No key has to move while the slots of two buckets can't all be taken.
+        let most = if self.held() < 8 {
+            0
+        } else {
+            u64::from(self.shape.depth)
+        };
+        let (item, evicted) = match self.free() {
+            Some(item) => (item, None),
+            None => match self.victim() {
+                Some((item, old)) => (item, Some(old)),
+                None => return Ok(false),
+            },
+        };
+        if let Some(old) = evicted {
+            self.change(old, None)?;
+        }
+        self.change(key, Some((value, item)))?;
+        self.versions = self.versions.saturating_add(moves.saturating_mul(2));
+        self.set(item, Some(key), true);
+        let at = self.changes.len();
+        let line = match evicted {
+            None => format!(in self.alloc; "stored at {at} moves {moves}")?,
+            Some(old) => format!(in self.alloc; "stored at {at} moves {moves} evicted {old}")?,
+        };
+        Ok(moves <= most && line.as_str() == told)
+    }
+
+    fn put(&mut self, key: u64, value: u64, told: &str) -> Result<bool, AllocError> {
+        let most = u64::from(self.shape.depth)
+            .saturating_add(2)
+            .saturating_mul(2);
+        if self.is_spent(most) {
+            return Ok(told == "refused spent");
+        }
+        if let Some((_, item)) = self.entry(key, self.changes.len()) {
+            self.change(key, Some((value, item)))?;
+            self.mark(item);
+            let at = self.changes.len();
+            let line = format!(in self.alloc; "renewed at {at}")?;
+            return Ok(line.as_str() == told);
+        }
+        // Both buckets of the key have to be full, and no way leads to a hole where the whole table is.
+        let held = self.held();
+        let is_refused = told == "refused no path";
+        if is_refused || held == self.slots() {
+            return Ok(is_refused && held >= 8);
+        }
+        self.store(key, value, told)
+    }
+
+    fn remove(&mut self, key: u64, told: &str) -> Result<bool, AllocError> {
+        if self.is_spent(2) {
+            return Ok(told == "refused spent");
+        }
+        let at = self.changes.len();
+        let line = match self.entry(key, at) {
+            None => format!(in self.alloc; "not there at {at}")?,
+            Some((_, item)) => {
+                self.change(key, None)?;
+                if let Some(place) = self.items.get_mut(item) {
+                    place.key = None;
+                }
+                let at = self.changes.len();
+                format!(in self.alloc; "removed at {at}")?
+            }
+        };
+        Ok(line.as_str() == told)
+    }
+
+    /// Marks the item that the key had after so many changes; the line of the look-up that found it.
+    fn find(&mut self, key: u64, at: usize) -> Result<String, AllocError> {
+        match self.entry(key, at) {
+            None => format!(in self.alloc; "absent at {at}"),
+            Some((value, item)) => {
+                self.mark(item);
+                format!(in self.alloc; "found {value} at {at}")
+            }
+        }
+    }
+
+    fn get(&mut self, key: u64, told: &str) -> Result<bool, AllocError> {
+        let at = self.changes.len();
+        let line = self.find(key, at)?;
+        Ok(line.as_str() == told)
+    }
+
+    fn begin(&mut self, reader: usize, key: u64) -> bool {
+        let look_up = LookUp {
+            key,
+            changes: self.changes.len(),
+            versions: self.versions,
+        };
+        match self.look_ups.get_mut(reader) {
+            None => false,
+            Some(place) => {
+                *place = Some(look_up);
+                true
+            }
+        }
+    }
+
+    fn end(&mut self, reader: usize, told: &str) -> Result<bool, AllocError> {
+        let start = format!(in self.alloc; "reader {reader} ")?;
+        let Some(told) = told.strip_prefix(start.as_str()) else {
+            return Ok(false);
+        };
+        let Some(Some(look_up)) = self.look_ups.get(reader).copied() else {
+            return Ok(false);
+        };
+        if told == "busy" {
+            return Ok(self.versions > look_up.versions);
+        }
+        match moment_in(told) {
+            None => Ok(false),
+            Some(at) => {
+                let line = self.find(look_up.key, at)?;
+                let held = look_up.changes <= at && at <= self.changes.len();
+                Ok(held && line.as_str() == told)
+            }
+        }
+    }
+
+    /// The first line that is not answered as the map says.
+    pub(crate) fn first_wrong(
+        &mut self,
+        asked: &[Asked],
+        text: &str,
+    ) -> Result<Option<usize>, AllocError> {
+        let mut lines = text.lines();
+        for (number, line) in asked.iter().enumerate() {
+            let told = match *line {
+                Asked::Begin(_, _) => None,
+                _ => lines.next(),
+            };
+            if !self.allows(*line, told)? {
+                return Ok(Some(number));
+            }
+        }
+        Ok(match lines.next() {
+            None => None,
+            Some(_) => Some(asked.len()),
+        })
+    }
+
+    fn allows(&mut self, asked: Asked, told: Option<&str>) -> Result<bool, AllocError> {
+        match (asked, told) {
+            (Asked::Begin(reader, key), None) => Ok(self.begin(reader, key)),
+            (Asked::Put(key, value), Some(told)) => self.put(key, value, told),
+            (Asked::Remove(key), Some(told)) => self.remove(key, told),
+            (Asked::Get(key), Some(told)) => self.get(key, told),
+            (Asked::End(reader), Some(told)) => self.end(reader, told),
+            _ => Ok(false),
+        }
+    }
+}

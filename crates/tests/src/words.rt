@@ -1,0 +1,127 @@
+//! Shapes and keys, beside values that come from elsewhere.
+use mc_words::{Mix, Shape, ShapeError};
+use std::alloc::AllocError;
+
+/// A shape of so many buckets and items, with one stripe and no displacements.
+fn shape(buckets: u32, items: u32, mix: Mix) -> Shape {
+    Shape {
+        buckets,
+        items,
+        stripes: 1,
+        depth: 0,
+        tries: 2,
+        limit: 1 << 62,
+        mix,
+    }
+}
+
+#[test]
+fn a_key_has_these_parts(rt: HostRuntime) -> Result<(), ShapeError> {
+    // Mixed, key 1 is 0xb456_bcfc_34c2_cb2c.
+    let large = shape(1 << 20, 16, Mix::Fmix).check()?;
+    assert_eq!(rt; (large.tag(0), large.first(0)), (0, 0));
+    assert_eq!(rt; (large.tag(1), large.first(1)), (0xb4, 0x2_cb2c));
+    for (key, mix, tag, first, second) in [
+        (1, Mix::Fmix, 180, 0, 1),
+        (0, Mix::Plain, 0, 0, 1),
+        (72_057_594_037_927_936, Mix::Plain, 1, 0, 3),
+        (18_446_744_073_709_551_615, Mix::Plain, 255, 3, 0),
+        (4_294_967_296, Mix::Plain, 0, 0, 1),
+    ] {
+        let checked = shape(4, 16, mix).check()?;
+        assert_eq!(rt; checked.tag(key), tag, "the tag of {key}");
+        assert_eq!(rt; checked.first(key), first, "the first bucket of {key}");
+        let alt = checked.alt(checked.first(key), checked.tag(key));
+        assert_eq!(rt; alt, second, "the second bucket of {key}");
+        assert_eq!(rt; checked.stripe(key), 0, "the stripe of {key}");
+    }
+    Ok(())
+}
+
+#[test]
+fn the_buckets_of_a_tag_are_so_far_apart(rt: HostRuntime) -> Result<(), ShapeError> {
+    let many = shape(1024, 16, Mix::Plain).check()?;
+    for (tag, offset) in [(0, 405), (1, 191), (255, 107)] {
+        let zero = many.first(0);
+        assert_eq!(rt; many.alt(zero, tag), offset, "tag {tag} of 1024");
+    }
+    let four = shape(4, 16, Mix::Plain).check()?;
+    for tag in 0..=255u8 {
+        let offset = if tag % 2 == 0 { 1 } else { 3 };
+        let zero = four.first(0);
+        assert_eq!(rt; four.alt(zero, tag), offset, "tag {tag} of four");
+    }
+    for (tag, word) in [(180, 773_094_113_281), (0, 1)] {
+        assert_eq!(rt; four.slot_word(tag, 0), word);
+        assert!(rt; four.slot_parts(word) == Some((tag, 0)));
+    }
+    assert!(rt; four.slot_parts(0) == None);
+    assert_eq!(rt; four.words::<1>(), 66);
+    Ok(())
+}
+
+#[test]
+fn a_checked_shape_is_kept(rt: HostRuntime) -> Result<(), ShapeError> {
+    for wanted in [
+        shape(2, 1, Mix::Plain),
+        shape(4, 16, Mix::Fmix),
+        shape(1 << 20, 1 << 22, Mix::Plain),
+        Shape {
+            depth: 8,
+            tries: 1,
+            limit: 0,
+            ..shape(4, 16, Mix::Plain)
+        },
+        Shape {
+            tries: 64,
+            ..shape(4, 16, Mix::Plain)
+        },
+    ] {
+        assert!(rt; wanted.check()?.shape() == wanted);
+    }
+    Ok(())
+}
+
+#[test]
+fn the_first_fault_of_a_shape_is_told(rt: HostRuntime) -> Result<(), AllocError> {
+    let alloc = rt.alloc();
+    let mut faulty = Shape {
+        buckets: 3,
+        items: 0,
+        stripes: 3,
+        depth: 9,
+        tries: 0,
+        limit: (1 << 62) + 1,
+        mix: Mix::Plain,
+    };
+    for (fault, text) in [
+        (
+            ShapeError::Buckets,
+            "buckets must be a power of two from 2 to 1048576",
+        ),
+        (
+            ShapeError::Items,
+            "items must be from 1 to four times the buckets",
+        ),
+        (ShapeError::Stripes, "stripes must be 1"),
+        (ShapeError::Depth, "depth must be from 0 to 8"),
+        (ShapeError::Tries, "tries must be from 1 to 64"),
+        (
+            ShapeError::Limit,
+            "limit must be from 0 to 4611686018427387904",
+        ),
+    ] {
+        assert!(rt; faulty.check() == Err(fault));
+        assert_eq!(rt; format!(in alloc; "{fault}")?.as_str(), text);
+        match fault {
+            ShapeError::Buckets => faulty.buckets = 4,
+            ShapeError::Items => faulty.items = 16,
+            ShapeError::Stripes => faulty.stripes = 1,
+            ShapeError::Depth => faulty.depth = 0,
+            ShapeError::Tries => faulty.tries = 2,
+            ShapeError::Limit => faulty.limit = 0,
+        }
+    }
+    assert!(rt; faulty.check().is_ok());
+    Ok(())
+}

@@ -1,0 +1,159 @@
+//! New worlds and short lists of events, with the shape that the stepper takes by default.
+use mc_core::{Act, Change, Deed, Done, Event, Reply, Stepped, Unlawful, World, WorldError, run};
+use mc_words::{Checked, Mix, Place, Shape, ShapeError};
+use std::test::Fail;
+
+fn checked_with(limit: u64) -> Result<Checked, ShapeError> {
+    let shape = Shape {
+        buckets: 4,
+        items: 16,
+        stripes: 1,
+        depth: 2,
+        tries: 2,
+        limit,
+        mix: Mix::Plain,
+    };
+    shape.check()
+}
+
+/// A word of the world, if it has so many.
+fn word_at(world: &World<1>, n: usize) -> Option<u64> {
+    if n < world.checked().words::<1>() {
+        Some(world.word(n))
+    } else {
+        None
+    }
+}
+
+const LIMIT: u64 = 4611686018427387904;
+
+const FIRST: Place = Place { bucket: 0, slot: 0 };
+
+#[test]
+fn a_new_world_refuses_a_write_and_an_open_past_the_limit(rt: HostRuntime) -> Result<(), Fail> {
+    let checked = checked_with(1)?;
+    let mut world: World<1> = World::new(rt.alloc(), &checked, 2)?;
+    let refused = world.step(Event::Write(Act::Item(0, 0, 0)));
+    assert_eq!(rt; refused, Err(Unlawful::NotLawful));
+    let refused = world.step(Event::Write(Act::Open(0, Deed::Fill)));
+    assert_eq!(rt; refused, Err(Unlawful::Limit));
+    assert_eq!(rt; world.history().len(), 0);
+    for n in 0..66 {
+        assert_eq!(rt; word_at(&world, n), Some(0), "word {n}");
+    }
+    assert_eq!(rt; word_at(&world, 66), None);
+    Ok(())
+}
+
+#[test]
+fn a_list_of_events_is_run_up_to_the_first_refused(rt: HostRuntime) -> Result<(), Fail> {
+    let checked = checked_with(LIMIT)?;
+    let mut world: World<1> = World::new(rt.alloc(), &checked, 1)?;
+    let mut events = [Event::Read(0); 13];
+    events[0] = Event::Begin(0, 0);
+    let made = run(rt.alloc(), &mut world, &events[..12])?;
+    let done = Done {
+        reader: 0,
+        key: 0,
+        reply: Reply::Absent { at: 0 },
+        first: 1,
+        last: 11,
+    };
+    assert_eq!(rt; made.done.as_slice(), [done].as_slice());
+    assert_eq!(rt; made.stopped, None);
+    events[4] = Event::Begin(0, 0);
+    let made = run(rt.alloc(), &mut world, &events)?;
+    assert_eq!(rt; made.done.len(), 0);
+    assert_eq!(rt; made.stopped, Some((4, Unlawful::StillRunning)));
+    Ok(())
+}
+
+/// The acts of a fill of key 0 and of its removal.
+const CHANGES: [Act; 10] = [
+    Act::Open(0, Deed::Fill),
+    Act::Item(0, 0, 0),
+    Act::Item(0, 1, 7),
+    Act::Slot(FIRST, 1),
+    Act::Moment,
+    Act::Close,
+    Act::Open(0, Deed::Remove),
+    Act::Slot(FIRST, 0),
+    Act::Moment,
+    Act::Close,
+];
+
+#[test]
+fn a_long_list_of_events_is_run(rt: HostRuntime) -> Result<(), Fail> {
+    let alloc = rt.alloc();
+    let checked = checked_with(LIMIT)?;
+    let mut world: World<1> = World::new(alloc, &checked, 1)?;
+    let mut events = Vec::new(alloc);
+    for _ in 0..1000 {
+        for act in CHANGES {
+            events.push(Event::Write(act))?;
+        }
+    }
+    let made = run(alloc, &mut world, events.as_slice())?;
+    assert_eq!(rt; made.stopped, None);
+    assert_eq!(rt; made.done.len(), 0);
+    assert_eq!(rt; world.history().len(), 2000);
+    for n in 0..events.len() {
+        events[n] = if n % 12 == 0 {
+            Event::Begin(0, 0)
+        } else {
+            Event::Read(0)
+        };
+    }
+    let made = run(alloc, &mut world, events.as_slice())?;
+    assert_eq!(rt; made.stopped, None);
+    assert_eq!(rt; made.done.len(), 833);
+    for done in made.done.as_slice() {
+        assert_eq!(rt; done.reply, Reply::Absent { at: 2000 });
+    }
+    Ok(())
+}
+
+#[test]
+fn a_fill_and_a_lookup(rt: HostRuntime) -> Result<(), Fail> {
+    let checked = checked_with(LIMIT)?;
+    let mut world: World<1> = World::new(rt.alloc(), &checked, 1)?;
+    for act in &CHANGES[..6] {
+        assert_eq!(rt; world.step(Event::Write(*act)), Ok(Stepped::Nothing));
+    }
+    assert_eq!(rt;
+        world.step(Event::Write(Act::Mark(0))),
+        Ok(Stepped::Nothing)
+    );
+    assert_eq!(rt; word_at(&world, 0), Some(1));
+    assert_eq!(rt; word_at(&world, 1), Some(2));
+    assert_eq!(rt; word_at(&world, 50), Some(1));
+    assert_eq!(rt; world.history(), [Change::Put(0, [7])].as_slice());
+    assert_eq!(rt; world.step(Event::Begin(0, 0)), Ok(Stepped::Nothing));
+    for word in [2, 1, 0, 7, 1, 2] {
+        assert_eq!(rt; world.step(Event::Read(0)), Ok(Stepped::Word(word)));
+    }
+    let done = Done {
+        reader: 0,
+        key: 0,
+        reply: Reply::Found { value: [7], at: 1 },
+        first: 8,
+        last: 14,
+    };
+    assert_eq!(rt; world.step(Event::Read(0)), Ok(Stepped::Done(done)));
+    Ok(())
+}
+
+#[test]
+fn readers_are_from_1_to_1024(rt: HostRuntime) -> Result<(), Fail> {
+    let checked = checked_with(LIMIT)?;
+    for readers in [0, 1025] {
+        let world: Result<World<1>, WorldError> = World::new(rt.alloc(), &checked, readers);
+        assert!(rt; matches!(&world, Err(WorldError::Readers)), "{readers}");
+    }
+    let mut world: World<1> = World::new(rt.alloc(), &checked, 1024)?;
+    assert_eq!(rt; world.step(Event::Begin(1023, 0)), Ok(Stepped::Nothing));
+    assert_eq!(rt; world.step(Event::Begin(1024, 0)), Err(Unlawful::NoReader));
+    assert_eq!(rt; world.step(Event::Read(1024)), Err(Unlawful::NoReader));
+    assert_eq!(rt; world.step(Event::Read(0)), Err(Unlawful::NotLawful));
+    Ok(())
+}

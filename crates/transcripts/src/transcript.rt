@@ -1,0 +1,77 @@
+//! A script with its answers.
+use crate::escape::add_line;
+use mc_load::run_step;
+use std::alloc::{AllocError, Global};
+use std::str;
+
+/// What a run writes, what it tells on standard error, and its status.
+#[derive(PartialEq, Drop)]
+pub(crate) struct Outcome {
+    pub(crate) output: Vec<u8>,
+    pub(crate) errors: Vec<u8>,
+    pub(crate) status: u8,
+}
+
+/// A transcript as far as it was read: its command line, the lines of its script, and what is due for them.
+#[derive(Drop)]
+pub(crate) struct Transcript {
+    alloc: Global,
+    command: String,
+    script: Vec<u8>,
+    pub(crate) due: Outcome,
+}
+
+impl Transcript {
+    pub(crate) fn new(alloc: Global, command: &str) -> Result<Transcript, AllocError> {
+        Ok(Transcript {
+            alloc,
+            command: String::from_str(alloc, command)?,
+            script: Vec::new(alloc),
+            due: Outcome {
+                output: Vec::new(alloc),
+                errors: Vec::new(alloc),
+                status: 0,
+            },
+        })
+    }
+
+    /// Adds a line of the script, or one that is due for it; `false` where it is neither.
+    pub(crate) fn add(&mut self, line: &[u8]) -> Result<bool, AllocError> {
+        match line {
+            [b'>', b' ', text @ ..] => add_line(&mut self.script, text),
+            [b'!', b' ', text @ ..] => add_line(&mut self.due.errors, text),
+            [b'=', b' ', status @ ..] => Ok(self.set_status(status)),
+            [b'>'] => add_line(&mut self.script, b""),
+            [b'!'] => add_line(&mut self.due.errors, b""),
+            text => add_line(&mut self.due.output, text),
+        }
+    }
+
+    fn set_status(&mut self, text: &[u8]) -> bool {
+        let status = str::from_utf8(text)
+            .ok()
+            .and_then(|digits| digits.parse::<u8>().ok());
+        self.due.status = status.unwrap_or(0);
+        status.is_some()
+    }
+
+    /// Runs `mcstep` with the lines of the script so far.
+    pub(crate) fn run(&self) -> Result<Outcome, AllocError> {
+        let words: Vec<&str> = self.command.as_str().split(' ').collect(self.alloc)?;
+        let mut input = self.script.as_slice();
+        let mut output = Vec::new(self.alloc);
+        let mut errors = Vec::new(self.alloc);
+        let status = run_step(
+            self.alloc,
+            words.as_slice(),
+            &mut input,
+            &mut output,
+            &mut errors,
+        );
+        Ok(Outcome {
+            output,
+            errors,
+            status,
+        })
+    }
+}
