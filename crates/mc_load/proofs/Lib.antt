@@ -1,2 +1,2 @@
-pub mod Telling
-pub mod Running
+pub mod ToldLines
+pub mod WholeRuns

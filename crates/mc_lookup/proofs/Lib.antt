@@ -1,5 +1,5 @@
-pub mod Forth
-pub mod Back
-pub mod Feeding
-pub mod Taking
-pub mod Course
+pub mod Prepend
+pub mod Split
+pub mod StageLaws
+pub mod StageSteps
+pub mod NextAccess

@@ -1,6 +1,6 @@
-pub mod Replaying
-pub mod Stepping
-pub mod Bounds
-pub mod Calling
-pub mod Accessing
-pub mod Commanding
+pub mod ScriptLines
+pub mod StepAfterStep
+pub mod FewAccesses
+pub mod WriterCalls
+pub mod ReaderLines
+pub mod CommandLines

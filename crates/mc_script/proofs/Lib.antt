@@ -1,7 +1,7 @@
-pub mod Written
-pub mod Cut
-pub mod Reading
+pub mod Unwritten
+pub mod FirstLines
+pub mod ReadLines
 pub mod Lines
-pub mod Parting
+pub mod LineWords
 pub mod Digits
-pub mod Counting
+pub mod NumberLists

@@ -1,9 +1,9 @@
-pub mod Standing
-pub mod Readable
-pub mod Pushed
+pub mod KeySlots
+pub mod SlotWords
+pub mod Queue
 pub mod Levels
-pub mod Least
-pub mod Way
-pub mod Circling
-pub mod Cutting
-pub mod Freeing
+pub mod Shortest
+pub mod Trace
+pub mod SweepReadings
+pub mod CutChains
+pub mod FreeItems

@@ -10,7 +10,7 @@ use Rattle.mc_theory.specs.declared.act.Act.{Act}
 use Rattle.mc_theory.specs.declared.act.Act.TheVariants.{Open, Slot, Item, Moment, Close, Hand, Mark}
 use Rattle.mc_theory.specs.declared.act.Deed.{Deed}
 use Rattle.mc_theory.specs.declared.act.Deed.TheVariants as deed
-use Rattle.mc_theory.proofs.Fronts.{after_all-append}
+use Rattle.mc_theory.proofs.Lists.Fronts.{after_all-append}
 use Rattle.tests.specs.Drivers.{key_after, IsTied}
 
 opened_running : (k : ℕ) (d : Deed) → running (opened k d) ≡ Some k

@@ -4,8 +4,8 @@ use Rattle.mc_core.specs.Seen.{Shown, Shows}
 use Rattle.std.specs.Prelude.{All}
 use Rattle.mc_words.specs.Shapes.{IsShape}
 use Rattle.mc_theory.specs.Worlds.{World, HasRun, IsReached, IsTrueEnd}
-use Rattle.mc_core.proofs.Stepping.{reached_append, reached_true}
-use Rattle.mc_core.proofs.Listing.{has_run, reached_made}
+use Rattle.mc_core.proofs.WorldSteps.{reached_append, reached_true}
+use Rattle.mc_core.proofs.EventLists.{has_run, reached_made}
 use Rattle.mc_core.proofs.events.run.Goals as goal
 
 pub invariant_of-world-2 : goal.invariant_of-world-2

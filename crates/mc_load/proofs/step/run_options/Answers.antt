@@ -1,5 +1,5 @@
 use Rattle.std.proofs.Common.{◌≡◌, arith}
-use Rattle.mc_load.proofs.Running.{runs_accepted}
+use Rattle.mc_load.proofs.WholeRuns.{runs_accepted}
 use Rattle.mc_load.proofs.step.run_options.Goals as goal
 
 pub returns-else-options-eq1 : goal.returns-else-options-eq1

@@ -1,6 +1,6 @@
 use Rattle.std.proofs.Common.{◌∙◌, rules}
 use Rattle.mc_load.specs.Programs.{stream}
-use Rattle.mc_load.proofs.Telling.{told}
+use Rattle.mc_load.proofs.ToldLines.{told}
 use Rattle.mc_load.proofs.told.tell.Goals as goal
 
 pub returns-then-is_ok : goal.returns-then-is_ok

@@ -1,5 +1,5 @@
 use Rattle.mc_lookup.proofs.laws.next_is_determined.Goals as goal
-use Rattle.mc_lookup.proofs.Course.{next_is_determined}
+use Rattle.mc_lookup.proofs.NextAccess.{next_is_determined}
 
 pub returns : goal.returns
 returns g c = next_is_determined g.row.V

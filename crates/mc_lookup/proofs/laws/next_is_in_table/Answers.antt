@@ -1,4 +1,4 @@
-use Rattle.mc_lookup.proofs.Course.{next_is_in_table}
+use Rattle.mc_lookup.proofs.NextAccess.{next_is_in_table}
 use Rattle.mc_lookup.proofs.laws.next_is_in_table.Goals as goal
 
 pub returns : goal.returns

@@ -1,8 +1,8 @@
 use Rattle.std.proofs.Common.{List, sym, subst, arith}
 use Rattle.mc_theory.specs.declared.act.Act.{Act}
 use Rattle.mc_plan.specs.Making.{Fills}
-use Rattle.mc_plan.proofs.Filling.{fills}
-use Rattle.mc_plan.proofs.Values.{payload_of, plan_is}
+use Rattle.mc_plan.proofs.Deeds.Fills.{fills}
+use Rattle.mc_plan.proofs.Deeds.Values.{payload_of, plan_is}
 use Rattle.mc_plan.proofs.fill.plan_fill.Goals as goal
 
 pub returns-clause-law : goal.returns-clause-law

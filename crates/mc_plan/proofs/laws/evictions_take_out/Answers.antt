@@ -1,4 +1,4 @@
-use Rattle.mc_plan.proofs.Removing.{evicts}
+use Rattle.mc_plan.proofs.Deeds.Removals.{evicts}
 use Rattle.mc_plan.proofs.laws.evictions_take_out.Goals as goal
 
 pub returns : goal.returns

@@ -1,4 +1,4 @@
-use Rattle.mc_plan.proofs.Filling.{fills}
+use Rattle.mc_plan.proofs.Deeds.Fills.{fills}
 use Rattle.mc_plan.proofs.laws.fills_put.Goals as goal
 
 pub returns : goal.returns

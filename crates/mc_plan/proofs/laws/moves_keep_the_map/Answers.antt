@@ -1,4 +1,4 @@
-use Rattle.mc_plan.proofs.Moving.{moves}
+use Rattle.mc_plan.proofs.Deeds.Moves.{moves}
 use Rattle.mc_plan.proofs.laws.moves_keep_the_map.Goals as goal
 
 pub returns : goal.returns

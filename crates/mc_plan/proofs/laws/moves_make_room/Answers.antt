@@ -1,4 +1,4 @@
-use Rattle.mc_plan.proofs.Displacing.{room_made}
+use Rattle.mc_plan.proofs.Puts.PathMoves.{room_made}
 use Rattle.mc_plan.proofs.laws.moves_make_room.Goals as goal
 
 pub returns : goal.returns

@@ -1,4 +1,4 @@
-use Rattle.mc_plan.proofs.Room.{puts_room}
+use Rattle.mc_plan.proofs.Puts.MadeRoom.{puts_room}
 use Rattle.mc_plan.proofs.laws.puts_make_room.Goals as goal
 
 pub returns : goal.returns

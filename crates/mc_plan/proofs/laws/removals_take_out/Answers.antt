@@ -1,4 +1,4 @@
-use Rattle.mc_plan.proofs.Removing.{removes}
+use Rattle.mc_plan.proofs.Deeds.Removals.{removes}
 use Rattle.mc_plan.proofs.laws.removals_take_out.Goals as goal
 
 pub returns : goal.returns

@@ -1,4 +1,4 @@
-use Rattle.mc_plan.proofs.Renewing.{renews}
+use Rattle.mc_plan.proofs.Deeds.Renewals.{renews}
 use Rattle.mc_plan.proofs.laws.renewals_put.Goals as goal
 
 pub returns : goal.returns

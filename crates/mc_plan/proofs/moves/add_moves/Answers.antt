@@ -2,7 +2,7 @@ use Rattle.std.proofs.Common.{◌≡◌, ◌+◌, ◌-◌, ◌<◌, ◌∙◌, L
 use Rattle.mc_words.specs.declared.place.Place.{Place}
 use Rattle.mc_words.specs.Places.{slot, item, slot_number}
 use Rattle.mc_plan.specs.Plans.{item_in}
-use Rattle.mc_plan.proofs.Steps.{IsMadeFrom, occupied_at, named_at, path_from, made_more}
+use Rattle.mc_plan.proofs.Puts.PathSteps.{IsMadeFrom, occupied_at, named_at, path_from, made_more}
 use Rattle.mc_plan.proofs.moves.add_moves.Goals as goal
 
 pub slot_at-word-requires-clause-place : goal.slot_at-word-requires-clause-place

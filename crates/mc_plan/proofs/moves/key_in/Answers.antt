@@ -1,4 +1,4 @@
-use Rattle.mc_plan.proofs.Steps.{item_in-named}
+use Rattle.mc_plan.proofs.Puts.PathSteps.{item_in-named}
 use Rattle.mc_plan.proofs.moves.key_in.Goals as goal
 
 pub overflow_sub-item : goal.overflow_sub-item

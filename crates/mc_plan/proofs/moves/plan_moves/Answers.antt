@@ -1,9 +1,9 @@
 use Rattle.std.proofs.Common.{List, sym, subst}
 use Rattle.mc_theory.specs.declared.act.Act.{Act}
 use Rattle.mc_plan.specs.Moves.{MakesRoom}
-use Rattle.mc_plan.proofs.Displacing.{room_made}
-use Rattle.mc_plan.proofs.Steps.{chain_taken}
-use Rattle.mc_plan.proofs.Values.{plan_is}
+use Rattle.mc_plan.proofs.Puts.PathMoves.{room_made}
+use Rattle.mc_plan.proofs.Puts.PathSteps.{chain_taken}
+use Rattle.mc_plan.proofs.Deeds.Values.{plan_is}
 use Rattle.mc_plan.proofs.moves.plan_moves.Goals as goal
 
 pub add_moves-requires-clause-taken : goal.add_moves-requires-clause-taken

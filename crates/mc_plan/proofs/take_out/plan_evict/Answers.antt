@@ -1,8 +1,8 @@
 use Rattle.std.proofs.Common.{List, sym, subst, arith}
 use Rattle.mc_theory.specs.declared.act.Act.{Act}
 use Rattle.mc_plan.specs.Making.{Evicts}
-use Rattle.mc_plan.proofs.Removing.{evicts}
-use Rattle.mc_plan.proofs.Values.{plan_is}
+use Rattle.mc_plan.proofs.Deeds.Removals.{evicts}
+use Rattle.mc_plan.proofs.Deeds.Values.{plan_is}
 use Rattle.mc_plan.proofs.take_out.plan_evict.Goals as goal
 
 pub returns-clause-law : goal.returns-clause-law

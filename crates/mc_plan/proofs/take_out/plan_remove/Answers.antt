@@ -1,8 +1,8 @@
 use Rattle.std.proofs.Common.{List, sym, subst, arith}
 use Rattle.mc_theory.specs.declared.act.Act.{Act}
 use Rattle.mc_plan.specs.Making.{Removes}
-use Rattle.mc_plan.proofs.Removing.{removes}
-use Rattle.mc_plan.proofs.Values.{plan_is}
+use Rattle.mc_plan.proofs.Deeds.Removals.{removes}
+use Rattle.mc_plan.proofs.Deeds.Values.{plan_is}
 use Rattle.mc_plan.proofs.take_out.plan_remove.Goals as goal
 
 pub returns-clause-law : goal.returns-clause-law

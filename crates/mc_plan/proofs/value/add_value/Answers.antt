@@ -1,5 +1,5 @@
 use Rattle.std.proofs.Common.{◌+◌, ◌∙◌, arith, refl}
-use Rattle.mc_plan.proofs.Values.{value_step, values_done, are_words}
+use Rattle.mc_plan.proofs.Deeds.Values.{value_step, values_done, are_words}
 use Rattle.mc_plan.proofs.value.add_value.Goals as goal
 
 pub loop-j-preserved : goal.loop-j-preserved

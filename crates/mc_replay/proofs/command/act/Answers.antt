@@ -4,7 +4,7 @@ use Rattle.mc_plan.specs.declared.answer.Answer.{Answer}
 use Rattle.mc_replay.specs.Players.{ActsOnce, MakesAct}
 use Rattle.mc_replay.specs.Texts.{answer_line}
 use Rattle.mc_replay.specs.declared.player.Player.{Player}
-use Rattle.mc_replay.proofs.Commanding.{on_ok, runs_in, act_goes_on, act_ends}
+use Rattle.mc_replay.proofs.CommandLines.{on_ok, runs_in, act_goes_on, act_ends}
 use Rattle.mc_replay.proofs.command.act.Goals as goal
 
 pub returns-in-Ok-Some-clause-done : goal.returns-in-Ok-Some-clause-done

@@ -4,9 +4,9 @@ use Rattle.mc_replay.specs.Replay.{ActDoes, ActsDo}
 use Rattle.mc_replay.specs.Players.{shape_in, most_steps}
 use Rattle.mc_replay.specs.declared.player.Player.{Player}
 use Rattle.mc_replay.specs.declared.fault.Fault.TheVariants.{NothingToStep}
-use Rattle.mc_replay.proofs.Accessing.{fits_more}
-use Rattle.mc_replay.proofs.Commanding.{idle_of, runs_of, runs_in}
-use Rattle.mc_replay.proofs.Stepping.{acts_push, acts_stop, left_over, one_more}
+use Rattle.mc_replay.proofs.ReaderLines.{fits_more}
+use Rattle.mc_replay.proofs.CommandLines.{idle_of, runs_of, runs_in}
+use Rattle.mc_replay.proofs.StepAfterStep.{acts_push, acts_stop, left_over, one_more}
 use Rattle.mc_replay.proofs.command.acts.Goals as goal
 
 pub returns-then-not-is_running : goal.returns-then-not-is_running

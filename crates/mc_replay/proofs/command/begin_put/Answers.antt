@@ -4,7 +4,7 @@ use Rattle.mc_replay.specs.Replay.{BeginDoes}
 use Rattle.mc_replay.specs.Players.{shape_in, most_steps, FitsStill}
 use Rattle.mc_replay.specs.Texts.{answer_line}
 use Rattle.mc_replay.specs.declared.player.Player.{Player}
-use Rattle.mc_replay.proofs.Commanding.{idle_of, still_running, told_as, begin_answered, begin_begun, idle_in, running_in}
+use Rattle.mc_replay.proofs.CommandLines.{idle_of, still_running, told_as, begin_answered, begin_begun, idle_in, running_in}
 use Rattle.mc_replay.proofs.command.begin_put.Goals as goal
 
 pub returns-then-is_running : goal.returns-then-is_running

@@ -3,7 +3,7 @@ use Rattle.mc_replay.specs.Replay.{GetDoes}
 use Rattle.mc_replay.specs.Players.{shape_in, most_steps, FitsStill}
 use Rattle.mc_replay.specs.Texts.{reply_line}
 use Rattle.mc_replay.specs.declared.player.Player.{Player}
-use Rattle.mc_replay.proofs.Commanding.{idle_of, still_running, told_as, get_done, idle_in}
+use Rattle.mc_replay.proofs.CommandLines.{idle_of, still_running, told_as, get_done, idle_in}
 use Rattle.mc_replay.proofs.command.get.Goals as goal
 
 pub returns-then-is_running : goal.returns-then-is_running

@@ -5,7 +5,7 @@ use Rattle.mc_replay.specs.Players.{shape_in, most_steps, FitsStill}
 use Rattle.mc_replay.specs.Texts.{answer_line}
 use Rattle.mc_replay.specs.declared.fault.Fault.TheVariants.{NoMemory}
 use Rattle.mc_replay.specs.declared.player.Player.{Player}
-use Rattle.mc_replay.proofs.Commanding.{idle_of, still_running, told_as, call_done, idle_in, wanted}
+use Rattle.mc_replay.proofs.CommandLines.{idle_of, still_running, told_as, call_done, idle_in, wanted}
 use Rattle.mc_replay.proofs.command.put.Goals as goal
 
 pub returns-then-is_running : goal.returns-then-is_running

@@ -5,8 +5,8 @@ use Rattle.mc_replay.specs.Players.{shape_in, most_before, FitsStill}
 use Rattle.mc_replay.specs.Steps.{DoesLine}
 use Rattle.mc_replay.specs.declared.fault.Fault.{Fault}
 use Rattle.mc_replay.specs.declared.player.Player.{Player}
-use Rattle.mc_replay.proofs.Accessing.{fits_more}
-use Rattle.mc_replay.proofs.Replaying.{line_skipped, line_too_many, line_faulty, line_does, one_line_more, has_room}
+use Rattle.mc_replay.proofs.ReaderLines.{fits_more}
+use Rattle.mc_replay.proofs.ScriptLines.{line_skipped, line_too_many, line_faulty, line_does, one_line_more, has_room}
 use Rattle.mc_replay.proofs.engine.do_line.Goals as goal
 
 pub returns-then-before-ge-MOST_LINES-clause-does : goal.returns-then-before-ge-MOST_LINES-clause-does

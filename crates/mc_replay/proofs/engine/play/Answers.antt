@@ -1,5 +1,5 @@
 use Rattle.mc_words.specs.Checks.{shape_of}
-use Rattle.mc_replay.proofs.Replaying.{replays_none}
+use Rattle.mc_replay.proofs.ScriptLines.{replays_none}
 use Rattle.mc_replay.proofs.engine.play.Goals as goal
 
 pub returns-in-Err : goal.returns-in-Err

@@ -4,7 +4,7 @@ use Rattle.mc_words.specs.declared.shape.Shape.{Shape}
 use Rattle.mc_replay.specs.Replay.{first_replay}
 use Rattle.mc_replay.specs.Players.{shape_in}
 use Rattle.mc_replay.specs.Steps.{PlaysKnown}
-use Rattle.mc_replay.proofs.Replaying.{known_none, known_more, replays_all, replays_part}
+use Rattle.mc_replay.proofs.ScriptLines.{known_none, known_more, replays_all, replays_part}
 use Rattle.mc_replay.proofs.engine.play_lines.Goals as goal
 
 pub lines-init : goal.lines-init

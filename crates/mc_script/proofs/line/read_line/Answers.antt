@@ -1,7 +1,7 @@
 use Rattle.std.proofs.Common.{◌≡◌, ◌≢◌, ◌≤◌, ◌∙◌, ◌++◌, ◌∷◌, [], length, length-append, true, false, Some, rules, arith}
 use Rattle.mc_script.specs.Lines.{is_over}
-use Rattle.mc_script.proofs.Cut.{fits}
-use Rattle.mc_script.proofs.Reading.{unfinished_more, gives_too_long_end, gives_last, gives_ended, gives_over}
+use Rattle.mc_script.proofs.FirstLines.{fits}
+use Rattle.mc_script.proofs.ReadLines.{unfinished_more, gives_too_long_end, gives_last, gives_ended, gives_over}
 use Rattle.mc_script.proofs.line.read_line.Goals as goal
 
 pub returns-then-len-gt-LONGEST-clause-gives : goal.returns-then-len-gt-LONGEST-clause-gives

@@ -1,5 +1,5 @@
 use Rattle.std.proofs.Common.{refl}
-use Rattle.mc_script.proofs.Counting.{numbers-nil}
+use Rattle.mc_script.proofs.NumberLists.{numbers-nil}
 use Rattle.mc_script.proofs.number.entry.Goals as goal
 
 pub returns-in-None : goal.returns-in-None

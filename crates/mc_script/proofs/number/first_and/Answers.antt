@@ -1,5 +1,5 @@
 use Rattle.std.proofs.Common.{◌≡◌, refl, rules}
-use Rattle.mc_script.proofs.Counting.{numbers-cons, with_first}
+use Rattle.mc_script.proofs.NumberLists.{numbers-cons, with_first}
 use Rattle.mc_script.specs.declared.command.LineFault.TheVariants.{BadNumber}
 use Rattle.mc_script.proofs.number.first_and.Goals as goal
 

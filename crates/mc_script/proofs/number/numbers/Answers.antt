@@ -1,6 +1,6 @@
 use Rattle.std.proofs.Common.{◌≡◌, ◌<◌, length, arith, sym, ◌∙◌, length-set, set}
-use Rattle.mc_script.proofs.Counting.{counted_number, counted_other, too_few, too_many, not_all, all_numbers}
-use Rattle.mc_script.proofs.Parting.{none_found, some_found}
+use Rattle.mc_script.proofs.NumberLists.{counted_number, counted_other, too_few, too_many, not_all, all_numbers}
+use Rattle.mc_script.proofs.LineWords.{none_found, some_found}
 use Rattle.mc_script.proofs.number.numbers.Goals as goal
 use Rattle.mc_script.proofs.number.numbers.Goals.{in-Some-number, in-None-number}
 

@@ -1,6 +1,6 @@
 use Rattle.std.proofs.Common.{◌≡◌, length}
 use Rattle.mc_script.specs.Words.{words_of}
-use Rattle.mc_script.proofs.Counting.{Counted}
+use Rattle.mc_script.proofs.NumberLists.{Counted}
 use Rattle.mc_script.proofs.number.numbers.Given as goal
 
 abbrev pub invariant-words : goal.invariant-words

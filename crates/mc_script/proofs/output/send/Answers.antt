@@ -1,6 +1,6 @@
 use Rattle.std.proofs.Common.{◌≡◌, take, arith, rules, take-add, append-nil, length-drop}
 use Rattle.std.proofs.KnownBytes.{Appends-kept, Appends-nil, Appends-trans}
-use Rattle.mc_script.proofs.Written.{slice-end}
+use Rattle.mc_script.proofs.Unwritten.{slice-end}
 use Rattle.mc_script.proofs.output.send.Goals as goal
 use Rattle.mc_script.proofs.output.send.Goals.{in-Ok, in-Err+else-ne}
 

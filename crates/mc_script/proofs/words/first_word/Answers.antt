@@ -2,7 +2,7 @@ use Rattle.std.proofs.Common.{◌≡◌, ap, ◌∙◌, take, drop, arith, lengt
 use Rattle.std.proofs.lemmas.List.{take_rest}
 use Rattle.std.specs.List.{prefix_len}
 use Rattle.mc_script.specs.Words.{is_inner}
-use Rattle.mc_script.proofs.Parting.{no_words, first_word_is}
+use Rattle.mc_script.proofs.LineWords.{no_words, first_word_is}
 use Rattle.mc_script.proofs.words.first_word.Goals as goal
 
 pub returns-in_err-start : goal.returns-in_err-start

@@ -1,7 +1,7 @@
 use Rattle.std.proofs.Common.{ap, ◌∙◌, length}
 use Rattle.std.specs.Option.{unwrap_or}
 use Rattle.mc_script.specs.Words.{is_blank}
-use Rattle.mc_script.proofs.Parting.{unwrap-position}
+use Rattle.mc_script.proofs.LineWords.{unwrap-position}
 use Rattle.mc_script.proofs.words.word_len.Goals as goal
 
 pub returns : goal.returns

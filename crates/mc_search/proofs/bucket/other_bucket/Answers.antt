@@ -1,7 +1,7 @@
 use Rattle.std.proofs.Common.{◌-◌, ◌/◌, ◌<◌, rules}
 use Rattle.mc_words.specs.Chains.{tag_in}
 use Rattle.mc_words.specs.Checks.{shape_of}
-use Rattle.mc_search.proofs.Readable.{tag_in-named}
+use Rattle.mc_search.proofs.SlotWords.{tag_in-named}
 use Rattle.mc_search.proofs.bucket.other_bucket.Goals as goal
 
 pub overflow_sub-tag : goal.overflow_sub-tag

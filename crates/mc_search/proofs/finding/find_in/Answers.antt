@@ -1,6 +1,6 @@
 use Rattle.std.proofs.Common.{◌∙◌, ap, below_more}
 use Rattle.mc_words.specs.Checks.{shape_of}
-use Rattle.mc_search.proofs.Standing.{not_at-none, not_at-other}
+use Rattle.mc_search.proofs.KeySlots.{not_at-none, not_at-other}
 use Rattle.mc_search.proofs.finding.find_in.Goals as goal
 use Rattle.mc_search.proofs.finding.find_in.Goals.{in-Some+else-stored-key, in_default}
 

@@ -4,8 +4,8 @@ use Rattle.mc_words.specs.Checks.{shape_of}
 use Rattle.mc_words.specs.History.{held}
 use Rattle.mc_words.specs.Places.{slot_number}
 use Rattle.mc_words.specs.Standing.{HasValue}
-use Rattle.mc_theory.proofs.Deeds.{held_from_absent}
-use Rattle.mc_search.proofs.Standing.{held_value, placed-quiet}
+use Rattle.mc_theory.proofs.Invariant.RunningDeed.{held_from_absent}
+use Rattle.mc_search.proofs.KeySlots.{held_value, placed-quiet}
 use Rattle.mc_search.proofs.reading.read.Goals as goal
 
 pub find-requires-clause-placed : goal.find-requires-clause-placed

@@ -4,7 +4,7 @@ use Rattle.mc_words.specs.Places.{slot}
 use Rattle.mc_search.specs.Readable.{IsFull, IsHoleIn}
 use Rattle.mc_search.specs.Search.{next_of, IsExpanding, IsSearching}
 use Rattle.mc_search.proofs.Levels.{taken_at, bucket_read, expanding-added, full-added, full-old, searching-after}
-use Rattle.mc_search.proofs.Least.{found_added}
+use Rattle.mc_search.proofs.Shortest.{found_added}
 use Rattle.mc_search.proofs.search.expand.Goals as goal
 use Rattle.mc_search.proofs.search.expand.Goals.{After-add, then-add+in_default, else-add}
 use Rattle.mc_search.proofs.search.expand.Given.{Over}

@@ -1,4 +1,4 @@
-use Rattle.mc_theory.proofs.Written.{acts_name_the_table}
+use Rattle.mc_theory.proofs.Lists.WrittenWords.{acts_name_the_table}
 use Rattle.mc_theory.proofs.laws.acts_name_the_table.Goals as goal
 
 pub returns : goal.returns

@@ -1,5 +1,5 @@
 use Rattle.mc_theory.proofs.laws.agrees.Goals as goal
-use Rattle.mc_theory.proofs.Readers.{agrees_always}
+use Rattle.mc_theory.proofs.Replies.TrueReplies.{agrees_always}
 
 pub returns : goal.returns
 returns g c = agrees_always g.row.V

@@ -1,4 +1,4 @@
-use Rattle.mc_theory.proofs.Bits.{bits_stay}
+use Rattle.mc_theory.proofs.Events.Bits.{bits_stay}
 use Rattle.mc_theory.proofs.laws.bits_stay.Goals as goal
 
 pub returns : goal.returns

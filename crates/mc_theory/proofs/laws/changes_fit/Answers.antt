@@ -1,5 +1,5 @@
 use Rattle.mc_theory.proofs.laws.changes_fit.Goals as goal
-use Rattle.mc_theory.proofs.Ranges.{front_fits}
+use Rattle.mc_theory.proofs.Lists.Ranges.{front_fits}
 
 pub returns : goal.returns
 returns g c = front_fits g.row.V

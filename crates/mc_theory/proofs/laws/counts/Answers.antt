@@ -1,5 +1,5 @@
 use Rattle.mc_theory.proofs.laws.counts.Goals as goal
-use Rattle.mc_theory.proofs.Counts.{front_counted}
+use Rattle.mc_theory.proofs.Lists.Bounds.{front_counted}
 
 pub returns : goal.returns
 returns g c = front_counted g.row.V

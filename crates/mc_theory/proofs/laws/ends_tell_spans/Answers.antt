@@ -1,4 +1,4 @@
-use Rattle.mc_theory.proofs.Spans.{ends_tell_spans}
+use Rattle.mc_theory.proofs.Events.Spans.{ends_tell_spans}
 use Rattle.mc_theory.proofs.laws.ends_tell_spans.Goals as goal
 
 pub returns : goal.returns

@@ -1,4 +1,4 @@
-use Rattle.mc_theory.proofs.Spans.{events_tell_histories}
+use Rattle.mc_theory.proofs.Events.Spans.{events_tell_histories}
 use Rattle.mc_theory.proofs.laws.events_tell_histories.Goals as goal
 
 pub returns : goal.returns

@@ -1,4 +1,4 @@
-use Rattle.mc_theory.proofs.Grown.{readings_grow}
+use Rattle.mc_theory.proofs.Lists.Growth.{readings_grow}
 use Rattle.mc_theory.proofs.laws.readings_grow.Goals as goal
 
 pub returns : goal.returns

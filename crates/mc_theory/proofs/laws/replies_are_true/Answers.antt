@@ -1,5 +1,5 @@
 use Rattle.mc_theory.proofs.laws.replies_are_true.Goals as goal
-use Rattle.mc_theory.proofs.Readers.{replies_are_true}
+use Rattle.mc_theory.proofs.Replies.TrueReplies.{replies_are_true}
 
 pub returns : goal.returns
 returns g c = replies_are_true g.row.V

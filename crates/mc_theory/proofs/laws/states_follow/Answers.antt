@@ -1,5 +1,5 @@
 use Rattle.mc_theory.proofs.laws.states_follow.Goals as goal
-use Rattle.mc_theory.proofs.Grown.{states_follow}
+use Rattle.mc_theory.proofs.Lists.Growth.{states_follow}
 
 pub returns : goal.returns
 returns g c = states_follow g.row.V

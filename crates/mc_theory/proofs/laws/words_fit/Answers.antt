@@ -1,4 +1,4 @@
-use Rattle.mc_theory.proofs.Written.{words_fit}
+use Rattle.mc_theory.proofs.Lists.WrittenWords.{words_fit}
 use Rattle.mc_theory.proofs.laws.words_fit.Goals as goal
 
 pub returns : goal.returns

@@ -1,4 +1,4 @@
-use Rattle.mc_theory.proofs.Spans.{worlds_are_plainly_true}
+use Rattle.mc_theory.proofs.Events.Spans.{worlds_are_plainly_true}
 use Rattle.mc_theory.proofs.laws.worlds_are_plainly_true.Goals as goal
 
 pub returns : goal.returns

@@ -2,7 +2,7 @@ use Rattle.std.proofs.Common.{List, None, ◌∙◌, rules, subst, sym}
 use Rattle.std.specs.Prelude.{ℕ}
 use Rattle.mc_words.specs.declared.shape.Shape.{Shape}
 use Rattle.mc_words.specs.Standing.{Agrees}
-use Rattle.mc_plan.proofs.Quiets.{agrees_quiet}
+use Rattle.mc_plan.proofs.Deeds.QuietStates.{agrees_quiet}
 use Rattle.mc_plan.specs.Clerks.{shape_in}
 use Rattle.tests.proofs.clerk.look_up.Goals as goal
 

@@ -2,8 +2,8 @@ use Rattle.std.proofs.Common.{◌+◌, refl, sym, ◌∙◌, ap, Some}
 use Rattle.std.specs.Prelude.{unwrap_or}
 use Rattle.mc_lookup.specs.Machine.{next_of, Takes}
 use Rattle.mc_theory.specs.declared.access.Access.{Access}
-use Rattle.mc_core.proofs.Both.{if_some}
-use Rattle.mc_core.proofs.Looking.{access_ends, access_goes_on, told_is}
+use Rattle.mc_core.proofs.PairedLists.{if_some}
+use Rattle.mc_core.proofs.ReaderSteps.{access_ends, access_goes_on, told_is}
 use Rattle.mc_core.proofs.parts.Parts.access.Goals as goal
 
 pub returns-in-Some-clause-stepped : goal.returns-in-Some-clause-stepped

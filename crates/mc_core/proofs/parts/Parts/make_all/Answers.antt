@@ -3,7 +3,7 @@ use Rattle.std.proofs.Math.Seq.{take-suc}
 use Rattle.std.proofs.lemmas.Option.{slice_get-get_or}
 use Rattle.mc_core.specs.Parts.{HasMade}
 use Rattle.mc_theory.specs.declared.event.Event.{Event}
-use Rattle.mc_core.proofs.Listing.{made_same, made_then, stops_at}
+use Rattle.mc_core.proofs.EventLists.{made_same, made_then, stops_at}
 use Rattle.mc_core.proofs.parts.Parts.make_all.Goals as goal
 
 pub make_one-requires : goal.make_one-requires

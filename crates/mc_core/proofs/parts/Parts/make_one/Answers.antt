@@ -1,7 +1,7 @@
 use Rattle.std.proofs.Common.{◌++◌, sym, ap, ◌∙◌}
 use Rattle.std.proofs.lemmas.List.{append-nil}
 use Rattle.mc_theory.specs.declared.event.Stepped.{Stepped}
-use Rattle.mc_core.proofs.Listing.{done_of, made_one}
+use Rattle.mc_core.proofs.EventLists.{done_of, made_one}
 use Rattle.mc_core.proofs.parts.Parts.make_one.Goals as goal
 
 pub returns-in-Ok-Done-clause-made : goal.returns-in-Ok-Done-clause-made

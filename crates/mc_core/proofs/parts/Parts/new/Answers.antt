@@ -1,6 +1,6 @@
 use Rattle.std.proofs.Common.{ℕ, refl, ap, ◌∙◌, replicate}
 use Rattle.mc_words.specs.declared.shape.Shape.{Shape}
-use Rattle.mc_core.proofs.Opening.{filled, new_stands}
+use Rattle.mc_core.proofs.NewWorld.{filled, new_stands}
 use Rattle.mc_core.proofs.parts.Parts.new.Goals as goal
 
 pub returns : goal.returns

@@ -2,7 +2,7 @@ use Rattle.std.proofs.Common.{length, take, [], List, subst}
 use Rattle.mc_core.specs.Parts.{HasMade}
 use Rattle.mc_theory.specs.Worlds.{many_made}
 use Rattle.mc_theory.specs.declared.event.Done.{Done}
-use Rattle.mc_core.proofs.Listing.{made_then}
+use Rattle.mc_core.proofs.EventLists.{made_then}
 use Rattle.mc_core.proofs.parts.Parts.run.Goals as goal
 
 pub returns-clause-ok : goal.returns-clause-ok

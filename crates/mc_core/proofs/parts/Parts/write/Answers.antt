@@ -7,7 +7,7 @@ use Rattle.mc_theory.specs.States.{State}
 use Rattle.mc_theory.specs.Worlds.{HasChanges, bit_of, given_of}
 use Rattle.mc_core.specs.declared.writer.Writer.{Writer}
 use Rattle.mc_core.specs.Writers.{shape_at, words_at, phase_at, IsMade}
-use Rattle.mc_core.proofs.Seeing.{holds_of, counted_of, hand_of, reads_in, ok_of, stand_after}
+use Rattle.mc_core.proofs.ShownWorld.{holds_of, counted_of, hand_of, reads_in, ok_of, stand_after}
 use Rattle.mc_core.proofs.parts.Parts.write.Goals as goal
 
 pub allows-requires : goal.allows-requires

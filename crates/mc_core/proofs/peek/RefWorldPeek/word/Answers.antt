@@ -1,5 +1,5 @@
 use Rattle.std.proofs.Common.{rules}
-use Rattle.mc_core.proofs.Shown.{among_all}
+use Rattle.mc_core.proofs.ShownWords.{among_all}
 use Rattle.mc_core.proofs.peek.RefWorldPeek.word.Goals as goal
 
 pub word-requires : goal.word-requires

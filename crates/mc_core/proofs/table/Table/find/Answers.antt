@@ -1,5 +1,5 @@
 use Rattle.std.proofs.Common.{inl, inr, sym, ◌∙◌}
-use Rattle.mc_core.proofs.Slots.{match_none}
+use Rattle.mc_core.proofs.SlotKeys.{match_none}
 use Rattle.mc_core.proofs.table.Table.find.Goals as goal
 
 pub returns : goal.returns

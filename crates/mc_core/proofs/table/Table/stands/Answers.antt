@@ -1,5 +1,5 @@
 use Rattle.std.proofs.Common.{◌∙◌}
-use Rattle.mc_core.proofs.Slots.{other_key}
+use Rattle.mc_core.proofs.SlotKeys.{other_key}
 use Rattle.mc_core.proofs.table.Table.stands.Goals as goal
 use Rattle.mc_core.specs.Tables.{shape_in, words_in}
 use Rattle.mc_words.specs.Places.{slot_number}

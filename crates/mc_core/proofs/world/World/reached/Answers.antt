@@ -3,8 +3,8 @@ use Rattle.std.specs.Prelude.{All}
 use Rattle.mc_core.specs.Parts.{shape_of_parts, shown_of}
 use Rattle.mc_core.specs.Seen.{Shown, Shows}
 use Rattle.mc_theory.specs.Worlds.{World, IsBit, IsReached, IsTrueEnd}
-use Rattle.mc_theory.proofs.Bits.{bits_stay}
-use Rattle.mc_theory.proofs.Reached.{worlds_are_true}
+use Rattle.mc_theory.proofs.Events.Bits.{bits_stay}
+use Rattle.mc_theory.proofs.Events.ReachedWorlds.{worlds_are_true}
 use Rattle.mc_core.proofs.world.World.reached.Goals as goal
 
 pub returns-clause-events : goal.returns-clause-events

@@ -10,7 +10,7 @@ use Rattle.std.specs.Prelude.{All}
 use Rattle.std.proofs.lemmas.Result.{IfOk-weaker}
 use Rattle.mc_core.specs.Parts.{shown_of}
 use Rattle.std.proofs.Common.{rules, subst}
-use Rattle.mc_core.proofs.Stepping.{reached_push, reached_true, reached_after, counted_after, lawful_after, given_after, leads_shown, refused_shown}
+use Rattle.mc_core.proofs.WorldSteps.{reached_push, reached_true, reached_after, counted_after, lawful_after, given_after, leads_shown, refused_shown}
 use Rattle.mc_core.proofs.world.World.step.Goals as goal
 
 pub step-requires : goal.step-requires

@@ -2,7 +2,7 @@ use Rattle.mc_core.proofs.writer.Writer.allows.Goals as goal
 use Rattle.std.proofs.Common.{take, rules}
 use Rattle.mc_core.specs.Writers.{shape_at, words_at}
 use Rattle.mc_core.specs.declared.progress.Progress.TheVariants as progress
-use Rattle.mc_core.proofs.Words.{holds_at, quiet_well, renewing_well, moving_well}
+use Rattle.mc_core.proofs.WrittenWords.{holds_at, quiet_well, renewing_well, moving_well}
 
 pub may_when_quiet-requires : goal.may_when_quiet-requires
 may_when_quiet-requires g c =

@@ -4,10 +4,10 @@ use Rattle.mc_words.specs.Places.{slot_number}
 use Rattle.mc_core.specs.Writers.{shape_at, words_at}
 use Rattle.mc_theory.specs.declared.act.Act.TheVariants as act
 use Rattle.mc_core.specs.declared.progress.Progress.TheVariants as progress
-use Rattle.mc_core.proofs.Allowed.{may_at, only_one}
-use Rattle.mc_core.proofs.Words.{holds_at}
-use Rattle.mc_core.proofs.Making.{made}
-use Rattle.mc_core.proofs.Flags.{used_clear, up_of, downs_room}
+use Rattle.mc_core.proofs.AllowedActs.{may_at, only_one}
+use Rattle.mc_core.proofs.WrittenWords.{holds_at}
+use Rattle.mc_core.proofs.MadeActs.{made}
+use Rattle.mc_core.proofs.ItemFlags.{used_clear, up_of, downs_room}
 
 pub overflow_add-self : goal.overflow_add-self
 overflow_add-self g c =

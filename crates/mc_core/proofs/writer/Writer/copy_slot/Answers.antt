@@ -4,9 +4,9 @@ use Rattle.mc_words.specs.Places.{slot_number}
 use Rattle.mc_core.specs.Writers.{shape_at, words_at}
 use Rattle.mc_theory.specs.declared.act.Act.TheVariants as act
 use Rattle.mc_core.specs.declared.progress.Progress.TheVariants as progress
-use Rattle.mc_core.proofs.Allowed.{may_at}
-use Rattle.mc_core.proofs.Making.{made}
-use Rattle.mc_core.proofs.Flags.{used_copy}
+use Rattle.mc_core.proofs.AllowedActs.{may_at}
+use Rattle.mc_core.proofs.MadeActs.{made}
+use Rattle.mc_core.proofs.ItemFlags.{used_copy}
 
 pub returns : goal.returns
 returns g c = λ bit.

@@ -5,8 +5,8 @@ use Rattle.mc_words.specs.declared.history.Change.{Change}
 use Rattle.mc_core.specs.Writers.{shape_at, words_at}
 use Rattle.mc_theory.specs.declared.act.Act.TheVariants as act
 use Rattle.mc_core.specs.declared.progress.Progress.TheVariants as progress
-use Rattle.mc_core.proofs.Items.{used_kept}
-use Rattle.mc_core.proofs.Making.{made}
+use Rattle.mc_core.proofs.FreeFlags.{used_kept}
+use Rattle.mc_core.proofs.MadeActs.{made}
 
 pub returns-clause-ok : goal.returns-clause-ok
 returns-clause-ok g c = λ bit.

@@ -1,6 +1,6 @@
 use Rattle.mc_core.proofs.writer.Writer.has_free.Goals as goal
 use Rattle.std.proofs.lemmas.Bool.{ltb-true, lt-ltb}
-use Rattle.mc_core.proofs.Items.{some_free}
+use Rattle.mc_core.proofs.FreeFlags.{some_free}
 
 pub returns : goal.returns
 returns g c =

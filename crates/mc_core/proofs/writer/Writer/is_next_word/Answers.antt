@@ -1,6 +1,6 @@
 use Rattle.mc_core.proofs.writer.Writer.is_next_word.Goals as goal
-use Rattle.mc_lookup.proofs.Taking.{both_trans}
-use Rattle.mc_core.proofs.Words.{next_word}
+use Rattle.mc_lookup.proofs.StageSteps.{both_trans}
+use Rattle.mc_core.proofs.WrittenWords.{next_word}
 
 pub returns : goal.returns
 returns g c = both_trans c.follows.ensures (next_word g.row.V c.args.count c.args.j c.args.self.now.written c.args.self.now.whole c.requires)

@@ -1,8 +1,8 @@
 use Rattle.mc_core.proofs.writer.Writer.is_other.Goals as goal
 use Rattle.std.proofs.lemmas.Bool.{false≢true}
 use Rattle.mc_core.specs.Writers.{shape_at, words_at}
-use Rattle.mc_lookup.proofs.Taking.{both_trans}
-use Rattle.mc_core.proofs.Words.{across}
+use Rattle.mc_lookup.proofs.StageSteps.{both_trans}
+use Rattle.mc_core.proofs.WrittenWords.{across}
 
 pub returns-in-Some : goal.returns-in-Some
 returns-in-Some g c =

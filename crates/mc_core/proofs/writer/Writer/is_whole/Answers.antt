@@ -1,6 +1,6 @@
 use Rattle.mc_core.proofs.writer.Writer.is_whole.Goals as goal
-use Rattle.mc_lookup.proofs.Taking.{both_trans}
-use Rattle.mc_core.proofs.Words.{all_words}
+use Rattle.mc_lookup.proofs.StageSteps.{both_trans}
+use Rattle.mc_core.proofs.WrittenWords.{all_words}
 
 pub returns : goal.returns
 returns g c = both_trans c.count_is.ensures (all_words g.row.V c.args.count c.args.self.now.written c.args.self.now.whole c.requires)

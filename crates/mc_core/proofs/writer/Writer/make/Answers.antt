@@ -4,7 +4,7 @@ use Rattle.mc_words.proofs.Keys.{stripe_of-lt}
 use Rattle.mc_words.specs.Keys.{stripe_of}
 use Rattle.mc_core.specs.Writers.{shape_at, IsMade}
 use Rattle.mc_theory.specs.declared.act.Act.{Act}
-use Rattle.mc_core.proofs.Making.{on_ok}
+use Rattle.mc_core.proofs.MadeActs.{on_ok}
 
 pub open-requires : goal.open-requires
 open-requires g c =

@@ -7,11 +7,11 @@ use Rattle.mc_theory.specs.Phases as phases
 use Rattle.mc_core.specs.Writers.{shape_at, words_at}
 use Rattle.mc_theory.specs.declared.act.Act.TheVariants as act
 use Rattle.mc_core.specs.declared.progress.Progress.TheVariants as progress
-use Rattle.mc_core.proofs.Allowed.{may_at}
-use Rattle.mc_core.proofs.Items.{some_free}
-use Rattle.mc_core.proofs.Words.{holds_at, whole_written}
-use Rattle.mc_core.proofs.Making.{made}
-use Rattle.mc_core.proofs.Flags.{used_place}
+use Rattle.mc_core.proofs.AllowedActs.{may_at}
+use Rattle.mc_core.proofs.FreeFlags.{some_free}
+use Rattle.mc_core.proofs.WrittenWords.{holds_at, whole_written}
+use Rattle.mc_core.proofs.MadeActs.{made}
+use Rattle.mc_core.proofs.ItemFlags.{used_place}
 
 pub overflow_sub-self : goal.overflow_sub-self
 overflow_sub-self g c =

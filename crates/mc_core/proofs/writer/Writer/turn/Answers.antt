@@ -3,8 +3,8 @@ use Rattle.std.proofs.Common.{arith, refl, ◌∙◌, ◌≡◌, ◌≢◌, ◌+
 use Rattle.mc_core.specs.Writers.{shape_at}
 use Rattle.mc_theory.specs.declared.act.Act.TheVariants as act
 use Rattle.mc_core.specs.declared.progress.Progress.TheVariants as progress
-use Rattle.mc_theory.proofs.Turns.{turn_over, turn_on}
-use Rattle.mc_core.proofs.Making.{made, cleared_by}
+use Rattle.mc_theory.proofs.Lists.HandTurns.{turn_over, turn_on}
+use Rattle.mc_core.proofs.MadeActs.{made, cleared_by}
 use Rattle.mc_core.proofs.writer.Writer.turn.Goals.{then-next-shape, else-next-shape, then-bit-eq0, else-bit-eq0}
 
 pub returns : goal.returns

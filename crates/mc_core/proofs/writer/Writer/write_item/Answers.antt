@@ -3,8 +3,8 @@ use Rattle.std.proofs.Common.{rules, ℕ, ap, sym, ◌∙◌, subst, arith}
 use Rattle.mc_core.specs.Writers.{shape_at, words_at, IsMade}
 use Rattle.mc_theory.specs.declared.act.Act.TheVariants as act
 use Rattle.mc_core.specs.declared.progress.Progress.TheVariants as progress
-use Rattle.mc_core.proofs.Allowed.{may_at}
-use Rattle.mc_core.proofs.Words.{holds_at, next_word}
+use Rattle.mc_core.proofs.AllowedActs.{may_at}
+use Rattle.mc_core.proofs.WrittenWords.{holds_at, next_word}
 
 pub write_next-requires : goal.write_next-requires
 write_next-requires g c =

@@ -5,7 +5,7 @@ use Rattle.mc_theory.specs.Phases as phases
 use Rattle.mc_core.specs.Writers.{shape_at, words_at}
 use Rattle.mc_theory.specs.declared.act.Act.TheVariants as act
 use Rattle.mc_core.specs.declared.progress.Progress.TheVariants as progress
-use Rattle.mc_core.proofs.Making.{made, used_item, written_more}
+use Rattle.mc_core.proofs.MadeActs.{made, used_item, written_more}
 
 pub set_item-requires : goal.set_item-requires
 unfolding payload

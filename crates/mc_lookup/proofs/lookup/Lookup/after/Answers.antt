@@ -1,5 +1,5 @@
 use Rattle.mc_lookup.specs.declared.stage.Stage.TheVariants as stage
-use Rattle.mc_lookup.proofs.Taking.{takes_next}
+use Rattle.mc_lookup.proofs.StageSteps.{takes_next}
 use Rattle.mc_lookup.proofs.lookup.Lookup.after.Goals as goal
 
 pub returns-in-Mark : goal.returns-in-Mark

@@ -2,7 +2,7 @@ use Rattle.std.proofs.Common.{ap, refl, arith}
 use Rattle.mc_lookup.specs.Machine.{shape_for}
 use Rattle.mc_theory.specs.declared.access.Access.TheVariants as access
 use Rattle.mc_lookup.specs.declared.stage.Stage.TheVariants as stage
-use Rattle.mc_lookup.proofs.Taking.{takes_at, takes_restart, read, left_first, left_odd, steps_try}
+use Rattle.mc_lookup.proofs.StageSteps.{takes_at, takes_restart, read, left_first, left_odd, steps_try}
 use Rattle.mc_lookup.proofs.lookup.Lookup.after_first.Goals as goal
 
 pub returns-then-word-eq0-clause-takes : goal.returns-then-word-eq0-clause-takes

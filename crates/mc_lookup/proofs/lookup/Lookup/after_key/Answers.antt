@@ -3,8 +3,8 @@ use Rattle.mc_theory.specs.Lookups.{slots_for}
 use Rattle.mc_lookup.specs.Machine.{shape_for, slots_from}
 use Rattle.mc_theory.specs.declared.access.Access.TheVariants as access
 use Rattle.mc_lookup.specs.declared.stage.Stage.TheVariants as stage
-use Rattle.mc_lookup.proofs.Feeding.{feed_key, feed_stranger}
-use Rattle.mc_lookup.proofs.Taking.{takes_at, read, both_trans, left_slots, steps_slots}
+use Rattle.mc_lookup.proofs.StageLaws.{feed_key, feed_stranger}
+use Rattle.mc_lookup.proofs.StageSteps.{takes_at, read, both_trans, left_slots, steps_slots}
 use Rattle.mc_lookup.proofs.lookup.Lookup.after_key.Goals as goal
 use Rattle.mc_lookup.proofs.lookup.Lookup.after_key.Goals.{then-found, else-found}
 

@@ -2,8 +2,8 @@ use Rattle.std.proofs.Common.{◌∙◌, None, Some, ap, refl, arith}
 use Rattle.mc_lookup.specs.Machine.{shape_for, value_for}
 use Rattle.mc_theory.specs.declared.access.Access.TheVariants as access
 use Rattle.mc_lookup.specs.declared.stage.Stage.TheVariants as stage
-use Rattle.mc_lookup.proofs.Feeding.{feed_same, feed_spoiled}
-use Rattle.mc_lookup.proofs.Taking.{takes_at, takes_restart, read}
+use Rattle.mc_lookup.proofs.StageLaws.{feed_same, feed_spoiled}
+use Rattle.mc_lookup.proofs.StageSteps.{takes_at, takes_restart, read}
 use Rattle.mc_lookup.proofs.lookup.Lookup.after_last.Goals as goal
 
 pub returns-then-word-self-clause-takes : goal.returns-then-word-self-clause-takes

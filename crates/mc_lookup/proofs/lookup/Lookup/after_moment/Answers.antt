@@ -2,8 +2,8 @@ use Rattle.std.proofs.Common.{refl, arith}
 use Rattle.mc_lookup.specs.Machine.{shape_for, value_for}
 use Rattle.mc_theory.specs.declared.access.Access.TheVariants as access
 use Rattle.mc_lookup.specs.declared.stage.Stage.TheVariants as stage
-use Rattle.mc_lookup.proofs.Feeding.{feed_moment}
-use Rattle.mc_lookup.proofs.Taking.{takes_at, read}
+use Rattle.mc_lookup.proofs.StageLaws.{feed_moment}
+use Rattle.mc_lookup.proofs.StageSteps.{takes_at, read}
 use Rattle.mc_lookup.proofs.lookup.Lookup.after_moment.Goals as goal
 
 pub returns-clause-takes : goal.returns-clause-takes

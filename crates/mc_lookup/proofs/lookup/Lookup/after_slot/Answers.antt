@@ -2,7 +2,7 @@ use Rattle.std.proofs.Common.{◌+◌, refl, ◌∙◌, arith}
 use Rattle.mc_lookup.specs.Machine.{shape_for, slots_from, place_of}
 use Rattle.mc_theory.specs.declared.access.Access.TheVariants as access
 use Rattle.mc_lookup.specs.declared.stage.Stage.TheVariants as stage
-use Rattle.mc_lookup.proofs.Taking.{takes_at, left_met, left_other, steps_slots}
+use Rattle.mc_lookup.proofs.StageSteps.{takes_at, left_met, left_other, steps_slots}
 use Rattle.mc_lookup.proofs.lookup.Lookup.after_slot.Goals as goal
 use Rattle.mc_lookup.proofs.lookup.Lookup.after_slot.Goals.{in-Some, in-None}
 

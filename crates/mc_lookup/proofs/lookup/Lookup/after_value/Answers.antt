@@ -3,7 +3,7 @@ use Rattle.std.proofs.lemmas.Bool.{cond_below, cond_above}
 use Rattle.mc_lookup.specs.Machine.{shape_for, values_from}
 use Rattle.mc_theory.specs.declared.access.Access.TheVariants as access
 use Rattle.mc_lookup.specs.declared.stage.Stage.TheVariants as stage
-use Rattle.mc_lookup.proofs.Taking.{takes_at, left_value, steps_values}
+use Rattle.mc_lookup.proofs.StageSteps.{takes_at, left_value, steps_values}
 use Rattle.mc_lookup.proofs.lookup.Lookup.after_value.Goals as goal
 use Rattle.mc_lookup.proofs.lookup.Lookup.after_value.Goals.{then-from, else-from}
 

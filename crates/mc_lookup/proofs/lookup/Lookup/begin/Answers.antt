@@ -1,5 +1,5 @@
 use Rattle.mc_lookup.specs.Machine.{Left}
-use Rattle.mc_lookup.proofs.Taking.{both_refl}
+use Rattle.mc_lookup.proofs.StageSteps.{both_refl}
 use Rattle.mc_lookup.proofs.lookup.Lookup.begin.Goals as goal
 
 pub returns-clause-left : goal.returns-clause-left

@@ -1,7 +1,7 @@
 use Rattle.mc_words.proofs.Keys.{stripe_of-lt}
 use Rattle.mc_lookup.specs.Machine.{shape_for}
 use Rattle.mc_lookup.specs.declared.stage.Stage.TheVariants.{Slot, Value}
-use Rattle.mc_lookup.proofs.Course.{next_at_in}
+use Rattle.mc_lookup.proofs.NextAccess.{next_at_in}
 use Rattle.mc_lookup.proofs.lookup.Lookup.next.Goals as goal
 
 pub returns-in-First-clause-range : goal.returns-in-First-clause-range

@@ -2,7 +2,7 @@ use Rattle.std.proofs.Common.{refl, arith}
 use Rattle.std.proofs.lemmas.Bool.{cond_below}
 use Rattle.mc_lookup.specs.declared.stage.Stage.TheVariants.{First, Over}
 use Rattle.mc_lookup.specs.Machine.{Left}
-use Rattle.mc_lookup.proofs.Taking.{both_refl}
+use Rattle.mc_lookup.proofs.StageSteps.{both_refl}
 use Rattle.mc_lookup.proofs.lookup.Lookup.try_again.Goals as goal
 
 pub returns-then-self-eq0 : goal.returns-then-self-eq0

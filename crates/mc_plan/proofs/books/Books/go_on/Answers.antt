@@ -1,8 +1,8 @@
 use Rattle.std.proofs.Common.{◌≡◌, ◌∙◌, Some, None, sym}
 use Rattle.mc_words.specs.Checks.{shape_of}
 use Rattle.mc_search.specs.Sweeps.{victim_of}
-use Rattle.mc_plan.proofs.Sweeping.{over_without}
-use Rattle.mc_plan.proofs.Taking.{recent_planned}
+use Rattle.mc_plan.proofs.Calls.SweptStates.{over_without}
+use Rattle.mc_plan.proofs.Calls.AfterSweep.{recent_planned}
 use Rattle.mc_plan.proofs.books.Books.go_on.Goals as goal
 
 pub returns-in-Some-clause-planned : goal.returns-in-Some-clause-planned

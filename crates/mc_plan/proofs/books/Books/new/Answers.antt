@@ -1,7 +1,7 @@
 use Rattle.std.proofs.Common.{◌≡◌, ◌∙◌, ap, arith, refl}
 use Rattle.mc_words.specs.declared.shape.Shape.{Shape}
 use Rattle.mc_plan.specs.declared.books.Books.{Books}
-use Rattle.mc_plan.proofs.Booking.{new_books}
+use Rattle.mc_plan.proofs.Calls.AfterPlan.{new_books}
 use Rattle.mc_plan.proofs.books.Books.new.Goals as goal
 
 pub returns-clause-books : goal.returns-clause-books

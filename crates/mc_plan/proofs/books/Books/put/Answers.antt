@@ -14,8 +14,8 @@ use Rattle.mc_plan.specs.declared.answer.Put.TheVariants as put
 use Rattle.mc_plan.specs.declared.answer.PutError.TheVariants as why
 use Rattle.mc_plan.specs.declared.books.Books.{Books}
 use Rattle.mc_plan.specs.Plans.{renew_acts}
-use Rattle.mc_plan.proofs.Booking.{idle_planned, renewal_planned, placed_in, moment_in}
-use Rattle.mc_plan.proofs.Values.{payload_of}
+use Rattle.mc_plan.proofs.Calls.AfterPlan.{idle_planned, renewal_planned, placed_in, moment_in}
+use Rattle.mc_plan.proofs.Deeds.Values.{payload_of}
 use Rattle.mc_plan.proofs.books.Books.put.Goals as goal
 use Rattle.mc_plan.proofs.books.Books.put.Goals.{Else-is_spent}
 use Rattle.mc_plan.proofs.books.Books.put.Given.{Over}

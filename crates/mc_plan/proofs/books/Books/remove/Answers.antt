@@ -9,8 +9,8 @@ use Rattle.mc_theory.specs.declared.act.Act.{Act}
 use Rattle.mc_plan.specs.Clerks.{RemoveCall, AreBooksOf, IsPlanned, quiet_of}
 use Rattle.mc_plan.specs.declared.answer.Answer.TheVariants as answer
 use Rattle.mc_plan.specs.declared.answer.Remove.TheVariants as remove
-use Rattle.mc_plan.proofs.Booking.{idle_planned, nothing_found, removal_planned, placed_in, moment_in}
-use Rattle.mc_plan.proofs.Values.{plan_is}
+use Rattle.mc_plan.proofs.Calls.AfterPlan.{idle_planned, nothing_found, removal_planned, placed_in, moment_in}
+use Rattle.mc_plan.proofs.Deeds.Values.{plan_is}
 use Rattle.mc_plan.proofs.books.Books.remove.Goals as goal
 use Rattle.mc_plan.proofs.books.Books.remove.Goals.{Else-is_spent}
 use Rattle.mc_plan.proofs.books.Books.remove.Given.{Over}

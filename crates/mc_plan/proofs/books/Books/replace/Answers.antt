@@ -15,10 +15,10 @@ use Rattle.mc_plan.specs.Plans.{evict_acts}
 use Rattle.mc_plan.specs.Puts.{put_acts}
 use Rattle.mc_search.specs.Readable.{IsFilled}
 use Rattle.mc_plan.specs.Replacing.{replace_acts}
-use Rattle.mc_plan.proofs.Booking.{reaches, filled_in, placed_in}
-use Rattle.mc_plan.proofs.Steps.{chain_taken, cut_taken}
-use Rattle.mc_plan.proofs.Sweeping.{swept_still}
-use Rattle.mc_plan.proofs.Taking.{cut_few, one_item, victim_stands, replaced_planned}
+use Rattle.mc_plan.proofs.Calls.AfterPlan.{reaches, filled_in, placed_in}
+use Rattle.mc_plan.proofs.Puts.PathSteps.{chain_taken, cut_taken}
+use Rattle.mc_plan.proofs.Calls.SweptStates.{swept_still}
+use Rattle.mc_plan.proofs.Calls.AfterSweep.{cut_few, one_item, victim_stands, replaced_planned}
 use Rattle.mc_plan.proofs.books.Books.replace.Goals as goal
 use Rattle.mc_plan.proofs.books.Books.replace.Goals.{After-key_at-evicted}
 use Rattle.mc_plan.proofs.books.Books.replace.Given.{Over}

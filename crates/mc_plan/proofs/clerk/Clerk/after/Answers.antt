@@ -8,8 +8,8 @@ use Rattle.mc_theory.specs.declared.act.Act.{Act}
 use Rattle.mc_plan.specs.Clerks.{Call, HasEndedSweep, IsAt, IsOn, acts_left, left_in, next_act, next_in, shape_in}
 use Rattle.mc_plan.specs.declared.clerk.Stage.{Stage}
 use Rattle.mc_plan.specs.declared.clerk.Stage.TheVariants.{Sweeping}
-use Rattle.mc_plan.proofs.Hands.{HasRead, one_read, words_read}
-use Rattle.mc_plan.proofs.Onward.{at_stage, next_below, plan_next}
+use Rattle.mc_plan.proofs.Calls.MidSweep.{HasRead, one_read, words_read}
+use Rattle.mc_plan.proofs.Calls.MidCall.{at_stage, next_below, plan_next}
 use Rattle.mc_plan.proofs.clerk.Clerk.after.Goals as goal
 use Rattle.mc_plan.proofs.clerk.Clerk.after.Goals.{After-after, After-next, In-Planned, In-Sweeping, Then-is_none, Else-is_none}
 use Rattle.mc_plan.proofs.clerk.Clerk.after.Given.{Over}

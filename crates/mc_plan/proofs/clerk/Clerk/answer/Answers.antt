@@ -5,7 +5,7 @@ use Rattle.mc_theory.specs.declared.act.Act.{Act}
 use Rattle.mc_plan.specs.Clerks.{IsRunning, Runs, hand_of, next_act, next_in}
 use Rattle.mc_search.specs.Sweeps.{next_item}
 use Rattle.mc_plan.specs.declared.clerk.Stage.{Stage}
-use Rattle.mc_plan.proofs.Onward.{on_runs, whole_call}
+use Rattle.mc_plan.proofs.Calls.MidCall.{on_runs, whole_call}
 use Rattle.mc_plan.proofs.clerk.Clerk.answer.Goals as goal
 use Rattle.mc_plan.proofs.clerk.Clerk.answer.Goals.{In-Idle}
 use Rattle.mc_plan.proofs.clerk.Clerk.answer.Given.{Over}

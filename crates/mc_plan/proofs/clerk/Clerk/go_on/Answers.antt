@@ -5,8 +5,8 @@ use Rattle.mc_plan.specs.Clerks.{IsAtEnd, acts_left}
 use Rattle.mc_plan.specs.Making.{IsQuiet}
 use Rattle.mc_plan.specs.declared.answer.Answer.TheVariants as answer
 use Rattle.mc_plan.specs.declared.clerk.Stage.{Stage}
-use Rattle.mc_plan.proofs.Hands.{hands_may}
-use Rattle.mc_plan.proofs.Onward.{planned_after}
+use Rattle.mc_plan.proofs.Calls.MidSweep.{hands_may}
+use Rattle.mc_plan.proofs.Calls.MidCall.{planned_after}
 use Rattle.mc_plan.proofs.clerk.Clerk.go_on.Goals as goal
 
 pub returns-in-Sweeping-clause-on : goal.returns-in-Sweeping-clause-on

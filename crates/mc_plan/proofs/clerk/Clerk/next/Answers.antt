@@ -3,8 +3,8 @@ use Rattle.std.specs.Prelude.{slice_get}
 use Rattle.mc_plan.specs.declared.clerk.Stage.{Stage}
 use Rattle.mc_theory.specs.declared.act.Act.TheVariants.{Hand}
 use Rattle.mc_plan.specs.Clerks.{hand_of, next_act, next_in}
-use Rattle.mc_plan.proofs.Hands.{sweep_may}
-use Rattle.mc_plan.proofs.Onward.{at_stage, copied_is, plan_may}
+use Rattle.mc_plan.proofs.Calls.MidSweep.{sweep_may}
+use Rattle.mc_plan.proofs.Calls.MidCall.{at_stage, copied_is, plan_may}
 use Rattle.mc_plan.proofs.clerk.Clerk.next.Goals as goal
 use Rattle.mc_plan.proofs.clerk.Clerk.next.Goals.{After-copied}
 use Rattle.mc_plan.proofs.clerk.Clerk.next.Given.{Over}

@@ -8,8 +8,8 @@ use Rattle.mc_plan.specs.declared.clerk.Clerk.{Clerk}
 use Rattle.mc_plan.specs.declared.clerk.Stage.{Stage}
 use Rattle.mc_plan.specs.declared.waiting.Start.{Start}
 use Rattle.mc_plan.specs.declared.waiting.Waiting.{Waiting}
-use Rattle.mc_plan.proofs.Hands.{begins_sweep}
-use Rattle.mc_plan.proofs.Onward.{begins}
+use Rattle.mc_plan.proofs.Calls.MidSweep.{begins_sweep}
+use Rattle.mc_plan.proofs.Calls.MidCall.{begins}
 use Rattle.mc_plan.proofs.clerk.Clerk.put.Goals as goal
 use Rattle.mc_plan.proofs.clerk.Clerk.put.Goals.{in-Planned, in-Waits}
 

@@ -6,7 +6,7 @@ use Rattle.mc_replay.specs.Players.{IsInCall, MakesAct, with_acts}
 use Rattle.mc_replay.specs.Replay.{Pending}
 use Rattle.mc_theory.specs.Worlds.{World}
 use Rattle.mc_replay.specs.declared.player.Player.{Player}
-use Rattle.mc_replay.proofs.Calling.{makes_nothing, makes_more, makes_last_of, room_left}
+use Rattle.mc_replay.proofs.WriterCalls.{makes_nothing, makes_more, makes_last_of, room_left}
 use Rattle.mc_replay.proofs.player.Player.finish.Goals as goal
 
 pub acts-init : goal.acts-init

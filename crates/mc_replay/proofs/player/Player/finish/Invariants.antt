@@ -4,7 +4,7 @@ use Rattle.mc_plan.specs.Clerks.{acts_left, next_act}
 use Rattle.std.specs.Prelude.{IsSome}
 use Rattle.mc_replay.specs.Replay.{Pending}
 use Rattle.mc_replay.specs.Players.{IsInCall}
-use Rattle.mc_replay.proofs.Calling.{MakesSome}
+use Rattle.mc_replay.proofs.WriterCalls.{MakesSome}
 use Rattle.mc_replay.proofs.player.Player.finish.Given as goal
 
 abbrev pub decreases-acts : goal.decreases-acts

@@ -1,6 +1,6 @@
 use Rattle.std.proofs.Common.{◌≡◌, sym, subst, ap, ◌∙◌, [], None, refl, arith}
 use Rattle.std.proofs.lemmas.List.{length-replicate}
-use Rattle.mc_theory.proofs.Fronts.{state_none}
+use Rattle.mc_theory.proofs.Lists.Fronts.{state_none}
 use Rattle.mc_theory.specs.Lists.{state_of}
 use Rattle.mc_theory.specs.States.{opening}
 use Rattle.mc_theory.specs.Worlds.{IsReached, first_world}

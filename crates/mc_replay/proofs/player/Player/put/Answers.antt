@@ -4,7 +4,7 @@ use Rattle.mc_plan.specs.Clerks.{Call, PutCall}
 use Rattle.mc_replay.specs.Players.{shape_in}
 use Rattle.mc_replay.specs.Replay.{pending}
 use Rattle.mc_replay.specs.declared.player.Player.{Player}
-use Rattle.mc_replay.proofs.Calling.{whole_at_once, whole_in_time}
+use Rattle.mc_replay.proofs.WriterCalls.{whole_at_once, whole_in_time}
 use Rattle.mc_replay.proofs.player.Player.put.Goals as goal
 
 pub finish-requires : goal.finish-requires

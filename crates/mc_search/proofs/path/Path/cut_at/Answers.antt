@@ -2,7 +2,7 @@ use Rattle.std.proofs.Common.{List, inr, refl, subst, take}
 use Rattle.std.specs.Prelude.{Contains, Some, slice_get, ◌≡◌}
 use Rattle.mc_words.specs.declared.place.Place.{Place}
 use Rattle.mc_search.specs.Paths.{IsCut}
-use Rattle.mc_search.proofs.Cutting.{cut_chain, cut_found}
+use Rattle.mc_search.proofs.CutChains.{cut_chain, cut_found}
 use Rattle.mc_search.proofs.path.Path.cut_at.Goals as goal
 use Rattle.mc_search.proofs.path.Path.cut_at.Goals.{After-truncate}
 

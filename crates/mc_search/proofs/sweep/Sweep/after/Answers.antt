@@ -1,8 +1,8 @@
 use Rattle.std.proofs.Common.{◌≡◌, ◌+◌, ◌%◌, ◌∙◌, Some, None, Bool, cond, eqb, ap, arith, refl, sym}
 use Rattle.std.proofs.lemmas.Bool.{eq-eqb, ne_eqb}
-use Rattle.mc_theory.proofs.Turns.{turn_over, turn_on}
+use Rattle.mc_theory.proofs.Lists.HandTurns.{turn_over, turn_on}
 use Rattle.mc_search.specs.Sweeps.{next_item}
-use Rattle.mc_search.proofs.Circling.{next_parts, stands_below, swept_next}
+use Rattle.mc_search.proofs.SweepReadings.{next_parts, stands_below, swept_next}
 use Rattle.mc_search.proofs.sweep.Sweep.after.Goals as goal
 use Rattle.mc_search.proofs.sweep.Sweep.after.Goals.{then-bit-eq0, else-bit-eq0, then-next-self, else-next-self}
 

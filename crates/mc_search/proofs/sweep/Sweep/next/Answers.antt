@@ -1,6 +1,6 @@
 use Rattle.std.proofs.Common.{◌∙◌, inl, inr, sym}
 use Rattle.mc_search.specs.Sweeps.{next_item}
-use Rattle.mc_search.proofs.Circling.{next_none, next_some}
+use Rattle.mc_search.proofs.SweepReadings.{next_none, next_some}
 use Rattle.mc_search.proofs.sweep.Sweep.next.Goals as goal
 use Rattle.mc_search.proofs.sweep.Sweep.next.Goals.{then-is_some-via-then-is_some, then-is_some-via-else-is_some+then-self-eq0}
 

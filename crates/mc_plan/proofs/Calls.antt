@@ -1,0 +1,6 @@
+pub mod AfterPlan
+pub mod MidCall
+pub mod SweptStates
+pub mod MidSweep
+pub mod AfterSweep
+pub mod CanEnd

@@ -1,0 +1,335 @@
+-- What the books say of the state after a plan, and what the plan's answer means.
+use Rattle.std.proofs.Common.{ℕ, ◌≡◌, ◌+◌, ◌*◌, ◌<◌, ◌≤◌, ◌∙◌, inl, inr, List, [], ◌∷◌, ◌++◌, None, Ok, ap, refl, sym, subst, length, arith, length-append}
+use Rattle.std.proofs.lemmas.Bool.{cases_eq}
+use Rattle.mc_words.specs.declared.history.Change.{Change}
+use Rattle.mc_words.specs.declared.history.Change.TheVariants.{Put, Remove}
+use Rattle.mc_words.specs.declared.place.Place.{Place}
+use Rattle.mc_words.specs.declared.shape.Shape.{Shape}
+use Rattle.mc_words.specs.Answers as means
+use Rattle.mc_words.specs.Answers.{PutIsSpent, RemoveIsSpent}
+use Rattle.mc_words.specs.Chains.{IsLeastLength, NoChain}
+use Rattle.mc_words.specs.Checks.{shape_of}
+use Rattle.mc_words.specs.History.{IsWord}
+use Rattle.mc_words.specs.Places.{IsWidth, moment, slot, slot_number, word_count}
+use Rattle.mc_words.specs.Shapes.{IsShape}
+use Rattle.mc_words.specs.Standing.{Names, Stands, IsAbsent, IsFree}
+use Rattle.mc_words.proofs.Count.{full_from_named, room_from_free}
+use Rattle.mc_theory.specs.States.{State, opening}
+use Rattle.mc_theory.specs.declared.act.Act.{Act}
+use Rattle.mc_theory.specs.declared.act.Act.TheVariants.{Mark}
+use Rattle.mc_plan.specs.declared.answer.Answer.{Answer}
+use Rattle.mc_plan.specs.declared.answer.Answer.TheVariants as answer
+use Rattle.mc_plan.specs.declared.answer.Put.TheVariants as put
+use Rattle.mc_plan.specs.declared.answer.Remove.TheVariants as remove
+use Rattle.mc_plan.specs.declared.books.Books.{Books}
+use Rattle.mc_search.specs.declared.free.FreeItems.{FreeItems}
+use Rattle.mc_search.specs.declared.path.Path.{Path}
+use Rattle.mc_plan.specs.Clerks.{Call, PutCall, RemoveCall, Means, Marks, AreOfDeeds, AreBooksOf, IsPlanned, quiet_of}
+use Rattle.mc_search.specs.Free.{IsKept, IsFreeIn, Takes, Gives}
+use Rattle.mc_plan.specs.Laws.{IsValue}
+use Rattle.mc_plan.specs.Making.{IsQuiet, left}
+use Rattle.mc_search.specs.Kept.{KeepsSlots}
+use Rattle.mc_plan.specs.Moves.{AreKeys}
+use Rattle.mc_search.specs.Paths.{IsLeastPath, first_place}
+use Rattle.mc_plan.specs.Plans.{value_acts, fill_acts, renew_acts, remove_acts, moves_acts}
+use Rattle.mc_search.specs.Readable.{IsFilled, IsPlaced}
+use Rattle.mc_plan.specs.Puts.{CanPut, TakesItem, put_acts}
+use Rattle.mc_words.proofs.Frames.{empty_names_none}
+use Rattle.mc_theory.proofs.Lists.Bounds.{opening_counted}
+use Rattle.mc_theory.proofs.Invariant.EachState.{opening_holds, zeros}
+use Rattle.mc_plan.proofs.Puts.NamedItems.{GivesItem, slot_given, kept_free, kept_named}
+use Rattle.mc_plan.proofs.Deeds.QuietStates.{agrees_quiet, keys_quiet, absent_held, stands_held, marked}
+use Rattle.mc_plan.proofs.Deeds.Removals.{removes}
+use Rattle.mc_plan.proofs.Deeds.Renewals.{renews}
+use Rattle.mc_plan.proofs.Puts.MadeRoom.{puts_room}
+use Rattle.mc_search.proofs.KeySlots.{placed-quiet}
+
+-- ---- acts of deeds
+pub deeds_then : (xs ys : List Act) → AreOfDeeds xs → AreOfDeeds ys → AreOfDeeds (xs ++ ys)
+deeds_then [] ys a b = b
+deeds_then (x ∷ xs) ys a b = (a.0, deeds_then xs ys a.1 b)
+
+deeds_value : (i j : ℕ) (v : List ℕ) → AreOfDeeds (value_acts i j v)
+deeds_value i j [] = tt
+deeds_value i j (x ∷ xs) = (tt, deeds_value i (j + 1) xs)
+
+deeds_renew : (k : ℕ) (v : List ℕ) (i : ℕ) → AreOfDeeds (renew_acts k v i)
+deeds_renew k v i = (tt, deeds_then (value_acts i 1 v) _ (deeds_value i 1 v) (tt, (tt, tt)))
+
+deeds_fill : (sh : Shape) (k : ℕ) (v : List ℕ) (i : ℕ) (p : Place) → AreOfDeeds (fill_acts sh k v i p)
+deeds_fill sh k v i p = (tt, (tt, deeds_then (value_acts i 1 v) _ (deeds_value i 1 v) (tt, (tt, (tt, tt)))))
+
+deeds_moves : (V : ℕ) (sh : Shape) (w : List ℕ) (ps : List Place) (hole : Place) → AreOfDeeds (moves_acts V sh w ps hole)
+deeds_moves V sh w [] hole = tt
+deeds_moves V sh w (p ∷ ps) hole = deeds_then (moves_acts V sh w ps hole) _ (deeds_moves V sh w ps hole) (tt, (tt, (tt, (tt, tt))))
+
+pub deeds_put : (V : ℕ) (sh : Shape) (w : List ℕ) (k : ℕ) (v : List ℕ) (i : ℕ) (ps : List Place) (hole : Place) → AreOfDeeds (put_acts V sh w k v i ps hole)
+deeds_put V sh w k v i ps hole = deeds_then (moves_acts V sh w ps hole) _ (deeds_moves V sh w ps hole) (deeds_fill sh k v i (first_place ps hole))
+
+-- ---- the moment after one change more
+moment_after : (V : ℕ) (s t : State V) (at : ℕ) (change : Change V) (sh : Shape) → IsQuiet V sh s → t.history ≡ s.history ++ change ∷ [] → at ≡ moment s.words + 1 → at ≡ length t.history
+moment_after V s t at change sh quiet grows is =
+    let now = (agrees_quiet V sh s quiet).at_moment in
+    let more = length-append s.history (change ∷ []) in
+    omega (arith, is, now, more, ap length grows)
+
+-- ---- the books after a plan
+-- the state after it, where its version changes were counted
+record Ends (V : ℕ) (b : Books) (s t : State V) (steps : ℕ) : Type 0 where
+  quiet : IsQuiet V (shape_of b.checked) t
+  changes : t.changes ≡ s.changes + steps
+  hand : t.hand ≡ s.hand
+  limit : s.changes + steps ≤ (shape_of b.checked).limit
+
+-- the free items of the state after it
+record FreeAfter (V : ℕ) (b : Books) (free : FreeItems) (w : List ℕ) : Type 0 where
+  kept : IsKept free
+  items : free.items ≡ b.free.items
+  frees : (i : ℕ) → IsFreeIn free i → IsFree (shape_of b.checked) w i
+  named : (i : ℕ) → i < (shape_of b.checked).items → (IsFreeIn free i → ⊥) → (q : ℕ) × Names (shape_of b.checked) w q i
+
+books_after : (V : ℕ) (b : Books) (s t : State V) (steps : ℕ) (free : FreeItems) → AreBooksOf V b s → Ends V b s t steps → FreeAfter V b free t.words → AreBooksOf V (record b { free = free; changes = b.changes + steps }) t
+books_after V b s t steps free old ends after = record {
+  width = old.width;
+  quiet = ends.quiet;
+  hand = old.hand ∙ sym ends.hand;
+  stands = rw ends.hand old.stands;
+  changes = omega (arith, old.changes, ends.changes);
+  limit = omega (arith, ends.changes, ends.limit);
+  finder = old.finder;
+  kept = after.kept;
+  items = after.items ∙ old.items;
+  free = after.frees;
+  named = after.named;
+}
+
+-- ---- a renewal
+free_kept : (V : ℕ) (b : Books) (s : State V) (x : List ℕ) → AreBooksOf V b s → KeepsSlots (shape_of b.checked) s.words x → FreeAfter V b b.free x
+free_kept V b s x old kept = record {
+  kept = old.kept;
+  items = refl;
+  frees = λ i f. kept_free (shape_of b.checked) s.words x i kept (old.free i f);
+  named = λ i l f. let n = old.named i l f in (n.0, kept_named (shape_of b.checked) s.words x n.0 i kept n.1);
+}
+
+pub renewal_planned : (V : ℕ) (b : Books) (k : ℕ) (v : List ℕ) (i at : ℕ) (s : State V) (q : ℕ) → IsShape (shape_of b.checked) → IsWord k → IsValue V v → AreBooksOf V b s → Stands V (shape_of b.checked) s.words k q i
+    → (PutIsSpent (shape_of b.checked) (quiet_of s) → ⊥) → s.changes + 2 ≤ (shape_of b.checked).limit → at ≡ moment s.words + 1
+    → IsPlanned V (record b { changes = b.changes + 2 }) (renew_acts k v i ++ Mark i ∷ []) (PutCall k v) s s (answer.Put (Ok (put.Renewed at)))
+renewal_planned V b k v i at s q shape key value old stands unspent limit is =
+    let sh = shape_of b.checked in
+    let acts = renew_acts k v i in
+    let t = left V sh s acts in
+    let law = renews V sh k v i shape key value.0 value.1 s q old.quiet stands in
+    let makes = law.0 in
+    let walk = marked V sh s acts (Put k v ∷ []) 2 i makes stands.names.in_items in
+    let told = answer.Put (Ok (put.Renewed at)) in
+    let renewed : means.Renews V sh (quiet_of s) (quiet_of t) k v at = record {
+      unspent = unspent;
+      present = stands_held V sh s k q i old.quiet stands;
+      grows = record { history = makes.history; changes = makes.changes };
+      hand = makes.hand;
+      moment = moment_after V s t at (Put k v) sh old.quiet makes.history is;
+    } in
+    let ends : Ends V b s t 2 = record { quiet = makes.quiet; changes = makes.changes; hand = makes.hand; limit = limit } in
+    record {
+      allowed = walk.allowed;
+      means = subst (λ (x : State V). Means sh (PutCall k v) told s x) (sym walk.leads) renewed;
+      marks = record { before = acts; slot = q; item = i; last = refl; deeds = deeds_renew k v i; stands = subst (λ (x : State V). Stands V sh x.words k q i) (sym walk.leads) law.1 };
+      ends = subst (λ (x : State V). AreBooksOf V (record b { changes = b.changes + 2 }) x) (sym walk.leads) (books_after V b s t 2 b.free old ends (free_kept V b s t.words old law.2));
+    }
+
+-- ---- a removal
+free_given : (V : ℕ) (b : Books) (s : State V) (x : List ℕ) (free : FreeItems) (i : ℕ) → AreBooksOf V b s → IsKept free → free.items ≡ b.free.items → Gives b.free free i → GivesItem (shape_of b.checked) s.words x i → FreeAfter V b free x
+free_given V b s x free i old kept items gives given = record {
+  kept = kept;
+  items = items;
+  frees = λ j f. elim (cases_eq j i) [
+    | inl e ↦ subst (λ (n : ℕ). IsFree (shape_of b.checked) x n) (sym e) given.freed
+    | inr ne ↦ given.free j (old.free j (gives.others j ne f))
+  ];
+  named = λ j l none.
+      let was = old.named j l (λ f. none (gives.free j f)) in
+      given.named was.0 j (λ e. none (subst (λ (n : ℕ). IsFreeIn free n) (sym e) gives.given)) was.1;
+}
+
+pub removal_planned : (V : ℕ) (b : Books) (k i at : ℕ) (p : Place) (free : FreeItems) (s : State V) → IsShape (shape_of b.checked) → IsWord k → AreBooksOf V b s → p.slot < 4 → Stands V (shape_of b.checked) s.words k (slot_number p) i
+    → (RemoveIsSpent (shape_of b.checked) (quiet_of s) → ⊥) → s.changes + 2 ≤ (shape_of b.checked).limit → at ≡ moment s.words + 1
+    → IsKept free → free.items ≡ b.free.items → Gives b.free free i
+    → IsPlanned V (record b { free = free; changes = b.changes + 2 }) (remove_acts k p) (RemoveCall k) s s (answer.Remove (Ok (remove.Removed at)))
+removal_planned V b k i at p free s shape key old below stands unspent limit is kept items gives =
+    let sh = shape_of b.checked in
+    let acts = remove_acts k p in
+    let t = left V sh s acts in
+    let law = removes V sh k p shape key s i old.quiet below stands in
+    let makes = law.0 in
+    let given = slot_given sh s.words t.words (slot_number p) i shape stands.names law.2 law.1 in
+    let removed : means.Removes V sh (quiet_of s) (quiet_of t) k at = record {
+      unspent = unspent;
+      present = stands_held V sh s k (slot_number p) i old.quiet stands;
+      grows = record { history = makes.history; changes = makes.changes };
+      hand = makes.hand;
+      moment = moment_after V s t at (Remove k) sh old.quiet makes.history is;
+    } in
+    let ends : Ends V b s t 2 = record { quiet = makes.quiet; changes = makes.changes; hand = makes.hand; limit = limit } in
+    record {
+      allowed = makes.allowed;
+      means = removed;
+      marks = (tt, (tt, (tt, (tt, tt))));
+      ends = books_after V b s t 2 free old ends (free_given V b s t.words free i old kept items gives given);
+    }
+
+-- ---- a put of a new key
+free_taken : (V : ℕ) (b : Books) (s : State V) (x : List ℕ) (free : FreeItems) (i : ℕ) → AreBooksOf V b s → IsKept free → free.items ≡ b.free.items → Takes b.free free i → TakesItem (shape_of b.checked) s.words x i → FreeAfter V b free x
+free_taken V b s x free i old kept items takes taken = record {
+  kept = kept;
+  items = items;
+  frees = λ j f. elim (cases_eq j i) [
+    | inl e ↦ absurd (takes.taken (subst (λ (n : ℕ). IsFreeIn free n) e f))
+    | inr ne ↦ taken.free j ne (old.free j (takes.free j f))
+  ];
+  named = λ j l none. elim (cases_eq j i) [
+    | inl e ↦ (taken.taken.0, subst (λ (n : ℕ). Names (shape_of b.checked) x taken.taken.0 n) (sym e) taken.taken.1)
+    | inr ne ↦ let was = old.named j l (λ f. none (takes.others j ne f)) in taken.named was.0 j was.1
+  ];
+}
+
+-- how long a least path is
+pub least_length : (sh : Shape) (w : List ℕ) (k : ℕ) (path : Path) → IsLeastPath sh w k path → IsLeastLength sh w k (length path.places.items)
+least_length sh w k path least = record { places = path.places.items; hole = path.hole; chain = least.chain; many = refl; least = least.least }
+
+pub stored_planned : (V : ℕ) (b : Books) (k : ℕ) (v : List ℕ) (i at : ℕ) (path : Path) (free : FreeItems) (s : State V) → IsShape (shape_of b.checked) → IsWord k → IsValue V v → AreBooksOf V b s
+    → IsAbsent V (shape_of b.checked) s.words k → IsLeastPath (shape_of b.checked) s.words k path → AreKeys V (shape_of b.checked) s.words path.places.items → i < (shape_of b.checked).items
+    → (PutIsSpent (shape_of b.checked) (quiet_of s) → ⊥) → at ≡ moment s.words + 1
+    → IsFreeIn b.free i → IsKept free → free.items ≡ b.free.items → Takes b.free free i
+    → IsPlanned V (record b { free = free; changes = b.changes + (2 * length path.places.items + 2) }) (put_acts V (shape_of b.checked) s.words k v i path.places.items path.hole ++ Mark i ∷ []) (PutCall k v) s s (answer.Put (Ok (put.Stored at (length path.places.items) None)))
+stored_planned V b k v i at path free s shape key value old absent least keys in_items unspent is was kept items takes =
+    let sh = shape_of b.checked in
+    let ps = path.places.items in
+    let acts = put_acts V sh s.words k v i ps path.hole in
+    let t = left V sh s acts in
+    let steps = 2 * length ps + 2 in
+    let can : CanPut V sh s.words k i ps path.hole = record { absent = absent; in_items = in_items; free = old.free i was; chain = least.chain; keys = keys } in
+    let law = puts_room V sh s k v i ps path.hole shape key value old.quiet can in
+    let makes = law.0 in
+    let walk = marked V sh s acts (Put k v ∷ []) steps i makes in_items in
+    let told = answer.Put (Ok (put.Stored at (length ps) None)) in
+    let limit : s.changes + steps ≤ sh.limit = omega (arith, least.within, unspent) in
+    let stored : means.Stores V sh (quiet_of s) (quiet_of t) k v at (length ps) = record {
+      unspent = unspent;
+      absent = absent_held V sh s k old.quiet absent;
+      within = least.within;
+      least = least_length sh s.words k path least;
+      room = room_from_free V sh s.words s.history (keys_quiet V sh s old.quiet) (i, in_items, old.free i was);
+      grows = record { history = makes.history; changes = makes.changes ∙ omega arith };
+      hand = makes.hand;
+      moment = moment_after V s t at (Put k v) sh old.quiet makes.history is;
+    } in
+    let ends : Ends V b s t steps = record { quiet = makes.quiet; changes = makes.changes; hand = makes.hand; limit = limit } in
+    record {
+      allowed = walk.allowed;
+      means = subst (λ (x : State V). Means sh (PutCall k v) told s x) (sym walk.leads) stored;
+      marks = record { before = acts; slot = slot_number (first_place ps path.hole); item = i; last = refl; deeds = deeds_put V sh s.words k v i ps path.hole; stands = subst (λ (x : State V). Stands V sh x.words k (slot_number (first_place ps path.hole)) i) (sym walk.leads) law.1 };
+      ends = subst (λ (x : State V). AreBooksOf V (record b { free = free; changes = b.changes + steps }) x) (sym walk.leads) (books_after V b s t steps free old ends (free_taken V b s t.words free i old kept items takes law.2));
+    }
+
+-- ---- a call that changes nothing
+pub idle_planned : (V : ℕ) (b : Books) (call : Call) (s : State V) (told : Answer) → AreBooksOf V b s → Means (shape_of b.checked) call told s s → Marks V (shape_of b.checked) s.words call told [] → IsPlanned V b [] call s s told
+idle_planned V b call s told old means marks = record { allowed = tt; means = means; marks = marks; ends = old }
+
+-- books with another list of the same free items
+pub books_still : (V : ℕ) (b : Books) (s : State V) (free : FreeItems) → AreBooksOf V b s → IsKept free → free.items ≡ b.free.items → ((j : ℕ) → IsFreeIn b.free j → ⊥) → ((j : ℕ) → IsFreeIn free j → ⊥) → AreBooksOf V (record b { free = free }) s
+books_still V b s free old kept items none still = record {
+  width = old.width;
+  quiet = old.quiet;
+  hand = old.hand;
+  stands = old.stands;
+  changes = old.changes;
+  limit = old.limit;
+  finder = old.finder;
+  kept = kept;
+  items = items ∙ old.items;
+  free = λ i f. absurd (still i f);
+  named = λ i l f. old.named i l (none i);
+}
+
+pub path_refused : (V : ℕ) (sh : Shape) (s : State V) (k : ℕ) → IsQuiet V sh s → (PutIsSpent sh (quiet_of s) → ⊥) → IsAbsent V sh s.words k → NoChain sh s.words k sh.depth → means.RefusesPath V sh (quiet_of s) (quiet_of s) k
+path_refused V sh s k quiet unspent absent none = record { unspent = unspent; absent = absent_held V sh s k quiet absent; none = none; unchanged = refl }
+
+-- what is asked of a put before an item is taken from another key
+pub needs_item : (V : ℕ) (b : Books) (s : State V) (k : ℕ) (path : Path) → AreBooksOf V b s → (PutIsSpent (shape_of b.checked) (quiet_of s) → ⊥) → IsAbsent V (shape_of b.checked) s.words k → IsLeastPath (shape_of b.checked) s.words k path
+    → ((j : ℕ) → IsFreeIn b.free j → ⊥) → (needs : means.NeedsItem V (shape_of b.checked) (quiet_of s) k) × (needs.count ≡ length path.places.items)
+needs_item V b s k path old unspent absent least none =
+    let sh = shape_of b.checked in (
+      record {
+        unspent = unspent;
+        absent = absent_held V sh s k old.quiet absent;
+        count = length path.places.items;
+        within = least.within;
+        least = least_length sh s.words k path least;
+        full = full_from_named V sh s.words s.history (keys_quiet V sh s old.quiet) (λ i l. old.named i l (none i));
+      },
+      refl,
+    )
+
+pub nothing_found : (V : ℕ) (sh : Shape) (s : State V) (k at : ℕ) → IsQuiet V sh s → (RemoveIsSpent sh (quiet_of s) → ⊥) → IsAbsent V sh s.words k → at ≡ moment s.words → means.FindsNothing V sh (quiet_of s) (quiet_of s) k at
+nothing_found V sh s k at quiet unspent absent is =
+    record { unspent = unspent; absent = absent_held V sh s k quiet absent; unchanged = refl; moment = is ∙ (agrees_quiet V sh s quiet).at_moment }
+
+-- ---- the words of a state that the books know
+module _ (V : ℕ) (b : Books) (s : State V) (w : List ℕ) (old : AreBooksOf V b s) (same : w ≡ s.words) where
+  pub reaches : word_count V (shape_of b.checked) ≤ length w
+  reaches = rw same old.quiet.holds.agrees.size
+
+  pub filled_in : IsFilled (shape_of b.checked) w
+  filled_in = rw same (agrees_quiet V (shape_of b.checked) s old.quiet).filled
+
+  pub placed_in : (k : ℕ) → IsPlaced V (shape_of b.checked) w k
+  placed_in k = rw same (placed-quiet V (shape_of b.checked) s.words s.history k (agrees_quiet V (shape_of b.checked) s old.quiet))
+
+  pub none_in : (k : ℕ) → NoChain b.finder w k b.finder.depth → NoChain (shape_of b.checked) s.words k (shape_of b.checked).depth
+  none_in k none = subst (λ (sh : Shape). NoChain sh s.words k sh.depth) old.finder (subst (λ (x : List ℕ). NoChain b.finder x k b.finder.depth) same none)
+
+  pub least_in : (k : ℕ) (path : Path) → IsLeastPath b.finder w k path → IsLeastPath (shape_of b.checked) s.words k path
+  least_in k path least = subst (λ (sh : Shape). IsLeastPath sh s.words k path) old.finder (subst (λ (x : List ℕ). IsLeastPath b.finder x k path) same least)
+
+  pub moment_in : (at : ℕ) → at ≡ moment w + 1 → at ≡ moment s.words + 1
+  moment_in at is = is ∙ ap (λ (x : List ℕ). moment x + 1) same
+
+  pub absent_in : (k : ℕ) → IsAbsent V (shape_of b.checked) w k → IsAbsent V (shape_of b.checked) s.words k
+  absent_in k absent = subst (λ (x : List ℕ). IsAbsent V (shape_of b.checked) x k) same absent
+
+-- ---- a new table
+-- no slot names an item
+none_names : (V : ℕ) (sh : Shape) (q i : ℕ) → Names sh (opening V sh).words q i → ⊥
+unfolding slot opening
+none_names V sh q i n = empty_names_none sh (opening V sh).words q i (zeros (word_count V sh) (1 + sh.stripes + q)) n
+
+opening_quiet : (V : ℕ) (sh : Shape) → IsQuiet V sh (opening V sh)
+unfolding opening
+opening_quiet V sh = record { quiet = refl; holds = opening_holds V sh; counted = opening_counted V sh }
+
+opening_hand : (V : ℕ) (sh : Shape) → (opening V sh).hand ≡ 0
+unfolding opening
+opening_hand V sh = refl
+
+opening_changes : (V : ℕ) (sh : Shape) → (opening V sh).changes ≡ 0
+unfolding opening
+opening_changes V sh = refl
+
+pub new_books : (V : ℕ) (b : Books) → IsWidth V → b.finder ≡ shape_of b.checked → b.hand ≡ 0 → b.changes ≡ 0 → IsKept b.free → b.free.items ≡ (shape_of b.checked).items → ((i : ℕ) → i < (shape_of b.checked).items → IsFreeIn b.free i) → AreBooksOf V b (opening V (shape_of b.checked))
+new_books V b width finder hand changes kept items all =
+    let sh = shape_of b.checked in
+    let none = opening_changes V sh in
+    record {
+      width = width;
+      quiet = opening_quiet V sh;
+      hand = hand ∙ sym (opening_hand V sh);
+      stands = omega (arith, opening_hand V sh, b.checked.sound.items.0);
+      changes = omega arith;
+      limit = omega (arith, none);
+      finder = finder;
+      kept = kept;
+      items = items;
+      free = λ i f q n. none_names V sh q i n;
+      named = λ i l f. absurd (f (all i l));
+    }

@@ -1,0 +1,5 @@
+pub mod PathSteps
+pub mod PathMoves
+pub mod NamedItems
+pub mod MadeRoom
+pub mod Replacements

@@ -1,0 +1,3 @@
+pub mod ReachedWorlds
+pub mod Bits
+pub mod Spans

@@ -1,0 +1,10 @@
+pub mod KeptWhileEven
+pub mod Fronts
+pub mod Readings
+pub mod Histories
+pub mod ClearReadings
+pub mod Bounds
+pub mod Ranges
+pub mod WrittenWords
+pub mod Growth
+pub mod HandTurns

@@ -1,0 +1,4 @@
+pub mod Windows
+pub mod Scans
+pub mod TrueReplies
+pub mod Lengths
