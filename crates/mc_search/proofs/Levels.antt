@@ -8,7 +8,7 @@ use Rattle.mc_words.specs.Places.{slot}
 use Rattle.mc_search.specs.declared.queue.Entry.{Entry}
 use Rattle.mc_search.specs.Readable.{IsFull}
 use Rattle.mc_search.specs.Search.{entry_at, bucket_at, depth_at, next_of, AreFull, ComesFrom, Origin, IsTree, IsNear, IsUpTo, IsFollowed, IsAdded, IsSearching, IsExpanding}
-use Rattle.mc_search.proofs.Queue.{entry_at-old, entry_at-new, bucket_at-old, depth_at-old, depth_at-new, length-push, last_or, each_pushed}
+use Rattle.mc_search.proofs.QueueEntries.{entry_at-old, entry_at-new, bucket_at-old, depth_at-old, depth_at-new, length-push, last_or, each_pushed}
 
 -- an entry that comes from an earlier one still does where one more is queued
 comes-push : (sh : Shape) (w : List ℕ) (q : List Entry) (x : Entry) (i : ℕ) (e : Entry) → i ≤ length q → ComesFrom sh w q i e → ComesFrom sh w (q ++ x ∷ []) i e

@@ -1,9 +1,9 @@
 pub mod KeySlots
 pub mod SlotWords
-pub mod Queue
+pub mod QueueEntries
 pub mod Levels
 pub mod Shortest
 pub mod Trace
 pub mod SweepReadings
 pub mod CutChains
-pub mod FreeItems
+pub mod TakenItems

@@ -12,7 +12,7 @@ use Rattle.mc_search.specs.declared.queue.Entry.{Entry}
 use Rattle.mc_search.specs.Paths.{IsLeastPath}
 use Rattle.mc_search.specs.Readable.{IsFull, IsHoleIn}
 use Rattle.mc_search.specs.Search.{entry_at, bucket_at, depth_at, next_of, AreFull, IsNear, IsFollowed, IsSearching, IsExpanding, IsFound, IsAdded}
-use Rattle.mc_search.proofs.Queue.{length-push, bucket_at-new, depth_at-new}
+use Rattle.mc_search.proofs.QueueEntries.{length-push, bucket_at-new, depth_at-new}
 use Rattle.mc_search.proofs.Levels.{entry_from, entry_to, expanding-push}
 
 -- where all queued buckets are full, and the slots of all entries above level m - 1 were followed, no chain is shorter than m

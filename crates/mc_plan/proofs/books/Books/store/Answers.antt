@@ -11,7 +11,7 @@ use Rattle.mc_plan.specs.declared.books.Books.{Books}
 use Rattle.mc_plan.specs.Moves.{AreTaken, AreKeys}
 use Rattle.mc_plan.specs.Puts.{put_acts}
 use Rattle.mc_search.specs.Readable.{IsFilled}
-use Rattle.mc_search.proofs.FreeItems.{free_below}
+use Rattle.mc_search.proofs.TakenItems.{free_below}
 use Rattle.mc_plan.proofs.Puts.PathSteps.{chain_taken}
 use Rattle.mc_plan.proofs.Deeds.Values.{payload_of}
 use Rattle.mc_plan.proofs.Calls.AfterPlan.{idle_planned, books_still, path_refused, stored_planned, reaches, filled_in, none_in, least_in, moment_in, absent_in}

@@ -1,6 +1,6 @@
 use Rattle.std.proofs.Common.{arith, refl}
 use Rattle.mc_search.specs.Free.{Fresh}
-use Rattle.mc_search.proofs.FreeItems.{new_kept}
+use Rattle.mc_search.proofs.TakenItems.{new_kept}
 use Rattle.mc_search.proofs.free.FreeItems.new.Goals as goal
 
 pub returns-clause-kept : goal.returns-clause-kept

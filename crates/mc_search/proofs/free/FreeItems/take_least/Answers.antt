@@ -1,7 +1,7 @@
 use Rattle.std.proofs.Common.{arith, refl}
 use Rattle.std.proofs.lemmas.List.{nil_from_length}
 use Rattle.std.specs.BinaryHeap.{heap_items}
-use Rattle.mc_search.proofs.FreeItems.{popped_kept, popped_free, popped_takes, popped_least, fresh_free, fresh_takes}
+use Rattle.mc_search.proofs.TakenItems.{popped_kept, popped_free, popped_takes, popped_least, fresh_free, fresh_takes}
 use Rattle.mc_search.proofs.free.FreeItems.take_least.Goals as goal
 
 pub returns-in-Some-clause-kept : goal.returns-in-Some-clause-kept
