@@ -5,7 +5,8 @@ use Rattle.std.proofs.lemmas.List.{append-nil, append_assoc, map-append}
 use Rattle.mc_words.specs.declared.shape.Shape.{Shape}
 use Rattle.mc_core.specs.Parts.{shape_of_parts, shown_of, StandFor, AreReached, HasMade}
 use Rattle.mc_core.specs.Seen.{Shown, Shows}
-use Rattle.mc_theory.specs.Worlds.{World, Running, Ended, given_of, bit_of, Steps, Gives, Refuses, Runs, IsReached, StopsAt, HasRun, many_made, first_world}
+use Rattle.mc_theory.specs.Plain.{events_made}
+use Rattle.mc_theory.specs.Worlds.{World, Running, Ended, given_of, bit_of, Steps, Gives, Refuses, Runs, IsReached, StopsAt, HasRun, first_world}
 use Rattle.mc_theory.specs.declared.act.Act.{Act}
 use Rattle.mc_theory.specs.declared.act.Act.TheVariants as act
 use Rattle.mc_theory.specs.declared.event.Done.{Done}
@@ -119,7 +120,7 @@ reached_made {V} old new es before after reached made =
     }
 
 -- what a run promises of every world of events that is shown
-pub has_run : {V : ℕ} (old new : Parts V) (events : List Event) (done : List (Done V)) (stopped : Option (ℕ × Unlawful)) → AreReached {V = V} old → HasMade {V = V} old new (take (many_made (length events) stopped) events) [] done →
+pub has_run : {V : ℕ} (old new : Parts V) (events : List Event) (done : List (Done V)) (stopped : Option (ℕ × Unlawful)) → AreReached {V = V} old → HasMade {V = V} old new (events_made events stopped) [] done →
     ((seen : World V) → StandFor {V = V} new seen → StopsAt {V = V} (shape_of_parts {V = V} new) seen events stopped) →
     (seen : World V) → Shows {V = V} (shown_of {V = V} old) seen → (x : World V) × HasRun V (shape_of_parts {V = V} old) seen x events done stopped × Shows {V = V} (shown_of {V = V} new) x
 has_run {V} old new events done stopped reached made stops = λ seen shows.

@@ -12,3 +12,4 @@ pub mod NewWorld
 pub mod WorldSteps
 pub mod EventLists
 pub mod ShownWords
+pub mod Plainly

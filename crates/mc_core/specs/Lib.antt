@@ -3,3 +3,4 @@ pub mod Progresses
 pub mod Writers
 pub mod Seen
 pub mod Parts
+pub mod Runs

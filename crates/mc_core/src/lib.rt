@@ -14,7 +14,7 @@ mod table;
 mod world;
 mod writer;
 
-pub use events::run;
+pub use events::{run, run_new};
 pub use mc_lookup::{Lookup, Stage};
 pub use mc_theory::{
     Access, Act, Change, Deed, Done, Event, Reply, Stepped, Unlawful, laws,

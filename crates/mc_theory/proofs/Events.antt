@@ -1,3 +1,4 @@
 pub mod ReachedWorlds
 pub mod Bits
+pub mod ToldHistories
 pub mod Spans

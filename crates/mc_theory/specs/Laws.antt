@@ -4,7 +4,8 @@ use Rattle.mc_theory.specs.Inner.{StateCounted}
 use Rattle.mc_theory.specs.Lists.{IsLawful, Made, front, state_of}
 use Rattle.mc_theory.specs.Lookups.{IsLookup}
 use Rattle.mc_theory.specs.Phases.{running}
-use Rattle.mc_theory.specs.Readings.{AreRead, IsBetween, Reading, RiseTo}
+use Rattle.mc_theory.specs.Plain.{IsBetween}
+use Rattle.mc_theory.specs.Readings.{AreRead, Reading, RiseTo}
 use Rattle.mc_words.specs.History.{IsChange, IsLegal, IsTrueAnswer, held}
 use Rattle.mc_words.specs.Keys.{stripe_of}
 use Rattle.mc_words.specs.Places.{item, payload, version}

@@ -4,6 +4,7 @@ pub mod Acts
 pub mod Effects
 pub mod Lists
 pub mod Inner
+pub mod Plain
 pub mod Readings
 pub mod Lookups
 pub mod Worlds

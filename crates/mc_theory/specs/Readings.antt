@@ -1,8 +1,6 @@
 -- Readings: what a reader read, and at which front of the list of acts.
 use Rattle.std.specs.Prelude.{ℕ, ◌≡◌, ◌≤◌, List, [], ◌∷◌}
 use Rattle.mc_words.specs.Places.{item, moment, slot, slot_number, version}
-use Rattle.mc_words.specs.declared.history.Reply.{Reply}
-use Rattle.mc_words.specs.declared.history.Reply.TheVariants.{Found, Absent, Busy}
 use Rattle.mc_words.specs.declared.shape.Shape.{Shape}
 use Rattle.mc_theory.specs.Lists.{Made, front}
 use Rattle.mc_theory.specs.declared.access.Access.{Access}
@@ -32,9 +30,3 @@ AreRead V sh acts (r ∷ rs) = IsWordOf V sh (front V sh acts r.front).words r.a
 abbrev pub RiseTo : ℕ → List Reading → ℕ → Type 0
 RiseTo f [] g = f ≤ g
 RiseTo f (r ∷ rs) g = (f ≤ r.front) × RiseTo r.front rs g
-
--- the moment of the reply lies between these two
-abbrev pub IsBetween : {V : ℕ} → ℕ → ℕ → Reply V → Type 0
-IsBetween lo hi (Found v at) = (lo ≤ at) × (at ≤ hi)
-IsBetween lo hi (Absent at) = (lo ≤ at) × (at ≤ hi)
-IsBetween lo hi Busy = Unit {0}

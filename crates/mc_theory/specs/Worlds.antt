@@ -1,5 +1,5 @@
 -- A world: one writer and some readers, each event one atomic step.
-use Rattle.std.specs.Prelude.{ℕ, ◌≡◌, ◌≢◌, ◌+◌, ◌-◌, ◌^◌, ◌<◌, ◌≤◌, ◌⊎◌, List, [], ◌∷◌, ◌++◌, All, length, map, take, Option, Some, None, slice_get, slice_set, slice_index, replicate}
+use Rattle.std.specs.Prelude.{ℕ, ◌≡◌, ◌≢◌, ◌+◌, ◌-◌, ◌^◌, ◌<◌, ◌≤◌, ◌⊎◌, List, [], ◌∷◌, ◌++◌, All, length, map, Option, Some, None, slice_get, slice_set, slice_index, replicate}
 use Rattle.mc_words.specs.History.{IsTrueAnswer}
 use Rattle.mc_words.specs.Shapes.{IsShape}
 use Rattle.mc_words.specs.declared.history.Reply.{Reply}
@@ -7,7 +7,8 @@ use Rattle.mc_words.specs.declared.shape.Shape.{Shape}
 use Rattle.mc_theory.specs.Acts.{IsAllowed}
 use Rattle.mc_theory.specs.Lists.{Made, IsLawful, state_of, front}
 use Rattle.mc_theory.specs.Lookups.{IsLookup}
-use Rattle.mc_theory.specs.Readings.{Reading, IsWordOf, IsBetween}
+use Rattle.mc_theory.specs.Plain.{IsBetween, events_made}
+use Rattle.mc_theory.specs.Readings.{Reading, IsWordOf}
 use Rattle.mc_theory.specs.declared.access.Access.{Access}
 use Rattle.mc_theory.specs.declared.access.Access.TheVariants as access
 use Rattle.mc_theory.specs.declared.act.Act.{Act}
@@ -156,11 +157,6 @@ abbrev pub Runs : (V : ℕ) → Shape → World V → List Event → World V →
 Runs V sh w [] x = x ≡ w
 Runs V sh w (e ∷ es) x = (mid : World V) × Steps V sh w e mid × Runs V sh mid es x
 
--- how many of so many events were made
-abbrev pub many_made : ℕ → Option (ℕ × Unlawful) → ℕ
-many_made n None = n
-many_made n (Some stop) = stop.0
-
 -- where a run stopped, the next event is refused, and not for want of memory
 abbrev pub StopsAt : {V : ℕ} → Shape → World V → List Event → Option (ℕ × Unlawful) → Type 0
 StopsAt sh w events None = Unit {0}
@@ -168,7 +164,7 @@ StopsAt sh w events (Some stop) = (e : Event) × (slice_get events stop.0 ≡ So
 
 -- the events lead from one world to the other, up to the first that is refused; done is what the look-ups told that ended
 pub record HasRun (V : ℕ) (sh : Shape) (w x : World V) (events : List Event) (done : List (Done V)) (stopped : Option (ℕ × Unlawful)) : Type 0 where
-  pub runs : Runs V sh w (take (many_made (length events) stopped) events) x
+  pub runs : Runs V sh w (events_made events stopped) x
   pub ended : List (Ended V)
   pub more : x.ended ≡ w.ended ++ ended
   pub told : done ≡ map (λ e. e.told) ended

@@ -6,10 +6,11 @@ use crate::parts::Parts;
 use std::alloc::{AllocError, Global};
 
 impl<const V: usize> Parts<V> {
-    ghost use Rattle.std.specs.Prelude.{◌≡◌, ◌≢◌, ◌+◌, ◌<◌, ◌≤◌, ◌∷◌, [], length, take, IfOk, IfErr, OnOk, OnErr, vec_len, vec_capacity};
+    ghost use Rattle.std.specs.Prelude.{◌≡◌, ◌≢◌, ◌+◌, ◌<◌, ◌≤◌, ◌∷◌, [], length, IfOk, IfErr, OnOk, OnErr, vec_len, vec_capacity};
     ghost use Rattle.mc_core.specs.Parts.{shape_of_parts, shown_of, StandFor, HasMade};
     ghost use Rattle.mc_theory.specs.Worlds as worlds;
-    ghost use Rattle.mc_theory.specs.Worlds.{many_made, StopsAt};
+    ghost use Rattle.mc_theory.specs.Plain.{events_made};
+    ghost use Rattle.mc_theory.specs.Worlds.{StopsAt};
     ghost use Rattle.mc_core.specs.Writers.{room_of};
     ghost use Rattle.mc_theory.specs.declared.event.Unlawful.TheVariants as unlawful;
 
@@ -20,7 +21,7 @@ impl<const V: usize> Parts<V> {
         events: &[Event],
     ) -> Result<(Vec<Done<V>>, Option<(usize, Unlawful)>), AllocError>
         requires { (seen : worlds.World V) × StandFor {V = V} self.old seen }
-        ensures ok { IfOk result (λ run. HasMade {V = V} self.old self.new (take (many_made (length events.now) run.1) events.now) [] run.0.items × ((seen : worlds.World V) → StandFor {V = V} self.new seen → StopsAt {V = V} (shape_of_parts {V = V} self.new) seen events.now run.1)) }
+        ensures ok { IfOk result (λ run. HasMade {V = V} self.old self.new (events_made events.now run.1) [] run.0.items × ((seen : worlds.World V) → StandFor {V = V} self.new seen → StopsAt {V = V} (shape_of_parts {V = V} self.new) seen events.now run.1)) }
         ensures err { OnErr result (HasMade {V = V} self.old self.new [] [] []) }
         ensures kept { OnErr result (shown_of {V = V} self.new ≡ shown_of {V = V} self.old) }
     {
@@ -44,7 +45,7 @@ impl<const V: usize> Parts<V> {
         requires stands { (seen : worlds.World V) × StandFor {V = V} self.old seen }
         requires room { length events.now ≤ room_of {V = V} self.old.writer }
         requires spare { vec_len done.old + length events.now ≤ vec_capacity done.old }
-        ensures made { HasMade {V = V} self.old self.new (take (many_made (length events.now) result) events.now) done.old.items done.new.items }
+        ensures made { HasMade {V = V} self.old self.new (events_made events.now result) done.old.items done.new.items }
         ensures stops { (seen : worlds.World V) → StandFor {V = V} self.new seen → StopsAt {V = V} (shape_of_parts {V = V} self.new) seen events.now result }
     {
         for (i, event) in events.iter().enumerate() {

@@ -47,12 +47,12 @@ sound_more V sh w run r s next = record {
 }
 
 -- ---- the readers, by number
-pub read_after_set : {A : Type 0} (xs : List A) (i r : ℕ) (o x : A) → slice_get (slice_set xs i o) r ≡ Some x → ((r ≡ i) × (o ≡ x)) ⊎ (slice_get xs r ≡ Some x)
-read_after_set [] i r o x e = inr e
+pub read_after_set : {A : Type 0} (xs : List A) (i r : ℕ) (o x : A) → slice_get (slice_set xs i o) r ≡ Some x → ((r ≡ i) × (o ≡ x)) ⊎ ((r ≡ i → ⊥) × (slice_get xs r ≡ Some x))
+read_after_set [] i r o x e = absurd (cc)
 read_after_set (y ∷ ys) zero zero o x e = inl (refl, cc)
-read_after_set (y ∷ ys) zero (suc r) o x e = inr e
-read_after_set (y ∷ ys) (suc i) zero o x e = inr e
-read_after_set (y ∷ ys) (suc i) (suc r) o x e = elim (read_after_set ys i r o x e) [ inl new ↦ inl (ap suc new.0, new.1) | inr old ↦ inr old ]
+read_after_set (y ∷ ys) zero (suc r) o x e = inr ((λ f. cc), e)
+read_after_set (y ∷ ys) (suc i) zero o x e = inr ((λ f. cc), e)
+read_after_set (y ∷ ys) (suc i) (suc r) o x e = elim (read_after_set ys i r o x e) [ inl new ↦ inl (ap suc new.0, new.1) | inr old ↦ inr ((λ f. old.0 (omega arith)), old.1) ]
 
 pub all_idle : (m r : ℕ) (run : Running) → slice_get (replicate {A = Option Running} m None) r ≡ Some (Some run) → ⊥
 all_idle zero r run e = cc
@@ -92,7 +92,7 @@ step_holds V sh w x (Begin r k) h s =
       lawful = h.lawful;
       running = λ q run e. elim (read_after_set w.readers r q (Some new) (Some run) e) [
         | inl is ↦ sound_of V sh w.acts new run is.1 (record { in_range = s.1; read = tt; rise = omega arith; fits = omega arith })
-        | inr old ↦ h.running q run old
+        | inr old ↦ h.running q run old.1
       ];
       ended = h.ended;
     })
@@ -105,7 +105,7 @@ step_holds V sh w x (Read r) h s =
         lawful = h.lawful;
         running = λ q other e. elim (read_after_set w.readers r q None (Some other) e) [
           | inl is ↦ absurd (cc (is.1))
-          | inr old ↦ h.running q other old
+          | inr old ↦ h.running q other old.1
         ];
         ended = All-push (EndedWell V sh w.acts) w.ended _ h.ended (sound, over.1);
       })
@@ -115,7 +115,7 @@ step_holds V sh w x (Read r) h s =
             lawful = h.lawful;
             running = λ q other e. elim (read_after_set w.readers r q (Some new) (Some other) e) [
               | inl is ↦ sound_of V sh w.acts new other is.1 sound
-              | inr old ↦ h.running q other old
+              | inr old ↦ h.running q other old.1
             ];
             ended = h.ended;
           })

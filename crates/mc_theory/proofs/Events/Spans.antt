@@ -1,5 +1,5 @@
 -- What a list of events tells by itself: the history that its acts make, and the span of each look-up.
-use Rattle.std.proofs.Common.{ℕ, zero, suc, ◌≡◌, ◌+◌, ◌≤◌, ◌<◌, ◌⊎◌, List, [], ◌∷◌, ◌++◌, get_or, length, take, Some, None, refl, sym, ◌∙◌, ap, subst, inl, inr, arith, add-one, length-append}
+use Rattle.std.proofs.Common.{ℕ, zero, suc, ◌≡◌, ◌+◌, ◌≤◌, ◌<◌, ◌⊎◌, List, [], ◌∷◌, ◌++◌, get_or, length, take, Some, None, refl, sym, ◌∙◌, ap, subst, inl, inr, arith, add-one}
 use Rattle.std.specs.Prelude.{map, slice_get}
 use Rattle.std.specs.List.{All}
 use Rattle.std.proofs.lemmas.List.{append_assoc, append-nil, length-map, length_push, map-append, take-append-le, take-map}
@@ -9,18 +9,20 @@ use Rattle.std.proofs.lemmas.Option.{slice_get_within}
 use Rattle.mc_words.specs.declared.history.Change.{Change}
 use Rattle.mc_words.specs.declared.history.Reply.{Reply}
 use Rattle.mc_words.specs.declared.shape.Shape.{Shape}
-use Rattle.mc_theory.specs.Effects.{after_act}
-use Rattle.mc_theory.specs.Lists.{Made, after_all, front, state_of}
-use Rattle.mc_theory.specs.Phases.{Quiet}
-use Rattle.mc_theory.specs.Readings.{IsBetween, Reading}
-use Rattle.mc_theory.specs.Spans.{EndsTellSpans, EventsTellHistories, IsPlainlyTrue, IsSpanned, WorldsArePlainlyTrue, acts_in, history_from, history_of}
-use Rattle.mc_theory.specs.States.{State, opening}
+use Rattle.mc_theory.proofs.Lists.Fronts.{allowed_take}
+use Rattle.mc_theory.specs.Lists.{IsLawful, Made, front, state_of}
+use Rattle.mc_theory.specs.Plain.{IsBetween, IsPlainlyTrue, acts_in, changes_by, history_of}
+use Rattle.mc_theory.specs.Readings.{Reading}
+use Rattle.mc_theory.specs.Spans.{EndsTellSpans, EventsTellHistories, IsSpanned, WorldsArePlainlyTrue}
+use Rattle.mc_theory.specs.States.{opening}
 use Rattle.mc_theory.specs.Worlds.{Ended, IsTrueEnd, Running, Runs, Steps, World, first_read, first_world, start_of}
 use Rattle.mc_theory.specs.declared.act.Act.{Act}
+use Rattle.mc_theory.specs.declared.act.Deed.TheVariants as deed
 use Rattle.mc_theory.specs.declared.event.Event.{Event}
 use Rattle.mc_theory.specs.declared.event.Event.TheVariants.{Write, Begin, Read}
 use Rattle.mc_words.specs.History.{IsTrueAnswer}
-use Rattle.mc_theory.proofs.Events.ReachedWorlds.{all_idle, read_after_set, worlds_are_true}
+use Rattle.mc_theory.proofs.Events.ReachedWorlds.{all_idle, first_holds, read_after_set, runs_hold, worlds_are_true}
+use Rattle.mc_theory.proofs.Events.ToldHistories.{act_of, history_told}
 
 -- ---- the acts among events
 -- those of two lists, one after the other
@@ -49,32 +51,26 @@ acts_in-read (Begin q k ∷ es) (suc n) r e = acts_in-read es n r e
 acts_in-read (Read q ∷ es) (suc n) r e = acts_in-read es n r e
 
 -- ---- the history that they make
--- the act without the bit that it read
-abbrev act_of : Made → Act
-act_of m = m.act
-
--- acts one after the other leave the history that they make
-history_made : {V : ℕ} (sh : Shape) (s : State V) (xs : List Made) → (after_all sh s xs).history ≡ history_from s.phase s.history (map act_of xs)
-history_made sh s [] = refl
-history_made sh s (x ∷ xs) = history_made sh (after_act sh s x.act x.bit) xs
-
--- a front has the history of its acts
-front_history : (V : ℕ) (sh : Shape) (acts : List Made) (f : ℕ) → (front V sh acts f).history ≡ history_from {V = V} Quiet [] (take f (map act_of acts))
-unfolding front opening
-front_history V sh acts f = history_made sh (opening V sh) (take f acts) ∙ ap (λ (made : List Act). history_from {V = V} Quiet [] made) (sym (take-map act_of f acts))
+-- a front of lawful acts has the history that its acts tell
+front_history : (V : ℕ) (sh : Shape) (acts : List Made) (f : ℕ) → IsLawful V sh acts → (front V sh acts f).history ≡ changes_by {V = V} deed.Move 0 [] (take f (map act_of acts))
+unfolding front opening IsLawful
+front_history V sh acts f lawful =
+    history_told sh (opening V sh) (take f acts) deed.Move 0 [] (allowed_take sh (opening V sh) f acts lawful) tt ∙
+    ap (λ (made : List Act). changes_by {V = V} deed.Move 0 [] made) (sym (take-map act_of f acts))
 
 -- and the front after some of the events that they make
-fronts_tell : (V : ℕ) (sh : Shape) (acts : List Made) (es : List Event) (n : ℕ) → map act_of acts ≡ acts_in es → (front V sh acts (length (acts_in (take n es)))).history ≡ history_of V (take n es)
+fronts_tell : (V : ℕ) (sh : Shape) (acts : List Made) (es : List Event) (n : ℕ) → IsLawful V sh acts → map act_of acts ≡ acts_in es → (front V sh acts (length (acts_in (take n es)))).history ≡ history_of V (take n es)
 unfolding history_of
-fronts_tell V sh acts es n same =
-    front_history V sh acts (length (acts_in (take n es))) ∙
-    ap (λ (made : List Act). history_from {V = V} Quiet [] (take (length (acts_in (take n es))) made)) same ∙
-    ap (λ (made : List Act). history_from {V = V} Quiet [] made) (take-acts_in n es)
+fronts_tell V sh acts es n lawful same =
+    front_history V sh acts (length (acts_in (take n es))) lawful ∙
+    ap (λ (made : List Act). changes_by {V = V} deed.Move 0 [] (take (length (acts_in (take n es))) made)) same ∙
+    ap (λ (made : List Act). changes_by {V = V} deed.Move 0 [] made) (take-acts_in n es)
 
 -- and the state the history of all
-state_tells : (V : ℕ) (sh : Shape) (acts : List Made) (es : List Event) → map act_of acts ≡ acts_in es → (state_of V sh acts).history ≡ history_of V es
-unfolding state_of opening history_of
-state_tells V sh acts es same = history_made sh (opening V sh) acts ∙ ap (λ (made : List Act). history_from {V = V} Quiet [] made) same
+state_tells : (V : ℕ) (sh : Shape) (acts : List Made) (es : List Event) → IsLawful V sh acts → map act_of acts ≡ acts_in es → (state_of V sh acts).history ≡ history_of V es
+unfolding state_of opening history_of IsLawful
+state_tells V sh acts es lawful same =
+    history_told sh (opening V sh) acts deed.Move 0 [] lawful tt ∙ ap (λ (made : List Act). changes_by {V = V} deed.Move 0 [] made) same
 
 -- ---- events by their numbers
 -- a longer list has the same first events
@@ -100,10 +96,11 @@ get_push (z ∷ xs) y x zero e = inl e
 get_push (z ∷ xs) y x (suc n) e = get_push xs y x n e
 
 -- ---- the spans of look-ups
--- the first of these readings was made by this event of the reader, after the one at which it began
+-- the first of these readings was made by this event of the reader, the first one after that at which it began; without a reading there is no such event
 abbrev pub BeganAt : List Event → ℕ → ℕ → ℕ → List Reading → Type 0
-BeganAt es r begin first [] = Unit {0}
-BeganAt es r begin first (x ∷ xs) = (begin < first) × (slice_get es first ≡ Some (Read r)) × (x.front ≡ length (acts_in (take first es)))
+BeganAt es r begin first [] = (n : ℕ) → begin < n → slice_get es n ≡ Some (Read r) → ⊥
+BeganAt es r begin first (x ∷ xs) =
+    (begin < first) × (slice_get es first ≡ Some (Read r)) × (x.front ≡ length (acts_in (take first es))) × ((n : ℕ) → begin < n → n < first → slice_get es n ≡ Some (Read r) → ⊥)
 
 -- the last look-up that the reader began is of this key, and has these readings so far
 record IsOpen (es : List Event) (r : ℕ) (run : Running) : Type 0 where
@@ -112,32 +109,45 @@ record IsOpen (es : List Event) (r : ℕ) (run : Running) : Type 0 where
   alone : (n k : ℕ) → begin < n → slice_get es n ≡ Some (Begin r k) → ⊥
   first : BeganAt es r begin run.first run.sofar
 
--- more events leave it so
-began_longer : (es more : List Event) (r begin first : ℕ) (rs : List Reading) → BeganAt es r begin first rs → BeganAt (es ++ more) r begin first rs
-began_longer es more r begin first [] at = tt
-began_longer es more r begin first (x ∷ xs) at =
-    let within = slice_get_within es first (Read r) at.1 in
-    (at.0, get_longer es more first (Read r) at.1, at.2 ∙ ap (λ (ys : List Event). length (acts_in ys)) (sym (take-append-le first es more (omega arith))))
+-- more events leave it so, where there is a reading
+began_longer : (es more : List Event) (r begin first : ℕ) (x : Reading) (xs : List Reading) → BeganAt es r begin first (x ∷ xs) → BeganAt (es ++ more) r begin first (x ∷ xs)
+began_longer es more r begin first x xs at =
+    let within = slice_get_within es first (Read r) at.1 in (
+      at.0,
+      get_longer es more first (Read r) at.1,
+      at.2 ∙ ap (λ (ys : List Event). length (acts_in ys)) (sym (take-append-le first es more (omega arith))),
+      λ n l m is. at.3 n l m (sym (get_front es more n (omega arith)) ∙ is),
+    )
+
+-- and so does one event more at which the reader makes none
+began_still : (es : List Event) (e : Event) (r begin first : ℕ) (rs : List Reading) → (e ≡ Read r → ⊥) → BeganAt es r begin first rs → BeganAt (es ++ e ∷ []) r begin first rs
+began_still es e r begin first [] other at = λ n l is. elim (get_push es e (Read r) n is) [ inl old ↦ at n l old | inr new ↦ other new ]
+began_still es e r begin first (x ∷ xs) other at = began_longer es (e ∷ []) r begin first x xs at
 
 -- one reading more, by the next event
 began_more : (es : List Event) (r key begin first : ℕ) (rs : List Reading) (x : Reading) → begin < length es → x.front ≡ length (acts_in es) → BeganAt es r begin first rs
     → BeganAt (es ++ Read r ∷ []) r begin (first_read (length es) (record { key = key; sofar = rs; first = first })) (rs ++ x ∷ [])
-began_more es r key begin first [] x before now at =
-    (before, get_last es (Read r), now ∙ ap (λ (ys : List Event). length (acts_in ys)) (sym (take-append_seam es (Read r ∷ []))))
-began_more es r key begin first (y ∷ ys) x before now at = began_longer es (Read r ∷ []) r begin first (y ∷ ys) at
+began_more es r key begin first [] x before now at = (
+    before,
+    get_last es (Read r),
+    now ∙ ap (λ (ys : List Event). length (acts_in ys)) (sym (take-append_seam es (Read r ∷ []))),
+    λ n l m is. at n l (sym (get_front es (Read r ∷ []) n m) ∙ is),
+)
+began_more es r key begin first (y ∷ ys) x before now at = began_longer es (Read r ∷ []) r begin first y (ys ++ x ∷ []) at
 
 -- where there is a reading, there is such an event
-began_some : (es : List Event) (r begin first : ℕ) (rs : List Reading) (x : Reading) → BeganAt es r begin first (rs ++ x ∷ []) → (begin < first) × (slice_get es first ≡ Some (Read r)) × (start_of (rs ++ x ∷ []) ≡ length (acts_in (take first es)))
+began_some : (es : List Event) (r begin first : ℕ) (rs : List Reading) (x : Reading) → BeganAt es r begin first (rs ++ x ∷ []) →
+    (begin < first) × (slice_get es first ≡ Some (Read r)) × (start_of (rs ++ x ∷ []) ≡ length (acts_in (take first es))) × ((n : ℕ) → begin < n → n < first → slice_get es n ≡ Some (Read r) → ⊥)
 began_some es r begin first [] x at = at
 began_some es r begin first (y ∷ ys) x at = at
 
--- an event at which the reader begins nothing leaves its look-up open
-open_longer : (es : List Event) (e : Event) (r : ℕ) (run : Running) → ((k : ℕ) → e ≡ Begin r k → ⊥) → IsOpen es r run → IsOpen (es ++ e ∷ []) r run
-open_longer es e r run other o = record {
+-- an event of others leaves the reader's lookup open
+open_longer : (es : List Event) (e : Event) (r : ℕ) (run : Running) → ((k : ℕ) → e ≡ Begin r k → ⊥) → (e ≡ Read r → ⊥) → IsOpen es r run → IsOpen (es ++ e ∷ []) r run
+open_longer es e r run other still o = record {
   begin = o.begin;
   begun = get_longer es (e ∷ []) o.begin _ o.begun;
   alone = λ n k l is. elim (get_push es e (Begin r k) n is) [ inl old ↦ o.alone n k l old | inr new ↦ other k new ];
-  first = began_longer es (e ∷ []) r o.begin run.first run.sofar o.first;
+  first = began_still es e r o.begin run.first run.sofar still o.first;
 }
 
 -- the reader begins
@@ -146,7 +156,7 @@ open_new es r k = record {
   begin = length es;
   begun = get_last es (Begin r k);
   alone = λ n m l is. let within = slice_get_within (es ++ Begin r k ∷ []) n (Begin r m) is in absurd (omega (arith, length_push es (Begin r k)));
-  first = tt;
+  first = λ n l is. let within = slice_get_within (es ++ Begin r k ∷ []) n (Read r) is in absurd (omega (arith, length_push es (Begin r k)));
 }
 
 -- the reader reads
@@ -174,8 +184,8 @@ open_ends es r events run x reply stop counted now o =
         first = some.1;
         last = ap (λ n. slice_get (es ++ e ∷ []) n) counted ∙ get_last es e;
         after = some.0;
+        unread = some.3;
         order = omega (arith, within, grown, counted);
-        made = omega (arith, grown, counted);
         alone = λ n k l most is. o.alone n k l is;
       };
       start = some.2;
@@ -185,7 +195,7 @@ open_ends es r events run x reply stop counted now o =
 -- more events leave a span as it is
 span_longer : {V : ℕ} (es more : List Event) (e : Ended V) → IsSpanned es e → IsSpanned (es ++ more) e
 span_longer es more e s =
-    let grown = length-append es more in
+    let made = slice_get_within es e.told.last _ s.span.last in
     let cut : (n : ℕ) → n ≤ length es → length (acts_in (take n es)) ≡ length (acts_in (take n (es ++ more))) = λ n l. ap (λ (ys : List Event). length (acts_in ys)) (sym (take-append-le n es more l)) in
     record {
       span = record {
@@ -194,12 +204,12 @@ span_longer es more e s =
         first = get_longer es more e.told.first _ s.span.first;
         last = get_longer es more e.told.last _ s.span.last;
         after = s.span.after;
+        unread = λ n l m is. s.span.unread n l m (sym (get_front es more n (omega (arith, m, made, s.span.order))) ∙ is);
         order = s.span.order;
-        made = omega (arith, s.span.made, grown);
-        alone = λ n k l most is. s.span.alone n k l most (sym (get_front es more n (omega (arith, most, s.span.made))) ∙ is);
+        alone = λ n k l most is. s.span.alone n k l most (sym (get_front es more n (omega (arith, most, made))) ∙ is);
       };
-      start = s.start ∙ cut e.told.first (omega (arith, s.span.order, s.span.made));
-      stop = s.stop ∙ cut e.told.last (omega (arith, s.span.made));
+      start = s.start ∙ cut e.told.first (omega (arith, s.span.order, made));
+      stop = s.stop ∙ cut e.told.last (omega (arith, made));
     }
 
 -- what a world keeps of the events that led to it
@@ -226,7 +236,7 @@ step_traces V sh es w x (Write a) h s =
     subst (λ (z : World V). Traces V (es ++ e ∷ []) z) (sym s.2) (record {
       counted = omega (arith, h.counted, length_push es e);
       acts = map-append act_of w.acts _ ∙ ap (λ (made : List Act). made ++ a ∷ []) h.acts ∙ sym (acts_in-append es (e ∷ []));
-      running = λ r run is. open_longer es e r run (λ k f. absurd (cc (f))) (h.running r run is);
+      running = λ r run is. open_longer es e r run (λ k f. absurd (cc (f))) (λ f. absurd (cc (f))) (h.running r run is);
       ended = ended_longer es (e ∷ []) w.ended h.ended;
     })
 step_traces V sh es w x (Begin r k) h s =
@@ -237,7 +247,7 @@ step_traces V sh es w x (Begin r k) h s =
       acts = h.acts ∙ sym (append-nil (acts_in es)) ∙ sym (acts_in-append es (e ∷ []));
       running = λ q run is. elim (read_after_set w.readers r q (Some new) (Some run) is) [
         | inl set ↦ open_as (es ++ e ∷ []) r q new run set.0 set.1 (open_new es r k)
-        | inr old ↦ open_longer es e q run (λ m f. let same : r ≡ q = cc in let idle : slice_get w.readers q ≡ Some None = subst (λ n. slice_get w.readers n ≡ Some None) same s.0 in absurd (cc (old, idle))) (h.running q run old)
+        | inr old ↦ open_longer es e q run (λ m f. let same : q ≡ r = cc in absurd (old.0 same)) (λ f. absurd (cc (f))) (h.running q run old.1)
       ];
       ended = ended_longer es (e ∷ []) w.ended h.ended;
     })
@@ -250,15 +260,15 @@ step_traces V sh es w x (Read r) h s =
     let many : length w.acts ≡ length (acts_in es) = sym (length-map w.acts act_of) ∙ ap length h.acts in
     let new : Running = record { key = run.key; sofar = run.sofar ++ reading ∷ []; first = first_read w.events run } in
     let now : IsOpen (es ++ e ∷ []) r new = open_more es r w.events run reading h.counted (s.3.now ∙ many) (h.running r run s.2) in
-    let older : (q : ℕ) (other : Running) → slice_get w.readers q ≡ Some (Some other) → IsOpen (es ++ e ∷ []) q other =
-    λ q other old. open_longer es e q other (λ k f. absurd (cc (f))) (h.running q other old) in
+    let older : (q : ℕ) (other : Running) → (q ≡ r → ⊥) → slice_get w.readers q ≡ Some (Some other) → IsOpen (es ++ e ∷ []) q other =
+    λ q other differs old. open_longer es e q other (λ k f. absurd (cc (f))) (λ f. let same : q ≡ r = cc in absurd (differs same)) (h.running q other old) in
     elim s.5 [
       | inl over ↦ subst (λ (z : World V). Traces V (es ++ e ∷ []) z) (sym over.2) (record {
         counted = counted;
         acts = acts;
         running = λ q other is. elim (read_after_set w.readers r q None (Some other) is) [
           | inl set ↦ absurd (cc (set.1))
-          | inr old ↦ older q other old
+          | inr old ↦ older q other old.0 old.1
         ];
         ended = All-push (IsSpanned (es ++ e ∷ [])) w.ended _ (ended_longer es (e ∷ []) w.ended h.ended) (open_ends es r w.events run reading over.0 (length w.acts) h.counted many now);
       })
@@ -267,7 +277,7 @@ step_traces V sh es w x (Read r) h s =
         acts = acts;
         running = λ q other is. elim (read_after_set w.readers r q (Some new) (Some other) is) [
           | inl set ↦ open_as (es ++ e ∷ []) r q new other set.0 set.1 now
-          | inr old ↦ older q other old
+          | inr old ↦ older q other old.0 old.1
         ];
         ended = ended_longer es (e ∷ []) w.ended h.ended;
       })
@@ -297,7 +307,8 @@ world_traces V sh readers es w runs = run_traces V sh [] (first_world V sh reade
 pub events_tell_histories : (V : ℕ) → EventsTellHistories V
 events_tell_histories V sh readers es w runs =
     let same = (world_traces V sh readers es w runs).acts in
-    (state_tells V sh w.acts es same, λ n. fronts_tell V sh w.acts es n same)
+    let lawful = (runs_hold V sh (first_world V sh readers) es w (first_holds V sh readers) runs).lawful in
+    (state_tells V sh w.acts es lawful same, λ n. fronts_tell V sh w.acts es n lawful same)
 
 pub ends_tell_spans : (V : ℕ) → EndsTellSpans V
 ends_tell_spans V sh readers es w runs = (world_traces V sh readers es w runs).ended
@@ -305,18 +316,18 @@ ends_tell_spans V sh readers es w runs = (world_traces V sh readers es w runs).e
 -- an access changes no history
 history_read : (V : ℕ) (es : List Event) (n r : ℕ) → slice_get es n ≡ Some (Read r) → history_of V (take (n + 1) es) ≡ history_of V (take n es)
 unfolding history_of
-history_read V es n r is = ap (λ m. history_from {V = V} Quiet [] (acts_in (take m es))) (add-one n) ∙ ap (λ (made : List Act). history_from {V = V} Quiet [] made) (acts_in-read es n r is)
+history_read V es n r is = ap (λ m. changes_by {V = V} deed.Move 0 [] (acts_in (take m es))) (add-one n) ∙ ap (λ (made : List Act). changes_by {V = V} deed.Move 0 [] made) (acts_in-read es n r is)
 
 -- a true reply, in terms of the events
-plainly_true : (V : ℕ) (sh : Shape) (es : List Event) (w : World V) (e : Ended V) → map act_of w.acts ≡ acts_in es → IsSpanned es e → IsTrueEnd V sh w e → IsPlainlyTrue es e.told
-plainly_true V sh es w e same s t =
+plainly_true : (V : ℕ) (sh : Shape) (es : List Event) (w : World V) (e : Ended V) → IsLawful V sh w.acts → map act_of w.acts ≡ acts_in es → IsSpanned es e → IsTrueEnd V sh w e → IsPlainlyTrue es e.told
+plainly_true V sh es w e lawful same s t =
     let from : (front V sh w.acts (start_of e.read)).history ≡ history_of V (take e.told.first es) =
-    ap (λ f. (front V sh w.acts f).history) s.start ∙ fronts_tell V sh w.acts es e.told.first same in
+    ap (λ f. (front V sh w.acts f).history) s.start ∙ fronts_tell V sh w.acts es e.told.first lawful same in
     let to : (front V sh w.acts e.stop).history ≡ history_of V (take (e.told.last + 1) es) =
-    ap (λ f. (front V sh w.acts f).history) s.stop ∙ fronts_tell V sh w.acts es e.told.last same ∙ sym (history_read V es e.told.last e.told.reader s.span.last) in
+    ap (λ f. (front V sh w.acts f).history) s.stop ∙ fronts_tell V sh w.acts es e.told.last lawful same ∙ sym (history_read V es e.told.last e.told.reader s.span.last) in
     record {
       span = s.span;
-      true = subst (λ (h : List (Change V)). IsTrueAnswer h e.told.key e.told.reply) (state_tells V sh w.acts es same) t.true;
+      true = subst (λ (h : List (Change V)). IsTrueAnswer h e.told.key e.told.reply) (state_tells V sh w.acts es lawful same) t.true;
       between =
           subst (λ (h : List (Change V)). IsBetween (length (history_of V (take e.told.first es))) (length h) e.told.reply) to
           (subst (λ (h : List (Change V)). IsBetween (length h) (length (front V sh w.acts e.stop).history) e.told.reply) from t.between);
@@ -326,4 +337,4 @@ pub worlds_are_plainly_true : (V : ℕ) → WorldsArePlainlyTrue V
 worlds_are_plainly_true V sh readers es w shape runs =
     let kept = world_traces V sh readers es w runs in
     let true = worlds_are_true V sh readers es w shape runs in
-    λ k d l. plainly_true V sh es w (get_or w.ended k d) kept.acts (kept.ended k d l) (true.1 k d l)
+    λ k d l. plainly_true V sh es w (get_or w.ended k d) true.0 kept.acts (kept.ended k d l) (true.1 k d l)

@@ -1,4 +1,4 @@
--- The plain parts of the invariant after an act: sizes, the moment, the slots and the versions.
+-- The sizes, the moment, the slots and the versions after an act: the parts of the invariant that speak of words alone.
 use Rattle.std.proofs.Common.{ℕ, ◌≡◌, ◌+◌, ◌*◌, ◌%◌, ◌<◌, ◌≤◌, ◌⊎◌, eqb, List, length, Option, Some, None, refl, sym, ◌∙◌, ap, subst, inl, inr, arith}
 use Rattle.std.proofs.lemmas.Bool.{cases_eq, cases_Bool, cond-true, cond-false, eqb-true, eqb-false}
 use Rattle.std.proofs.lemmas.List.{length_push}

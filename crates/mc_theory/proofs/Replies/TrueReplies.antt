@@ -6,7 +6,8 @@ use Rattle.mc_theory.proofs.Lists.Fronts.{front_all, front_holds}
 use Rattle.mc_theory.specs.Laws.{AgreesAlways, RepliesAreTrue, StaysWhileEven}
 use Rattle.mc_theory.specs.Lists.{IsLawful, Made, front, state_of}
 use Rattle.mc_theory.specs.Lookups.{IsLookup, ReadsHit, Scans, Tries, reply_of, slots_for, slots_of}
-use Rattle.mc_theory.specs.Readings.{AreRead, IsBetween, Reading, RiseTo}
+use Rattle.mc_theory.specs.Plain.{IsBetween}
+use Rattle.mc_theory.specs.Readings.{AreRead, Reading, RiseTo}
 use Rattle.mc_theory.specs.States.{State}
 use Rattle.mc_words.proofs.Frames.{stands_on}
 use Rattle.mc_words.proofs.Keys.{alternate-lt, first_of-lt, tag_of-lt}

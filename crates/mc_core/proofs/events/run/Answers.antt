@@ -1,9 +1,9 @@
 use Rattle.std.proofs.Common.{subst}
 use Rattle.mc_core.specs.Parts.{shown_of}
+use Rattle.mc_core.specs.Runs.{RunsTruly}
 use Rattle.mc_core.specs.Seen.{Shown, Shows}
-use Rattle.std.specs.Prelude.{All}
 use Rattle.mc_words.specs.Shapes.{IsShape}
-use Rattle.mc_theory.specs.Worlds.{World, HasRun, IsReached, IsTrueEnd}
+use Rattle.mc_theory.specs.Worlds.{World}
 use Rattle.mc_core.proofs.WorldSteps.{reached_append, reached_true}
 use Rattle.mc_core.proofs.EventLists.{has_run, reached_made}
 use Rattle.mc_core.proofs.events.run.Goals as goal
@@ -14,17 +14,17 @@ invariant_of-world-2 g c = reached_made c.world.inside.parts c.run.new.self _ _ 
 pub returns-clause-ran : goal.returns-clause-ran
 returns-clause-ran g c =
     let ok = (c.in-Ok.ensures {u = tt}).ok in
-    subst (λ (old : Shown g.row.V). (seen : World g.row.V) → Shows {V = g.row.V} old seen → (x : World g.row.V) × HasRun g.row.V old.shape seen x c.args.events.now c.in-Ok.done.items c.in-Ok.stopped × Shows {V = g.row.V} (shown_of {V = g.row.V} c.run.new.self) x) c.world.view_is
-    (has_run c.world.inside.parts c.run.new.self c.args.events.now c.in-Ok.done.items c.in-Ok.stopped c.world.invariant ok.0 ok.1)
-
-pub returns-clause-told : goal.returns-clause-told
-returns-clause-told g c =
-    let ok = (c.in-Ok.ensures {u = tt}).ok in
     let ran = has_run c.world.inside.parts c.run.new.self c.args.events.now c.in-Ok.done.items c.in-Ok.stopped c.world.invariant ok.0 ok.1 in
     let sound : IsShape (shown_of {V = g.row.V} c.world.inside.parts).shape = c.world.inside.parts.writer.table.checked.sound in
-    subst (λ (old : Shown g.row.V). (seen : World g.row.V) → Shows {V = g.row.V} old seen → IsReached g.row.V old.shape seen →
-    (x : World g.row.V) × HasRun g.row.V old.shape seen x c.args.events.now c.in-Ok.done.items c.in-Ok.stopped × Shows {V = g.row.V} (shown_of {V = g.row.V} c.run.new.self) x × IsReached g.row.V old.shape x × All (IsTrueEnd g.row.V old.shape x) x.ended) c.world.view_is
-    (λ seen shows reached.
-    let did = ran seen shows in
-    let more = reached_append g.row.V _ seen did.0 _ reached did.1.runs in
-    (did.0, did.1, did.2, more, reached_true g.row.V _ did.0 sound more))
+    subst (λ (old : Shown g.row.V). (seen : World g.row.V) → Shows {V = g.row.V} old seen →
+    (x : World g.row.V) × RunsTruly {V = g.row.V} old (shown_of {V = g.row.V} c.run.new.self) c.args.events.now (record { done = c.in-Ok.done; stopped = c.in-Ok.stopped }) seen x) c.world.view_is
+    (λ seen shows.
+    let did = ran seen shows in (
+      did.0,
+      record {
+        made = did.1;
+        shows = did.2;
+        reached = λ reached. reached_append g.row.V _ seen did.0 _ reached did.1.runs;
+        true = λ reached. reached_true g.row.V _ did.0 sound (reached_append g.row.V _ seen did.0 _ reached did.1.runs);
+      },
+    ))

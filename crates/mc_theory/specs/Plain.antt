@@ -1,0 +1,79 @@
+-- What a lookup tells is true, said in plain words. Whoever believes this file, and what it imports, has to believe no other.
+--
+-- Events come one after the other: each is an act of the writer, or the beginning of a reader's lookup, or the next access of
+-- one. The writer's acts change a map. It opens a deed on a key, writes words, and at the moment of the deed the map is
+-- changed: a fill and a renewal put the words that were written, a removal and an eviction take the key out, a move does
+-- nothing. The list of these changes is the history of the events.
+--
+-- A lookup that has ended tells its reader, its key and its reply, and which events were its first access and its last. Its reply
+-- names a number of changes: no fewer than were made before the first access, and no more than were made when the last was. It is
+-- what the map held of the key after so many changes of the history. A lookup that gave up, `Busy`, says nothing of the map.
+use Rattle.std.specs.Prelude.{ℕ, suc, ◌≡◌, ◌+◌, ◌≤◌, ◌<◌, List, [], ◌∷◌, ◌++◌, length, take, Option, Some, None, slice_get}
+use Rattle.mc_words.specs.History.{IsTrueAnswer}
+use Rattle.mc_words.specs.declared.history.Change.{Change}
+use Rattle.mc_words.specs.declared.history.Change.TheVariants.{Put, Remove, Evict}
+use Rattle.mc_words.specs.declared.history.Reply.{Reply}
+use Rattle.mc_words.specs.declared.history.Reply.TheVariants.{Found, Absent, Busy}
+use Rattle.mc_theory.specs.declared.act.Act.{Act}
+use Rattle.mc_theory.specs.declared.act.Act.TheVariants.{Open, Item, Moment}
+use Rattle.mc_theory.specs.declared.act.Deed.{Deed}
+use Rattle.mc_theory.specs.declared.act.Deed.TheVariants as deed
+use Rattle.mc_theory.specs.declared.event.Done.{Done}
+use Rattle.mc_theory.specs.declared.event.Event.{Event}
+use Rattle.mc_theory.specs.declared.event.Event.TheVariants.{Write, Begin, Read}
+use Rattle.mc_theory.specs.declared.event.Unlawful.{Unlawful}
+
+-- the events that were made: all, or those before the one that was refused
+abbrev pub events_made : List Event → Option (ℕ × Unlawful) → List Event
+events_made es None = es
+events_made es (Some stop) = take stop.0 es
+
+-- the writer's acts among these events
+abbrev pub acts_in : List Event → List Act
+acts_in [] = []
+acts_in (Write a ∷ es) = a ∷ acts_in es
+acts_in (Begin r k ∷ es) = acts_in es
+acts_in (Read r ∷ es) = acts_in es
+
+-- what a deed on a key changes in the map, where these words were written
+abbrev pub change_by : {V : ℕ} → Deed → ℕ → List ℕ → List (Change V)
+change_by deed.Fill k xs = Put k xs ∷ []
+change_by deed.Renew k xs = Put k xs ∷ []
+change_by deed.Remove k xs = Remove k ∷ []
+change_by deed.Evict k xs = Evict k ∷ []
+change_by deed.Move k xs = []
+
+-- what these acts change, while a deed on a key is open and these words were written: word 0 of an item is the key, and none of them
+abbrev pub changes_by : {V : ℕ} → Deed → ℕ → List ℕ → List Act → List (Change V)
+changes_by d k xs [] = []
+changes_by d k xs (Open key deed ∷ acts) = changes_by deed key [] acts
+changes_by d k xs (Item i (suc j) x ∷ acts) = changes_by d k (xs ++ x ∷ []) acts
+changes_by d k xs (Moment ∷ acts) = change_by d k xs ++ changes_by d k xs acts
+changes_by d k xs (_ ∷ acts) = changes_by d k xs acts
+
+-- the history of these events; before the first deed is opened, nothing is changed, as by a move
+unfoldable pub history_of : (V : ℕ) → List Event → List (Change V)
+history_of V es = changes_by deed.Move 0 [] (acts_in es)
+
+-- the number of changes that the reply names lies between these two
+abbrev pub IsBetween : {V : ℕ} → ℕ → ℕ → Reply V → Type 0
+IsBetween lo hi (Found v at) = (lo ≤ at) × (at ≤ hi)
+IsBetween lo hi (Absent at) = (lo ≤ at) × (at ≤ hi)
+IsBetween lo hi Busy = Unit {0}
+
+-- the reader began to look up the key, then made its first access and its last, and began nothing else before that
+pub record IsSpan {V : ℕ} (es : List Event) (told : Done V) : Type 0 where
+  pub begin : ℕ
+  pub begun : slice_get es begin ≡ Some (Begin told.reader told.key)
+  pub first : slice_get es told.first ≡ Some (Read told.reader)
+  pub last : slice_get es told.last ≡ Some (Read told.reader)
+  pub after : begin < told.first
+  pub order : told.first ≤ told.last
+  pub unread : (n : ℕ) → begin < n → n < told.first → slice_get es n ≡ Some (Read told.reader) → ⊥
+  pub alone : (n k : ℕ) → begin < n → n ≤ told.last → slice_get es n ≡ Some (Begin told.reader k) → ⊥
+
+-- the lookup has its span in these events, and its reply is what the map held after some of the changes, between the first access and the last
+pub record IsPlainlyTrue {V : ℕ} (es : List Event) (told : Done V) : Type 0 where
+  pub span : IsSpan es told
+  pub true : IsTrueAnswer (history_of V es) told.key told.reply
+  pub between : IsBetween (length (history_of V (take told.first es))) (length (history_of V (take (told.last + 1) es))) told.reply
