@@ -203,19 +203,10 @@ fn wrong_seed(
 }
 
 #[test]
-fn long_scripts_are_answered_as_a_plain_map_says(rt: HostRuntime) -> Result<(), Fail> {
-    assert_eq!(rt; wrong_seed(rt.alloc(), 0..10, 1000, 2000, 500)?, None);
-    Ok(())
-}
-
-#[test]
-fn more_long_scripts_are_answered_so(rt: HostRuntime) -> Result<(), Fail> {
-    assert_eq!(rt; wrong_seed(rt.alloc(), 10..20, 1000, 2000, 500)?, None);
-    Ok(())
-}
-
-#[test]
-fn look_ups_beside_calls_are_answered_so(rt: HostRuntime) -> Result<(), Fail> {
-    assert_eq!(rt; wrong_seed(rt.alloc(), 20..40, 60, 100, 3)?, None);
+fn drawn_scripts_are_answered_as_a_plain_map_says(rt: HostRuntime) -> Result<(), Fail> {
+    let long = wrong_seed(rt.alloc(), 0..20, 1000, 2000, 500)?;
+    assert_eq!(rt; long, None, "whole calls");
+    let short = wrong_seed(rt.alloc(), 20..40, 60, 100, 3)?;
+    assert_eq!(rt; short, None, "calls and look-ups");
     Ok(())
 }

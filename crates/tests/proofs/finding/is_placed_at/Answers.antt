@@ -34,7 +34,7 @@ right c t b = placed_right (shape_of c.args.checked.now) c.args.table.now.list c
 
 pub returns-then-stored-key-clause-placed : goal.returns-then-stored-key-clause-placed
 returns-then-stored-key-clause-placed c = λ t.
-    placed_other (shape_of c.args.checked.now) c.args.table.now.list c.slot_at-word.new.peek.list c.args.key (slot_number c.args.place) c.slot_at-word.result c.in-Some.named c.in-Some.item c.key_at-stored.result c.args.checked.now.sound c.slot_at-word.ensures.value c.in-Some.ensures c.slot_at-word.ensures.same c.key_at-stored.ensures.value c.if-stored-key.true
+    placed_other (shape_of c.args.checked.now) c.args.table.now.list c.slot_at-word.new.table.list c.args.key (slot_number c.args.place) c.slot_at-word.result c.in-Some.named c.in-Some.item c.key_at-stored.result c.args.checked.now.sound c.slot_at-word.ensures.value c.in-Some.ensures c.slot_at-word.ensures.same c.key_at-stored.ensures.value c.if-stored-key.true
 
 pub returns-then-place-first-clause-placed : goal.returns-then-place-first-clause-placed
 returns-then-place-first-clause-placed c = λ t.
