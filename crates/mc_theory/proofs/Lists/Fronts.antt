@@ -103,8 +103,8 @@ versions_rise V sh xs f g t shape l le below =
     (version_grows_all sh (front V sh xs f) (between xs f g) t shape (front_holds V sh xs f shape l) (lawful_between V sh xs f g l) below)
 
 -- between two fronts at which the version of a key's stripe is the same even number, nothing of the key changes
-pub heart : (V : ℕ) (sh : Shape) (xs : List Made) (f g k : ℕ) → IsShape sh → IsLawful V sh xs → f ≤ g → version (front V sh xs f).words (stripe_of sh k) % 2 ≡ 0 → version (front V sh xs g).words (stripe_of sh k) ≡ version (front V sh xs f).words (stripe_of sh k) → Kept sh (front V sh xs f) (front V sh xs g) k
-heart V sh xs f g k shape l le even e =
+pub kept_while_even : (V : ℕ) (sh : Shape) (xs : List Made) (f g k : ℕ) → IsShape sh → IsLawful V sh xs → f ≤ g → version (front V sh xs f).words (stripe_of sh k) % 2 ≡ 0 → version (front V sh xs g).words (stripe_of sh k) ≡ version (front V sh xs f).words (stripe_of sh k) → Kept sh (front V sh xs f) (front V sh xs g) k
+kept_while_even V sh xs f g k shape l le even e =
     let same = front_between V sh xs f g le in
     subst (λ (s : State V). Kept sh (front V sh xs f) s k) (sym same)
     (kept_all sh (front V sh xs f) (between xs f g) k shape (front_holds V sh xs f shape l) (lawful_between V sh xs f g l) even (ap (λ (s : State V). version s.words (stripe_of sh k)) (sym same) ∙ e))

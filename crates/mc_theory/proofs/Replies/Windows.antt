@@ -1,6 +1,6 @@
 -- A window of fronts in which nothing of a key changes.
 use Rattle.std.proofs.Common.{ℕ, ◌≡◌, ◌/◌, ◌%◌, ◌≤◌, List, length, Option, Some, None, sym, ◌∙◌, ap, subst, arith}
-use Rattle.mc_theory.proofs.Lists.Fronts.{front_holds, heart, versions_rise}
+use Rattle.mc_theory.proofs.Lists.Fronts.{front_holds, kept_while_even, versions_rise}
 use Rattle.mc_theory.proofs.Lists.KeptWhileEven.{Kept, even_not_running}
 use Rattle.mc_theory.specs.Lists.{IsLawful, Made, front}
 use Rattle.mc_words.proofs.Keys.{stripe_of-lt}
@@ -26,7 +26,7 @@ window V sh acts k f g shape l le even e =
       kept = λ d h a b c.
           let x : version (front V sh acts d).words (stripe_of sh k) ≡ version (front V sh acts f).words (stripe_of sh k) = v d a (omega arith) in
           let y : version (front V sh acts h).words (stripe_of sh k) ≡ version (front V sh acts f).words (stripe_of sh k) = v h (omega arith) c in
-          heart V sh acts d h k shape l b (rw x even) (y ∙ sym x);
+          kept_while_even V sh acts d h k shape l b (rw x even) (y ∙ sym x);
       agrees = λ d a b.
           let x : version (front V sh acts d).words (stripe_of sh k) ≡ version (front V sh acts f).words (stripe_of sh k) = v d a b in
           let i = front_holds V sh acts d shape l in
