@@ -8,10 +8,10 @@ ghost use Rattle.mc_theory.specs.Worlds as worlds;
 ghost use Rattle.mc_words.specs.Checks.{shape_of};
 ghost use Rattle.mc_words.specs.Places.{IsWidth};
 
-use mc_theory::Event;
 use crate::outcome::Run;
-use mc_words::{Checked, NoMemory};
 use crate::world::{World, WorldError};
+use mc_theory::Event;
+use mc_words::{Checked, NoMemory};
 use std::alloc::Global;
 
 /// Makes the events of a list, one after the other, up to the first that is refused. Room is made before the first.

@@ -16,9 +16,7 @@ mod writer;
 
 pub use events::{run, run_new};
 pub use mc_lookup::{Lookup, Stage};
-pub use mc_theory::{
-    Access, Act, Change, Deed, Done, Event, Reply, Stepped, Unlawful, laws,
-};
+pub use mc_theory::{Access, Act, Change, Deed, Done, Event, Reply, Stepped, Unlawful, laws};
 pub use mc_words::NoMemory;
 pub use outcome::Run;
 pub use world::{World, WorldError};

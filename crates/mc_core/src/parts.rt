@@ -2,9 +2,9 @@
 ghost use Rattle.std.specs.Prelude.{◌≡◌, length};
 ghost use Rattle.mc_core.specs.Writers.{shape_at};
 
-use mc_theory::{Event, Stepped, Unlawful};
 use crate::reader::Reader;
 use crate::writer::Writer;
+use mc_theory::{Event, Stepped, Unlawful};
 
 mod lists;
 mod made;

@@ -1,8 +1,8 @@
 //! A world: one writer and its readers. Each event is one atomic step.
 ghost use Rattle.std.specs.Prelude.{◌≡◌, ◌<◌};
 
-use mc_theory::{Event, Stepped, Unlawful};
 use crate::parts::Parts;
+use mc_theory::{Event, Stepped, Unlawful};
 use mc_words::{Change, Checked};
 use std::alloc::Global;
 use std::marker::Model;

@@ -4,9 +4,9 @@ ghost use Rattle.std.specs.Prelude.{◌↔◌, IsTrue};
 ghost use Rattle.mc_theory.specs.declared.act.Act.{Act};
 ghost use Rattle.mc_core.specs.Progresses.{count_at, fresh_slot};
 
-use mc_theory::Act;
 use crate::progress::Progress;
 use crate::table::Table;
+use mc_theory::Act;
 use mc_words::{Change, Checked};
 use std::alloc::{AllocError, Global};
 

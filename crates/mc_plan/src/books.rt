@@ -14,22 +14,14 @@ ghost use Rattle.mc_search.specs.Readable.{IsFilled};
 
 use crate::answer::{Put, PutError, Remove, Spent};
 use crate::fill::add_fill;
-use mc_search::Finder;
-use mc_search::find;
-use mc_search::FreeItems;
 use crate::moves::add_moves;
-use mc_words::NoMemory;
-use mc_search::Path;
-use mc_search::key_at;
-use mc_theory::Peek;
-use mc_search::moment;
 use crate::renew::add_renew;
-use mc_search::Sweep;
 use crate::take_out::{add_evict, add_remove};
 use crate::waiting::{Start, Waiting};
 use arrayvec::ArrayVec;
-use mc_theory::Act;
-use mc_words::Checked;
+use mc_search::{Finder, FreeItems, Path, Sweep, find, key_at, moment};
+use mc_theory::{Act, Peek};
+use mc_words::{Checked, NoMemory};
 use std::alloc::Global;
 
 #[derive(Drop)]

@@ -9,12 +9,10 @@ ghost use Rattle.mc_theory.specs.Worlds.{HasChanges};
 
 use crate::answer::Answer;
 use crate::books::Books;
-use mc_words::NoMemory;
-use mc_theory::Peek;
 use crate::waiting::{Start, Waiting};
 use arrayvec::ArrayVec;
-use mc_theory::Act;
-use mc_words::Checked;
+use mc_theory::{Act, Peek};
+use mc_words::{Checked, NoMemory};
 use std::alloc::Global;
 use std::mem;
 

@@ -8,11 +8,9 @@ ghost use Rattle.mc_plan.specs.Moves.{AreTaken, AreKeys, MakesRoom};
 ghost use Rattle.mc_plan.specs.Plans.{item_in, move_acts, moves_acts};
 ghost use Rattle.mc_search.specs.Readable.{IsFilled, NamesSome};
 
-use mc_search::Path;
-use mc_search::{key_at, slot_at};
-use mc_theory::Peek;
 use arrayvec::ArrayVec;
-use mc_theory::{Act, Deed};
+use mc_search::{Path, key_at, slot_at};
+use mc_theory::{Act, Deed, Peek};
 use mc_words::{Checked, Place};
 
 /// Adds the acts that move the key to an empty slot of its other bucket. The new slot is written before the old one

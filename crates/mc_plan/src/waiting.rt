@@ -1,7 +1,6 @@
 //! A put that waits for an item.
 use crate::answer::{Put, PutError};
-use mc_search::Path;
-use mc_search::Sweep;
+use mc_search::{Path, Sweep};
 
 /// How far a put is once it was begun.
 #[derive(Drop)]

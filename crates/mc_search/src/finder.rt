@@ -6,10 +6,10 @@ ghost use Rattle.mc_search.specs.Readable.{HasSlots, IsFilled, IsFull, IsHoleIn}
 
 use crate::bucket::hole_in;
 use crate::path::Path;
-use mc_theory::Peek;
 use crate::queue::{Entry, clean, start};
 use crate::search::{search, trace};
 use arrayvec::ArrayVec;
+use mc_theory::Peek;
 use mc_words::{Checked, NoMemory, Place};
 use std::alloc::Global;
 use std::marker::Model;

@@ -7,10 +7,10 @@ ghost use Rattle.mc_search.specs.Readable.{HasSlots, IsFilled};
 ghost use Rattle.mc_search.specs.Search.{entry_at, depth_at, IsQueue, AreFull, IsFound, IsSearching, GoesBack};
 
 use crate::bucket::{hole_in, other_bucket};
-use crate::word::slot_at;
-use mc_theory::Peek;
 use crate::queue::{Entry, add};
+use crate::word::slot_at;
 use arrayvec::ArrayVec;
+use mc_theory::Peek;
 use mc_words::{Checked, Place};
 
 /// Queues the unseen buckets to which the items of the queue's `front`-th can move, up to the first that has a hole.

@@ -21,12 +21,7 @@ pub fn slot_at<P: Peek>(checked: &Checked, peek: &mut P, place: Place) -> u64
 
 /// A word of an item.
 #[tactic(auto, unfolding(mc_words::specs::Places::item))]
-pub fn word_at<const V: usize, P: Peek>(
-    checked: &Checked,
-    peek: &mut P,
-    i: u32,
-    j: u8,
-) -> u64
+pub fn word_at<const V: usize, P: Peek>(checked: &Checked, peek: &mut P, i: u32, j: u8) -> u64
     requires width { IsWidth V }
     requires words { word_count V (shape_of checked.now) ≤ length (P.words peek.old) }
     requires item { i < (shape_of checked.now).items }

@@ -1,8 +1,8 @@
 //! A world makes a list of events.
 ghost use Rattle.std.specs.Prelude.{◌≡◌, ◌+◌, ◌<◌, ◌≤◌, ◌++◌, ◌∷◌, [], vec_len, vec_capacity};
 
-use mc_theory::{Done, Event, Stepped, Unlawful};
 use crate::parts::Parts;
+use mc_theory::{Done, Event, Stepped, Unlawful};
 use std::alloc::{AllocError, Global};
 
 impl<const V: usize> Parts<V> {

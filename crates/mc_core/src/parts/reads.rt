@@ -3,11 +3,10 @@ ghost use Rattle.std.specs.Prelude.{◌≡◌, Some, IsSome};
 ghost use Rattle.mc_lookup.specs.Machine.{next_of, shape_for};
 ghost use Rattle.mc_theory.specs.Writes.{IsAccess};
 
-use mc_theory::Access;
-use mc_theory::{Done, Stepped, Unlawful};
-use mc_lookup::Lookup;
 use crate::parts::Parts;
 use crate::reader::Reader;
+use mc_lookup::Lookup;
+use mc_theory::{Access, Done, Stepped, Unlawful};
 
 impl<const V: usize> Parts<V> {
     ghost use Rattle.mc_theory.specs.declared.event.Unlawful.TheVariants as unlawful;

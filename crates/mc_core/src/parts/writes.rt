@@ -1,7 +1,6 @@
 //! The writer of a world makes its acts.
-use mc_theory::Act;
-use mc_theory::{Stepped, Unlawful, given_by};
 use crate::parts::Parts;
+use mc_theory::{Act, Stepped, Unlawful, given_by};
 
 impl<const V: usize> Parts<V> {
     ghost use Rattle.std.specs.Prelude.{◌≡◌, ◌+◌, ◌-◌, ◌^◌, ◌<◌, ◌≤◌, ◌↔◌, IfOk, IfErr, OnOk, OnErr, IsTrue};

@@ -9,8 +9,8 @@ ghost use Rattle.mc_theory.specs.Phases.{Quiet, Filling, Keyed, Renewing, Removi
 ghost use Rattle.mc_core.specs.Tables.{StandsAt};
 ghost use Rattle.mc_core.specs.Writers.{shape_at, words_at, UsedWell, StandsWell, IsFreeItem};
 
-use mc_theory::{Act, Deed};
 use crate::writer::Writer;
+use mc_theory::{Act, Deed};
 use mc_words::Place;
 
 impl<const V: usize> Writer<V> {

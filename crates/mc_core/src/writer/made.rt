@@ -11,9 +11,9 @@ ghost use Rattle.mc_core.specs.Writers.{shape_at, words_at, room_of, state_in, p
 ghost use Rattle.mc_theory.specs.declared.act.Act.{Act};
 ghost use Rattle.mc_core.specs.declared.progress.Progress.{Progress};
 
-use mc_theory::{Act, Deed};
 use crate::progress::Progress;
 use crate::writer::Writer;
+use mc_theory::{Act, Deed};
 use mc_words::Change;
 use std::alloc::AllocError;
 

@@ -6,9 +6,9 @@ ghost use Rattle.mc_core.specs.Writers.{shape_at, state_in, UsedWell, IsMade};
 ghost use Rattle.mc_theory.specs.declared.act.Act.{Act};
 ghost use Rattle.mc_core.specs.declared.progress.Progress.{Progress};
 
-use mc_theory::Act;
 use crate::progress::Progress;
 use crate::writer::Writer;
+use mc_theory::Act;
 use mc_words::Place;
 
 impl<const V: usize> Writer<V> {

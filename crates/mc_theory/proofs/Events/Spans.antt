@@ -128,10 +128,10 @@ began_still es e r begin first (x ∷ xs) other at = began_longer es (e ∷ []) 
 began_more : (es : List Event) (r key begin first : ℕ) (rs : List Reading) (x : Reading) → begin < length es → x.front ≡ length (acts_in es) → BeganAt es r begin first rs
     → BeganAt (es ++ Read r ∷ []) r begin (first_read (length es) (record { key = key; sofar = rs; first = first })) (rs ++ x ∷ [])
 began_more es r key begin first [] x before now at = (
-    before,
-    get_last es (Read r),
-    now ∙ ap (λ (ys : List Event). length (acts_in ys)) (sym (take-append_seam es (Read r ∷ []))),
-    λ n l m is. at n l (sym (get_front es (Read r ∷ []) n m) ∙ is),
+  before,
+  get_last es (Read r),
+  now ∙ ap (λ (ys : List Event). length (acts_in ys)) (sym (take-append_seam es (Read r ∷ []))),
+  λ n l m is. at n l (sym (get_front es (Read r ∷ []) n m) ∙ is),
 )
 began_more es r key begin first (y ∷ ys) x before now at = began_longer es (Read r ∷ []) r begin first y (ys ++ x ∷ []) at
 
