@@ -4,14 +4,14 @@ use Rattle.clap.specs.declared.error.kind.ErrorKind.{ErrorKind}
 use Rattle.mc_words.specs.declared.checked.Checked.{Checked}
 use Rattle.mc_words.specs.declared.shape.Shape.{Shape}
 use Rattle.mc_words.specs.Checks.{shape_of}
-use Rattle.mc_words.specs.Shapes.{IsInRange}
+use Rattle.mc_words.specs.Shapes.{IsShape}
 use Rattle.mc_options.specs.declared.options.Options.{Options}
 use Rattle.mc_options.specs.Options.{HasFault, IsUnread}
 use Rattle.mc_load.specs.Programs.{Stream, Ends, IsUntouched, RunsOptions, Runs, TellsFault}
 use Rattle.mc_load.specs.Programs.Runs.{helps, refuses, is_short}
 
 -- a replay over the shape that was checked
-pub runs_accepted : (o : Options) (V : ℕ) (c : Checked) (input output errors : Stream) (status : ℕ) → (shape_of c ≡ o.shape) × IsInRange o.shape → V ≡ o.words → Ends V (shape_of c) o.readers input output errors status
+pub runs_accepted : (o : Options) (V : ℕ) (c : Checked) (input output errors : Stream) (status : ℕ) → (shape_of c ≡ o.shape) × IsShape o.shape → V ≡ o.words → Ends V (shape_of c) o.readers input output errors status
     → RunsOptions o input output errors status
 runs_accepted o V c input output errors status shape width ends =
     let at_width = subst (λ (v : ℕ). Ends v (shape_of c) o.readers input output errors status) width ends in

@@ -5,7 +5,7 @@ use Rattle.clap.specs.declared.error.kind.ErrorKind.{ErrorKind}
 use Rattle.clap.specs.declared.error.kind.ErrorKind.TheVariants as kind
 use Rattle.mc_words.specs.declared.shape.Shape.{Shape}
 use Rattle.mc_words.specs.declared.shape.ShapeError.{ShapeError}
-use Rattle.mc_words.specs.Shapes.{IsInRange, Refuses}
+use Rattle.mc_words.specs.Shapes.{IsShape, Refuses}
 use Rattle.mc_replay.specs.declared.fault.Stop.{Stop}
 use Rattle.mc_options.specs.declared.options.Options.{Options}
 use Rattle.mc_replay.specs.Faults.{exit_of}
@@ -47,7 +47,7 @@ IsRefused sh input output errors status =
 -- a run with these options: a replay over their shape, or its refusal
 abbrev pub RunsOptions : Options → Stream → Stream → Stream → ℕ → Type 0
 RunsOptions o input output errors status =
-    (IsInRange o.shape × Ends o.words o.shape o.readers input output errors status) ⊎ IsRefused o.shape input output errors status
+    (IsShape o.shape × Ends o.words o.shape o.readers input output errors status) ⊎ IsRefused o.shape input output errors status
 
 -- the help is printed; of its text no clause speaks
 abbrev pub Helps : Stream → ℕ → Type 0

@@ -17,7 +17,7 @@ and_power n b p = subst (λ (y : ℕ). bit_and n (y - 1) ≡ n % y) (sym p) (and
 
 pub stripe_of-lt : (sh : Shape) (k : ℕ) → IsShape sh → stripe_of sh k < sh.stripes
 unfolding stripe_of
-stripe_of-lt sh k s = omega (arith, s.some_stripes)
+stripe_of-lt sh k s = omega (arith, s.stripes.0)
 
 pub first_of-lt : (sh : Shape) (k : ℕ) → IsShape sh → first_of sh k < sh.buckets
 unfolding first_of

@@ -15,9 +15,8 @@ HasBuckets sh = (2 ≤ sh.buckets) × (sh.buckets ≤ 2 ^ 20) × IsPower sh.buck
 abbrev pub HasItems : Shape → Type 0
 HasItems sh = (1 ≤ sh.items) × (sh.items ≤ 4 * sh.buckets)
 
--- all versions are one counter, for now; every law takes any power of two up to 2^16
 abbrev pub HasStripes : Shape → Type 0
-HasStripes sh = sh.stripes ≡ 1
+HasStripes sh = (1 ≤ sh.stripes) × (sh.stripes ≤ 2 ^ 16) × IsPower sh.stripes
 
 abbrev pub HasDepth : Shape → Type 0
 HasDepth sh = sh.depth ≤ 8
@@ -28,20 +27,14 @@ HasTries sh = (1 ≤ sh.tries) × (sh.tries ≤ 64)
 abbrev pub HasLimit : Shape → Type 0
 HasLimit sh = sh.limit ≤ 2 ^ 62
 
--- a shape that was checked
+-- each field is in its range
 pub record IsShape (sh : Shape) : Type 0 where
   pub buckets : HasBuckets sh
   pub items : HasItems sh
-  pub some_stripes : 1 ≤ sh.stripes
-  pub most_stripes : sh.stripes ≤ 2 ^ 16
-  pub power : IsPower sh.stripes
+  pub stripes : HasStripes sh
   pub depth : HasDepth sh
   pub tries : HasTries sh
   pub limit : HasLimit sh
-
--- each field is in its range
-abbrev pub IsInRange : Shape → Type 0
-IsInRange sh = HasBuckets sh × HasItems sh × HasStripes sh × HasDepth sh × HasTries sh × HasLimit sh
 
 -- the first fault of the shape
 abbrev pub Refuses : Shape → ShapeError → Type 0

@@ -12,7 +12,7 @@ pub struct Shape {
     pub buckets: u32,
     /// From 1 to four times the buckets.
     pub items: u32,
-    /// The number of version counters.
+    /// The number of version counters, a power of two from 1 to 2^16.
     pub stripes: u32,
     /// The greatest number of displacements of a `put`, from 0 to 8.
     pub depth: u8,
@@ -30,7 +30,7 @@ pub enum ShapeError {
     Buckets,
     #[error("items must be from 1 to four times the buckets")]
     Items,
-    #[error("stripes must be 1")]
+    #[error("stripes must be a power of two from 1 to 65536")]
     Stripes,
     #[error("depth must be from 0 to 8")]
     Depth,
@@ -49,12 +49,12 @@ fn is_power(n: u32) -> bool
 }
 
 impl Shape {
-    ghost use Rattle.mc_words.specs.Shapes.{IsInRange, Refuses};
+    ghost use Rattle.mc_words.specs.Shapes.{IsShape, Refuses};
     ghost use Rattle.mc_words.specs.Checks.{shape_of};
 
     /// The shape, checked. The first fault in the order of `ShapeError` is answered.
     pub fn check(self) -> Result<Checked, ShapeError>
-        ensures { MatchResult result (λ c. (shape_of c ≡ self) × IsInRange self) (λ e. Refuses self e) }
+        ensures { MatchResult result (λ c. (shape_of c ≡ self) × IsShape self) (λ e. Refuses self e) }
     {
         if self.buckets < 2 || self.buckets > 1 << 20 || !is_power(self.buckets) {
             return Err(ShapeError::Buckets);
@@ -62,7 +62,7 @@ impl Shape {
         if self.items == 0 || self.items > 4 * self.buckets {
             return Err(ShapeError::Items);
         }
-        if self.stripes != 1 {
+        if self.stripes == 0 || self.stripes > 1 << 16 || !is_power(self.stripes) {
             return Err(ShapeError::Stripes);
         }
         if self.depth > 8 {

@@ -35,6 +35,14 @@ fn a_key_has_these_parts(rt: HostRuntime) -> Result<(), ShapeError> {
         assert_eq!(rt; alt, second, "the second bucket of {key}");
         assert_eq!(rt; checked.stripe(key), 0, "the stripe of {key}");
     }
+    for (key, mix, stripes, stripe) in [
+        (1, Mix::Fmix, 8192, 7420),
+        (4_294_967_296, Mix::Plain, 2, 1),
+        (u64::MAX, Mix::Plain, 1 << 16, (1 << 16) - 1),
+    ] {
+        let checked = Shape { stripes, ..shape(4, 16, mix) }.check()?;
+        assert_eq!(rt; checked.stripe(key), stripe, "the stripe of {key} of {stripes}");
+    }
     Ok(())
 }
 
@@ -74,6 +82,7 @@ fn a_checked_shape_is_kept(rt: HostRuntime) -> Result<(), ShapeError> {
         },
         Shape {
             tries: 64,
+            stripes: 1 << 16,
             ..shape(4, 16, Mix::Plain)
         },
     ] {
@@ -103,7 +112,7 @@ fn the_first_fault_of_a_shape_is_told(rt: HostRuntime) -> Result<(), AllocError>
             ShapeError::Items,
             "items must be from 1 to four times the buckets",
         ),
-        (ShapeError::Stripes, "stripes must be 1"),
+        (ShapeError::Stripes, "stripes must be a power of two from 1 to 65536"),
         (ShapeError::Depth, "depth must be from 0 to 8"),
         (ShapeError::Tries, "tries must be from 1 to 64"),
         (
