@@ -7,6 +7,7 @@ pub mod AllowedActs
 pub mod DeedChanges
 pub mod ShownWorld
 pub mod PairedLists
+pub mod PackedBits
 pub mod ReaderSteps
 pub mod NewWorld
 pub mod WorldSteps

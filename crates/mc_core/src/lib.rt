@@ -10,6 +10,7 @@ mod parts;
 mod peek;
 mod progress;
 mod reader;
+mod recency;
 mod table;
 mod world;
 mod writer;

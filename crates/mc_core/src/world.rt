@@ -2,6 +2,7 @@
 ghost use Rattle.std.specs.Prelude.{◌≡◌, ◌<◌};
 
 use crate::parts::Parts;
+use crate::recency::recency_word;
 use mc_theory::{Event, Stepped, Unlawful};
 use mc_words::{Change, Checked};
 use std::alloc::Global;
@@ -38,8 +39,9 @@ impl<const V: usize> Model for World<V> {
 impl<const V: usize> World<V> {
     ghost use Rattle.std.specs.Prelude.{ℕ, ◌≡◌, ◌+◌, ◌-◌, ◌^◌, ◌<◌, ◌≤◌, ◌++◌, ◌↔◌, ◌⊎◌, All, IfOk, IfErr, IsErrOf, OnOk, OnErr, length, slice_index};
     ghost use Rattle.mc_words.specs.Checks.{shape_of};
-    ghost use Rattle.mc_words.specs.Places.{IsWidth, all_words};
+    ghost use Rattle.mc_words.specs.Places.{IsWidth, all_words, word_count};
     ghost use Rattle.mc_words.specs.Shapes.{IsShape};
+    ghost use Rattle.mc_core.specs.Packed.{HasBits};
     ghost use Rattle.mc_core.specs.Seen.{Shows, MayAct, state_after};
     ghost use Rattle.mc_theory.specs.Worlds as worlds;
     ghost use Rattle.mc_theory.specs.Worlds.{IsBit, bit_of, given_of};
@@ -104,16 +106,17 @@ impl<const V: usize> World<V> {
         self.parts.writer.table.checked
     }
 
-    /// A word of the table: the recency words come last.
+    /// A word of the table. The recency words come last: 64 items share one.
     pub fn word(&self, n: usize) -> u64
         requires { n < all_words V self.now.shape }
-        ensures { result ≡ slice_index (self.now.state.words ++ self.now.bits) n }
+        ensures words { n < word_count V self.now.shape → result ≡ slice_index self.now.state.words n }
+        ensures bits { word_count V self.now.shape ≤ n → HasBits V self.now.shape self.now.bits n result }
     {
         let words = &self.parts.writer.table.words;
         if n < words.len() {
             words[n]
         } else {
-            self.parts.bits[n - words.len()]
+            recency_word(&self.parts.bits, n - words.len())
         }
     }
 }

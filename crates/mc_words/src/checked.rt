@@ -1,6 +1,7 @@
 ghost use Rattle.mc_words.specs.Keys.{tag_of, first_of, offset_of, alternate, stripe_of, slot_word};
 ghost use Rattle.std.specs.Prelude.{◌≡◌, ◌≢◌, ◌+◌, ◌*◌, ◌^◌, ◌<◌, ◌≤◌};
 ghost use Rattle.mc_words.specs.Places.{slot_number, IsPlace, IsWidth, payload, word_count, all_words, version_place, slot_place, item_place, recency_place, PlacesApart};
+ghost use Rattle.mc_words.specs.Recency.{recency_bit};
 ghost use Rattle.mc_words.specs.Shapes.{IsShape};
 
 use crate::place::Place;
@@ -149,7 +150,16 @@ impl Checked {
         requires item { i < (shape_of self.now).items }
         ensures { result ≡ recency_place V (shape_of self.now) i }
     {
-        self.recency_start::<V>() + i as usize
+        self.recency_start::<V>() + i as usize / 64
+    }
+
+    /// Which bit of that word is the item's.
+    #[tactic(auto, unfolding(crate::specs::Recency::recency_bit))]
+    pub fn recency_bit(&self, i: u32) -> u8
+        ensures bit { result ≡ recency_bit i }
+        ensures range { result < 64 }
+    {
+        (i % 64) as u8
     }
 
     /// How many words a table of this shape has.
@@ -159,6 +169,6 @@ impl Checked {
         ensures count { result ≡ all_words V (shape_of self.now) }
         ensures apart { PlacesApart V }
     {
-        self.recency_start::<V>() + self.shape.items as usize
+        self.recency_start::<V>() + (self.shape.items as usize + 63) / 64
     }
 }

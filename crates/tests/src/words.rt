@@ -64,7 +64,7 @@ fn the_buckets_of_a_tag_are_so_far_apart(rt: HostRuntime) -> Result<(), ShapeErr
         assert!(rt; four.slot_parts(word) == Some((tag, 0)));
     }
     assert!(rt; four.slot_parts(0) == None);
-    assert_eq!(rt; four.words::<1>(), 66);
+    assert_eq!(rt; four.words::<1>(), 51);
     Ok(())
 }
 

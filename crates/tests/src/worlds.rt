@@ -3,10 +3,10 @@ use mc_core::{Act, Change, Deed, Done, Event, Reply, Stepped, Unlawful, World, W
 use mc_words::{Checked, Mix, Place, Shape, ShapeError};
 use std::test::Fail;
 
-fn checked_with(limit: u64) -> Result<Checked, ShapeError> {
+fn checked_of(buckets: u32, items: u32, limit: u64) -> Result<Checked, ShapeError> {
     let shape = Shape {
-        buckets: 4,
-        items: 16,
+        buckets,
+        items,
         stripes: 1,
         depth: 2,
         tries: 2,
@@ -14,6 +14,10 @@ fn checked_with(limit: u64) -> Result<Checked, ShapeError> {
         mix: Mix::Plain,
     };
     shape.check()
+}
+
+fn checked_with(limit: u64) -> Result<Checked, ShapeError> {
+    checked_of(4, 16, limit)
 }
 
 /// A word of the world, if it has so many.
@@ -38,10 +42,10 @@ fn a_new_world_refuses_a_write_and_an_open_past_the_limit(rt: HostRuntime) -> Re
     let refused = world.step(Event::Write(Act::Open(0, Deed::Fill)));
     assert_eq!(rt; refused, Err(Unlawful::Limit));
     assert_eq!(rt; world.history().len(), 0);
-    for n in 0..66 {
+    for n in 0..51 {
         assert_eq!(rt; word_at(&world, n), Some(0), "word {n}");
     }
-    assert_eq!(rt; word_at(&world, 66), None);
+    assert_eq!(rt; word_at(&world, 51), None);
     Ok(())
 }
 
@@ -155,5 +159,50 @@ fn readers_are_from_1_to_1024(rt: HostRuntime) -> Result<(), Fail> {
     assert_eq!(rt; world.step(Event::Begin(1024, 0)), Err(Unlawful::NoReader));
     assert_eq!(rt; world.step(Event::Read(1024)), Err(Unlawful::NoReader));
     assert_eq!(rt; world.step(Event::Read(0)), Err(Unlawful::NotLawful));
+    Ok(())
+}
+
+#[test]
+fn sixty_four_items_share_a_word_of_bits(rt: HostRuntime) -> Result<(), Fail> {
+    let checked = checked_of(32, 65, LIMIT)?;
+    let mut world: World<1> = World::new(rt.alloc(), &checked, 1)?;
+    for item in [63, 64, 0] {
+        let marked = world.step(Event::Write(Act::Mark(item)));
+        assert_eq!(rt; marked, Ok(Stepped::Nothing), "item {item}");
+    }
+    assert_eq!(rt; checked.words::<1>(), 262);
+    assert_eq!(rt; word_at(&world, 260), Some(9223372036854775809));
+    assert_eq!(rt; word_at(&world, 261), Some(1));
+    Ok(())
+}
+
+#[test]
+fn the_hand_clears_one_bit_of_its_word(rt: HostRuntime) -> Result<(), Fail> {
+    let checked = checked_of(4, 2, LIMIT)?;
+    let mut world: World<1> = World::new(rt.alloc(), &checked, 1)?;
+    for (item, value) in [(0, 10), (1, 11)] {
+        let key = u64::from(item);
+        let place = Place {
+            bucket: item,
+            slot: 0,
+        };
+        for act in [
+            Act::Open(key, Deed::Fill),
+            Act::Item(item, 0, key),
+            Act::Item(item, 1, value),
+            Act::Slot(place, key + 1),
+            Act::Moment,
+            Act::Close,
+            Act::Mark(item),
+        ] {
+            assert_eq!(rt; world.step(Event::Write(act)), Ok(Stepped::Nothing));
+        }
+    }
+    assert_eq!(rt; word_at(&world, 22), Some(3));
+    let read = world.step(Event::Write(Act::Hand(0)));
+    assert_eq!(rt; read, Ok(Stepped::Word(1)));
+    assert_eq!(rt; word_at(&world, 22), Some(2));
+    let again = world.step(Event::Write(Act::Hand(0)));
+    assert_eq!(rt; again, Err(Unlawful::NotLawful));
     Ok(())
 }

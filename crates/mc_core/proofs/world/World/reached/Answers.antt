@@ -3,8 +3,8 @@ use Rattle.std.specs.Prelude.{All}
 use Rattle.mc_core.specs.Parts.{shape_of_parts, shown_of}
 use Rattle.mc_core.specs.Seen.{Shown, Shows}
 use Rattle.mc_theory.specs.Worlds.{World, IsBit, IsReached, IsTrueEnd}
-use Rattle.mc_theory.proofs.Events.Bits.{bits_stay}
 use Rattle.mc_theory.proofs.Events.ReachedWorlds.{worlds_are_true}
+use Rattle.mc_core.proofs.PackedBits.{bits_now}
 use Rattle.mc_core.proofs.world.World.reached.Goals as goal
 
 pub returns-clause-events : goal.returns-clause-events
@@ -14,10 +14,6 @@ returns-clause-events g c =
     let true = (worlds_are_true g.row.V (shape_of_parts p) is.reached.readers is.reached.events is.seen p.writer.table.checked.sound is.reached.runs).1 in
     subst (λ (now : Shown g.row.V). (seen : World g.row.V) × IsReached g.row.V now.shape seen × Shows {V = g.row.V} now seen × All (IsTrueEnd g.row.V now.shape seen) seen.ended) c.self.view_is
     (is.seen, is.reached, is.stand.shows, true)
-
--- the bits that are shown are those of the events
-bits_now : (V : ℕ) (now : Shown V) (seen : World V) → Shows {V = V} now seen → IsReached V now.shape seen → (length now.bits ≡ now.shape.items) × All IsBit now.bits
-bits_now V now seen shows reached = subst (λ (bits : List ℕ). (length bits ≡ now.shape.items) × All IsBit bits) (sym shows.bits) (bits_stay V now.shape seen reached)
 
 pub returns-clause-bits : goal.returns-clause-bits
 returns-clause-bits g c =

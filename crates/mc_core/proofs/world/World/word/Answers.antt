@@ -1,32 +1,34 @@
-use Rattle.std.proofs.Common.{ℕ, ◌≡◌, ◌-◌, ◌<◌, ◌≤◌, ◌++◌, length, get_or, ap, sym, ◌∙◌, arith}
-use Rattle.std.proofs.lemmas.List.{get_or-append_right, get_or_default}
-use Rattle.mc_words.specs.Places.{all_words}
+use Rattle.std.proofs.Common.{ℕ, ◌≡◌, ◌-◌, ◌^◌, ◌<◌, ◌≤◌, List, length, subst, ap, sym, ◌∙◌, arith}
+use Rattle.std.specs.Prelude.{All}
+use Rattle.mc_words.specs.Places.{all_words, word_count}
 use Rattle.mc_words.specs.Recency.{recency_words}
+use Rattle.mc_core.specs.Packed.{HasBits, IsPacked}
 use Rattle.mc_core.specs.Parts.{shown_of}
 use Rattle.mc_core.specs.Seen.{Shown}
 use Rattle.mc_core.specs.declared.parts.Parts.{Parts}
+use Rattle.mc_core.proofs.PackedBits.{bits_now, packed_bits}
 use Rattle.mc_core.proofs.world.World.word.Goals as goal
 
--- past the words of the table lie the bits
-in_bits : {V : ℕ} (p : Parts V) (shown : Shown V) (n len : ℕ) → shown_of {V = V} p ≡ shown → n < all_words V shown.shape → len ≡ length p.writer.table.words.items → len ≤ n → n - len < length p.bits.items
+-- past the words of the table lie the words with the bits, which are few
+few : {V : ℕ} (p : Parts V) (shown : Shown V) (n len : ℕ) → shown_of {V = V} p ≡ shown → n < all_words V shown.shape → len ≡ length p.writer.table.words.items → n - len < 2 ^ 32
 unfolding recency_words
-in_bits {V} p shown n len view below is past =
+few {V} p shown n len view below is =
     let shape = ap (λ (s : Shown V). s.shape) view in
     let all = rw (← shape) at below in
-    omega (arith, all, is, past, p.writer.table.size, p.marked)
+    omega (arith, all, is, p.writer.table.size, p.writer.table.checked.sound.buckets, p.writer.table.checked.sound.items)
 
-pub index-requires-else-n-len : goal.index-requires-else-n-len
-index-requires-else-n-len g c =
+pub recency_word-requires : goal.recency_word-requires
+recency_word-requires g c =
     let p = c.self.inside.parts in
-    let below = in_bits p c.args.self.now c.args.n c.len-else-n-len.result c.self.view_is c.requires (omega (arith, c.len-else-n-len.ensures, p.writer.table.words.ok.0)) (omega (arith, c.if-n-len.false, c.len.ensures, c.len-else-n-len.ensures)) in
-    omega (arith, below, p.bits.ok.0)
+    few p c.args.self.now c.args.n c.len-else-n-len.result c.self.view_is c.requires (omega (arith, c.len-else-n-len.ensures, p.writer.table.words.ok.0))
 
-pub returns-else-n-len : goal.returns-else-n-len
-returns-else-n-len g c =
+pub returns-else-n-len-clause-bits : goal.returns-else-n-len-clause-bits
+returns-else-n-len-clause-bits g c =
+    let V = g.row.V in
     let p = c.self.inside.parts in
-    let words = p.writer.table.words in
-    let len : c.len-else-n-len.result ≡ length words.items = omega (arith, c.len-else-n-len.ensures, words.ok.0) in
-    let past : c.len-else-n-len.result ≤ c.args.n = omega (arith, c.if-n-len.false, c.len.ensures, c.len-else-n-len.ensures) in
-    let below = in_bits p c.args.self.now c.args.n c.len-else-n-len.result c.self.view_is c.requires len past in
-    let right = get_or-append_right words.items p.bits.items c.len-else-n-len.result c.args.n 0 (sym len) past in
-    c.index-else-n-len.ensures ∙ get_or_default p.bits.items (c.args.n - c.len-else-n-len.result) c.index-else-n-len.result.now 0 below ∙ sym right ∙ ap (λ (s : Shown g.row.V). get_or (s.state.words ++ s.bits) c.args.n 0) c.self.view_is
+    let is = c.self.invariant in
+    let known = bits_now V (shown_of {V = V} p) is.seen is.stand.shows is.reached in
+    let len : c.len-else-n-len.result ≡ word_count V p.writer.table.checked.shape = omega (arith, c.len-else-n-len.ensures, p.writer.table.words.ok.0, p.writer.table.size) in
+    let packed = subst (λ (y : List ℕ × ℕ). IsPacked y.0 (c.args.n - y.1) c.recency_word.result) (λ i. (c.deref.ensures.value i, len i)) c.recency_word.ensures in
+    subst (λ (now : Shown V). word_count V now.shape ≤ c.args.n → HasBits V now.shape now.bits c.args.n c.recency_word.result) c.self.view_is
+    (λ past. packed_bits V p.writer.table.checked.shape p.bits.items c.args.n c.recency_word.result known.0 known.1 past packed)
