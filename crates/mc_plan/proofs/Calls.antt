@@ -4,3 +4,5 @@ pub mod SweptStates
 pub mod MidSweep
 pub mod AfterSweep
 pub mod CanEnd
+pub mod ActKinds
+pub mod EndOnce

@@ -6,3 +6,4 @@ pub mod Replacing
 pub mod Laws
 pub mod Calls
 pub mod Clerks
+pub mod Ends

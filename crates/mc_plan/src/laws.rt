@@ -1,4 +1,5 @@
 //! The laws of plans, one function each. A body does nothing: what it ensures is the law.
+ghost use Rattle.mc_plan.specs.Ends.{CallsEndOnce};
 ghost use Rattle.mc_plan.specs.Moves.{MovesMakeRoom};
 ghost use Rattle.mc_plan.specs.Puts.{PutsMakeRoom};
 ghost use Rattle.mc_plan.specs.Replacing.{EvictionsMakeRoom};
@@ -42,4 +43,9 @@ pub fn puts_make_room<const V: usize>()
 /// Where a key is not there, another stands at the item whose bit the hand found clear, and a chain leads from the key to a hole, the eviction of the other key, the moves of the chain up to that key's slot and then a fill of its first place are allowed one after the other. They take the other key out and put the key.
 pub fn evictions_make_room<const V: usize>()
     ensures { EvictionsMakeRoom V }
+{}
+
+/// A call ends once: acts that are a whole call are the beginning of no other, whatever it answers. So a call by single acts is answered at one of them, and at no other.
+pub fn calls_end_once<const V: usize>()
+    ensures { CallsEndOnce V }
 {}

@@ -1,6 +1,7 @@
 pub mod Texts
 pub mod Faults
 pub mod Replay
+pub mod Laws
 pub mod Scripts
 pub mod Players
 pub mod Steps

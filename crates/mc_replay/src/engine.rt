@@ -130,7 +130,8 @@ pub fn play<const V: usize, R: BufRead, W: Write>(
 
 /// Replays the script that is left to read, and writes the lines of its answers.
 ///
-/// The readers are numbered from 0, and there are from 1 to 1024 of them.
+/// The readers are numbered from 0, and there are from 1 to 1024 of them. The line of a call by single steps comes after
+/// exactly its last act: once its acts are a whole call, they are the beginning of no other.
 pub fn replay<const V: usize, R: BufRead, W: Write>(
     alloc: Global,
     checked: &Checked,

@@ -8,6 +8,7 @@
 mod command;
 mod engine;
 mod fault;
+pub mod laws;
 mod lines;
 mod player;
 mod reading;

@@ -61,7 +61,7 @@ ends_plan V clerk call s acts told is makes =
     }
 
 -- there are as many acts as readings
-many_acts : (rs : List Swept) → length (hand_acts rs) ≡ length rs
+pub many_acts : (rs : List Swept) → length (hand_acts rs) ≡ length rs
 many_acts [] = refl
 many_acts (r ∷ rs) = ap suc (many_acts rs)
 
