@@ -1,15 +1,15 @@
 #!/usr/bin/env bash
 # The load of the table at the first put that finds no path, for each depth, with mixed keys and 65,536 buckets.
-# Build mcstep first: (cd crates/mcstep && rt run < stdin).
-set -euo pipefail
-top=$(cd "$(dirname "$0")/.." && pwd)
-program=${1:-$top/crates/mcstep/out/mcstep}
+#
+# usage: bench/load_factor.sh [PROGRAM]     PROGRAM: the mcstep to measure; none: crates/mcstep/out/mcstep
+. "$(dirname "$0")/common.sh"
 buckets=65536
+slots=$((4 * buckets))
 
+awk -v slots="$slots" 'BEGIN { for (key = 0; key < slots; key++) print "put", key, 1 }' > "$folder/script"
 for depth in 0 1 2 3 4 5 6 7 8; do
-    awk -v slots=$((4 * buckets)) 'BEGIN { for (key = 0; key < slots; key++) print "put", key, 1 }' |
-        "$program" --mix fmix --depth "$depth" --buckets "$buckets" --items $((4 * buckets)) |
-        awk -v depth="$depth" -v slots=$((4 * buckets)) '
-            /^refused no path/ && !first { first = NR }
-            END { printf "depth %d: %.3f\n", depth, (first - 1) / slots }'
+    play "$folder/script" --mix fmix --depth "$depth" --buckets "$buckets" --items "$slots" > "$folder/answers"
+    first=$(awk '/^refused no path/ { print NR; exit }' "$folder/answers")
+    [ -n "$first" ] || fail "at depth $depth no put was refused for want of a path"
+    awk -v depth="$depth" -v first="$first" -v slots="$slots" 'BEGIN { printf "depth %d: %.3f\n", depth, (first - 1) / slots }'
 done

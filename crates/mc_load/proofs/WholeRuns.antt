@@ -8,7 +8,7 @@ use Rattle.mc_words.specs.Shapes.{IsShape}
 use Rattle.mc_options.specs.declared.options.Options.{Options}
 use Rattle.mc_options.specs.Options.{HasFault, IsUnread}
 use Rattle.mc_load.specs.Programs.{Stream, Ends, IsUntouched, RunsOptions, Runs, TellsFault}
-use Rattle.mc_load.specs.Programs.Runs.{helps, refuses, is_short}
+use Rattle.mc_load.specs.Programs.Runs.{prints, refuses, is_short}
 
 -- a replay over the shape that was checked
 pub runs_accepted : (o : Options) (V : ℕ) (c : Checked) (input output errors : Stream) (status : ℕ) → (shape_of c ≡ o.shape) × IsShape o.shape → V ≡ o.words → Ends V (shape_of c) o.readers input output errors status
@@ -20,9 +20,12 @@ runs_accepted o V c input output errors status shape width ends =
 -- the end of a run whose words give no options
 pub runs_fault : (words : List (List ℕ)) (k : ErrorKind) (input output errors : Stream) (status : ℕ) → IsUnread words k → IsUntouched input → TellsFault k output errors status → Runs words input output errors status
 runs_fault words k input output errors status why kept (inl short) = is_short kept short.1
-runs_fault words k input output errors status (inl oom) kept (inr (inl help)) = absurd (cc)
-runs_fault words k input output errors status (inr (inl fault)) kept (inr (inl help)) = helps (subst (HasFault words) help.0 fault) kept help.1
-runs_fault words k input output errors status (inr (inr none)) kept (inr (inl help)) = absurd (cc)
+runs_fault words k input output errors status (inl oom) kept (inr (inl (inl help, printed))) = absurd (cc)
+runs_fault words k input output errors status (inl oom) kept (inr (inl (inr version, printed))) = absurd (cc)
+runs_fault words k input output errors status (inr (inl fault)) kept (inr (inl (inl help, printed))) = prints (inl (subst (HasFault words) help fault)) kept printed
+runs_fault words k input output errors status (inr (inl fault)) kept (inr (inl (inr version, printed))) = prints (inr (subst (HasFault words) version fault)) kept printed
+runs_fault words k input output errors status (inr (inr none)) kept (inr (inl (inl help, printed))) = absurd (cc)
+runs_fault words k input output errors status (inr (inr none)) kept (inr (inl (inr version, printed))) = absurd (cc)
 runs_fault words k input output errors status (inl oom) kept (inr (inr told)) = absurd (told.0 oom)
-runs_fault words k input output errors status (inr (inl fault)) kept (inr (inr told)) = refuses (inl (k, told.1, fault)) kept told.2 told.3
-runs_fault words k input output errors status (inr (inr none)) kept (inr (inr told)) = refuses (inr none.1) kept told.2 told.3
+runs_fault words k input output errors status (inr (inl fault)) kept (inr (inr told)) = refuses (inl (k, told.1, told.2, fault)) kept told.3 told.4
+runs_fault words k input output errors status (inr (inr none)) kept (inr (inr told)) = refuses (inr none.1) kept told.3 told.4

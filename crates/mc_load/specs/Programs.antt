@@ -9,7 +9,7 @@ use Rattle.mc_words.specs.Shapes.{IsShape, Refuses}
 use Rattle.mc_replay.specs.declared.fault.Stop.{Stop}
 use Rattle.mc_options.specs.declared.options.Options.{Options}
 use Rattle.mc_replay.specs.Faults.{exit_of}
-use Rattle.mc_options.specs.Options.{Gives, AsksHelp, IsFaulty}
+use Rattle.mc_options.specs.Options.{Gives, AsksHelp, AsksVersion, IsFaulty}
 use Rattle.mc_replay.specs.Scripts.{ReplaysKnown}
 use Rattle.mc_replay.specs.FaultTexts.{stop_text}
 use Rattle.mc_load.specs.ShapeTexts.{shape_text}
@@ -49,9 +49,9 @@ abbrev pub RunsOptions : Options → Stream → Stream → Stream → ℕ → Ty
 RunsOptions o input output errors status =
     (IsShape o.shape × Ends o.words o.shape o.readers input output errors status) ⊎ IsRefused o.shape input output errors status
 
--- the help is printed; of its text no clause speaks
-abbrev pub Helps : Stream → ℕ → Type 0
-Helps errors status = IsUntouched errors × ((status ≡ 0) ⊎ (status ≡ 3))
+-- the help or the version is printed; of its text no clause speaks
+abbrev pub Prints : Stream → ℕ → Type 0
+Prints errors status = IsUntouched errors × ((status ≡ 0) ⊎ (status ≡ 3))
 
 -- memory was short, and nothing is replayed
 abbrev pub IsShort : Stream → Stream → ℕ → Type 0
@@ -61,12 +61,12 @@ IsShort output errors status = IsUntouched output × Tells errors (codes "refuse
 abbrev pub TellsFault : ErrorKind → Stream → Stream → ℕ → Type 0
 TellsFault k output errors status =
     ((k ≡ kind.OutOfMemory) × IsShort output errors status) ⊎
-    (((k ≡ kind.DisplayHelp) × Helps errors status) ⊎
-    ((k ≢ kind.OutOfMemory) × (k ≢ kind.DisplayHelp) × IsUntouched output × (status ≡ 2)))
+    ((((k ≡ kind.DisplayHelp) ⊎ (k ≡ kind.DisplayVersion)) × Prints errors status) ⊎
+    ((k ≢ kind.OutOfMemory) × (k ≢ kind.DisplayHelp) × (k ≢ kind.DisplayVersion) × IsUntouched output × (status ≡ 2)))
 
 -- what the words of the command line ask for, and what comes of it
 pub data Runs (words : List (List ℕ)) (input output errors : Stream) (status : ℕ) : Type 0 where
   runs : (o : Options) → Gives words o → RunsOptions o input output errors status → Runs words input output errors status
-  helps : AsksHelp words → IsUntouched input → Helps errors status → Runs words input output errors status
+  prints : AsksHelp words ⊎ AsksVersion words → IsUntouched input → Prints errors status → Runs words input output errors status
   refuses : IsFaulty words → IsUntouched input → IsUntouched output → status ≡ 2 → Runs words input output errors status
   is_short : IsUntouched input → IsShort output errors status → Runs words input output errors status

@@ -72,7 +72,7 @@ fn run_options<R: BufRead, W: Write, E: Write>(
     }
 }
 
-/// Prints the help that the words ask for, or tells their fault.
+/// Prints the help or the version that the words ask for, or tells their fault.
 fn tell_fault<W: Write, E: Write>(error: Error, output: &mut W, errors: &mut E) -> u8
     ensures { TellsFault (kind_of error) (stream (W.contents output.old) (W.contents output.new))
         (stream (E.contents errors.old) (E.contents errors.new)) result }
@@ -82,7 +82,7 @@ fn tell_fault<W: Write, E: Write>(error: Error, output: &mut W, errors: &mut E) 
             tell(errors, Short);
             FAILED
         }
-        ErrorKind::DisplayHelp => match write!(output, "{error}") {
+        ErrorKind::DisplayHelp | ErrorKind::DisplayVersion => match write!(output, "{error}") {
             Ok(()) => 0,
             Err(_) => FAILED,
         },
@@ -96,7 +96,7 @@ fn tell_fault<W: Write, E: Write>(error: Error, output: &mut W, errors: &mut E) 
 /// The whole program `mcstep`: the words of the command line, its own name first, and its three streams.
 ///
 /// Answers the exit status: 0 at the end of the script; 2 where an option, the shape or a line is refused; 3 for want
-/// of memory, or a failed read or write. The text that tells a fault of the words, and the help's, are `clap`'s.
+/// of memory, or a failed read or write. The texts of help and version, and of a fault of the words, are `clap`'s.
 pub fn run_step<S: AsStr, R: BufRead, W: Write, E: Write>(
     alloc: Global,
     words: &[S],

@@ -36,10 +36,14 @@ module _ (p q r : ℕ × ℕ) where
   unfolding texts_of clap_on_literals
   mix_given = refl
 
-  -- help, and faults
+  -- help, the version, and faults
   help_asked : faults_of mixes (codes "mcstep" ∷ codes "--help" ∷ []) ≡ kind.DisplayHelp ∷ []
   unfolding faults_of clap_on_literals
   help_asked = refl
+
+  version_asked : faults_of mixes (codes "mcstep" ∷ codes "--version" ∷ []) ≡ kind.DisplayVersion ∷ []
+  unfolding faults_of clap_on_literals
+  version_asked = refl
 
   words_past : faults_of mixes (codes "mcstep" ∷ codes "--words" ∷ codes "3" ∷ []) ≡ kind.ValueValidation ∷ []
   unfolding faults_of clap_on_literals

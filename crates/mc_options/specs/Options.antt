@@ -1,13 +1,14 @@
 -- What the words of a command line ask of `mcstep`; the first of them is the program's own name.
 -- The library `clap` defines how words are read: `fault_of` gives the kind of their first fault, and `matches_of` the
 -- text of each option, which is its default's where the option isn't given.
-use Rattle.std.specs.Prelude.{◌≡◌, ◌≢◌, ◌⊎◌, ◌&&◌, ℕ, pos, List, [], ◌∷◌, Option, Some, None, Result, map, length, codes, fold, nat_le, nat_lt, option_and_then, if◌then◌else◌, MatchResult}
+use Rattle.std.specs.Prelude.{◌≡◌, ◌≢◌, ◌⊎◌, ◌&&◌, ℕ, true, pos, List, [], ◌∷◌, Option, Some, None, Result, map, length, codes, fold, nat_le, nat_lt, option_and_then, if◌then◌else◌, MatchResult}
 use Rattle.std.specs.List.{list_all}
 use Rattle.std.specs.Borrow.{Bor}
 use Rattle.std.specs.Char.{is_ascii_digit}
 use Rattle.std.specs.Str.{bytes_eq}
 use Rattle.std.specs.Str.Parse.{digits_value}
 use Rattle.clap.specs.Words.{App, IsAmong, Kinds, Row, Rule, Text, fault_of, first_of, kind_of, matches_of, new_app, new_rule, with_rule}
+use Rattle.clap.specs.Simple.{on_top}
 use Rattle.clap.specs.declared.builder.value_parser.ValueParser.{ValueParser}
 use Rattle.clap.specs.declared.builder.value_parser.ValueParser.TheVariants as parser
 use Rattle.clap.specs.declared.error.Error.{Error}
@@ -54,8 +55,12 @@ others mixes =
 abbrev pub with_rules : App → List Rule → App
 with_rules app rules = fold with_rule app rules
 
+-- the command `mcstep`, which has a version, without its options
+abbrev pub named : App
+named = on_top (λ s. record s { has_version = true }) (new_app (codes "mcstep"))
+
 abbrev pub program : Names → App
-program mixes = with_rules (with_rules (with_rules (new_app (codes "mcstep")) sizes) bounds) (others mixes)
+program mixes = with_rules (with_rules (with_rules named sizes) bounds) (others mixes)
 
 -- ---- what their texts say
 
@@ -107,9 +112,14 @@ HasFault words k = (mixes : Names) × AreMixes mixes × IsAmong k (faults_of mix
 abbrev pub AsksHelp : List Text → Type 0
 AsksHelp words = HasFault words kind.DisplayHelp
 
+-- the words ask for the version
+abbrev pub AsksVersion : List Text → Type 0
+AsksVersion words = HasFault words kind.DisplayVersion
+
 -- the words have another fault
 abbrev pub IsFaulty : List Text → Type 0
-IsFaulty words = ((k : ErrorKind) × (k ≢ kind.DisplayHelp) × HasFault words k) ⊎ SaysNothing words
+IsFaulty words =
+    ((k : ErrorKind) × (k ≢ kind.DisplayHelp) × (k ≢ kind.DisplayVersion) × HasFault words k) ⊎ SaysNothing words
 
 -- why no options are read: memory was short, of which no clause can say more, or the words have a fault of this kind
 abbrev pub IsUnread : List Text → ErrorKind → Type 0

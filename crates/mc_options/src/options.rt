@@ -1,9 +1,10 @@
 // The options of `mcstep`.
-ghost use Rattle.std.specs.Prelude.{◌≡◌, false, IfOk, MatchOption, codes, map, option_and_then};
+ghost use Rattle.std.specs.Prelude.{◌≡◌, false, IfOk, MatchResult, codes, map, option_and_then};
 ghost use Rattle.std.specs.List.{list_all};
 ghost use Rattle.std.specs.Char.{is_ascii_digit};
-ghost use Rattle.clap.specs.Words.{app_of, first_of, found_of, rows_of, rule_of};
-ghost use Rattle.mc_options.specs.Options.{AreMixes, Names, Reads, Says, bounds, mix_in, number_in, option, others, program, sizes, with_rules};
+ghost use Rattle.std.specs.Result.{result_ok};
+ghost use Rattle.clap.specs.Words.{app_of, first_of, found_of, kind_of, rows_of, rule_of};
+ghost use Rattle.mc_options.specs.Options.{AreMixes, Names, Reads, Says, bounds, mix_in, named, number_in, option, others, program, sizes, with_rules};
 
 use clap::builder::ValueParser;
 use clap::error::ErrorKind;
@@ -20,6 +21,28 @@ pub struct Options {
     /// Words of a value: 1 or 2.
     pub words: u8,
 }
+
+const VERSION: &str = "0.1.0";
+
+/// What the help says of scripts, behind the options.
+const SCRIPTS: &str = "\
+Commands of a script, one a line:
+  put K V..        Puts key K with its value, as many numbers as --words says
+  remove K         Removes key K
+  get K            Looks key K up
+  begin put K V..  Begins a put, whose acts are made by w
+  begin remove K   Begins a removal, whose acts are made by w
+  w [N]            Makes the next act of the writer's call, or the next N
+  begin R get K    Begins a lookup by reader R, counted from 0, whose accesses are made by r
+  r R [N]          Makes the next access of reader R's lookup, or the next N
+
+Numbers are decimal. A line whose first word begins with # is a comment.
+
+Example: a put falls between a reader's accesses, so the reader looks again.
+  printf 'begin 0 get 0\\nr 0\\nput 0 7\\nr 0 12\\n' | mcstep
+writes
+  stored at 1 moves 0
+  reader 0 found 7 at 1";
 
 /// The most that a `u32` can be.
 const MOST_SIZE: u64 = 4_294_967_295;
@@ -53,14 +76,14 @@ fn with_sizes<'a>(alloc: Global, command: Command<'a>) -> Result<Command<'a>, Al
         "buckets",
         value_parser!(u32),
         "4",
-        "Buckets of four slots, a power of two",
+        "Buckets of four slots, a power of two from 2 to 1048576",
     );
     let items = option(
         alloc,
         "items",
         value_parser!(u32),
         "16",
-        "The most keys, up to four times the buckets",
+        "The most keys, from 1 to four times the buckets",
     );
     command.arg(buckets)?.arg(items)
 }
@@ -73,21 +96,21 @@ fn with_bounds<'a>(alloc: Global, command: Command<'a>) -> Result<Command<'a>, A
         "depth",
         value_parser!(u8),
         "2",
-        "The most keys that a put moves, up to 8",
+        "The most keys that a put moves, from 0 to 8",
     );
     let tries = option(
         alloc,
         "tries",
         value_parser!(u8),
         "2",
-        "Tries of a look-up, from 1 to 64",
+        "Tries of a lookup, from 1 to 64",
     );
     let limit = option(
         alloc,
         "limit",
         value_parser!(u64),
         "4611686018427387904",
-        "The most version changes",
+        "The most changes of key versions in a script, from 0 to 2^62",
     );
     command.arg(depth)?.arg(tries)?.arg(limit)
 }
@@ -101,7 +124,7 @@ fn with_others<'a>(alloc: Global, command: Command<'a>) -> Result<Command<'a>, A
         "mix",
         ValueParser::Names(names),
         "plain",
-        "How keys are mixed",
+        "How keys are mixed: not at all, or by MurmurHash3's finalizer",
     );
     let readers = option(
         alloc,
@@ -115,16 +138,25 @@ fn with_others<'a>(alloc: Global, command: Command<'a>) -> Result<Command<'a>, A
         "words",
         value_parser!(u8).range(1..=2),
         "1",
-        "Words of a value",
+        "Words of a value, 1 or 2",
     );
     command.arg(mix)?.arg(readers)?.arg(words)
+}
+
+/// The command without its options.
+fn named<'a>(alloc: Global) -> Command<'a>
+    ensures { app_of result ≡ named }
+{
+    Command::new(alloc, "mcstep")
+        .version(VERSION)
+        .about("Replays a script of cache calls, which comes on standard input")
+        .after_help(SCRIPTS)
 }
 
 fn command<'a>(alloc: Global) -> Result<Command<'a>, AllocError>
     ensures { IfOk result (λ c. (mixes : Names) × AreMixes mixes × (app_of c ≡ program mixes)) }
 {
-    let plain = Command::new(alloc, "mcstep").about("Replays a script of cache calls");
-    let sized = with_sizes(alloc, plain)?;
+    let sized = with_sizes(alloc, named(alloc))?;
     let bounded = with_bounds(alloc, sized)?;
     with_others(alloc, bounded)
 }
@@ -166,28 +198,33 @@ fn mix_in(text: &str) -> Option<Mix>
     }
 }
 
-/// The number that an option says.
-fn number(matches: &ArgMatches, name: &str, least: u64, most: u64) -> Option<u64>
-    ensures { result ≡ option_and_then (number_in least most) (first_of name.now (rows_of (found_of matches.now))) }
+/// The number that an option says, or the name of the option if it says none.
+fn number<'a>(
+    matches: &ArgMatches,
+    name: &'a str,
+    least: u64,
+    most: u64,
+) -> Result<u64, &'a str>
+    ensures { result_ok result ≡ option_and_then (number_in least most) (first_of name.now (rows_of (found_of matches.now))) }
 {
     match matches.get_str(name) {
-        Some(text) => number_in(text, least, most),
-        None => None,
+        Some(text) => number_in(text, least, most).ok_or(name),
+        None => Err(name),
     }
 }
 
-fn mix(matches: &ArgMatches) -> Option<Mix>
-    ensures { result ≡ option_and_then mix_in (first_of (codes "mix") (rows_of (found_of matches.now))) }
+fn mix(matches: &ArgMatches) -> Result<Mix, &'static str>
+    ensures { result_ok result ≡ option_and_then mix_in (first_of (codes "mix") (rows_of (found_of matches.now))) }
 {
     match matches.get_str("mix") {
-        Some(text) => mix_in(text),
-        None => None,
+        Some(text) => mix_in(text).ok_or("mix"),
+        None => Err("mix"),
     }
 }
 
-/// The options that the matches say.
-fn options_in(matches: &ArgMatches) -> Option<Options>
-    ensures { MatchOption result ((o : Options) → Says (rows_of (found_of matches.now)) o → ⊥) (Says (rows_of (found_of matches.now))) }
+/// The options that the matches say, or the name of the first that says nothing.
+fn options_in(matches: &ArgMatches) -> Result<Options, &'static str>
+    ensures { MatchResult result (Says (rows_of (found_of matches.now))) (λ name. (o : Options) → Says (rows_of (found_of matches.now)) o → ⊥) }
 {
     let buckets = number(matches, "buckets", 0, MOST_SIZE)?;
     let items = number(matches, "items", 0, MOST_SIZE)?;
@@ -206,11 +243,24 @@ fn options_in(matches: &ArgMatches) -> Option<Options>
         limit,
         mix,
     };
-    Some(Options {
+    Ok(Options {
         shape,
         readers: readers as u32,
         words: words as u8,
     })
+}
+
+/// The fault of a number that has more than digits, as a sign. Of all others `clap` has told.
+fn refusal(
+    alloc: Global,
+    command: &mut Command<'_>,
+    name: &str,
+    text: &str,
+) -> Result<Error, AllocError>
+    ensures { IfOk result (λ e. kind_of e ≡ ErrorKind.ValueValidation) }
+{
+    let message = format!(in alloc; "invalid value '{text}' for '--{name} <{name}>': digits only")?;
+    command.error(ErrorKind::ValueValidation, message.as_str())
 }
 
 /// The options of the words, the program's own name first.
@@ -223,7 +273,10 @@ pub fn options_of<S: AsStr>(alloc: Global, words: &[S]) -> Result<Options, Error
         Err(error) => return Err(error),
     };
     match options_in(&matches) {
-        Some(options) => Ok(options),
-        None => Err(command.error(ErrorKind::ValueValidation, "a number has digits only")?),
+        Ok(options) => Ok(options),
+        Err(name) => {
+            let text = matches.get_str(name).unwrap_or("");
+            Err(refusal(alloc, &mut command, name, text)?)
+        }
     }
 }

@@ -1,7 +1,6 @@
-//! Command lines that are refused before a line is read, and the one that asks for help.
+//! Command lines that are refused before a line is read, and those that ask for help or the version.
 use mc_load::run_step;
 use std::alloc::{AllocError, Global};
-use std::str;
 
 /// Options that are refused, and behind a bar how the text begins that tells it: without one, as a fault of the command line.
 const REFUSED: &str = "\
@@ -11,22 +10,22 @@ script|error: unexpected argument 'script' found
 --buckets
 --items |error:
 --depth 256
---depth +2
+--depth +2|error: invalid value '+2' for '--depth <depth>': digits only
 --tries 256
 --limit 18446744073709551616
---limit +8
+--limit +8|error: invalid value '+8' for '--limit <limit>': digits only
 --readers 4294967296
 --readers=-1
 --words 0
 --words 3
 --words 256
---words +1
+--words +1|error: invalid value '+1' for '--words <words>': digits only
 --buckets 4294967296
 --buckets 18446744073709551620
---buckets +4
+--buckets +4|error: invalid value '+4' for '--buckets <buckets>': digits only
 --buckets=-4
 --buckets 4.0
---items +4
+--items +4|error: invalid value '+4' for '--items <items>': digits only
 --mix other
 --buckets 3 --words 3
 --buckets 3|refused: buckets
@@ -89,33 +88,14 @@ fn a_refused_command_line_reads_and_writes_nothing(rt: HostRuntime) -> Result<()
     Ok(())
 }
 
-/// The first option that the text doesn't name.
-fn missing_in(text: &str) -> Option<&'static str> {
-    for option in [
-        "--buckets",
-        "--items",
-        "--depth",
-        "--tries",
-        "--limit",
-        "--mix",
-        "--readers",
-        "--words",
-    ] {
-        if !text.contains(option) {
-            return Some(option);
-        }
-    }
-    None
-}
-
 #[test]
-fn help_goes_to_standard_output(rt: HostRuntime) -> Result<(), AllocError> {
-    for option in ["--help", "-h"] {
-        let outcome = run(rt.alloc(), option)?;
+fn a_short_option_prints_what_the_long_one_does(rt: HostRuntime) -> Result<(), AllocError> {
+    for (short, long) in [("-h", "--help"), ("-V", "--version")] {
+        let outcome = run(rt.alloc(), short)?;
         assert_eq!(rt; outcome.status, 0);
         assert!(rt; outcome.errors.is_empty());
-        let text = str::from_utf8(outcome.output.as_slice()).unwrap_or("");
-        assert_eq!(rt; missing_in(text), None);
+        assert!(rt; !outcome.output.is_empty(), "{short} prints a text");
+        assert!(rt; outcome.output == run(rt.alloc(), long)?.output, "{short} is {long}");
         assert_eq!(rt; outcome.unread, SCRIPT.len());
     }
     Ok(())

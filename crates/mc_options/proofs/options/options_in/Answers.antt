@@ -9,3 +9,6 @@ overflow_cast-shape-3 c = omega (arith, (number-bounds 0 255 c.in_ok-depth.depth
 
 pub overflow_cast-shape-4 : goal.overflow_cast-shape-4
 overflow_cast-shape-4 c = omega (arith, (number-bounds 0 255 c.in_ok-tries.tries (first_of (codes "tries") (rows_of (found_of c.args.matches.now))) c.in_ok-tries.ensures).1)
+
+pub overflow_cast-shape-2 : goal.overflow_cast-shape-2
+overflow_cast-shape-2 c = omega (arith, (number-bounds 0 4294967295 c.in_ok-items.items (first_of (codes "items") (rows_of (found_of c.args.matches.now))) c.in_ok-items.ensures).1)
