@@ -1,5 +1,5 @@
 //! The parts of a world, which only its own calls see. Each event is one atomic step.
-ghost use Rattle.std.specs.Prelude.{◌≡◌, length};
+ghost use Rattle.std.specs.Prelude.{◌≡◌, ◌<◌, ◌^◌, length};
 ghost use Rattle.mc_core.specs.Writers.{shape_at};
 
 use crate::reader::Reader;
@@ -20,6 +20,7 @@ pub(crate) struct Parts<const V: usize> {
     pub(crate) readers: Vec<Option<Reader<V>>>,
     pub(crate) events: u64,
     ghost marked: { length bits.items ≡ (shape_at writer).items },
+    ghost countable: { length readers.items < 2 ^ 32 },
 }
 
 impl<const V: usize> Parts<V> {

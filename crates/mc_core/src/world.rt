@@ -104,6 +104,13 @@ impl<const V: usize> World<V> {
         self.parts.writer.table.checked
     }
 
+    /// How many readers there are.
+    pub fn readers(&self) -> u32
+        ensures { result ≡ length self.now.readers }
+    {
+        self.parts.readers.len() as u32
+    }
+
     /// A word of the table: the recency words come last.
     pub fn word(&self, n: usize) -> u64
         requires { n < all_words V self.now.shape }
