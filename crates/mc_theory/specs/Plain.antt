@@ -1,13 +1,14 @@
--- What a lookup tells is true, said in plain words. Whoever believes this file, and what it imports, has to believe no other.
+-- What a lookup tells is true, in plain words: the clause `plain` of `run_new`. What it means is in the definitions below, and in
+-- those of the map that a history makes (`held`, `IsTrueAnswer`); no other of this project is needed.
 --
 -- Events come one after the other: each is an act of the writer, or the beginning of a reader's lookup, or the next access of
--- one. The writer's acts change a map. It opens a deed on a key, writes words, and at the moment of the deed the map is
--- changed: a fill and a renewal put the words that were written, a removal and an eviction take the key out, a move does
--- nothing. The list of these changes is the history of the events.
+-- one. The acts change a map: the writer opens a deed on a key, writes words, and at the moment of the deed the map changes. A
+-- fill and a renewal put the words that were written, a removal and an eviction take the key out, a move changes nothing. The
+-- list of these changes is the history of the events.
 --
--- A lookup that has ended tells its reader, its key and its reply, and which events were its first access and its last. Its reply
--- names a number of changes: no fewer than were made before the first access, and no more than were made when the last was. It is
--- what the map held of the key after so many changes of the history. A lookup that gave up, `Busy`, says nothing of the map.
+-- A lookup that has ended tells its reader, its key, its reply, and which events were its first access and its last. The reply
+-- names a number of changes: no fewer than were made before the first access, and no more than were made when the last was. It
+-- is what the map held of the key after so many changes of the history. A lookup that gave up, `Busy`, says nothing of the map.
 use Rattle.std.specs.Prelude.{ℕ, suc, ◌≡◌, ◌+◌, ◌≤◌, ◌<◌, List, [], ◌∷◌, ◌++◌, length, take, Option, Some, None, slice_get}
 use Rattle.mc_words.specs.History.{IsTrueAnswer}
 use Rattle.mc_words.specs.declared.history.Change.{Change}
@@ -43,7 +44,7 @@ change_by deed.Remove k xs = Remove k ∷ []
 change_by deed.Evict k xs = Evict k ∷ []
 change_by deed.Move k xs = []
 
--- what these acts change, while a deed on a key is open and these words were written: word 0 of an item is the key, and none of them
+-- what these acts change, from an open deed on, of which these words were written; word 0 of an item is the key, and is none of them
 abbrev pub changes_by : {V : ℕ} → Deed → ℕ → List ℕ → List Act → List (Change V)
 changes_by d k xs [] = []
 changes_by d k xs (Open key deed ∷ acts) = changes_by deed key [] acts
@@ -51,7 +52,7 @@ changes_by d k xs (Item i (suc j) x ∷ acts) = changes_by d k (xs ++ x ∷ []) 
 changes_by d k xs (Moment ∷ acts) = change_by d k xs ++ changes_by d k xs acts
 changes_by d k xs (_ ∷ acts) = changes_by d k xs acts
 
--- the history of these events; before the first deed is opened, nothing is changed, as by a move
+-- the history of these events: before the first deed there is nothing to change, as in a move
 unfoldable pub history_of : (V : ℕ) → List Event → List (Change V)
 history_of V es = changes_by deed.Move 0 [] (acts_in es)
 
@@ -61,7 +62,7 @@ IsBetween lo hi (Found v at) = (lo ≤ at) × (at ≤ hi)
 IsBetween lo hi (Absent at) = (lo ≤ at) × (at ≤ hi)
 IsBetween lo hi Busy = Unit {0}
 
--- the reader began to look up the key, then made its first access and its last, and began nothing else before that
+-- the reader began to look up the key, and from there to its last access it began nothing else; no access of its own comes before the first
 pub record IsSpan {V : ℕ} (es : List Event) (told : Done V) : Type 0 where
   pub begin : ℕ
   pub begun : slice_get es begin ≡ Some (Begin told.reader told.key)
@@ -72,7 +73,7 @@ pub record IsSpan {V : ℕ} (es : List Event) (told : Done V) : Type 0 where
   pub unread : (n : ℕ) → begin < n → n < told.first → slice_get es n ≡ Some (Read told.reader) → ⊥
   pub alone : (n k : ℕ) → begin < n → n ≤ told.last → slice_get es n ≡ Some (Begin told.reader k) → ⊥
 
--- the lookup has its span in these events, and its reply is what the map held after some of the changes, between the first access and the last
+-- the lookup has its span in these events, and its reply is what the map held after a number of their changes that lies in the span
 pub record IsPlainlyTrue {V : ℕ} (es : List Event) (told : Done V) : Type 0 where
   pub span : IsSpan es told
   pub true : IsTrueAnswer (history_of V es) told.key told.reply
