@@ -1,5 +1,7 @@
 //! New worlds and short lists of events, with the shape that the stepper takes by default.
-use mc_core::{Act, Change, Deed, Done, Event, Reply, Stepped, Unlawful, World, WorldError, run};
+use mc_core::{
+    Act, Change, Deed, Done, Event, Reply, Run, Stepped, Unlawful, World, WorldError, run, run_new,
+};
 use mc_words::{Checked, Mix, Place, Shape, ShapeError};
 use std::test::Fail;
 
@@ -204,5 +206,42 @@ fn the_hand_clears_one_bit_of_its_word(rt: HostRuntime) -> Result<(), Fail> {
     assert_eq!(rt; word_at(&world, 22), Some(2));
     let again = world.step(Event::Write(Act::Hand(0)));
     assert_eq!(rt; again, Err(Unlawful::NotLawful));
+    Ok(())
+}
+
+/// A fill of key 0 with 7, a lookup of it to its end, and what that tells.
+#[test]
+fn a_lookup_after_a_fill_tells_the_value(rt: HostRuntime) -> Result<(), Fail> {
+    let checked = checked_with(LIMIT)?;
+    let mut events = [Event::Read(0); 14];
+    events[0] = Event::Write(Act::Open(0, Deed::Fill));
+    events[1] = Event::Write(Act::Item(0, 0, 0));
+    events[2] = Event::Write(Act::Item(0, 1, 7));
+    events[3] = Event::Write(Act::Slot(FIRST, 1));
+    events[4] = Event::Write(Act::Moment);
+    events[5] = Event::Write(Act::Close);
+    events[6] = Event::Begin(0, 0);
+    let made: Run<1> = run_new(rt.alloc(), &checked, 1, &events)?;
+    let done = Done {
+        reader: 0,
+        key: 0,
+        reply: Reply::Found { value: [7], at: 1 },
+        first: 7,
+        last: 13,
+    };
+    assert_eq!(rt; made.done.as_slice(), [done].as_slice());
+    assert_eq!(rt; made.stopped, None);
+    Ok(())
+}
+
+#[test]
+fn a_new_world_stops_at_an_event_that_is_refused(rt: HostRuntime) -> Result<(), Fail> {
+    let checked = checked_with(LIMIT)?;
+    let world: World<1> = World::new(rt.alloc(), &checked, 3)?;
+    assert_eq!(rt; world.readers(), 3);
+    let events = [Event::Begin(0, 0), Event::Begin(1, 0), Event::Read(0)];
+    let made: Run<1> = run_new(rt.alloc(), &checked, 1, &events)?;
+    assert_eq!(rt; made.done.len(), 0);
+    assert_eq!(rt; made.stopped, Some((1, Unlawful::NoReader)));
     Ok(())
 }
