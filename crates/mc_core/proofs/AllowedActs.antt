@@ -3,7 +3,7 @@ use Rattle.std.proofs.Common.{ℕ, ◌≡◌, List, Option, subst, sym, ◌∙�
 use Rattle.mc_words.specs.Standing.{Names, Stands, OnlyAt}
 use Rattle.mc_words.specs.declared.shape.Shape.{Shape}
 use Rattle.mc_theory.specs.Acts.{MayFrom}
-use Rattle.mc_core.specs.Writers.{phase_at}
+use Rattle.mc_core.specs.Inside.Writers.{phase_at}
 use Rattle.mc_theory.specs.declared.act.Act.{Act}
 use Rattle.mc_core.specs.declared.progress.Progress.{Progress}
 

@@ -5,7 +5,7 @@ use Rattle.mc_words.specs.Places.{payload}
 use Rattle.mc_words.specs.declared.history.Change.TheVariants.{Put}
 use Rattle.mc_theory.specs.Effects.{change_of, phase_after}
 use Rattle.mc_theory.specs.Phases.{Closing}
-use Rattle.mc_core.specs.Writers.{phase_at}
+use Rattle.mc_core.specs.Inside.Writers.{phase_at}
 use Rattle.mc_theory.specs.declared.act.Act.TheVariants.{Moment}
 use Rattle.mc_core.specs.declared.progress.Progress.{Progress}
 use Rattle.mc_core.specs.declared.progress.Progress.TheVariants as progress

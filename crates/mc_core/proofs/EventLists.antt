@@ -3,7 +3,7 @@ use Rattle.std.proofs.Common.{ℕ, ◌≡◌, ◌≢◌, List, [], ◌∷◌, �
 use Rattle.std.specs.Prelude.{slice_get}
 use Rattle.std.proofs.lemmas.List.{append-nil, append_assoc, map-append}
 use Rattle.mc_words.specs.declared.shape.Shape.{Shape}
-use Rattle.mc_core.specs.Parts.{shape_of_parts, shown_of, StandFor, AreReached, HasMade}
+use Rattle.mc_core.specs.Inside.Parts.{shape_of_parts, shown_of, StandFor, AreReached, HasMade}
 use Rattle.mc_core.specs.Seen.{Shown, Shows}
 use Rattle.mc_theory.specs.Plain.{events_made}
 use Rattle.mc_theory.specs.Worlds.{World, Running, Ended, given_of, bit_of, Steps, Gives, Refuses, Runs, IsReached, StopsAt, HasRun, first_world}

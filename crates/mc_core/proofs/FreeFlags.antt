@@ -7,8 +7,8 @@ use Rattle.mc_words.specs.Standing.{HasFree}
 use Rattle.mc_words.specs.Places.{slot}
 use Rattle.mc_words.specs.declared.shape.Shape.{Shape}
 use Rattle.mc_words.proofs.Frames.{moved_names}
-use Rattle.mc_core.specs.Tables.{shape_in, words_in}
-use Rattle.mc_core.specs.Writers.{downs, UsedIn, UsedWell, IsFreeItem}
+use Rattle.mc_core.specs.Inside.Tables.{shape_in, words_in}
+use Rattle.mc_core.specs.Inside.Writers.{downs, UsedIn, UsedWell, IsFreeItem}
 use Rattle.mc_core.specs.declared.table.Table.{Table}
 
 -- a flag that is down is that of a free item

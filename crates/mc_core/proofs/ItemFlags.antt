@@ -9,7 +9,7 @@ use Rattle.mc_words.specs.Places.{slot, with_slot}
 use Rattle.mc_words.specs.Shapes.{IsShape}
 use Rattle.mc_words.specs.Standing.{Names, IsFree}
 use Rattle.mc_words.specs.declared.shape.Shape.{Shape}
-use Rattle.mc_core.specs.Writers.{downs, UsedIn}
+use Rattle.mc_core.specs.Inside.Writers.{downs, UsedIn}
 
 -- a flag raised, a flag lowered
 pub downs_up : (xs : List Bool) (i : ℕ) → i < length xs → get_or xs i false ≡ false → downs (slice_set xs i true) + 1 ≡ downs xs

@@ -15,7 +15,7 @@ use Rattle.mc_words.proofs.Keys.{stripe_of-lt}
 use Rattle.mc_words.specs.Places.{with_item}
 use Rattle.mc_words.specs.Shapes.{IsShape}
 use Rattle.mc_theory.specs.Effects.{words_after, phase_after, hand_after, cleared_after, history_after, changes_after, bumped}
-use Rattle.mc_core.specs.Writers.{shape_at, words_at, phase_at, room_of, UsedIn, IsMade}
+use Rattle.mc_core.specs.Inside.Writers.{shape_at, words_at, phase_at, room_of, UsedIn, IsMade}
 use Rattle.mc_theory.specs.declared.act.Act.{Act}
 use Rattle.mc_core.specs.declared.progress.Progress.{Progress}
 use Rattle.mc_core.specs.declared.writer.Writer.{Writer}

@@ -7,12 +7,12 @@ use Rattle.mc_words.specs.Places.{word_count, slot, slot_place}
 use Rattle.mc_words.specs.declared.history.Change.{Change}
 use Rattle.mc_words.specs.declared.shape.Shape.{Shape}
 use Rattle.mc_theory.specs.Lists.{state_of}
-use Rattle.mc_core.specs.Parts.{shape_of_parts, StandFor}
+use Rattle.mc_core.specs.Inside.Parts.{shape_of_parts, StandFor}
 use Rattle.mc_theory.specs.Phases.{Phase, Quiet, runs}
 use Rattle.mc_core.specs.Seen.{Both, IsRunning}
 use Rattle.mc_theory.specs.States.{State, opening}
 use Rattle.mc_theory.specs.Worlds.{first_world, Running}
-use Rattle.mc_core.specs.Writers.{state_in, phase_at, downs, UsedIn, UsedWell}
+use Rattle.mc_core.specs.Inside.Writers.{state_in, phase_at, downs, UsedIn, UsedWell}
 use Rattle.mc_core.specs.declared.parts.Parts.{Parts}
 use Rattle.mc_core.specs.declared.reader.Reader.{Reader}
 use Rattle.mc_theory.proofs.Lists.Fronts.{lawful_none, state_none}

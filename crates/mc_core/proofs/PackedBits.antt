@@ -14,7 +14,8 @@ use Rattle.mc_words.specs.declared.shape.Shape.{Shape}
 use Rattle.mc_theory.specs.Worlds.{World, IsBit, IsReached}
 use Rattle.mc_theory.proofs.Events.Bits.{bits_stay}
 use Rattle.mc_core.specs.Seen.{Shown, Shows}
-use Rattle.mc_core.specs.Packed.{HasBits, IsPacked}
+use Rattle.mc_core.specs.Packed.{HasBits}
+use Rattle.mc_core.specs.Inside.Packed.{IsPacked}
 use mathlib.Core.Logic.{dite}
 use native.Mathlib.Decide.{ℕ_discrete}
 

@@ -10,14 +10,14 @@ use Rattle.mc_lookup.specs.Course.{BeginsWith}
 use Rattle.mc_theory.specs.Lists.{IsLawful, state_of}
 use Rattle.mc_theory.specs.Lookups.{IsLookup}
 use Rattle.mc_lookup.specs.Machine.{shape_for, next_at, next_of, reply_at, reply_now, LeftAt, Left, Takes}
-use Rattle.mc_core.specs.Parts.{shape_of_parts, StandFor}
+use Rattle.mc_core.specs.Inside.Parts.{shape_of_parts, StandFor}
 use Rattle.mc_theory.specs.Phases.{runs}
 use Rattle.mc_theory.specs.Readings.{Reading, IsWordOf}
 use Rattle.mc_core.specs.Seen.{Both, IsRunning}
 use Rattle.mc_theory.specs.States.{State}
 use Rattle.mc_theory.specs.Worlds as worlds
 use Rattle.mc_theory.specs.Worlds.{Running, Ended, bits_read, first_read, ReadsNext, EndsRead, GoesOn}
-use Rattle.mc_core.specs.Writers.{state_in, words_at, shape_at, phase_at, UsedWell}
+use Rattle.mc_core.specs.Inside.Writers.{state_in, words_at, shape_at, phase_at, UsedWell}
 use Rattle.mc_theory.specs.declared.access.Access.{Access}
 use Rattle.mc_theory.specs.declared.event.Done.{Done}
 use Rattle.mc_theory.specs.declared.event.Event.TheVariants as event

@@ -11,11 +11,12 @@ use Rattle.mc_theory.specs.Acts.{MayFrom, IsAllowed}
 use Rattle.mc_theory.specs.Effects.{phase_after, changes_after, after_act}
 use Rattle.mc_theory.specs.Inner.{StateHolds, StateCounted}
 use Rattle.mc_theory.specs.Phases.{Phase, Quiet, Filling, Keyed, Placed, Renewing, Removing, Removed, Moving, Moved, Closing, runs}
-use Rattle.mc_core.specs.Seen.{Both, IsRunning, ReadsIn}
-use Rattle.mc_core.specs.Parts.{shape_of_parts, StandFor}
+use Rattle.mc_core.specs.Seen.{Both, IsRunning}
+use Rattle.mc_core.specs.Inside.Seen.{ReadsIn}
+use Rattle.mc_core.specs.Inside.Parts.{shape_of_parts, StandFor}
 use Rattle.mc_theory.specs.States.{State}
 use Rattle.mc_theory.specs.Worlds as worlds
-use Rattle.mc_core.specs.Writers.{state_in, words_at, phase_at, IsMade}
+use Rattle.mc_core.specs.Inside.Writers.{state_in, words_at, phase_at, IsMade}
 use Rattle.mc_theory.specs.declared.act.Act.{Act}
 use Rattle.mc_theory.specs.declared.act.Act.TheVariants.{Open, Slot, Item, Moment, Close, Hand, Mark}
 use Rattle.mc_theory.specs.declared.act.Deed.TheVariants as deed

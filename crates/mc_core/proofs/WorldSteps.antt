@@ -10,7 +10,7 @@ use Rattle.mc_theory.specs.declared.event.Event.TheVariants.{Write, Begin, Read}
 use Rattle.mc_theory.specs.declared.event.Unlawful.TheVariants as unlawful
 use Rattle.mc_words.specs.Shapes.{IsShape}
 use Rattle.mc_words.specs.declared.shape.Shape.{Shape}
-use Rattle.mc_core.specs.Parts.{shape_of_parts, shown_of, StandFor, AreReached}
+use Rattle.mc_core.specs.Inside.Parts.{shape_of_parts, shown_of, StandFor, AreReached}
 use Rattle.mc_core.specs.Seen.{Shows, MayAct}
 use Rattle.mc_theory.specs.Worlds.{World, IsWithin, HasChanges, bit_of, given_of, Steps, Gives, Refuses, Runs, IsReached, IsTrueEnd, first_world}
 use Rattle.mc_theory.specs.declared.event.Event.{Event}

@@ -7,7 +7,7 @@ use Rattle.mc_words.specs.Places.{payload, IsPlace, slot_number, slot}
 use Rattle.mc_words.specs.Standing.{Stands, OnlyAt, AgreesAt}
 use Rattle.mc_words.specs.declared.place.Place.{Place}
 use Rattle.mc_words.specs.declared.shape.Shape.{Shape}
-use Rattle.mc_core.specs.Writers.{StandsWell, phase_at}
+use Rattle.mc_core.specs.Inside.Writers.{StandsWell, phase_at}
 use Rattle.mc_theory.specs.Inner.{Holds}
 use Rattle.mc_theory.specs.Phases.{Quiet, Renewing, Moving}
 use Rattle.mc_core.specs.declared.progress.Progress.{Progress}

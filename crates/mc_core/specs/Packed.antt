@@ -11,8 +11,3 @@ pub record HasBits (V : ℕ) (sh : Shape) (bits : List ℕ) (place word : ℕ) :
   pub each : (i : ℕ) → i < sh.items → recency_place V sh i ≡ place → bit_at word (recency_bit i) ≡ slice_index bits i
   pub others : (b : ℕ) → ((i : ℕ) → i < sh.items → recency_place V sh i ≡ place → recency_bit i ≢ b) → bit_at word b ≡ 0
 
--- the word has 64 of the bits, the first of them at 64 times its number
-pub record IsPacked (bits : List ℕ) (m word : ℕ) : Type 0 where
-  pub small : word < 2 ^ 64
-  pub each : (k : ℕ) → k < 64 → bit_at word k ≡ min 1 (slice_index bits (64 * m + k))
-  pub past : (k : ℕ) → 64 ≤ k → bit_at word k ≡ 0

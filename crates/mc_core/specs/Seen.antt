@@ -56,8 +56,3 @@ abbrev pub state_after : {V : ℕ} → Shown V → Event → State V
 state_after s (event.Write a) = after_act s.shape s.state a (bit_of s.bits a)
 state_after s _ = s.state
 
--- an act on a recency bit is one on the bit of an item
-abbrev pub ReadsIn : Shape → Act → Type 0
-ReadsIn sh (act.Hand i) = i < sh.items
-ReadsIn sh (act.Mark i) = i < sh.items
-ReadsIn sh _ = Unit {0}

@@ -1,6 +1,6 @@
 //! The parts of a world, which only its own calls see. Each event is one atomic step.
 ghost use Rattle.std.specs.Prelude.{◌≡◌, ◌<◌, ◌^◌, length};
-ghost use Rattle.mc_core.specs.Writers.{shape_at};
+ghost use Rattle.mc_core.specs.Inside.Writers.{shape_at};
 
 use crate::reader::Reader;
 use crate::writer::Writer;
@@ -26,9 +26,9 @@ pub(crate) struct Parts<const V: usize> {
 impl<const V: usize> Parts<V> {
     ghost use Rattle.std.specs.Prelude.{IfOk, IfErr, OnErr, OnOk, ◌+◌, ◌≤◌};
     ghost use Rattle.mc_theory.specs.Worlds as worlds;
-    ghost use Rattle.mc_core.specs.Writers.{room_of};
+    ghost use Rattle.mc_core.specs.Inside.Writers.{room_of};
     ghost use Rattle.mc_theory.specs.declared.event.Unlawful.TheVariants as unlawful;
-    ghost use Rattle.mc_core.specs.Parts.{shape_of_parts, shown_of, StandFor};
+    ghost use Rattle.mc_core.specs.Inside.Parts.{shape_of_parts, shown_of, StandFor};
     ghost use Rattle.mc_core.specs.Seen.{state_after};
 
     /// Makes the event, if it is lawful.

@@ -1,6 +1,6 @@
 //! The recency bits of a world as they lie in words.
 ghost use Rattle.std.specs.Prelude.{◌≡◌, ◌<◌, ◌^◌, MatchBool, min, slice_index};
-ghost use Rattle.mc_core.specs.Packed.{IsPacked};
+ghost use Rattle.mc_core.specs.Inside.Packed.{IsPacked};
 
 /// Whether there is such a bit, and it is set.
 fn is_set(bits: &[u64], i: usize) -> bool

@@ -25,7 +25,7 @@ impl<const V: usize> Table<V> {
     ghost use Rattle.mc_words.specs.Keys.{IsBucketOf, stripe_of};
     ghost use Rattle.mc_words.specs.Places.{IsWidth, IsPlace, payload, slot_number, slot, item, version, moment, with_version, with_moment, with_slot, with_item};
     ghost use Rattle.mc_words.specs.Standing.{Stands};
-    ghost use Rattle.mc_core.specs.Tables.{shape_in, words_in, StandsAt, WritesTable};
+    ghost use Rattle.mc_core.specs.Inside.Tables.{shape_in, words_in, StandsAt, WritesTable};
     ghost use Rattle.mc_theory.specs.Effects.{bumped};
     ghost use Rattle.mc_theory.specs.Readings.{IsWordOf};
     ghost use Rattle.mc_theory.specs.Writes.{IsAccess};

@@ -29,7 +29,7 @@ impl<const V: usize> Model for World<V> {
 
     ghost Value = { Shown V };
 
-    ghost use Rattle.mc_core.specs.Parts.{shown_of, AreReached};
+    ghost use Rattle.mc_core.specs.Inside.Parts.{shown_of, AreReached};
 
     ghost view = { λ w. shown_of {V = V} w.parts };
 

@@ -2,7 +2,7 @@
 ghost use Rattle.std.specs.Prelude.{◌≡◌, ◌<◌, ◌≤◌, length};
 ghost use Rattle.std.specs.Prelude.{◌↔◌, IsTrue};
 ghost use Rattle.mc_theory.specs.declared.act.Act.{Act};
-ghost use Rattle.mc_core.specs.Progresses.{count_at, fresh_slot};
+ghost use Rattle.mc_core.specs.Inside.Progresses.{count_at, fresh_slot};
 
 use crate::progress::Progress;
 use crate::table::Table;
@@ -35,7 +35,7 @@ impl<const V: usize> Writer<V> {
     ghost use Rattle.mc_words.specs.Places.{IsWidth};
     ghost use Rattle.mc_theory.specs.States.{opening};
     ghost use Rattle.mc_theory.specs.Inner.{StateHolds, StateCounted};
-    ghost use Rattle.mc_core.specs.Writers.{shape_at, room_of, state_in, UsedWell, IsMade, IsKept};
+    ghost use Rattle.mc_core.specs.Inside.Writers.{shape_at, room_of, state_in, UsedWell, IsMade, IsKept};
 
     /// The writer of a new world.
     pub(crate) fn new(alloc: Global, checked: &Checked) -> Result<Writer<V>, AllocError>

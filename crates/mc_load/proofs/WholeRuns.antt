@@ -7,7 +7,8 @@ use Rattle.mc_words.specs.Checks.{shape_of}
 use Rattle.mc_words.specs.Shapes.{IsShape}
 use Rattle.mc_options.specs.declared.options.Options.{Options}
 use Rattle.mc_options.specs.Options.{HasFault, IsUnread}
-use Rattle.mc_load.specs.Programs.{Stream, Ends, IsUntouched, RunsOptions, Runs, TellsFault}
+use Rattle.mc_load.specs.Programs.{Stream, Ends, IsUntouched, RunsOptions, Runs}
+use Rattle.mc_load.specs.Inside.Programs.{TellsFault}
 use Rattle.mc_load.specs.Programs.Runs.{prints, refuses, is_short}
 
 -- a replay over the shape that was checked

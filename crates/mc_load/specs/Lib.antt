@@ -1,2 +1,3 @@
 pub mod ShapeTexts
 pub mod Programs
+pub mod Inside

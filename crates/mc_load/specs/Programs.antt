@@ -57,13 +57,6 @@ Prints errors status = IsUntouched errors × ((status ≡ 0) ⊎ (status ≡ 3))
 abbrev pub IsShort : Stream → Stream → ℕ → Type 0
 IsShort output errors status = IsUntouched output × Tells errors (codes "refused: no memory") × (status ≡ 3)
 
--- what comes of words that give no options, by the kind of their fault; the text of a fault is the library's
-abbrev pub TellsFault : ErrorKind → Stream → Stream → ℕ → Type 0
-TellsFault k output errors status =
-    ((k ≡ kind.OutOfMemory) × IsShort output errors status) ⊎
-    ((((k ≡ kind.DisplayHelp) ⊎ (k ≡ kind.DisplayVersion)) × Prints errors status) ⊎
-    ((k ≢ kind.OutOfMemory) × (k ≢ kind.DisplayHelp) × (k ≢ kind.DisplayVersion) × IsUntouched output × (status ≡ 2)))
-
 -- what the words of the command line ask for, and what comes of it
 pub data Runs (words : List (List ℕ)) (input output errors : Stream) (status : ℕ) : Type 0 where
   runs : (o : Options) → Gives words o → RunsOptions o input output errors status → Runs words input output errors status

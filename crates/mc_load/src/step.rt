@@ -4,7 +4,8 @@ ghost use Rattle.clap.specs.Words.{kind_of};
 ghost use Rattle.clap.specs.declared.error.kind.ErrorKind.TheVariants as kind;
 ghost use Rattle.mc_words.specs.Checks.{shape_of};
 ghost use Rattle.mc_words.specs.Places.{IsWidth};
-ghost use Rattle.mc_load.specs.Programs.{stream, Ends, RunsOptions, TellsFault, Runs};
+ghost use Rattle.mc_load.specs.Programs.{stream, Ends, RunsOptions, Runs};
+ghost use Rattle.mc_load.specs.Inside.Programs.{TellsFault};
 
 use crate::told::{Refusal, Short, tell};
 use clap::Error;

@@ -13,7 +13,7 @@ use Rattle.mc_theory.specs.Lookups.{slots_for, ReadsValues, Scans, IsLookup}
 use Rattle.mc_lookup.specs.Machine.{shape_for, next_at, place_of, value_for, LeftAt}
 use Rattle.mc_theory.specs.Readings.{Reading}
 use Rattle.mc_lookup.specs.Rest.{RestMoment, RestValues, RestSlots, RestKey, RestLast}
-use Rattle.mc_lookup.specs.Stages.{slot_at, word_at, tries_owed}
+use Rattle.mc_lookup.specs.Inside.Stages.{slot_at, word_at, tries_owed}
 use Rattle.mc_theory.specs.Writes.{IsAccess}
 use Rattle.mc_theory.specs.declared.access.Access.{Access}
 use Rattle.mc_theory.specs.declared.access.Access.TheVariants as access

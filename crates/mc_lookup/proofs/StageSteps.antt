@@ -12,7 +12,8 @@ use Rattle.mc_words.specs.declared.history.Reply.{Reply}
 use Rattle.mc_words.specs.declared.place.Place.{Place}
 use Rattle.mc_words.specs.declared.shape.Shape.{Shape}
 use Rattle.mc_theory.specs.Lookups.{Meets, slots_for, IsLookup}
-use Rattle.mc_lookup.specs.Machine.{next_at, next_of, shape_for, place_in, slots_from, values_from, LeftAt, Left, steps_at, Takes, Restarts}
+use Rattle.mc_lookup.specs.Machine.{next_at, next_of, shape_for, place_in, slots_from, values_from, LeftAt, Left, steps_at, Takes}
+use Rattle.mc_lookup.specs.Inside.Machine.{Restarts}
 use Rattle.mc_theory.specs.Readings.{Reading}
 use Rattle.mc_lookup.specs.Rest.{RestSlots, RestValues, RestMoment}
 use Rattle.mc_theory.specs.declared.access.Access.{Access}

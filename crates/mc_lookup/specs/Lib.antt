@@ -1,5 +1,4 @@
 pub mod Rest
-pub mod Stages
 pub mod Machine
-pub mod Met
 pub mod Course
+pub mod Inside

@@ -112,10 +112,3 @@ pub record Takes {V : ℕ} (old : Lookup V) (a : Access) (word : ℕ) (new : Loo
   pub left : (f : ℕ) (rs : List Reading) (reply : Reply V) → Left new rs reply ↔ Left old (record { access = a; word = word; front = f } ∷ rs) reply
   pub fewer : steps_left new < steps_left old
 
--- a look-up at the start of a try, or over where no try is left
-pub record Restarts {V : ℕ} (old new : Lookup V) : Type 0 where
-  pub shape : new.checked ≡ old.checked
-  pub key : new.key ≡ old.key
-  pub left : (rs : List Reading) (reply : Reply V) → Left new rs reply ↔ IsLookup V (shape_for old) old.key old.tries rs reply
-  pub most : steps_left new ≤ old.tries * (19 + V) + 1
-  pub stage : new.stage ≡ (if nat_lt 0 old.tries then First else Over)

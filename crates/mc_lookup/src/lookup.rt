@@ -2,7 +2,7 @@
 ghost use Rattle.std.specs.Prelude.{◌≡◌, ◌<◌, ◌≤◌, length};
 ghost use Rattle.mc_words.specs.Checks.{shape_of};
 ghost use Rattle.mc_words.specs.Keys.{tag_of, first_of, second_of, stripe_of, slot_word};
-ghost use Rattle.mc_lookup.specs.Stages.{slot_at, item_at, word_at, tries_owed};
+ghost use Rattle.mc_lookup.specs.Inside.Stages.{slot_at, item_at, word_at, tries_owed};
 
 use crate::stage::Stage;
 use mc_theory::Access;

@@ -130,11 +130,6 @@ pub record Waits (V : ℕ) (books : Books) (k : ℕ) (s : State V) (path : Path)
   pub least : IsLeastPath (shape_of books.checked) s.words k path
   pub none : (i : ℕ) → IsFreeIn books.free i → ⊥
 
--- how a put starts: it is planned, or it waits for an item
-abbrev pub IsStarted : (V : ℕ) → Books → List Act → ℕ → List ℕ → State V → Start → Type 0
-IsStarted V books plan k v s (start.Planned told) = (IsPlanned V books plan (PutCall k v) s s (answer.Put told)) × IsSweepOf V (shape_of books.checked) s [] (answer.Put told)
-IsStarted V books plan k v s (start.Waits path) = (plan ≡ []) × Waits V books k s path
-
 -- ---- a clerk between two calls, and in a call
 -- between two calls the clerk knows the state
 pub record Knows (V : ℕ) (clerk : Clerk V) (s : State V) : Type 0 where
@@ -149,13 +144,6 @@ pub record IsSweeping (V : ℕ) (books : Books) (plan : List Act) (waiting : Wai
   pub wide : length waiting.value ≡ V
   pub has : HasSwept waiting.sweep (shape_of books.checked).items s.hand rs
   pub empty : plan ≡ []
-
--- its sweep has found an item, and the books know where the hand stands now
-pub record IsReplacing (V : ℕ) (books : Books) (plan : List Act) (waiting : Waiting V) (call : Call) (s : State V) (rs : List Swept) (item : ℕ) : Type 0 where
-  pub before : ℕ
-  pub sweeping : IsSweeping V (record books { hand = before }) plan waiting call s rs
-  pub found : victim_of rs ≡ Some item
-  pub stands : books.hand ≡ waiting.sweep.hand
 
 -- the sweep of the call was made, and so many acts of its plan
 pub record MakesPlan (V : ℕ) (books : Books) (plan : List Act) (many : ℕ) (call : Call) (s : State V) (acts : List Made) (told : Answer) : Type 0 where
@@ -179,15 +167,6 @@ IsAt V (Planned told) books plan many call s acts = MakesPlan V books plan many 
 pub record IsOn (V : ℕ) (clerk : Clerk V) (call : Call) (s : State V) (acts : List Made) : Type 0 where
   pub begun : IsQuiet V (shape_in clerk) s
   pub now : IsAt V clerk.stage clerk.books clerk.plan.items clerk.made call s acts
-
--- the sweep of the call is over, and the rest of it is to be planned
-abbrev pub IsAtEnd : (V : ℕ) → Stage V → Books → List Act → ℕ → Call → State V → List Swept → Type 0
-IsAtEnd V (Sweeping waiting) books plan many call s rs = IsSweeping V books plan waiting call s rs × IsOver (shape_of books.checked).items rs × (many ≡ 0)
-IsAtEnd V _ books plan many call s rs = ⊥
-
-pub record HasEndedSweep (V : ℕ) (clerk : Clerk V) (call : Call) (s : State V) (rs : List Swept) : Type 0 where
-  pub begun : IsQuiet V (shape_in clerk) s
-  pub now : IsAtEnd V clerk.stage clerk.books clerk.plan.items clerk.made call s rs
 
 -- a call runs: its answer was not taken yet
 abbrev pub Runs : {V : ℕ} → Stage V → Type 0

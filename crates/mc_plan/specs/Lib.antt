@@ -7,3 +7,4 @@ pub mod Laws
 pub mod Calls
 pub mod Clerks
 pub mod Ends
+pub mod Inside

@@ -37,7 +37,8 @@ pub(crate) struct Books {
 
 impl Books {
     ghost use Rattle.mc_theory.specs.declared.act.Act.TheVariants as act;
-    ghost use Rattle.mc_plan.specs.Clerks.{AreBooksOf, Call, IsPlanned, IsReplacing, IsStarted, IsSweepOf, IsSweeping, RemoveCall, quiet_of, swept};
+    ghost use Rattle.mc_plan.specs.Clerks.{AreBooksOf, Call, IsPlanned, IsSweepOf, IsSweeping, RemoveCall, quiet_of, swept};
+    ghost use Rattle.mc_plan.specs.Inside.Clerks.{IsReplacing, IsStarted};
     ghost use Rattle.mc_search.specs.Sweeps.{HasSwept, IsOver, Swept};
     ghost use Rattle.mc_plan.specs.declared.answer.Answer.TheVariants as answer;
 

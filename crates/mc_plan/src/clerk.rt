@@ -39,7 +39,8 @@ pub struct Clerk<const V: usize> {
 
 impl<const V: usize> Clerk<V> {
     ghost use Rattle.mc_theory.specs.declared.act.Act.{Act};
-    ghost use Rattle.mc_plan.specs.Clerks.{Call, PutCall, RemoveCall, Knows, IsOn, IsRunning, HasEndedSweep, Answered, next_act, acts_left, shape_in};
+    ghost use Rattle.mc_plan.specs.Clerks.{Call, PutCall, RemoveCall, Knows, IsOn, IsRunning, Answered, next_act, acts_left, shape_in};
+    ghost use Rattle.mc_plan.specs.Inside.Clerks.{HasEndedSweep};
     ghost use Rattle.mc_search.specs.Sweeps.{Swept, hand_acts};
 
     /// The clerk of a new table.

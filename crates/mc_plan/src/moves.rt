@@ -6,7 +6,8 @@ ghost use Rattle.mc_words.specs.Checks.{shape_of};
 ghost use Rattle.mc_words.specs.Places.{IsWidth, item, word_count};
 ghost use Rattle.mc_plan.specs.Moves.{AreTaken, AreKeys, MakesRoom};
 ghost use Rattle.mc_plan.specs.Plans.{item_in, move_acts, moves_acts};
-ghost use Rattle.mc_search.specs.Readable.{IsFilled, NamesSome};
+ghost use Rattle.mc_search.specs.Readable.{IsFilled};
+ghost use Rattle.mc_search.specs.Inside.Readable.{NamesSome};
 
 use arrayvec::ArrayVec;
 use mc_search::{Path, key_at, slot_at};

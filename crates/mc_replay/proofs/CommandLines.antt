@@ -15,7 +15,7 @@ use Rattle.mc_replay.specs.declared.fault.Fault.{Fault}
 use Rattle.mc_replay.specs.declared.fault.Fault.TheVariants.{ReadFailed, NoMemory, TooLong, NotACommand, BadNumber, NoSuchReader, StillRunning, NothingToStep, WriteFailed}
 use Rattle.mc_replay.specs.declared.player.Player.{Player}
 use Rattle.mc_replay.specs.Replay.{Replay, Pending, IsUnanswered, WriterMakes, WhereIdle, CallDoes, BeginDoes, GetDoes, ActDoes}
-use Rattle.mc_replay.specs.Players.{shape_in, most_steps, HasRoom, IsIdle, IsRunning, FitsCall, Fits, FitsStill, with_acts, Begins, MakesAct, CallIsWhole, Looks, DoneAs, ActsSoFar}
+use Rattle.mc_replay.specs.Inside.Players.{shape_in, most_steps, HasRoom, IsIdle, IsRunning, FitsCall, Fits, FitsStill, with_acts, Begins, MakesAct, CallIsWhole, Looks, DoneAs, ActsSoFar}
 use Rattle.mc_replay.specs.Replay.{pending}
 use Rattle.mc_replay.specs.Texts.{answer_line, reply_line}
 use Rattle.mc_plan.proofs.Calls.CanEnd.{can_end}

@@ -10,7 +10,7 @@ use Rattle.mc_theory.proofs.Replies.Lengths.{lookup_length}
 use Rattle.mc_theory.specs.Readings.{Reading}
 use Rattle.mc_theory.specs.Worlds.{World, Running, Steps, ReadsNext, first_read}
 use Rattle.mc_theory.specs.declared.event.Event.TheVariants as event
-use Rattle.mc_replay.specs.Players.{HasMade, most_accesses}
+use Rattle.mc_replay.specs.Inside.Players.{HasMade, most_accesses}
 
 product_le : (a b c d : ℕ) → a ≤ c → b ≤ d → a * b ≤ c * d
 product_le a b c d l m = grind arith

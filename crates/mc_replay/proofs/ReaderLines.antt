@@ -24,8 +24,9 @@ use Rattle.mc_plan.specs.declared.clerk.Clerk.{Clerk}
 use Rattle.mc_replay.specs.declared.fault.Fault.TheVariants.{StillRunning}
 use Rattle.mc_replay.specs.declared.player.Player.{Player}
 use Rattle.mc_replay.specs.Replay.{Replay, Pending, AccessDoes, LookUpDoes}
-use Rattle.mc_replay.specs.Players.{shape_in, most_steps, IsAt, FitsCall, Fits, ReadsSoFar}
-use Rattle.mc_replay.specs.Texts.{done_line, end_text}
+use Rattle.mc_replay.specs.Inside.Players.{shape_in, most_steps, IsAt, FitsCall, Fits, ReadsSoFar}
+use Rattle.mc_replay.specs.Texts.{done_line}
+use Rattle.mc_replay.specs.Inside.Texts.{end_text}
 use Rattle.mc_replay.proofs.FewAccesses.{made_more}
 
 -- ---- what an event of a reader leaves as it was

@@ -17,8 +17,8 @@ use Rattle.mc_replay.specs.declared.fault.Fault.TheVariants.{ReadFailed, NoMemor
 use Rattle.mc_replay.specs.Replay.{Replay, first_replay, Does}
 use Rattle.mc_replay.specs.Scripts.{SaidDoes, IsTooLong, IsReaders, LineDoes, Plays, Stopped, StopsUndone, StopsRefused, StopsBy, StopsBefore, ReadsStopped, ReadsScript, ReplaysKnown}
 use Rattle.mc_replay.specs.Faults.{fault_of}
-use Rattle.mc_replay.specs.Players.{DoneAs, HasRoom, IsRefusedAs, most_before, most_steps}
-use Rattle.mc_replay.specs.Steps.{DoesLine, PlaysLine, PlaysKnown, SoFar, KnownSoFar, is_wanting}
+use Rattle.mc_replay.specs.Inside.Players.{DoneAs, HasRoom, IsRefusedAs, most_before, most_steps}
+use Rattle.mc_replay.specs.Inside.Steps.{DoesLine, PlaysLine, PlaysKnown, SoFar, KnownSoFar, is_wanting}
 
 -- ---- one line
 not_long : (before : ℕ) (line : List ℕ) → length line ≤ 4096 → before < 2 ^ 40 → IsTooLong before line → ⊥

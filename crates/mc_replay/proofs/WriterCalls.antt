@@ -28,7 +28,7 @@ use Rattle.mc_plan.specs.declared.clerk.Stage.TheVariants.{Idle, Sweeping, Plann
 use Rattle.mc_plan.proofs.Calls.MidCall.{on_runs}
 use Rattle.mc_replay.specs.declared.player.Player.{Player}
 use Rattle.mc_replay.specs.Replay.{Pending, WriterMakes, LooksUp}
-use Rattle.mc_replay.specs.Players.{shape_in, most_steps, IsAt, IsIdle, IsInCall, IsRunning, BeginsAs, GoesOn, MakesAct, Completes, CallIsWhole, with_acts, bit_given}
+use Rattle.mc_replay.specs.Inside.Players.{shape_in, most_steps, IsAt, IsIdle, IsInCall, IsRunning, BeginsAs, GoesOn, MakesAct, Completes, CallIsWhole, with_acts, bit_given}
 use Rattle.mc_replay.specs.Replay.{pending}
 
 -- ---- acts of the writer in a world

@@ -3,6 +3,5 @@ pub mod Faults
 pub mod Replay
 pub mod Laws
 pub mod Scripts
-pub mod Players
-pub mod Steps
 pub mod FaultTexts
+pub mod Inside

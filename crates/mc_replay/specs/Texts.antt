@@ -54,7 +54,3 @@ reply_line reply = line (reply_text reply)
 abbrev pub done_line : {V : ℕ} → Done V → List ℕ
 done_line done = line (done_text done)
 
--- what is written after an access: the line of the look-up that it ended
-abbrev pub end_text : {V : ℕ} → Stepped V → List ℕ
-end_text (stepped.Done done) = done_line done
-end_text given = []

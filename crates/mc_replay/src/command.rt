@@ -2,7 +2,7 @@
 ghost use Rattle.std.specs.Prelude.{◌≡◌, OnOk, OnErr, Err, string_bytes};
 ghost use Rattle.mc_plan.specs.Clerks.{PutCall, RemoveCall};
 ghost use Rattle.mc_replay.specs.Replay.{ActsDo, BeginDoes, CallDoes, Does, GetDoes};
-ghost use Rattle.mc_replay.specs.Players.{ActsOnce, CanAct, CanDo, DoesBy};
+ghost use Rattle.mc_replay.specs.Inside.Players.{ActsOnce, CanAct, CanDo, DoesBy};
 ghost use Rattle.mc_replay.specs.declared.fault.Fault.TheVariants.{NoMemory};
 
 use crate::fault::Fault;

@@ -5,8 +5,8 @@ ghost use Rattle.mc_words.specs.Places.{IsWidth};
 ghost use Rattle.mc_replay.specs.Faults.{told};
 ghost use Rattle.mc_replay.specs.Replay.{Replay, first_replay};
 ghost use Rattle.mc_replay.specs.Scripts.{ReplaysKnown, IsReaders};
-ghost use Rattle.mc_replay.specs.Players.{Fits, FitsStill, shape_in, most_before};
-ghost use Rattle.mc_replay.specs.Steps.{DoesLine, PlaysKnown, is_wanting};
+ghost use Rattle.mc_replay.specs.Inside.Players.{Fits, FitsStill, shape_in, most_before};
+ghost use Rattle.mc_replay.specs.Inside.Steps.{DoesLine, PlaysKnown, is_wanting};
 ghost use Rattle.mc_replay.specs.declared.fault.Stop.{Stop};
 
 use crate::command::do_command;

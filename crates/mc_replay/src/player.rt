@@ -7,7 +7,7 @@ ghost use Rattle.mc_theory.specs.declared.event.Unlawful.TheVariants as unlawful
 ghost use Rattle.mc_plan.specs.Clerks.{PutCall, RemoveCall, next_act, acts_left};
 ghost use Rattle.mc_replay.specs.Replay.{Pending, first_replay};
 ghost use Rattle.mc_replay.specs.Scripts.{IsReaders};
-ghost use Rattle.mc_replay.specs.Players.{Begins, Completes, Fits, HasRoom, IsIdle, IsInCall, MakesAct, CallIsWhole, IsMarked, Looks, shape_in, bit_given, IsRefusedAs};
+ghost use Rattle.mc_replay.specs.Inside.Players.{Begins, Completes, Fits, HasRoom, IsIdle, IsInCall, MakesAct, CallIsWhole, IsMarked, Looks, shape_in, bit_given, IsRefusedAs};
 ghost use Rattle.mc_replay.specs.declared.fault.Fault.TheVariants.{NoMemory};
 
 use crate::fault::Fault;

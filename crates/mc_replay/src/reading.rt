@@ -1,9 +1,9 @@
 // The lines of readers.
 ghost use Rattle.std.specs.Prelude.{◌≡◌, ◌<◌, ◌≤◌, ◌++◌, [], Err, OnOk, OnErr, IfOk, IfErr, string_bytes};
 ghost use Rattle.mc_replay.specs.Replay.{AccessesDo, LookUpDoes, ReadsDo};
-ghost use Rattle.mc_replay.specs.Players.{CanDo, DoesBy};
+ghost use Rattle.mc_replay.specs.Inside.Players.{CanDo, DoesBy};
 ghost use Rattle.mc_replay.specs.declared.fault.Fault.TheVariants.{NoMemory, NoSuchReader};
-ghost use Rattle.mc_replay.specs.Texts.{end_text};
+ghost use Rattle.mc_replay.specs.Inside.Texts.{end_text};
 
 use crate::fault::Fault;
 use crate::lines::DoneLine;

@@ -4,7 +4,8 @@ use Rattle.std.specs.List.{take_while, prefix_len, position, position_or_len}
 use Rattle.std.specs.Option.{unwrap_or, is_some}
 use Rattle.std.specs.Borrow.{Bor}
 use Rattle.std.proofs.lemmas.Bool.Decides.{nat_tests}
-use Rattle.mc_script.specs.Words.{is_blank, is_inner, words_within, words_of, FirstWord}
+use Rattle.mc_script.specs.Words.{is_blank, is_inner, words_within, words_of}
+use Rattle.mc_script.specs.Inside.Words.{FirstWord}
 
 -- a prefix is no longer than the list
 pub prefix_len-le : {X : Type 0} (p : X → Bool) (xs : List X) → prefix_len p xs ≤ length xs

@@ -7,7 +7,8 @@ use Rattle.std.proofs.lemmas.Bool.{cases_eq}
 use Rattle.std.proofs.lemmas.List.Folds.{list_all-append}
 use Rattle.mc_script.specs.declared.command.LineFault.{LineFault}
 use Rattle.mc_script.specs.declared.command.LineFault.TheVariants.{NotACommand, BadNumber}
-use Rattle.mc_script.specs.Numbers.{is_number, number_of, numbers_in}
+use Rattle.mc_script.specs.Numbers.{is_number, numbers_in}
+use Rattle.mc_script.specs.Inside.Numbers.{number_of}
 
 -- After i of the words: whether they are numbers, and then their values.
 pub record Counted (whole rest : List (List ℕ)) (i : ℕ) (are_good : Bool) (found : List ℕ) : Type 0 where

@@ -2,3 +2,4 @@ pub mod Lines
 pub mod Words
 pub mod Numbers
 pub mod Commands
+pub mod Inside

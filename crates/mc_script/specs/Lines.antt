@@ -27,13 +27,6 @@ is_over bytes = nat_lt 4097 (length bytes) || ((length bytes == 4097) && not (sl
 abbrev pub length_over : List ℕ → ℕ
 length_over bytes = if slice_index bytes 4096 == 13 then 4098 else 4097
 
--- what reading one byte takes
-abbrev pub GivesByte : Option (List ℕ) → Option (List ℕ) → Result (Option ℕ) ReadFault → Type 0
-GivesByte old new (Ok (Some b)) = Consumes old new (b ∷ [])
-GivesByte old new (Ok None) = Consumes old new [] × IsAtEnd new
-GivesByte old new (Err ReadFailed) = Keeps old new
-GivesByte old new (Err TooLong) = ⊥
-
 -- these bytes were taken: no line feed is among them, and they may still become a line
 pub record IsUnfinished (old new : Option (List ℕ)) (line : List ℕ) : Type 0 where
   pub taken : Consumes old new line

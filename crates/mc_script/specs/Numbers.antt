@@ -10,16 +10,9 @@ use Rattle.mc_script.specs.declared.command.LineFault.TheVariants.{NotACommand, 
 abbrev pub is_number : List ℕ → Bool
 is_number word = nat_lt 0 (length word) && nat_lt (length word) 21 && list_all is_ascii_digit word && nat_lt (digits_value 10 word) (2 ^ 64)
 
-abbrev pub number_of : List ℕ → Option ℕ
-number_of word = if is_number word then Some (digits_value 10 word) else None
-
 -- the values of exactly n numbers: their count is told before their form
 unfoldable pub numbers_in : ℕ → List (List ℕ) → Result (List ℕ) LineFault
 numbers_in n words =
     if length words == n then (if list_all is_number words then Ok (map (digits_value 10) words) else Err BadNumber)
     else Err NotACommand
 
--- a first number and the others, as one list
-abbrev pub joined : Result (ℕ × List ℕ) LineFault → Result (List ℕ) LineFault
-joined (Ok found) = Ok (found.0 ∷ found.1)
-joined (Err fault) = Err fault

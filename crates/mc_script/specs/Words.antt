@@ -21,7 +21,3 @@ words_within (suc n) (b ∷ bytes) =
 abbrev pub words_of : List ℕ → List (List ℕ)
 words_of bytes = words_within (length bytes) bytes
 
--- the first word and the bytes after it
-abbrev pub FirstWord : List ℕ → Option (Bor (List ℕ) × Bor (List ℕ)) → Type 0
-FirstWord bytes None = words_of bytes ≡ []
-FirstWord bytes (Some found) = (words_of bytes ≡ found.0.now ∷ words_of found.1.now) × (0 < length found.0.now)

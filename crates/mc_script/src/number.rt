@@ -3,7 +3,8 @@ ghost use Rattle.std.specs.Prelude.{◌≡◌, ◌<◌, ◌^◌, ◌+◌, ◌∷
 ghost use Rattle.std.specs.List.{list_all};
 ghost use Rattle.std.specs.Char.{is_ascii_digit};
 ghost use Rattle.std.specs.Str.Parse.{digits_value};
-ghost use Rattle.mc_script.specs.Numbers.{number_of, numbers_in, joined};
+ghost use Rattle.mc_script.specs.Numbers.{numbers_in};
+ghost use Rattle.mc_script.specs.Inside.Numbers.{number_of, joined};
 ghost use Rattle.mc_script.specs.Words.{words_of};
 
 use crate::command::LineFault;

@@ -2,7 +2,8 @@
 ghost use Rattle.std.specs.Prelude.{◌≡◌, position};
 ghost use Rattle.std.specs.List.{prefix_len};
 ghost use Rattle.std.specs.Str.{bytes_eq};
-ghost use Rattle.mc_script.specs.Words.{is_blank, is_inner, FirstWord};
+ghost use Rattle.mc_script.specs.Words.{is_blank, is_inner};
+ghost use Rattle.mc_script.specs.Inside.Words.{FirstWord};
 
 fn is_blank(byte: u8) -> bool
     ensures { result ≡ is_blank byte }

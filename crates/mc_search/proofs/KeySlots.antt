@@ -9,7 +9,8 @@ use Rattle.mc_words.specs.Standing.{Stands, HasValue, IsAbsent, AgreesAt, Agrees
 use Rattle.mc_words.specs.History.{held}
 use Rattle.mc_words.specs.declared.history.Change.{Change}
 use Rattle.mc_words.proofs.Frames.{slot_word-parts}
-use Rattle.mc_search.specs.Readable.{IsPlaced, NamesNone, IsNotAt, IsNotAmong}
+use Rattle.mc_search.specs.Readable.{IsPlaced}
+use Rattle.mc_search.specs.Inside.Readable.{NamesNone, IsNotAt, IsNotAmong}
 
 -- a slot whose word names no item under the tag
 pub not_at-none : (V : ℕ) (sh : Shape) (w v : List ℕ) (k q word tag : ℕ) → v ≡ w → word ≡ slot sh v q → tag ≡ tag_of sh k → NamesNone sh tag word → IsNotAt V sh w k q

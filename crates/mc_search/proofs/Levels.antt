@@ -6,8 +6,8 @@ use Rattle.mc_words.specs.Chains.{tag_in}
 use Rattle.mc_words.specs.Keys.{alternate, first_of, second_of, IsBucketOf}
 use Rattle.mc_words.specs.Places.{slot}
 use Rattle.mc_search.specs.declared.queue.Entry.{Entry}
-use Rattle.mc_search.specs.Readable.{IsFull}
-use Rattle.mc_search.specs.Search.{entry_at, bucket_at, depth_at, next_of, AreFull, ComesFrom, Origin, IsTree, IsNear, IsUpTo, IsFollowed, IsAdded, IsSearching, IsExpanding}
+use Rattle.mc_search.specs.Inside.Readable.{IsFull}
+use Rattle.mc_search.specs.Inside.Search.{entry_at, bucket_at, depth_at, next_of, AreFull, ComesFrom, Origin, IsTree, IsNear, IsUpTo, IsFollowed, IsAdded, IsSearching, IsExpanding}
 use Rattle.mc_search.proofs.QueueEntries.{entry_at-old, entry_at-new, bucket_at-old, depth_at-old, depth_at-new, length-push, last_or, each_pushed}
 
 -- an entry that comes from an earlier one still does where one more is queued

@@ -8,7 +8,7 @@ use Rattle.std.proofs.lemmas.Map.Keys.{IsDistinct-from_apart}
 use Rattle.std.proofs.lemmas.Map.Views.{Contains-from_any}
 use Rattle.std.proofs.lemmas.Map.Steps.{length-le_from_distinct_below}
 use Rattle.mc_search.specs.declared.queue.Entry.{Entry}
-use Rattle.mc_search.specs.Search.{blank, entry_at, bucket_at, depth_at, IsQueue}
+use Rattle.mc_search.specs.Inside.Search.{blank, entry_at, bucket_at, depth_at, IsQueue}
 
 -- the old entries stand where they stood
 pub entry_at-old : (q : List Entry) (e : Entry) (i : ℕ) → i < length q → entry_at (q ++ e ∷ []) i ≡ entry_at q i

@@ -10,8 +10,8 @@ use Rattle.mc_words.specs.Places.{slot}
 use Rattle.mc_search.specs.declared.path.Path.{Path}
 use Rattle.mc_search.specs.declared.queue.Entry.{Entry}
 use Rattle.mc_search.specs.Paths.{IsLeastPath}
-use Rattle.mc_search.specs.Readable.{IsFull, IsHoleIn}
-use Rattle.mc_search.specs.Search.{entry_at, bucket_at, depth_at, next_of, AreFull, IsNear, IsFollowed, IsSearching, IsExpanding, IsFound, IsAdded}
+use Rattle.mc_search.specs.Inside.Readable.{IsFull, IsHoleIn}
+use Rattle.mc_search.specs.Inside.Search.{entry_at, bucket_at, depth_at, next_of, AreFull, IsNear, IsFollowed, IsSearching, IsExpanding, IsFound, IsAdded}
 use Rattle.mc_search.proofs.QueueEntries.{length-push, bucket_at-new, depth_at-new}
 use Rattle.mc_search.proofs.Levels.{entry_from, entry_to, expanding-push}
 

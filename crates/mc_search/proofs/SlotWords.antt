@@ -4,7 +4,7 @@ use Rattle.mc_words.specs.declared.shape.Shape.{Shape}
 use Rattle.mc_words.specs.Chains.{tag_in}
 use Rattle.mc_words.specs.Keys.{slot_word}
 use Rattle.mc_words.specs.Shapes.{IsShape}
-use Rattle.mc_search.specs.Readable.{NamesSome}
+use Rattle.mc_search.specs.Inside.Readable.{NamesSome}
 
 -- the tag of a word that names an item
 pub tag_in-named : (sh : Shape) (word : ℕ) → IsShape sh → NamesSome sh word → (0 < word) × (tag_in word < 256) × (tag_in word ≡ (word - 1) / 2 ^ 32)

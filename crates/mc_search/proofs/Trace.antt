@@ -8,7 +8,7 @@ use Rattle.mc_words.specs.declared.shape.Shape.{Shape}
 use Rattle.mc_words.specs.Chains.{Leads, IsChain}
 use Rattle.mc_words.specs.Keys.{first_of, second_of}
 use Rattle.mc_search.specs.declared.queue.Entry.{Entry}
-use Rattle.mc_search.specs.Search.{entry_at, bucket_at, depth_at, IsQueue, ComesFrom, Origin, IsTree, IsFound, Follows, GoesBack}
+use Rattle.mc_search.specs.Inside.Search.{entry_at, bucket_at, depth_at, IsQueue, ComesFrom, Origin, IsTree, IsFound, Follows, GoesBack}
 
 -- the place in the earlier bucket that leads to the i-th entry
 abbrev pub place_to : List Entry → ℕ → Place

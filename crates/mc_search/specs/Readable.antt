@@ -23,26 +23,3 @@ IsPlacedAt V sh w k q = (i : ℕ) → Stands V sh w k q i → (slot sh w q ≡ s
 abbrev pub IsPlaced : ℕ → Shape → List ℕ → ℕ → Type 0
 IsPlaced V sh w k = (q : ℕ) → IsPlacedAt V sh w k q
 
--- the word names no item under the tag
-abbrev pub NamesNone : Shape → ℕ → ℕ → Type 0
-NamesNone sh tag word = (i : ℕ) → i < sh.items → word ≢ slot_word tag i
-
--- the slot names no item of the key under the key's tag
-abbrev pub IsNotAt : ℕ → Shape → List ℕ → ℕ → ℕ → Type 0
-IsNotAt V sh w k q = (i : ℕ) → i < sh.items → slot sh w q ≡ slot_word (tag_of sh k) i → item V sh w i 0 ≢ k
-
--- none of the bucket's first n slots does
-abbrev pub IsNotAmong : ℕ → Shape → List ℕ → ℕ → ℕ → ℕ → Type 0
-IsNotAmong V sh w k b n = (j : ℕ) → j < n → IsNotAt V sh w k (4 * b + j)
-
--- the word names an item
-abbrev pub NamesSome : Shape → ℕ → Type 0
-NamesSome sh word = (tag : ℕ) × (i : ℕ) × NamesUnder sh word tag i
-
--- no slot of the bucket is empty
-abbrev pub IsFull : Shape → List ℕ → ℕ → Type 0
-IsFull sh w b = (j : ℕ) → j < 4 → slot sh w (4 * b + j) ≢ 0
-
--- an empty slot of the bucket
-abbrev pub IsHoleIn : Shape → List ℕ → ℕ → Place → Type 0
-IsHoleIn sh w b h = IsHole sh w h × (h.bucket ≡ b)

@@ -3,7 +3,8 @@ ghost use Rattle.mc_words.specs.Chains.{tag_in};
 ghost use Rattle.mc_words.specs.Checks.{shape_of};
 ghost use Rattle.mc_words.specs.Keys.{alternate};
 ghost use Rattle.mc_words.specs.Places.{slot};
-ghost use Rattle.mc_search.specs.Readable.{HasSlots, NamesSome, IsFull, IsHoleIn};
+ghost use Rattle.mc_search.specs.Readable.{HasSlots};
+ghost use Rattle.mc_search.specs.Inside.Readable.{NamesSome, IsFull, IsHoleIn};
 
 use crate::word::slot_at;
 use mc_theory::Peek;

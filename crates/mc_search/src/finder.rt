@@ -2,7 +2,8 @@ ghost use Rattle.std.specs.Prelude.{◌≡◌, ◌⊎◌, ◌<◌, IfOk, IfSome,
 ghost use Rattle.mc_words.specs.Chains.{NoChain};
 ghost use Rattle.mc_words.specs.Checks.{shape_of};
 ghost use Rattle.mc_search.specs.Paths.{IsLeastPath};
-ghost use Rattle.mc_search.specs.Readable.{HasSlots, IsFilled, IsFull, IsHoleIn};
+ghost use Rattle.mc_search.specs.Readable.{HasSlots, IsFilled};
+ghost use Rattle.mc_search.specs.Inside.Readable.{IsFull, IsHoleIn};
 
 use crate::bucket::hole_in;
 use crate::path::Path;
@@ -28,7 +29,7 @@ impl Model for Finder {
 
     ghost Value = { Shape };
 
-    ghost use Rattle.mc_search.specs.Ready.{IsReady};
+    ghost use Rattle.mc_search.specs.Inside.Ready.{IsReady};
 
     ghost view = { λ f. f.checked.shape };
 

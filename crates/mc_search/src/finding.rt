@@ -3,7 +3,8 @@ ghost use Rattle.mc_words.specs.Checks.{shape_of};
 ghost use Rattle.mc_words.specs.Keys.{tag_of, slot_word};
 ghost use Rattle.mc_words.specs.Places.{IsPlace, IsWidth, slot_number, word_count};
 ghost use Rattle.mc_words.specs.Standing.{Stands, IsAbsent};
-ghost use Rattle.mc_search.specs.Readable.{IsPlaced, NamesNone, IsNotAmong};
+ghost use Rattle.mc_search.specs.Readable.{IsPlaced};
+ghost use Rattle.mc_search.specs.Inside.Readable.{NamesNone, IsNotAmong};
 
 use crate::word::{key_at, slot_at};
 use mc_theory::Peek;

@@ -1,8 +1,8 @@
 ghost use Rattle.std.specs.Prelude.{ℕ, ◌≡◌, ◌<◌, ◌≤◌, List, [], length, vec_capacity};
 ghost use Rattle.mc_words.specs.declared.shape.Shape.{Shape};
 ghost use Rattle.mc_words.specs.Keys.{first_of, second_of};
-ghost use Rattle.mc_search.specs.Readable.{IsFull};
-ghost use Rattle.mc_search.specs.Search.{IsQueue, IsUnmarked, IsAdded, IsSearching, AreFull};
+ghost use Rattle.mc_search.specs.Inside.Readable.{IsFull};
+ghost use Rattle.mc_search.specs.Inside.Search.{IsQueue, IsUnmarked, IsAdded, IsSearching, AreFull};
 
 /// A bucket that the search has seen, and the slot of an earlier one that leads to it.
 #[derive(Clone, Copy)]

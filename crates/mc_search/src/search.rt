@@ -4,7 +4,7 @@ ghost use Rattle.mc_words.specs.declared.shape.Shape.{Shape};
 ghost use Rattle.mc_words.specs.Chains.{IsChain, NoChain};
 ghost use Rattle.mc_words.specs.Checks.{shape_of};
 ghost use Rattle.mc_search.specs.Readable.{HasSlots, IsFilled};
-ghost use Rattle.mc_search.specs.Search.{entry_at, depth_at, IsQueue, AreFull, IsFound, IsSearching, GoesBack};
+ghost use Rattle.mc_search.specs.Inside.Search.{entry_at, depth_at, IsQueue, AreFull, IsFound, IsSearching, GoesBack};
 
 use crate::bucket::{hole_in, other_bucket};
 use crate::queue::{Entry, add};

@@ -7,11 +7,11 @@ use std::alloc::{AllocError, Global};
 
 impl<const V: usize> Parts<V> {
     ghost use Rattle.std.specs.Prelude.{◌≡◌, ◌≢◌, ◌+◌, ◌<◌, ◌≤◌, ◌∷◌, [], length, IfOk, IfErr, OnOk, OnErr, vec_len, vec_capacity};
-    ghost use Rattle.mc_core.specs.Parts.{shape_of_parts, shown_of, StandFor, HasMade};
+    ghost use Rattle.mc_core.specs.Inside.Parts.{shape_of_parts, shown_of, StandFor, HasMade};
     ghost use Rattle.mc_theory.specs.Worlds as worlds;
     ghost use Rattle.mc_theory.specs.Plain.{events_made};
     ghost use Rattle.mc_theory.specs.Worlds.{StopsAt};
-    ghost use Rattle.mc_core.specs.Writers.{room_of};
+    ghost use Rattle.mc_core.specs.Inside.Writers.{room_of};
     ghost use Rattle.mc_theory.specs.declared.event.Unlawful.TheVariants as unlawful;
 
     /// Makes the events up to the first that is refused: what the look-ups told that ended, and where it stopped.

@@ -8,7 +8,7 @@ impl<const V: usize> Parts<V> {
     ghost use Rattle.std.specs.Prelude.{◌≡◌, IfOk};
     ghost use Rattle.mc_words.specs.Checks.{shape_of};
     ghost use Rattle.mc_words.specs.Places.{IsWidth};
-    ghost use Rattle.mc_core.specs.Parts.{shape_of_parts, StandFor};
+    ghost use Rattle.mc_core.specs.Inside.Parts.{shape_of_parts, StandFor};
     ghost use Rattle.mc_theory.specs.Worlds.{first_world};
 
     /// The parts of a new world with so many readers.

@@ -11,7 +11,7 @@ use mc_theory::{Access, Done, Stepped, Unlawful};
 impl<const V: usize> Parts<V> {
     ghost use Rattle.mc_theory.specs.declared.event.Unlawful.TheVariants as unlawful;
     ghost use Rattle.std.specs.Prelude.{◌≡◌, ◌≢◌, ◌+◌, ◌-◌, ◌^◌, ◌<◌, Some, None, IfOk, IfErr, OnOk, OnErr, IsSome, length, slice_get, slice_set, unwrap_or};
-    ghost use Rattle.mc_core.specs.Parts.{shape_of_parts, shown_of, StandFor};
+    ghost use Rattle.mc_core.specs.Inside.Parts.{shape_of_parts, shown_of, StandFor};
     ghost use Rattle.mc_core.specs.Seen.{state_after};
     ghost use Rattle.mc_theory.specs.Worlds as worlds;
     ghost use Rattle.mc_theory.specs.Worlds.{bits_read};

@@ -6,10 +6,11 @@ impl<const V: usize> Parts<V> {
     ghost use Rattle.std.specs.Prelude.{◌≡◌, ◌+◌, ◌-◌, ◌^◌, ◌<◌, ◌≤◌, ◌↔◌, IfOk, IfErr, OnOk, OnErr, IsTrue};
     ghost use Rattle.mc_theory.specs.Worlds as worlds;
     ghost use Rattle.mc_theory.specs.Worlds.{HasChanges, bit_of, bits_after};
-    ghost use Rattle.mc_core.specs.Writers.{room_of};
+    ghost use Rattle.mc_core.specs.Inside.Writers.{room_of};
     ghost use Rattle.mc_theory.specs.declared.event.Unlawful.TheVariants as unlawful;
-    ghost use Rattle.mc_core.specs.Parts.{shape_of_parts, shown_of, StandFor};
-    ghost use Rattle.mc_core.specs.Seen.{state_after, ReadsIn};
+    ghost use Rattle.mc_core.specs.Inside.Parts.{shape_of_parts, shown_of, StandFor};
+    ghost use Rattle.mc_core.specs.Seen.{state_after};
+    ghost use Rattle.mc_core.specs.Inside.Seen.{ReadsIn};
     ghost use Rattle.mc_theory.specs.declared.event.Event.TheVariants as event;
 
     /// Whether the act passes no limit.

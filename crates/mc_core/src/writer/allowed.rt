@@ -6,8 +6,8 @@ ghost use Rattle.mc_words.specs.Places.{IsPlace, payload, slot, slot_number};
 ghost use Rattle.mc_words.specs.Standing.{Stands, IsAbsent, IsPresent, HasFree};
 ghost use Rattle.mc_theory.specs.Acts.{MayFrom, MayOpen};
 ghost use Rattle.mc_theory.specs.Phases.{Quiet, Filling, Keyed, Renewing, Removing, Moving, Moved};
-ghost use Rattle.mc_core.specs.Tables.{StandsAt};
-ghost use Rattle.mc_core.specs.Writers.{shape_at, words_at, UsedWell, StandsWell, IsFreeItem};
+ghost use Rattle.mc_core.specs.Inside.Tables.{StandsAt};
+ghost use Rattle.mc_core.specs.Inside.Writers.{shape_at, words_at, UsedWell, StandsWell, IsFreeItem};
 
 use crate::writer::Writer;
 use mc_theory::{Act, Deed};

@@ -6,8 +6,8 @@ ghost use Rattle.mc_theory.specs.Acts.{IsAllowed};
 ghost use Rattle.mc_theory.specs.Inner.{StateHolds};
 ghost use Rattle.mc_theory.specs.Phases.{opened, Closing};
 ghost use Rattle.mc_theory.specs.Effects.{change_of, phase_after};
-ghost use Rattle.mc_core.specs.Progresses.{count_at, fresh_slot};
-ghost use Rattle.mc_core.specs.Writers.{shape_at, words_at, room_of, state_in, phase_at, UsedWell, IsMade, IsKept};
+ghost use Rattle.mc_core.specs.Inside.Progresses.{count_at, fresh_slot};
+ghost use Rattle.mc_core.specs.Inside.Writers.{shape_at, words_at, room_of, state_in, phase_at, UsedWell, IsMade, IsKept};
 ghost use Rattle.mc_theory.specs.declared.act.Act.{Act};
 ghost use Rattle.mc_core.specs.declared.progress.Progress.{Progress};
 

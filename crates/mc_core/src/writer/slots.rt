@@ -2,7 +2,7 @@
 ghost use Rattle.std.specs.Prelude.{◌≡◌, ℕ};
 ghost use Rattle.mc_theory.specs.Acts.{IsAllowed};
 ghost use Rattle.mc_theory.specs.Inner.{StateHolds};
-ghost use Rattle.mc_core.specs.Writers.{shape_at, state_in, UsedWell, IsMade};
+ghost use Rattle.mc_core.specs.Inside.Writers.{shape_at, state_in, UsedWell, IsMade};
 ghost use Rattle.mc_theory.specs.declared.act.Act.{Act};
 ghost use Rattle.mc_core.specs.declared.progress.Progress.{Progress};
 

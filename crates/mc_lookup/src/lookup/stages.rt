@@ -1,7 +1,8 @@
 //! One method a stage of a look-up. A caller that knows the stage may call it in place of `after`.
 ghost use Rattle.std.specs.Prelude.{◌≡◌, ◌+◌, ◌<◌, ℕ, MatchOption, MatchBool, Some, None};
-ghost use Rattle.mc_lookup.specs.Machine.{stage_of, place_of, slots_from, values_from, ended, IsRestart, Takes, Restarts};
-ghost use Rattle.mc_lookup.specs.Met.{IsMet};
+ghost use Rattle.mc_lookup.specs.Machine.{stage_of, place_of, slots_from, values_from, ended, IsRestart, Takes};
+ghost use Rattle.mc_lookup.specs.Inside.Machine.{Restarts};
+ghost use Rattle.mc_lookup.specs.Inside.Met.{IsMet};
 ghost use Rattle.mc_theory.specs.declared.access.Access.{Access};
 ghost use Rattle.mc_lookup.specs.declared.stage.Stage.{Stage};
 

@@ -10,7 +10,8 @@ use Rattle.mc_theory.specs.declared.act.Act.{Act}
 use Rattle.mc_plan.specs.Moves.{AreTaken, AreKeys}
 use Rattle.mc_search.specs.Paths.{IsCut, first_place}
 use Rattle.mc_plan.specs.Plans.{key_named, move_acts, moves_acts}
-use Rattle.mc_search.specs.Readable.{IsFilled, NamesSome}
+use Rattle.mc_search.specs.Readable.{IsFilled}
+use Rattle.mc_search.specs.Inside.Readable.{NamesSome}
 
 -- the item in a word that names one
 pub item_in-named : (sh : Shape) (word : ℕ) → IsShape sh → NamesSome sh word → (1 ≤ word) × ((word - 1) % 2 ^ 32 < sh.items)

@@ -1,5 +1,5 @@
 use Rattle.std.proofs.Common.{subst}
-use Rattle.mc_core.specs.Parts.{shown_of}
+use Rattle.mc_core.specs.Inside.Parts.{shown_of}
 use Rattle.mc_core.specs.Runs.{RunsTruly}
 use Rattle.mc_core.specs.Seen.{Shown, Shows}
 use Rattle.mc_words.specs.Shapes.{IsShape}

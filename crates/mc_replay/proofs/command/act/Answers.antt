@@ -1,7 +1,7 @@
 use Rattle.std.proofs.Common.{◌≡◌, ◌+◌, ◌++◌, subst, string_bytes}
 use Rattle.std.specs.Prelude.{Option}
 use Rattle.mc_plan.specs.declared.answer.Answer.{Answer}
-use Rattle.mc_replay.specs.Players.{ActsOnce, MakesAct}
+use Rattle.mc_replay.specs.Inside.Players.{ActsOnce, MakesAct}
 use Rattle.mc_replay.specs.Texts.{answer_line}
 use Rattle.mc_replay.specs.declared.player.Player.{Player}
 use Rattle.mc_replay.proofs.CommandLines.{on_ok, runs_in, act_goes_on, act_ends}

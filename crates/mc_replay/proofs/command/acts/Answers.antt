@@ -1,7 +1,7 @@
 use Rattle.std.proofs.Common.{◌≡◌, ℕ, ◌+◌, ◌≤◌, ◌++◌, List, Some, None, subst, sym, ◌∙◌, rules, arith, string_bytes}
 use Rattle.mc_words.specs.declared.shape.Shape.{Shape}
 use Rattle.mc_replay.specs.Replay.{ActDoes, ActsDo}
-use Rattle.mc_replay.specs.Players.{shape_in, most_steps}
+use Rattle.mc_replay.specs.Inside.Players.{shape_in, most_steps}
 use Rattle.mc_replay.specs.declared.player.Player.{Player}
 use Rattle.mc_replay.specs.declared.fault.Fault.TheVariants.{NothingToStep}
 use Rattle.mc_replay.proofs.ReaderLines.{fits_more}

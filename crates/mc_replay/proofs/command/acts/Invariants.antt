@@ -1,6 +1,6 @@
 use Rattle.std.proofs.Common.{◌≡◌, ℕ, None, string_bytes}
 use Rattle.mc_replay.specs.Replay.{Replay, ActsDo}
-use Rattle.mc_replay.specs.Players.{shape_in, HasRoom, Fits, ActsSoFar}
+use Rattle.mc_replay.specs.Inside.Players.{shape_in, HasRoom, Fits, ActsSoFar}
 use Rattle.mc_replay.proofs.command.acts.Given as goal
 
 -- so many acts were made, whatever replay the player was

@@ -1,7 +1,7 @@
 use Rattle.std.proofs.Common.{◌≡◌, ℕ, ◌+◌, ◌++◌, List, sym, ap, ◌∙◌, string_bytes}
 use Rattle.mc_plan.specs.Clerks.{RemoveCall}
 use Rattle.mc_replay.specs.Replay.{BeginDoes}
-use Rattle.mc_replay.specs.Players.{shape_in, most_steps, FitsStill}
+use Rattle.mc_replay.specs.Inside.Players.{shape_in, most_steps, FitsStill}
 use Rattle.mc_replay.specs.Texts.{answer_line}
 use Rattle.mc_replay.specs.declared.player.Player.{Player}
 use Rattle.mc_replay.proofs.CommandLines.{idle_of, still_running, told_as, begin_answered, begin_begun, idle_in, running_in}

@@ -2,7 +2,7 @@ use Rattle.std.proofs.Common.{List, string_bytes, subst, sym, rules}
 use Rattle.std.specs.Prelude.{ℕ}
 use Rattle.mc_script.specs.declared.command.Command.{Command}
 use Rattle.mc_script.specs.declared.command.Command.TheVariants.{BeginGet}
-use Rattle.mc_replay.specs.Players.{DoesBy}
+use Rattle.mc_replay.specs.Inside.Players.{DoesBy}
 use Rattle.mc_replay.specs.Replay.{Does}
 use Rattle.mc_replay.specs.declared.player.Player.{Player}
 use Rattle.mc_replay.proofs.command.do_command.Goals as goal

@@ -1,6 +1,6 @@
 use Rattle.std.proofs.Common.{◌≡◌, ℕ, ◌+◌, ◌++◌, List, sym, ap, ◌∙◌, string_bytes}
 use Rattle.mc_replay.specs.Replay.{GetDoes}
-use Rattle.mc_replay.specs.Players.{shape_in, most_steps, FitsStill}
+use Rattle.mc_replay.specs.Inside.Players.{shape_in, most_steps, FitsStill}
 use Rattle.mc_replay.specs.Texts.{reply_line}
 use Rattle.mc_replay.specs.declared.player.Player.{Player}
 use Rattle.mc_replay.proofs.CommandLines.{idle_of, still_running, told_as, get_done, idle_in}

@@ -1,7 +1,7 @@
 use Rattle.std.proofs.Common.{◌≡◌, ℕ, ◌+◌, ◌++◌, List, sym, ap, ◌∙◌, string_bytes}
 use Rattle.mc_plan.specs.Clerks.{RemoveCall}
 use Rattle.mc_replay.specs.Replay.{CallDoes}
-use Rattle.mc_replay.specs.Players.{shape_in, most_steps, FitsStill}
+use Rattle.mc_replay.specs.Inside.Players.{shape_in, most_steps, FitsStill}
 use Rattle.mc_replay.specs.Texts.{answer_line}
 use Rattle.mc_replay.specs.declared.fault.Fault.TheVariants.{NoMemory}
 use Rattle.mc_replay.specs.declared.player.Player.{Player}

@@ -1,8 +1,8 @@
 use Rattle.std.proofs.Common.{◌≡◌, ℕ, ◌+◌, ◌<◌, ◌≤◌, arith, refl, None, sym, subst, rules, Ok, Err, Some, [], string_bytes}
 use Rattle.std.specs.Prelude.{OnOk, ◌^◌}
 use Rattle.mc_script.specs.Commands.{command_in}
-use Rattle.mc_replay.specs.Players.{shape_in, most_before, FitsStill}
-use Rattle.mc_replay.specs.Steps.{DoesLine}
+use Rattle.mc_replay.specs.Inside.Players.{shape_in, most_before, FitsStill}
+use Rattle.mc_replay.specs.Inside.Steps.{DoesLine}
 use Rattle.mc_replay.specs.declared.fault.Fault.{Fault}
 use Rattle.mc_replay.specs.declared.player.Player.{Player}
 use Rattle.mc_replay.proofs.ReaderLines.{fits_more}

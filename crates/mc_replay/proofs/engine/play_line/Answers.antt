@@ -2,8 +2,8 @@ use Rattle.std.proofs.Common.{◌≡◌, ◌∙◌, ap, sym, subst, rules, Ok, E
 use Rattle.mc_script.specs.Lines.{GivesLine}
 use Rattle.mc_script.specs.declared.line.ReadFault.TheVariants as over
 use Rattle.std.specs.Prelude.{ℕ, List}
-use Rattle.mc_replay.specs.Players.{shape_in}
-use Rattle.mc_replay.specs.Steps.{DoesLine, is_wanting}
+use Rattle.mc_replay.specs.Inside.Players.{shape_in}
+use Rattle.mc_replay.specs.Inside.Steps.{DoesLine, is_wanting}
 use Rattle.mc_replay.proofs.ScriptLines.{plays_whole, plays_cut, plays_over, plays_none, plays_unread, plays_wanting, stops_refused, not_wanting}
 use Rattle.mc_replay.proofs.engine.play_line.Goals as goal
 

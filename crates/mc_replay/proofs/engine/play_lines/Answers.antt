@@ -2,8 +2,8 @@ use Rattle.std.proofs.Common.{◌∙◌, arith, rules, refl, ap, subst, Ok, Err}
 use Rattle.std.specs.Prelude.{Bool}
 use Rattle.mc_words.specs.declared.shape.Shape.{Shape}
 use Rattle.mc_replay.specs.Replay.{first_replay}
-use Rattle.mc_replay.specs.Players.{shape_in}
-use Rattle.mc_replay.specs.Steps.{PlaysKnown}
+use Rattle.mc_replay.specs.Inside.Players.{shape_in}
+use Rattle.mc_replay.specs.Inside.Steps.{PlaysKnown}
 use Rattle.mc_replay.proofs.ScriptLines.{known_none, known_more, replays_all, replays_part}
 use Rattle.mc_replay.proofs.engine.play_lines.Goals as goal
 

@@ -1,8 +1,8 @@
 use Rattle.std.proofs.Common.{◌≡◌, ℕ, ◌≤◌, ◌^◌}
 use Rattle.mc_replay.specs.Replay.{Replay, first_replay}
 use Rattle.mc_replay.specs.Scripts.{IsReaders}
-use Rattle.mc_replay.specs.Players.{shape_in, most_before, Fits}
-use Rattle.mc_replay.specs.Steps.{KnownSoFar}
+use Rattle.mc_replay.specs.Inside.Players.{shape_in, most_before, Fits}
+use Rattle.mc_replay.specs.Inside.Steps.{KnownSoFar}
 use Rattle.mc_replay.proofs.engine.play_lines.Given as goal
 
 -- the lines so far were played, whatever the number of readers is

@@ -5,8 +5,8 @@ use Rattle.mc_theory.specs.declared.event.Event.TheVariants as event
 use Rattle.mc_replay.specs.declared.player.Player.{Player}
 use Rattle.mc_replay.specs.declared.fault.Fault.TheVariants.{NothingToStep}
 use Rattle.mc_replay.specs.Replay.{AccessesDo}
-use Rattle.mc_replay.specs.Players.{shape_in, most_steps}
-use Rattle.mc_replay.specs.Texts.{end_text}
+use Rattle.mc_replay.specs.Inside.Players.{shape_in, most_steps}
+use Rattle.mc_replay.specs.Inside.Texts.{end_text}
 use Rattle.mc_replay.proofs.ReaderLines.{SameWriter, at_of, sound_of, width_of, access_done, reads_more, after_access, fits_more}
 use Rattle.mc_replay.proofs.StepAfterStep.{accesses_push, accesses_stop, left_over, one_more}
 use Rattle.mc_replay.proofs.reading.accesses.Goals as goal

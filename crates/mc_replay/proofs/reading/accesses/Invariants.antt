@@ -1,6 +1,6 @@
 use Rattle.std.proofs.Common.{◌≡◌, ℕ, List, None, string_bytes}
 use Rattle.mc_replay.specs.Replay.{Replay, AccessesDo}
-use Rattle.mc_replay.specs.Players.{shape_in, HasRoom, Fits, ReadsSoFar}
+use Rattle.mc_replay.specs.Inside.Players.{shape_in, HasRoom, Fits, ReadsSoFar}
 use Rattle.mc_replay.specs.declared.player.Player.{Player}
 use Rattle.mc_replay.proofs.reading.accesses.Given as goal
 

@@ -3,7 +3,7 @@ use Rattle.mc_replay.specs.declared.fault.Fault.{Fault}
 use Rattle.mc_replay.specs.declared.fault.Fault.TheVariants.{StillRunning}
 use Rattle.mc_replay.specs.declared.player.Player.{Player}
 use Rattle.mc_replay.specs.Replay.{LookUpDoes}
-use Rattle.mc_replay.specs.Players.{shape_in, DoneAs}
+use Rattle.mc_replay.specs.Inside.Players.{shape_in, DoneAs}
 use Rattle.mc_replay.proofs.ReaderLines.{SameWriter, at_of, look_up_begins, look_up_runs, no_reader}
 use Rattle.mc_replay.proofs.reading.begin_get.Goals as goal
 

@@ -1,7 +1,7 @@
 use Rattle.std.proofs.Common.{refl, subst, sym, Err, inr, string_bytes}
 use Rattle.mc_replay.specs.declared.fault.Fault.{Fault}
 use Rattle.mc_replay.specs.Replay.{ReadsDo}
-use Rattle.mc_replay.specs.Players.{shape_in, DoneAs}
+use Rattle.mc_replay.specs.Inside.Players.{shape_in, DoneAs}
 use Rattle.mc_replay.proofs.ReaderLines.{no_reader}
 use Rattle.mc_replay.proofs.reading.reads.Goals as goal
 

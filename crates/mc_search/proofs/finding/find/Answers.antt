@@ -1,7 +1,7 @@
 use Rattle.std.proofs.Common.{ℕ, ◌∙◌, List, Option, Some, None, IfNone, ap, subst}
 use Rattle.mc_words.specs.Checks.{shape_of}
 use Rattle.mc_words.specs.Keys.{alternate, first_of}
-use Rattle.mc_search.specs.Readable.{IsNotAmong}
+use Rattle.mc_search.specs.Inside.Readable.{IsNotAmong}
 use Rattle.mc_search.proofs.KeySlots.{absent_from-buckets}
 use Rattle.mc_search.proofs.finding.find.Goals as goal
 

@@ -1,6 +1,6 @@
 use Rattle.std.proofs.Common.{◌≡◌}
 use Rattle.mc_words.specs.Checks.{shape_of}
-use Rattle.mc_search.specs.Readable.{IsNotAmong}
+use Rattle.mc_search.specs.Inside.Readable.{IsNotAmong}
 use Rattle.mc_search.proofs.finding.find_in.Given as goal
 
 abbrev pub invariant-loop-slot : goal.invariant-loop-slot

@@ -1,6 +1,6 @@
 use Rattle.std.proofs.Common.{◌≡◌, [], ◌∷◌, ◌++◌, false, true, get_or, set, sym, ◌∙◌, arith, length-set}
 use Rattle.std.proofs.lemmas.List.{get_or_default}
-use Rattle.mc_search.specs.Search.{IsQueue}
+use Rattle.mc_search.specs.Inside.Search.{IsQueue}
 use Rattle.mc_search.proofs.QueueEntries.{queue-push, length-push}
 use Rattle.mc_search.proofs.queue.add.Goals as goal
 use Rattle.mc_search.proofs.queue.add.Goals.{After-push}

@@ -1,7 +1,7 @@
 use Rattle.std.proofs.Common.{◌≡◌, ℕ, ◌+◌, ◌<◌, ◌≤◌, inl, inr, List, length, get_or, set, true, false, Bool, sym, ◌∙◌, ap, subst, arith, length-set, get_or-set_other, get_or-set_same}
 use Rattle.std.proofs.lemmas.Bool.{cases_eq}
 use Rattle.mc_search.specs.declared.queue.Entry.{Entry}
-use Rattle.mc_search.specs.Search.{entry_at, bucket_at, IsQueue}
+use Rattle.mc_search.specs.Inside.Search.{entry_at, bucket_at, IsQueue}
 use Rattle.mc_search.proofs.queue.clean.Goals as goal
 
 -- each bucket of the queue has a mark

@@ -1,5 +1,5 @@
 use Rattle.std.proofs.Common.{◌≡◌, ℕ, ◌<◌, ◌≤◌, length, true, false, get_or}
-use Rattle.mc_search.specs.Search.{bucket_at}
+use Rattle.mc_search.specs.Inside.Search.{bucket_at}
 use Rattle.mc_search.proofs.queue.clean.Given as goal
 
 abbrev pub invariant-marks : goal.invariant-marks

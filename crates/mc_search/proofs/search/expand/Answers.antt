@@ -1,8 +1,8 @@
 use Rattle.std.proofs.Common.{ℕ, ◌≡◌, ◌≢◌, ◌∙◌, ◌+◌, ◌*◌, List, ap, subst, arith}
 use Rattle.mc_words.specs.Checks.{shape_of}
 use Rattle.mc_words.specs.Places.{slot}
-use Rattle.mc_search.specs.Readable.{IsFull, IsHoleIn}
-use Rattle.mc_search.specs.Search.{next_of, IsExpanding, IsSearching}
+use Rattle.mc_search.specs.Inside.Readable.{IsFull, IsHoleIn}
+use Rattle.mc_search.specs.Inside.Search.{next_of, IsExpanding, IsSearching}
 use Rattle.mc_search.proofs.Levels.{taken_at, bucket_read, expanding-added, full-added, full-old, searching-after}
 use Rattle.mc_search.proofs.Shortest.{found_added}
 use Rattle.mc_search.proofs.search.expand.Goals as goal

@@ -1,6 +1,6 @@
 use Rattle.std.proofs.Common.{◌≡◌, ℕ, ◌+◌, ◌*◌, ◌≤◌, length, vec_capacity}
 use Rattle.mc_words.specs.Checks.{shape_of}
-use Rattle.mc_search.specs.Search.{IsQueue, AreFull, IsSearching, IsExpanding}
+use Rattle.mc_search.specs.Inside.Search.{IsQueue, AreFull, IsSearching, IsExpanding}
 use Rattle.mc_search.proofs.search.expand.Given as goal
 
 abbrev pub invariant-loop-slot : goal.invariant-loop-slot

@@ -1,7 +1,7 @@
 use Rattle.std.proofs.Common.{◌≡◌, ◌<◌, ◌≤◌, length, ap, arith}
 use Rattle.mc_words.specs.declared.shape.Shape.{Shape}
 use Rattle.mc_words.specs.Checks.{shape_of}
-use Rattle.mc_search.specs.Search.{entry_at}
+use Rattle.mc_search.specs.Inside.Search.{entry_at}
 use Rattle.mc_search.proofs.QueueEntries.{entry_read}
 use Rattle.mc_search.proofs.Shortest.{none_queued, none_above}
 use Rattle.mc_search.proofs.search.search.Goals as goal

@@ -1,6 +1,6 @@
 use Rattle.std.proofs.Common.{◌≡◌, ◌<◌, List, length, ap, arith, lit<}
 use Rattle.mc_words.specs.declared.place.Place.{Place}
-use Rattle.mc_search.specs.Search.{entry_at, depth_at}
+use Rattle.mc_search.specs.Inside.Search.{entry_at, depth_at}
 use Rattle.mc_search.proofs.Trace.{follows_step, chain_here}
 use Rattle.mc_search.proofs.search.trace.Goals as goal
 

@@ -2,7 +2,7 @@ use Rattle.std.proofs.Common.{◌≡◌, ℕ, ◌+◌, ◌<◌, List, Bool, leng
 use Rattle.mc_words.specs.declared.place.Place.{Place}
 use Rattle.mc_words.specs.declared.shape.Shape.{Shape}
 use Rattle.mc_words.specs.Chains.{IsHole}
-use Rattle.mc_search.specs.Search.{IsQueue, IsTree, Follows, depth_at, bucket_at}
+use Rattle.mc_search.specs.Inside.Search.{IsQueue, IsTree, Follows, depth_at, bucket_at}
 use Rattle.mc_search.proofs.search.trace.Given as goal
 
 abbrev pub invariant-back : goal.invariant-back

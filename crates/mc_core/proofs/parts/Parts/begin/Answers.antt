@@ -1,7 +1,7 @@
 use Rattle.std.proofs.Common.{Option, Some, refl, sym, ◌∙◌, ap, arith}
 use Rattle.std.proofs.lemmas.Option.{slice_get_past, slice_get_read}
 use Rattle.mc_core.specs.Seen.{Both, IsRunning}
-use Rattle.mc_core.specs.Parts.{shape_of_parts}
+use Rattle.mc_core.specs.Inside.Parts.{shape_of_parts}
 use Rattle.mc_core.specs.declared.reader.Reader.{Reader}
 use Rattle.mc_core.proofs.PairedLists.{both_none, none_past, some_of, none_of}
 use Rattle.mc_core.proofs.ReaderSteps.{begins, idle_of, running_of}

@@ -1,7 +1,7 @@
 use Rattle.std.proofs.Common.{rules, arith, ◌+◌, take, sym, subst, suc, ap, ◌∙◌, ◌≡◌, List}
 use Rattle.std.proofs.Math.Seq.{take-suc}
 use Rattle.std.proofs.lemmas.Option.{slice_get-get_or}
-use Rattle.mc_core.specs.Parts.{HasMade}
+use Rattle.mc_core.specs.Inside.Parts.{HasMade}
 use Rattle.mc_theory.specs.declared.event.Event.{Event}
 use Rattle.mc_core.proofs.EventLists.{made_same, made_then, stops_at}
 use Rattle.mc_core.proofs.parts.Parts.make_all.Goals as goal

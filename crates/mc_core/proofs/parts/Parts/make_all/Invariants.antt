@@ -1,6 +1,6 @@
 use Rattle.std.proofs.Common.{◌+◌, ◌≤◌, vec_len, vec_capacity, length, take}
-use Rattle.mc_core.specs.Parts.{HasMade}
-use Rattle.mc_core.specs.Writers.{room_of}
+use Rattle.mc_core.specs.Inside.Parts.{HasMade}
+use Rattle.mc_core.specs.Inside.Writers.{room_of}
 use Rattle.mc_core.proofs.parts.Parts.make_all.Given as goal
 
 abbrev pub invariant-loop-i : goal.invariant-loop-i

@@ -1,7 +1,7 @@
 use Rattle.std.proofs.Common.{rules, ap, ◌∙◌, arith, Option, Some}
 use Rattle.std.proofs.lemmas.Option.{slice_get_past, slice_get_read}
 use Rattle.mc_core.specs.Seen.{Both, IsRunning}
-use Rattle.mc_core.specs.Parts.{shape_of_parts}
+use Rattle.mc_core.specs.Inside.Parts.{shape_of_parts}
 use Rattle.mc_core.specs.declared.reader.Reader.{Reader}
 use Rattle.mc_core.proofs.PairedLists.{both_none, none_past}
 use Rattle.mc_core.proofs.ReaderSteps.{idle_of, running_of}

@@ -1,5 +1,5 @@
 use Rattle.std.proofs.Common.{[], List, subst}
-use Rattle.mc_core.specs.Parts.{HasMade}
+use Rattle.mc_core.specs.Inside.Parts.{HasMade}
 use Rattle.mc_theory.specs.Plain.{events_made}
 use Rattle.mc_theory.specs.declared.event.Done.{Done}
 use Rattle.mc_core.proofs.EventLists.{made_then}

@@ -1,12 +1,12 @@
 use Rattle.std.proofs.Common.{ℕ, rules, arith, sym, subst, refl, ap, ◌+◌, ◌∙◌}
 use Rattle.mc_words.specs.Checks.{shape_of}
 use Rattle.mc_words.specs.declared.checked.Checked.{Checked}
-use Rattle.mc_core.specs.Seen.{ReadsIn}
+use Rattle.mc_core.specs.Inside.Seen.{ReadsIn}
 use Rattle.mc_theory.specs.Acts.{IsAllowed}
 use Rattle.mc_theory.specs.States.{State}
 use Rattle.mc_theory.specs.Worlds.{HasChanges, bit_of, given_of}
 use Rattle.mc_core.specs.declared.writer.Writer.{Writer}
-use Rattle.mc_core.specs.Writers.{shape_at, words_at, phase_at, IsMade}
+use Rattle.mc_core.specs.Inside.Writers.{shape_at, words_at, phase_at, IsMade}
 use Rattle.mc_core.proofs.ShownWorld.{holds_of, counted_of, hand_of, reads_in, ok_of, stand_after}
 use Rattle.mc_core.proofs.parts.Parts.write.Goals as goal
 

@@ -1,6 +1,6 @@
 use Rattle.std.proofs.Common.{◌≡◌, ◌+◌, ◌*◌, ◌%◌, ℕ, subst, arith}
 use Rattle.mc_words.specs.Standing.{Stands}
-use Rattle.mc_core.specs.Tables.{shape_in, words_in}
+use Rattle.mc_core.specs.Inside.Tables.{shape_in, words_in}
 use Rattle.mc_core.proofs.table.Table.find_in.Goals as goal
 
 pub returns : goal.returns

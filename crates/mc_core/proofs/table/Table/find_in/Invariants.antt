@@ -1,6 +1,6 @@
 use Rattle.std.proofs.Common.{ℕ, ◌+◌, ◌*◌, ◌<◌}
 use Rattle.mc_words.specs.Standing.{Stands}
-use Rattle.mc_core.specs.Tables.{shape_in, words_in}
+use Rattle.mc_core.specs.Inside.Tables.{shape_in, words_in}
 use Rattle.mc_core.proofs.table.Table.find_in.Given as goal
 
 abbrev pub invariant-loop-slot : goal.invariant-loop-slot

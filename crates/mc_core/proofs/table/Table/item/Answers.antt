@@ -2,7 +2,7 @@ use Rattle.std.proofs.Common.{◌∙◌, ap, get_or, ◌<◌, arith, length}
 use Rattle.std.proofs.lemmas.List.{get_or_default}
 use Rattle.mc_words.proofs.Places.{row_below}
 use Rattle.mc_words.specs.Places.{item, payload}
-use Rattle.mc_core.specs.Tables.{shape_in}
+use Rattle.mc_core.specs.Inside.Tables.{shape_in}
 use Rattle.mc_core.proofs.table.Table.item.Goals as goal
 
 pub returns : goal.returns

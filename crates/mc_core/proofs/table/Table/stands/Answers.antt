@@ -1,7 +1,7 @@
 use Rattle.std.proofs.Common.{◌∙◌}
 use Rattle.mc_core.proofs.SlotKeys.{other_key}
 use Rattle.mc_core.proofs.table.Table.stands.Goals as goal
-use Rattle.mc_core.specs.Tables.{shape_in, words_in}
+use Rattle.mc_core.specs.Inside.Tables.{shape_in, words_in}
 use Rattle.mc_words.specs.Places.{slot_number}
 
 pub returns-else-item-key : goal.returns-else-item-key

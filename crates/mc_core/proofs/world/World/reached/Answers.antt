@@ -1,6 +1,6 @@
 use Rattle.std.proofs.Common.{ℕ, ◌≡◌, List, length, subst, sym}
 use Rattle.std.specs.Prelude.{All}
-use Rattle.mc_core.specs.Parts.{shape_of_parts, shown_of}
+use Rattle.mc_core.specs.Inside.Parts.{shape_of_parts, shown_of}
 use Rattle.mc_core.specs.Seen.{Shown, Shows}
 use Rattle.mc_theory.specs.Worlds.{World, IsBit, IsReached, IsTrueEnd}
 use Rattle.mc_theory.proofs.Events.ReachedWorlds.{worlds_are_true}

@@ -8,7 +8,7 @@ use Rattle.mc_theory.specs.Worlds.{World, bit_of, given_of, Steps, Gives, Refuse
 use Rattle.mc_words.specs.Shapes.{IsShape}
 use Rattle.std.specs.Prelude.{All}
 use Rattle.std.proofs.lemmas.Result.{IfOk-weaker}
-use Rattle.mc_core.specs.Parts.{shown_of}
+use Rattle.mc_core.specs.Inside.Parts.{shown_of}
 use Rattle.std.proofs.Common.{rules, subst}
 use Rattle.mc_core.proofs.WorldSteps.{reached_push, reached_true, reached_after, counted_after, lawful_after, given_after, leads_shown, refused_shown}
 use Rattle.mc_core.proofs.world.World.step.Goals as goal

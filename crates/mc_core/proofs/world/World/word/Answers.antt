@@ -2,8 +2,9 @@ use Rattle.std.proofs.Common.{ℕ, ◌≡◌, ◌-◌, ◌^◌, ◌<◌, ◌≤�
 use Rattle.std.specs.Prelude.{All}
 use Rattle.mc_words.specs.Places.{all_words, word_count}
 use Rattle.mc_words.specs.Recency.{recency_words}
-use Rattle.mc_core.specs.Packed.{HasBits, IsPacked}
-use Rattle.mc_core.specs.Parts.{shown_of}
+use Rattle.mc_core.specs.Packed.{HasBits}
+use Rattle.mc_core.specs.Inside.Packed.{IsPacked}
+use Rattle.mc_core.specs.Inside.Parts.{shown_of}
 use Rattle.mc_core.specs.Seen.{Shown}
 use Rattle.mc_core.specs.declared.parts.Parts.{Parts}
 use Rattle.mc_core.proofs.PackedBits.{bits_now, packed_bits}

@@ -1,6 +1,6 @@
 use Rattle.mc_core.proofs.writer.Writer.allows.Goals as goal
 use Rattle.std.proofs.Common.{take, rules}
-use Rattle.mc_core.specs.Writers.{shape_at, words_at}
+use Rattle.mc_core.specs.Inside.Writers.{shape_at, words_at}
 use Rattle.mc_core.specs.declared.progress.Progress.TheVariants as progress
 use Rattle.mc_core.proofs.WrittenWords.{holds_at, quiet_well, renewing_well, moving_well}
 

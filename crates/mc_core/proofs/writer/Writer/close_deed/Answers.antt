@@ -2,7 +2,7 @@ use Rattle.mc_core.proofs.writer.Writer.close_deed.Goals as goal
 use Rattle.std.proofs.Common.{rules}
 use Rattle.mc_words.proofs.Keys.{stripe_of-lt}
 use Rattle.mc_words.specs.Keys.{stripe_of}
-use Rattle.mc_core.specs.Writers.{shape_at}
+use Rattle.mc_core.specs.Inside.Writers.{shape_at}
 
 pub close-requires : goal.close-requires
 close-requires g c =

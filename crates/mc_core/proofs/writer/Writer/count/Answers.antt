@@ -2,7 +2,7 @@ use Rattle.mc_core.proofs.writer.Writer.count.Goals as goal
 use Rattle.std.proofs.Common.{arith, refl, ap, sym, ◌∙◌, ◌++◌, List}
 use Rattle.mc_words.proofs.Places.{slot-with_moment}
 use Rattle.mc_words.specs.declared.history.Change.{Change}
-use Rattle.mc_core.specs.Writers.{shape_at, words_at}
+use Rattle.mc_core.specs.Inside.Writers.{shape_at, words_at}
 use Rattle.mc_theory.specs.declared.act.Act.TheVariants as act
 use Rattle.mc_core.specs.declared.progress.Progress.TheVariants as progress
 use Rattle.mc_core.proofs.FreeFlags.{used_kept}

@@ -1,6 +1,6 @@
 use Rattle.mc_core.proofs.writer.Writer.count_change.Goals as goal
 use Rattle.std.proofs.Common.{rules}
-use Rattle.mc_core.specs.Writers.{shape_at, words_at}
+use Rattle.mc_core.specs.Inside.Writers.{shape_at, words_at}
 use Rattle.mc_theory.specs.declared.act.Act.TheVariants as act
 use Rattle.mc_core.proofs.AllowedActs.{may_at}
 use Rattle.mc_core.proofs.DeedChanges.{change_placed, change_renewing, closing_placed, closing_renewing}

@@ -2,7 +2,7 @@ use Rattle.mc_core.proofs.writer.Writer.is_item_of.Goals as goal
 use Rattle.std.proofs.Common.{subst, ℕ}
 use Rattle.std.proofs.lemmas.Bool.{false≢true, eqb-true, eq-eqb}
 use Rattle.mc_words.specs.Standing.{Stands}
-use Rattle.mc_core.specs.Writers.{shape_at, words_at}
+use Rattle.mc_core.specs.Inside.Writers.{shape_at, words_at}
 
 pub returns-in-Some : goal.returns-in-Some
 returns-in-Some g c =

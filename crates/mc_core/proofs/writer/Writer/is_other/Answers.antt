@@ -1,6 +1,6 @@
 use Rattle.mc_core.proofs.writer.Writer.is_other.Goals as goal
 use Rattle.std.proofs.lemmas.Bool.{false≢true}
-use Rattle.mc_core.specs.Writers.{shape_at, words_at}
+use Rattle.mc_core.specs.Inside.Writers.{shape_at, words_at}
 use Rattle.mc_lookup.proofs.StageSteps.{both_trans}
 use Rattle.mc_core.proofs.WrittenWords.{across}
 

@@ -1,7 +1,7 @@
 use Rattle.mc_core.proofs.writer.Writer.leave_slot.Goals as goal
 use Rattle.std.proofs.Common.{ℕ, subst, refl, sym, ◌+◌, ◌<◌, length, arith}
 use Rattle.mc_words.specs.Places.{slot_number}
-use Rattle.mc_core.specs.Writers.{shape_at, words_at}
+use Rattle.mc_core.specs.Inside.Writers.{shape_at, words_at}
 use Rattle.mc_theory.specs.declared.act.Act.TheVariants as act
 use Rattle.mc_core.specs.declared.progress.Progress.TheVariants as progress
 use Rattle.mc_words.specs.Standing.{Names}

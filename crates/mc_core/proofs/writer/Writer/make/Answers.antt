@@ -2,7 +2,7 @@ use Rattle.mc_core.proofs.writer.Writer.make.Goals as goal
 use Rattle.std.proofs.Common.{rules, sym, subst, arith}
 use Rattle.mc_words.proofs.Keys.{stripe_of-lt}
 use Rattle.mc_words.specs.Keys.{stripe_of}
-use Rattle.mc_core.specs.Writers.{shape_at, IsMade}
+use Rattle.mc_core.specs.Inside.Writers.{shape_at, IsMade}
 use Rattle.mc_theory.specs.declared.act.Act.{Act}
 use Rattle.mc_core.proofs.MadeActs.{on_ok}
 

@@ -1,6 +1,6 @@
 use Rattle.std.proofs.Common.{sym, subst}
 use Rattle.mc_words.specs.declared.shape.Shape.{Shape}
-use Rattle.mc_core.specs.Writers.{UsedIn}
+use Rattle.mc_core.specs.Inside.Writers.{UsedIn}
 use Rattle.mc_core.proofs.NewWorld.{new_state, new_used}
 use Rattle.mc_core.proofs.writer.Writer.new.Goals as goal
 

@@ -4,7 +4,7 @@ use Rattle.mc_words.specs.Keys.{tag_of}
 use Rattle.mc_words.specs.Places.{slot_number}
 use Rattle.mc_words.proofs.Keys.{tag_of-lt}
 use Rattle.mc_theory.specs.Phases as phases
-use Rattle.mc_core.specs.Writers.{shape_at, words_at}
+use Rattle.mc_core.specs.Inside.Writers.{shape_at, words_at}
 use Rattle.mc_theory.specs.declared.act.Act.TheVariants as act
 use Rattle.mc_core.specs.declared.progress.Progress.TheVariants as progress
 use Rattle.mc_core.proofs.AllowedActs.{may_at}

@@ -1,6 +1,6 @@
 use Rattle.mc_core.proofs.writer.Writer.turn.Goals as goal
 use Rattle.std.proofs.Common.{arith, refl, ◌∙◌, ◌≡◌, ◌≢◌, ◌+◌, ◌%◌, ◌⊎◌, Some, None, inl, inr}
-use Rattle.mc_core.specs.Writers.{shape_at}
+use Rattle.mc_core.specs.Inside.Writers.{shape_at}
 use Rattle.mc_theory.specs.declared.act.Act.TheVariants as act
 use Rattle.mc_core.specs.declared.progress.Progress.TheVariants as progress
 use Rattle.mc_theory.proofs.Lists.HandTurns.{turn_over, turn_on}

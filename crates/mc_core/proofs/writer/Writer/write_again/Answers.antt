@@ -2,7 +2,7 @@ use Rattle.mc_core.proofs.writer.Writer.write_again.Goals as goal
 use Rattle.std.proofs.Common.{refl, ap, ◌+◌, arith}
 use Rattle.mc_words.specs.Places.{payload}
 use Rattle.mc_theory.specs.Phases as phases
-use Rattle.mc_core.specs.Writers.{shape_at, words_at}
+use Rattle.mc_core.specs.Inside.Writers.{shape_at, words_at}
 use Rattle.mc_theory.specs.declared.act.Act.TheVariants as act
 use Rattle.mc_core.specs.declared.progress.Progress.TheVariants as progress
 use Rattle.mc_core.proofs.MadeActs.{made, used_item, written_more}

@@ -1,6 +1,6 @@
 use Rattle.mc_core.proofs.writer.Writer.write_item.Goals as goal
 use Rattle.std.proofs.Common.{rules, ℕ, ap, sym, ◌∙◌, subst, arith}
-use Rattle.mc_core.specs.Writers.{shape_at, words_at, IsMade}
+use Rattle.mc_core.specs.Inside.Writers.{shape_at, words_at, IsMade}
 use Rattle.mc_theory.specs.declared.act.Act.TheVariants as act
 use Rattle.mc_core.specs.declared.progress.Progress.TheVariants as progress
 use Rattle.mc_core.proofs.AllowedActs.{may_at}

@@ -1,6 +1,6 @@
 use Rattle.mc_core.proofs.writer.Writer.write_key.Goals as goal
 use Rattle.std.proofs.Common.{arith, refl}
-use Rattle.mc_core.specs.Writers.{shape_at, words_at}
+use Rattle.mc_core.specs.Inside.Writers.{shape_at, words_at}
 use Rattle.mc_theory.specs.declared.act.Act.TheVariants as act
 use Rattle.mc_core.specs.declared.progress.Progress.TheVariants as progress
 use Rattle.mc_core.proofs.MadeActs.{made, used_item}

@@ -1,7 +1,8 @@
 use Rattle.std.proofs.Common.{◌∙◌, ap, arith, subst, sym}
 use Rattle.mc_words.specs.declared.shape.Shape.{Shape}
 use Rattle.mc_words.specs.Checks.{shape_of}
-use Rattle.mc_plan.specs.Clerks.{IsAtEnd, acts_left}
+use Rattle.mc_plan.specs.Clerks.{acts_left}
+use Rattle.mc_plan.specs.Inside.Clerks.{IsAtEnd}
 use Rattle.mc_plan.specs.Making.{IsQuiet}
 use Rattle.mc_plan.specs.declared.answer.Answer.TheVariants as answer
 use Rattle.mc_plan.specs.declared.clerk.Stage.{Stage}

@@ -4,7 +4,7 @@ use Rattle.mc_theory.specs.Worlds.{World, bit_of}
 use Rattle.mc_theory.specs.declared.event.Stepped.{Stepped}
 use Rattle.mc_plan.specs.Clerks.{IsOn}
 use Rattle.mc_replay.specs.Replay.{WriterMakes}
-use Rattle.mc_replay.specs.Players.{shape_in, bit_given, with_acts}
+use Rattle.mc_replay.specs.Inside.Players.{shape_in, bit_given, with_acts}
 use Rattle.mc_replay.specs.declared.player.Player.{Player}
 use Rattle.mc_replay.proofs.WriterCalls.{may_act, words_after, bit_given_is, made_of, makes_one, call_goes_on, goes_on_as, TellsAs}
 use Rattle.mc_replay.proofs.player.Player.act.Goals as goal

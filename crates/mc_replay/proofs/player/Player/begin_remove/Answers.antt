@@ -2,7 +2,7 @@ use Rattle.std.proofs.Common.{arith, refl, ap}
 use Rattle.mc_theory.specs.Lists.{state_of}
 use Rattle.mc_theory.specs.States.{State}
 use Rattle.mc_plan.specs.Clerks.{Call, RemoveCall}
-use Rattle.mc_replay.specs.Players.{shape_in}
+use Rattle.mc_replay.specs.Inside.Players.{shape_in}
 use Rattle.mc_replay.specs.declared.player.Player.{Player}
 use Rattle.mc_replay.proofs.WriterCalls.{begun, begins_as, TellsAs}
 use Rattle.mc_replay.proofs.player.Player.begin_remove.Goals as goal

@@ -2,7 +2,7 @@ use Rattle.std.proofs.Common.{ℕ, ◌+◌, ◌-◌, ◌<◌, subst, rules}
 use Rattle.std.specs.Prelude.{Option, IsSome, ◌^◌}
 use Rattle.mc_plan.specs.Clerks.{acts_left, next_act}
 use Rattle.mc_plan.specs.declared.answer.Answer.{Answer}
-use Rattle.mc_replay.specs.Players.{IsInCall, MakesAct, with_acts}
+use Rattle.mc_replay.specs.Inside.Players.{IsInCall, MakesAct, with_acts}
 use Rattle.mc_replay.specs.Replay.{Pending}
 use Rattle.mc_theory.specs.Worlds.{World}
 use Rattle.mc_replay.specs.declared.player.Player.{Player}

@@ -3,7 +3,7 @@ use Rattle.mc_theory.specs.Worlds.{World}
 use Rattle.mc_plan.specs.Clerks.{acts_left, next_act}
 use Rattle.std.specs.Prelude.{IsSome}
 use Rattle.mc_replay.specs.Replay.{Pending}
-use Rattle.mc_replay.specs.Players.{IsInCall}
+use Rattle.mc_replay.specs.Inside.Players.{IsInCall}
 use Rattle.mc_replay.proofs.WriterCalls.{MakesSome}
 use Rattle.mc_replay.proofs.player.Player.finish.Given as goal
 

@@ -1,7 +1,7 @@
 use Rattle.std.proofs.Common.{◌+◌, ◌<◌, [], refl, subst, rules, arith}
 use Rattle.mc_words.specs.declared.shape.Shape.{Shape}
 use Rattle.mc_theory.specs.Lists.{state_of}
-use Rattle.mc_replay.specs.Players.{shape_in, most_steps}
+use Rattle.mc_replay.specs.Inside.Players.{shape_in, most_steps}
 use Rattle.mc_replay.specs.declared.player.Player.{Player}
 use Rattle.mc_replay.proofs.WriterCalls.{agrees_now, looks_found, looks_missed, idle_more, makes_none}
 use Rattle.mc_replay.proofs.player.Player.get.Goals as goal

@@ -1,7 +1,7 @@
 use Rattle.std.proofs.Common.{rules, arith}
 use Rattle.mc_theory.specs.Lists.{state_of}
 use Rattle.mc_plan.specs.Clerks.{Call, PutCall}
-use Rattle.mc_replay.specs.Players.{shape_in}
+use Rattle.mc_replay.specs.Inside.Players.{shape_in}
 use Rattle.mc_replay.specs.Replay.{pending}
 use Rattle.mc_replay.specs.declared.player.Player.{Player}
 use Rattle.mc_replay.proofs.WriterCalls.{whole_at_once, whole_in_time}

@@ -2,7 +2,7 @@ use Rattle.std.proofs.Common.{ℕ, ◌≡◌, ◌-◌, ◌∙◌, List, length, 
 use Rattle.mc_words.specs.Checks.{shape_of}
 use Rattle.mc_words.specs.Keys.{alternate, first_of, second_of}
 use Rattle.mc_search.specs.declared.queue.Entry.{Entry}
-use Rattle.mc_search.specs.Search.{IsFound}
+use Rattle.mc_search.specs.Inside.Search.{IsFound}
 use Rattle.mc_search.proofs.Shortest.{least_direct}
 use Rattle.mc_search.proofs.Trace.{IsTraceable, traceable}
 use Rattle.mc_search.proofs.finder.Finder.path.Goals as goal

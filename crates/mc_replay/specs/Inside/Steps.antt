@@ -8,7 +8,7 @@ use Rattle.mc_replay.specs.declared.fault.Fault.{Fault}
 use Rattle.mc_replay.specs.declared.fault.Fault.TheVariants.{ReadFailed, NoMemory, WriteFailed}
 use Rattle.mc_replay.specs.Replay.{Replay}
 use Rattle.mc_replay.specs.Scripts.{LineDoes, Plays, ReadsLine, ReadsStopped}
-use Rattle.mc_replay.specs.Players.{DoneAs}
+use Rattle.mc_replay.specs.Inside.Players.{DoneAs}
 
 -- what was done for a line, and the text of its answers
 abbrev pub DoesLine : (V : ℕ) → Shape → ℕ → Replay V → List ℕ → List ℕ → Replay V → Result (Unit {0}) Fault → Type 0

@@ -8,7 +8,7 @@ use Rattle.mc_theory.specs.Phases.{Phase, Quiet, Filling, Keyed, Placed, Renewin
 use Rattle.mc_theory.specs.Effects.{after_act}
 use Rattle.mc_theory.specs.declared.act.Act.{Act}
 use Rattle.mc_theory.specs.States.{State}
-use Rattle.mc_core.specs.Tables.{shape_in, words_in}
+use Rattle.mc_core.specs.Inside.Tables.{shape_in, words_in}
 use Rattle.mc_core.specs.declared.progress.Progress.{Progress}
 use Rattle.mc_core.specs.declared.progress.Progress.TheVariants as progress
 use Rattle.mc_core.specs.declared.table.Table.{Table}

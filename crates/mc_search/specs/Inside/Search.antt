@@ -7,7 +7,7 @@ use Rattle.mc_words.specs.Chains.{IsHole, IsOccupied, IsChain, tag_in, beyond}
 use Rattle.mc_words.specs.Keys.{alternate, first_of, second_of, IsBucketOf}
 use Rattle.mc_words.specs.Places.{slot}
 use Rattle.mc_search.specs.declared.queue.Entry.{Entry}
-use Rattle.mc_search.specs.Readable.{IsFull}
+use Rattle.mc_search.specs.Inside.Readable.{IsFull}
 
 -- an entry that says nothing
 abbrev pub blank : Entry

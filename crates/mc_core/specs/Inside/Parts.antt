@@ -4,7 +4,7 @@ use Rattle.mc_words.specs.declared.shape.Shape.{Shape}
 use Rattle.mc_theory.specs.Phases.{runs}
 use Rattle.mc_core.specs.Seen.{Shown, Shows}
 use Rattle.mc_theory.specs.Worlds as worlds
-use Rattle.mc_core.specs.Writers.{shape_at, state_in, phase_at, UsedWell}
+use Rattle.mc_core.specs.Inside.Writers.{shape_at, state_in, phase_at, UsedWell}
 use Rattle.mc_theory.specs.declared.event.Done.{Done}
 use Rattle.mc_theory.specs.declared.event.Event.{Event}
 use Rattle.mc_core.specs.declared.parts.Parts.{Parts}

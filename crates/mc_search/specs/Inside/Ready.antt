@@ -1,7 +1,7 @@
 -- A finder between two searches.
 use Rattle.std.specs.Prelude.{◌≡◌, ◌≤◌, [], length, vec_capacity}
 use Rattle.mc_search.specs.declared.finder.Finder.TheInside.{Inside}
-use Rattle.mc_search.specs.Search.{IsUnmarked}
+use Rattle.mc_search.specs.Inside.Search.{IsUnmarked}
 
 -- nothing is queued, no bucket is marked, and all buckets would fit into the queue
 pub record IsReady (f : Inside) : Type 0 where

@@ -1,0 +1,25 @@
+-- What only private contracts say beside `Seen`.
+use Rattle.std.specs.Prelude.{ℕ, ◌≡◌, ◌-◌, ◌^◌, ◌<◌, ◌↔◌, List, ◌++◌, Option, Some, None, IsSome, slice_get, unwrap_or}
+use Rattle.mc_words.specs.declared.history.Reply.{Reply}
+use Rattle.mc_words.specs.declared.shape.Shape.{Shape}
+use Rattle.mc_theory.specs.Acts.{IsAllowed}
+use Rattle.mc_theory.specs.Effects.{after_act}
+use Rattle.mc_theory.specs.Lists.{IsLawful, state_of}
+use Rattle.mc_theory.specs.Lookups.{IsLookup}
+use Rattle.mc_lookup.specs.Machine.{shape_for, next_of, Left}
+use Rattle.mc_theory.specs.Readings.{Reading}
+use Rattle.mc_theory.specs.States.{State}
+use Rattle.mc_theory.specs.Worlds as worlds
+use Rattle.mc_theory.specs.Worlds.{HasChanges, bit_of}
+use Rattle.mc_theory.specs.declared.act.Act.{Act}
+use Rattle.mc_theory.specs.declared.act.Act.TheVariants as act
+use Rattle.mc_theory.specs.declared.event.Event.{Event}
+use Rattle.mc_theory.specs.declared.event.Event.TheVariants as event
+use Rattle.mc_core.specs.declared.reader.Reader.{Reader}
+use Rattle.mc_core.specs.Seen.{Shown, Both, IsRunning, Shows, MayAct, state_after}
+
+-- an act on a recency bit is one on the bit of an item
+abbrev pub ReadsIn : Shape → Act → Type 0
+ReadsIn sh (act.Hand i) = i < sh.items
+ReadsIn sh (act.Mark i) = i < sh.items
+ReadsIn sh _ = Unit {0}

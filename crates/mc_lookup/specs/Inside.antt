@@ -1,0 +1,3 @@
+pub mod Machine
+pub mod Met
+pub mod Stages

@@ -1,0 +1,3 @@
+pub mod Players
+pub mod Steps
+pub mod Texts

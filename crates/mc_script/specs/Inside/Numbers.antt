@@ -1,0 +1,16 @@
+-- What only private contracts say beside `Numbers`.
+use Rattle.std.specs.Prelude.{ℕ, ◌^◌, ◌==◌, ◌&&◌, Bool, List, ◌∷◌, length, map, nat_lt, Option, Some, None, Result, Ok, Err, if◌then◌else◌}
+use Rattle.std.specs.List.{list_all}
+use Rattle.std.specs.Char.{is_ascii_digit}
+use Rattle.std.specs.Str.Parse.{digits_value}
+use Rattle.mc_script.specs.declared.command.LineFault.{LineFault}
+use Rattle.mc_script.specs.declared.command.LineFault.TheVariants.{NotACommand, BadNumber}
+use Rattle.mc_script.specs.Numbers.{is_number, numbers_in}
+
+abbrev pub number_of : List ℕ → Option ℕ
+number_of word = if is_number word then Some (digits_value 10 word) else None
+
+-- a first number and the others, as one list
+abbrev pub joined : Result (ℕ × List ℕ) LineFault → Result (List ℕ) LineFault
+joined (Ok found) = Ok (found.0 ∷ found.1)
+joined (Err fault) = Err fault
