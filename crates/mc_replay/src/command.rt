@@ -25,10 +25,8 @@ fn put<const V: usize>(
     if player.is_running() {
         return Err(Fault::StillRunning);
     }
-    match player.put(key, value) {
-        Ok(answer) => add_line(text, &AnswerLine(answer)),
-        Err(fault) => Err(fault),
-    }
+    let answer = player.put(key, value)?;
+    add_line(text, &AnswerLine(answer))
 }
 
 /// A whole `remove`.
@@ -39,10 +37,8 @@ fn remove<const V: usize>(player: &mut Player<V>, text: &mut String, key: u64) -
     if player.is_running() {
         return Err(Fault::StillRunning);
     }
-    match player.remove(key) {
-        Ok(answer) => add_line(text, &AnswerLine(answer)),
-        Err(fault) => Err(fault),
-    }
+    let answer = player.remove(key)?;
+    add_line(text, &AnswerLine(answer))
 }
 
 /// A whole look-up by the writer.
@@ -100,10 +96,9 @@ fn act<const V: usize>(player: &mut Player<V>, text: &mut String) -> Result<(), 
     ensures done { OnOk result (ActsOnce V player.old player.new (string_bytes text.old) (string_bytes text.new)) }
     ensures refused { OnErr result (result ≡ Err NoMemory) }
 {
-    match player.act() {
-        Ok(Some(answer)) => add_line(text, &AnswerLine(answer)),
-        Ok(None) => Ok(()),
-        Err(fault) => Err(fault),
+    match player.act()? {
+        Some(answer) => add_line(text, &AnswerLine(answer)),
+        None => Ok(()),
     }
 }
 
@@ -116,10 +111,7 @@ fn acts<const V: usize>(player: &mut Player<V>, text: &mut String, many: u64) ->
         if !player.is_running() {
             return Err(Fault::NothingToStep);
         }
-        match act(player, text) {
-            Ok(()) => {}
-            Err(fault) => return Err(fault),
-        }
+        act(player, text)?;
     }
     Ok(())
 }

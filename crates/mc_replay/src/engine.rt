@@ -81,10 +81,8 @@ fn play_line<const V: usize, R: BufRead, W: Write>(
     if !is_whole {
         return Err(Fault::WriteFailed);
     }
-    match done {
-        Ok(()) => Ok(true),
-        Err(fault) => Err(fault),
-    }
+    done?;
+    Ok(true)
 }
 
 /// Plays the lines one after the other, up to the first that is refused.

@@ -3,7 +3,6 @@ ghost use Rattle.std.specs.Prelude.{◌≡◌, ◌+◌, ◌^◌, ◌-◌, ◌<�
 ghost use Rattle.mc_words.specs.Checks.{shape_of};
 ghost use Rattle.mc_words.specs.Places.{IsWidth};
 ghost use Rattle.mc_theory.specs.Worlds as worlds;
-ghost use Rattle.mc_theory.specs.declared.event.Unlawful.TheVariants as unlawful;
 ghost use Rattle.mc_plan.specs.Clerks.{PutCall, RemoveCall, next_act, acts_left};
 ghost use Rattle.mc_replay.specs.Replay.{Pending, first_replay};
 ghost use Rattle.mc_replay.specs.Scripts.{IsReaders};
@@ -32,15 +31,6 @@ fn bit_in<const V: usize>(given: Stepped<V>) -> u64
         Stepped::Word(bit) => bit,
         Stepped::Nothing | Stepped::Done(_) => 0,
     }
-}
-
-/// An act that is allowed and passes no limit is refused only for want of memory.
-fn fault_of(why: Unlawful) -> Fault
-    requires { why ≡ unlawful.NoMemory }
-    ensures { result ≡ NoMemory }
-{
-    let _ = why;
-    Fault::NoMemory
 }
 
 impl<const V: usize> Player<V> {
@@ -89,7 +79,9 @@ impl<const V: usize> Player<V> {
                     self.clerk.after(&mut &self.world, bit_in(given));
                     Ok(self.clerk.answer())
                 }
-                Err(why) => Err(fault_of(why)),
+                // The act is allowed and passes no limit.
+                Err(Unlawful::NoMemory) => Err(Fault::NoMemory),
+                Err(_) => unreachable!(),
             },
         }
     }
@@ -102,10 +94,8 @@ impl<const V: usize> Player<V> {
         ensures refused { OnErr result (result ≡ Err NoMemory) }
     {
         'acts: loop {
-            match self.act() {
-                Ok(Some(answer)) => return Ok(answer),
-                Ok(None) => {}
-                Err(fault) => return Err(fault),
+            if let Some(answer) = self.act()? {
+                return Ok(answer);
             }
         }
     }
@@ -136,10 +126,7 @@ impl<const V: usize> Player<V> {
     {
         match self.begin_put(key, value) {
             Some(answer) => Ok(answer),
-            None => match self.finish() {
-                Ok(answer) => Ok(answer),
-                Err(fault) => Err(fault),
-            },
+            None => self.finish(),
         }
     }
 
@@ -151,10 +138,7 @@ impl<const V: usize> Player<V> {
     {
         match self.begin_remove(key) {
             Some(answer) => Ok(answer),
-            None => match self.finish() {
-                Ok(answer) => Ok(answer),
-                Err(fault) => Err(fault),
-            },
+            None => self.finish(),
         }
     }
 

@@ -32,10 +32,7 @@ pub(crate) fn begin_get<const V: usize>(
     requires { CanDo V player.old [] }
     ensures { DoesBy V player.old player.new [] result (λ sh s. LookUpDoes sh s reader key) }
 {
-    let reader = match reader_of(player, reader) {
-        Ok(reader) => reader,
-        Err(fault) => return Err(fault),
-    };
+    let reader = reader_of(player, reader)?;
     match player.world.step(Event::Begin(reader, key)) {
         Ok(_) => Ok(()),
         Err(Unlawful::StillRunning) => Err(Fault::StillRunning),
@@ -71,10 +68,7 @@ fn accesses<const V: usize>(
             Err(Unlawful::NotLawful) => return Err(Fault::NothingToStep),
             Err(_) => unreachable!(),
         };
-        match tell_end(text, given) {
-            Ok(()) => {}
-            Err(fault) => return Err(fault),
-        }
+        tell_end(text, given)?;
     }
     Ok(())
 }
@@ -89,8 +83,6 @@ pub(crate) fn reads<const V: usize>(
     requires { CanDo V player.old (string_bytes text.old) }
     ensures { DoesBy V player.old player.new (string_bytes text.new) result (λ sh s. ReadsDo sh s reader many) }
 {
-    match reader_of(player, reader) {
-        Ok(reader) => accesses(player, text, reader, many),
-        Err(fault) => Err(fault),
-    }
+    let reader = reader_of(player, reader)?;
+    accesses(player, text, reader, many)
 }

@@ -7,22 +7,22 @@ use Rattle.mc_replay.specs.declared.player.Player.{Player}
 use Rattle.mc_replay.proofs.CommandLines.{on_ok, runs_in, act_goes_on, act_ends}
 use Rattle.mc_replay.proofs.command.act.Goals as goal
 
-pub returns-in-Ok-Some-clause-done : goal.returns-in-Ok-Some-clause-done
-returns-in-Ok-Some-clause-done g c =
+pub returns-in-Some-clause-done : goal.returns-in-Some-clause-done
+returns-in-Some-clause-done g c =
     let old : Player g.row.V = c.args.player.now in
     let new : Player g.row.V = c.act.new.self in
-    on_ok c.add_line.result (string_bytes c.add_line.new.text ≡ string_bytes c.args.text.now ++ answer_line c.in-Ok-Some.answer) (ActsOnce g.row.V old new (string_bytes c.args.text.now) (string_bytes c.add_line.new.text)) c.add_line.ensures.ok
+    on_ok c.add_line.result (string_bytes c.add_line.new.text ≡ string_bytes c.args.text.now ++ answer_line c.in-Some.answer) (ActsOnce g.row.V old new (string_bytes c.args.text.now) (string_bytes c.add_line.new.text)) c.add_line.ensures.ok
     (λ is most n m p room so_far runs.
     let call = runs_in g.row.V old most n m p room so_far runs in
-    let made = c.in-Ok-Some.ensures.made (most + n) p m.world call.0.0 call.1 in
-    let act = subst (λ (o : Option Answer). MakesAct g.row.V old new (most + n) p m.world o) c.in-Ok-Some.field-0-is made in
-    act_ends g.row.V old new most n m p c.in-Ok-Some.answer (string_bytes c.args.text.now) (string_bytes c.add_line.new.text) room so_far runs act is)
+    let made = c.in_ok-answer.ensures.made (most + n) p m.world call.0.0 call.1 in
+    let act = subst (λ (o : Option Answer). MakesAct g.row.V old new (most + n) p m.world o) c.in-Some.is made in
+    act_ends g.row.V old new most n m p c.in-Some.answer (string_bytes c.args.text.now) (string_bytes c.add_line.new.text) room so_far runs act is)
 
-pub returns-in-Ok-None-clause-done : goal.returns-in-Ok-None-clause-done
-returns-in-Ok-None-clause-done g c = λ most n m p room so_far runs.
+pub returns-in-None-clause-done : goal.returns-in-None-clause-done
+returns-in-None-clause-done g c = λ most n m p room so_far runs.
     let old : Player g.row.V = c.args.player.now in
     let new : Player g.row.V = c.act.new.self in
     let call = runs_in g.row.V old most n m p room so_far runs in
-    let made = c.in-Ok-None.ensures.made (most + n) p m.world call.0.0 call.1 in
-    let act = subst (λ (o : Option Answer). MakesAct g.row.V old new (most + n) p m.world o) c.in-Ok-None.field-0-is made in
+    let made = c.in_ok-answer.ensures.made (most + n) p m.world call.0.0 call.1 in
+    let act = subst (λ (o : Option Answer). MakesAct g.row.V old new (most + n) p m.world o) c.in-None.is made in
     act_goes_on g.row.V old new most n m p (string_bytes c.args.text.now) so_far runs act

@@ -41,9 +41,9 @@ returns-then-not-is_whole-clause-plays g c = λ s fits.
       λ e. absurd (cc e),
     )
 
-pub returns-in-Ok-clause-plays : goal.returns-in-Ok-clause-plays
-returns-in-Ok-clause-plays g c = λ s fits.
-    let did = c.in-Ok.ensures.does s fits in
+pub returns-clause-plays : goal.returns-clause-plays
+returns-clause-plays g c = λ s fits.
+    let did = c.in_ok-done.ensures.does s fits in
     let line = c.read_line.new.line.items in
     let text = string_bytes c.do_line-done.new.text in
     let gives : GivesLine (g.R.Read.remaining c.args.input.now) (g.R.Read.remaining c.read_line.new.reader) line (Ok true) = search rules in
@@ -55,17 +55,18 @@ returns-in-Ok-clause-plays g c = λ s fits.
       λ e. did.2,
     )
 
-pub returns-in-Err-clause-plays : goal.returns-in-Err-clause-plays
-returns-in-Err-clause-plays g c = λ s fits.
-    let did = c.in-Err.ensures.does s fits in
+pub returns-in_err-done-clause-plays : goal.returns-in_err-done-clause-plays
+returns-in_err-done-clause-plays g c = λ s fits.
+    let did = c.in_err-done.ensures.does s fits in
     let line = c.read_line.new.line.items in
     let text = string_bytes c.do_line-done.new.text in
     let gives : GivesLine (g.R.Read.remaining c.args.input.now) (g.R.Read.remaining c.read_line.new.reader) line (Ok true) = search rules in
     let wrote = rw c.as_bytes.ensures.value at c.send-is_whole.ensures.taken in
     let all : c.send-is_whole.result.0 ≡ length text = c.send-is_whole.ensures.all c.if-not-is_whole.false ∙ ap length c.as_bytes.ensures.value in
-    let other : is_wanting (Err c.in-Err.fault) ≡ false = ap is_wanting (sym c.in-Err.is) ∙ sym c.is_wanting.ensures ∙ c.if-is_wanting.false in (
+    let other : is_wanting (Err c.in_err-done.field-0.0) ≡ false = ap is_wanting (sym c.in_err-done.was) ∙ sym c.is_wanting.ensures ∙ c.if-is_wanting.false in
+    let is : c.from_residual.result ≡ Err c.in_err-done.field-0.0 = search rules in (
       did.0,
-      stops_refused g.row.V (shape_in c.args.player.now) c.args.before s did.0 line text c.send-is_whole.result.0 (g.R.Read.remaining c.args.input.now) (g.R.Read.remaining c.read_line.new.reader) (g.W.Write.contents c.args.output.now) (g.W.Write.contents c.send-is_whole.new.to)
-          c.in-Err.fault gives (subst (λ (l : List ℕ). DoesLine g.row.V (shape_in {V = g.row.V} c.args.player.now) c.args.before s l text did.0 (Err c.in-Err.fault)) c.as_slice.ensures.value did.1) (not_wanting c.in-Err.fault other) wrote all,
-      λ e. absurd (cc e),
+      rw is (stops_refused g.row.V (shape_in c.args.player.now) c.args.before s did.0 line text c.send-is_whole.result.0 (g.R.Read.remaining c.args.input.now) (g.R.Read.remaining c.read_line.new.reader) (g.W.Write.contents c.args.output.now) (g.W.Write.contents c.send-is_whole.new.to)
+          c.in_err-done.field-0.0 gives (subst (λ (l : List ℕ). DoesLine g.row.V (shape_in {V = g.row.V} c.args.player.now) c.args.before s l text did.0 (Err c.in_err-done.field-0.0)) c.as_slice.ensures.value did.1) (not_wanting c.in_err-done.field-0.0 other) wrote all),
+      λ e. absurd (cc (is, e)),
     )

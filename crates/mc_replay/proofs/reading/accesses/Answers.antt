@@ -30,7 +30,7 @@ accesses-preserved g c =
           let access = access_done g.row.V (shape_in old) m did.0 c.args.reader c.in-Ok.given steps did.2 true in
           let pushed = accesses_push (shape_in old) c.accesses.counter s m (after_access m did.0) c.args.reader (string_bytes c.accesses.text) (end_text c.in-Ok.given) so_far.1 access in
           let more = reads_more g.row.V mid new most c.args.reader c.accesses.counter m did.0 (sound_of g.row.V mid _ m.world at) (width_of g.row.V mid _ m.running m.world so_far.2.fits) so_far.2 same did.3 did.1 in
-          (after_access m did.0, subst (λ (t : List ℕ). AccessesDo (shape_in old) (c.accesses.counter + 1) s c.args.reader t None (after_access m did.0)) (sym c.in-Ok-tell_end.ensures.ok) (subst (λ (n : ℕ). AccessesDo (shape_in old) n s c.args.reader (string_bytes c.accesses.text ++ end_text c.in-Ok.given) None (after_access m did.0)) (one_more c.accesses.counter) pushed), more);
+          (after_access m did.0, subst (λ (t : List ℕ). AccessesDo (shape_in old) (c.accesses.counter + 1) s c.args.reader t None (after_access m did.0)) (sym c.in_ok-tell_end.ensures.ok) (subst (λ (n : ℕ). AccessesDo (shape_in old) n s c.args.reader (string_bytes c.accesses.text ++ end_text c.in-Ok.given) None (after_access m did.0)) (one_more c.accesses.counter) pushed), more);
     }
 
 pub returns-in-Err-NotLawful : goal.returns-in-Err-NotLawful

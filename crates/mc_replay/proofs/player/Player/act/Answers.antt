@@ -9,12 +9,13 @@ use Rattle.mc_replay.specs.declared.player.Player.{Player}
 use Rattle.mc_replay.proofs.WriterCalls.{may_act, words_after, bit_given_is, made_of, makes_one, call_goes_on, goes_on_as, TellsAs}
 use Rattle.mc_replay.proofs.player.Player.act.Goals as goal
 
-pub fault_of-requires : goal.fault_of-requires
-fault_of-requires g c =
+pub unreachable-requires : goal.unreachable-requires
+unreachable-requires g c =
     let call = c.requires.call in
     let allowed = c.in-Some.ensures.allowed call.1.call call.1.from call.1.acts call.3.on in
     let may = may_act g.row.V c.args.self.now call.0 call.1 call.2 c.in-Some.act call.3 allowed.0 allowed.1 (omega (arith, call.4)) in
-    (c.in-Err.ensures.lawful c.in-Some.act refl may).0
+    let wanting = (c.in-Err.ensures.lawful c.in-Some.act refl may).0 in
+    search rules
 
 pub after-requires : goal.after-requires
 after-requires g c =

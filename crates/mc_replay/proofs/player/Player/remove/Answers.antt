@@ -1,4 +1,5 @@
 use Rattle.std.proofs.Common.{rules, arith}
+use Rattle.std.proofs.lemmas.Result.{IfOk-weaker}
 use Rattle.mc_theory.specs.Lists.{state_of}
 use Rattle.mc_plan.specs.Clerks.{Call, RemoveCall}
 use Rattle.mc_replay.specs.Inside.Players.{shape_in}
@@ -18,11 +19,14 @@ returns-in-Some-clause-made g c = λ most w idle room.
     let begins = c.in-Some.ensures most w idle in
     whole_at_once g.row.V c.args.self.now c.begin_remove.new.self most (RemoveCall c.args.key) w c.in-Some.answer begins.0 begins.1
 
-pub returns-in-Ok-clause-made : goal.returns-in-Ok-clause-made
-returns-in-Ok-clause-made g c = λ most w idle room.
+pub returns-in-None-clause-made : goal.returns-in-None-clause-made
+returns-in-None-clause-made g c =
+    IfOk-weaker c.finish.result _ _
+    (λ a made most w idle room.
     let old : Player g.row.V = c.args.self.now in
     let mid : Player g.row.V = c.begin_remove.new.self in
     let call : Call = RemoveCall c.args.key in
     let begins = c.in-None.ensures most w idle in
-    let done = c.in-Ok.ensures.made most (pending call (state_of g.row.V (shape_in old) w.acts)) w begins.1.0 (omega (arith, begins.1.0.few, room)) in
-    whole_in_time g.row.V old mid c.finish.new.self most call w c.in-Ok.answer begins.0 begins.1.0.few done
+    let done = made most (pending call (state_of g.row.V (shape_in old) w.acts)) w begins.1.0 (omega (arith, begins.1.0.few, room)) in
+    whole_in_time g.row.V old mid c.finish.new.self most call w a begins.0 begins.1.0.few done)
+    c.finish.ensures.made
