@@ -1,6 +1,6 @@
 #!/usr/bin/env bash
 # The cost of a whole call, at 1,024 and at 262,144 buckets: 1,000,000 calls of 2,048 keys, without the time of opening the
-# table.
+# table; and that time.
 #
 # usage: bench/whole_calls.sh [PROGRAM]     PROGRAM: the mcstep to measure; none: crates/mcstep/out/mcstep
 . "$(dirname "$0")/common.sh"
@@ -21,8 +21,11 @@ awk -v calls="$calls" 'BEGIN {
 }' > "$folder/script"
 
 costs=()
+opening=()
 for buckets in 1024 262144; do
     options=(--mix fmix --buckets "$buckets" --items $((3 * buckets)))
     costs+=("$(cost /dev/null "$folder/script" "$calls" "${options[@]}")")
+    opening+=("$(least /dev/null "${options[@]}")")
 done
 compare "a whole call" "${costs[@]}"
+echo "opening the table: ${opening[0]} ms at 1024 buckets, ${opening[1]} ms at 262144"
