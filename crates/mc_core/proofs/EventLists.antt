@@ -40,7 +40,7 @@ Tells {V} w x done = (ended : List (Ended V)) × (x.ended ≡ w.ended ++ ended) 
 tells_none : {V : ℕ} (w x : World V) (done : List (Done V)) → x.ended ≡ w.ended → done ≡ [] → Tells {V = V} w x done
 tells_none {V} w x done same none = ([], same ∙ sym (append-nil w.ended), none)
 
--- an event tells of the look-ups that it ends
+-- an event tells of the lookups that it ends
 event_tells : (V : ℕ) (sh : Shape) (w x : World V) (e : Event) (out : Stepped V) → Steps V sh w e x → Gives {V = V} w e x out → Tells {V = V} w x (done_of {V = V} out)
 event_tells V sh w x (Write a) out s gives = tells_none {V = V} w x (done_of {V = V} out) (ap (λ (y : World V). y.ended) s.2) (ap (λ (o : Stepped V). done_of {V = V} o) gives ∙ act_tells_none V (bit_of w.bits a) a)
 event_tells V sh w x (Begin r k) out s gives = tells_none {V = V} w x (done_of {V = V} out) (ap (λ (y : World V). y.ended) s.3) (ap (λ (o : Stepped V). done_of {V = V} o) gives)

@@ -53,7 +53,7 @@ filled {A} old items len n x e a b =
     let none : take n old ≡ [] = ap (λ ys. take n ys) a ∙ take_none {A = A} n in
     e ∙ ap (λ ys. ys ++ replicate (n - len) x) none ∙ ap (λ m. replicate m x) all
 
--- no reader has a look-up
+-- no reader has a lookup
 idle_both : (V : ℕ) (sh : Shape) (n r : ℕ) → Both (Both (IsRunning V sh)) (slice_get (replicate {A = Option (Reader V)} n None) r) (slice_get (replicate {A = Option Running} n None) r)
 idle_both V sh zero r = tt
 idle_both V sh (suc n) zero = tt

@@ -69,12 +69,12 @@ packed_bits V sh bits n word many all past packed =
           let index : 64 * m + i % 64 ≡ i = parts i m (omega (arith, at)) in
           packed.each (i % 64) (omega arith) ∙ ap (λ (j : ℕ). min 1 (get_or bits j 0)) index ∙ bit_most (get_or bits i 0) (All-get_or IsBit bits i 0 (omega (arith, many, below)) all);
       others = λ b none. elim (cases_lt b 64) [
-          | inl low ↦ packed.each b low ∙ (elim (cases_lt (64 * m + b) sh.items) as (λ c. min 1 (get_or bits (64 * m + b) 0) ≡ 0) [
-              | inl inside ↦ absurd (none (64 * m + b) inside (omega (arith, quotient m b low, past)) (remainder m b low))
-              | inr outside ↦ ap (min 1) (get_or_past bits (64 * m + b) 0 (omega (arith, many, outside)))
-            ])
-          | inr high ↦ packed.past b high
-        ];
+        | inl low ↦ packed.each b low ∙ (elim (cases_lt (64 * m + b) sh.items) as (λ c. min 1 (get_or bits (64 * m + b) 0) ≡ 0) [
+          | inl inside ↦ absurd (none (64 * m + b) inside (omega (arith, quotient m b low, past)) (remainder m b low))
+          | inr outside ↦ ap (min 1) (get_or_past bits (64 * m + b) 0 (omega (arith, many, outside)))
+        ])
+        | inr high ↦ packed.past b high
+      ];
     }
 
 -- the bits that are shown are those of the events

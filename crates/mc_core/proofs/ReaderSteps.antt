@@ -1,4 +1,4 @@
--- A reader of a world begins a look-up, and goes on with it.
+-- A reader of a world begins a lookup, and goes on with it.
 use Rattle.std.proofs.Common.{ℕ, ◌≡◌, ◌+◌, ◌-◌, ◌^◌, ◌<◌, ◌≤◌, List, [], ◌∷◌, ◌++◌, length, Option, Some, None, refl, sym, ◌∙◌, ap, subst, inl, inr, arith}
 use Rattle.std.specs.Prelude.{◌↔◌, IsSome, slice_get, slice_set, unwrap_or}
 use Rattle.std.proofs.lemmas.List.{append_assoc, append-nil}
@@ -32,7 +32,7 @@ use Rattle.mc_core.proofs.PairedLists.{both_set, both_some, both_none, set_there
 use Rattle.mc_lookup.proofs.NextAccess.{next_is_determined, can_end}
 use Rattle.mc_lookup.proofs.StageSteps.{at_stage, both_trans}
 
--- ---- the end of a look-up
+-- ---- the end of a lookup
 over_at : {V : ℕ} (l : Lookup V) (st : Stage) (reply : Reply V) → reply_at {V = V} l st ≡ Some reply → LeftAt V (shape_for {V = V} l) l.key l.tries l.version l.value l.reply st [] reply
 over_at l Over reply e = let is : reply ≡ l.reply = cc in (refl, is)
 over_at l First reply e = absurd (cc (e))
@@ -66,7 +66,7 @@ going_left : {V : ℕ} (l : Lookup V) (reply : Reply V) → reply_now {V = V} l 
 going_left {V} l reply e left = begins_not {V = V} l (next_of {V = V} l) reply (going_at {V = V} l l.stage e) (next_is_determined V l [] reply left)
 
 -- ---- a reader's part
--- what a reader's event leaves of the parts, where only its own look-up and the bits are changed
+-- what a reader's event leaves of the parts, where only its own lookup and the bits are changed
 stand_read : {V : ℕ} (old new : Parts V) (seen : worlds.World V) (r : ℕ) (x : Option (Reader V)) (y : Option Running) (bits : List ℕ → List ℕ) (ended : List (Ended V)) → StandFor {V = V} old seen →
     new.writer ≡ old.writer → new.bits.items ≡ bits old.bits.items → new.readers.items ≡ slice_set old.readers.items r x → new.events ≡ old.events + 1 → Both (IsRunning V (shape_of_parts {V = V} old)) x y →
     StandFor {V = V} new (record { acts = seen.acts; bits = bits seen.bits; readers = slice_set seen.readers r y; ended = ended; events = seen.events + 1 })
@@ -87,7 +87,7 @@ stand_read {V} old new seen r x y bits ended s writer bits_are readers events bo
       within = subst (λ (w : Writer V). w.changes + runs (phase_at w.written w.progress) ≤ (shape_at {V = V} w).limit) (sym writer) s.within;
     }
 
--- the look-up of a reader in memory is one that runs in the world of events
+-- the lookup of a reader in memory is one that runs in the world of events
 pub running_of : {V : ℕ} (old : Parts V) (seen : worlds.World V) (r : ℕ) (reader : Reader V) → StandFor {V = V} old seen → slice_get old.readers.items r ≡ Some (Some reader) → (run : Running) × (slice_get seen.readers r ≡ Some (Some run)) × IsRunning V (shape_of_parts {V = V} old) reader run
 running_of {V} old seen r reader s at =
     let sh = shape_of_parts {V = V} old in
@@ -95,7 +95,7 @@ running_of {V} old seen r reader s at =
     let two = both_some (IsRunning V sh) reader (Some reader) one.0 one.2 refl in
     (two.0, one.1 ∙ ap (λ (o : Option Running). Some o) two.1, two.2)
 
--- and a reader in memory without a look-up has none there
+-- and a reader in memory without a lookup has none there
 pub idle_of : {V : ℕ} (old : Parts V) (seen : worlds.World V) (r : ℕ) → StandFor {V = V} old seen → slice_get old.readers.items r ≡ Some None → slice_get seen.readers r ≡ Some None
 idle_of {V} old seen r s at =
     let sh = shape_of_parts {V = V} old in
@@ -109,7 +109,7 @@ left_more {V} sh reader run a word f next is takes rest reply =
     let same : (run.sofar ++ reading ∷ []) ++ rest ≡ run.sofar ++ reading ∷ rest = append_assoc run.sofar (reading ∷ []) rest in
     subst (λ (rs : List Reading). Left {V = V} next rest reply ↔ IsLookup V sh run.key sh.tries rs reply) (sym same) (both_trans (takes.left f rest reply) (is.left (reading ∷ rest) reply))
 
--- the reading is the one that the look-up has next
+-- the reading is the one that the lookup has next
 reads_next : {V : ℕ} (sh : Shape) (seen : worlds.World V) (reader : Reader V) (run : Running) (a : Access) (word : ℕ) (next : Lookup V) → IsRunning V sh reader run → IsWordOf V sh (state_of V sh seen.acts).words a word → Takes {V = V} reader.lookup a word next → ReadsNext V sh seen run (record { access = a; word = word; front = length seen.acts })
 reads_next {V} sh seen reader run a word next is reads takes =
     let end = can_end V next in
@@ -128,7 +128,7 @@ first_more (x ∷ xs) reading key first events = refl
 pub told_is : {V : ℕ} (r k key : ℕ) (reply : Reply V) (first f last e : ℕ) → k ≡ key → first ≡ f → last ≡ e → ◌≡◌ {A = Done V} (record { reader = r; key = k; reply = reply; first = first; last = last }) (record { reader = r; key = key; reply = reply; first = f; last = e })
 told_is r k key reply first f last e a b c = rw (a, b, c) refl
 
--- the access that ends a look-up
+-- the access that ends a lookup
 pub access_ends : {V : ℕ} (old new : Parts V) (seen : worlds.World V) (r : ℕ) (reader : Reader V) (a : Access) (word : ℕ) (next : Lookup V) (reply : Reply V) (done : Done V) (mid : List (Option (Reader V))) → StandFor {V = V} old seen → slice_get old.readers.items r ≡ Some (Some reader) → old.events < 2 ^ 64 - 1 →
     IsWordOf V (shape_of_parts {V = V} old) (words_at {V = V} old.writer) a word → Takes {V = V} reader.lookup a word next → reply_now {V = V} next ≡ Some reply →
     done ≡ record { reader = r; key = next.key; reply = reply; first = unwrap_or reader.first old.events; last = old.events } →
@@ -152,7 +152,7 @@ access_ends {V} old new seen r reader a word next reply done mid s at below read
       stand_read {V = V} old new seen r None None (λ bs. bits_read bs a) (seen.ended ++ ended ∷ []) s writer bits (readers ∙ ap (λ rs. slice_set rs r None) kept) events tt,
     )
 
--- an access after which the look-up goes on
+-- an access after which the lookup goes on
 pub access_goes_on : {V : ℕ} (old new : Parts V) (seen : worlds.World V) (r : ℕ) (reader : Reader V) (a : Access) (word : ℕ) (next : Lookup V) (after : Reader V) (mid : List (Option (Reader V))) → StandFor {V = V} old seen → slice_get old.readers.items r ≡ Some (Some reader) → old.events < 2 ^ 64 - 1 →
     IsWordOf V (shape_of_parts {V = V} old) (words_at {V = V} old.writer) a word → Takes {V = V} reader.lookup a word next → reply_now {V = V} next ≡ None →
     after.lookup ≡ next → after.first ≡ Some (unwrap_or reader.first old.events) →
@@ -183,7 +183,7 @@ access_goes_on {V} old new seen r reader a word next after mid s at below reads 
       stand_read {V = V} old new seen r (Some after) (Some more) (λ bs. bits_read bs a) seen.ended s writer bits (readers ∙ ap (λ rs. slice_set rs r (Some after)) kept) events running,
     )
 
--- the beginning of a look-up
+-- the beginning of a lookup
 pub begins : {V : ℕ} (old new : Parts V) (seen : worlds.World V) (r key : ℕ) (after : Reader V) → StandFor {V = V} old seen → slice_get seen.readers r ≡ Some None → key < 2 ^ 64 → old.events < 2 ^ 64 - 1 →
     shape_for {V = V} after.lookup ≡ shape_of_parts {V = V} old → after.lookup.key ≡ key → ((rs : List Reading) (reply : Reply V) → Left {V = V} after.lookup rs reply ↔ IsLookup V (shape_of_parts {V = V} old) key (shape_of_parts {V = V} old).tries rs reply) → IsSome (next_of {V = V} after.lookup) → after.first ≡ None →
     new.writer ≡ old.writer → new.bits.items ≡ old.bits.items → new.readers.items ≡ slice_set old.readers.items r (Some after) → new.events ≡ old.events + 1 →

@@ -10,4 +10,3 @@ pub record HasBits (V : ℕ) (sh : Shape) (bits : List ℕ) (place word : ℕ) :
   pub small : word < 2 ^ 64
   pub each : (i : ℕ) → i < sh.items → recency_place V sh i ≡ place → bit_at word (recency_bit i) ≡ slice_index bits i
   pub others : (b : ℕ) → ((i : ℕ) → i < sh.items → recency_place V sh i ≡ place → recency_bit i ≢ b) → bit_at word b ≡ 0
-

@@ -17,7 +17,7 @@ use Rattle.mc_theory.specs.declared.event.Event.{Event}
 use Rattle.mc_theory.specs.declared.event.Event.TheVariants as event
 use Rattle.mc_core.specs.declared.reader.Reader.{Reader}
 
--- what callers see of a world: of its readers those whose look-up runs, and how many events were counted
+-- what callers see of a world: of its readers those whose lookup runs, and how many events were counted
 pub record Shown (V : ℕ) : Type 0 where
   pub shape : Shape
   pub state : State V
@@ -31,7 +31,7 @@ Both R None None = Unit {0}
 Both R (Some a) (Some b) = R a b
 Both R _ _ = ⊥
 
--- the look-up of a reader is one that runs: what is left of it are the readings that make a look-up after those so far
+-- the lookup of a reader is one that runs: what is left of it are the readings that make a lookup after those so far
 pub record IsRunning (V : ℕ) (sh : Shape) (r : Reader V) (run : worlds.Running) : Type 0 where
   pub shape : shape_for r.lookup ≡ sh
   pub key : r.lookup.key ≡ run.key
@@ -39,7 +39,7 @@ pub record IsRunning (V : ℕ) (sh : Shape) (r : Reader V) (run : worlds.Running
   pub first : (events : ℕ) → unwrap_or r.first events ≡ worlds.first_read events run
   pub more : IsSome (next_of r.lookup)
 
--- the writer's state is that of the acts so far, which are lawful, and each reader's look-up is the one that runs
+-- the writer's state is that of the acts so far, which are lawful, and each reader's lookup is the one that runs
 pub record Shows {V : ℕ} (shown : Shown V) (seen : worlds.World V) : Type 0 where
   pub lawful : IsLawful V shown.shape seen.acts
   pub state : shown.state ≡ state_of V shown.shape seen.acts
@@ -55,4 +55,3 @@ MayAct s a = IsAllowed s.shape s.state a × HasChanges s.shape.limit s.state.cha
 abbrev pub state_after : {V : ℕ} → Shown V → Event → State V
 state_after s (event.Write a) = after_act s.shape s.state a (bit_of s.bits a)
 state_after s _ = s.state
-

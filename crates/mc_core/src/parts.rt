@@ -16,7 +16,7 @@ pub(crate) struct Parts<const V: usize> {
     pub(crate) writer: Writer<V>,
     /// The recency bits, by item.
     pub(crate) bits: Vec<u64>,
-    /// For each reader, its look-up while one runs.
+    /// For each reader, its lookup while one runs.
     pub(crate) readers: Vec<Option<Reader<V>>>,
     pub(crate) events: u64,
     ghost marked: { length bits.items ≡ (shape_at writer).items },

@@ -1,6 +1,6 @@
 use mc_lookup::Lookup;
 
-/// The look-up that a reader runs.
+/// The lookup that a reader runs.
 #[derive(Clone, Copy)]
 pub(crate) struct Reader<const V: usize> {
     pub(crate) lookup: Lookup<V>,

@@ -51,7 +51,7 @@ impl<const V: usize> World<V> {
     ghost use Rattle.mc_theory.specs.declared.event.Unlawful.TheVariants as unlawful;
     ghost use Rattle.mc_core.specs.declared.world.WorldError.TheVariants as error;
 
-    /// A new world with so many readers: nothing was written, and no look-up runs.
+    /// A new world with so many readers: nothing was written, and no lookup runs.
     pub fn new(alloc: Global, checked: &Checked, readers: u32) -> Result<World<V>, WorldError>
         requires { IsWidth V }
         ensures ok { IfOk result (λ w. (w.shape ≡ shape_of checked.now) × Shows {V = V} w (worlds.first_world V (shape_of checked.now) readers)) }
@@ -81,7 +81,7 @@ impl<const V: usize> World<V> {
         self.parts.step(event)
     }
 
-    /// Does nothing. Every world stands as some events leave it, from a new one on, whose look-ups replied truly.
+    /// Does nothing. Every world stands as some events leave it, from a new one on, whose lookups replied truly.
     pub fn reached(&self)
         ensures shape { IsShape self.now.shape }
         ensures events { (seen : worlds.World V) × worlds.IsReached V self.now.shape seen × Shows {V = V} self.now seen × All (worlds.IsTrueEnd V self.now.shape seen) seen.ended }

@@ -30,7 +30,10 @@ impl Display for Refusal {
             ShapeError::Items => {
                 write!(f, "refused: items must be from 1 to four times the buckets")
             }
-            ShapeError::Stripes => write!(f, "refused: stripes must be a power of two from 1 to 65536"),
+            ShapeError::Stripes => write!(
+                f,
+                "refused: stripes must be a power of two from 1 to 65536"
+            ),
             ShapeError::Depth => write!(f, "refused: depth must be from 0 to 8"),
             ShapeError::Tries => write!(f, "refused: tries must be from 1 to 64"),
             ShapeError::Limit => write!(f, "refused: limit must be from 0 to 4611686018427387904"),

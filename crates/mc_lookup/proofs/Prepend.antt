@@ -1,4 +1,4 @@
--- From what is left of a look-up after a reading to what was left before it.
+-- From what is left of a lookup after a reading to what was left before it.
 use Rattle.std.proofs.Common.{ℕ, suc, ◌≡◌, ◌+◌, ◌%◌, List, [], ◌∷◌, ◌++◌, length, Option, Some, None, refl, sym, ◌∙◌, ap, subst, inl, inr, arith}
 use Rattle.std.proofs.lemmas.List.{append_assoc, length_push}
 use Rattle.mc_theory.specs.Lookups.{IsLookup, Meets, ReadsHit, Scans, Tries, slots_for}

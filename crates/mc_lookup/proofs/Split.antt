@@ -1,4 +1,4 @@
--- From what was left of a look-up to its next reading, and to what is left after it.
+-- From what was left of a lookup to its next reading, and to what is left after it.
 use Rattle.std.proofs.Common.{ℕ, suc, ◌≡◌, ◌≢◌, ◌+◌, ◌%◌, ◌⊎◌, List, [], ◌∷◌, ◌++◌, length, Option, Some, None, refl, sym, ◌∙◌, ap, subst, inl, inr, arith}
 use Rattle.std.proofs.lemmas.List.{append_assoc, append-nil, length_push}
 use Rattle.mc_theory.specs.Lookups.{IsLookup, Marks, Meets, ReadsHit, ReadsValues, Tries, reply_of, slots_for}

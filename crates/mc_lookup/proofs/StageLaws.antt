@@ -1,4 +1,4 @@
--- What is left of a look-up before a reading is that reading and what is left after it: one law a stage.
+-- What is left of a lookup before a reading is that reading and what is left after it: one law a stage.
 use Rattle.std.proofs.Common.{ℕ, suc, ◌≡◌, ◌≢◌, ◌%◌, ◌<◌, List, [], ◌∷◌, ◌++◌, length, Option, Some, None, refl, sym, ◌∙◌, ap, subst, inl, inr, arith}
 use Rattle.std.specs.Prelude.{◌↔◌}
 use Rattle.std.proofs.lemmas.List.{append-nil, length-append, length_push}

@@ -1,4 +1,4 @@
--- A reading leads from one stage of a look-up to the next: what is left before it is that reading and what is left after it.
+-- A reading leads from one stage of a lookup to the next: what is left before it is that reading and what is left after it.
 use Rattle.std.proofs.Common.{ℕ, zero, suc, ◌≡◌, ◌≢◌, ◌+◌, ◌*◌, ◌%◌, ◌-◌, ◌<◌, ◌≤◌, List, [], ◌∷◌, ◌++◌, length, take, drop, Some, None, refl, sym, ◌∙◌, ap, subst, inl, inr, arith, length-set}
 use Rattle.std.proofs.lemmas.Bool.{cases_lt, cond_below, cond_above}
 use Rattle.std.specs.Prelude.{◌↔◌, slice_set, IfSome}
@@ -27,7 +27,7 @@ use Rattle.mc_lookup.proofs.StageLaws.{feed_even, feed_odd, feed_other, feed_mee
 pub both_trans : {A B C : Type 0} → A ↔ B → B ↔ C → A ↔ C
 both_trans p q = (λ a. q.0 (p.0 a), λ c. p.1 (q.1 c))
 
--- from the stages before and after a reading to the look-ups
+-- from the stages before and after a reading to the lookups
 pub takes_at : {V : ℕ} (old new : Lookup V) (st after : Stage) (a : Access) (w : ℕ) → old.stage ≡ st → new.stage ≡ after → new.checked ≡ old.checked → new.key ≡ old.key →
     ((f : ℕ) (rs : List Reading) (reply : Reply V) → LeftAt V (shape_for {V = V} old) old.key new.tries new.version new.value new.reply after rs reply ↔ LeftAt V (shape_for {V = V} old) old.key old.tries old.version old.value old.reply st (record { access = a; word = w; front = f } ∷ rs) reply) →
     steps_at V new.tries after < steps_at V old.tries st → Takes {V = V} old a w new
@@ -147,7 +147,7 @@ pub steps_try : (V t : ℕ) → 0 < t → (t - 1) * (19 + V) + (19 + V) ≡ t * 
 steps_try V zero l = absurd (omega arith)
 steps_try V (suc t) l = let e : suc t - 1 ≡ t = omega arith in rw e (grind arith)
 
--- what is left at the stage of a look-up
+-- what is left at the stage of a lookup
 pub at_stage : {V : ℕ} (l : Lookup V) (st : Stage) (rs : List Reading) (reply : Reply V) → l.stage ≡ st → LeftAt V (shape_for {V = V} l) l.key l.tries l.version l.value l.reply st rs reply ↔ Left {V = V} l rs reply
 unfolding Left
 at_stage {V} l st rs reply e =

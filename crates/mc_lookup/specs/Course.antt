@@ -1,4 +1,4 @@
--- What is left of a look-up begins with the access that comes next, and there is always a way to its end.
+-- What is left of a lookup begins with the access that comes next, and there is always a way to its end.
 use Rattle.std.specs.Prelude.{ℕ, ◌≡◌, List, [], ◌∷◌, Option, Some, None}
 use Rattle.mc_words.specs.declared.history.Reply.{Reply}
 use Rattle.mc_lookup.specs.Machine.{next_of, shape_for, Left}
@@ -7,12 +7,12 @@ use Rattle.mc_theory.specs.Writes.{IsAccess}
 use Rattle.mc_theory.specs.declared.access.Access.{Access}
 use Rattle.mc_lookup.specs.declared.lookup.Lookup.{Lookup}
 
--- the readings begin with one by this access; where there is none, they are none, and the reply is that of the look-up
+-- the readings begin with one by this access; where there is none, they are none, and the reply is that of the lookup
 abbrev pub BeginsWith : {V : ℕ} → Lookup V → Option Access → List Reading → Reply V → Type 0
 BeginsWith l (Some a) rs reply = (r : Reading) × (more : List Reading) × (rs ≡ r ∷ more) × (r.access ≡ a)
 BeginsWith l None rs reply = (rs ≡ []) × (reply ≡ l.reply)
 
--- the access that comes next is the only one with which the look-up can go on
+-- the access that comes next is the only one with which the lookup can go on
 abbrev pub NextIsDetermined : ℕ → Type 0
 NextIsDetermined V = (l : Lookup V) (rs : List Reading) (reply : Reply V) → Left l rs reply → BeginsWith l (next_of l) rs reply
 
@@ -20,6 +20,6 @@ NextIsDetermined V = (l : Lookup V) (rs : List Reading) (reply : Reply V) → Le
 abbrev pub NextIsInTable : ℕ → Type 0
 NextIsInTable V = (l : Lookup V) (a : Access) → next_of l ≡ Some a → IsAccess V (shape_for l) a
 
--- some readings end the look-up
+-- some readings end the lookup
 abbrev pub CanEnd : ℕ → Type 0
 CanEnd V = (l : Lookup V) → (rs : List Reading) × (reply : Reply V) × Left l rs reply

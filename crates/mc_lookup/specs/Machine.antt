@@ -1,4 +1,4 @@
--- The reader's machine: what it reads next, and what is left of its look-up.
+-- The reader's machine: what it reads next, and what is left of its lookup.
 use Rattle.std.specs.Prelude.{ℕ, ◌≡◌, ◌+◌, ◌-◌, ◌*◌, ◌<◌, ◌≤◌, ◌⊎◌, ◌↔◌, nat_lt, if◌then◌else◌, List, [], ◌∷◌, take, drop, Option, Some, None}
 use Rattle.mc_words.specs.Checks.{shape_of}
 use Rattle.mc_words.specs.declared.history.Reply.{Reply}
@@ -36,7 +36,7 @@ next_at l (Last hit at) = Some (access.Version l.stripe)
 next_at l (Mark i) = Some (access.Mark i)
 next_at l Over = None
 
--- the access that the look-up makes next
+-- the access that the lookup makes next
 abbrev pub next_of : {V : ℕ} → Lookup V → Option Access
 next_of l = next_at l l.stage
 
@@ -81,7 +81,7 @@ LeftAt V sh k t x v told (Last hit at) rs reply = RestLast V sh k t x hit (value
 LeftAt V sh k t x v told (Mark i) rs reply = Marks (Some i) rs × (reply ≡ told)
 LeftAt V sh k t x v told Over rs reply = (rs ≡ []) × (reply ≡ told)
 
--- these readings are left of the look-up, and this is what it then replies
+-- these readings are left of the lookup, and this is what it then replies
 unfoldable pub Left : {V : ℕ} → Lookup V → List Reading → Reply V → Type 0
 Left {V} l rs reply = LeftAt V (shape_for l) l.key l.tries l.version l.value l.reply l.stage rs reply
 
@@ -101,14 +101,13 @@ steps_at V t (Mark i) = 1
 steps_at V t Over = 0
 steps_at V t stage = steps_of_try V stage + t * (19 + V) + 1
 
--- how many accesses the look-up makes at most before it has its reply
+-- how many accesses the lookup makes at most before it has its reply
 abbrev pub steps_left : {V : ℕ} → Lookup V → ℕ
 steps_left {V} l = steps_at V l.tries l.stage
 
--- a reading of this word, by this access, leads from one look-up to the other: what is left of the first is that reading and what is left of the second
+-- a reading of this word, by this access, leads from one lookup to the other: what is left of the first is that reading and what is left of the second
 pub record Takes {V : ℕ} (old : Lookup V) (a : Access) (word : ℕ) (new : Lookup V) : Type 0 where
   pub shape : new.checked ≡ old.checked
   pub key : new.key ≡ old.key
   pub left : (f : ℕ) (rs : List Reading) (reply : Reply V) → Left new rs reply ↔ Left old (record { access = a; word = word; front = f } ∷ rs) reply
   pub fewer : steps_left new < steps_left old
-

@@ -1,12 +1,12 @@
 //! The laws of the lookup machine, one function each. A body does nothing: what it ensures is the law.
 ghost use Rattle.mc_lookup.specs.Course.{CanEnd, NextIsDetermined, NextIsInTable};
 
-/// The access that a look-up asks for is the only one with which it can go on.
+/// The access that a lookup asks for is the only one with which it can go on.
 pub fn next_is_determined<const V: usize>()
     ensures { NextIsDetermined V }
 {}
 
-/// Every look-up can be ended by some readings.
+/// Every lookup can be ended by some readings.
 pub fn lookups_can_end<const V: usize>()
     ensures { CanEnd V }
 {}

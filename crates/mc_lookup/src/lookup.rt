@@ -10,7 +10,7 @@ use mc_words::{Checked, Reply};
 
 mod stages;
 
-/// A look-up of one key. It is asked what to read `next` and told the word that was read there, until it has its reply.
+/// A lookup of one key. It is asked what to read `next` and told the word that was read there, until it has its reply.
 #[derive(Clone, Copy)]
 pub struct Lookup<const V: usize> {
     checked: Checked,
@@ -49,7 +49,7 @@ impl<const V: usize> Lookup<V> {
     ghost use Rattle.mc_lookup.specs.Machine.{shape_for, stage_of, next_of, reply_now, Left, Takes, steps_left};
     ghost use Rattle.mc_theory.specs.declared.access.Access.{Access};
 
-    /// The look-up of a key, with nothing read yet.
+    /// The lookup of a key, with nothing read yet.
     pub fn begin(checked: &Checked, key: u64) -> Lookup<V>
         requires { IsWidth V }
         ensures shape { shape_for {V = V} result ≡ shape_of checked.now }
@@ -90,14 +90,14 @@ impl<const V: usize> Lookup<V> {
         self.stripe
     }
 
-    /// Where the look-up stands.
+    /// Where the lookup stands.
     pub fn stage(&self) -> Stage
         ensures { result ≡ stage_of {V = V} self.now }
     {
         self.stage
     }
 
-    /// The access that comes next, until the look-up has its reply.
+    /// The access that comes next, until the lookup has its reply.
     pub fn next(&self) -> Option<Access>
         ensures next { result ≡ next_of {V = V} self.now }
         ensures range { IfSome result (λ (a : Access). IsAccess V (shape_for {V = V} self.now) a) }

@@ -1,4 +1,4 @@
-/// Where a look-up stands: what it reads next.
+/// Where a lookup stands: what it reads next.
 #[derive(Clone, Copy, Debug, PartialEq, Eq)]
 pub enum Stage {
     /// The version, at the start of a try.
@@ -15,6 +15,6 @@ pub enum Stage {
     Last(Option<u32>, u64),
     /// Nothing: the bit of the item at which the key was found is to be set.
     Mark(u32),
-    /// Nothing: the look-up has its reply.
+    /// Nothing: the lookup has its reply.
     Over,
 }

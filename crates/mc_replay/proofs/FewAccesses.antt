@@ -1,4 +1,4 @@
--- How many accesses a reader makes of one look-up.
+-- How many accesses a reader makes of one lookup.
 use Rattle.std.proofs.Common.{◌≡◌, ℕ, ◌+◌, ◌*◌, ◌<◌, ◌≤◌, List, [], ◌∷◌, ◌++◌, Some, None, sym, ap, ◌∙◌, inl, inr, arith, length, length-append}
 use Rattle.std.specs.Prelude.{slice_get}
 use Rattle.mc_words.specs.Places.{payload, IsWidth}
@@ -19,7 +19,7 @@ width_is : (V : ℕ) → IsWidth V → payload V ≤ 8
 unfolding payload
 width_is V width = width.most
 
--- the readings of a look-up are few
+-- the readings of a lookup are few
 few_readings : (V : ℕ) (sh : Shape) (k : ℕ) (rs : List Reading) (reply : Reply V) → IsShape sh → IsWidth V → sh.tries ≤ 64 → length rs ≤ sh.tries * (19 + payload V) + 1 → length rs ≤ most_accesses
 few_readings V sh k rs reply sound width tries few =
     let wide = width_is V width in
@@ -36,7 +36,7 @@ sofar_few V sh w run reading sound width next =
 same_run : (a b : Running) → Some (Some a) ≡ Some (Some b) → a ≡ b
 same_run a b e = cc
 
--- each access is one more of the look-up that runs, and there are not many
+-- each access is one more of the lookup that runs, and there are not many
 pub made_more : (V : ℕ) (sh : Shape) (w x : World V) (r n : ℕ) → IsShape sh → IsWidth V → Steps V sh w (event.Read r) x → HasMade w r n → HasMade x r (n + 1) × (n < most_accesses)
 made_more V sh w x r n sound width steps made =
     let run = steps.0 in

@@ -106,7 +106,7 @@ fits_more V player most more running w le fits = go running fits
     go None fits = record { at = wider fits.at; knows = fits.knows }
     go (Some p) fits = (record { at = wider fits.0.at; on = fits.0.on; now = fits.0.now; few = fits.0.few }, fits.1)
 
--- ---- a look-up begins
+-- ---- a lookup begins
 pub look_up_begins : (V : ℕ) (old new : Player V) (most r k : ℕ) (s : Replay V) (x : World V) → Fits V old most s → r < old.readers → SameWriter V old new → Shows {V = V} new.world x → Steps V (shape_in old) s.world (event.Begin r k) x
     → (t : Replay V) × LookUpDoes (shape_in old) s r k [] None t × Fits V new (most + most_steps) t
 look_up_begins V old new most r k s x fits there same shows steps =
@@ -133,14 +133,14 @@ after_access s x = record { world = x; running = s.running }
 ended_none : (run other : Running) → Some None ≡ Some (Some run) → ⊥
 ended_none run other e = absurd (cc (e))
 
--- an access that gave a word ended no look-up
+-- an access that gave a word ended no lookup
 told_nothing : (V : ℕ) (sh : Shape) (w x : World V) (r n : ℕ) → Steps V sh w (event.Read r) x → Gives {V = V} w (event.Read r) x (stepped.Word n) → x.ended ≡ w.ended
 told_nothing V sh w x r n steps gives = elim steps.5 [
   | inl ends ↦ absurd (ended_none gives.0 gives.0 (sym (ap (λ (y : World V). slice_get y.readers r) ends.2 ∙ set_there w.readers r None (Some steps.0) steps.2) ∙ gives.3))
   | inr on ↦ ap (λ (y : World V). y.ended) on.1
 ]
 
--- the look-up that ended last is among those that have ended
+-- the lookup that ended last is among those that have ended
 last_ended : (V : ℕ) (sh : Shape) (w x : World V) (e : Ended V) → x.ended ≡ w.ended ++ e ∷ [] → All (IsTrueEnd V sh x) x.ended → IsTrueEnd V sh x e
 last_ended V sh w x e is true = All-head (IsTrueEnd V sh x) e [] (subst (All (IsTrueEnd V sh x)) (drop-append_seam w.ended (e ∷ [])) (All-drop (IsTrueEnd V sh x) (length w.ended) (w.ended ++ e ∷ []) (subst (All (IsTrueEnd V sh x)) is true)))
 

@@ -1,4 +1,4 @@
--- Steps of a call or of a look-up, one after the other.
+-- Steps of a call or of a lookup, one after the other.
 use Rattle.std.proofs.Common.{◌≡◌, ℕ, zero, suc, ◌+◌, ◌-◌, ◌<◌, List, [], ◌++◌, Some, None, refl, sym, ap, ◌∙◌, subst, inl, inr, append_assoc, append-nil, arith}
 use Rattle.std.specs.Prelude.{slice_get}
 use Rattle.mc_words.specs.declared.shape.Shape.{Shape}

@@ -347,7 +347,7 @@ agrees_now V player most w sh idle same =
     let here : Agrees V sh s.words None s.history = subst (λ (y : Shape). Agrees V y s.words None s.history) (idle.at.shape ∙ sym same) none in
     subst (λ (x : State V). Agrees V sh x.words None s.history) (sym idle.at.world.state) here
 
--- the writer's look-up found the key
+-- the writer's lookup found the key
 pub looks_found : (V : ℕ) (player : Player V) (most k i at q : ℕ) (v : List ℕ) (w : World V) (sh : Shape) → IsIdle V player most w → sh ≡ shape_in player → held (state_of V (shape_in player) w.acts).history k ≡ Some v → at ≡ moment player.world.state.words → Stands V sh player.world.state.words k q i
     → LooksUp {V = V} (shape_in player) (state_of V (shape_in player) w.acts) k (Found v at) (record { act = Mark i; bit = 0 } ∷ [])
 looks_found V player most k i at q v w sh idle same value is stands =

@@ -76,14 +76,14 @@ BeginDoes {V} sh s call text fault t =
     ((text ≡ []) × (t ≡ record { world = s.world; running = Some (pending call (state_now sh s)) }) × IsUnanswered V sh (pending call (state_now sh s)))
     )
 
--- what the writer's look-up replies, and the mark that it makes of the key's item
+-- what the writer's lookup replies, and the mark that it makes of the key's item
 abbrev pub LooksUp : {V : ℕ} → Shape → State V → ℕ → Reply V → List Made → Type 0
 LooksUp {V} sh s k (Found v at) acts =
     Finds V (quiet_of s) (quiet_of s) k v at × ((q : ℕ) × (i : ℕ) × Stands V sh s.words k q i × (acts ≡ record { act = Mark i; bit = 0 } ∷ []))
 LooksUp {V} sh s k (Absent at) acts = Misses V (quiet_of s) (quiet_of s) k at × (acts ≡ [])
 LooksUp sh s k Busy acts = ⊥
 
--- a whole look-up by the writer
+-- a whole lookup by the writer
 abbrev pub GetDoes : {V : ℕ} → Shape → Replay V → ℕ → List ℕ → Option Fault → Replay V → Type 0
 GetDoes {V} sh s k text fault t =
     WhereIdle s text fault t (
@@ -109,11 +109,11 @@ ActsDo {V} sh (suc n) s text fault t =
     ((s.running ≡ None) × (text ≡ []) × (fault ≡ Some NothingToStep) × (t ≡ s)) ⊎
     ((p : Pending V) × (m : Replay V) × (first : List ℕ) × (rest : List ℕ) × (s.running ≡ Some p) × ActDoes sh s p first m × ActsDo sh n m rest fault t × (text ≡ first ++ rest))
 
--- what is written after an access: nothing, or the line of the look-up that it ended, whose reply is true of the history at a moment of its span
+-- what is written after an access: nothing, or the line of the lookup that it ended, whose reply is true of the history at a moment of its span
 abbrev pub IsTold : {V : ℕ} → Shape → World V → World V → List ℕ → Type 0
 IsTold {V} sh w x text = ((x.ended ≡ w.ended) × (text ≡ [])) ⊎ ((e : Ended V) × (x.ended ≡ w.ended ++ e ∷ []) × IsTrueEnd V sh x e × (text ≡ done_line e.told))
 
--- one access of a reader's look-up; after its last access the look-up is told
+-- one access of a reader's lookup; after its last access the lookup is told
 pub record AccessDoes (V : ℕ) (sh : Shape) (s : Replay V) (r : ℕ) (text : List ℕ) (t : Replay V) : Type 0 where
   pub steps : Steps V sh s.world (event.Read r) t.world
   pub told : IsTold sh s.world t.world text
@@ -131,7 +131,7 @@ abbrev pub OfReader : {V : ℕ} → Replay V → ℕ → List ℕ → Option Fau
 OfReader s r text fault t P =
     ((r < length s.world.readers) × P) ⊎ ((length s.world.readers ≤ r) × (fault ≡ Some NoSuchReader) × (text ≡ []) × (t ≡ s))
 
--- a reader begins a look-up, unless it runs one
+-- a reader begins a lookup, unless it runs one
 abbrev pub LookUpDoes : {V : ℕ} → Shape → Replay V → ℕ → ℕ → List ℕ → Option Fault → Replay V → Type 0
 LookUpDoes {V} sh s r k text fault t =
     OfReader s r text fault t ((text ≡ []) × (

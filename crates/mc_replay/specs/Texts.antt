@@ -37,7 +37,7 @@ reply_text (Found value at) = codes "found" ++ words_text value ++ codes " at " 
 reply_text (Absent at) = codes "absent at " ++ decimal at
 reply_text Busy = codes "busy"
 
--- a reader's look-up that has ended
+-- a reader's lookup that has ended
 abbrev pub done_text : {V : ℕ} → Done V → List ℕ
 done_text done = codes "reader " ++ decimal done.reader ++ codes " " ++ reply_text done.reply
 
@@ -53,4 +53,3 @@ reply_line reply = line (reply_text reply)
 
 abbrev pub done_line : {V : ℕ} → Done V → List ℕ
 done_line done = line (done_text done)
-

@@ -41,7 +41,7 @@ fn remove<const V: usize>(player: &mut Player<V>, text: &mut String, key: u64) -
     add_line(text, &AnswerLine(answer))
 }
 
-/// A whole look-up by the writer.
+/// A whole lookup by the writer.
 fn get<const V: usize>(player: &mut Player<V>, text: &mut String, key: u64) -> Result<(), Fault>
     requires { CanDo V player.old (string_bytes text.old) }
     ensures { DoesBy V player.old player.new (string_bytes text.new) result (λ sh s. GetDoes sh s key) }

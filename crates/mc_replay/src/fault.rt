@@ -29,7 +29,7 @@ pub struct Stop {
 /// The line at which a script stopped, numbered from 1, and the number of the fault. Line 0: no line was read.
 ///
 /// 1 the input failed, 2 memory was refused, 3 the line is too long, 4 it is no command, 5 a word of it is no number,
-/// 6 there is no such reader, 7 a call or a look-up still runs, 8 none runs, 9 the output failed. At line 0, 6 says that
+/// 6 there is no such reader, 7 a call or a lookup still runs, 8 none runs, 9 the output failed. At line 0, 6 says that
 /// there are not from 1 to 1024 readers.
 #[derive(Clone, Copy, Debug, PartialEq, Eq)]
 pub struct ReplayError {

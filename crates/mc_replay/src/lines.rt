@@ -68,7 +68,7 @@ impl<'a> fmt::Display for Words<'a> {
     }
 }
 
-/// The line of a look-up's reply, without its end.
+/// The line of a lookup's reply, without its end.
 #[derive(Clone, Copy)]
 pub(crate) struct ReplyLine<const V: usize>(pub(crate) Reply<V>);
 
@@ -87,7 +87,7 @@ impl<const V: usize> fmt::Display for ReplyLine<V> {
     }
 }
 
-/// The line of a reader's look-up that has ended, without its end.
+/// The line of a reader's lookup that has ended, without its end.
 #[derive(Clone, Copy)]
 pub(crate) struct DoneLine<const V: usize>(pub(crate) Done<V>);
 

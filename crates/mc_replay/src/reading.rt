@@ -23,7 +23,7 @@ fn reader_of<const V: usize>(player: &Player<V>, reader: u64) -> Result<u32, Fau
     }
 }
 
-/// A reader begins a look-up.
+/// A reader begins a lookup.
 pub(crate) fn begin_get<const V: usize>(
     player: &mut Player<V>,
     reader: u64,
@@ -40,7 +40,7 @@ pub(crate) fn begin_get<const V: usize>(
     }
 }
 
-/// Adds the line of a look-up that has ended.
+/// Adds the line of a lookup that has ended.
 fn tell_end<const V: usize>(text: &mut String, given: Stepped<V>) -> Result<(), Fault>
     ensures ok { OnOk result (string_bytes text.new ≡ string_bytes text.old ++ end_text given.entry) }
     ensures err { OnErr result (result ≡ Err NoMemory) }
@@ -51,7 +51,7 @@ fn tell_end<const V: usize>(text: &mut String, given: Stepped<V>) -> Result<(), 
     }
 }
 
-/// So many accesses of a reader, up to the last of its look-up.
+/// So many accesses of a reader, up to the last of its lookup.
 fn accesses<const V: usize>(
     player: &mut Player<V>,
     text: &mut String,

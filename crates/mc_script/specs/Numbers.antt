@@ -15,4 +15,3 @@ unfoldable pub numbers_in : ℕ → List (List ℕ) → Result (List ℕ) LineFa
 numbers_in n words =
     if length words == n then (if list_all is_number words then Ok (map (digits_value 10) words) else Err BadNumber)
     else Err NotACommand
-

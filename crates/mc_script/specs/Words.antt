@@ -20,4 +20,3 @@ words_within (suc n) (b ∷ bytes) =
 
 abbrev pub words_of : List ℕ → List (List ℕ)
 words_of bytes = words_within (length bytes) bytes
-

@@ -22,4 +22,3 @@ IsPlacedAt V sh w k q = (i : ℕ) → Stands V sh w k q i → (slot sh w q ≡ s
 -- wherever the key stands, it stands so
 abbrev pub IsPlaced : ℕ → Shape → List ℕ → ℕ → Type 0
 IsPlaced V sh w k = (q : ℕ) → IsPlacedAt V sh w k q
-

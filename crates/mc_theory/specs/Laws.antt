@@ -64,6 +64,6 @@ HandStays V = (sh : Shape) (acts : List Made) (f : ℕ) → IsShape sh → IsLaw
 abbrev pub ChangesFit : ℕ → Type 0
 ChangesFit V = (sh : Shape) (acts : List Made) (f : ℕ) → IsLawful V sh acts → All (IsChange {V = V}) (front V sh acts f).history
 
--- a look-up with so many tries left reads so many words at most
+-- a lookup with so many tries left reads so many words at most
 abbrev pub LookupsAreShort : ℕ → Type 0
 LookupsAreShort V = (sh : Shape) (k t : ℕ) (rs : List Reading) (reply : Reply V) → IsLookup V sh k t rs reply → length rs ≤ t * (19 + payload V) + 1

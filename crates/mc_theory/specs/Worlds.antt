@@ -21,13 +21,13 @@ use Rattle.mc_theory.specs.declared.event.Stepped.TheVariants as stepped
 use Rattle.mc_theory.specs.declared.event.Unlawful.{Unlawful}
 use Rattle.mc_theory.specs.declared.event.Unlawful.TheVariants as unlawful
 
--- a look-up that runs: its key, what it has read, and the number of the event that made its first reading
+-- a lookup that runs: its key, what it has read, and the number of the event that made its first reading
 pub record Running : Type 0 where
   pub key : ℕ
   pub sofar : List Reading
   pub first : ℕ
 
--- a look-up that has ended, what it read, and how many acts the writer had made then
+-- a lookup that has ended, what it read, and how many acts the writer had made then
 pub record Ended (V : ℕ) : Type 0 where
   pub told : Done V
   pub read : List Reading
@@ -104,7 +104,7 @@ first_read events run = first_of run.sofar
     first_of [] = events
     first_of (r ∷ rs) = run.first
 
--- the reading is of the words now, and is the one that some look-up has next
+-- the reading is of the words now, and is the one that some lookup has next
 pub record ReadsNext (V : ℕ) (sh : Shape) (w : World V) (run : Running) (r : Reading) : Type 0 where
   pub now : r.front ≡ length w.acts
   pub word : IsWordOf V sh (state_of V sh w.acts).words r.access r.word
@@ -112,7 +112,7 @@ pub record ReadsNext (V : ℕ) (sh : Shape) (w : World V) (run : Running) (r : R
   pub reply : Reply V
   pub next : IsLookup V sh run.key sh.tries (run.sofar ++ r ∷ rest) reply
 
--- the look-up goes on, or ends with a reply
+-- the lookup goes on, or ends with a reply
 abbrev pub EndsRead : (V : ℕ) → Shape → World V → ℕ → Running → Reading → World V → Type 0
 EndsRead V sh w r run reading x =
     (reply : Reply V) × IsLookup V sh run.key sh.tries (run.sofar ++ reading ∷ []) reply ×
@@ -144,7 +144,7 @@ Steps V sh w (Read r) x =
     (run : Running) × (reading : Reading) × (slice_get w.readers r ≡ Some (Some run)) × ReadsNext V sh w run reading × IsWithin sh w (Read r) × (
     EndsRead V sh w r run reading x ⊎ GoesOn V sh w r run reading x)
 
--- what an event gives that leads from one world to the other: an access the word that it read, and the access that ends a look-up what is then told
+-- what an event gives that leads from one world to the other: an access the word that it read, and the access that ends a lookup what is then told
 abbrev pub Gives : {V : ℕ} → World V → Event → World V → Stepped V → Type 0
 Gives w (Write a) x out = out ≡ given_of (bit_of w.bits a) a
 Gives w (Begin r k) x out = out ≡ stepped.Nothing
@@ -162,7 +162,7 @@ abbrev pub StopsAt : {V : ℕ} → Shape → World V → List Event → Option (
 StopsAt sh w events None = Unit {0}
 StopsAt sh w events (Some stop) = (e : Event) × (slice_get events stop.0 ≡ Some e) × Refuses sh w e stop.1 × (stop.1 ≢ unlawful.NoMemory)
 
--- the events lead from one world to the other, up to the first that is refused; done is what the look-ups told that ended
+-- the events lead from one world to the other, up to the first that is refused; done is what the lookups told that ended
 pub record HasRun (V : ℕ) (sh : Shape) (w x : World V) (events : List Event) (done : List (Done V)) (stopped : Option (ℕ × Unlawful)) : Type 0 where
   pub runs : Runs V sh w (events_made events stopped) x
   pub ended : List (Ended V)
@@ -187,7 +187,7 @@ pub record IsTrueEnd (V : ℕ) (sh : Shape) (w : World V) (e : Ended V) : Type 0
   pub true : IsTrueAnswer (state_of V sh w.acts).history e.told.key e.told.reply
   pub between : IsBetween (length (front V sh w.acts (start_of e.read)).history) (length (front V sh w.acts e.stop).history) e.told.reply
 
--- whatever the events are: the writer's acts are lawful, and each look-up that has ended has a true reply
+-- whatever the events are: the writer's acts are lawful, and each lookup that has ended has a true reply
 abbrev pub WorldsAreTrue : ℕ → Type 0
 WorldsAreTrue V =
     (sh : Shape) (readers : ℕ) (es : List Event) (w : World V) → IsShape sh → Runs V sh (first_world V sh readers) es w →

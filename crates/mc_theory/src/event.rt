@@ -10,19 +10,19 @@ use thiserror::Error;
 pub enum Event {
     /// The writer makes an act.
     Write(Act),
-    /// A reader begins a look-up of a key.
+    /// A reader begins a lookup of a key.
     Begin(u32, u64),
     /// A reader makes its next access.
     Read(u32),
 }
 
-/// A look-up that has ended. Events are numbered from 0.
+/// A lookup that has ended. Events are numbered from 0.
 #[derive(Clone, Copy, Debug, PartialEq, Eq)]
 pub struct Done<const V: usize> {
     pub reader: u32,
     pub key: u64,
     pub reply: Reply<V>,
-    /// The number of the look-up's first `Read`.
+    /// The number of the lookup's first `Read`.
     pub first: u64,
     /// The number of its last.
     pub last: u64,
@@ -34,7 +34,7 @@ pub enum Stepped<const V: usize> {
     Nothing,
     /// The word that an access read, or the bit that the hand read.
     Word(u64),
-    /// The access ended its look-up.
+    /// The access ended its lookup.
     Done(Done<V>),
 }
 

@@ -15,7 +15,7 @@ pub fn stays_while_even<const V: usize>()
     ensures { StaysWhileEven V }
 {}
 
-/// A look-up that read words of one lawful list, at fronts that don't fall, replies what the map held at a moment of its span.
+/// A lookup that read words of one lawful list, at fronts that don't fall, replies what the map held at a moment of its span.
 pub fn replies_are_true<const V: usize>()
     ensures { RepliesAreTrue V }
 {}
@@ -95,12 +95,12 @@ pub fn access_reads_its_word<const V: usize>()
     ensures { ReadsItsWord V }
 {}
 
-/// No look-up reads more words than its tries allow.
+/// No lookup reads more words than its tries allow.
 pub fn lookups_are_short<const V: usize>()
     ensures { LookupsAreShort V }
 {}
 
-/// Whatever the writer and the readers do, one atomic step after the other: each look-up that ends replies what the map held at a moment between its first reading and its last.
+/// Whatever the writer and the readers do, one atomic step after the other: each lookup that ends replies what the map held at a moment between its first reading and its last.
 pub fn worlds_are_true<const V: usize>()
     ensures { WorldsAreTrue V }
 {}
@@ -115,12 +115,12 @@ pub fn events_tell_histories<const V: usize>()
     ensures { EventsTellHistories V }
 {}
 
-/// What a look-up that ended tells of its first access and its last is where these stand in the list of events.
+/// What a lookup that ended tells of its first access and its last is where these stand in the list of events.
 pub fn ends_tell_spans<const V: usize>()
     ensures { EndsTellSpans V }
 {}
 
-/// Each look-up that ends has a true reply, said in terms of the list of events and of what the look-up tells: no word of the table is named of it.
+/// Each lookup that ends has a true reply, said in terms of the list of events and of what the lookup tells: no word of the table is named of it.
 pub fn worlds_are_plainly_true<const V: usize>()
     ensures { WorldsArePlainlyTrue V }
 {}

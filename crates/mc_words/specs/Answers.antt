@@ -95,7 +95,7 @@ pub record FindsNothing (V : ℕ) (sh : Shape) (s t : Quiet V) (k at : ℕ) : Ty
   pub unchanged : t ≡ s
   pub moment : at ≡ length s.history
 
--- ---- the answers of a look-up of key k
+-- ---- the answers of a lookup of key k
 pub record Finds (V : ℕ) (s t : Quiet V) (k : ℕ) (v : List ℕ) (at : ℕ) : Type 0 where
   pub value : held s.history k ≡ Some v
   pub unchanged : t ≡ s

@@ -9,7 +9,7 @@ pub enum Change<const V: usize> {
     Evict(u64),
 }
 
-/// What a look-up answers. `at` is the moment at which the answer held.
+/// What a lookup answers. `at` is the moment at which the answer held.
 #[derive(Clone, Copy, Debug, PartialEq, Eq)]
 pub enum Reply<const V: usize> {
     Found { value: [u64; V], at: u64 },

@@ -1,6 +1,6 @@
 //! The words of the cache index: the shape of a table, how a key is cut into its parts, where each word lies.
 //!
-//! It also declares what every other crate speaks of: the changes of a history and the replies of a look-up.
+//! It also declares what every other crate speaks of: the changes of a history and the replies of a lookup.
 //! The definitions of what the words mean stand in `specs/`.
 #![tactic(auto)]
 

@@ -16,7 +16,7 @@ pub struct Shape {
     pub stripes: u32,
     /// The greatest number of displacements of a `put`, from 0 to 8.
     pub depth: u8,
-    /// The greatest number of tries of a look-up, from 1 to 64.
+    /// The greatest number of tries of a lookup, from 1 to 64.
     pub tries: u8,
     /// The greatest number of version changes, from 0 to 2^62.
     pub limit: u64,

@@ -18,7 +18,7 @@ struct Script {
     text: String,
     lines: u64,
     asked: Vec<Asked>,
-    /// Which of the readers run a look-up.
+    /// Which of the readers run a lookup.
     runs: [bool; 2],
 }
 
@@ -58,7 +58,7 @@ impl Script {
         self.add(line)
     }
 
-    /// How many accesses the reader's look-up still makes, if nothing comes between them.
+    /// How many accesses the reader's lookup still makes, if nothing comes between them.
     fn left(&self, reader: usize) -> io::Result<u64> {
         let mut text = String::from_str(self.alloc, self.text.as_str())?;
         let line = format!(in self.alloc; "r {reader}\n")?;
@@ -91,7 +91,7 @@ impl Script {
         }
     }
 
-    /// A reader begins a look-up, or goes on with the one that it runs. An odd draw goes on to its end.
+    /// A reader begins a lookup, or goes on with the one that it runs. An odd draw goes on to its end.
     fn read(&mut self, reader: usize, key: u64, draw: u32) -> io::Result<()> {
         let Some(runs) = self.runs.get(reader).copied() else {
             return Ok(());
@@ -207,6 +207,6 @@ fn drawn_scripts_are_answered_as_a_plain_map_says(rt: HostRuntime) -> Result<(),
     let long = wrong_seed(rt.alloc(), 0..20, 1000, 2000, 500)?;
     assert_eq!(rt; long, None, "whole calls");
     let short = wrong_seed(rt.alloc(), 20..40, 60, 100, 3)?;
-    assert_eq!(rt; short, None, "calls and look-ups");
+    assert_eq!(rt; short, None, "calls and lookups");
     Ok(())
 }

@@ -12,7 +12,7 @@ struct Item {
     marked: bool,
 }
 
-/// A look-up by single accesses, and how many changes and version changes there were before it.
+/// A lookup by single accesses, and how many changes and version changes there were before it.
 #[derive(Clone, Copy)]
 struct LookUp {
     key: u64,
@@ -20,7 +20,7 @@ struct LookUp {
     versions: u64,
 }
 
-/// What a line of a script asks for. A look-up of a reader is answered where it ends.
+/// What a line of a script asks for. A lookup of a reader is answered where it ends.
 #[derive(Clone, Copy)]
 pub(crate) enum Asked {
     Put(u64, u64),
@@ -30,7 +30,7 @@ pub(crate) enum Asked {
     End(usize),
 }
 
-/// The map after each change, with the items and the hand of now, and the look-ups that run.
+/// The map after each change, with the items and the hand of now, and the lookups that run.
 #[derive(Drop)]
 pub(crate) struct Plain {
     alloc: Global,
@@ -47,7 +47,7 @@ fn moves_in(told: &str) -> Option<u64> {
     told.split(' ').nth(4)?.parse::<u64>().ok()
 }
 
-/// The moment in the line of a look-up.
+/// The moment in the line of a lookup.
 fn moment_in(told: &str) -> Option<usize> {
     told.split_once(" at ")?.1.parse::<usize>().ok()
 }
@@ -199,7 +199,7 @@ impl Plain {
         Ok(line.as_str() == told)
     }
 
-    /// Marks the item that the key had after so many changes; the line of the look-up that found it.
+    /// Marks the item that the key had after so many changes; the line of the lookup that found it.
     fn find(&mut self, key: u64, at: usize) -> Result<String, AllocError> {
         match self.entry(key, at) {
             None => format!(in self.alloc; "absent at {at}"),

@@ -28,7 +28,7 @@ pub record AreReached {V : ℕ} (p : Parts V) : Type 0 where
   pub stand : StandFor p seen
   pub reached : worlds.IsReached V (shape_of_parts p) seen
 
--- these events were made, of which the look-ups that ended told what was done more
+-- these events were made, of which the lookups that ended told what was done more
 pub record HasMade {V : ℕ} (old new : Parts V) (events : List Event) (before after : List (Done V)) : Type 0 where
   pub shape : shape_of_parts new ≡ shape_of_parts old
   pub made : (seen : worlds.World V) → StandFor old seen → (x : worlds.World V) × worlds.Runs V (shape_of_parts old) seen events x × StandFor new x ×

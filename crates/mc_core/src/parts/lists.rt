@@ -14,7 +14,7 @@ impl<const V: usize> Parts<V> {
     ghost use Rattle.mc_core.specs.Inside.Writers.{room_of};
     ghost use Rattle.mc_theory.specs.declared.event.Unlawful.TheVariants as unlawful;
 
-    /// Makes the events up to the first that is refused: what the look-ups told that ended, and where it stopped.
+    /// Makes the events up to the first that is refused: what the lookups told that ended, and where it stopped.
     pub(crate) fn run(
         &mut self,
         alloc: Global,
@@ -81,7 +81,7 @@ impl<const V: usize> Parts<V> {
     }
 }
 
-/// Keeps what a look-up told, for which there is room.
+/// Keeps what a lookup told, for which there is room.
 fn keep<const V: usize>(done: &mut Vec<Done<V>>, told: Done<V>)
     requires { vec_len done.old < vec_capacity done.old }
     ensures items { done.new.items ≡ done.old.items ++ told.entry ∷ [] }

@@ -1,4 +1,4 @@
-//! The readers of a world begin look-ups and make their accesses.
+//! The readers of a world begin lookups and make their accesses.
 ghost use Rattle.std.specs.Prelude.{◌≡◌, Some, IsSome};
 ghost use Rattle.mc_lookup.specs.Machine.{next_of, shape_for};
 ghost use Rattle.mc_theory.specs.Writes.{IsAccess};
@@ -18,7 +18,7 @@ impl<const V: usize> Parts<V> {
     ghost use Rattle.mc_theory.specs.Writes.{IsAccess};
     ghost use Rattle.mc_theory.specs.declared.event.Event.TheVariants as event;
 
-    /// A reader begins a look-up of a key.
+    /// A reader begins a lookup of a key.
     pub(crate) fn begin(&mut self, reader: u32, key: u64) -> Result<Stepped<V>, Unlawful>
         requires { (seen : worlds.World V) × StandFor {V = V} self.old seen }
         ensures ok { IfOk result (λ out. (seen : worlds.World V) → StandFor {V = V} self.old seen → (next : worlds.World V) × worlds.Steps V (shape_of_parts {V = V} self.old) seen (event.Begin reader key) next × worlds.Gives {V = V} seen (event.Begin reader key) next out × StandFor {V = V} self.new next) }
@@ -68,7 +68,7 @@ impl<const V: usize> Parts<V> {
         Ok(self.access(reader, running))
     }
 
-    /// The next access of a look-up that runs.
+    /// The next access of a lookup that runs.
     fn access(&mut self, reader: u32, running: Reader<V>) -> Stepped<V>
         requires running { slice_get self.old.readers.items reader ≡ Some (Some running) }
         requires events { self.old.events < 2 ^ 64 - 1 }
@@ -120,7 +120,7 @@ impl<const V: usize> Parts<V> {
     }
 }
 
-/// The access that comes next in a look-up that hasn't ended.
+/// The access that comes next in a lookup that hasn't ended.
 fn next_access<const V: usize>(lookup: &Lookup<V>) -> Access
     requires { IsSome (next_of {V = V} lookup.now) }
     ensures next { next_of {V = V} lookup.now ≡ Some result }

@@ -14,7 +14,7 @@ use Rattle.mc_lookup.specs.declared.stage.Stage.{Stage}
 use Rattle.mc_lookup.specs.declared.stage.Stage.TheVariants.{First, Slot, Key, Value, Moment, Last, Mark, Over}
 use Rattle.mc_lookup.specs.Machine.{shape_for, stage_of, place_in, place_of, next_at, next_of, reply_at, reply_now, slots_from, values_from, ended, IsRestart, value_for, LeftAt, Left, steps_of_try, steps_at, steps_left, Takes}
 
--- a look-up at the start of a try, or over where no try is left
+-- a lookup at the start of a try, or over where no try is left
 pub record Restarts {V : ℕ} (old new : Lookup V) : Type 0 where
   pub shape : new.checked ≡ old.checked
   pub key : new.key ≡ old.key

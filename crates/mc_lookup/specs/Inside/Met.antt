@@ -1,4 +1,4 @@
--- Which item the word of a slot names under the tag of a look-up's key.
+-- Which item the word of a slot names under the tag of a lookup's key.
 use Rattle.std.specs.Prelude.{ℕ, Option, Some, None}
 use Rattle.mc_theory.specs.Lookups.{Meets}
 use Rattle.mc_lookup.specs.Machine.{shape_for}

@@ -1,4 +1,4 @@
--- The numbers in a stage of a look-up, each in its range.
+-- The numbers in a stage of a lookup, each in its range.
 use Rattle.std.specs.Prelude.{ℕ, ◌-◌, Option, Some, None}
 use Rattle.mc_lookup.specs.declared.stage.Stage.{Stage}
 use Rattle.mc_lookup.specs.declared.stage.Stage.TheVariants.{First, Slot, Key, Value, Moment, Last, Mark}

@@ -1,4 +1,4 @@
-//! One method a stage of a look-up. A caller that knows the stage may call it in place of `after`.
+//! One method a stage of a lookup. A caller that knows the stage may call it in place of `after`.
 ghost use Rattle.std.specs.Prelude.{◌≡◌, ◌+◌, ◌<◌, ℕ, MatchOption, MatchBool, Some, None};
 ghost use Rattle.mc_lookup.specs.Machine.{stage_of, place_of, slots_from, values_from, ended, IsRestart, Takes};
 ghost use Rattle.mc_lookup.specs.Inside.Machine.{Restarts};

@@ -28,11 +28,11 @@ most_steps = 2 ^ 24 - 1
 abbrev pub most_before : ℕ → ℕ
 most_before lines = lines * most_steps
 
--- how many accesses one look-up makes at most
+-- how many accesses one lookup makes at most
 abbrev pub most_accesses : ℕ
 most_accesses = 64 * 27 + 1
 
--- the look-up that the reader runs, if it runs one, has made at least n accesses
+-- the lookup that the reader runs, if it runs one, has made at least n accesses
 abbrev pub HasMade : {V : ℕ} → World V → ℕ → ℕ → Type 0
 HasMade w r n = (run : Running) → slice_get w.readers r ≡ Some (Some run) → n ≤ length run.sofar
 
@@ -122,7 +122,7 @@ pub record IsMarked (V : ℕ) (old new : Player V) (most i : ℕ) (w : World V) 
   pub shape : shape_in new ≡ shape_in old
   pub idle : IsIdle V new (most + 1) after
 
--- a whole look-up by the writer
+-- a whole lookup by the writer
 pub record Looks (V : ℕ) (old new : Player V) (most k : ℕ) (w : World V) (reply : Reply V) : Type 0 where
   pub acts : List Made
   pub after : World V
@@ -131,7 +131,7 @@ pub record Looks (V : ℕ) (old new : Player V) (most k : ℕ) (w : World V) (re
   pub shape : shape_in new ≡ shape_in old
   pub idle : IsIdle V new (most + most_steps) after
 
--- after so many accesses of a reader's look-up
+-- after so many accesses of a reader's lookup
 pub record ReadsSoFar (V : ℕ) (player : Player V) (most r n : ℕ) (m : Replay V) : Type 0 where
   pub fits : FitsCall V player (most + n) m.running m.world
   pub made : HasMade m.world r n

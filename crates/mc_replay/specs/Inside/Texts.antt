@@ -15,7 +15,7 @@ use Rattle.mc_plan.specs.declared.answer.PutError.TheVariants.{NoPath, AllRecent
 use Rattle.mc_plan.specs.declared.answer.Remove.TheVariants.{Removed, NotThere}
 use Rattle.mc_replay.specs.Texts.{words_text, put_text, answer_text, reply_text, done_text, line, answer_line, reply_line, done_line}
 
--- what is written after an access: the line of the look-up that it ended
+-- what is written after an access: the line of the lookup that it ended
 abbrev pub end_text : {V : ℕ} → Stepped V → List ℕ
 end_text (stepped.Done done) = done_line done
 end_text given = []

@@ -1,4 +1,4 @@
--- What a list of events tells by itself: the history that its acts make, and the span of each look-up.
+-- What a list of events tells by itself: the history that its acts make, and the span of each lookup.
 use Rattle.std.proofs.Common.{ℕ, zero, suc, ◌≡◌, ◌+◌, ◌≤◌, ◌<◌, ◌⊎◌, List, [], ◌∷◌, ◌++◌, get_or, length, take, Some, None, refl, sym, ◌∙◌, ap, subst, inl, inr, arith, add-one}
 use Rattle.std.specs.Prelude.{map, slice_get}
 use Rattle.std.specs.List.{All}
@@ -95,14 +95,14 @@ get_push [] y x (suc n) e = absurd (cc)
 get_push (z ∷ xs) y x zero e = inl e
 get_push (z ∷ xs) y x (suc n) e = get_push xs y x n e
 
--- ---- the spans of look-ups
+-- ---- the spans of lookups
 -- the first of these readings was made by this event of the reader, the first one after that at which it began; without a reading there is no such event
 abbrev pub BeganAt : List Event → ℕ → ℕ → ℕ → List Reading → Type 0
 BeganAt es r begin first [] = (n : ℕ) → begin < n → slice_get es n ≡ Some (Read r) → ⊥
 BeganAt es r begin first (x ∷ xs) =
     (begin < first) × (slice_get es first ≡ Some (Read r)) × (x.front ≡ length (acts_in (take first es))) × ((n : ℕ) → begin < n → n < first → slice_get es n ≡ Some (Read r) → ⊥)
 
--- the last look-up that the reader began is of this key, and has these readings so far
+-- the last lookup that the reader began is of this key, and has these readings so far
 record IsOpen (es : List Event) (r : ℕ) (run : Running) : Type 0 where
   begin : ℕ
   begun : slice_get es begin ≡ Some (Begin r run.key)
@@ -170,7 +170,7 @@ open_more es r events run x counted now o =
       first = subst (λ n. BeganAt (es ++ Read r ∷ []) r o.begin (first_read n run) (run.sofar ++ x ∷ [])) (sym counted) (began_more es r run.key o.begin run.first run.sofar x before now o.first);
     }
 
--- and ends its look-up
+-- and ends its lookup
 open_ends : {V : ℕ} (es : List Event) (r events : ℕ) (run : Running) (x : Reading) (reply : Reply V) (stop : ℕ) → events ≡ length es → stop ≡ length (acts_in es) → IsOpen (es ++ Read r ∷ []) r (record { key = run.key; sofar = run.sofar ++ x ∷ []; first = first_read events run })
     → IsSpanned (es ++ Read r ∷ []) (record { told = record { reader = r; key = run.key; reply = reply; first = first_read events run; last = events }; read = run.sofar ++ x ∷ []; stop = stop })
 open_ends es r events run x reply stop counted now o =
@@ -219,11 +219,11 @@ record Traces (V : ℕ) (es : List Event) (w : World V) : Type 0 where
   running : (r : ℕ) (run : Running) → slice_get w.readers r ≡ Some (Some run) → IsOpen es r run
   ended : All (IsSpanned es) w.ended
 
--- and so those of all look-ups that have ended
+-- and so those of all lookups that have ended
 ended_longer : {V : ℕ} (es more : List Event) (xs : List (Ended V)) → All (IsSpanned es) xs → All (IsSpanned (es ++ more)) xs
 ended_longer es more xs all = All-weaker (IsSpanned es) (IsSpanned (es ++ more)) (λ e s. span_longer es more e s) xs all
 
--- the look-up that is open is the one that a reader has
+-- the lookup that is open is the one that a reader has
 open_as : (es : List Event) (r q : ℕ) (a b : Running) → q ≡ r → Some a ≡ Some b → IsOpen es r a → IsOpen es q b
 open_as es r q a b same e o =
     let is : a ≡ b = cc in

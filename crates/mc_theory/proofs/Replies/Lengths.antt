@@ -1,4 +1,4 @@
--- How many readings a look-up makes at most.
+-- How many readings a lookup makes at most.
 use Rattle.std.proofs.Common.{ℕ, zero, suc, ◌≡◌, ◌+◌, ◌*◌, ◌≤◌, List, [], ◌∷◌, ◌++◌, length, Option, Some, None, arith, refl, ap, ◌∙◌, inl, inr, length-append}
 use Rattle.mc_words.specs.Places.{payload}
 use Rattle.mc_words.specs.declared.history.Reply.{Reply}
@@ -54,7 +54,7 @@ marks_length (Some i) rs marks = let one = ap length marks.1 in omega (arith, on
 one_more : (t n : ℕ) → suc t * n ≡ n + t * n
 one_more t n = grind arith
 
--- a look-up makes so many readings at most
+-- a lookup makes so many readings at most
 pub lookup_length : (V : ℕ) (sh : Shape) (k t : ℕ) (rs : List Reading) (reply : Reply V) → IsLookup V sh k t rs reply → length rs ≤ t * (19 + payload V) + 1
 lookup_length V sh k zero rs reply looks = let none = ap length looks.0 in omega (arith, none)
 lookup_length V sh k (suc t) rs reply looks = elim looks [
