@@ -7,7 +7,7 @@ use crate::writer::Writer;
 use mc_theory::{Event, Stepped, Unlawful};
 
 mod lists;
-mod made;
+mod opening;
 mod reads;
 mod writes;
 
