@@ -1,7 +1,7 @@
 use mc_words::Place;
 
 /// What the writer has done of a deed. The words that it wrote after a key stand beside it.
-#[derive(Clone, Copy, Debug, PartialEq, Eq)]
+#[derive(Clone, Copy)]
 pub(crate) enum Progress {
     Quiet,
     Filling(u64),

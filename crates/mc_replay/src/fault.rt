@@ -6,7 +6,7 @@ use mc_script::LineFault;
 use std::fmt;
 
 /// Why a script stops at a line.
-#[derive(Clone, Copy, Debug, PartialEq, Eq)]
+#[derive(Clone, Copy)]
 pub enum Fault {
     ReadFailed,
     NoMemory,
@@ -20,7 +20,7 @@ pub enum Fault {
 }
 
 /// The line at which a script stopped, numbered from 1, and why. Line 0: no line was read.
-#[derive(Clone, Copy, Debug, PartialEq, Eq)]
+#[derive(Clone, Copy)]
 pub struct Stop {
     pub line: u64,
     pub fault: Fault,
