@@ -32,6 +32,14 @@ module _ (p q r : ℕ × ℕ) where
   unfolding texts_of clap_on_literals
   buckets_kept = refl
 
+  default_stripes : first_of (codes "stripes") (texts_of mixes (codes "mcstep" ∷ [])) ≡ Some (codes "1")
+  unfolding texts_of clap_on_literals
+  default_stripes = refl
+
+  stripes_given : first_of (codes "stripes") (texts_of mixes (codes "mcstep" ∷ codes "--stripes" ∷ codes "65536" ∷ [])) ≡ Some (codes "65536")
+  unfolding texts_of clap_on_literals
+  stripes_given = refl
+
   mix_given : first_of (codes "mix") (texts_of mixes (codes "mcstep" ∷ codes "--mix=fmix" ∷ [])) ≡ Some (codes "fmix")
   unfolding texts_of clap_on_literals
   mix_given = refl
@@ -53,6 +61,6 @@ module _ (p q r : ℕ × ℕ) where
   unfolding faults_of clap_on_literals
   unknown_mix = refl
 
-  unknown_option : faults_of mixes (codes "mcstep" ∷ codes "--stripes" ∷ codes "1" ∷ []) ≡ kind.UnknownArgument ∷ []
+  unknown_option : faults_of mixes (codes "mcstep" ∷ codes "--stripe" ∷ codes "1" ∷ []) ≡ kind.UnknownArgument ∷ []
   unfolding faults_of clap_on_literals
   unknown_option = refl

@@ -35,6 +35,7 @@ abbrev pub sizes : List Rule
 sizes =
     option (codes "buckets") (parser.Signed (pos 0) (pos 4294967295)) (codes "4")
     ∷ option (codes "items") (parser.Signed (pos 0) (pos 4294967295)) (codes "16")
+    ∷ option (codes "stripes") (parser.Signed (pos 0) (pos 4294967295)) (codes "1")
     ∷ []
 
 abbrev pub bounds : List Rule
@@ -77,13 +78,13 @@ mix_in text = if bytes_eq text (codes "fmix") then Some Fmix else if bytes_eq te
 pub record Says (rows : List Row) (o : Options) : Type 0 where
   pub buckets : option_and_then (number_in 0 4294967295) (first_of (codes "buckets") rows) ≡ Some o.shape.buckets
   pub items : option_and_then (number_in 0 4294967295) (first_of (codes "items") rows) ≡ Some o.shape.items
+  pub stripes : option_and_then (number_in 0 4294967295) (first_of (codes "stripes") rows) ≡ Some o.shape.stripes
   pub depth : option_and_then (number_in 0 255) (first_of (codes "depth") rows) ≡ Some o.shape.depth
   pub tries : option_and_then (number_in 0 255) (first_of (codes "tries") rows) ≡ Some o.shape.tries
   pub limit : option_and_then (number_in 0 18446744073709551615) (first_of (codes "limit") rows) ≡ Some o.shape.limit
   pub mix : option_and_then mix_in (first_of (codes "mix") rows) ≡ Some o.shape.mix
   pub readers : option_and_then (number_in 0 4294967295) (first_of (codes "readers") rows) ≡ Some o.readers
   pub words : option_and_then (number_in 1 2) (first_of (codes "words") rows) ≡ Some o.words
-  pub stripes : o.shape.stripes ≡ 1
 
 -- ---- what the words ask for
 

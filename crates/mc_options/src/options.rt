@@ -85,7 +85,14 @@ fn with_sizes<'a>(alloc: Global, command: Command<'a>) -> Result<Command<'a>, Al
         "16",
         "The most keys, from 1 to four times the buckets",
     );
-    command.arg(buckets)?.arg(items)
+    let stripes = option(
+        alloc,
+        "stripes",
+        value_parser!(u32),
+        "1",
+        "Version counters, a power of two from 1 to 65536",
+    );
+    command.arg(buckets)?.arg(items)?.arg(stripes)
 }
 
 fn with_bounds<'a>(alloc: Global, command: Command<'a>) -> Result<Command<'a>, AllocError>
@@ -223,6 +230,7 @@ fn options_in(matches: &ArgMatches) -> Result<Options, &'static str>
 {
     let buckets = number(matches, "buckets", 0, MOST_SIZE)?;
     let items = number(matches, "items", 0, MOST_SIZE)?;
+    let stripes = number(matches, "stripes", 0, MOST_SIZE)?;
     let depth = number(matches, "depth", 0, MOST_BOUND)?;
     let tries = number(matches, "tries", 0, MOST_BOUND)?;
     let limit = number(matches, "limit", 0, u64::MAX)?;
@@ -232,7 +240,7 @@ fn options_in(matches: &ArgMatches) -> Result<Options, &'static str>
     let shape = Shape {
         buckets: buckets as u32,
         items: items as u32,
-        stripes: 1,
+        stripes: stripes as u32,
         depth: depth as u8,
         tries: tries as u8,
         limit,

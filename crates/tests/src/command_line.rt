@@ -5,10 +5,12 @@ use std::alloc::{AllocError, Global};
 /// Options that are refused, and behind a bar how the text begins that tells it: without one, as a fault of the command line.
 const REFUSED: &str = "\
 --other|error: unexpected argument '--other' found
---stripes 1|error: unexpected argument '--stripes' found
+--stripe 1|error: unexpected argument '--stripe' found
 script|error: unexpected argument 'script' found
 --buckets
 --items |error:
+--stripes +2|error: invalid value '+2' for '--stripes <stripes>': digits only
+--stripes 4294967296
 --depth 256
 --depth +2|error: invalid value '+2' for '--depth <depth>': digits only
 --tries 256
@@ -30,6 +32,7 @@ script|error: unexpected argument 'script' found
 --buckets 3 --words 3
 --buckets 3|refused: buckets
 --items 0|refused: items
+--stripes 3|refused: stripes
 --depth 9|refused: depth
 --tries 65|refused: tries
 --limit 4611686018427387905|refused: limit
