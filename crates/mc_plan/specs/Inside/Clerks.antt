@@ -27,7 +27,7 @@ use Rattle.mc_search.specs.Free.{IsKept, IsFreeIn}
 use Rattle.mc_plan.specs.Making.{IsQuiet, made, left}
 use Rattle.mc_search.specs.Paths.{IsLeastPath}
 use Rattle.mc_search.specs.Sweeps.{Swept, IsSweep, HasSwept, IsOver, hand_acts, next_item, victim_of}
-use Rattle.mc_plan.specs.Clerks.{Call, shape_in, quiet_of, Means, acts_of, IsOfDeed, AreOfDeeds, MarksLast, Marks, IsSweepOf, swept, Answered, AreBooksOf, IsPlanned, Waits, Knows, IsSweeping, MakesPlan, IsAt, IsOn, Runs, IsRunning, hand_of, next_in, next_act, left_in, acts_left}
+use Rattle.mc_plan.specs.Clerks.{Call, PutCall, shape_in, quiet_of, Means, acts_of, IsOfDeed, AreOfDeeds, MarksLast, Marks, IsSweepOf, swept, Answered, AreBooksOf, IsPlanned, Waits, Knows, IsSweeping, MakesPlan, IsAt, IsOn, Runs, IsRunning, hand_of, next_in, next_act, left_in, acts_left}
 
 -- how a put starts: it is planned, or it waits for an item
 abbrev pub IsStarted : (V : ℕ) → Books → List Act → ℕ → List ℕ → State V → Start → Type 0
