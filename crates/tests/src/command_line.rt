@@ -98,7 +98,10 @@ fn a_short_option_prints_what_the_long_one_does(rt: HostRuntime) -> Result<(), A
         assert_eq!(rt; outcome.status, 0);
         assert!(rt; outcome.errors.is_empty());
         assert!(rt; !outcome.output.is_empty(), "{short} prints a text");
-        assert!(rt; outcome.output == run(rt.alloc(), long)?.output, "{short} is {long}");
+        assert!(rt;
+            outcome.output == run(rt.alloc(), long)?.output,
+            "{short} is {long}"
+        );
         assert_eq!(rt; outcome.unread, SCRIPT.len());
     }
     Ok(())

@@ -40,8 +40,16 @@ fn a_key_has_these_parts(rt: HostRuntime) -> Result<(), ShapeError> {
         (4_294_967_296, Mix::Plain, 2, 1),
         (u64::MAX, Mix::Plain, 1 << 16, (1 << 16) - 1),
     ] {
-        let checked = Shape { stripes, ..shape(4, 16, mix) }.check()?;
-        assert_eq!(rt; checked.stripe(key), stripe, "the stripe of {key} of {stripes}");
+        let checked = Shape {
+            stripes,
+            ..shape(4, 16, mix)
+        }
+        .check()?;
+        assert_eq!(rt;
+            checked.stripe(key),
+            stripe,
+            "the stripe of {key} of {stripes}"
+        );
     }
     Ok(())
 }
@@ -112,7 +120,10 @@ fn the_first_fault_of_a_shape_is_told(rt: HostRuntime) -> Result<(), AllocError>
             ShapeError::Items,
             "items must be from 1 to four times the buckets",
         ),
-        (ShapeError::Stripes, "stripes must be a power of two from 1 to 65536"),
+        (
+            ShapeError::Stripes,
+            "stripes must be a power of two from 1 to 65536",
+        ),
         (ShapeError::Depth, "depth must be from 0 to 8"),
         (ShapeError::Tries, "tries must be from 1 to 64"),
         (
