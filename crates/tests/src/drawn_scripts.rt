@@ -1,5 +1,5 @@
 //! Scripts that a generator draws, beside a plain map.
-use crate::plain::{Asked, Plain};
+use crate::plain::{ALL_RECENT, Asked, Plain};
 use mc_load::{ReplayError, replay};
 use mc_words::{Checked, Mix, Shape};
 use rand_core::Rng;
@@ -9,6 +9,20 @@ use std::io::BufReader;
 use std::ops::Range;
 use std::test::Fail;
 use std::{io, str};
+
+/// How scripts are drawn: so many whole calls, and accesses of a reader after one in so many of them.
+#[derive(Clone, Copy)]
+struct Draws {
+    calls: u64,
+    one_in: u32,
+    /// The most version changes in every fourth script.
+    limit: u64,
+    /// Whether the tables have few items, and readers look up between the hand's readings.
+    sweeps: bool,
+}
+
+/// A put that evicts a key and moves none makes so many acts after its sweep.
+const ACTS_AFTER_SWEEP: u64 = 11;
 
 /// A script, and what its lines ask for.
 #[derive(Drop)]
@@ -58,12 +72,17 @@ impl Script {
         self.add(line)
     }
 
+<<<<<<< HEAD
     /// How many accesses the reader's lookup still makes, if nothing comes between them.
     fn left(&self, reader: usize) -> io::Result<u64> {
+=======
+    /// How many of these steps are left, up to the end of their call or lookup, if nothing comes between them.
+    fn left(&self, step: &str) -> io::Result<u64> {
+>>>>>>> 669e773
         let mut text = String::from_str(self.alloc, self.text.as_str())?;
-        let line = format!(in self.alloc; "r {reader}\n")?;
         for _ in 0..64 {
-            text.push_str(line.as_str())?;
+            text.push_str(step)?;
+            text.push('\n')?;
         }
         match play(self.alloc, &self.checked, text.as_str())?.1 {
             Err(ReplayError { line, number: 8 }) => Ok(line.saturating_sub(
@@ -102,7 +121,8 @@ impl Script {
             self.ask(Asked::Begin(reader, key), line.as_str())?;
             return Ok(());
         }
-        let left = self.left(reader)?;
+        let step = format!(in self.alloc; "r {reader}")?;
+        let left = self.left(step.as_str())?;
         let some = u64::from(draw / 2).checked_rem(left).unwrap_or(0);
         if draw % 2 == 1 || some == 0 {
             self.set(reader, false);
@@ -115,6 +135,39 @@ impl Script {
         Ok(())
     }
 
+    /// A put act by act, with lookups of drawn keys between the hand's readings.
+    fn put_slowly(
+        &mut self,
+        rng: &mut Lcg64Xsh32,
+        keys: u64,
+        key: u64,
+        number: u64,
+    ) -> io::Result<()> {
+        let line = format!(in self.alloc; "begin put {key} {number}")?;
+        self.add(line.as_str())?;
+        let mut left = self.left("w")?;
+        if left == 0 {
+            self.asked.push(Asked::Put(key, number))?;
+            return Ok(());
+        }
+        for _ in 0..64 {
+            // One reading of these is the last: its bit is clear, or it ends the second round.
+            if left <= ACTS_AFTER_SWEEP + 1 {
+                break;
+            }
+            self.ask(Asked::Reading, "w")?;
+            for _ in 0..6 {
+                let reader = (rng.next_u32() % 2) as usize;
+                let other = drawn_key(rng, keys);
+                self.read(reader, other, 1)?;
+            }
+            left = self.left("w")?;
+        }
+        let line = format!(in self.alloc; "w {left}")?;
+        self.ask(Asked::Put(key, number), line.as_str())?;
+        Ok(())
+    }
+
     fn set(&mut self, reader: usize, runs: bool) {
         if let Some(place) = self.runs.get_mut(reader) {
             *place = runs;
@@ -122,16 +175,33 @@ impl Script {
     }
 }
 
-/// A small table. Every fourth has the low limit.
-fn shape_of(seed: u64, limit: u64, rng: &mut Lcg64Xsh32) -> Shape {
-    let buckets = 1 << (1 + rng.next_u32() % 3);
+/// One of so many keys. Keys of several tags move to several buckets, and the keys have several stripes.
+fn drawn_key(rng: &mut Lcg64Xsh32, keys: u64) -> u64 {
+    let draw = u64::from(rng.next_u32()).checked_rem(keys).unwrap_or(0);
+    draw | ((draw % 4) << 56) | ((draw / 2 % 64) << 32)
+}
+
+/// A small table of 1, 2 or 64 stripes. Every fifth has more than 64 items, unless the hand's readings are drawn.
+fn shape_of(seed: u64, draws: &Draws, rng: &mut Lcg64Xsh32) -> Shape {
+    let (buckets, items) = if draws.sweeps {
+        (2, 1 + rng.next_u32() % 3)
+    } else if seed % 5 == 4 {
+        (32, 65 + rng.next_u32() % 64)
+    } else {
+        let buckets = 1 << (1 + rng.next_u32() % 3);
+        (buckets, 1 + rng.next_u32() % (4 * buckets).min(16))
+    };
     Shape {
         buckets,
-        items: 1 + rng.next_u32() % (4 * buckets).min(16),
-        stripes: 1,
-        depth: (seed % 4) as u8,
+        items,
+        stripes: match seed % 3 {
+            0 => 1,
+            1 => 2,
+            _ => 64,
+        },
+        depth: if draws.sweeps { 0 } else { (seed % 4) as u8 },
         tries: (1 + rng.next_u32() % 3) as u8,
-        limit: if seed % 4 == 3 { limit } else { 1 << 62 },
+        limit: if seed % 4 == 3 { draws.limit } else { 1 << 62 },
         mix: if rng.next_u32() % 2 == 0 {
             Mix::Plain
         } else {
@@ -140,24 +210,25 @@ fn shape_of(seed: u64, limit: u64, rng: &mut Lcg64Xsh32) -> Shape {
     }
 }
 
-/// Draws so many whole calls, and accesses of a reader after one in so many of them.
+/// Draws a script.
 fn drawn(
     alloc: Global,
     checked: &Checked,
     rng: &mut Lcg64Xsh32,
-    calls: u64,
-    one_in: u32,
+    draws: &Draws,
 ) -> io::Result<Script> {
     let mut script = Script::new(alloc, checked);
     let keys = u64::from(checked.shape().items)
         .saturating_mul(2)
         .saturating_add(2);
-    for number in 0..calls {
-        let draw = u64::from(rng.next_u32()).checked_rem(keys).unwrap_or(0);
-        // Keys of several tags move to several buckets.
-        let key = draw | ((draw % 4) << 56);
-        script.call(rng.next_u32(), key, number)?;
-        if rng.next_u32().checked_rem(one_in) == Some(0) {
+    for number in 0..draws.calls {
+        let key = drawn_key(rng, keys);
+        if draws.sweeps && rng.next_u32() % 2 == 0 {
+            script.put_slowly(rng, keys, key, number)?;
+        } else {
+            script.call(rng.next_u32(), key, number)?;
+        }
+        if rng.next_u32().checked_rem(draws.one_in) == Some(0) {
             let reader = (rng.next_u32() % 2) as usize;
             script.read(reader, key, rng.next_u32())?;
         }
@@ -165,48 +236,89 @@ fn drawn(
     Ok(script)
 }
 
-/// The first line of a drawn script that is not answered as the plain map says.
-fn first_wrong(
-    alloc: Global,
-    seed: u64,
-    limit: u64,
-    calls: u64,
-    one_in: u32,
-) -> Result<Option<usize>, Fail> {
+/// How many puts of a drawn script are refused since every bit was set; none where a line is not answered as the plain
+/// map says.
+fn all_recent(alloc: Global, seed: u64, draws: &Draws) -> Result<Option<usize>, Fail> {
     let mut rng = Lcg64Xsh32::new(seed, 0);
-    let shape = shape_of(seed, limit, &mut rng);
+    let shape = shape_of(seed, draws, &mut rng);
     let checked = shape.check()?;
-    let script = drawn(alloc, &checked, &mut rng, calls, one_in)?;
+    let script = drawn(alloc, &checked, &mut rng, draws)?;
     let (output, result) = play(alloc, &checked, script.text.as_str())?;
     if result != Ok(()) {
-        return Ok(Some(script.asked.len()));
+        return Ok(None);
     }
     let text = str::from_utf8(output.as_slice()).unwrap_or("");
     let mut plain = Plain::new(alloc, shape)?;
-    Ok(plain.first_wrong(script.asked.as_slice(), text)?)
+    if plain.first_wrong(script.asked.as_slice(), text)?.is_some() {
+        return Ok(None);
+    }
+    Ok(Some(text.lines().filter(|line| *line == ALL_RECENT).count()))
 }
 
-/// The first of the seeds whose script is not answered as the plain map says.
-fn wrong_seed(
+/// How many puts of the seeds' scripts are refused since every bit was set, or the first seed whose script is not
+/// answered as the plain map says.
+fn all_recent_of(
     alloc: Global,
     seeds: Range<u64>,
-    limit: u64,
-    calls: u64,
-    one_in: u32,
-) -> Result<Option<u64>, Fail> {
+    draws: &Draws,
+) -> Result<Result<usize, u64>, Fail> {
+    let mut all: usize = 0;
     for seed in seeds {
-        if first_wrong(alloc, seed, limit, calls, one_in)?.is_some() {
-            return Ok(Some(seed));
+        match all_recent(alloc, seed, draws)? {
+            Some(count) => all = all.saturating_add(count),
+            None => return Ok(Err(seed)),
         }
     }
-    Ok(None)
+    Ok(Ok(all))
 }
 
 #[test]
 fn drawn_scripts_are_answered_as_a_plain_map_says(rt: HostRuntime) -> Result<(), Fail> {
+<<<<<<< HEAD
     let long = wrong_seed(rt.alloc(), 0..20, 1000, 2000, 500)?;
     assert_eq!(rt; long, None, "whole calls");
     let short = wrong_seed(rt.alloc(), 20..40, 60, 100, 3)?;
     assert_eq!(rt; short, None, "calls and lookups");
+=======
+    let whole = Draws {
+        calls: 1000,
+        one_in: 500,
+        limit: 1000,
+        sweeps: false,
+    };
+    assert_eq!(rt;
+        all_recent_of(rt.alloc(), 0..20, &whole)?,
+        Ok(0),
+        "whole calls"
+    );
+    let mixed = Draws {
+        calls: 100,
+        one_in: 3,
+        limit: 60,
+        sweeps: false,
+    };
+    assert_eq!(rt;
+        all_recent_of(rt.alloc(), 20..40, &mixed)?,
+        Ok(0),
+        "calls and lookups"
+    );
+    Ok(())
+}
+
+#[test]
+fn lookups_between_the_hands_readings_refuse_puts_as_a_plain_map_says(
+    rt: HostRuntime,
+) -> Result<(), Fail> {
+    let draws = Draws {
+        calls: 24,
+        one_in: 3,
+        limit: 60,
+        sweeps: true,
+    };
+    match all_recent_of(rt.alloc(), 40..50, &draws)? {
+        Ok(refused) => assert!(rt; refused >= 20, "{refused} puts are refused"),
+        Err(seed) => assert!(rt; false, "seed {seed}"),
+    }
+>>>>>>> 669e773
     Ok(())
 }

@@ -2,6 +2,9 @@
 use mc_words::Shape;
 use std::alloc::{AllocError, Global};
 
+/// The answer of a put for which the hand found every bit set, twice.
+pub(crate) const ALL_RECENT: &str = "refused all recent";
+
 /// What a key has from a change on: its value and its item, or nothing.
 type Entry = Option<(u64, usize)>;
 
@@ -20,12 +23,18 @@ struct LookUp {
     versions: u64,
 }
 
+<<<<<<< HEAD
 /// What a line of a script asks for. A lookup of a reader is answered where it ends.
+=======
+/// What a line of a script asks for. A lookup of a reader is answered where it ends, and so is a put that is made act by
+/// act: before it come the readings of the hand that find a bit set.
+>>>>>>> 669e773
 #[derive(Clone, Copy)]
 pub(crate) enum Asked {
     Put(u64, u64),
     Remove(u64),
     Get(u64),
+    Reading,
     Begin(usize, u64),
     End(usize),
 }
@@ -39,6 +48,8 @@ pub(crate) struct Plain {
     versions: u64,
     items: Vec<Item>,
     hand: usize,
+    /// How many bits the hand has read for the put that runs.
+    readings: usize,
     look_ups: [Option<LookUp>; 2],
 }
 
@@ -61,6 +72,7 @@ impl Plain {
             versions: 0,
             items: vec![in alloc; Item::default(); shape.items as usize]?,
             hand: 0,
+            readings: 0,
             look_ups: [None; 2],
         })
     }
@@ -100,19 +112,33 @@ impl Plain {
         self.items.iter().position(|item| item.key.is_none())
     }
 
+    /// Reads the bit at the hand, which turns: the item and its key, where the bit is clear.
+    fn turn(&mut self) -> Option<(usize, u64)> {
+        let item = self.hand;
+        let next = item.saturating_add(1);
+        self.hand = if next < self.items.len() { next } else { 0 };
+        let place = self.items.get_mut(item)?;
+        if !place.marked {
+            return place.key.map(|key| (item, key));
+        }
+        place.marked = false;
+        None
+    }
+
     /// The item at which the hand ends, and its key.
     fn victim(&mut self) -> Option<(usize, u64)> {
-        for _ in 0..self.items.len().saturating_mul(2) {
-            let item = self.hand;
-            let next = item.saturating_add(1);
-            self.hand = if next < self.items.len() { next } else { 0 };
-            let place = self.items.get_mut(item)?;
-            if !place.marked {
-                return place.key.map(|key| (item, key));
+        for _ in self.readings..self.items.len().saturating_mul(2) {
+            if let Some(victim) = self.turn() {
+                return Some(victim);
             }
-            place.marked = false;
         }
         None
+    }
+
+    /// One reading of a put that runs, which finds no victim.
+    fn reading(&mut self) -> bool {
+        self.readings = self.readings.saturating_add(1);
+        self.free().is_none() && self.turn().is_none()
     }
 
     /// How many keys the map has.
@@ -127,9 +153,6 @@ impl Plain {
 
     /// Stores a new key, for which another one goes where no item is free.
     fn store(&mut self, key: u64, value: u64, told: &str) -> Result<bool, AllocError> {
-        let Some(moves) = moves_in(told) else {
-            return Ok(false);
-        };
         // No key has to move while the slots of two buckets can't all be taken.
         let most = if self.held() < 8 {
             0
@@ -140,8 +163,11 @@ impl Plain {
             Some(item) => (item, None),
             None => match self.victim() {
                 Some((item, old)) => (item, Some(old)),
-                None => return Ok(false),
+                None => return Ok(told == ALL_RECENT),
             },
+        };
+        let Some(moves) = moves_in(told) else {
+            return Ok(false);
         };
         if let Some(old) = evicted {
             self.change(old, None)?;
@@ -261,7 +287,7 @@ impl Plain {
         let mut lines = text.lines();
         for (number, line) in asked.iter().enumerate() {
             let told = match *line {
-                Asked::Begin(_, _) => None,
+                Asked::Begin(_, _) | Asked::Reading => None,
                 _ => lines.next(),
             };
             if !self.allows(*line, told)? {
@@ -277,7 +303,12 @@ impl Plain {
     fn allows(&mut self, asked: Asked, told: Option<&str>) -> Result<bool, AllocError> {
         match (asked, told) {
             (Asked::Begin(reader, key), None) => Ok(self.begin(reader, key)),
-            (Asked::Put(key, value), Some(told)) => self.put(key, value, told),
+            (Asked::Put(key, value), Some(told)) => {
+                let is_so = self.put(key, value, told)?;
+                self.readings = 0;
+                Ok(is_so)
+            }
+            (Asked::Reading, None) => Ok(self.reading()),
             (Asked::Remove(key), Some(told)) => self.remove(key, told),
             (Asked::Get(key), Some(told)) => self.get(key, told),
             (Asked::End(reader), Some(told)) => self.end(reader, told),
