@@ -72,13 +72,8 @@ impl Script {
         self.add(line)
     }
 
-<<<<<<< HEAD
-    /// How many accesses the reader's lookup still makes, if nothing comes between them.
-    fn left(&self, reader: usize) -> io::Result<u64> {
-=======
     /// How many of these steps are left, up to the end of their call or lookup, if nothing comes between them.
     fn left(&self, step: &str) -> io::Result<u64> {
->>>>>>> 669e773
         let mut text = String::from_str(self.alloc, self.text.as_str())?;
         for _ in 0..64 {
             text.push_str(step)?;
@@ -274,12 +269,6 @@ fn all_recent_of(
 
 #[test]
 fn drawn_scripts_are_answered_as_a_plain_map_says(rt: HostRuntime) -> Result<(), Fail> {
-<<<<<<< HEAD
-    let long = wrong_seed(rt.alloc(), 0..20, 1000, 2000, 500)?;
-    assert_eq!(rt; long, None, "whole calls");
-    let short = wrong_seed(rt.alloc(), 20..40, 60, 100, 3)?;
-    assert_eq!(rt; short, None, "calls and lookups");
-=======
     let whole = Draws {
         calls: 1000,
         one_in: 500,
@@ -319,6 +308,5 @@ fn lookups_between_the_hands_readings_refuse_puts_as_a_plain_map_says(
         Ok(refused) => assert!(rt; refused >= 20, "{refused} puts are refused"),
         Err(seed) => assert!(rt; false, "seed {seed}"),
     }
->>>>>>> 669e773
     Ok(())
 }

@@ -23,12 +23,8 @@ struct LookUp {
     versions: u64,
 }
 
-<<<<<<< HEAD
-/// What a line of a script asks for. A lookup of a reader is answered where it ends.
-=======
 /// What a line of a script asks for. A lookup of a reader is answered where it ends, and so is a put that is made act by
 /// act: before it come the readings of the hand that find a bit set.
->>>>>>> 669e773
 #[derive(Clone, Copy)]
 pub(crate) enum Asked {
     Put(u64, u64),
