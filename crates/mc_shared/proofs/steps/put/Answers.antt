@@ -1,0 +1,29 @@
+use Rattle.std.proofs.Common.{ap, refl, sym, ◌∙◌, subst}
+use mathlib.Core.Option.{none}
+use Rattle.atomic_table.specs.Table.{step}
+use Rattle.mc_theory.specs.declared.act.Act.{Act}
+use Rattle.mc_shared.specs.Records.{Opening}
+use Rattle.mc_shared.specs.Ruling.{WritesAt, MayMake, IsLow}
+use Rattle.mc_shared.specs.Views.{acts_of}
+use Rattle.mc_shared.proofs.Acts.{place_below}
+use Rattle.mc_shared.proofs.Moves.{makes_as, store_bits, store_past, all_of}
+use Rattle.mc_shared.proofs.Seats.{put_is}
+use Rattle.mc_shared.proofs.steps.put.Goals as goal
+
+pub store-requires : goal.store-requires
+store-requires g c =
+    let v = c.board.view_is in
+    let same = ap (λ (o : Opening). o.layout) v in
+    let l = c.args.board.now.layout in
+    let acts = acts_of c.args.seat.now.me.0 in
+    let a = g.J.Intent.act in
+    let may : MayMake l acts a = subst (MayMake l acts) (sym c.requires.act) c.requires.may in
+    let writes : WritesAt l acts a c.args.place c.args.word = subst (λ (b : Act). WritesAt l acts b c.args.place c.args.word) (sym c.requires.act) c.requires.writes in
+    let stored : IsLow a = subst IsLow (sym c.requires.act) c.requires.low in (
+      ap (λ (o : Opening). o.table) (c.requires.of ∙ sym v),
+      rw (c.board.invariant.words ∙ ap all_of same) (place_below l acts a c.args.place c.args.word may writes),
+      makes_as _ _ same _ _ _ c.requires.seat a c.args.place c.args.word (λ _. c.args.word) (λ _. c.args.word) (step 0 c.args.place c.args.word 0 none) may writes (λ _. refl) (store_bits l acts a c.args.place c.args.word (λ _. c.args.word) stored may writes) (store_past l acts a c.args.place c.args.word stored may writes),
+    )
+
+pub returns-clause-acts : goal.returns-clause-acts
+returns-clause-acts g c = put_is c.args.board.now.layout c.args.seat.now.me _ g.J.Intent.act c.args.act c.args.word c.requires.act c.requires.low c.requires.seat c.store.ensures.2

@@ -1,0 +1,4 @@
+pub mod Views
+pub mod Recency
+pub mod Ruling
+pub mod Records
