@@ -1,4 +1,6 @@
 pub mod Views
-pub mod Recency
-pub mod Ruling
+pub mod RecencyTrace
+pub mod TableRule
+pub mod Steps
+pub mod SeatFacts
 pub mod Records

@@ -33,12 +33,12 @@ abbrev pub reader_view : Layout → List Made → List Reading → View
 reader_view l front done = view_as l (Reads front done)
 
 -- the writer's seat of a new table
-abbrev pub beginner : Layout → View
-beginner l = writer_view l [] []
+abbrev pub new_writer_view : Layout → View
+new_writer_view l = writer_view l [] []
 
 -- what no seat of a table knows
-abbrev pub nobody : View
-nobody = view_as (record { shape = record { buckets = 0; items = 0; stripes = 0; depth = 0; tries = 0; limit = 0; mix = Plain }; width = 0 }) Spent
+abbrev pub spent_view : View
+spent_view = view_as (record { shape = record { buckets = 0; items = 0; stripes = 0; depth = 0; tries = 0; limit = 0; mix = Plain }; width = 0 }) Spent
 
 abbrev pub acts_in : Role → List Made
 acts_in Spent = []
@@ -81,11 +81,11 @@ abbrev pub AreLawful : Layout → List Made → Type 0
 AreLawful l acts = IsLawful l.width l.shape acts
 
 -- the state after these acts
-abbrev pub now : (l : Layout) → List Made → State l.width
-now l acts = state_of l.width l.shape acts
+abbrev pub layout_state : (l : Layout) → List Made → State l.width
+layout_state l acts = state_of l.width l.shape acts
 
-abbrev pub made : Act → ℕ → Made
-made a bit = record { act = a; bit = bit }
+abbrev pub with_bit : Act → ℕ → Made
+with_bit a bit = record { act = a; bit = bit }
 
 -- one list begins the other
 abbrev pub IsFrontOf : List Made → List Made → Type 0
