@@ -35,15 +35,15 @@ IsStarted V books plan k v s (start.Planned told) = (IsPlanned V books plan (Put
 IsStarted V books plan k v s (start.Waits path) = (plan ≡ []) × Waits V books k s path
 
 -- its sweep has found an item, and the books know where the hand stands now
-pub record IsReplacing (V : ℕ) (books : Books) (plan : List Act) (waiting : Waiting V) (call : Call) (s : State V) (rs : List Swept) (item : ℕ) : Type 0 where
+pub record IsReplacing (V : ℕ) (books : Books) (waiting : Waiting V) (call : Call) (s : State V) (rs : List Swept) (item : ℕ) : Type 0 where
   pub before : ℕ
-  pub sweeping : IsSweeping V (record books { hand = before }) plan waiting call s rs
+  pub sweeping : IsSweeping V (record books { hand = before }) waiting call s rs
   pub found : victim_of rs ≡ Some item
   pub stands : books.hand ≡ waiting.sweep.hand
 
 -- the sweep of the call is over, and the rest of it is to be planned
 abbrev pub IsAtEnd : (V : ℕ) → Stage V → Books → List Act → ℕ → Call → State V → List Swept → Type 0
-IsAtEnd V (Sweeping waiting) books plan many call s rs = IsSweeping V books plan waiting call s rs × IsOver (shape_of books.checked).items rs × (many ≡ 0)
+IsAtEnd V (Sweeping waiting) books plan many call s rs = IsSweeping V books waiting call s rs × IsOver (shape_of books.checked).items rs × (many ≡ 0) × (plan ≡ [])
 IsAtEnd V _ books plan many call s rs = ⊥
 
 pub record HasEndedSweep (V : ℕ) (clerk : Clerk V) (call : Call) (s : State V) (rs : List Swept) : Type 0 where

@@ -1,9 +1,12 @@
-use Rattle.std.proofs.Common.{◌≡◌, ◌+◌, ◌-◌, ◌<◌, ◌∙◌, List, ap, arith, drop, get_or, length}
+use Rattle.std.proofs.Common.{◌≡◌, ◌+◌, ◌-◌, ◌<◌, ◌∙◌, ◌++◌, [], List, ap, arith, drop, get_or, length}
 use Rattle.mc_words.specs.declared.place.Place.{Place}
 use Rattle.mc_words.specs.Places.{slot, item, slot_number}
-use Rattle.mc_plan.specs.Plans.{item_in}
+use Rattle.mc_plan.specs.declared.decision.Move.{Move}
+use Rattle.mc_plan.specs.Decisions.{acts_of_moves}
+use Rattle.mc_plan.specs.Plans.{item_in, move_acts}
+use Rattle.mc_plan.proofs.Puts.MoveLists.{moves_push}
 use Rattle.mc_plan.proofs.Puts.PathSteps.{IsMadeFrom, occupied_at, named_at, path_from, made_more}
-use Rattle.mc_plan.proofs.moves.add_moves.Goals as goal
+use Rattle.mc_plan.proofs.moves.path_moves.Goals as goal
 
 pub slot_at-word-requires-clause-place : goal.slot_at-word-requires-clause-place
 slot_at-word-requires-clause-place g c =
@@ -41,14 +44,17 @@ loop-n-preserved g c =
     let word : c.slot_at-word.result ≡ slot sh w (slot_number p) = rw (← old.same, ← at) c.slot_at-word.ensures.value in
     let key : c.key_in-key.result ≡ item g.row.V sh w (item_in (slot sh w (slot_number p))) 0 =
     rw (← word, ← old.same, ← c.slot_at-word.ensures.same) c.key_in-key.ensures.value in
-    let before : IsMadeFrom g.row.V sh w c.args.acts.now.items c.loop-n.acts.items (drop n ps) hole c.loop-n.to = record { items = old.items; end = old.to; keys = old.keys } in
-    let after = made_more g.row.V sh w c.args.acts.now.items c.loop-n.acts.items c.add_move.new.acts.items (drop n ps) hole c.loop-n.to p c.key_in-key.result c.slot_at-word.result before word key c.key_in-key.type_inv (rw (← at) c.add_move.ensures.items) in
-    let made : IsMadeFrom g.row.V sh w c.args.acts.now.items c.add_move.new.acts.items (drop m ps) hole p = rw (path_from ps m n blank next below) after in
+    let move : Move = record { key = c.key_in-key.result; word = c.slot_at-word.result; from = get_or c.deref.result.now m blank; to = c.loop-n.to } in
+    let pushed : acts_of_moves c.push.new.self.items ≡ acts_of_moves c.loop-n.moves.items ++ move_acts c.key_in-key.result c.slot_at-word.result p c.loop-n.to =
+    ap acts_of_moves c.push.ensures.items ∙ moves_push c.loop-n.moves.items move ∙ ap (λ (q : Place). acts_of_moves c.loop-n.moves.items ++ move_acts c.key_in-key.result c.slot_at-word.result q c.loop-n.to) at in
+    let before : IsMadeFrom g.row.V sh w [] (acts_of_moves c.loop-n.moves.items) (drop n ps) hole c.loop-n.to = record { items = old.items; end = old.to; keys = old.keys } in
+    let after = made_more g.row.V sh w [] (acts_of_moves c.loop-n.moves.items) (acts_of_moves c.push.new.self.items) (drop n ps) hole c.loop-n.to p c.key_in-key.result c.slot_at-word.result before word key c.key_in-key.type_inv pushed in
+    let made : IsMadeFrom g.row.V sh w [] (acts_of_moves c.push.new.self.items) (drop m ps) hole p = rw (path_from ps m n blank next below) after in
     record {
       within = omega (arith, old.within);
       same = c.key_in-key.ensures.same ∙ c.slot_at-word.ensures.same ∙ old.same;
       kept = c.key_in-key.ensures.kept ∙ c.slot_at-word.ensures.kept ∙ old.kept;
-      many = omega (arith, c.add_move.ensures.many, old.many, next);
+      many = omega (arith, c.push.ensures.len, old.many, next);
       items = made.items;
       to = at ∙ made.end;
       keys = made.keys;
