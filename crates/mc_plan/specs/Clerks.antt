@@ -19,14 +19,12 @@ use Rattle.mc_plan.specs.declared.clerk.Clerk.{Clerk}
 use Rattle.mc_plan.specs.declared.clerk.Stage.{Stage}
 use Rattle.mc_plan.specs.declared.clerk.Stage.TheVariants.{Idle, Sweeping, Planned}
 use Rattle.mc_search.specs.declared.path.Path.{Path}
-use Rattle.mc_plan.specs.declared.waiting.Start.{Start}
-use Rattle.mc_plan.specs.declared.waiting.Start.TheVariants as start
 use Rattle.mc_plan.specs.declared.waiting.Waiting.{Waiting}
 use Rattle.mc_plan.specs.Calls.{PutAnswers, RemoveAnswers}
 use Rattle.mc_search.specs.Free.{IsKept, IsFreeIn}
 use Rattle.mc_plan.specs.Making.{IsQuiet, made, left}
 use Rattle.mc_search.specs.Paths.{IsLeastPath}
-use Rattle.mc_search.specs.Sweeps.{Swept, IsSweep, HasSwept, IsOver, hand_acts, next_item, victim_of}
+use Rattle.mc_search.specs.Sweeps.{Swept, IsSweep, HasSwept, hand_acts, next_item, victim_of}
 
 -- a call of a clerk
 pub data Call : Type 0 where

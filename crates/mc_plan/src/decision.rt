@@ -21,14 +21,9 @@ pub enum Decision {
     /// It changes nothing.
     Refuse(PutError),
     /// The key stands at the item, which gets the new value.
-    Renew {
-        item: u32,
-        at: u64,
-    },
+    Renew { item: u32, at: u64 },
     /// The key is not there: `Books::insert` decides the rest.
-    Insert {
-        at: u64,
-    },
+    Insert { at: u64 },
 }
 
 /// What the put of a key does that is not there.
@@ -65,14 +60,9 @@ pub enum Removal {
     /// It changes nothing.
     Refuse(Spent),
     /// The key stands in the slot, which is cleared.
-    TakeOut {
-        place: Place,
-        at: u64,
-    },
+    TakeOut { place: Place, at: u64 },
     /// There is nothing to do.
-    Leave {
-        at: u64,
-    },
+    Leave { at: u64 },
 }
 
 impl Storing {

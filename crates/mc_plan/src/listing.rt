@@ -24,12 +24,7 @@ use mc_theory::{Act, Peek};
 use mc_words::Checked;
 
 /// Adds the acts of a renewal, and the mark of its item.
-fn add_renewal<const V: usize>(
-    acts: &mut ArrayVec<Act, 64>,
-    key: u64,
-    value: &[u64; V],
-    item: u32,
-)
+fn add_renewal<const V: usize>(acts: &mut ArrayVec<Act, 64>, key: u64, value: &[u64; V], item: u32)
     requires width { IsWidth V }
     requires room { array_vec_len acts.old ≤ 4 }
     ensures items { acts.new.items ≡ acts.old.items ++ renewal_acts key value.now item }

@@ -68,7 +68,12 @@ pub fn path_moves<const V: usize, P: Peek>(
         let from = path.places[n];
         let word = slot_at(checked, peek, from);
         let key = key_in::<V, P>(checked, peek, word);
-        moves.push(Move { key, word, from, to });
+        moves.push(Move {
+            key,
+            word,
+            from,
+            to,
+        });
         to = from;
     }
     moves

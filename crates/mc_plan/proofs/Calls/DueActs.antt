@@ -1,5 +1,5 @@
 -- Acts of a plan, made one after the other.
-use Rattle.std.proofs.Common.{ℕ, ◌≡◌, ◌≤◌, ◌∙◌, List, [], ◌∷◌, ◌++◌, Some, refl, ap, sym, subst, append_assoc, append-nil}
+use Rattle.std.proofs.Common.{ℕ, ◌≡◌, ◌≤◌, ◌∙◌, List, [], ◌∷◌, ◌++◌, Some, refl, sym, subst, append_assoc, append-nil}
 use Rattle.mc_words.specs.Checks.{shape_of}
 use Rattle.mc_words.specs.declared.shape.Shape.{Shape}
 use Rattle.mc_theory.specs.Acts.{IsAllowed}
@@ -9,13 +9,10 @@ use Rattle.mc_theory.specs.States.{State}
 use Rattle.mc_theory.specs.declared.act.Act.{Act}
 use Rattle.mc_theory.specs.declared.act.Act.TheVariants.{Hand}
 use Rattle.mc_theory.proofs.Lists.Fronts.{state_append, state_push}
-use Rattle.mc_search.specs.Sweeps.{Swept, hand_acts, next_item}
-use Rattle.mc_plan.specs.Clerks.{Answered, AreBooksOf, Call, IsPlanned, IsSweeping, IsSweepOf, swept}
+use Rattle.mc_search.specs.Sweeps.{hand_acts, next_item}
+use Rattle.mc_plan.specs.Clerks.{Answered, AreBooksOf, IsPlanned, IsSweepOf, swept}
 use Rattle.mc_plan.specs.Due.{AreDue, PlansAreDue, DueActsCanBeMade, SweepsCanRead, PlansEndCalls}
 use Rattle.mc_plan.specs.Making.{made, left}
-use Rattle.mc_plan.specs.declared.answer.Answer.{Answer}
-use Rattle.mc_plan.specs.declared.books.Books.{Books}
-use Rattle.mc_plan.specs.declared.waiting.Waiting.{Waiting}
 use Rattle.mc_plan.proofs.Calls.CanEnd.{acts_made}
 use Rattle.mc_plan.proofs.Calls.MidCall.{changes_left, whole_plan}
 use Rattle.mc_plan.proofs.Calls.MidSweep.{hand_may, hands_may}
@@ -63,8 +60,8 @@ plan_ends V sh b plan call acts rs told same hands sweeps p =
     let s = state_of V sh acts in
     let P : Shape → Type 0 = λ x. AreAllowed x s (hand_acts rs) → IsSweepOf V x s rs told → IsPlanned V b plan call s (swept V x s rs) told → Answered V x call s (hand_acts rs ++ made plan) told × AreBooksOf V b (after_all x s (hand_acts rs ++ made plan)) in
     let here : P (shape_of b.checked) = λ h w q.
-        let whole = whole_plan V b plan call s rs (made plan) told h w q (acts_made plan) in
-        (whole.0, subst (λ (t : State V). AreBooksOf V b t) (sym whole.1) q.ends)
+    let whole = whole_plan V b plan call s rs (made plan) told h w q (acts_made plan) in
+    (whole.0, subst (λ (t : State V). AreBooksOf V b t) (sym whole.1) q.ends)
     in
     let ends = subst P same here hands sweeps p in
     (ends.0, subst (λ (t : State V). AreBooksOf V b t) (sym (state_append V sh acts (hand_acts rs ++ made plan))) ends.1)

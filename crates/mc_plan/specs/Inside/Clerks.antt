@@ -1,33 +1,19 @@
 -- What only private contracts say beside `Clerks`.
-use Rattle.std.specs.Prelude.{ℕ, ◌≡◌, ◌+◌, ◌-◌, ◌*◌, ◌<◌, ◌≤◌, List, [], ◌∷◌, ◌++◌, map, take, length, slice_get, Option, Some, None, IsSome, Ok, Err}
-use Rattle.mc_words.specs.declared.shape.Shape.{Shape}
-use Rattle.mc_words.specs.Answers.{Quiet, PutIsSpent}
+use Rattle.std.specs.Prelude.{ℕ, ◌≡◌, List, [], Some}
 use Rattle.mc_words.specs.Checks.{shape_of}
-use Rattle.mc_words.specs.History.{IsWord}
-use Rattle.mc_words.specs.Places.{IsWidth}
-use Rattle.mc_words.specs.Standing.{Names, Stands, IsAbsent, IsFree}
-use Rattle.mc_theory.specs.Lists.{Made, AreAllowed, after_all}
 use Rattle.mc_theory.specs.States.{State}
 use Rattle.mc_theory.specs.declared.act.Act.{Act}
-use Rattle.mc_theory.specs.declared.act.Act.TheVariants.{Hand, Mark}
-use Rattle.mc_plan.specs.declared.answer.Answer.{Answer}
 use Rattle.mc_plan.specs.declared.answer.Answer.TheVariants as answer
-use Rattle.mc_plan.specs.declared.answer.Put.TheVariants as put
-use Rattle.mc_plan.specs.declared.answer.PutError.TheVariants as why
 use Rattle.mc_plan.specs.declared.books.Books.{Books}
 use Rattle.mc_plan.specs.declared.clerk.Clerk.{Clerk}
 use Rattle.mc_plan.specs.declared.clerk.Stage.{Stage}
-use Rattle.mc_plan.specs.declared.clerk.Stage.TheVariants.{Idle, Sweeping, Planned}
-use Rattle.mc_search.specs.declared.path.Path.{Path}
+use Rattle.mc_plan.specs.declared.clerk.Stage.TheVariants.{Sweeping}
 use Rattle.mc_plan.specs.declared.waiting.Start.{Start}
 use Rattle.mc_plan.specs.declared.waiting.Start.TheVariants as start
 use Rattle.mc_plan.specs.declared.waiting.Waiting.{Waiting}
-use Rattle.mc_plan.specs.Calls.{PutAnswers, RemoveAnswers}
-use Rattle.mc_search.specs.Free.{IsKept, IsFreeIn}
-use Rattle.mc_plan.specs.Making.{IsQuiet, made, left}
-use Rattle.mc_search.specs.Paths.{IsLeastPath}
-use Rattle.mc_search.specs.Sweeps.{Swept, IsSweep, HasSwept, IsOver, hand_acts, next_item, victim_of}
-use Rattle.mc_plan.specs.Clerks.{Call, PutCall, shape_in, quiet_of, Means, acts_of, IsOfDeed, AreOfDeeds, MarksLast, Marks, IsSweepOf, swept, Answered, AreBooksOf, IsPlanned, Waits, Knows, IsSweeping, MakesPlan, IsAt, IsOn, Runs, IsRunning, hand_of, next_in, next_act, left_in, acts_left}
+use Rattle.mc_plan.specs.Making.{IsQuiet}
+use Rattle.mc_search.specs.Sweeps.{Swept, IsOver, victim_of}
+use Rattle.mc_plan.specs.Clerks.{Call, PutCall, shape_in, IsSweepOf, IsPlanned, Waits, IsSweeping}
 
 -- how a put starts: it is planned, or it waits for an item
 abbrev pub IsStarted : (V : ℕ) → Books → List Act → ℕ → List ℕ → State V → Start → Type 0

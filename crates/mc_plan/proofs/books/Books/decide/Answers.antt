@@ -1,9 +1,9 @@
-use Rattle.std.proofs.Common.{ℕ, List, Err, ◌≡◌, ◌+◌, ◌∙◌, ap, arith, refl, subst}
+use Rattle.std.proofs.Common.{ℕ, List, Err, ◌+◌, ◌∙◌, ap, arith, refl, subst}
 use Rattle.std.proofs.lemmas.Bool.{false≢true}
 use Rattle.mc_words.specs.declared.shape.Shape.{Shape}
 use Rattle.mc_words.specs.Answers.{PutIsSpent}
 use Rattle.mc_words.specs.Checks.{shape_of}
-use Rattle.mc_words.specs.Places.{moment, slot_number}
+use Rattle.mc_words.specs.Places.{slot_number}
 use Rattle.mc_words.specs.Standing.{Stands, IsAbsent}
 use Rattle.mc_theory.specs.States.{State}
 use Rattle.mc_plan.specs.Clerks.{PutCall, AreBooksOf, quiet_of}
@@ -11,7 +11,6 @@ use Rattle.mc_plan.specs.declared.answer.Answer.TheVariants as answer
 use Rattle.mc_plan.specs.declared.answer.PutError.TheVariants as why
 use Rattle.mc_plan.proofs.Calls.AfterPlan.{idle_planned, renewal_planned, placed_in, moment_in}
 use Rattle.mc_plan.proofs.Deeds.Values.{payload_of}
-
 use Rattle.mc_plan.proofs.books.Books.decide.Goals as goal
 use Rattle.mc_plan.proofs.books.Books.decide.Goals.{Else-is_spent}
 use Rattle.mc_plan.proofs.books.Books.decide.Given.{Over}

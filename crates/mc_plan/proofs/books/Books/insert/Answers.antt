@@ -1,18 +1,15 @@
 use Rattle.std.proofs.Common.{ℕ, List, refl, ◌∷◌, ◌++◌, [], None, Ok, Err, ◌≡◌, ◌+◌, ◌*◌, ◌<◌, ◌∙◌, ap, arith, length, sym, subst}
 use Rattle.mc_words.specs.Checks.{shape_of}
 use Rattle.mc_words.specs.declared.shape.Shape.{Shape}
-use Rattle.mc_theory.specs.States.{State}
 use Rattle.mc_theory.specs.declared.act.Act.{Act}
 use Rattle.mc_theory.specs.declared.act.Act.TheVariants as act
 use Rattle.mc_plan.specs.Clerks.{PutCall, IsPlanned, Waits}
-use Rattle.mc_plan.specs.Deciding.{IsLackingKey}
 use Rattle.mc_plan.specs.Decisions.{storing_acts, storing_told}
 use Rattle.mc_plan.specs.declared.answer.Answer.TheVariants as answer
 use Rattle.mc_plan.specs.declared.answer.Put.{Put}
 use Rattle.mc_plan.specs.declared.answer.Put.TheVariants as put
 use Rattle.mc_plan.specs.declared.answer.PutError.TheVariants as why
 use Rattle.mc_plan.specs.declared.books.Books.{Books}
-use Rattle.mc_plan.specs.declared.decision.Storing.{Storing}
 use Rattle.mc_plan.specs.Moves.{AreTaken, AreKeys}
 use Rattle.mc_plan.specs.Plans.{moves_acts}
 use Rattle.mc_plan.specs.Puts.{put_acts}
@@ -21,7 +18,7 @@ use Rattle.mc_search.proofs.TakenItems.{free_below}
 use Rattle.mc_plan.proofs.Puts.MoveLists.{stored_acts}
 use Rattle.mc_plan.proofs.Puts.PathSteps.{chain_taken}
 use Rattle.mc_plan.proofs.Deeds.Values.{payload_of}
-use Rattle.mc_plan.proofs.Calls.AfterPlan.{idle_planned, books_still, path_refused, stored_planned, reaches, filled_in, none_in, least_in}
+use Rattle.mc_plan.proofs.Calls.AfterPlan.{idle_planned, books_still, path_refused, stored_planned, filled_in, none_in, least_in}
 use Rattle.mc_plan.proofs.books.Books.insert.Goals as goal
 
 pub returns-in_default-clause-inserted : goal.returns-in_default-clause-inserted
@@ -100,5 +97,5 @@ returns-clause-inserted g c s lacks same =
     (subst (λ (x : List Act). IsPlanned V (record b { free = free; changes = b.changes + steps }) x (PutCall k v) s s (answer.Put (Ok (put.Stored c.args.at (length ps) None)))) acts planned) in (
       subst (λ (x : Books). storing.item < (shape_of x.checked).items) (sym c.storing.ensures.books) (subst (λ (j : ℕ). j < sh.items) (sym c.storing.ensures.item) below),
       subst (λ (x : Books). IsPlanned V x (storing_acts (shape_of x.checked) k v storing) (PutCall k v) s s told) (sym c.storing.ensures.books)
-      (subst (λ (f : Shape). IsPlanned V (record b { finder = f; free = free; changes = b.changes + steps }) (storing_acts sh k v storing) (PutCall k v) s s told) (sym c.path.ensures.finder) all),
+          (subst (λ (f : Shape). IsPlanned V (record b { finder = f; free = free; changes = b.changes + steps }) (storing_acts sh k v storing) (PutCall k v) s s told) (sym c.path.ensures.finder) all),
     )

@@ -1,4 +1,4 @@
-use Rattle.std.proofs.Common.{ℕ, List, [], ◌∷◌, ◌++◌, Some, Ok, ◌≡◌, ◌+◌, ◌*◌, ◌∙◌, ap, arith, length, sym, subst, rules}
+use Rattle.std.proofs.Common.{ℕ, List, [], ◌∷◌, ◌++◌, Some, Ok, ◌≡◌, ◌+◌, ◌*◌, ◌∙◌, ap, arith, length, sym, subst}
 use Rattle.mc_words.specs.Checks.{shape_of}
 use Rattle.mc_words.specs.Places.{item, moment, slot_number}
 use Rattle.mc_words.specs.Standing.{Stands}
@@ -7,7 +7,6 @@ use Rattle.mc_theory.specs.declared.act.Act.{Act}
 use Rattle.mc_theory.specs.declared.act.Act.TheVariants as act
 use Rattle.mc_plan.specs.Clerks.{Call, IsPlanned, IsSweepOf, swept}
 use Rattle.mc_plan.specs.Inside.Clerks.{IsReplacing}
-use Rattle.mc_plan.specs.declared.answer.Answer.{Answer}
 use Rattle.mc_plan.specs.declared.answer.Answer.TheVariants as answer
 use Rattle.mc_plan.specs.declared.answer.Put.{Put}
 use Rattle.mc_plan.specs.declared.answer.Put.TheVariants as put
@@ -19,11 +18,11 @@ use Rattle.mc_plan.specs.Moves.{AreKeys, AreTaken}
 use Rattle.mc_plan.specs.Plans.{moves_acts}
 use Rattle.mc_search.specs.Readable.{IsFilled}
 use Rattle.mc_plan.specs.Replacing.{replace_acts}
-use Rattle.mc_plan.proofs.Calls.AfterPlan.{reaches, filled_in, placed_in}
+use Rattle.mc_plan.proofs.Calls.AfterPlan.{filled_in, placed_in}
 use Rattle.mc_plan.proofs.Puts.MoveLists.{replaced_acts}
 use Rattle.mc_plan.proofs.Puts.PathSteps.{chain_taken, cut_taken}
 use Rattle.mc_plan.proofs.Calls.SweptStates.{swept_still}
-use Rattle.mc_plan.proofs.Calls.AfterSweep.{cut_few, one_item, victim_stands, replaced_planned}
+use Rattle.mc_plan.proofs.Calls.AfterSweep.{one_item, victim_stands, replaced_planned}
 use Rattle.mc_plan.proofs.books.Books.replace.Goals as goal
 use Rattle.mc_plan.proofs.books.Books.replace.Goals.{After-key_at-evicted}
 use Rattle.mc_plan.proofs.books.Books.replace.Given.{Over}

@@ -1,14 +1,13 @@
-use Rattle.std.proofs.Common.{◌≡◌, ◌+◌, [], ap, arith, refl, subst, sym}
+use Rattle.std.proofs.Common.{◌≡◌, ◌+◌, ap, arith, refl, subst, sym}
 use Rattle.mc_words.specs.declared.shape.Shape.{Shape}
 use Rattle.mc_words.specs.Checks.{shape_of}
-use Rattle.mc_plan.specs.Clerks.{IsSweeping, PutCall, acts_left, left_in}
+use Rattle.mc_plan.specs.Clerks.{PutCall, acts_left, left_in}
 use Rattle.mc_plan.specs.Inside.Clerks.{IsStarted}
 use Rattle.mc_plan.specs.Making.{IsQuiet}
 use Rattle.mc_plan.specs.declared.answer.Answer.TheVariants as answer
 use Rattle.mc_plan.specs.declared.clerk.Clerk.{Clerk}
 use Rattle.mc_plan.specs.declared.clerk.Stage.{Stage}
 use Rattle.mc_plan.specs.declared.waiting.Start.{Start}
-use Rattle.mc_plan.specs.declared.waiting.Waiting.{Waiting}
 use Rattle.mc_plan.proofs.Calls.MidSweep.{begins_sweep}
 use Rattle.mc_plan.proofs.Calls.MidCall.{begins}
 use Rattle.mc_plan.proofs.clerk.Clerk.put.Goals as goal
