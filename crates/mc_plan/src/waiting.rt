@@ -34,6 +34,8 @@ impl<const V: usize> Waiting<V> {
     pub fn new(books: &Books, key: u64, value: [u64; V], path: Path) -> Waiting<V>
         requires waits { (s : State V) × Waits V books.now key s path }
         ensures sweeping { (s : State V) → Waits V books.now key s path → IsSweeping V books.now result (PutCall key value.entry) s [] }
+        ensures key { result.key ≡ key }
+        ensures value { result.value ≡ value.entry }
         ensures left { result.sweep.left ≡ 2 * (shape_of books.now.checked).items }
     {
         Waiting {
@@ -56,6 +58,8 @@ impl<const V: usize> Waiting<V> {
     pub fn after(&mut self, bit: u64)
         requires { (b : Books) × (call : Call) × (s : State V) × (rs : List Swept) × (i : ℕ) × IsSweeping V b self.old call s rs × (next_item self.old.sweep ≡ Some i) }
         ensures swept { (b : Books) (call : Call) (s : State V) (rs : List Swept) (i : ℕ) → IsSweeping V b self.old call s rs → next_item self.old.sweep ≡ Some i → IsSweeping V b self.new call s (rs ++ record { item = i; bit = bit } ∷ []) }
+        ensures key { self.new.key ≡ self.old.key }
+        ensures value { self.new.value ≡ self.old.value }
         ensures left { self.new.sweep.left < self.old.sweep.left }
     {
         self.sweep.after(bit);
