@@ -36,9 +36,9 @@ use Rattle.mc_plan.proofs.Calls.SweptStates.{swept_still, swept_hand, swept_clea
 
 -- ---- the victim
 -- where an item is named, its key stands at it
-pub victim_stands : (V : ℕ) (b : Books) (plan : List Act) (waiting : Waiting V) (call : Call) (s : State V) (rs : List Swept) (i : ℕ) → IsReplacing V b plan waiting call s rs i
+pub victim_stands : (V : ℕ) (b : Books) (waiting : Waiting V) (call : Call) (s : State V) (rs : List Swept) (i : ℕ) → IsReplacing V b waiting call s rs i
     → (i < (shape_of b.checked).items) × ((q : ℕ) × Stands V (shape_of b.checked) s.words (item V (shape_of b.checked) s.words i 0) q i)
-victim_stands V b plan waiting call s rs i on =
+victim_stands V b waiting call s rs i on =
     let sweeping = on.sweeping in
     let below = victim_below (shape_of b.checked).items s.hand rs i sweeping.has.sweeps (omega (arith, sweeping.has.start)) on.found in
     let named = sweeping.waits.known.named i below (sweeping.waits.none i) in
@@ -75,16 +75,16 @@ same_quiet V s m words hand history changes =
     ap (λ (w : List ℕ). of w m.hand m.history m.changes) words ∙ ap (λ (h : ℕ). of s.words h m.history m.changes) hand ∙ ap (λ (c : List (Change V)). of s.words s.hand c m.changes) history ∙ ap (λ (n : ℕ). of s.words s.hand s.history n) changes
 
 -- ---- every item is recent
-pub recent_planned : (V : ℕ) (b : Books) (plan : List Act) (waiting : Waiting V) (call : Call) (s : State V) (rs : List Swept) (hand : ℕ) → IsSweeping V b plan waiting call s rs → IsOver (shape_of b.checked).items rs → victim_of rs ≡ None → hand ≡ s.hand
-    → IsPlanned V (record b { hand = hand }) plan call s (swept V (shape_of b.checked) s rs) (answer.Put (Err why.AllRecent)) × IsSweepOf V (shape_of b.checked) s rs (answer.Put (Err why.AllRecent))
-recent_planned V b plan waiting call s rs hand on over none is =
+pub recent_planned : (V : ℕ) (b : Books) (waiting : Waiting V) (call : Call) (s : State V) (rs : List Swept) (hand : ℕ) → IsSweeping V b waiting call s rs → IsOver (shape_of b.checked).items rs → victim_of rs ≡ None → hand ≡ s.hand
+    → IsPlanned V (record b { hand = hand }) [] call s (swept V (shape_of b.checked) s rs) (answer.Put (Err why.AllRecent)) × IsSweepOf V (shape_of b.checked) s rs (answer.Put (Err why.AllRecent))
+recent_planned V b waiting call s rs hand on over none is =
     let sh = shape_of b.checked in
     let waits = on.waits in
     let m = swept V sh s rs in
     let still = swept_still V sh s rs in
     let many = over_without sh.items rs over none in
     let home : m.hand ≡ s.hand = swept_hand V sh s s.hand rs refl on.has.sweeps on.has.start ∙ swept_home sh.items s.hand rs on.has.start many in
-    let quiet = sweep_quiet V sh s rs waits.known.quiet b.checked.sound (hands_may V b plan waiting call s rs on) in
+    let quiet = sweep_quiet V sh s rs waits.known.quiet b.checked.sound (hands_may V b waiting call s rs on) in
     let needs = needs_item V b s waiting.key waiting.path waits.known waits.unspent waits.absent waits.least waits.none in
     let refuses : means.RefusesAll V sh (quiet_of s) (quiet_of m) waiting.key = record { needs = needs.0; unchanged = same_quiet V s m still.words home still.history still.changes } in
     let told = answer.Put (Err why.AllRecent) in
@@ -94,8 +94,7 @@ recent_planned V b plan waiting call s rs hand on over none is =
       marks = tt;
       ends = books_swept V b hand s m waits.known quiet still.words still.changes (is ∙ sym home) home;
     } in (
-      subst (λ (xs : List Act). IsPlanned V (record b { hand = hand }) xs call s m told) (sym on.empty)
-          (subst (λ (c : Call). IsPlanned V (record b { hand = hand }) [] c s m told) (sym on.called) planned),
+      subst (λ (c : Call). IsPlanned V (record b { hand = hand }) [] c s m told) (sym on.called) planned,
       (on.has.sweeps, many, none),
     )
 
@@ -117,7 +116,7 @@ two_more V sh s t at one two quiet grows is =
     let more = length-append s.history (one ∷ two ∷ []) in
     omega (arith, is, now, more, ap length grows)
 
-module _ (V : ℕ) (b : Books) (plan : List Act) (waiting : Waiting V) (call : Call) (s : State V) (rs : List Swept) (i : ℕ) (on : IsReplacing V b plan waiting call s rs i) where
+module _ (V : ℕ) (b : Books) (waiting : Waiting V) (call : Call) (s : State V) (rs : List Swept) (i : ℕ) (on : IsReplacing V b waiting call s rs i) where
   abbrev pub sh : Shape
   sh = shape_of b.checked
 
@@ -138,7 +137,7 @@ module _ (V : ℕ) (b : Books) (plan : List Act) (waiting : Waiting V) (call : C
       let sweeping = on.sweeping in
       let waits = sweeping.waits in
       let same = (swept_still V sh s rs).words in
-      let quiet = sweep_quiet V sh s rs waits.known.quiet b.checked.sound (hands_may V (record b { hand = on.before }) plan waiting call s rs sweeping) in
+      let quiet = sweep_quiet V sh s rs waits.known.quiet b.checked.sound (hands_may V (record b { hand = on.before }) waiting call s rs sweeping) in
       let cleared = swept_cleared V sh s sh.items s.hand rs i sweeping.has.sweeps on.found in
       let can : CanReplace V sh mid.words waiting.key i e p waiting.path.places.items waiting.path.hole kept end = record {
         absent = subst (λ (w : List ℕ). IsAbsent V sh w waiting.key) (sym same) waits.absent;
@@ -201,7 +200,7 @@ module _ (V : ℕ) (b : Books) (plan : List Act) (waiting : Waiting V) (call : C
       let few = cut_few p waiting.path.places.items waiting.path.hole kept end cut in
       let r = replaced e p kept end words word place stands cut keys in
       let t = left V sh mid (acts_for e p kept end) in
-      let below = (victim_stands V b plan waiting call s rs i on).0 in
+      let below = (victim_stands V b waiting call s rs i on).0 in
       let walk = marked V sh mid (acts_for e p kept end) (Evict e ∷ Put waiting.key waiting.value ∷ []) (2 * length kept + 4) i r.makes below in
       let told = answer.Put (Ok (put.Stored at (length kept) (Some e))) in
       let put_call = PutCall waiting.key waiting.value in
