@@ -15,7 +15,6 @@ use Rattle.mc_plan.specs.declared.answer.PutError.TheVariants as why
 use Rattle.mc_plan.specs.declared.books.Books.{Books}
 use Rattle.mc_plan.specs.Plans.{renew_acts}
 use Rattle.mc_plan.proofs.Calls.AfterPlan.{idle_planned, renewal_planned, placed_in, moment_in}
-use Rattle.mc_plan.proofs.Deeds.Values.{payload_of}
 use Rattle.mc_plan.proofs.books.Books.put.Goals as goal
 use Rattle.mc_plan.proofs.books.Books.put.Goals.{Else-is_spent}
 use Rattle.mc_plan.proofs.books.Books.put.Given.{Over}
@@ -60,7 +59,7 @@ returns-in-Some-clause-started g c s old same =
     let told = answer.Put (Ok (put.Renewed at)) in
     let stands = subst (λ (x : List ℕ). Stands V sh x k (slot_number c.in-Some.field-0-0) i) (c.moment-at.ensures.same ∙ same) c.in-Some.ensures.found in
     let not_spent = unspent g (goal.at.returns-in-Some-clause-started g c).Else-is_spent s old in
-    let planned = renewal_planned V b k v i at s (slot_number c.in-Some.field-0-0) b.checked.sound (omega arith) (payload_of V v c.told-value, c.renew.ensures.words) old stands not_spent (omega (arith, not_spent)) (moment_in V b s (g.P.Peek.words c.args.peek.now) old same at (ap (λ (n : ℕ). n + 1) c.moment-at.ensures.value)) in (
+    let planned = renewal_planned V b k v i at s (slot_number c.in-Some.field-0-0) b.checked.sound (omega arith) (c.told-value, c.renew.ensures.words) old stands not_spent (omega (arith, not_spent)) (moment_in V b s (g.P.Peek.words c.args.peek.now) old same at (ap (λ (n : ℕ). n + 1) c.moment-at.ensures.value)) in (
       subst (λ (x : List Act). IsPlanned V c.renew.new.self x (PutCall k v) s s told) (sym c.renew.ensures.plan)
           (subst (λ (x : Books). IsPlanned V x (renew_acts k v i ++ act.Mark i ∷ []) (PutCall k v) s s told) (sym c.renew.ensures.books) planned),
       refl,

@@ -13,7 +13,6 @@ use Rattle.mc_plan.specs.Puts.{put_acts}
 use Rattle.mc_search.specs.Readable.{IsFilled}
 use Rattle.mc_search.proofs.TakenItems.{free_below}
 use Rattle.mc_plan.proofs.Puts.PathSteps.{chain_taken}
-use Rattle.mc_plan.proofs.Deeds.Values.{payload_of}
 use Rattle.mc_plan.proofs.Calls.AfterPlan.{idle_planned, books_still, path_refused, stored_planned, reaches, filled_in, none_in, least_in, moment_in, absent_in}
 use Rattle.mc_plan.proofs.books.Books.store.Goals as goal
 
@@ -86,7 +85,7 @@ returns-clause-started g c s old same unspent =
     let was = c.in-Some-take_least.ensures.free in
     let item = free_below b.free i old.kept was in
     let planned : IsPlanned V (record b { free = free; changes = b.changes + steps }) (put_acts V sh s.words k v i ps path.hole ++ act.Mark i ∷ []) (PutCall k v) s s told =
-    stored_planned V b k v i c.args.at path free s b.checked.sound (omega arith) (payload_of V v c.told-value, c.fill.ensures.words) old (absent_in V b s w old same k c.requires.absent) least keys (omega (arith, item, old.items)) unspent (moment_in V b s w old same c.args.at c.requires.at) was c.take_least.ensures.kept c.take_least.ensures.items c.in-Some-take_least.ensures.takes in
+    stored_planned V b k v i c.args.at path free s b.checked.sound (omega arith) (c.told-value, c.fill.ensures.words) old (absent_in V b s w old same k c.requires.absent) least keys (omega (arith, item, old.items)) unspent (moment_in V b s w old same c.args.at c.requires.at) was c.take_least.ensures.kept c.take_least.ensures.items c.in-Some-take_least.ensures.takes in
     let acts : c.fill.new.plan.items ≡ put_acts V sh s.words k v i ps path.hole ++ act.Mark i ∷ [] = c.fill.ensures.plan ∙ ap (λ (x : List ℕ). (c.args.plan.now.items ++ put_acts V sh x k v i ps path.hole) ++ act.Mark i ∷ []) now ∙ ap (λ (xs : List Act). (xs ++ put_acts V sh s.words k v i ps path.hole) ++ act.Mark i ∷ []) c.requires.plan in
     let many : length ps ≡ c.len.result = sym c.len.ensures.value in (
       subst (λ (n : ℕ). IsPlanned V c.fill.new.self c.fill.new.plan.items (PutCall k v) s s (answer.Put (Ok (put.Stored c.args.at n None)))) many
