@@ -3,7 +3,7 @@ use Rattle.std.specs.Prelude.{ℕ, ◌+◌, ◌*◌, ◌≡◌, ◌≢◌, ◌^�
 use Rattle.mc_words.specs.History.{held, IsLegal}
 use Rattle.mc_words.specs.Keys.{tag_of, slot_word, IsBucketOf}
 use Rattle.mc_words.specs.Places.{payload, version, slot, item}
-use Rattle.mc_words.specs.Standing.{Agrees, Stands, OnlyAt, IsAbsent, IsFree, Begins, HasValue, AgreesAt}
+use Rattle.mc_words.specs.Standing.{Agrees, Stands, OnlyAt, IsAbsent, IsFree, Begins, HasPayload, HasValue, AgreesAt}
 use Rattle.mc_words.specs.declared.history.Change.{Change}
 use Rattle.mc_words.specs.declared.shape.Shape.{Shape}
 use Rattle.mc_theory.specs.Phases.{Phase, Quiet, Filling, Keyed, Placed, Renewing, Removing, Removed, Moving, Moved, Closing, running, owes, runs}
@@ -36,7 +36,7 @@ abbrev pub DeedFacts : (V : ℕ) → Shape → List ℕ → List (Change V) → 
 DeedFacts V sh w h Quiet = Unit {0}
 DeedFacts V sh w h (Filling k) = (k < 2 ^ 64) × IsAbsent V sh w k × (held h k ≡ None)
 DeedFacts V sh w h (Keyed k i xs) = IsReady V sh w k i xs × (held h k ≡ None)
-DeedFacts V sh w h (Placed k i xs) = ((q : ℕ) × OnlyAt V sh w k q i) × HasValue V sh w i xs × (held h k ≡ None)
+DeedFacts V sh w h (Placed k i xs) = ((q : ℕ) × OnlyAt V sh w k q i) × HasPayload V sh w i xs × (held h k ≡ None)
 DeedFacts V sh w h (Renewing k xs) = ((q : ℕ) × (i : ℕ) × OnlyAt V sh w k q i × Begins V sh w i xs) × (length xs ≤ payload V) × IsSome (held h k)
 DeedFacts V sh w h (Removing k e) = ((q : ℕ) × (i : ℕ) × OnlyAt V sh w k q i) × IsSome (held h k)
 DeedFacts V sh w h (Removed k e) = IsAbsent V sh w k × IsSome (held h k)

@@ -31,7 +31,6 @@ use Rattle.mc_plan.proofs.Calls.AfterPlan.{deeds_put, needs_item}
 use Rattle.mc_plan.proofs.Calls.MidSweep.{hands_may}
 use Rattle.mc_plan.proofs.Deeds.QuietStates.{agrees_quiet, keys_quiet, marked, stands_held}
 use Rattle.mc_plan.proofs.Puts.Replacements.{evictions_room}
-use Rattle.mc_plan.proofs.Deeds.Values.{payload_of}
 use Rattle.mc_plan.proofs.Calls.SweptStates.{swept_still, swept_hand, swept_cleared, sweep_quiet, swept_home, over_without, victim_below}
 
 -- ---- the victim
@@ -147,7 +146,7 @@ module _ (V : ℕ) (b : Books) (waiting : Waiting V) (call : Call) (s : State V)
         cut = cut;
         keys = keys;
       } in
-      let law = evictions_room V sh mid waiting.key waiting.value i e p waiting.path.places.items waiting.path.hole kept end b.checked.sound sweeping.key word (payload_of V waiting.value sweeping.wide, words) quiet cleared can in
+      let law = evictions_room V sh mid waiting.key waiting.value i e p waiting.path.places.items waiting.path.hole kept end b.checked.sound sweeping.key word (sweeping.wide, words) quiet cleared can in
       record { makes = law.0; stands = law.1; named = law.2 }
 
   -- the books after it

@@ -10,7 +10,6 @@ use Rattle.mc_plan.specs.Clerks.{PutCall, AreBooksOf, quiet_of}
 use Rattle.mc_plan.specs.declared.answer.Answer.TheVariants as answer
 use Rattle.mc_plan.specs.declared.answer.PutError.TheVariants as why
 use Rattle.mc_plan.proofs.Calls.AfterPlan.{idle_planned, renewal_planned, placed_in, moment_in}
-use Rattle.mc_plan.proofs.Deeds.Values.{payload_of}
 use Rattle.mc_plan.proofs.books.Books.decide.Goals as goal
 use Rattle.mc_plan.proofs.books.Books.decide.Goals.{Else-is_spent}
 use Rattle.mc_plan.proofs.books.Books.decide.Given.{Over}
@@ -38,7 +37,7 @@ returns-in-Some-clause-decided g c s old same =
     let stands = subst (λ (x : List ℕ). Stands V (shape_of b.checked) x c.args.key q c.in-Some.item) (c.moment-at.ensures.same ∙ same) c.in-Some.ensures.found in
     let not_spent = unspent g (goal.at.returns-in-Some-clause-decided g c).Else-is_spent s old in
     let at = moment_in V b s (g.P.Peek.words c.args.peek.now) old same (c.moment-at.result + 1) (ap (λ (n : ℕ). n + 1) c.moment-at.ensures.value) in
-    renewal_planned V b c.args.key c.args.value.now c.in-Some.item (c.moment-at.result + 1) s q b.checked.sound (omega arith) (payload_of V c.args.value.now c.told-value, c.have_words.ensures.words) old stands not_spent (omega (arith, not_spent)) at
+    renewal_planned V b c.args.key c.args.value.now c.in-Some.item (c.moment-at.result + 1) s q b.checked.sound (omega arith) (c.told-value, c.have_words.ensures.words) old stands not_spent (omega (arith, not_spent)) at
 
 pub returns-in-None-clause-decided : goal.returns-in-None-clause-decided
 returns-in-None-clause-decided g c s old same =

@@ -17,7 +17,6 @@ use Rattle.mc_search.specs.Readable.{IsFilled}
 use Rattle.mc_search.proofs.TakenItems.{free_below}
 use Rattle.mc_plan.proofs.Puts.MoveLists.{stored_acts}
 use Rattle.mc_plan.proofs.Puts.PathSteps.{chain_taken}
-use Rattle.mc_plan.proofs.Deeds.Values.{payload_of}
 use Rattle.mc_plan.proofs.Calls.AfterPlan.{idle_planned, books_still, path_refused, stored_planned, filled_in, none_in, least_in}
 use Rattle.mc_plan.proofs.books.Books.insert.Goals as goal
 
@@ -85,7 +84,7 @@ returns-clause-inserted g c s lacks same =
     let item = free_below b.free i old.kept was in
     let below : i < sh.items = omega (arith, item, old.items) in
     let planned : IsPlanned V (record b { free = free; changes = b.changes + steps }) (put_acts V sh s.words k v i ps path.hole ++ act.Mark i ∷ []) (PutCall k v) s s (answer.Put (Ok (put.Stored c.args.at (length ps) None))) =
-    stored_planned V b k v i c.args.at path free s b.checked.sound (omega arith) (payload_of V v c.told-value, c.have_words.ensures.words) old lacks.absent least keys below lacks.unspent lacks.next was c.take_least.ensures.kept c.take_least.ensures.items c.in-Some-take_least.ensures.takes in
+    stored_planned V b k v i c.args.at path free s b.checked.sound (omega arith) (c.told-value, c.have_words.ensures.words) old lacks.absent least keys below lacks.unspent lacks.next was c.take_least.ensures.kept c.take_least.ensures.items c.in-Some-take_least.ensures.takes in
     let at_item : (put_acts V sh s.words k v i ps path.hole ++ act.Mark i ∷ []) ≡ (put_acts V sh s.words k v storing.item ps path.hole ++ act.Mark storing.item ∷ []) =
     ap (λ (j : ℕ). put_acts V sh s.words k v j ps path.hole ++ act.Mark j ∷ []) (sym c.storing.ensures.item) in
     let moved = c.storing.ensures.moves ∙ ap (λ (x : List ℕ). moves_acts V sh x ps path.hole) now in
