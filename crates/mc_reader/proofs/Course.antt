@@ -36,7 +36,7 @@ use Rattle.mc_reader.specs.Inside.Rows.{row_of}
 use Rattle.mc_reader.specs.Records.{HasLooked}
 
 -- ---- the beginning
-pub sets_out : (V : ℕ) (sh : Shape) (k : ℕ) (before : ReaderRecord) (lookup : Lookup V) → shape_for lookup ≡ sh → ((rs : List Reading) (reply : Reply V) → Left lookup rs reply ↔ IsLookup V sh k sh.tries rs reply) → steps_left lookup ≡ sh.tries * (19 + V) + 1 → IsOnCourse V sh k before before lookup
+pub sets_out : (V : ℕ) (sh : Shape) (k : ℕ) (before : ReaderRecord) (lookup : Lookup V) → shape_for lookup ≡ sh → ((rs : List Reading) (reply : Reply V) → Left lookup rs reply ↔ IsLookup V sh k sh.tries rs reply) → steps_left lookup ≡ sh.tries * (19 + payload V) + 1 → IsOnCourse V sh k before before lookup
 sets_out V sh k before lookup shape left steps = record {
   rs = [];
   of = refl;

@@ -1,5 +1,6 @@
 -- What a lookup adds to a reader's record.
 use Rattle.std.specs.Prelude.{ℕ, ◌≡◌, ◌+◌, ◌*◌, ◌≤◌, List, ◌++◌, length}
+use Rattle.mc_words.specs.Places.{payload}
 use Rattle.mc_words.specs.declared.history.Reply.{Reply}
 use Rattle.mc_words.specs.declared.shape.Shape.{Shape}
 use Rattle.mc_theory.specs.Lookups.{IsLookup}
@@ -15,4 +16,4 @@ pub record HasLooked (V : ℕ) (sh : Shape) (k : ℕ) (before after : ReaderReco
   pub begins : IsFrontOf before.front after.front
   pub rise : RiseTo (length before.front) rs (length after.front)
   pub looked : IsLookup V sh k sh.tries rs reply
-  pub steps : length rs ≤ sh.tries * (19 + V) + 1
+  pub steps : length rs ≤ sh.tries * (19 + payload V) + 1

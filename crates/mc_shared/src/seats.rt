@@ -30,6 +30,17 @@ impl Model for WriterSeat {
 impl WriterSeat {
     ghost use Rattle.mc_shared.specs.SeatFacts.{IsRun};
 
+    ghost use Rattle.std.specs.Prelude.{◌≡◌};
+    ghost use Rattle.mc_words.specs.Places.{moment};
+    ghost use Rattle.mc_shared.specs.Views.{layout_state};
+
+    /// The moment, which the seat keeps beside the words.
+    pub fn moment(&self) -> u64
+        ensures { result ≡ moment (layout_state self.now.of.layout self.now.acts).words }
+    {
+        self.at
+    }
+
     /// What is always known of the acts.
     pub fn known(&self)
         ensures { IsRun self.now.of.layout self.now.acts }

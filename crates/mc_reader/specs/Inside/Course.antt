@@ -1,5 +1,6 @@
 -- How far a reader is in a lookup.
 use Rattle.std.specs.Prelude.{ℕ, ◌≡◌, ◌+◌, ◌*◌, ◌≤◌, ◌↔◌, List, ◌++◌, length, Option, Some, None}
+use Rattle.mc_words.specs.Places.{payload}
 use Rattle.mc_words.specs.declared.history.Reply.{Reply}
 use Rattle.mc_words.specs.declared.shape.Shape.{Shape}
 use Rattle.mc_theory.specs.Lookups.{IsLookup}
@@ -20,7 +21,7 @@ pub record IsOnCourse (V : ℕ) (sh : Shape) (k : ℕ) (before after : ReaderRec
   pub rise : RiseTo (length before.front) rs (length after.front)
   pub shape : shape_for lookup ≡ sh
   pub left : (rest : List Reading) (reply : Reply V) → Left lookup rest reply ↔ IsLookup V sh k sh.tries (rs ++ rest) reply
-  pub steps : length rs + steps_left lookup ≤ sh.tries * (19 + V) + 1
+  pub steps : length rs + steps_left lookup ≤ sh.tries * (19 + payload V) + 1
 
 -- from one record and lookup to others: what was on the course of a lookup still is
 pub record Leads (V : ℕ) (sh : Shape) (old : ReaderRecord) (lookup : Lookup V) (new : ReaderRecord) (next : Lookup V) : Type 0 where

@@ -1,5 +1,6 @@
 use Rattle.std.proofs.Common.{◌+◌, ◌*◌, List, ap, sym, ◌∙◌, subst, arith, inl}
 use Rattle.std.specs.Prelude.{◌↔◌}
+use Rattle.mc_words.specs.Places.{payload}
 use Rattle.mc_words.specs.Shapes.{IsShape}
 use Rattle.mc_words.specs.declared.history.Reply.{Reply}
 use Rattle.mc_words.specs.declared.shape.Shape.{Shape}
@@ -21,7 +22,7 @@ loop-seat-init g c =
     record {
       way = sets_out V sh c.args.key c.args.seat.now lookup (c.begin-lookup.ensures.shape ∙ sym e)
           (subst (λ (z : Shape). (rs : List Reading) (reply : Reply V) → Left lookup rs reply ↔ IsLookup V z c.args.key z.tries rs reply) (sym e) c.begin-lookup.ensures.left)
-          (c.begin-lookup.ensures.steps ∙ ap (λ (z : Shape). z.tries * (19 + V) + 1) (sym e));
+          (c.begin-lookup.ensures.steps ∙ ap (λ (z : Shape). z.tries * (19 + payload V) + 1) (sym e));
       key = c.begin-lookup.ensures.key;
       stage = inl c.begin-lookup.ensures.stage;
     }
