@@ -1,7 +1,7 @@
 //! A cache is closed.
 ghost use Rattle.std.specs.Prelude.{◌≡◌, IfOk, MatchResult};
 ghost use Rattle.mc_theory.specs.Lists.{state_of};
-ghost use Rattle.mc_plan.specs.Clerks.{AreBooksOf};
+ghost use Rattle.mc_writer.specs.WriterCalls.{IsRested};
 ghost use Rattle.mc_search.specs.Entries.{AreEntriesOf};
 
 use crate::cache::Cache;
@@ -30,7 +30,7 @@ fn list_beside<const V: usize>(
     books: &Books,
 ) -> Result<Vec<(u64, [u64; V])>, NoMemory>
     requires of { seat.old.of ≡ cells.now }
-    requires rested { AreBooksOf V books.now (state_of V cells.now.layout.shape seat.old.acts) }
+    requires rested { IsRested V books.now seat.old }
     ensures entries { IfOk result (λ es. AreEntriesOf V (state_of V cells.now.layout.shape seat.old.acts).history es.items) }
     ensures seat { seat.new ≡ seat.old }
 {
@@ -51,7 +51,7 @@ impl<const V: usize> Cache<V> {
         requires of { writer.of ≡ self }
         ensures entries { MatchResult result
             (λ es. AreEntriesOf V (state_of V self.entry.layout.shape writer.entry.acts).history es.items)
-            (λ open. (open.cache ≡ self.entry) × (open.writer ≡ writer.entry) × (open.readers.items ≡ readers.entry.items)) }
+            (λ still. (still.cache ≡ self.entry) × (still.writer ≡ writer.entry) × (still.readers.items ≡ readers.entry.items)) }
     {
         match list_beside(alloc, &self.cells, &mut writer.seat, &writer.books) {
             Ok(entries) => Ok(entries),

@@ -1,5 +1,5 @@
 //! A cache is opened.
-ghost use Rattle.std.specs.Prelude.{◌≡◌, [], IfOk, MatchResult, replicate};
+ghost use Rattle.std.specs.Prelude.{ℕ, ◌≡◌, [], IfOk, MatchResult, replicate};
 ghost use Rattle.mc_words.specs.Checks.{shape_of};
 ghost use Rattle.mc_words.specs.Places.{IsWidth};
 ghost use Rattle.mc_shared.specs.Records.{reader_record, writer_record};
@@ -39,7 +39,7 @@ fn seat_readers<const V: usize>(
     mut seats: Vec<ReaderSeat>,
 ) -> Result<Vec<Reader<V>>, AllocError>
     requires alike { (n : ℕ) × (r : ReaderRecord) × (seats.items ≡ replicate n r) }
-    ensures readers { (n : ℕ) (r : ReaderRecord) → seats.entry.items ≡ replicate n r → IfOk result (λ readers. readers.items ≡ replicate n r) }
+    ensures readers { (n : ℕ) (r : ReaderRecord) → seats.items ≡ replicate n r → IfOk result (λ readers. readers.items ≡ replicate n r) }
 {
     let mut readers = Vec::new(alloc);
     while let Some(seat) = seats.pop() {

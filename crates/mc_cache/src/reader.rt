@@ -1,10 +1,10 @@
 //! The readers.
-ghost use Rattle.std.specs.Prelude.{◌≡◌, [], ◌∷◌, length, Some, IfSome, IfNone};
+ghost use Rattle.std.specs.Prelude.{ℕ, ◌≡◌, [], ◌∷◌, length, Some, IfSome, IfNone};
 ghost use Rattle.mc_theory.specs.Lists.{state_of};
 ghost use Rattle.mc_theory.specs.Plain.{IsBetween};
 ghost use Rattle.mc_words.specs.History.{IsTrueAnswer, held};
 ghost use Rattle.mc_words.specs.Standing.{Stands};
-ghost use Rattle.mc_plan.specs.Clerks.{AreBooksOf};
+ghost use Rattle.mc_writer.specs.WriterCalls.{IsRested};
 ghost use Rattle.mc_shared.specs.Records.{reader_record};
 ghost use Rattle.mc_shared.specs.Views.{IsFrontOf};
 ghost use Rattle.mc_reader.specs.Records.{HasLooked};
@@ -12,6 +12,7 @@ ghost use Rattle.mc_cache.specs.Beside.{HasLookedBeside};
 
 use crate::cache::Cache;
 use crate::writer::Writer;
+use mc_plan::Books;
 use mc_reader::get;
 use mc_search::read;
 use mc_shared::{Cells, ReaderSeat, WriterSeat, catch, mark_unless_set};
@@ -37,11 +38,11 @@ impl<const V: usize> Model for Reader<V> {
 fn look_beside<const V: usize>(
     cells: &Cells<V>,
     seat: &mut WriterSeat,
-    books: &mc_plan::Books,
+    books: &Books,
     key: u64,
 ) -> Option<(u32, [u64; V])>
     requires of { seat.old.of ≡ cells.now }
-    requires rested { AreBooksOf V books.now (state_of V cells.now.layout.shape seat.old.acts) }
+    requires rested { IsRested V books.now seat.old }
     ensures found { IfSome result (λ r. held (state_of V cells.now.layout.shape seat.old.acts).history key ≡ Some r.1) }
     ensures item { IfSome result (λ r. (q : ℕ) × Stands V cells.now.layout.shape (state_of V cells.now.layout.shape seat.old.acts).words key q r.0) }
     ensures none { IfNone result (held (state_of V cells.now.layout.shape seat.old.acts).history key ≡ None) }
