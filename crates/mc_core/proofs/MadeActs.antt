@@ -3,7 +3,6 @@ use Rattle.std.proofs.Common.{ℕ, eqb, ◌⊎◌, ◌≢◌, ◌≡◌, ◌+◌
 use Rattle.std.specs.Prelude.{slice_set, Result, Ok, Err, OnOk}
 use Rattle.std.proofs.lemmas.Bool.{cond-true, cond-false, eq-eqb, ne_eqb}
 use Rattle.mc_theory.specs.declared.act.Act.TheVariants.{Hand}
-use Rattle.std.proofs.lemmas.Grind.{take-set_at}
 use Rattle.mc_words.specs.Checks.{shape_of}
 use Rattle.mc_words.specs.declared.checked.Checked.{Checked}
 use Rattle.mc_words.specs.declared.history.Change.{Change}
@@ -26,16 +25,16 @@ same_state : {V : ℕ} (w x : List ℕ) (p q : Phase) (h k : ℕ) (c d : Option 
 same_state w x p q h k c d hs ks n m a b e f g i = rw (a, b, e, f, g, i) refl
 
 pub made : {V : ℕ} (old new : Writer V) → room_of {V = V} old ≤ room_of {V = V} new + 1 → (a : Act) (bit : ℕ) (p q : Progress) → old.progress ≡ p → new.progress ≡ q → new.table.checked ≡ old.table.checked →
-    words_of_writer {V = V} new ≡ words_after V (shape_of_writer {V = V} old) (words_of_writer {V = V} old) (phase_at old.written p) a → phase_at new.written q ≡ phase_after (phase_at old.written p) a →
+    words_of_writer {V = V} new ≡ words_after V (shape_of_writer {V = V} old) (words_of_writer {V = V} old) (phase_at {V = V} old.written p) a → phase_at {V = V} new.written q ≡ phase_after (phase_at {V = V} old.written p) a →
     new.hand ≡ hand_after (shape_of_writer {V = V} old) old.hand a → new.cleared ≡ cleared_after old.cleared a bit →
-    new.history.items ≡ history_after {V = V} old.history.items (phase_at old.written p) a → new.version_steps ≡ version_steps_after old.version_steps a →
+    new.history.items ≡ history_after {V = V} old.history.items (phase_at {V = V} old.written p) a → new.version_steps ≡ version_steps_after old.version_steps a →
     UsedIn (shape_of_writer {V = V} old) (words_of_writer {V = V} new) new.table.used.items new.table.free → IsMade {V = V} old new a bit
 made {V} old new room a bit p q before then shape words phase hand cleared history changes used = record {
   shape = shape;
   state =
-      let phase_is : phase_at new.written new.progress ≡ phase_after (phase_at old.written old.progress) a = ap (λ (y : Progress). phase_at new.written y) then ∙ phase ∙ ap (λ (y : Progress). phase_after (phase_at old.written y) a) (sym before) in
-      let words_is : words_of_writer {V = V} new ≡ words_after V (shape_of_writer {V = V} old) (words_of_writer {V = V} old) (phase_at old.written old.progress) a = words ∙ ap (λ (y : Progress). words_after V (shape_of_writer {V = V} old) (words_of_writer {V = V} old) (phase_at old.written y) a) (sym before) in
-      let history_is : new.history.items ≡ history_after {V = V} old.history.items (phase_at old.written old.progress) a = history ∙ ap (λ (y : Progress). history_after {V = V} old.history.items (phase_at old.written y) a) (sym before) in
+      let phase_is : phase_at {V = V} new.written new.progress ≡ phase_after (phase_at {V = V} old.written old.progress) a = ap (λ (y : Progress). phase_at {V = V} new.written y) then ∙ phase ∙ ap (λ (y : Progress). phase_after (phase_at {V = V} old.written y) a) (sym before) in
+      let words_is : words_of_writer {V = V} new ≡ words_after V (shape_of_writer {V = V} old) (words_of_writer {V = V} old) (phase_at {V = V} old.written old.progress) a = words ∙ ap (λ (y : Progress). words_after V (shape_of_writer {V = V} old) (words_of_writer {V = V} old) (phase_at {V = V} old.written y) a) (sym before) in
+      let history_is : new.history.items ≡ history_after {V = V} old.history.items (phase_at {V = V} old.written old.progress) a = history ∙ ap (λ (y : Progress). history_after {V = V} old.history.items (phase_at {V = V} old.written y) a) (sym before) in
       same_state _ _ _ _ _ _ _ _ _ _ _ _ words_is phase_is hand cleared history_is changes;
   used = subst (λ (y : Checked). UsedIn (shape_of y) (words_of_writer {V = V} new) new.table.used.items new.table.free) (sym shape) used;
   room = room;
@@ -47,10 +46,6 @@ used_bumped sh w k flags free s u = used_kept sh w (with_bump sh w k) flags free
 
 pub used_item : (V : ℕ) (sh : Shape) (w : List ℕ) (i j x : ℕ) (flags : List Bool) (free : ℕ) → UsedIn sh w flags free → UsedIn sh (with_item V sh w i j x) flags free
 used_item V sh w i j x flags free u = used_kept sh w (with_item V sh w i j x) flags free (λ q l. slot-with_item V sh w i j x q l) u
-
--- one word more was written
-pub written_more : (V : ℕ) (xs : List ℕ) (c x : ℕ) → length xs ≡ V → c < V → take (c + 1) (slice_set xs c x) ≡ take c xs ++ x ∷ []
-written_more V xs c x l below = take-set_at xs c (c + 1) x refl (omega (arith, l))
 
 -- what the hand remembers of a bit
 pub cleared_by : (i bit : ℕ) (o : Option ℕ) → ((bit ≡ 0) × (o ≡ Some i)) ⊎ ((bit ≢ 0) × (o ≡ None)) → o ≡ cleared_after None (Hand i) bit

@@ -24,6 +24,7 @@ use Rattle.mc_core.specs.declared.parts.Parts.{Parts}
 use Rattle.mc_core.specs.declared.reader.Reader.{Reader}
 use Rattle.mc_theory.proofs.Lists.Bounds.{state_counted, state_hand}
 use Rattle.mc_theory.proofs.Lists.Fronts.{state_holds, state_push, lawful_push}
+use Rattle.mc_theory.proofs.Invariant.Limits.{within_after}
 
 pub holds_of : {V : ℕ} (parts : Parts V) (seen : traces.Trace V) → StandFor {V = V} parts seen → StateHolds (shape_of_parts {V = V} parts) (state_in {V = V} parts.writer)
 holds_of {V} parts seen s = subst (λ (y : State V). StateHolds (shape_of_parts {V = V} parts) y) (sym s.shows.state) (state_holds V (shape_of_parts {V = V} parts) seen.acts parts.writer.table.checked.sound s.shows.lawful)
@@ -44,28 +45,6 @@ reads_in V sh w hand cleared p (Item i j x) l may = tt
 reads_in V sh w hand cleared p Moment l may = tt
 reads_in V sh w hand cleared p Close l may = tt
 reads_in V sh w hand cleared _ _ l may = absurd may
-
--- the close of a running deed passes no limit
-pub within_after : (V : ℕ) (sh : Shape) (w : List ℕ) (hand : ℕ) (cleared : Option ℕ) (c limit : ℕ) (p : Phase) (a : Act) → MayFrom V sh w hand cleared p a → traces.HasVersionSteps limit c a → c + close_owed p ≤ limit → version_steps_after c a + close_owed (phase_after p a) ≤ limit
-within_after V sh w hand cleared c limit Quiet (Open k deed.Fill) may has l = omega (arith, has)
-within_after V sh w hand cleared c limit Quiet (Open k deed.Renew) may has l = omega (arith, has)
-within_after V sh w hand cleared c limit Quiet (Open k deed.Remove) may has l = omega (arith, has)
-within_after V sh w hand cleared c limit Quiet (Open k deed.Evict) may has l = omega (arith, has)
-within_after V sh w hand cleared c limit Quiet (Open k deed.Move) may has l = omega (arith, has)
-within_after V sh w hand cleared c limit Quiet (Hand i) may has l = l
-within_after V sh w hand cleared c limit Quiet (Mark i) may has l = l
-within_after V sh w hand cleared c limit (Filling k) (Item i j x) may has l = l
-within_after V sh w hand cleared c limit (Keyed k i xs) (Item g j x) may has l = l
-within_after V sh w hand cleared c limit (Keyed k i xs) (Slot q x) may has l = l
-within_after V sh w hand cleared c limit (Placed k i xs) Moment may has l = l
-within_after V sh w hand cleared c limit (Renewing k xs) (Item i j x) may has l = l
-within_after V sh w hand cleared c limit (Renewing k xs) Moment may has l = l
-within_after V sh w hand cleared c limit (Removing k e) (Slot q x) may has l = l
-within_after V sh w hand cleared c limit (Removed k e) Moment may has l = l
-within_after V sh w hand cleared c limit (Moving k) (Slot q x) may has l = l
-within_after V sh w hand cleared c limit (Moved k f) (Slot q x) may has l = l
-within_after V sh w hand cleared c limit (Closing k) Close may has l = omega (arith, l)
-within_after V sh w hand cleared c limit _ _ may has l = absurd may
 
 -- a result that is no error is a success
 pub ok_of : {A E : Type 0} (r : Result A E) (P : Type 0) → is_err r ≡ false → OnOk r P → P

@@ -7,26 +7,34 @@ use Rattle.mc_words.specs.Places.{payload, IsPlace, slot_number, slot}
 use Rattle.mc_words.specs.Standing.{Stands, OnlyAt, AgreesAt}
 use Rattle.mc_words.specs.declared.place.Place.{Place}
 use Rattle.mc_words.specs.declared.shape.Shape.{Shape}
-use Rattle.mc_core.specs.Inside.Writers.{StandsWell, phase_at}
+use Rattle.mc_core.specs.Inside.Writers.{StandsWell, payload_in, phase_at}
 use Rattle.mc_theory.specs.Inner.{Holds}
 use Rattle.mc_theory.specs.Phases.{Quiet, Renewing, Moving}
 use Rattle.mc_core.specs.declared.progress.Progress.{Progress}
+use Rattle.mc_core.specs.declared.written.Written.{Written}
 use Rattle.mc_words.specs.History.{map_value}
 use Rattle.mc_words.specs.declared.history.Change.{Change}
 
--- the word after those that were written
-pub next_word : (V c j : ℕ) (xs : List ℕ) → length xs ≡ V → c ≤ V → ((j ≡ c + 1) × (j ≤ V)) ↔ ((j ≡ length (take c xs) + 1) × (j ≤ payload V))
+-- an item's words behind its key, written or not
+pub many_words : {V : ℕ} (xs : Written V) → length (payload_in {V = V} xs) ≡ payload V
 unfolding payload
-next_word V c j xs l fits =
-    let is : length (take c xs) ≡ c = omega (arith, length-take c xs) in
-    (λ h. (omega (arith, h.0, is), h.1), λ h. (omega (arith, h.0, is), h.1))
+many_words xs = xs.whole
+
+-- the first of them are as many as were written
+written_are : {V : ℕ} (c : ℕ) (xs : Written V) → c ≤ payload V → length (take c (payload_in {V = V} xs)) ≡ c
+written_are {V} c xs fits = omega (arith, length-take c (payload_in {V = V} xs), many_words {V = V} xs, fits)
+
+-- the word after those that were written
+pub next_word : (V c j all : ℕ) (xs : Written V) → all ≡ payload V → c ≤ payload V → ((j ≡ c + 1) × (j ≤ all)) ↔ ((j ≡ length (take c (payload_in {V = V} xs)) + 1) × (j ≤ payload V))
+next_word V c j all xs e fits =
+    let is = written_are {V = V} c xs fits in
+    (λ h. (omega (arith, h.0, is), omega (arith, h.1, e)), λ h. (omega (arith, h.0, is), omega (arith, h.1, e)))
 
 -- all words were written
-pub all_words : (V c : ℕ) (xs : List ℕ) → length xs ≡ V → c ≤ V → (c ≡ V) ↔ (length (take c xs) ≡ payload V)
-unfolding payload
-all_words V c xs l fits =
-    let is : length (take c xs) ≡ c = omega (arith, length-take c xs) in
-    (λ h. omega (arith, h, is), λ h. omega (arith, h, is))
+pub all_words : (V c all : ℕ) (xs : Written V) → all ≡ payload V → c ≤ payload V → (c ≡ all) ↔ (length (take c (payload_in {V = V} xs)) ≡ payload V)
+all_words V c all xs e fits =
+    let is = written_are {V = V} c xs fits in
+    (λ h. omega (arith, h, is, e), λ h. omega (arith, h, is, e))
 
 -- the place across from where the key stands
 pub across : (V : ℕ) (sh : Shape) (w : List ℕ) (k : ℕ) (at : Place) (i b x : ℕ) → StandsWell V sh w k → IsPlace sh at → Stands V sh w k (slot_number at) i →
@@ -61,10 +69,9 @@ pub moving_well : (V : ℕ) (sh : Shape) (w : List ℕ) (h : List (Change V)) (k
 moving_well V sh w h k holds = let d = holds.deed in agrees_well V sh w k (Some d.0) d.2
 
 -- what holds, where the progress is known
-pub holds_at : (V : ℕ) (sh : Shape) (w : List ℕ) (h : List (Change V)) (xs : List ℕ) (p q : Progress) → p ≡ q → Holds V sh w (phase_at xs p) h → Holds V sh w (phase_at xs q) h
-holds_at V sh w h xs p q e a = subst (λ (y : Progress). Holds V sh w (phase_at xs y) h) e a
+pub holds_at : (V : ℕ) (sh : Shape) (w : List ℕ) (h : List (Change V)) (xs : Written V) (p q : Progress) → p ≡ q → Holds V sh w (phase_at {V = V} xs p) h → Holds V sh w (phase_at {V = V} xs q) h
+holds_at V sh w h xs p q e a = subst (λ (y : Progress). Holds V sh w (phase_at {V = V} xs y) h) e a
 
 -- where all words were written, they are all
-pub whole_written : (V c : ℕ) (xs : List ℕ) → length xs ≡ V → length (take c xs) ≡ payload V → xs ≡ take c xs
-unfolding payload
-whole_written V c xs l all = sym (take_all c xs (omega (arith, length-take c xs, l, all)))
+pub whole_written : (V c : ℕ) (xs : Written V) → length (take c (payload_in {V = V} xs)) ≡ payload V → payload_in {V = V} xs ≡ take c (payload_in {V = V} xs)
+whole_written V c xs all = sym (take_all c (payload_in {V = V} xs) (omega (arith, length-take c (payload_in {V = V} xs), many_words {V = V} xs, all)))

@@ -14,6 +14,7 @@ mod recency;
 mod table;
 mod world;
 mod writer;
+mod written;
 
 pub use events::{run, run_new};
 pub use mc_lookup::{Lookup, Stage};

@@ -1,11 +1,13 @@
 //! The writer of a world: its state, and which act it may make next.
-ghost use Rattle.std.specs.Prelude.{◌≡◌, ◌<◌, ◌≤◌, length};
+ghost use Rattle.std.specs.Prelude.{◌≡◌, ◌<◌, ◌≤◌};
 ghost use Rattle.std.specs.Prelude.{◌↔◌, IsTrue};
+ghost use Rattle.mc_words.specs.Places.{payload};
 ghost use Rattle.mc_theory.specs.declared.act.Act.{Act};
 ghost use Rattle.mc_core.specs.Inside.Progresses.{count_at, fresh_slot};
 
 use crate::progress::Progress;
 use crate::table::Table;
+use crate::written::Written;
 use mc_theory::Act;
 use mc_words::{Change, Checked};
 use std::alloc::{AllocError, Global};
@@ -18,13 +20,12 @@ mod slots;
 pub(crate) struct Writer<const V: usize> {
     pub(crate) table: Table<V>,
     pub(crate) progress: Progress,
-    pub(crate) written: [u64; V],
+    pub(crate) written: Written<V>,
     pub(crate) hand: u32,
     pub(crate) cleared: Option<u32>,
     pub(crate) history: Vec<Change<V>>,
     pub(crate) version_steps: u64,
-    ghost whole: { length written ≡ V },
-    ghost count_in: { count_at progress ≤ V },
+    ghost count_in: { count_at progress ≤ payload V },
     ghost slot_in: { fresh_slot progress < 4 },
 }
 
@@ -46,7 +47,7 @@ impl<const V: usize> Writer<V> {
         Ok(Writer {
             table,
             progress: Progress::Quiet,
-            written: [0; V],
+            written: Written::none(),
             hand: 0,
             cleared: None,
             history: Vec::new(alloc),

@@ -3,7 +3,7 @@ use Rattle.std.proofs.Common.{ℕ, zero, suc, ◌≡◌, ◌+◌, ◌-◌, ◌<�
 use Rattle.std.specs.Prelude.{IfSome}
 use Rattle.std.proofs.lemmas.List.{length-take, length-append, length-replicate}
 use Rattle.mc_words.specs.Keys.{stripe_of, tag_of}
-use Rattle.mc_words.specs.Places.{payload}
+use Rattle.mc_words.proofs.Payload.{value_fits}
 use Rattle.mc_words.specs.declared.history.Reply.{Reply}
 use Rattle.mc_words.specs.declared.history.Reply.TheVariants.{Busy}
 use Rattle.mc_words.specs.declared.place.Place.{Place}
@@ -28,7 +28,6 @@ use Rattle.mc_lookup.proofs.StageSteps.{at_stage, place_in_table, slots_at}
 
 -- ---- the next access
 begins_at : {V : ℕ} (l : Lookup V) (st : Stage) (rs : List Reading) (reply : Reply V) → slot_at st < 8 → word_at st < V → tries_owed st ≤ l.tries → IsRemainderAt V (shape_for {V = V} l) l.key l.tries l.version l.value l.reply st rs reply → BeginsWith {V = V} l (next_at {V = V} l st) rs reply
-unfolding payload
 begins_at {V} l First rs reply slots words tries left =
     let e : l.tries ≡ suc (l.tries - 1) = omega arith in
     let one = first_reading V (shape_for {V = V} l) l.key (l.tries - 1) rs reply (subst (λ (t : ℕ). IsLookup V (shape_for {V = V} l) l.key t rs reply) e left) in
@@ -80,9 +79,9 @@ zeros : (n i j : ℕ) → (xs : List Reading) × ReadsValues i j xs (replicate n
 zeros zero i j = ([], tt)
 zeros (suc n) i j = let rest = zeros n i (j + 1) in (read (access.Value i j) 0 ∷ rest.0, (refl, refl, rest.1))
 
-values_end : (V : ℕ) (sh : Shape) (k t x i : ℕ) (got : List ℕ) → length got ≤ payload V → (rs : List Reading) × RemainderAtValues V sh k t x i got rs Busy
+values_end : (V : ℕ) (sh : Shape) (k t x i : ℕ) (got : List ℕ) → length got ≤ V → (rs : List Reading) × RemainderAtValues V sh k t x i got rs Busy
 values_end V sh k t x i got l =
-    let n = payload V - length got in
+    let n = V - length got in
     let more : List ℕ = replicate n 0 in
     let xs = zeros n i (suc (length got)) in
     let rest = moment_ends V sh k t x (Some i) (got ++ more) in
@@ -107,7 +106,6 @@ key_ends V sh k t x i ps =
     (read (access.Key i) (suc k) ∷ rest.0, (read (access.Key i) (suc k), rest.0, refl, refl, inr (λ e. omega (arith, e), rest.1)))
 
 ends_at : {V : ℕ} (l : Lookup V) (st : Stage) → word_at st < V → (rs : List Reading) × (reply : Reply V) × IsRemainderAt V (shape_for {V = V} l) l.key l.tries l.version l.value l.reply st rs reply
-unfolding payload
 ends_at {V} l First words = let e = spoiled V (shape_for {V = V} l) l.key l.tries in (e.0, Busy, e.1)
 ends_at {V} l (Slot j) words = let e = slots_end V (shape_for {V = V} l) l.key l.tries l.version (drop j (slots_for (shape_for {V = V} l) l.key)) in (e.0, Busy, e.1)
 ends_at {V} l (Key j i) words = let e = key_ends V (shape_for {V = V} l) l.key l.tries l.version i (drop j (slots_for (shape_for {V = V} l) l.key)) in (e.0, Busy, e.1)
@@ -125,13 +123,12 @@ can_end V l =
 -- ---- it is one of the table
 -- at each stage
 pub next_at_in : {V : ℕ} (l : Lookup V) (st : Stage) → l.stage ≡ st → IfSome (next_at {V = V} l st) (IsAccess V (shape_for {V = V} l))
-unfolding payload
 next_at_in {V} l First e = rw l.stripe_is (stripe_of-lt (shape_for {V = V} l) l.key l.checked.sound)
 next_at_in {V} l (Slot j) e = place_in_table (shape_for {V = V} l) l.key l.first l.second j l.checked.sound l.first_is l.second_is (rw e at l.slot_in)
 next_at_in {V} l (Key j i) e = rw e at l.item_in
 next_at_in {V} l (Value i c) e =
     let word = rw e at l.word_in in
-    (rw e at l.item_in, omega arith, omega (arith, word))
+    (rw e at l.item_in, omega arith, omega (arith, word, value_fits V))
 next_at_in {V} l (Moment hit) e = tt
 next_at_in {V} l (Last hit at) e = rw l.stripe_is (stripe_of-lt (shape_for {V = V} l) l.key l.checked.sound)
 next_at_in {V} l (Mark i) e = rw e at l.item_in

@@ -5,7 +5,6 @@ use Rattle.mc_theory.specs.Lookups.{IsLookup, MarksHit, TagMatches, ReadsHit, Re
 use Rattle.mc_theory.specs.Readings.{Reading}
 use Rattle.mc_lookup.specs.Rest.{RemainderAtHit, RemainderAtKey, RemainderAtMoment, RemainderAtSlots, RemainderAtValues}
 use Rattle.mc_words.specs.Keys.{stripe_of}
-use Rattle.mc_words.specs.Places.{payload}
 use Rattle.mc_words.specs.declared.history.Reply.{Reply}
 use Rattle.mc_words.specs.declared.place.Place.{Place}
 use Rattle.mc_words.specs.declared.shape.Shape.{Shape}
@@ -85,12 +84,12 @@ slots_over V sh k t x rs reply s =
 
 -- the reading of a value word
 pub value_reading : (V : ℕ) (sh : Shape) (k t x i : ℕ) (got : List ℕ) (rs : List Reading) (reply : Reply V) → RemainderAtValues V sh k t x i got rs reply →
-    ((length got ≡ payload V) × RemainderAtMoment V sh k t x (Some i) got rs reply) ⊎
+    ((length got ≡ V) × RemainderAtMoment V sh k t x (Some i) got rs reply) ⊎
     ((r : Reading) × (more : List Reading) × (rs ≡ r ∷ more) × (r.access ≡ Value i (suc (length got))) × RemainderAtValues V sh k t x i (got ++ r.word ∷ []) more reply)
 value_reading V sh k t x i got rs reply m = go m.0 m.1 m.3 m.4 m.5 m.6
   where
-    go : (xs : List Reading) (v : List ℕ) → rs ≡ xs ++ m.2 → length (got ++ v) ≡ payload V → ReadsValues i (suc (length got)) xs v → RemainderAtMoment V sh k t x (Some i) (got ++ v) m.2 reply →
-        ((length got ≡ payload V) × RemainderAtMoment V sh k t x (Some i) got rs reply) ⊎
+    go : (xs : List Reading) (v : List ℕ) → rs ≡ xs ++ m.2 → length (got ++ v) ≡ V → ReadsValues i (suc (length got)) xs v → RemainderAtMoment V sh k t x (Some i) (got ++ v) m.2 reply →
+        ((length got ≡ V) × RemainderAtMoment V sh k t x (Some i) got rs reply) ⊎
         ((r : Reading) × (more : List Reading) × (rs ≡ r ∷ more) × (r.access ≡ Value i (suc (length got))) × RemainderAtValues V sh k t x i (got ++ r.word ∷ []) more reply)
     go [] [] e l reads rest = inl (rw append-nil at l, rw e (rw append-nil at rest))
     go (r ∷ rs') (y ∷ ys) e l reads rest =

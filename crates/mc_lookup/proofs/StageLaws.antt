@@ -4,7 +4,6 @@ use Rattle.std.specs.Prelude.{◌↔◌}
 use Rattle.std.proofs.lemmas.List.{append-nil, length-append, length_push}
 use Rattle.mc_words.proofs.Frames.{slot_word-parts}
 use Rattle.mc_words.specs.Keys.{stripe_of, tag_of}
-use Rattle.mc_words.specs.Places.{payload}
 use Rattle.mc_words.specs.Shapes.{IsShape}
 use Rattle.mc_words.specs.declared.history.Reply.{Reply}
 use Rattle.mc_words.specs.declared.place.Place.{Place}
@@ -113,7 +112,7 @@ feed_stranger V sh k t x i ps r rs reply a ne = (
 )
 
 -- a word of the value
-pub feed_value : (V : ℕ) (sh : Shape) (k t x i : ℕ) (got : List ℕ) (r : Reading) (rs : List Reading) (reply : Reply V) → length got < payload V → r.access ≡ Value i (suc (length got)) → RemainderAtValues V sh k t x i (got ++ r.word ∷ []) rs reply ↔ RemainderAtValues V sh k t x i got (r ∷ rs) reply
+pub feed_value : (V : ℕ) (sh : Shape) (k t x i : ℕ) (got : List ℕ) (r : Reading) (rs : List Reading) (reply : Reply V) → length got < V → r.access ≡ Value i (suc (length got)) → RemainderAtValues V sh k t x i (got ++ r.word ∷ []) rs reply ↔ RemainderAtValues V sh k t x i got (r ∷ rs) reply
 feed_value V sh k t x i got r rs reply more a = (
   λ h. from_value V sh k t x i got r rs reply a h,
   λ left. elim (value_reading V sh k t x i got (r ∷ rs) reply left) [
@@ -126,7 +125,7 @@ feed_value V sh k t x i got r rs reply more a = (
 )
 
 -- all words of the value
-pub feed_full : (V : ℕ) (sh : Shape) (k t x i : ℕ) (got : List ℕ) (rs : List Reading) (reply : Reply V) → length got ≡ payload V → RemainderAtMoment V sh k t x (Some i) got rs reply ↔ RemainderAtValues V sh k t x i got rs reply
+pub feed_full : (V : ℕ) (sh : Shape) (k t x i : ℕ) (got : List ℕ) (rs : List Reading) (reply : Reply V) → length got ≡ V → RemainderAtMoment V sh k t x (Some i) got rs reply ↔ RemainderAtValues V sh k t x i got rs reply
 feed_full V sh k t x i got rs reply all = (
   λ h. ([], [], rs, refl, rw append-nil all, tt, rw append-nil h),
   λ left. elim (value_reading V sh k t x i got rs reply left) [
@@ -135,7 +134,7 @@ feed_full V sh k t x i got rs reply all = (
   ],
 )
   where
-    too_many : (more : List ℕ) (w : ℕ) → length ((got ++ w ∷ []) ++ more) ≡ payload V → ⊥
+    too_many : (more : List ℕ) (w : ℕ) → length ((got ++ w ∷ []) ++ more) ≡ V → ⊥
     too_many more w e = omega (arith, e, all, length-append (got ++ w ∷ []) more, length_push got w)
 
 -- the moment

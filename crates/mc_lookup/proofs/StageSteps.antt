@@ -107,7 +107,6 @@ left_met V sh k t x v told first second j i w f rs reply s a b l meets =
 
 -- before a word of the value, and the words after it
 pub left_value : (V : ℕ) (sh : Shape) (k t x : ℕ) (v : List ℕ) (told : Reply V) (i c w f : ℕ) (rs : List Reading) (reply : Reply V) → length v ≡ V → c < V → IsRemainderAt V sh k t x (slice_set v c w) told (values_from V i (c + 1)) rs reply ↔ IsRemainderAt V sh k t x v told (Value i c) (read (access.Value i (c + 1)) w f ∷ rs) reply
-unfolding payload
 left_value V sh k t x v told i c w f rs reply whole l =
     let r = read (access.Value i (c + 1)) w f in
     let got : length (take c v) ≡ c = omega (arith, length-take c v) in
@@ -128,22 +127,22 @@ left_value V sh k t x v told i c w f rs reply whole l =
     ]
 
 -- ---- how many accesses are left
-pub steps_slots : (V t j : ℕ) → j ≤ 8 → steps_at V t (slots_from j) ≤ 2 * (8 - j) + V + 2 + t * (19 + V) + 1
+pub steps_slots : (V t j : ℕ) → j ≤ 8 → steps_at V t (slots_from j) ≤ 2 * (8 - j) + payload V + 2 + t * (19 + payload V) + 1
 steps_slots V t j l =
     elim (cases_lt j 8) [
-      | inl below ↦ subst (λ (st : Stage). steps_at V t st ≤ 2 * (8 - j) + V + 2 + t * (19 + V) + 1) (cond_below j 8 (Slot j) (Moment None) below) (omega arith)
-      | inr past ↦ subst (λ (st : Stage). steps_at V t st ≤ 2 * (8 - j) + V + 2 + t * (19 + V) + 1) (cond_above j 8 (Slot j) (Moment None) (Moment None) past refl) (omega arith)
+      | inl below ↦ subst (λ (st : Stage). steps_at V t st ≤ 2 * (8 - j) + payload V + 2 + t * (19 + payload V) + 1) (cond_below j 8 (Slot j) (Moment None) below) (omega arith)
+      | inr past ↦ subst (λ (st : Stage). steps_at V t st ≤ 2 * (8 - j) + payload V + 2 + t * (19 + payload V) + 1) (cond_above j 8 (Slot j) (Moment None) (Moment None) past refl) (omega arith)
     ]
 
-pub steps_values : (V t i c : ℕ) → steps_at V t (values_from V i c) ≤ V - c + 2 + t * (19 + V) + 1
+pub steps_values : (V t i c : ℕ) → steps_at V t (values_from V i c) ≤ payload V - c + 2 + t * (19 + payload V) + 1
 steps_values V t i c =
     elim (cases_lt c V) [
-      | inl below ↦ subst (λ (st : Stage). steps_at V t st ≤ V - c + 2 + t * (19 + V) + 1) (cond_below c V (Value i c) (Moment (Some i)) below) (omega arith)
-      | inr past ↦ subst (λ (st : Stage). steps_at V t st ≤ V - c + 2 + t * (19 + V) + 1) (cond_above c V (Value i c) (Moment (Some i)) (Moment (Some i)) past refl) (omega arith)
+      | inl below ↦ subst (λ (st : Stage). steps_at V t st ≤ payload V - c + 2 + t * (19 + payload V) + 1) (cond_below c V (Value i c) (Moment (Some i)) below) (omega arith)
+      | inr past ↦ subst (λ (st : Stage). steps_at V t st ≤ payload V - c + 2 + t * (19 + payload V) + 1) (cond_above c V (Value i c) (Moment (Some i)) (Moment (Some i)) past refl) (omega arith)
     ]
 
 -- a try begun leaves as many accesses as it can make
-pub steps_try : (V t : ℕ) → 0 < t → (t - 1) * (19 + V) + (19 + V) ≡ t * (19 + V)
+pub steps_try : (V t : ℕ) → 0 < t → (t - 1) * (19 + payload V) + (19 + payload V) ≡ t * (19 + payload V)
 steps_try V zero l = absurd (omega arith)
 steps_try V (suc t) l = let e : suc t - 1 ≡ t = omega arith in rw e (grind arith)
 
@@ -156,7 +155,7 @@ at_stage {V} l st rs reply e =
 -- a reading that spoils a try
 pub takes_restart : {V : ℕ} (old mid new : Lookup V) (st : Stage) (a : Access) (w : ℕ) → Restarts {V = V} mid new → old.stage ≡ st → mid.checked ≡ old.checked → mid.key ≡ old.key →
     ((f : ℕ) (rs : List Reading) (reply : Reply V) → IsLookup V (shape_for {V = V} mid) mid.key mid.tries rs reply ↔ IsRemainderAt V (shape_for {V = V} old) old.key old.tries old.version old.value old.reply st (record { access = a; word = w; front = f } ∷ rs) reply) →
-    mid.tries * (19 + V) + 1 < steps_at V old.tries st → Consumes {V = V} old a w new
+    mid.tries * (19 + payload V) + 1 < steps_at V old.tries st → Consumes {V = V} old a w new
 takes_restart {V} old mid new st a w again before shape key left fewer = record {
   shape = again.shape ∙ shape;
   key = again.key ∙ key;

@@ -1,6 +1,7 @@
 -- The reader's machine: what it reads next, and what is left of its lookup.
 use Rattle.std.specs.Prelude.{ℕ, ◌≡◌, ◌+◌, ◌-◌, ◌*◌, ◌<◌, ◌≤◌, ◌⊎◌, ◌↔◌, nat_lt, if◌then◌else◌, List, [], ◌∷◌, take, drop, Option, Some, None}
 use Rattle.mc_words.specs.Checks.{shape_of}
+use Rattle.mc_words.specs.Places.{payload}
 use Rattle.mc_words.specs.declared.history.Reply.{Reply}
 use Rattle.mc_words.specs.declared.place.Place.{Place}
 use Rattle.mc_words.specs.declared.shape.Shape.{Shape}
@@ -85,12 +86,12 @@ IsRemainderAt V sh k t x v told Over rs reply = (rs ≡ []) × (reply ≡ told)
 unfoldable pub IsRemainder : {V : ℕ} → Lookup V → List Reading → Reply V → Type 0
 IsRemainder {V} l rs reply = IsRemainderAt V (shape_for l) l.key l.tries l.version l.value l.reply l.stage rs reply
 
--- how many accesses are left at most: of the running try, without those of the tries after it and the mark
+-- how many accesses are left at most: of the running try, which may read all words of one item, without those of the tries after it and the mark
 abbrev pub steps_of_try : ℕ → Stage → ℕ
 steps_of_try V First = 0
-steps_of_try V (Slot j) = 2 * (8 - j) + V + 2
-steps_of_try V (Key j i) = 1 + 2 * (8 - j) + V + 2
-steps_of_try V (Value i c) = V - c + 2
+steps_of_try V (Slot j) = 2 * (8 - j) + payload V + 2
+steps_of_try V (Key j i) = 1 + 2 * (8 - j) + payload V + 2
+steps_of_try V (Value i c) = payload V - c + 2
 steps_of_try V (Moment hit) = 2
 steps_of_try V (Last hit at) = 1
 steps_of_try V (Mark i) = 0
@@ -99,7 +100,7 @@ steps_of_try V Over = 0
 abbrev pub steps_at : ℕ → ℕ → Stage → ℕ
 steps_at V t (Mark i) = 1
 steps_at V t Over = 0
-steps_at V t stage = steps_of_try V stage + t * (19 + V) + 1
+steps_at V t stage = steps_of_try V stage + t * (19 + payload V) + 1
 
 -- how many accesses the lookup makes at most before it has its reply
 abbrev pub steps_left : {V : ℕ} → Lookup V → ℕ

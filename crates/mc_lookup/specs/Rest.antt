@@ -3,7 +3,6 @@ use Rattle.std.specs.Prelude.{ℕ, suc, ◌≡◌, ◌≢◌, ◌⊎◌, List, [
 use Rattle.mc_theory.specs.Lookups.{IsLookup, MarksHit, ReadsValues, Scans, reply_of}
 use Rattle.mc_theory.specs.Readings.{Reading}
 use Rattle.mc_words.specs.Keys.{stripe_of}
-use Rattle.mc_words.specs.Places.{payload}
 use Rattle.mc_words.specs.declared.history.Reply.{Reply}
 use Rattle.mc_words.specs.declared.place.Place.{Place}
 use Rattle.mc_words.specs.declared.shape.Shape.{Shape}
@@ -23,7 +22,7 @@ RemainderAtMoment V sh k t x hit v rs reply =
 -- these value words were read of the item
 abbrev pub RemainderAtValues : (V : ℕ) → Shape → ℕ → ℕ → ℕ → ℕ → List ℕ → List Reading → Reply V → Type 0
 RemainderAtValues V sh k t x i got rs reply =
-    (xs : List Reading) × (more : List ℕ) × (rest : List Reading) × (rs ≡ xs ++ rest) × (length (got ++ more) ≡ payload V) ×
+    (xs : List Reading) × (more : List ℕ) × (rest : List Reading) × (rs ≡ xs ++ rest) × (length (got ++ more) ≡ V) ×
     ReadsValues i (suc (length got)) xs more × RemainderAtMoment V sh k t x (Some i) (got ++ more) rest reply
 
 abbrev pub RemainderAtHit : (V : ℕ) → Shape → ℕ → ℕ → ℕ → Option ℕ → List Reading → Reply V → Type 0

@@ -41,7 +41,7 @@ pub struct Lookup<const V: usize> {
 
 impl<const V: usize> Lookup<V> {
     ghost use Rattle.std.specs.Prelude.{◌+◌, ◌*◌, ◌↔◌, ℕ, List, Some, None, IfSome, IsSome};
-    ghost use Rattle.mc_words.specs.Places.{IsWidth};
+    ghost use Rattle.mc_words.specs.Places.{IsWidth, payload};
     ghost use Rattle.mc_words.specs.declared.history.Reply.{Reply};
     ghost use Rattle.mc_theory.specs.Lookups.{IsLookup};
     ghost use Rattle.mc_theory.specs.Readings.{Reading};
@@ -55,7 +55,7 @@ impl<const V: usize> Lookup<V> {
         ensures shape { shape_for {V = V} result ≡ shape_of checked.now }
         ensures key { result.key ≡ key }
         ensures left { (rs : List Reading) (reply : Reply V) → IsRemainder {V = V} result rs reply ↔ IsLookup V (shape_of checked.now) key (shape_of checked.now).tries rs reply }
-        ensures steps { steps_left {V = V} result ≡ (shape_of checked.now).tries * (19 + V) + 1 }
+        ensures steps { steps_left {V = V} result ≡ (shape_of checked.now).tries * (19 + payload V) + 1 }
         ensures running { IsSome (next_access {V = V} result) }
         ensures stage { stage_of {V = V} result ≡ Stage.First }
     {

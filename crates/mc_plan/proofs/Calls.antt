@@ -6,3 +6,4 @@ pub mod AfterSweep
 pub mod CanEnd
 pub mod ActKinds
 pub mod EndOnce
+pub mod DueActs

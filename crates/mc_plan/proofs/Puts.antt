@@ -1,3 +1,4 @@
+pub mod MoveLists
 pub mod PathSteps
 pub mod PathMoves
 pub mod NamedItems

@@ -19,14 +19,12 @@ use Rattle.mc_plan.specs.declared.clerk.Clerk.{Clerk}
 use Rattle.mc_plan.specs.declared.clerk.Stage.{Stage}
 use Rattle.mc_plan.specs.declared.clerk.Stage.TheVariants.{Idle, Sweeping, Planned}
 use Rattle.mc_search.specs.declared.path.Path.{Path}
-use Rattle.mc_plan.specs.declared.waiting.Start.{Start}
-use Rattle.mc_plan.specs.declared.waiting.Start.TheVariants as start
 use Rattle.mc_plan.specs.declared.waiting.Waiting.{Waiting}
 use Rattle.mc_plan.specs.Calls.{PutAnswers, RemoveAnswers}
 use Rattle.mc_search.specs.Free.{IsConsistent, IsFreeIn}
 use Rattle.mc_plan.specs.Making.{IsQuiet, as_made, state_after_acts}
 use Rattle.mc_search.specs.Paths.{IsLeastPath}
-use Rattle.mc_search.specs.Sweeps.{Swept, IsSweep, HasSwept, IsOver, hand_acts, next_item, victim_of}
+use Rattle.mc_search.specs.Sweeps.{Swept, IsSweep, HasSwept, hand_acts, next_item, victim_of}
 
 -- a call of a clerk
 pub data Call : Type 0 where
@@ -137,13 +135,12 @@ pub record Knows (V : ℕ) (clerk : Clerk V) (s : State V) : Type 0 where
   pub books : AreBooksOf V clerk.books s
 
 -- the hand looks for an item for a put that began in state s, and has read these bits
-pub record IsSweeping (V : ℕ) (books : Books) (plan : List Act) (waiting : Waiting V) (call : Call) (s : State V) (rs : List Swept) : Type 0 where
+pub record IsSweeping (V : ℕ) (books : Books) (waiting : Waiting V) (call : Call) (s : State V) (rs : List Swept) : Type 0 where
   pub waits : Waits V books waiting.key s waiting.path
   pub called : call ≡ PutCall waiting.key waiting.value
   pub key : IsWord waiting.key
   pub wide : length waiting.value ≡ V
   pub has : HasSwept waiting.sweep (shape_of books.checked).items s.hand rs
-  pub empty : plan ≡ []
 
 -- the sweep of the call was made, and so many acts of its plan
 pub record MakesPlan (V : ℕ) (books : Books) (plan : List Act) (many : ℕ) (call : Call) (s : State V) (acts : List Made) (told : Answer) : Type 0 where
@@ -160,7 +157,7 @@ pub record MakesPlan (V : ℕ) (books : Books) (plan : List Act) (many : ℕ) (c
 -- how far the clerk is in the call, of which these acts were made
 abbrev pub IsAtStage : (V : ℕ) → Stage V → Books → List Act → ℕ → Call → State V → List Made → Type 0
 IsAtStage V Idle books plan many call s acts = ⊥
-IsAtStage V (Sweeping waiting) books plan many call s acts = (rs : List Swept) × IsSweeping V books plan waiting call s rs × IsSome (next_item waiting.sweep) × (many ≡ 0) × (acts ≡ hand_acts rs)
+IsAtStage V (Sweeping waiting) books plan many call s acts = (rs : List Swept) × IsSweeping V books waiting call s rs × IsSome (next_item waiting.sweep) × (many ≡ 0) × (acts ≡ hand_acts rs) × (plan ≡ [])
 IsAtStage V (Planned told) books plan many call s acts = MakesPlan V books plan many call s acts told
 
 -- the clerk is in the call, which began in state s, and these acts were made of it

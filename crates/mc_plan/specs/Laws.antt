@@ -3,15 +3,14 @@ use Rattle.std.specs.Prelude.{ℕ, ◌≡◌, All, List, length}
 use Rattle.mc_words.specs.declared.place.Place.{Place}
 use Rattle.mc_words.specs.declared.shape.Shape.{Shape}
 use Rattle.mc_words.specs.History.{IsWord}
-use Rattle.mc_words.specs.Places.{payload}
 use Rattle.mc_words.specs.Shapes.{IsShape}
 use Rattle.mc_plan.specs.Making.{ActsFill, ActsRenew, ActsRemove, ActsEvict}
 use Rattle.mc_plan.specs.Moves.{ActsMove}
 use Rattle.mc_plan.specs.Plans.{fill_acts, renew_acts, remove_acts, evict_acts, move_acts}
 
--- a value: so many words
+-- a value: V words
 abbrev pub IsValue : ℕ → List ℕ → Type 0
-IsValue V v = (length v ≡ payload V) × All IsWord v
+IsValue V v = (length v ≡ V) × All IsWord v
 
 abbrev pub FillsPut : ℕ → Type 0
 FillsPut V = (sh : Shape) (k : ℕ) (v : List ℕ) (i : ℕ) (p : Place) → IsShape sh → IsWord k → IsValue V v → ActsFill V sh k v i p (fill_acts sh k v i p)

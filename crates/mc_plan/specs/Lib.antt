@@ -5,6 +5,9 @@ pub mod Puts
 pub mod Replacing
 pub mod Laws
 pub mod Calls
+pub mod Decisions
+pub mod Deciding
 pub mod Clerks
 pub mod Ends
+pub mod Due
 pub mod Inside

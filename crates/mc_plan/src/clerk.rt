@@ -10,6 +10,7 @@ ghost use Rattle.mc_theory.specs.Traces.{HasVersionSteps};
 use crate::Plan;
 use crate::answer::Answer;
 use crate::books::Books;
+use crate::listing::{finish_put, start_put, start_removal};
 use crate::waiting::{Start, Waiting};
 use arrayvec::ArrayVec;
 use mc_theory::{Act, Peek};
@@ -70,14 +71,9 @@ impl<const V: usize> Clerk<V> {
     {
         self.plan.clear();
         self.made = 0;
-        self.stage = match self.books.put::<V, P>(peek, &mut self.plan, key, &value) {
+        self.stage = match start_put::<V, P>(&mut self.books, peek, &mut self.plan, key, &value) {
             Start::Planned(answer) => Stage::Planned(Answer::Put(answer)),
-            Start::Waits(path) => Stage::Sweeping(Waiting {
-                sweep: self.books.sweep(),
-                key,
-                value,
-                path,
-            }),
+            Start::Waits(path) => Stage::Sweeping(Waiting::new(&self.books, key, value, path)),
         };
     }
 
@@ -92,7 +88,7 @@ impl<const V: usize> Clerk<V> {
     {
         self.plan.clear();
         self.made = 0;
-        let answer = self.books.remove::<V, P>(peek, &mut self.plan, key);
+        let answer = start_removal::<V, P>(&mut self.books, peek, &mut self.plan, key);
         self.stage = Stage::Planned(Answer::Remove(answer));
     }
 
@@ -119,7 +115,7 @@ impl<const V: usize> Clerk<V> {
     {
         let stage = mem::replace(&mut self.stage, Stage::Idle);
         if let Stage::Sweeping(waiting) = stage {
-            let answer = self.books.go_on::<V, P>(peek, &mut self.plan, waiting);
+            let answer = finish_put::<V, P>(&mut self.books, peek, &mut self.plan, waiting);
             self.stage = Stage::Planned(Answer::Put(answer));
         }
     }

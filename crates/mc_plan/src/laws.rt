@@ -1,4 +1,5 @@
 //! The laws of plans, one function each. A body does nothing: what it ensures is the law.
+ghost use Rattle.mc_plan.specs.Due.{DueActsCanBeMade, PlansAreDue, PlansEndCalls, SweepsCanRead};
 ghost use Rattle.mc_plan.specs.Ends.{CallsEndOnce};
 ghost use Rattle.mc_plan.specs.Moves.{MovesMakeRoom};
 ghost use Rattle.mc_plan.specs.Puts.{PutsMakeRoom};
@@ -48,4 +49,24 @@ pub fn evictions_make_room<const V: usize>()
 /// A call ends once: acts that are a whole call are the beginning of no other, whatever it answers. So a call by single acts is answered at one of them, and at no other.
 pub fn calls_end_once<const V: usize>()
     ensures { CallsEndOnce V }
+{}
+
+/// The acts of a plan are due in the state where it was made: they are allowed one after the other, and end quiet and within the limit.
+pub fn plans_are_due<const V: usize>()
+    ensures { PlansAreDue V }
+{}
+
+/// The act that is due next is allowed, and once it is made the others are due. So a writer that makes a plan's acts in their order needs no list of them.
+pub fn due_acts_can_be_made<const V: usize>()
+    ensures { DueActsCanBeMade V }
+{}
+
+/// While the hand looks for an item, the readings that it made were allowed one after the other, and so is its next one.
+pub fn sweeps_can_read<const V: usize>()
+    ensures { SweepsCanRead V }
+{}
+
+/// A sweep and then all acts of a plan are a whole call with the plan's answer, and the books are those of the state after it.
+pub fn plans_end_calls<const V: usize>()
+    ensures { PlansEndCalls V }
 {}

@@ -8,8 +8,10 @@
 mod answer;
 mod books;
 mod clerk;
+mod decision;
 mod fill;
 pub mod laws;
+mod listing;
 mod moves;
 mod renew;
 mod take_out;
@@ -18,13 +20,16 @@ mod waiting;
 
 pub use answer::{Answer, Put, PutError, Remove, Spent};
 use arrayvec::ArrayVec;
+pub use books::Books;
 pub use clerk::Clerk;
+pub use decision::{Decision, Insertion, Move, Removal, Replacement, Storing};
 pub use fill::{add_fill, plan_fill};
 pub use mc_search::{Finder, NoMemory, Path, Peek, Sweep, find, moment, read};
 use mc_theory::Act;
-pub use moves::{add_move, add_moves, plan_moves};
+pub use moves::{add_move, add_moves, path_moves, plan_moves, push_moves};
 pub use renew::{add_renew, plan_renew};
 pub use take_out::{add_evict, add_remove, plan_evict, plan_remove};
+pub use waiting::Waiting;
 
 /// The acts of a plan, in their order.
 pub type Plan = ArrayVec<Act, 64>;

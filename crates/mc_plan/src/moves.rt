@@ -4,12 +4,14 @@ ghost use Rattle.arrayvec.specs.ArrayVec.{array_vec_len};
 ghost use Rattle.mc_words.specs.Chains.{IsChain};
 ghost use Rattle.mc_words.specs.Checks.{shape_of};
 ghost use Rattle.mc_words.specs.Places.{IsWidth, item, word_count};
+ghost use Rattle.mc_plan.specs.Decisions.{acts_of_moves};
 ghost use Rattle.mc_plan.specs.Moves.{AreTaken, AreKeys, MakesRoom};
 ghost use Rattle.mc_plan.specs.Plans.{item_in, move_acts, moves_acts};
 ghost use Rattle.mc_search.specs.Readable.{IsFilled};
 ghost use Rattle.mc_search.specs.Inside.Readable.{NamesSome};
 
 use crate::Plan;
+use crate::decision::Move;
 use arrayvec::ArrayVec;
 use mc_search::{Path, key_at, slot_at};
 use mc_theory::{Act, Deed, Peek};
@@ -42,8 +44,54 @@ fn key_in<const V: usize, P: Peek>(checked: &Checked, peek: &mut P, word: u64) -
     key_at::<V, P>(checked, peek, item as u32)
 }
 
-/// Adds the acts that move the item at the path's last place to the hole, the item at the place before it to the place
-/// that became empty, and so on. The first place is empty then.
+/// The moves of a path: the item at its last place goes to the hole, the item at the place before it to the place that
+/// became empty, and so on. The first place is empty then.
+pub fn path_moves<const V: usize, P: Peek>(
+    checked: &Checked,
+    peek: &mut P,
+    path: &Path,
+) -> ArrayVec<Move, 8>
+    requires width { IsWidth V }
+    requires words { word_count V (shape_of checked.now) ≤ length (P.words peek.old) }
+    requires filled { IsFilled (shape_of checked.now) (P.words peek.old) }
+    requires taken { AreTaken (shape_of checked.now) (P.words peek.old) path.now.places.items }
+    ensures moves { acts_of_moves result.items ≡ moves_acts V (shape_of checked.now) (P.words peek.old) path.now.places.items path.now.hole }
+    ensures many { length result.items ≡ length path.now.places.items }
+    ensures keys { AreKeys V (shape_of checked.now) (P.words peek.old) path.now.places.items }
+    ensures same { P.words peek.new ≡ P.words peek.old }
+    ensures kept { peek.new ≡ peek.old }
+{
+    let mut moves = ArrayVec::new();
+    let mut to = path.hole;
+    let mut n = path.places.len();
+    while n > 0 {
+        n -= 1;
+        let from = path.places[n];
+        let word = slot_at(checked, peek, from);
+        let key = key_in::<V, P>(checked, peek, word);
+        moves.push(Move {
+            key,
+            word,
+            from,
+            to,
+        });
+        to = from;
+    }
+    moves
+}
+
+/// Adds the acts of the moves, in their order.
+pub fn push_moves(acts: &mut Plan, moves: &[Move])
+    requires room { array_vec_len acts.old + 4 * length moves.now ≤ 64 }
+    ensures items { acts.new.items ≡ acts.old.items ++ acts_of_moves moves.now }
+    ensures many { array_vec_len acts.new ≡ array_vec_len acts.old + 4 * length moves.now }
+{
+    for m in moves {
+        add_move(acts, m.key, m.word, m.from, m.to);
+    }
+}
+
+/// Adds the acts of the moves of the path.
 pub fn add_moves<const V: usize, P: Peek>(
     checked: &Checked,
     peek: &mut P,
@@ -61,16 +109,8 @@ pub fn add_moves<const V: usize, P: Peek>(
     ensures same { P.words peek.new ≡ P.words peek.old }
     ensures kept { peek.new ≡ peek.old }
 {
-    let mut to = path.hole;
-    let mut n = path.places.len();
-    while n > 0 {
-        n -= 1;
-        let from = path.places[n];
-        let word = slot_at(checked, peek, from);
-        let key = key_in::<V, P>(checked, peek, word);
-        add_move(acts, key, word, from, to);
-        to = from;
-    }
+    let moves = path_moves::<V, P>(checked, peek, path);
+    push_moves(acts, moves.as_slice());
 }
 
 /// The acts that make room where the path begins, by moving the items at its places, the last one first.

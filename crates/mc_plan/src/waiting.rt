@@ -1,5 +1,10 @@
 //! A put that waits for an item.
+ghost use Rattle.std.specs.Prelude.{ℕ, ◌≡◌, ◌*◌, ◌<◌, ◌++◌, [], ◌∷◌, IfNone, List, Some};
+ghost use Rattle.mc_words.specs.Checks.{shape_of};
+ghost use Rattle.mc_theory.specs.States.{State};
+
 use crate::answer::{Put, PutError};
+use crate::books::Books;
 use mc_search::{Path, Sweep};
 
 /// How far a put is once it was begun.
@@ -13,9 +18,50 @@ pub(crate) enum Start {
 
 /// A put for which the hand looks for an item.
 #[derive(Drop)]
-pub(crate) struct Waiting<const V: usize> {
+pub struct Waiting<const V: usize> {
     pub(crate) sweep: Sweep,
     pub(crate) key: u64,
     pub(crate) value: [u64; V],
     pub(crate) path: Path,
+}
+
+impl<const V: usize> Waiting<V> {
+    ghost use Rattle.mc_plan.specs.Clerks.{Call, IsSweeping, PutCall, Waits};
+    ghost use Rattle.mc_plan.specs.declared.books.Books.{Books};
+    ghost use Rattle.mc_search.specs.Sweeps.{Swept, IsOver, next_item};
+
+    /// A put whose hand has read nothing yet.
+    pub fn new(books: &Books, key: u64, value: [u64; V], path: Path) -> Waiting<V>
+        requires waits { (s : State V) × Waits V books.now key s path }
+        ensures sweeping { (s : State V) → Waits V books.now key s path → IsSweeping V books.now result (PutCall key value.entry) s [] }
+        ensures key { result.key ≡ key }
+        ensures value { result.value ≡ value.entry }
+        ensures left { result.sweep.left ≡ 2 * (shape_of books.now.checked).items }
+    {
+        Waiting {
+            sweep: books.sweep(),
+            key,
+            value,
+            path,
+        }
+    }
+
+    /// The item whose bit is to be read next, while the sweep is not over.
+    pub fn next(&self) -> Option<u32>
+        ensures value { result ≡ next_item self.now.sweep }
+        ensures over { IfNone result ((b : Books) (call : Call) (s : State V) (rs : List Swept) → IsSweeping V b self.now call s rs → IsOver (shape_of b.checked).items rs) }
+    {
+        self.sweep.next()
+    }
+
+    /// Goes on after the bit was read.
+    pub fn after(&mut self, bit: u64)
+        requires { (b : Books) × (call : Call) × (s : State V) × (rs : List Swept) × (i : ℕ) × IsSweeping V b self.old call s rs × (next_item self.old.sweep ≡ Some i) }
+        ensures swept { (b : Books) (call : Call) (s : State V) (rs : List Swept) (i : ℕ) → IsSweeping V b self.old call s rs → next_item self.old.sweep ≡ Some i → IsSweeping V b self.new call s (rs ++ record { item = i; bit = bit } ∷ []) }
+        ensures key { self.new.key ≡ self.old.key }
+        ensures value { self.new.value ≡ self.old.value }
+        ensures left { self.new.sweep.left < self.old.sweep.left }
+    {
+        self.sweep.after(bit);
+    }
 }

@@ -1,7 +1,8 @@
 -- How many accesses a reader makes of one lookup.
 use Rattle.std.proofs.Common.{◌≡◌, ℕ, ◌+◌, ◌*◌, ◌<◌, ◌≤◌, List, [], ◌∷◌, ◌++◌, Some, None, sym, ap, ◌∙◌, inl, inr, arith, length, length-append}
 use Rattle.std.specs.Prelude.{slice_get}
-use Rattle.mc_words.specs.Places.{payload, IsWidth}
+use Rattle.mc_words.proofs.Payload.{payload_few}
+use Rattle.mc_words.specs.Places.{payload, most_payload, IsWidth}
 use Rattle.mc_words.specs.Shapes.{IsShape}
 use Rattle.mc_words.specs.declared.history.Reply.{Reply}
 use Rattle.mc_words.specs.declared.shape.Shape.{Shape}
@@ -15,15 +16,11 @@ use Rattle.mc_replay.specs.Inside.Players.{HasAccessed, most_accesses}
 product_le : (a b c d : ℕ) → a ≤ c → b ≤ d → a * b ≤ c * d
 product_le a b c d l m = grind arith
 
-width_is : (V : ℕ) → IsWidth V → payload V ≤ 8
-unfolding payload
-width_is V width = width.most
-
 -- the readings of a lookup are few
 few_readings : (V : ℕ) (sh : Shape) (k : ℕ) (rs : List Reading) (reply : Reply V) → IsShape sh → IsWidth V → sh.tries ≤ 64 → length rs ≤ sh.tries * (19 + payload V) + 1 → length rs ≤ most_accesses
 few_readings V sh k rs reply sound width tries few =
-    let wide = width_is V width in
-    let most = product_le sh.tries (19 + payload V) 64 27 tries (omega (arith, wide)) in
+    let wide = payload_few V width in
+    let most = product_le sh.tries (19 + payload V) 64 (19 + most_payload) tries (omega (arith, wide)) in
     omega (arith, few, most)
 
 -- a reading more leaves room for itself

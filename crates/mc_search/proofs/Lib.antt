@@ -7,3 +7,4 @@ pub mod Trace
 pub mod SweepReadings
 pub mod CutChains
 pub mod TakenItems
+pub mod EntryLists

@@ -1,3 +1,4 @@
 pub mod Readable
 pub mod Ready
 pub mod Search
+pub mod Entries

@@ -4,3 +4,4 @@ pub mod Paths
 pub mod Free
 pub mod Sweeps
 pub mod Inside
+pub mod Entries

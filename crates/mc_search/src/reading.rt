@@ -22,7 +22,7 @@ pub fn moment<P: Peek>(checked: &Checked, peek: &mut P) -> u64
     peek.word(checked.moment_place())
 }
 
-/// The words of an item after its key.
+/// The value of an item.
 fn value_at<const V: usize, P: Peek>(checked: &Checked, peek: &mut P, item: u32) -> [u64; V]
     requires width { IsWidth V }
     requires words { word_count V (shape_of checked.now) ≤ length (P.words peek.old) }

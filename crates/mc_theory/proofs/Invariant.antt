@@ -4,3 +4,4 @@ pub mod PlainParts
 pub mod EachAct
 pub mod EachState
 pub mod VersionSteps
+pub mod Limits

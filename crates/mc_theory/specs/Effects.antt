@@ -1,5 +1,6 @@
 -- What an act of the writer leaves.
-use Rattle.std.specs.Prelude.{ℕ, ◌+◌, ◌%◌, ◌==◌, if◌then◌else◌, Bool, true, false, List, [], ◌∷◌, ◌++◌, Option, Some, None, take}
+use Rattle.std.specs.Prelude.{ℕ, ◌+◌, ◌%◌, ◌==◌, if◌then◌else◌, Bool, true, false, List, [], ◌∷◌, ◌++◌, Option, Some, None}
+use Rattle.mc_words.specs.History.{value_of}
 use Rattle.mc_words.specs.Keys.{stripe_of}
 use Rattle.mc_words.specs.Places.{slot_number, moment, version, with_moment, with_version, with_slot, with_item}
 use Rattle.mc_words.specs.declared.history.Change.{Change}
@@ -47,10 +48,10 @@ abbrev pub removal_of : {V : ℕ} → Bool → ℕ → Change V
 removal_of false k = Remove k
 removal_of true k = Evict k
 
--- the change of the running deed: the value is the first V words that were written
+-- the change of the running deed: it puts the value in the words that were written
 abbrev pub change_of : {V : ℕ} → Phase → List (Change V)
-change_of {V} (Placed k i xs) = Put k (take V xs) ∷ []
-change_of {V} (Renewing k xs) = Put k (take V xs) ∷ []
+change_of {V} (Placed k i xs) = Put k (value_of V xs) ∷ []
+change_of {V} (Renewing k xs) = Put k (value_of V xs) ∷ []
 change_of {V} (Removed k e) = removal_of e k ∷ []
 change_of {V} _ = []
 

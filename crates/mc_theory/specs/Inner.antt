@@ -3,7 +3,7 @@ use Rattle.std.specs.Prelude.{ℕ, ◌+◌, ◌*◌, ◌≡◌, ◌≢◌, ◌^�
 use Rattle.mc_words.specs.History.{map_value, IsLegal}
 use Rattle.mc_words.specs.Keys.{tag_of, slot_word, IsBucketOf}
 use Rattle.mc_words.specs.Places.{payload, version, slot, item}
-use Rattle.mc_words.specs.Standing.{Agrees, Stands, OnlyAt, IsAbsent, IsFree, ItemBegins, HasValue, AgreesAt}
+use Rattle.mc_words.specs.Standing.{Agrees, Stands, OnlyAt, IsAbsent, IsFree, ItemBegins, HasPayload, HasValue, AgreesAt}
 use Rattle.mc_words.specs.declared.history.Change.{Change}
 use Rattle.mc_words.specs.declared.shape.Shape.{Shape}
 use Rattle.mc_theory.specs.Phases.{Phase, Quiet, Filling, Keyed, Placed, Renewing, Removing, Removed, Moving, Moved, Closing, deed_key, moment_owed, close_owed}
@@ -36,7 +36,7 @@ abbrev pub DeedFacts : (V : ℕ) → Shape → List ℕ → List (Change V) → 
 DeedFacts V sh w h Quiet = Unit {0}
 DeedFacts V sh w h (Filling k) = (k < 2 ^ 64) × IsAbsent V sh w k × (map_value h k ≡ None)
 DeedFacts V sh w h (Keyed k i xs) = IsFillReady V sh w k i xs × (map_value h k ≡ None)
-DeedFacts V sh w h (Placed k i xs) = ((q : ℕ) × OnlyAt V sh w k q i) × HasValue V sh w i xs × (map_value h k ≡ None)
+DeedFacts V sh w h (Placed k i xs) = ((q : ℕ) × OnlyAt V sh w k q i) × HasPayload V sh w i xs × (map_value h k ≡ None)
 DeedFacts V sh w h (Renewing k xs) = ((q : ℕ) × (i : ℕ) × OnlyAt V sh w k q i × ItemBegins V sh w i xs) × (length xs ≤ payload V) × IsSome (map_value h k)
 DeedFacts V sh w h (Removing k e) = ((q : ℕ) × (i : ℕ) × OnlyAt V sh w k q i) × IsSome (map_value h k)
 DeedFacts V sh w h (Removed k e) = IsAbsent V sh w k × IsSome (map_value h k)

@@ -1,7 +1,6 @@
 -- What a lookup reads and replies, as a shape of its whole list of readings.
 use Rattle.std.specs.Prelude.{ℕ, zero, suc, ◌≡◌, ◌≢◌, ◌+◌, ◌%◌, ◌<◌, ◌⊎◌, List, [], ◌∷◌, ◌++◌, length, Option, Some, None}
 use Rattle.mc_words.specs.Keys.{first_of, second_of, slot_word, stripe_of, tag_of}
-use Rattle.mc_words.specs.Places.{payload}
 use Rattle.mc_words.specs.declared.history.Reply.{Reply}
 use Rattle.mc_words.specs.declared.history.Reply.TheVariants.{Found, Absent, Busy}
 use Rattle.mc_words.specs.declared.place.Place.{Place}
@@ -36,9 +35,10 @@ ReadsValues i j [] [] = Unit {0}
 ReadsValues i j (r ∷ rs) (x ∷ xs) = (r.access ≡ Value i j) × (r.word ≡ x) × ReadsValues i (j + 1) rs xs
 ReadsValues i j _ _ = ⊥
 
+-- a hit reads the V words of the value
 abbrev pub ReadsHit : ℕ → Option ℕ → List Reading → List ℕ → Type 0
 ReadsHit V None rs v = (rs ≡ []) × (v ≡ [])
-ReadsHit V (Some i) rs v = (length v ≡ payload V) × ReadsValues i 1 rs v
+ReadsHit V (Some i) rs v = (length v ≡ V) × ReadsValues i 1 rs v
 
 -- a try whose first version was even
 pub record Tries (V : ℕ) (sh : Shape) (k : ℕ) (rs : List Reading) (hit : Option ℕ) (v : List ℕ) (before after at : ℕ) : Type 0 where

@@ -1,16 +1,16 @@
 -- What a lookup tells is true, in plain words: the clause `plain` of `run_new`. What it means is in the definitions below, and in
--- those of the map that a history makes (`held`, `IsTrueAnswer`); no other of this project is needed.
+-- those of the map that a history makes (`held`, `value_of`, `IsTrueAnswer`); no other of this project is needed.
 --
 -- Events come one after the other: each is an act of the writer, or the beginning of a reader's lookup, or the next access of
 -- one. The acts change a map: the writer opens a deed on a key, writes words, and at the moment of the deed the map changes. A
--- fill and a renewal put the words that were written, a removal and an eviction take the key out, a move changes nothing. The
--- list of these changes is the history of the events.
+-- fill and a renewal put the value, which is the first of the words that were written; a removal and an eviction take the key
+-- out, a move changes nothing. The list of these changes is the history of the events.
 --
 -- A lookup that has ended tells its reader, its key, its reply, and which events were its first access and its last. The reply
 -- names a number of changes: no fewer than were made before the first access, and no more than were made when the last was. It
 -- is what the map held of the key after so many changes of the history. A lookup that gave up, `Busy`, says nothing of the map.
 use Rattle.std.specs.Prelude.{ℕ, suc, ◌≡◌, ◌+◌, ◌≤◌, ◌<◌, List, [], ◌∷◌, ◌++◌, length, take, Option, Some, None, slice_get}
-use Rattle.mc_words.specs.History.{IsTrueAnswer}
+use Rattle.mc_words.specs.History.{IsTrueAnswer, value_of}
 use Rattle.mc_words.specs.declared.history.Change.{Change}
 use Rattle.mc_words.specs.declared.history.Change.TheVariants.{Put, Remove, Evict}
 use Rattle.mc_words.specs.declared.history.Reply.{Reply}
@@ -36,10 +36,10 @@ acts_in (Write a ∷ es) = a ∷ acts_in es
 acts_in (Begin r k ∷ es) = acts_in es
 acts_in (Read r ∷ es) = acts_in es
 
--- what a deed on a key changes in the map, where these words were written
+-- what a deed on a key changes in the map, where these words were written: the first V of them are the value
 abbrev pub change_by : {V : ℕ} → Deed → ℕ → List ℕ → List (Change V)
-change_by deed.Fill k xs = Put k xs ∷ []
-change_by deed.Renew k xs = Put k xs ∷ []
+change_by {V} deed.Fill k xs = Put k (value_of V xs) ∷ []
+change_by {V} deed.Renew k xs = Put k (value_of V xs) ∷ []
 change_by deed.Remove k xs = Remove k ∷ []
 change_by deed.Evict k xs = Evict k ∷ []
 change_by deed.Move k xs = []

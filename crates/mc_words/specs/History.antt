@@ -48,6 +48,10 @@ IsLegal c h = LegalFrom c [] h
 abbrev pub IsWord : ℕ → Type 0
 IsWord x = x < 2 ^ 64
 
+-- the value in the words that an item keeps behind its key: the first V of them
+abbrev pub value_of : ℕ → List ℕ → List ℕ
+value_of V xs = take V xs
+
 -- the numbers of a change are in their ranges
 abbrev pub IsChange : {V : ℕ} → Change V → Type 0
 IsChange {V} (Put k v) = IsWord k × (length v ≡ V) × All IsWord v

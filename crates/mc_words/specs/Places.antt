@@ -4,9 +4,13 @@ use Rattle.mc_words.specs.declared.place.Place.{Place}
 use Rattle.mc_words.specs.declared.shape.Shape.{Shape}
 use Rattle.mc_words.specs.Recency.{recency_word, recency_words}
 
--- how many words of an item follow its key, where a value has V words
+-- how many words of an item follow its key, where a value has V words; the first V of them are the value
 unfoldable pub payload : ℕ → ℕ
 payload V = V
+
+-- no item has more of them
+abbrev pub most_payload : ℕ
+most_payload = 8
 
 -- a value has from 1 to 8 words
 pub record IsWidth (V : ℕ) : Type 0 where

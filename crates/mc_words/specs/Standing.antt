@@ -39,9 +39,13 @@ IsEmpty sh w q = (q < 4 * sh.buckets) × (slot sh w q ≡ 0)
 abbrev pub ItemBegins : ℕ → Shape → List ℕ → ℕ → List ℕ → Type 0
 ItemBegins V sh w i xs = (j : ℕ) → j < length xs → item V sh w i (j + 1) ≡ slice_index xs j
 
--- the words after an item's key are these
+-- all words after an item's key are these
+abbrev pub HasPayload : ℕ → Shape → List ℕ → ℕ → List ℕ → Type 0
+HasPayload V sh w i xs = (length xs ≡ payload V) × ItemBegins V sh w i xs
+
+-- the first V words after an item's key, its value, are these
 abbrev pub HasValue : ℕ → Shape → List ℕ → ℕ → List ℕ → Type 0
-HasValue V sh w i v = (length v ≡ payload V) × ItemBegins V sh w i v
+HasValue V sh w i v = (length v ≡ V) × ItemBegins V sh w i v
 
 -- where the key stands is one slot, in a bucket of the key and under its tag
 pub record OnlyAt (V : ℕ) (sh : Shape) (w : List ℕ) (k q i : ℕ) : Type 0 where

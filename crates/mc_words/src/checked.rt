@@ -4,6 +4,7 @@ ghost use Rattle.mc_words.specs.Places.{slot_number, IsPlace, IsWidth, payload, 
 ghost use Rattle.mc_words.specs.Recency.{recency_bit};
 ghost use Rattle.mc_words.specs.Shapes.{IsShape};
 
+use crate::item::payload_words;
 use crate::place::Place;
 use crate::shape::Shape;
 
@@ -123,24 +124,22 @@ impl Checked {
     }
 
     /// Where a word of an item lies: word 0 is the key, words 1 to `V` are the value.
-    #[tactic(auto, unfolding(crate::specs::Places::payload))]
     pub fn item_place<const V: usize>(&self, i: u32, j: u8) -> usize
         requires width { IsWidth V }
         requires item { i < (shape_of self.now).items }
         requires word { j ≤ payload V }
         ensures { result ≡ item_place V (shape_of self.now) i j }
     {
-        self.items_place() + i as usize * (1 + V) + usize::from(j)
+        self.items_place() + i as usize * (1 + payload_words::<V>()) + usize::from(j)
     }
 
     /// Where the recency words begin: how many words the moment, the versions, the slots and the items have.
-    #[tactic(auto, unfolding(crate::specs::Places::payload))]
     pub fn recency_start<const V: usize>(&self) -> usize
         requires { IsWidth V }
         ensures count { result ≡ word_count V (shape_of self.now) }
         ensures bound { result < 2 ^ 40 }
     {
-        self.items_place() + self.shape.items as usize * (1 + V)
+        self.items_place() + self.shape.items as usize * (1 + payload_words::<V>())
     }
 
     /// Where the word that holds the recency bit of an item lies.

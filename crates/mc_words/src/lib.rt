@@ -6,6 +6,7 @@
 
 mod checked;
 mod history;
+mod item;
 mod mix;
 mod no_memory;
 mod place;
@@ -13,6 +14,7 @@ mod shape;
 
 pub use checked::Checked;
 pub use history::{Change, Reply};
+pub use item::payload_words;
 pub use mix::Mix;
 pub use no_memory::NoMemory;
 pub use place::Place;

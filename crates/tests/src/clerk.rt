@@ -8,7 +8,7 @@ ghost use Rattle.tests.specs.Drivers.{key_after, IsBeside, IsMaking};
 
 use mc_core::Act;
 use mc_plan::{Answer, Clerk, NoMemory, Peek, Put, PutError, Remove, moment, read};
-use mc_words::{Checked, Mix, Shape, ShapeError};
+use mc_words::{Checked, Mix, Shape, ShapeError, payload_words};
 use std::alloc::{AllocError, Global};
 use std::mem;
 use std::test::Fail;
@@ -96,7 +96,7 @@ impl Driver {
     }
 
     /// Makes the act, if it is one of the table.
-    #[tactic(auto, unfolding(mc_words::specs::Places::payload, mc_words::specs::Places::with_slot, mc_words::specs::Places::with_item))]
+    #[tactic(auto, unfolding(mc_words::specs::Places::with_slot, mc_words::specs::Places::with_item))]
     fn make(&mut self, act: Act) -> bool
         ensures made { IsTrue result → (p : Phase) → (act ≡ Close → deed_key p ≡ Some self.old.key) → self.new.words.items ≡ words_after 1 (shape_of self.old.checked) self.old.words.items p act }
         ensures key { self.new.key ≡ key_after self.old.key act }
@@ -116,7 +116,7 @@ impl Driver {
                 self.write(checked.slot_place(place), word)
             }
             Act::Item(i, j, word) => {
-                if i >= shape.items || j > 1 {
+                if i >= shape.items || usize::from(j) > payload_words::<1>() {
                     return false;
                 }
                 self.write(checked.item_place::<1>(i, j), word)

@@ -4,13 +4,38 @@ use mc_words::{Checked, Mix, Place, Shape};
 use rand_core::Rng;
 use rand_pcg::Lcg64Xsh32;
 
-/// A shape of two buckets with few items, whose limit is 40 at most.
-pub(crate) fn drawn_shape(rng: &mut Lcg64Xsh32) -> Shape {
+/// How many worlds are drawn for a seed: the more words they have, the fewer.
+pub(crate) fn worlds_of(seed: u64) -> u32 {
+    if seed % 5 == 0 {
+        12
+    } else if seed % 3 == 2 {
+        48
+    } else {
+        200
+    }
+}
+
+/// Two buckets with few items, or for each fifth seed 32 buckets with more than 64.
+fn drawn_size(a: u32, seed: u64) -> (u32, u32) {
+    if seed % 5 == 0 {
+        (32, 65 + a % 64)
+    } else {
+        (2, 1 + a % 4)
+    }
+}
+
+/// A shape whose limit is 40 at most. Its stripes, and how large it is, go by the seed.
+pub(crate) fn drawn_shape(rng: &mut Lcg64Xsh32, seed: u64) -> Shape {
     let a = rng.next_u32();
+    let (buckets, items) = drawn_size(a >> 4, seed);
     Shape {
-        buckets: 2,
-        items: 1 + (a >> 4) % 4,
-        stripes: 1,
+        buckets,
+        items,
+        stripes: match seed % 3 {
+            0 => 1,
+            1 => 2,
+            _ => 64,
+        },
         depth: 2,
         tries: 1 + ((a >> 12) % 3) as u8,
         limit: u64::from((a >> 16) % 41),
@@ -27,8 +52,8 @@ enum Task {
     WriteSlot(u64, u32),
     Renew,
     CopySlot(u64),
-    LeaveSlot,
-    ClearSlot,
+    LeaveSlot(u64),
+    ClearSlot(u64),
     Count,
     Close,
 }
@@ -91,9 +116,34 @@ impl Writer {
         (u64::from(self.checked.tag(key)) << 32) + u64::from(item) + 1
     }
 
+    /// A slot in one of the buckets of the key.
+    fn place_for(&self, rng: &mut Lcg64Xsh32, key: u64) -> Place {
+        let a = rng.next_u32();
+        let first = self.checked.first(key);
+        Place {
+            bucket: if a % 2 == 0 {
+                first
+            } else {
+                self.checked.alt(first, self.checked.tag(key))
+            },
+            slot: ((a >> 8) % 4) as u8,
+        }
+    }
+
+    /// One of the first four items, or of the last four of a table with more.
+    fn drawn_item(&self, rng: &mut Lcg64Xsh32) -> u32 {
+        let a = rng.next_u32();
+        let first = if a & 4 == 0 {
+            0
+        } else {
+            self.checked.shape().items.saturating_sub(4)
+        };
+        first.saturating_add(a % 4)
+    }
+
     /// An act that fits what is to be done, with items and places that may not.
     fn fitting_act(&self, rng: &mut Lcg64Xsh32) -> Act {
-        let i = rng.next_u32() % 4;
+        let i = self.drawn_item(rng);
         match self.task {
             Task::Open => match rng.next_u32() % 4 {
                 0 => Act::Hand(self.hand),
@@ -102,10 +152,12 @@ impl Writer {
             },
             Task::WriteKey(key) => Act::Item(i, 0, key),
             Task::WriteValue(_, item) => Act::Item(item, 1, rng.next_u64()),
-            Task::WriteSlot(key, item) => Act::Slot(drawn_place(rng), self.slot_word(key, item)),
+            Task::WriteSlot(key, item) => {
+                Act::Slot(self.place_for(rng, key), self.slot_word(key, item))
+            }
             Task::Renew => Act::Item(i, 1, rng.next_u64()),
-            Task::CopySlot(key) => Act::Slot(drawn_place(rng), self.slot_word(key, i)),
-            Task::LeaveSlot | Task::ClearSlot => Act::Slot(drawn_place(rng), 0),
+            Task::CopySlot(key) => Act::Slot(self.place_for(rng, key), self.slot_word(key, i)),
+            Task::LeaveSlot(key) | Task::ClearSlot(key) => Act::Slot(self.place_for(rng, key), 0),
             Task::Count => Act::Moment,
             Task::Close => Act::Close,
         }
@@ -117,12 +169,12 @@ impl Writer {
             (_, Act::Open(key, Deed::Fill)) => Task::WriteKey(key),
             (_, Act::Open(_, Deed::Renew)) => Task::Renew,
             (_, Act::Open(key, Deed::Move)) => Task::CopySlot(key),
-            (_, Act::Open(_, _)) => Task::ClearSlot,
+            (_, Act::Open(key, _)) => Task::ClearSlot(key),
             (Task::WriteKey(key), _) => Task::WriteValue(key, item_of(act)),
             (Task::WriteValue(key, item), _) => Task::WriteSlot(key, item),
-            (Task::CopySlot(_), _) => Task::LeaveSlot,
-            (Task::WriteSlot(_, _) | Task::Renew | Task::ClearSlot, _) => Task::Count,
-            (Task::LeaveSlot | Task::Count, _) => Task::Close,
+            (Task::CopySlot(key), _) => Task::LeaveSlot(key),
+            (Task::WriteSlot(_, _) | Task::Renew | Task::ClearSlot(_), _) => Task::Count,
+            (Task::LeaveSlot(_) | Task::Count, _) => Task::Close,
             (Task::Open | Task::Close, _) => Task::Open,
         };
         if let Act::Hand(i) = act {

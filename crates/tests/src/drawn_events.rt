@@ -1,5 +1,5 @@
 //! Worlds that make drawn events, lawful or not: what a refused event leaves, and how far the versions come.
-use crate::drawing::{Writer, drawn_shape};
+use crate::drawing::{Writer, drawn_shape, worlds_of};
 use mc_core::World;
 use mc_words::Checked;
 use rand_core::Rng;
@@ -36,32 +36,34 @@ struct Pair {
     world: World<1>,
     lawful: World<1>,
     writer: Writer,
+    /// What is seen of the first world since the last event that it made.
+    seen: (u64, usize),
 }
 
 impl Pair {
     fn new(alloc: Global, checked: &Checked) -> Result<Pair, Fail> {
+        let world = World::new(alloc, checked, 2)?;
+        let seen = seen_of(&world);
         Ok(Pair {
-            world: World::new(alloc, checked, 2)?,
+            world,
             lawful: World::new(alloc, checked, 2)?,
             writer: Writer::new(checked),
+            seen,
         })
     }
 
     /// Whether the event was made; nothing where a refused one changed the world, or the second world gave something else.
     fn step(&mut self, rng: &mut Lcg64Xsh32) -> Option<bool> {
         let event = self.writer.drawn_event(rng);
-        let before = seen_of(&self.world);
         let given = self.world.step(event);
+        let now = seen_of(&self.world);
         if !is_within(&self.world) {
             return None;
         }
         if given.is_err() {
-            return if seen_of(&self.world) == before {
-                Some(false)
-            } else {
-                None
-            };
+            return if now == self.seen { Some(false) } else { None };
         }
+        self.seen = now;
         self.writer.made(event);
         if self.lawful.step(event) == given {
             Some(true)
@@ -88,12 +90,12 @@ fn lawful_of(rng: &mut Lcg64Xsh32, pair: &mut Pair) -> Option<u32> {
     if pair.is_one() { Some(lawful) } else { None }
 }
 
-/// How many of 100,000 drawn events were lawful, 500 in each of 200 worlds; `None` where one changed what it must not.
+/// How many drawn events were lawful, of 500 in each world of the seed; `None` where one changed what it must not.
 fn lawful_in_worlds(alloc: Global, seed: u64) -> Result<Option<u32>, Fail> {
     let mut rng = Lcg64Xsh32::new(seed, 0);
     let mut all: u32 = 0;
-    for _ in 0..200 {
-        let checked = drawn_shape(&mut rng).check()?;
+    for _ in 0..worlds_of(seed) {
+        let checked = drawn_shape(&mut rng, seed).check()?;
         let mut pair = Pair::new(alloc, &checked)?;
         let Some(lawful) = lawful_of(&mut rng, &mut pair) else {
             return Ok(None);
@@ -110,9 +112,10 @@ fn refused_events_leave_the_world_as_it_was(rt: HostRuntime) -> Result<(), Fail>
             assert!(rt; false, "seed {seed}");
             return Ok(());
         };
+        let events = worlds_of(seed).saturating_mul(500);
         assert!(rt;
-            (25_001..90_000).contains(&all),
-            "seed {seed}: {all} of 100000 events were lawful"
+            (events / 4 + 1..events / 10 * 9).contains(&all),
+            "seed {seed}: {all} of {events} events were lawful"
         );
     }
     Ok(())

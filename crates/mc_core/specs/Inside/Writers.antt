@@ -13,6 +13,7 @@ use Rattle.mc_core.specs.declared.progress.Progress.{Progress}
 use Rattle.mc_core.specs.declared.progress.Progress.TheVariants as progress
 use Rattle.mc_core.specs.declared.table.Table.{Table}
 use Rattle.mc_core.specs.declared.writer.Writer.{Writer}
+use Rattle.mc_core.specs.declared.written.Written.{Written}
 
 abbrev pub shape_of_writer : {V : ℕ} → Writer V → Shape
 shape_of_writer w = shape_of_table w.table
@@ -20,13 +21,17 @@ shape_of_writer w = shape_of_table w.table
 abbrev pub words_of_writer : {V : ℕ} → Writer V → List ℕ
 words_of_writer w = words_of_table w.table
 
+-- as many words as an item keeps behind its key
+abbrev pub payload_in : {V : ℕ} → Written V → List ℕ
+payload_in xs = xs.value
+
 -- the phase, where these words were written
-abbrev pub phase_at : List ℕ → Progress → Phase
+abbrev pub phase_at : {V : ℕ} → Written V → Progress → Phase
 phase_at xs progress.Quiet = Quiet
 phase_at xs (progress.Filling k) = Filling k
-phase_at xs (progress.Keyed k i n) = Keyed k i (take n xs)
-phase_at xs (progress.Placed k i) = Placed k i xs
-phase_at xs (progress.Renewing k n) = Renewing k (take n xs)
+phase_at xs (progress.Keyed k i n) = Keyed k i (take n (payload_in xs))
+phase_at xs (progress.Placed k i) = Placed k i (payload_in xs)
+phase_at xs (progress.Renewing k n) = Renewing k (take n (payload_in xs))
 phase_at xs (progress.Removing k e) = Removing k e
 phase_at xs (progress.Removed k e) = Removed k e
 phase_at xs (progress.Moving k) = Moving k

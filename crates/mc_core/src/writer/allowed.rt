@@ -7,11 +7,11 @@ ghost use Rattle.mc_words.specs.Standing.{Stands, IsAbsent, IsPresent, HasFree};
 ghost use Rattle.mc_theory.specs.Acts.{MayFrom, MayOpen};
 ghost use Rattle.mc_theory.specs.Phases.{Quiet, Filling, Keyed, Renewing, Removing, Moving, Moved};
 ghost use Rattle.mc_core.specs.Inside.Tables.{StandsAt};
-ghost use Rattle.mc_core.specs.Inside.Writers.{shape_of_writer, words_of_writer, UsedWell, StandsWell, IsFreeItem};
+ghost use Rattle.mc_core.specs.Inside.Writers.{shape_of_writer, words_of_writer, payload_in, UsedWell, StandsWell, IsFreeItem};
 
 use crate::writer::Writer;
 use mc_theory::{Act, Deed};
-use mc_words::Place;
+use mc_words::{Place, payload_words};
 
 impl<const V: usize> Writer<V> {
     /// The item at which the key stands.
@@ -197,9 +197,9 @@ impl<const V: usize> Writer<V> {
 
     /// While a renewal runs: the next word of the key's item, or the moment after the last.
     pub(crate) fn may_renew(&self, key: u64, count: u8, act: Act) -> bool
-        requires some { count ≤ V }
+        requires some { count ≤ payload V }
         requires well { StandsWell V (shape_of_writer {V = V} self.now) (words_of_writer {V = V} self.now) key }
-        ensures { IsTrue result ↔ MayFrom V (shape_of_writer {V = V} self.now) (words_of_writer {V = V} self.now) self.now.hand self.now.cleared (Renewing key (take count self.now.written)) act }
+        ensures { IsTrue result ↔ MayFrom V (shape_of_writer {V = V} self.now) (words_of_writer {V = V} self.now) self.now.hand self.now.cleared (Renewing key (take count (payload_in {V = V} self.now.written))) act }
     {
         match act {
             Act::Item(i, j, _) => self.is_next_word(count, j) && self.is_item_of(key, i),
@@ -210,18 +210,18 @@ impl<const V: usize> Writer<V> {
 
     /// Whether this is the word after those that were written.
     fn is_next_word(&self, count: u8, j: u8) -> bool
-        requires { count ≤ V }
-        ensures { IsTrue result ↔ ((j ≡ length (take count self.now.written) + 1) × (j ≤ payload V)) }
+        requires { count ≤ payload V }
+        ensures { IsTrue result ↔ ((j ≡ length (take count (payload_in {V = V} self.now.written)) + 1) × (j ≤ payload V)) }
     {
-        follows::<V>(count, j)
+        follows(count, j, payload_words::<V>())
     }
 
     /// Whether all words were written.
     fn is_whole(&self, count: u8) -> bool
-        requires { count ≤ V }
-        ensures { IsTrue result ↔ (length (take count self.now.written) ≡ payload V) }
+        requires { count ≤ payload V }
+        ensures { IsTrue result ↔ (length (take count (payload_in {V = V} self.now.written)) ≡ payload V) }
     {
-        count_is::<V>(count)
+        count_is(count, payload_words::<V>())
     }
 
     /// Whether the key stands at the item.
@@ -237,9 +237,9 @@ impl<const V: usize> Writer<V> {
 
     /// While a fill runs: the next word of its item, or its slot after the last.
     pub(crate) fn may_fill(&self, key: u64, item: u32, count: u8, act: Act) -> bool
-        requires some { count ≤ V }
+        requires some { count ≤ payload V }
         requires item { item < (shape_of_writer {V = V} self.now).items }
-        ensures { IsTrue result ↔ MayFrom V (shape_of_writer {V = V} self.now) (words_of_writer {V = V} self.now) self.now.hand self.now.cleared (Keyed key item (take count self.now.written)) act }
+        ensures { IsTrue result ↔ MayFrom V (shape_of_writer {V = V} self.now) (words_of_writer {V = V} self.now) self.now.hand self.now.cleared (Keyed key item (take count (payload_in {V = V} self.now.written))) act }
     {
         match act {
             Act::Item(i, j, _) => i == item && self.is_next_word(count, j),
@@ -301,16 +301,16 @@ impl<const V: usize> Writer<V> {
     }
 }
 
-/// Whether this word is the one after so many.
-fn follows<const V: usize>(count: u8, j: u8) -> bool
-    ensures { IsTrue result ↔ ((j ≡ count + 1) × (j ≤ V)) }
+/// Whether this word is the one after so many, and one of all.
+fn follows(count: u8, j: u8, all: usize) -> bool
+    ensures { IsTrue result ↔ ((j ≡ count + 1) × (j ≤ all)) }
 {
-    u32::from(j) == u32::from(count) + 1 && usize::from(j) <= V
+    u32::from(j) == u32::from(count) + 1 && usize::from(j) <= all
 }
 
 /// Whether so many are all.
-fn count_is<const V: usize>(count: u8) -> bool
-    ensures { IsTrue result ↔ (count ≡ V) }
+fn count_is(count: u8, all: usize) -> bool
+    ensures { IsTrue result ↔ (count ≡ all) }
 {
-    usize::from(count) == V
+    usize::from(count) == all
 }

@@ -1,7 +1,7 @@
 //! Making an act that is allowed, one function an act.
-ghost use Rattle.std.specs.Prelude.{◌≡◌, ◌+◌, ◌-◌, ◌^◌, ◌<◌, ℕ, List, [], ◌∷◌, OnOk, OnErr};
+ghost use Rattle.std.specs.Prelude.{◌≡◌, ◌+◌, ◌-◌, ◌^◌, ◌<◌, ℕ, [], ◌∷◌, OnOk, OnErr};
 ghost use Rattle.mc_words.specs.Keys.{stripe_of};
-ghost use Rattle.mc_words.specs.Places.{version, moment};
+ghost use Rattle.mc_words.specs.Places.{payload, version, moment};
 ghost use Rattle.mc_theory.specs.Acts.{IsAllowed};
 ghost use Rattle.mc_theory.specs.Inner.{StateHolds};
 ghost use Rattle.mc_theory.specs.Phases.{first_phase, Closing};
@@ -10,6 +10,7 @@ ghost use Rattle.mc_core.specs.Inside.Progresses.{count_at, fresh_slot};
 ghost use Rattle.mc_core.specs.Inside.Writers.{shape_of_writer, words_of_writer, room_of, state_in, phase_at, UsedWell, IsMade, KeepsWriter};
 ghost use Rattle.mc_theory.specs.declared.act.Act.{Act};
 ghost use Rattle.mc_core.specs.declared.progress.Progress.{Progress};
+ghost use Rattle.mc_core.specs.declared.written.Written.{Written};
 
 use crate::progress::Progress;
 use crate::writer::Writer;
@@ -75,12 +76,12 @@ impl<const V: usize> Writer<V> {
     fn write_next(&mut self, key: u64, i: u32, count: u8, word: u64)
         requires running { self.old.progress ≡ Progress.Keyed key i count }
         requires item { i < (shape_of_writer {V = V} self.old).items }
-        requires more { count < V }
+        requires more { count < payload V }
         requires used { UsedWell {V = V} self.old.table }
         ensures { (bit : ℕ) → IsMade {V = V} self.old self.new (Act.Item i (count + 1) word) bit }
     {
         self.table.set_item(i, count + 1, word);
-        self.written[count as usize] = word;
+        self.written.keep(count, word);
         self.progress = Progress::Keyed(key, i, count + 1);
     }
 
@@ -88,12 +89,12 @@ impl<const V: usize> Writer<V> {
     fn write_again(&mut self, key: u64, i: u32, count: u8, word: u64)
         requires running { self.old.progress ≡ Progress.Renewing key count }
         requires item { i < (shape_of_writer {V = V} self.old).items }
-        requires more { count < V }
+        requires more { count < payload V }
         requires used { UsedWell {V = V} self.old.table }
         ensures { (bit : ℕ) → IsMade {V = V} self.old self.new (Act.Item i (count + 1) word) bit }
     {
         self.table.set_item(i, count + 1, word);
-        self.written[count as usize] = word;
+        self.written.keep(count, word);
         self.progress = Progress::Renewing(key, count + 1);
     }
 
@@ -151,8 +152,8 @@ impl<const V: usize> Writer<V> {
         ensures full { OnErr result (room_of {V = V} self.old ≡ 0) }
     {
         match self.progress {
-            Progress::Placed(key, _) => self.count(key, Change::Put(key, self.written)),
-            Progress::Renewing(key, _) => self.count(key, Change::Put(key, self.written)),
+            Progress::Placed(key, _) => self.count(key, Change::Put(key, self.written.value())),
+            Progress::Renewing(key, _) => self.count(key, Change::Put(key, self.written.value())),
             Progress::Removed(key, true) => self.count(key, Change::Evict(key)),
             Progress::Removed(key, false) => self.count(key, Change::Remove(key)),
             _ => Ok(()),
@@ -162,7 +163,7 @@ impl<const V: usize> Writer<V> {
 
 /// The progress with which a deed begins.
 fn opening_of(key: u64, deed: Deed) -> Progress
-    ensures phase { (xs : List ℕ) → phase_at xs result ≡ first_phase key deed }
+    ensures phase { (V : ℕ) (xs : Written V) → phase_at {V = V} xs result ≡ first_phase key deed }
     ensures count { count_at result ≡ 0 }
     ensures slot { fresh_slot result ≡ 0 }
 {

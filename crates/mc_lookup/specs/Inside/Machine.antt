@@ -1,6 +1,7 @@
 -- What only private contracts say beside `Machine`.
 use Rattle.std.specs.Prelude.{ℕ, ◌≡◌, ◌+◌, ◌-◌, ◌*◌, ◌<◌, ◌≤◌, ◌⊎◌, ◌↔◌, nat_lt, if◌then◌else◌, List, [], ◌∷◌, take, drop, Option, Some, None}
 use Rattle.mc_words.specs.Checks.{shape_of}
+use Rattle.mc_words.specs.Places.{payload}
 use Rattle.mc_words.specs.declared.history.Reply.{Reply}
 use Rattle.mc_words.specs.declared.place.Place.{Place}
 use Rattle.mc_words.specs.declared.shape.Shape.{Shape}
@@ -19,5 +20,5 @@ pub record Restarts {V : ℕ} (old new : Lookup V) : Type 0 where
   pub shape : new.checked ≡ old.checked
   pub key : new.key ≡ old.key
   pub left : (rs : List Reading) (reply : Reply V) → IsRemainder new rs reply ↔ IsLookup V (shape_for old) old.key old.tries rs reply
-  pub most : steps_left new ≤ old.tries * (19 + V) + 1
+  pub most : steps_left new ≤ old.tries * (19 + payload V) + 1
   pub stage : new.stage ≡ (if nat_lt 0 old.tries then First else Over)

@@ -31,14 +31,13 @@ use Rattle.mc_plan.proofs.Calls.AfterPlan.{deeds_put, needs_item}
 use Rattle.mc_plan.proofs.Calls.MidSweep.{hands_may}
 use Rattle.mc_plan.proofs.Deeds.QuietStates.{agrees_quiet, keys_quiet, marked, stands_held}
 use Rattle.mc_plan.proofs.Puts.Replacements.{evictions_room}
-use Rattle.mc_plan.proofs.Deeds.Values.{payload_of}
 use Rattle.mc_plan.proofs.Calls.SweptStates.{swept_still, swept_hand, swept_cleared, sweep_quiet, swept_home, over_without, victim_below}
 
 -- ---- the victim
 -- where an item is named, its key stands at it
-pub victim_stands : (V : ℕ) (b : Books) (plan : List Act) (waiting : Waiting V) (call : Call) (s : State V) (rs : List Swept) (i : ℕ) → IsReplacing V b plan waiting call s rs i
+pub victim_stands : (V : ℕ) (b : Books) (waiting : Waiting V) (call : Call) (s : State V) (rs : List Swept) (i : ℕ) → IsReplacing V b waiting call s rs i
     → (i < (shape_of b.checked).items) × ((q : ℕ) × Stands V (shape_of b.checked) s.words (item V (shape_of b.checked) s.words i 0) q i)
-victim_stands V b plan waiting call s rs i on =
+victim_stands V b waiting call s rs i on =
     let sweeping = on.sweeping in
     let below = victim_below (shape_of b.checked).items s.hand rs i sweeping.has.sweeps (omega (arith, sweeping.has.start)) on.found in
     let named = sweeping.waits.known.named i below (sweeping.waits.none i) in
@@ -75,16 +74,16 @@ same_quiet V s m words hand history changes =
     ap (λ (w : List ℕ). of w m.hand m.history m.version_steps) words ∙ ap (λ (h : ℕ). of s.words h m.history m.version_steps) hand ∙ ap (λ (c : List (Change V)). of s.words s.hand c m.version_steps) history ∙ ap (λ (n : ℕ). of s.words s.hand s.history n) changes
 
 -- ---- every item is recent
-pub recent_planned : (V : ℕ) (b : Books) (plan : List Act) (waiting : Waiting V) (call : Call) (s : State V) (rs : List Swept) (hand : ℕ) → IsSweeping V b plan waiting call s rs → IsOver (shape_of b.checked).items rs → victim_of rs ≡ None → hand ≡ s.hand
-    → IsPlanned V (record b { hand = hand }) plan call s (state_after_sweep V (shape_of b.checked) s rs) (answer.Put (Err why.AllRecent)) × IsSweepOf V (shape_of b.checked) s rs (answer.Put (Err why.AllRecent))
-recent_planned V b plan waiting call s rs hand on over none is =
+pub recent_planned : (V : ℕ) (b : Books) (waiting : Waiting V) (call : Call) (s : State V) (rs : List Swept) (hand : ℕ) → IsSweeping V b waiting call s rs → IsOver (shape_of b.checked).items rs → victim_of rs ≡ None → hand ≡ s.hand
+    → IsPlanned V (record b { hand = hand }) [] call s (state_after_sweep V (shape_of b.checked) s rs) (answer.Put (Err why.AllRecent)) × IsSweepOf V (shape_of b.checked) s rs (answer.Put (Err why.AllRecent))
+recent_planned V b waiting call s rs hand on over none is =
     let sh = shape_of b.checked in
     let waits = on.waits in
     let m = state_after_sweep V sh s rs in
     let still = swept_still V sh s rs in
     let many = over_without sh.items rs over none in
     let home : m.hand ≡ s.hand = swept_hand V sh s s.hand rs refl on.has.sweeps on.has.start ∙ swept_home sh.items s.hand rs on.has.start many in
-    let quiet = sweep_quiet V sh s rs waits.known.quiet b.checked.sound (hands_may V b plan waiting call s rs on) in
+    let quiet = sweep_quiet V sh s rs waits.known.quiet b.checked.sound (hands_may V b waiting call s rs on) in
     let needs = needs_item V b s waiting.key waiting.path waits.known waits.unspent waits.absent waits.least waits.none in
     let refuses : means.RefusesAll V sh (quiet_of s) (quiet_of m) waiting.key = record { needs = needs.0; unchanged = same_quiet V s m still.words home still.history still.version_steps } in
     let told = answer.Put (Err why.AllRecent) in
@@ -94,8 +93,7 @@ recent_planned V b plan waiting call s rs hand on over none is =
       marks = tt;
       ends = books_swept V b hand s m waits.known quiet still.words still.version_steps (is ∙ sym home) home;
     } in (
-      subst (λ (xs : List Act). IsPlanned V (record b { hand = hand }) xs call s m told) (sym on.empty)
-          (subst (λ (c : Call). IsPlanned V (record b { hand = hand }) [] c s m told) (sym on.called) planned),
+      subst (λ (c : Call). IsPlanned V (record b { hand = hand }) [] c s m told) (sym on.called) planned,
       (on.has.sweeps, many, none),
     )
 
@@ -117,7 +115,7 @@ two_more V sh s t at one two quiet grows is =
     let more = length-append s.history (one ∷ two ∷ []) in
     omega (arith, is, now, more, ap length grows)
 
-module _ (V : ℕ) (b : Books) (plan : List Act) (waiting : Waiting V) (call : Call) (s : State V) (rs : List Swept) (i : ℕ) (on : IsReplacing V b plan waiting call s rs i) where
+module _ (V : ℕ) (b : Books) (waiting : Waiting V) (call : Call) (s : State V) (rs : List Swept) (i : ℕ) (on : IsReplacing V b waiting call s rs i) where
   abbrev pub sh : Shape
   sh = shape_of b.checked
 
@@ -138,7 +136,7 @@ module _ (V : ℕ) (b : Books) (plan : List Act) (waiting : Waiting V) (call : C
       let sweeping = on.sweeping in
       let waits = sweeping.waits in
       let same = (swept_still V sh s rs).words in
-      let quiet = sweep_quiet V sh s rs waits.known.quiet b.checked.sound (hands_may V (record b { hand = on.before }) plan waiting call s rs sweeping) in
+      let quiet = sweep_quiet V sh s rs waits.known.quiet b.checked.sound (hands_may V (record b { hand = on.before }) waiting call s rs sweeping) in
       let cleared = swept_cleared V sh s sh.items s.hand rs i sweeping.has.sweeps on.found in
       let can : CanReplace V sh mid.words waiting.key i e p waiting.path.places.items waiting.path.hole kept end = record {
         absent = subst (λ (w : List ℕ). IsAbsent V sh w waiting.key) (sym same) waits.absent;
@@ -148,7 +146,7 @@ module _ (V : ℕ) (b : Books) (plan : List Act) (waiting : Waiting V) (call : C
         cut = cut;
         keys = keys;
       } in
-      let law = evictions_room V sh mid waiting.key waiting.value i e p waiting.path.places.items waiting.path.hole kept end b.checked.sound sweeping.key word (payload_of V waiting.value sweeping.wide, words) quiet cleared can in
+      let law = evictions_room V sh mid waiting.key waiting.value i e p waiting.path.places.items waiting.path.hole kept end b.checked.sound sweeping.key word (sweeping.wide, words) quiet cleared can in
       record { makes = law.0; stands = law.1; named = law.2 }
 
   -- the books after it
@@ -201,7 +199,7 @@ module _ (V : ℕ) (b : Books) (plan : List Act) (waiting : Waiting V) (call : C
       let few = cut_few p waiting.path.places.items waiting.path.hole kept end cut in
       let r = replaced e p kept end words word place stands cut keys in
       let t = state_after_acts V sh mid (acts_for e p kept end) in
-      let below = (victim_stands V b plan waiting call s rs i on).0 in
+      let below = (victim_stands V b waiting call s rs i on).0 in
       let walk = marked V sh mid (acts_for e p kept end) (Evict e ∷ Put waiting.key waiting.value ∷ []) (2 * length kept + 4) i r.makes below in
       let told = answer.Put (Ok (put.Stored at (length kept) (Some e))) in
       let put_call = PutCall waiting.key waiting.value in

@@ -22,7 +22,7 @@ use Rattle.mc_plan.proofs.Calls.SweptStates.{hand_acts_then, rest_recent}
 use Rattle.mc_plan.proofs.Calls.AfterSweep.{recent_planned}
 
 -- acts that are made as planned are the planned ones
-acts_made : (xs : List Act) → acts_of (as_made xs) ≡ xs
+pub acts_made : (xs : List Act) → acts_of (as_made xs) ≡ xs
 acts_made [] = refl
 acts_made (x ∷ xs) = ap (λ (l : List Act). x ∷ l) (acts_made xs)
 
@@ -66,20 +66,19 @@ many_acts [] = refl
 many_acts (r ∷ rs) = ap suc (many_acts rs)
 
 -- a sweep that finds every bit set from here on
-ends_sweep : (V : ℕ) (clerk : Clerk V) (call : Call) (s : State V) (acts : List Made) (waiting : Waiting V) (rs : List Swept) → IsSweeping V clerk.books clerk.plan.items waiting call s rs → IsSome (next_item waiting.sweep) → acts ≡ hand_acts rs → CanEnd V clerk call s acts
+ends_sweep : (V : ℕ) (clerk : Clerk V) (call : Call) (s : State V) (acts : List Made) (waiting : Waiting V) (rs : List Swept) → IsSweeping V clerk.books waiting call s rs → IsSome (next_item waiting.sweep) → acts ≡ hand_acts rs → CanEnd V clerk call s acts
 ends_sweep V clerk call s acts waiting rs on next parts =
     let b = clerk.books in
-    let plan = clerk.plan.items in
     let items = (shape_of_clerk clerk).items in
     let rest = rest_recent waiting.sweep items s.hand rs on.has next in
     let all = rs ++ rest.0 in
     let sweep : Sweep = record { items = items; hand = (s.hand + length all) % items; left = 0; victim = None } in
     let has : HasSwept sweep items s.hand all = record { sweeps = rest.1; count = refl; start = on.has.start; left = omega (arith, rest.2); stands = refl; found = sym rest.3 } in
-    let still : IsSweeping V b plan (record waiting { sweep = sweep }) call s all = sweep_on V b plan waiting call s rs on sweep all has in
-    let planned = recent_planned V b plan (record waiting { sweep = sweep }) call s all s.hand still (inr rest.2) rest.3 refl in
-    let hands = hands_may V b plan (record waiting { sweep = sweep }) call s all still in
+    let still : IsSweeping V b (record waiting { sweep = sweep }) call s all = sweep_on V b waiting call s rs on sweep all has in
+    let planned = recent_planned V b (record waiting { sweep = sweep }) call s all s.hand still (inr rest.2) rest.3 refl in
+    let hands = hands_may V b (record waiting { sweep = sweep }) call s all still in
     let told = answer.Put (Err why.AllRecent) in
-    let whole = whole_plan V (record b { hand = s.hand }) plan call s all [] told hands planned.1 planned.0 (sym on.empty) in
+    let whole = whole_plan V (record b { hand = s.hand }) [] call s all [] told hands planned.1 planned.0 refl in
     let same : hand_acts all ++ [] ≡ acts ++ hand_acts rest.0 = append-nil (hand_acts all) ∙ hand_acts_then rs rest.0 ∙ ap (λ (l : List Made). l ++ hand_acts rest.0) (sym parts) in
     record {
       more = hand_acts rest.0;

@@ -27,7 +27,7 @@ use Rattle.mc_plan.proofs.Calls.SweptStates.{hand_acts_then, hand_next, sweep_al
 none_free : (V : ℕ) (b : Books) (k : ℕ) (s : State V) (path : Path) → Waits V b k s path → HasFree (shape_of b.checked) s.words → ⊥
 none_free V b k s path waits = full_has_none (shape_of b.checked) s.words (λ i l. waits.known.named i l (waits.none i))
 
-module _ (V : ℕ) (b : Books) (plan : List Act) (waiting : Waiting V) (call : Call) (s : State V) (rs : List Swept) (on : IsSweeping V b plan waiting call s rs) where
+module _ (V : ℕ) (b : Books) (waiting : Waiting V) (call : Call) (s : State V) (rs : List Swept) (on : IsSweeping V b waiting call s rs) where
   full : HasFree (shape_of b.checked) s.words → ⊥
   full = none_free V b waiting.key s waiting.path on.waits
 
@@ -36,7 +36,7 @@ module _ (V : ℕ) (b : Books) (plan : List Act) (waiting : Waiting V) (call : C
   hands_may = sweep_allowed V (shape_of b.checked) s s.hand rs on.waits.known.quiet full refl on.has.sweeps on.has.start
 
   -- the hand reads at most twice as many bits as there are items, round from where it stands
-  hand_may : (i : ℕ) → next_item waiting.sweep ≡ Some i → IsAllowed (shape_of b.checked) (state_after_sweep V (shape_of b.checked) s rs) (Hand i)
+  pub hand_may : (i : ℕ) → next_item waiting.sweep ≡ Some i → IsAllowed (shape_of b.checked) (state_after_sweep V (shape_of b.checked) s rs) (Hand i)
   unfolding next_item
   hand_may i next =
       let parts = next_parts waiting.sweep.victim waiting.sweep.left waiting.sweep.hand i next in
@@ -52,8 +52,8 @@ module _ (V : ℕ) (b : Books) (plan : List Act) (waiting : Waiting V) (call : C
       subst (λ (o : Option Act). IfSome o (λ a. IsAllowed (shape_of b.checked) (state_after_sweep V (shape_of b.checked) s rs) a × HasVersionSteps (shape_of b.checked).limit (state_after_sweep V (shape_of b.checked) s rs).version_steps a)) (sym e) (next_hand (next_item waiting.sweep) refl)
 
   -- a sweep with other readings
-  pub sweep_on : (sweep : Sweep) (qs : List Swept) → HasSwept sweep (shape_of b.checked).items s.hand qs → IsSweeping V b plan (record waiting { sweep = sweep }) call s qs
-  sweep_on sweep qs has = record { waits = on.waits; called = on.called; key = on.key; wide = on.wide; has = has; empty = on.empty }
+  pub sweep_on : (sweep : Sweep) (qs : List Swept) → HasSwept sweep (shape_of b.checked).items s.hand qs → IsSweeping V b (record waiting { sweep = sweep }) call s qs
+  sweep_on sweep qs has = record { waits = on.waits; called = on.called; key = on.key; wide = on.wide; has = has }
 
 -- a sweep that has read nothing has an item to read
 starts : (sweep : Sweep) (items hand : ℕ) → HasSwept sweep items hand [] → IsSome (next_item sweep)
@@ -64,10 +64,10 @@ starts sweep items hand has =
     subst (λ (o : Option ℕ). IsSome o) (sym (next_some sweep.victim sweep.left sweep.hand (ap is_some has.found) left)) refl
 
 -- a put that waits for an item begins
-pub begins_sweep : (V : ℕ) (clerk : Clerk V) (call : Call) (s : State V) (waiting : Waiting V) → clerk.stage ≡ Sweeping waiting → clerk.made ≡ 0 → IsSweeping V clerk.books clerk.plan.items waiting call s [] → IsOn V clerk call s []
-begins_sweep V clerk call s waiting is none on = record {
+pub begins_sweep : (V : ℕ) (clerk : Clerk V) (call : Call) (s : State V) (waiting : Waiting V) → clerk.stage ≡ Sweeping waiting → clerk.made ≡ 0 → clerk.plan.items ≡ [] → IsSweeping V clerk.books waiting call s [] → IsOn V clerk call s []
+begins_sweep V clerk call s waiting is none empty on = record {
   begun = on.waits.known.quiet;
-  now = subst (λ (st : Stage V). IsAtStage V st clerk.books clerk.plan.items clerk.made call s []) (sym is) ([], on, starts waiting.sweep (shape_of_clerk clerk).items s.hand on.has, none, refl);
+  now = subst (λ (st : Stage V). IsAtStage V st clerk.books clerk.plan.items clerk.made call s []) (sym is) ([], on, starts waiting.sweep (shape_of_clerk clerk).items s.hand on.has, none, refl, empty);
 }
 
 -- ---- a clerk whose hand looks for an item
@@ -81,14 +81,15 @@ sweep_may V clerk call s acts waiting r on is next =
     let sh = shape_of_clerk clerk in
     let now = at_sweep V clerk call s acts waiting on is in
     subst (λ (xs : List Made). IfSome r (λ a. IsAllowed sh (after_all sh s xs) a × HasVersionSteps sh.limit (after_all sh s xs).version_steps a)) (sym now.4)
-    (next_of_sweep V clerk.books clerk.plan.items waiting call s now.0 now.1 r next)
+    (next_of_sweep V clerk.books waiting call s now.0 now.1 r next)
 
 -- what was read once the next bit was
 pub record HasRead (V : ℕ) (clerk : Clerk V) (waiting : Waiting V) (sweep : Sweep) (call : Call) (s : State V) (acts : List Made) : Type 0 where
   pub readings : List Swept
-  pub sweeping : IsSweeping V clerk.books clerk.plan.items (record waiting { sweep = sweep }) call s readings
+  pub sweeping : IsSweeping V clerk.books (record waiting { sweep = sweep }) call s readings
   pub are : acts ≡ hand_acts readings
   pub none : clerk.made ≡ 0
+  pub empty : clerk.plan.items ≡ []
 
 hand_is : (o : Option ℕ) (a : Act) → hand_of o ≡ Some a → (i : ℕ) × (o ≡ Some i) × (Hand i ≡ a)
 hand_is None a e = absurd (cc)
@@ -104,9 +105,10 @@ one_read V clerk call s acts waiting a bit sweep on is next reads =
     let r : Swept = record { item = hand.0; bit = bit } in
     record {
       readings = rs ++ r ∷ [];
-      sweeping = sweep_on V clerk.books clerk.plan.items waiting call s rs now.1 sweep (rs ++ r ∷ []) (reads (shape_of_clerk clerk).items s.hand rs hand.0 now.1.has hand.1);
+      sweeping = sweep_on V clerk.books waiting call s rs now.1 sweep (rs ++ r ∷ []) (reads (shape_of_clerk clerk).items s.hand rs hand.0 now.1.has hand.1);
       are = ap (λ (xs : List Made). xs ++ record { act = a; bit = bit } ∷ []) now.4 ∙ ap (λ (x : Act). hand_acts rs ++ record { act = x; bit = bit } ∷ []) (sym hand.2) ∙ sym (hand_acts_then rs (r ∷ []));
       none = now.3;
+      empty = now.5;
     }
 
 -- the hand wrote no word

@@ -1,5 +1,6 @@
 -- A fill is allowed act by act, and puts its key.
-use Rattle.std.proofs.Common.{ℕ, zero, suc, ◌≡◌, ◌+◌, ◌*◌, ◌^◌, ◌<◌, ◌≤◌, ◌∙◌, List, [], ◌∷◌, ◌++◌, Option, None, All, take, take_all, refl, sym, subst, length, arith, append_assoc, append-nil, length-append}
+use Rattle.std.proofs.Common.{ℕ, zero, suc, ◌≡◌, ◌+◌, ◌*◌, ◌^◌, ◌<◌, ◌≤◌, ◌∙◌, List, [], ◌∷◌, ◌++◌, Option, None, All, take_all, refl, sym, subst, length, arith, append_assoc, append-nil, length-append}
+use Rattle.mc_words.specs.History.{value_of}
 use Rattle.mc_words.specs.declared.history.Change.{Change}
 use Rattle.mc_words.specs.declared.history.Change.TheVariants.{Put}
 use Rattle.mc_words.specs.declared.place.Place.{Place}
@@ -21,6 +22,7 @@ use Rattle.mc_search.specs.Kept.{SetsSlot}
 use Rattle.mc_plan.specs.Plans.{value_acts, fill_acts}
 use Rattle.mc_plan.proofs.Deeds.QuietStates.{state, at_quiet, makes_from_walk}
 use Rattle.mc_plan.proofs.Deeds.Slots.{valued, ended, slot-bumped, slot-valued, slot-ended, item-ended, key-valued, length-bumped, length-valued}
+use Rattle.mc_plan.proofs.Deeds.Values.{payload_of}
 use Rattle.mc_plan.proofs.Deeds.Walks.{Walk, walk_none, walk_act, walk_then}
 
 -- the words of the value
@@ -32,9 +34,9 @@ keyed_walk V sh w hand cleared h c k i ys (x ∷ xs) l all =
     let rest = keyed_walk V sh (with_item V sh w i (length ys + 1) x) hand cleared h c k i (ys ++ x ∷ []) xs (omega (arith, many)) (λ j d b. all (suc j) d (omega arith)) in
     walk_act V sh _ _ (Item i (length ys + 1) x) (value_acts i (length ys + 1 + 1) xs) (refl, refl, omega arith, all zero 0 (omega arith)) (rw (append_assoc ys (x ∷ []) xs, many) at rest)
 
-pub take_payload : (V : ℕ) (v : List ℕ) → length v ≡ payload V → take V v ≡ v
-unfolding payload
-take_payload V v e = take_all V v (omega (arith, e))
+-- where the value is all that was written
+pub value_whole : (V : ℕ) (v : List ℕ) → length v ≡ V → value_of V v ≡ v
+value_whole V v e = take_all V v (omega (arith, e))
 
 -- the words of a fill before its slot is written, and after its last act
 abbrev before_slot : ℕ → Shape → List ℕ → ℕ → List ℕ → ℕ → List ℕ
@@ -46,16 +48,17 @@ filled V sh w k v i p = ended sh (with_slot sh (before_slot V sh w k v i) (slot_
 slot-before : (V : ℕ) (sh : Shape) (w : List ℕ) (k : ℕ) (v : List ℕ) (i q : ℕ) → IsShape sh → q < 4 * sh.buckets → slot sh (before_slot V sh w k v i) q ≡ slot sh w q
 slot-before V sh w k v i q s l = slot-valued V sh _ i 1 q v l ∙ slot-with_item V sh _ i 0 k q l ∙ slot-bumped sh w k q s
 
-fill_walk : (V : ℕ) (sh : Shape) (w : List ℕ) (hand : ℕ) (cleared : Option ℕ) (h : List (Change V)) (c k : ℕ) (v : List ℕ) (i : ℕ) (p : Place) → IsShape sh → k < 2 ^ 64 → length v ≡ payload V → All (λ x. x < 2 ^ 64) v → CanFill V sh w k i p
-    → Walk V sh (state V w Quiet hand cleared h c) (fill_acts sh k v i p) (state V (filled V sh w k v i p) Quiet hand None (h ++ Put k (take V v) ∷ []) (c + 1 + 1))
+fill_walk : (V : ℕ) (sh : Shape) (w : List ℕ) (hand : ℕ) (cleared : Option ℕ) (h : List (Change V)) (c k : ℕ) (v : List ℕ) (i : ℕ) (p : Place) → IsShape sh → k < 2 ^ 64 → length v ≡ V → All (λ x. x < 2 ^ 64) v → CanFill V sh w k i p
+    → Walk V sh (state V w Quiet hand cleared h c) (fill_acts sh k v i p) (state V (filled V sh w k v i p) Quiet hand None (h ++ Put k (value_of V v) ∷ []) (c + 1 + 1))
 fill_walk V sh w hand cleared h c k v i p s key many all can =
     let below : slot_number p < 4 * sh.buckets = omega (arith, can.hole.0.in_table, can.hole.0.in_bucket) in
     let still : IsFree sh (with_bump sh w k) i = λ q a. can.free q (moved_names sh (with_bump sh w k) w q i (sym (slot-bumped sh w k q s)) a) in
-    let values = keyed_walk V sh (with_item V sh (with_bump sh w k) i 0 k) hand None h (c + 1) k i [] v (omega (arith, many)) all in
+    let whole = payload_of V v many in
+    let values = keyed_walk V sh (with_item V sh (with_bump sh w k) i 0 k) hand None h (c + 1) k i [] v (omega (arith, whole)) all in
     walk_act V sh _ _ (Open k deed.Fill) _ (key, (can.absent, (i, can.in_items, can.free)))
     (walk_act V sh _ _ (Item i 0 k) _ (can.in_items, still, refl, refl)
     (walk_then V sh _ _ _ (value_acts i 1 v) _ values
-    (walk_act V sh _ _ (Slot p (slot_word (tag_of sh k) i)) _ (many, (below, slot-before V sh w k v i (slot_number p) s below ∙ can.hole.1), can.bucket, can.hole.0.in_bucket, refl)
+    (walk_act V sh _ _ (Slot p (slot_word (tag_of sh k) i)) _ (whole, (below, slot-before V sh w k v i (slot_number p) s below ∙ can.hole.1), can.bucket, can.hole.0.in_bucket, refl)
     (walk_act V sh _ _ Moment _ tt
     (walk_act V sh _ _ Close _ tt
     (walk_none V sh _))))))
@@ -89,13 +92,13 @@ filled_stands V sh w k v i p s key size can =
           ∙ item-with_item_same V sh (with_bump sh w k) i 0 k can.in_items (omega arith) (omega (arith, length-bumped sh w k, size));
     }
 
-pub fills : (V : ℕ) (sh : Shape) (k : ℕ) (v : List ℕ) (i : ℕ) (p : Place) → IsShape sh → k < 2 ^ 64 → length v ≡ payload V → All (λ x. x < 2 ^ 64) v → ActsFill V sh k v i p (fill_acts sh k v i p)
+pub fills : (V : ℕ) (sh : Shape) (k : ℕ) (v : List ℕ) (i : ℕ) (p : Place) → IsShape sh → k < 2 ^ 64 → length v ≡ V → All (λ x. x < 2 ^ 64) v → ActsFill V sh k v i p (fill_acts sh k v i p)
 fills V sh k v i p shape key many all =
     at_quiet V sh (λ (s : State V). CanFill V sh s.words k i p → Makes V sh s (fill_acts sh k v i p) (Put k v ∷ []) 2 × Stands V sh (state_after_acts V sh s (fill_acts sh k v i p)).words k (slot_number p) i × SetsSlot sh s.words (state_after_acts V sh s (fill_acts sh k v i p)).words (slot_number p) (slot_word (tag_of sh k) i))
     (λ w hand cleared h c q can.
     let walk = fill_walk V sh w hand cleared h c k v i p shape key many all can in
     let size = q.holds.agrees.size in (
-      makes_from_walk V sh _ _ (fill_acts sh k v i p) (Put k v ∷ []) 2 shape q walk refl (rw (take_payload V v many) refl) (omega arith) refl,
+      makes_from_walk V sh _ _ (fill_acts sh k v i p) (Put k v ∷ []) 2 shape q walk refl (rw (value_whole V v many) refl) (omega arith) refl,
       subst (λ (x : State V). Stands V sh x.words k (slot_number p) i) (sym walk.leads) (filled_stands V sh w k v i p shape key size can),
       subst (λ (x : State V). SetsSlot sh w x.words (slot_number p) (slot_word (tag_of sh k) i)) (sym walk.leads) (filled_slots V sh w k v i p shape size can),
     ))

@@ -1,5 +1,6 @@
 -- A renewal is allowed act by act, and puts the new value.
-use Rattle.std.proofs.Common.{ℕ, zero, suc, ◌≡◌, ◌+◌, ◌^◌, ◌<◌, ◌≤◌, ◌∙◌, List, [], ◌∷◌, ◌++◌, Option, None, All, take, refl, sym, subst, length, arith, append_assoc, append-nil, length-append}
+use Rattle.std.proofs.Common.{ℕ, zero, suc, ◌≡◌, ◌+◌, ◌^◌, ◌<◌, ◌≤◌, ◌∙◌, List, [], ◌∷◌, ◌++◌, Option, None, All, refl, sym, subst, length, arith, append_assoc, append-nil, length-append}
+use Rattle.mc_words.specs.History.{value_of}
 use Rattle.mc_words.specs.declared.history.Change.{Change}
 use Rattle.mc_words.specs.declared.history.Change.TheVariants.{Put}
 use Rattle.mc_words.specs.declared.shape.Shape.{Shape}
@@ -18,9 +19,10 @@ use Rattle.mc_theory.specs.declared.act.Deed.TheVariants as deed
 use Rattle.mc_plan.specs.Making.{state_after_acts, Makes, ActsRenew}
 use Rattle.mc_search.specs.Kept.{KeepsSlots}
 use Rattle.mc_plan.specs.Plans.{value_acts, renew_acts}
-use Rattle.mc_plan.proofs.Deeds.Fills.{take_payload}
+use Rattle.mc_plan.proofs.Deeds.Fills.{value_whole}
 use Rattle.mc_plan.proofs.Deeds.QuietStates.{state, at_quiet, makes_from_walk}
 use Rattle.mc_plan.proofs.Deeds.Slots.{valued, ended, slot-bumped, slot-valued, slot-ended, item-bumped, item-ended, key-valued}
+use Rattle.mc_plan.proofs.Deeds.Values.{payload_of}
 use Rattle.mc_plan.proofs.Deeds.Walks.{Walk, walk_none, walk_act, walk_then}
 
 -- a write of a word after an item's key leaves where the key stands
@@ -47,13 +49,14 @@ renewing_walk V sh w hand cleared h c k q i ys (x ∷ xs) l all stands =
 abbrev renewed : ℕ → Shape → List ℕ → ℕ → List ℕ → ℕ → List ℕ
 renewed V sh w k v i = ended sh (valued V sh (with_bump sh w k) i 1 v) k
 
-renew_walk : (V : ℕ) (sh : Shape) (w : List ℕ) (hand : ℕ) (cleared : Option ℕ) (h : List (Change V)) (c k : ℕ) (v : List ℕ) (q i : ℕ) → IsShape sh → k < 2 ^ 64 → length v ≡ payload V → All (λ x. x < 2 ^ 64) v → Stands V sh w k q i
-    → Walk V sh (state V w Quiet hand cleared h c) (renew_acts k v i) (state V (renewed V sh w k v i) Quiet hand None (h ++ Put k (take V v) ∷ []) (c + 1 + 1))
+renew_walk : (V : ℕ) (sh : Shape) (w : List ℕ) (hand : ℕ) (cleared : Option ℕ) (h : List (Change V)) (c k : ℕ) (v : List ℕ) (q i : ℕ) → IsShape sh → k < 2 ^ 64 → length v ≡ V → All (λ x. x < 2 ^ 64) v → Stands V sh w k q i
+    → Walk V sh (state V w Quiet hand cleared h c) (renew_acts k v i) (state V (renewed V sh w k v i) Quiet hand None (h ++ Put k (value_of V v) ∷ []) (c + 1 + 1))
 renew_walk V sh w hand cleared h c k v q i s key many all stands =
-    let values = renewing_walk V sh (with_bump sh w k) hand None h (c + 1) k q i [] v (omega (arith, many)) all (stands_bumped V sh w k k q i s stands) in
+    let whole = payload_of V v many in
+    let values = renewing_walk V sh (with_bump sh w k) hand None h (c + 1) k q i [] v (omega (arith, whole)) all (stands_bumped V sh w k k q i s stands) in
     walk_act V sh _ _ (Open k deed.Renew) _ (key, (q, i, stands))
     (walk_then V sh _ _ _ (value_acts i 1 v) _ values
-    (walk_act V sh _ _ Moment _ many
+    (walk_act V sh _ _ Moment _ whole
     (walk_act V sh _ _ Close _ tt
     (walk_none V sh _))))
 
@@ -66,12 +69,12 @@ renewed_stands V sh w k v q i s a = record {
   key = item-ended V sh _ k i 0 s ∙ key-valued V sh (with_bump sh w k) i 1 v (omega arith) ∙ item-bumped V sh w k i 0 s ∙ a.key;
 }
 
-pub renews : (V : ℕ) (sh : Shape) (k : ℕ) (v : List ℕ) (i : ℕ) → IsShape sh → k < 2 ^ 64 → length v ≡ payload V → All (λ x. x < 2 ^ 64) v → ActsRenew V sh k v i (renew_acts k v i)
+pub renews : (V : ℕ) (sh : Shape) (k : ℕ) (v : List ℕ) (i : ℕ) → IsShape sh → k < 2 ^ 64 → length v ≡ V → All (λ x. x < 2 ^ 64) v → ActsRenew V sh k v i (renew_acts k v i)
 renews V sh k v i shape key many all s q =
     at_quiet V sh (λ (s : State V). Stands V sh s.words k q i → Makes V sh s (renew_acts k v i) (Put k v ∷ []) 2 × Stands V sh (state_after_acts V sh s (renew_acts k v i)).words k q i × KeepsSlots sh s.words (state_after_acts V sh s (renew_acts k v i)).words)
     (λ w hand cleared h c quiet stands.
     let walk = renew_walk V sh w hand cleared h c k v q i shape key many all stands in (
-      makes_from_walk V sh _ _ (renew_acts k v i) (Put k v ∷ []) 2 shape quiet walk refl (rw (take_payload V v many) refl) (omega arith) refl,
+      makes_from_walk V sh _ _ (renew_acts k v i) (Put k v ∷ []) 2 shape quiet walk refl (rw (value_whole V v many) refl) (omega arith) refl,
       subst (λ (x : State V). Stands V sh x.words k q i) (sym walk.leads) (renewed_stands V sh w k v q i shape stands),
       subst (λ (x : State V). KeepsSlots sh w x.words) (sym walk.leads) (renewed_slots V sh w k v i shape),
     ))

@@ -23,7 +23,7 @@ values_done acts all i j n v l left = sym (append-nil acts) ∙ ap (λ (rest : L
 pub are_words : (v : List ℕ) → ((i : ℕ) → get_or v i 0 < 2 ^ 64) → All IsWord v
 are_words v each k d l = rw get_or_default_zero (each k)
 
--- a value has as many words as an item keeps after its key
+-- the words of a value are all that an item keeps behind its key
 pub payload_of : (V : ℕ) (v : List ℕ) → length v ≡ V → length v ≡ payload V
 unfolding payload
 payload_of V v e = e

@@ -1,33 +1,19 @@
 -- What only private contracts say beside `Clerks`.
-use Rattle.std.specs.Prelude.{ℕ, ◌≡◌, ◌+◌, ◌-◌, ◌*◌, ◌<◌, ◌≤◌, List, [], ◌∷◌, ◌++◌, map, take, length, slice_get, Option, Some, None, IsSome, Ok, Err}
-use Rattle.mc_words.specs.declared.shape.Shape.{Shape}
-use Rattle.mc_words.specs.Answers.{Quiet, PutIsSpent}
+use Rattle.std.specs.Prelude.{ℕ, ◌≡◌, List, [], Some}
 use Rattle.mc_words.specs.Checks.{shape_of}
-use Rattle.mc_words.specs.History.{IsWord}
-use Rattle.mc_words.specs.Places.{IsWidth}
-use Rattle.mc_words.specs.Standing.{NamesItem, Stands, IsAbsent, IsFree}
-use Rattle.mc_theory.specs.Lists.{Made, AreAllowed, after_all}
 use Rattle.mc_theory.specs.States.{State}
 use Rattle.mc_theory.specs.declared.act.Act.{Act}
-use Rattle.mc_theory.specs.declared.act.Act.TheVariants.{Hand, Mark}
-use Rattle.mc_plan.specs.declared.answer.Answer.{Answer}
 use Rattle.mc_plan.specs.declared.answer.Answer.TheVariants as answer
-use Rattle.mc_plan.specs.declared.answer.Put.TheVariants as put
-use Rattle.mc_plan.specs.declared.answer.PutError.TheVariants as why
 use Rattle.mc_plan.specs.declared.books.Books.{Books}
 use Rattle.mc_plan.specs.declared.clerk.Clerk.{Clerk}
 use Rattle.mc_plan.specs.declared.clerk.Stage.{Stage}
-use Rattle.mc_plan.specs.declared.clerk.Stage.TheVariants.{Idle, Sweeping, Planned}
-use Rattle.mc_search.specs.declared.path.Path.{Path}
+use Rattle.mc_plan.specs.declared.clerk.Stage.TheVariants.{Sweeping}
 use Rattle.mc_plan.specs.declared.waiting.Start.{Start}
 use Rattle.mc_plan.specs.declared.waiting.Start.TheVariants as start
 use Rattle.mc_plan.specs.declared.waiting.Waiting.{Waiting}
-use Rattle.mc_plan.specs.Calls.{PutAnswers, RemoveAnswers}
-use Rattle.mc_search.specs.Free.{IsConsistent, IsFreeIn}
-use Rattle.mc_plan.specs.Making.{IsQuiet, as_made, state_after_acts}
-use Rattle.mc_search.specs.Paths.{IsLeastPath}
-use Rattle.mc_search.specs.Sweeps.{Swept, IsSweep, HasSwept, IsOver, hand_acts, next_item, victim_of}
-use Rattle.mc_plan.specs.Clerks.{Call, PutCall, shape_of_clerk, quiet_of, Means, acts_of, IsOfDeed, AreOfDeeds, MarksLast, Marks, IsSweepOf, state_after_sweep, Answered, AreBooksOf, IsPlanned, Waits, Knows, IsSweeping, MakesPlan, IsAtStage, IsOn, StageHasCall, HasCall, hand_of, next_in, next_act, left_in, acts_left}
+use Rattle.mc_plan.specs.Making.{IsQuiet}
+use Rattle.mc_search.specs.Sweeps.{Swept, IsOver, victim_of}
+use Rattle.mc_plan.specs.Clerks.{Call, PutCall, shape_of_clerk, IsSweepOf, IsPlanned, Waits, IsSweeping}
 
 -- how a put starts: it is planned, or it waits for an item
 abbrev pub IsStarted : (V : ℕ) → Books → List Act → ℕ → List ℕ → State V → Start → Type 0
@@ -35,15 +21,15 @@ IsStarted V books plan k v s (start.Planned told) = (IsPlanned V books plan (Put
 IsStarted V books plan k v s (start.Waits path) = (plan ≡ []) × Waits V books k s path
 
 -- its sweep has found an item, and the books know where the hand stands now
-pub record IsReplacing (V : ℕ) (books : Books) (plan : List Act) (waiting : Waiting V) (call : Call) (s : State V) (rs : List Swept) (item : ℕ) : Type 0 where
+pub record IsReplacing (V : ℕ) (books : Books) (waiting : Waiting V) (call : Call) (s : State V) (rs : List Swept) (item : ℕ) : Type 0 where
   pub before : ℕ
-  pub sweeping : IsSweeping V (record books { hand = before }) plan waiting call s rs
+  pub sweeping : IsSweeping V (record books { hand = before }) waiting call s rs
   pub found : victim_of rs ≡ Some item
   pub stands : books.hand ≡ waiting.sweep.hand
 
 -- the sweep of the call is over, and the rest of it is to be planned
 abbrev pub IsAtEnd : (V : ℕ) → Stage V → Books → List Act → ℕ → Call → State V → List Swept → Type 0
-IsAtEnd V (Sweeping waiting) books plan many call s rs = IsSweeping V books plan waiting call s rs × IsOver (shape_of books.checked).items rs × (many ≡ 0)
+IsAtEnd V (Sweeping waiting) books plan many call s rs = IsSweeping V books waiting call s rs × IsOver (shape_of books.checked).items rs × (many ≡ 0) × (plan ≡ [])
 IsAtEnd V _ books plan many call s rs = ⊥
 
 pub record HasEndedSweep (V : ℕ) (clerk : Clerk V) (call : Call) (s : State V) (rs : List Swept) : Type 0 where

@@ -1,5 +1,6 @@
 -- What a player of a replay shows of the replay that it is.
 use Rattle.std.specs.Prelude.{ℕ, ◌≡◌, ◌+◌, ◌-◌, ◌*◌, ◌^◌, ◌<◌, ◌≤◌, List, [], ◌∷◌, ◌++◌, length, slice_get, Option, Some, None, IsSome, Result, Ok, Err, OnOk}
+use Rattle.mc_words.specs.Places.{most_payload}
 use Rattle.mc_words.specs.declared.history.Reply.{Reply}
 use Rattle.mc_words.specs.declared.shape.Shape.{Shape}
 use Rattle.mc_theory.specs.Lists.{Made, after_all, state_of}
@@ -28,9 +29,9 @@ most_steps = 2 ^ 24 - 1
 abbrev pub most_before : ℕ → ℕ
 most_before lines = lines * most_steps
 
--- how many accesses one lookup makes at most
+-- how many accesses one lookup makes at most, in as many tries as there can be, of as many words as an item can have
 abbrev pub most_accesses : ℕ
-most_accesses = 64 * 27 + 1
+most_accesses = 64 * (19 + most_payload) + 1
 
 -- the lookup that the reader runs, if it runs one, has made at least n accesses
 abbrev pub HasAccessed : {V : ℕ} → Trace V → ℕ → ℕ → Type 0

@@ -1,8 +1,8 @@
 -- The changes that allowed acts tell by themselves are those of the state's history.
-use Rattle.std.proofs.Common.{ℕ, ◌≡◌, Bool, true, false, List, [], ◌∷◌, ◌++◌, length, take, Option, refl, sym, ◌∙◌, ap, arith, add-one}
+use Rattle.std.proofs.Common.{ℕ, ◌≡◌, Bool, true, false, List, [], ◌∷◌, ◌++◌, length, Option, refl, sym, ◌∙◌, ap, add-one}
 use Rattle.std.specs.Prelude.{map}
-use Rattle.std.proofs.lemmas.List.{append_assoc, append-nil, take_all}
-use Rattle.mc_words.specs.Places.{payload}
+use Rattle.std.proofs.lemmas.List.{append_assoc, append-nil}
+use Rattle.mc_words.specs.History.{value_of}
 use Rattle.mc_words.specs.declared.history.Change.{Change}
 use Rattle.mc_words.specs.declared.history.Change.TheVariants as change
 use Rattle.mc_words.specs.declared.shape.Shape.{Shape}
@@ -26,7 +26,7 @@ taking true = deed.Evict
 abbrev pub IsUnderWay : ℕ → Phase → Deed → ℕ → List ℕ → Type 0
 IsUnderWay V (Filling q) d k xs = (d ≡ deed.Fill) × (k ≡ q) × (xs ≡ [])
 IsUnderWay V (Keyed q i ys) d k xs = (d ≡ deed.Fill) × (k ≡ q) × (xs ≡ ys)
-IsUnderWay V (Placed q i ys) d k xs = (d ≡ deed.Fill) × (k ≡ q) × (xs ≡ ys) × (length ys ≡ V)
+IsUnderWay V (Placed q i ys) d k xs = (d ≡ deed.Fill) × (k ≡ q) × (xs ≡ ys)
 IsUnderWay V (Renewing q ys) d k xs = (d ≡ deed.Renew) × (k ≡ q) × (xs ≡ ys)
 IsUnderWay V (Removing q e) d k xs = (d ≡ taking e) × (k ≡ q)
 IsUnderWay V (Removed q e) d k xs = (d ≡ taking e) × (k ≡ q)
@@ -40,15 +40,10 @@ under_way_opened V k deed.Remove = (refl, refl)
 under_way_opened V k deed.Evict = (refl, refl)
 under_way_opened V k deed.Move = tt
 
--- a value has as many words as an item after its key
-payload_is : (V : ℕ) → payload V ≡ V
-unfolding payload
-payload_is V = refl
-
--- all words of a value are the first V of them
-put_whole : {V : ℕ} (k q : ℕ) (xs ys : List ℕ) → k ≡ q → xs ≡ ys → length ys ≡ V → change_by {V = V} deed.Fill k xs ≡ change_by deed.Fill q (take V ys)
-put_whole {V} k q xs ys key written many =
-    ap (λ n. change_by {V = V} deed.Fill n xs) key ∙ ap (λ zs. change_by {V = V} deed.Fill q zs) (written ∙ sym (take_all V ys (omega arith)))
+-- the key and the words are those of the phase
+put_same : {V : ℕ} (k q : ℕ) (xs ys : List ℕ) → k ≡ q → xs ≡ ys → change_by {V = V} deed.Fill k xs ≡ change_by deed.Fill q ys
+put_same {V} k q xs ys key written =
+    ap (λ n. change_by {V = V} deed.Fill n xs) key ∙ ap (λ zs. change_by {V = V} deed.Fill q zs) written
 
 -- and a key is taken out as the phase says
 taken_whole : {V : ℕ} (e : Bool) (d : Deed) (k q : ℕ) (xs : List ℕ) → d ≡ taking e → k ≡ q → change_by {V = V} d k xs ≡ removal_of e q ∷ []
@@ -78,15 +73,15 @@ goes_on V sh w hand cleared (Filling q) h d k xs (Item i j x) more may at =
 goes_on V sh w hand cleared (Keyed q i ys) h d k xs (Item g j x) more may at =
     record { deed = d; key = k; written = xs ++ x ∷ []; under_way = (at.0, at.1, ap (λ zs. zs ++ x ∷ []) at.2); same = ap (λ n. h ++ changes_by d k xs (Item g n x ∷ more)) (may.1 ∙ add-one (length ys)) }
 goes_on V sh w hand cleared (Keyed q i ys) h d k xs (Slot p x) more may at =
-    record { deed = d; key = k; written = xs; under_way = (at.0, at.1, at.2, may.0 ∙ payload_is V); same = refl }
+    record { deed = d; key = k; written = xs; under_way = at; same = refl }
 goes_on V sh w hand cleared (Placed q i ys) h d k xs Moment more may at =
-    let now : change_by {V = V} d k xs ≡ change.Put q (take V ys) ∷ [] = ap (λ y. change_by {V = V} y k xs) at.0 ∙ put_whole k q xs ys at.1 at.2 at.3 in
-    record { deed = d; key = k; written = xs; under_way = tt; same = moves_over h (change.Put q (take V ys) ∷ []) (change_by d k xs) (changes_by d k xs more) now }
+    let now : change_by {V = V} d k xs ≡ change.Put q (value_of V ys) ∷ [] = ap (λ y. change_by {V = V} y k xs) at.0 ∙ put_same k q xs ys at.1 at.2 in
+    record { deed = d; key = k; written = xs; under_way = tt; same = moves_over h (change.Put q (value_of V ys) ∷ []) (change_by d k xs) (changes_by d k xs more) now }
 goes_on V sh w hand cleared (Renewing q ys) h d k xs (Item i j x) more may at =
     record { deed = d; key = k; written = xs ++ x ∷ []; under_way = (at.0, at.1, ap (λ zs. zs ++ x ∷ []) at.2); same = ap (λ n. h ++ changes_by d k xs (Item i n x ∷ more)) (may.0 ∙ add-one (length ys)) }
 goes_on V sh w hand cleared (Renewing q ys) h d k xs Moment more may at =
-    let now : change_by {V = V} d k xs ≡ change.Put q (take V ys) ∷ [] = ap (λ y. change_by {V = V} y k xs) at.0 ∙ put_whole k q xs ys at.1 at.2 (may ∙ payload_is V) in
-    record { deed = d; key = k; written = xs; under_way = tt; same = moves_over h (change.Put q (take V ys) ∷ []) (change_by d k xs) (changes_by d k xs more) now }
+    let now : change_by {V = V} d k xs ≡ change.Put q (value_of V ys) ∷ [] = ap (λ y. change_by {V = V} y k xs) at.0 ∙ put_same k q xs ys at.1 at.2 in
+    record { deed = d; key = k; written = xs; under_way = tt; same = moves_over h (change.Put q (value_of V ys) ∷ []) (change_by d k xs) (changes_by d k xs more) now }
 goes_on V sh w hand cleared (Removing q e) h d k xs (Slot p x) more may at = record { deed = d; key = k; written = xs; under_way = at; same = refl }
 goes_on V sh w hand cleared (Removed q e) h d k xs Moment more may at =
     record { deed = d; key = k; written = xs; under_way = tt; same = moves_over h (removal_of e q ∷ []) (change_by d k xs) (changes_by d k xs more) (taken_whole e d k q xs at.0 at.1) }

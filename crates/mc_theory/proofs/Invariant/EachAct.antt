@@ -2,7 +2,7 @@
 use Rattle.std.proofs.Common.{ℕ, ◌≡◌, ◌≢◌, ◌+◌, ◌/◌, ◌⊎◌, Bool, true, false, List, [], ◌∷◌, ◌++◌, length, Option, Some, None, ◌∙◌, ap, subst, inl, inr, arith}
 use Rattle.std.proofs.lemmas.Bool.{cases_eq}
 use Rattle.std.proofs.lemmas.List.{length_push}
-use Rattle.mc_theory.proofs.Invariant.RunningDeed.{held-written, absent_on, begins_more, bucket_of_number, keyed_facts, moved_only, only-with_value, open_facts, placed_only, ready_more, removed_absent, twice_facts}
+use Rattle.mc_theory.proofs.Invariant.RunningDeed.{absent_on, begins_more, bucket_of_number, keyed_facts, moved_only, only-with_value, open_facts, placed_only, ready_more, removed_absent, twice_facts}
 use Rattle.mc_theory.proofs.Invariant.PlainParts.{filled_after, length_after, moment_after, versions_after}
 use Rattle.mc_theory.proofs.Invariant.OtherKeys.{step_held, step_same}
 use Rattle.mc_theory.specs.Acts.{MayFrom}
@@ -11,9 +11,10 @@ use Rattle.mc_theory.specs.Inner.{DeedFacts}
 use Rattle.mc_theory.specs.Phases.{Closing, Filling, Keyed, Moved, Moving, Phase, Placed, Quiet, Removed, Removing, Renewing, deed_key}
 use Rattle.mc_words.proofs.Frames.{agrees_on, begins_on, only_on, same-with_moment, same-with_version}
 use Rattle.mc_words.proofs.Keys.{stripe_of-lt}
-use Rattle.mc_words.proofs.Maps.{held-evict, held-remove}
+use Rattle.mc_words.proofs.Maps.{held-evict, held-put, held-remove}
+use Rattle.mc_words.proofs.Payload.{value_in}
 use Rattle.mc_words.proofs.Places.{item-with_moment, item-with_slot}
-use Rattle.mc_words.specs.History.{map_value}
+use Rattle.mc_words.specs.History.{map_value, value_of}
 use Rattle.mc_words.specs.Keys.{alternate, tag_of}
 use Rattle.mc_words.specs.Places.{slot, slot_number}
 use Rattle.mc_words.specs.Shapes.{IsShape}
@@ -42,8 +43,9 @@ deed_after V sh w hand cleared h (Keyed k i xs) (Slot p x) s g d may = (
   d.1,
 )
 deed_after V sh w hand cleared h (Placed k i xs) Moment s g d may =
-    rw (held-written h k xs d.1.0)
-    (d.0.0, i, only_on V sh w _ k d.0.0 i (same-with_moment V sh w _ k) d.0.1, (d.1.0, λ j l. item-with_moment V sh w _ i (j + 1) ∙ d.1.1 j l))
+    let value = value_in V sh w i xs d.1 in
+    rw (held-put h k (value_of V xs))
+    (d.0.0, i, only_on V sh w _ k d.0.0 i (same-with_moment V sh w _ k) d.0.1, (value.0, λ j l. item-with_moment V sh w _ i (j + 1) ∙ value.1 j l))
 deed_after V sh w hand cleared h (Renewing k xs) (Item i j x) s g d may =
     let only : OnlyAt V sh w k d.0.0 d.0.1 = d.0.2 in
     let is : i ≡ d.0.1 = (only.once may.3.0 i may.3.1).1 in
@@ -53,8 +55,9 @@ deed_after V sh w hand cleared h (Renewing k xs) (Item i j x) s g d may =
       d.2,
     )
 deed_after V sh w hand cleared h (Renewing k xs) Moment s g d may =
-    rw (held-written h k xs may)
-    (d.0.0, d.0.1, only_on V sh w _ k d.0.0 d.0.1 (same-with_moment V sh w _ k) d.0.2, (may, λ j l. item-with_moment V sh w _ d.0.1 (j + 1) ∙ d.0.3 j l))
+    let value = value_in V sh w d.0.1 xs (may, d.0.3) in
+    rw (held-put h k (value_of V xs))
+    (d.0.0, d.0.1, only_on V sh w _ k d.0.0 d.0.1 (same-with_moment V sh w _ k) d.0.2, (value.0, λ j l. item-with_moment V sh w _ d.0.1 (j + 1) ∙ value.1 j l))
 deed_after V sh w hand cleared h (Removing k e) (Slot p x) s g d may =
     (removed_absent V sh w k (slot_number p) x d.0.0 d.0.1 may.2.0 g.size may.1 d.0.2 may.2.1, d.1)
 deed_after V sh w hand cleared h (Removed k e) Moment s g d may =

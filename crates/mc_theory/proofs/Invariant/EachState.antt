@@ -1,5 +1,5 @@
 -- The invariant holds at the opening, and each allowed act keeps it.
-use Rattle.std.proofs.Common.{ℕ, ◌≡◌, ◌+◌, Bool, true, false, List, [], ◌∷◌, ◌++◌, Option, get_or, replicate, take, Some, refl, subst, inl, inr, arith}
+use Rattle.std.proofs.Common.{ℕ, ◌≡◌, ◌+◌, Bool, true, false, List, [], ◌∷◌, ◌++◌, Option, get_or, replicate, Some, refl, subst, inl, inr, arith}
 use Rattle.std.specs.Option.{IsSome}
 use Rattle.std.proofs.lemmas.Bool.{cases_eq, cases_lt}
 use Rattle.std.proofs.lemmas.List.{length-replicate, get_or-replicate, get_or_past}
@@ -12,7 +12,7 @@ use Rattle.mc_theory.specs.States.{State, opening}
 use Rattle.mc_words.proofs.Count.{keys_fit}
 use Rattle.mc_words.proofs.Frames.{empty_names_none}
 use Rattle.mc_words.proofs.Maps.{held-none, legal-push}
-use Rattle.mc_words.specs.History.{key_count, IsLegal, MayFollow, map_value, map_from}
+use Rattle.mc_words.specs.History.{key_count, IsLegal, MayFollow, map_value, map_from, value_of}
 use Rattle.mc_words.specs.Places.{moment, slot, version, word_count}
 use Rattle.mc_words.specs.Shapes.{IsShape}
 use Rattle.mc_words.specs.Standing.{Agrees, AgreesAt, Stands}
@@ -40,8 +40,8 @@ unfolding IsLegal key_count
 legal_more V sh w h c f l may g d = legal-push sh.items [] h c l may (keys_fit V sh w (h ++ c ∷ []) (all_agree V sh w (h ++ c ∷ []) f g d))
 
 legal_after : (V : ℕ) (sh : Shape) (w : List ℕ) (hand : ℕ) (cleared : Option ℕ) (h : List (Change V)) (p : Phase) (a : Act) → DeedFacts V sh w h p → MayFrom V sh w hand cleared p a → IsLegal sh.items h → Agrees V sh (words_after V sh w p a) (deed_key (phase_after p a)) (history_after h p a) → DeedFacts V sh (words_after V sh w p a) (history_after h p a) (phase_after p a) → IsLegal sh.items (history_after h p a)
-legal_after V sh w hand cleared h (Placed k i xs) Moment d may l g e = legal_more V sh _ h (Put k (take V xs)) k l tt g e
-legal_after V sh w hand cleared h (Renewing k xs) Moment d may l g e = legal_more V sh _ h (Put k (take V xs)) k l tt g e
+legal_after V sh w hand cleared h (Placed k i xs) Moment d may l g e = legal_more V sh _ h (Put k (value_of V xs)) k l tt g e
+legal_after V sh w hand cleared h (Renewing k xs) Moment d may l g e = legal_more V sh _ h (Put k (value_of V xs)) k l tt g e
 legal_after V sh w hand cleared h (Removed k u) Moment d may l g e = legal_more V sh _ h (removal_of u k) k l (taken_may h u k d.1) g e
 legal_after V sh w hand cleared h p (Open k u) d may l g e = l
 legal_after V sh w hand cleared h p (Slot q x) d may l g e = l

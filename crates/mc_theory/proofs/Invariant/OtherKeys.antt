@@ -1,5 +1,5 @@
 -- An act of a deed on one key changes nothing for another key.
-use Rattle.std.proofs.Common.{ℕ, ◌≡◌, ◌≢◌, ◌+◌, ◌*◌, ◌<◌, ◌≤◌, true, false, List, length, take, Option, Some, refl, sym, ◌∙◌, ap, subst, arith}
+use Rattle.std.proofs.Common.{ℕ, ◌≡◌, ◌≢◌, ◌+◌, ◌*◌, ◌<◌, ◌≤◌, true, false, List, length, Option, Some, refl, sym, ◌∙◌, ap, subst, arith}
 use Rattle.mc_theory.specs.Acts.{MayFrom}
 use Rattle.mc_theory.specs.Effects.{history_after, words_after}
 use Rattle.mc_theory.specs.Inner.{DeedFacts}
@@ -8,7 +8,7 @@ use Rattle.mc_words.proofs.Frames.{SameFor, empty_names_none, moved_names, one_n
 use Rattle.mc_words.proofs.Keys.{stripe_of-lt}
 use Rattle.mc_words.proofs.Maps.{held-other}
 use Rattle.mc_words.proofs.Places.{item-with_item_word, item-with_slot, slot-with_item, slot-with_slot_same}
-use Rattle.mc_words.specs.History.{map_value}
+use Rattle.mc_words.specs.History.{map_value, value_of}
 use Rattle.mc_words.specs.Keys.{slot_word}
 use Rattle.mc_words.specs.Places.{item, slot_number, with_item, with_slot, word_count}
 use Rattle.mc_words.specs.Shapes.{IsShape}
@@ -84,8 +84,8 @@ step_same V sh w hand cleared h k (Closing f) Close s size d may ne = same-with_
 step_same V sh w hand cleared h k _ _ s size d may ne = absurd may
 
 pub step_held : (V : ℕ) (sh : Shape) (w : List ℕ) (hand : ℕ) (cleared : Option ℕ) (h : List (Change V)) (k : ℕ) (p : Phase) (a : Act) → MayFrom V sh w hand cleared p a → deed_key p ≢ Some k → map_value (history_after h p a) k ≡ map_value h k
-step_held V sh w hand cleared h k (Placed f i xs) Moment may ne = held-other h (Put f (take V xs)) k (λ e. ne (ap Some (sym e)))
-step_held V sh w hand cleared h k (Renewing f xs) Moment may ne = held-other h (Put f (take V xs)) k (λ e. ne (ap Some (sym e)))
+step_held V sh w hand cleared h k (Placed f i xs) Moment may ne = held-other h (Put f (value_of V xs)) k (λ e. ne (ap Some (sym e)))
+step_held V sh w hand cleared h k (Renewing f xs) Moment may ne = held-other h (Put f (value_of V xs)) k (λ e. ne (ap Some (sym e)))
 step_held V sh w hand cleared h k (Removed f true) Moment may ne = held-other h (Evict f) k (λ e. ne (ap Some (sym e)))
 step_held V sh w hand cleared h k (Removed f false) Moment may ne = held-other h (Remove f) k (λ e. ne (ap Some (sym e)))
 step_held V sh w hand cleared h k Quiet Moment may ne = absurd may

@@ -1,16 +1,15 @@
 -- What holds in the middle of a deed, after each act.
-use Rattle.std.proofs.Common.{ℕ, ◌≡◌, ◌≢◌, ◌+◌, ◌*◌, ◌/◌, ◌^◌, ◌<◌, ◌≤◌, List, [], ◌∷◌, ◌++◌, length, take, Option, Some, None, refl, sym, ◌∙◌, ap, subst, inl, inr, arith}
+use Rattle.std.proofs.Common.{ℕ, ◌≡◌, ◌≢◌, ◌+◌, ◌*◌, ◌/◌, ◌^◌, ◌<◌, ◌≤◌, List, [], ◌∷◌, ◌++◌, length, Option, Some, None, refl, sym, ◌∙◌, ap, subst, inl, inr, arith}
 use Rattle.std.specs.Option.{IsSome}
 use Rattle.std.proofs.lemmas.Bool.{cases_eq}
-use Rattle.std.proofs.lemmas.List.{length_push, get_or_push, get_or_append_left, take_all}
-use Rattle.mc_words.proofs.Maps.{held-put}
-use Rattle.mc_words.specs.declared.history.Change.TheVariants.{Put}
+use Rattle.std.proofs.lemmas.List.{length_push, get_or_push, get_or_append_left}
 use Rattle.mc_theory.proofs.Invariant.OtherKeys.{cleared_stands, names_back-with_item, slot_in, written_stands}
 use Rattle.mc_theory.specs.Acts.{MayOpen}
 use Rattle.mc_theory.specs.Inner.{DeedFacts, IsFillReady, StandsTwice}
 use Rattle.mc_theory.specs.Phases.{first_phase}
 use Rattle.mc_words.proofs.Frames.{SameFor, agrees_on, begins_on, empty_names_none, moved_names}
 use Rattle.mc_words.proofs.Keys.{alternate-alternate, tag_of-lt}
+use Rattle.mc_words.proofs.Payload.{value_fits}
 use Rattle.mc_words.proofs.Places.{item-with_item_other, item-with_item_same, item-with_item_word, item-with_slot, slot-with_item, slot-with_slot_other, slot-with_slot_same}
 use Rattle.mc_words.specs.History.{map_value}
 use Rattle.mc_words.specs.Keys.{IsBucketOf, alternate, first_of, slot_word, tag_of}
@@ -37,11 +36,6 @@ some_from o v e = rw e refl
 
 pub absent_on : (V : ℕ) (sh : Shape) (w x : List ℕ) (k : ℕ) → SameFor V sh w x k → IsAbsent V sh w k → IsAbsent V sh x k
 absent_on V sh w x k s a = λ q i h. a q i (s.back q i h)
-
--- ---- a change of the first words that were written: the map then holds them all
-pub held-written : {V : ℕ} (h : List (Change V)) (k : ℕ) (xs : List ℕ) → length xs ≡ payload V → map_value (h ++ Put k (take V xs) ∷ []) k ≡ Some xs
-unfolding payload
-held-written {V} h k xs l = held-put h k (take V xs) ∙ ap Some (take_all V xs (omega (arith, l)))
 
 -- ---- a slot number and its bucket
 pub bucket_of_number : (p : Place) → p.slot < 4 → slot_number p / 4 ≡ p.bucket
@@ -190,7 +184,7 @@ twice_facts V sh w k p x q i v s size empty bucket e only val =
         | inl y ↦ inr (ap (λ b. alternate sh b (tag_of sh k)) y)
         | inr y ↦ inl (ap (λ b. alternate sh b (tag_of sh k)) y ∙ alternate-alternate sh (first_of sh k) (tag_of sh k))
       ]);
-      value = (val.0, begins_on V sh w (with_slot sh w p x) i v (λ j l. item-with_slot V sh w p x i j empty.0) (omega arith) val.1);
+      value = (val.0, begins_on V sh w (with_slot sh w p x) i v (λ j l. item-with_slot V sh w p x i j empty.0) (omega (arith, val.0, value_fits V)) val.1);
     }
 
 pub moved_only : (V : ℕ) (sh : Shape) (w : List ℕ) (k fresh p x g : ℕ) (v : List ℕ) → word_count V sh ≤ length w → x ≡ 0 → p ≢ fresh → StandsTwice V sh w k fresh v → Stands V sh w k p g → AgreesAt V sh (with_slot sh w p x) k (Some v)
@@ -210,5 +204,5 @@ moved_only V sh w k fresh p x g v size e apart t gone =
         tagged = slot-with_slot_other sh w p x fresh (λ h. apart (sym h)) ∙ t.tagged;
         placed = t.placed;
       },
-      (t.value.0, begins_on V sh w (with_slot sh w p x) t.of v (λ j l. item-with_slot V sh w p x t.of j gone.names.in_table) (omega arith) t.value.1),
+      (t.value.0, begins_on V sh w (with_slot sh w p x) t.of v (λ j l. item-with_slot V sh w p x t.of j gone.names.in_table) (omega (arith, t.value.0, value_fits V)) t.value.1),
     )

@@ -1,11 +1,12 @@
 -- Versions and moments are bounded by the version changes.
-use Rattle.std.proofs.Common.{ℕ, ◌+◌, ◌<◌, ◌≤◌, List, length, take, Option, inl, inr, arith}
+use Rattle.std.proofs.Common.{ℕ, ◌+◌, ◌<◌, ◌≤◌, List, length, Option, inl, inr, arith}
 use Rattle.std.proofs.lemmas.Bool.{cases_eq}
 use Rattle.std.proofs.lemmas.List.{length_push}
 use Rattle.mc_theory.specs.Acts.{MayFrom}
 use Rattle.mc_theory.specs.Effects.{with_bump, version_steps_after, history_after, phase_after, removal_of, words_after}
 use Rattle.mc_theory.specs.Inner.{IsCounted}
 use Rattle.mc_theory.specs.Phases.{Closing, Filling, Keyed, Moved, Moving, Phase, Placed, Quiet, Removed, Removing, Renewing}
+use Rattle.mc_words.specs.History.{value_of}
 use Rattle.mc_words.proofs.Keys.{stripe_of-lt}
 use Rattle.mc_words.proofs.Places.{version-with_item, version-with_moment, version-with_slot, version-with_version_other, version-with_version_same}
 use Rattle.mc_words.specs.Keys.{stripe_of}
@@ -38,9 +39,9 @@ counted_after V sh w hand cleared h c Quiet (Mark g) s size may i = i
 counted_after V sh w hand cleared h c (Filling k) (Item g j x) s size may i = record { versions = λ t l. rw (version-with_item V sh w g j x t l) (i.versions t l); moments = i.moments }
 counted_after V sh w hand cleared h c (Keyed k f xs) (Item g j x) s size may i = record { versions = λ t l. rw (version-with_item V sh w g j x t l) (i.versions t l); moments = i.moments }
 counted_after V sh w hand cleared h c (Keyed k f xs) (Slot p x) s size may i = record { versions = λ t l. rw (version-with_slot sh w (slot_number p) x t l) (i.versions t l); moments = i.moments }
-counted_after V sh w hand cleared h c (Placed k f xs) Moment s size may i = record { versions = λ t l. rw (version-with_moment w t _) (i.versions t l); moments = omega (arith, i.moments, length_push h (Put k (take V xs))) }
+counted_after V sh w hand cleared h c (Placed k f xs) Moment s size may i = record { versions = λ t l. rw (version-with_moment w t _) (i.versions t l); moments = omega (arith, i.moments, length_push h (Put k (value_of V xs))) }
 counted_after V sh w hand cleared h c (Renewing k xs) (Item g j x) s size may i = record { versions = λ t l. rw (version-with_item V sh w g j x t l) (i.versions t l); moments = i.moments }
-counted_after V sh w hand cleared h c (Renewing k xs) Moment s size may i = record { versions = λ t l. rw (version-with_moment w t _) (i.versions t l); moments = omega (arith, i.moments, length_push h (Put k (take V xs))) }
+counted_after V sh w hand cleared h c (Renewing k xs) Moment s size may i = record { versions = λ t l. rw (version-with_moment w t _) (i.versions t l); moments = omega (arith, i.moments, length_push h (Put k (value_of V xs))) }
 counted_after V sh w hand cleared h c (Removing k e) (Slot p x) s size may i = record { versions = λ t l. rw (version-with_slot sh w (slot_number p) x t l) (i.versions t l); moments = i.moments }
 counted_after V sh w hand cleared h c (Removed k e) Moment s size may i = record { versions = λ t l. rw (version-with_moment w t _) (i.versions t l); moments = omega (arith, i.moments, length_push h (removal_of e k)) }
 counted_after V sh w hand cleared h c (Moving k) (Slot p x) s size may i = record { versions = λ t l. rw (version-with_slot sh w (slot_number p) x t l) (i.versions t l); moments = i.moments }

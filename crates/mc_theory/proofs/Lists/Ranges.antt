@@ -1,7 +1,6 @@
 -- The numbers of every history are in their ranges.
-use Rattle.std.proofs.Common.{ℕ, ◌≡◌, Bool, true, false, List, [], ◌∷◌, length, take, Option, arith}
+use Rattle.std.proofs.Common.{ℕ, ◌≡◌, Bool, true, false, List, [], ◌∷◌, length, take, Option}
 use Rattle.std.specs.Prelude.{All}
-use Rattle.std.proofs.lemmas.List.{length-take-le}
 use Rattle.std.proofs.lemmas.List.Elements.{All-nil, All-push, All-take}
 use Rattle.mc_theory.specs.Acts.{MayFrom}
 use Rattle.mc_theory.specs.Effects.{after_act, history_after, phase_after, removal_of}
@@ -10,7 +9,8 @@ use Rattle.mc_theory.specs.Lists.{AreAllowed, IsLawful, Made, after_all, front}
 use Rattle.mc_theory.specs.Phases.{Closing, Filling, Keyed, Moved, Moving, Phase, Placed, Quiet, Removed, Removing, Renewing}
 use Rattle.mc_theory.specs.States.{State, opening}
 use Rattle.mc_theory.proofs.Lists.Fronts.{allowed_take}
-use Rattle.mc_words.specs.History.{IsChange, IsWord}
+use Rattle.mc_words.proofs.Payload.{value_length}
+use Rattle.mc_words.specs.History.{IsChange, IsWord, value_of}
 use Rattle.mc_words.specs.Places.{payload}
 use Rattle.mc_theory.specs.declared.act.Act.{Act}
 use Rattle.mc_words.specs.declared.history.Change.{Change}
@@ -29,10 +29,9 @@ PhaseFits V (Removing k e) = IsWord k
 PhaseFits V (Removed k e) = IsWord k
 PhaseFits V _ = Unit {0}
 
--- a change of the key to the first words written
-put_fits : (V k : ℕ) (xs : List ℕ) → IsWord k → All IsWord xs → length xs ≡ payload V → IsChange {V = V} (Put k (take V xs))
-unfolding payload
-put_fits V k xs key words fits = (key, length-take-le V xs (omega (arith, fits)), All-take IsWord V xs words)
+-- a change of the key to the value written
+put_fits : (V k : ℕ) (xs : List ℕ) → IsWord k → All IsWord xs → length xs ≡ payload V → IsChange {V = V} (Put k (value_of V xs))
+put_fits V k xs key words fits = (key, value_length V xs fits, All-take IsWord V xs words)
 
 taken_out_fits : (V k : ℕ) (e : Bool) → IsWord k → IsChange {V = V} (removal_of e k)
 taken_out_fits V k true key = key
@@ -50,9 +49,9 @@ fits_after V sh w hand cleared h Quiet (Mark i) may all fits = (all, tt)
 fits_after V sh w hand cleared h (Filling k) (Item i j x) may all fits = (all, (fits, All-nil IsWord))
 fits_after V sh w hand cleared h (Keyed k i xs) (Item g j x) may all fits = (all, (fits.0, All-push IsWord xs x fits.1 may.3))
 fits_after V sh w hand cleared h (Keyed k i xs) (Slot q x) may all fits = (all, (fits.0, fits.1, may.0))
-fits_after V sh w hand cleared h (Placed k i xs) Moment may all fits = (All-push IsChange h (Put k (take V xs)) all (put_fits V k xs fits.0 fits.1 fits.2), tt)
+fits_after V sh w hand cleared h (Placed k i xs) Moment may all fits = (All-push IsChange h (Put k (value_of V xs)) all (put_fits V k xs fits.0 fits.1 fits.2), tt)
 fits_after V sh w hand cleared h (Renewing k xs) (Item i j x) may all fits = (all, (fits.0, All-push IsWord xs x fits.1 may.2))
-fits_after V sh w hand cleared h (Renewing k xs) Moment may all fits = (All-push IsChange h (Put k (take V xs)) all (put_fits V k xs fits.0 fits.1 may), tt)
+fits_after V sh w hand cleared h (Renewing k xs) Moment may all fits = (All-push IsChange h (Put k (value_of V xs)) all (put_fits V k xs fits.0 fits.1 may), tt)
 fits_after V sh w hand cleared h (Removing k e) (Slot q x) may all fits = (all, fits)
 fits_after V sh w hand cleared h (Removed k e) Moment may all fits = (All-push IsChange h (removal_of e k) all (taken_out_fits V k e fits), tt)
 fits_after V sh w hand cleared h (Moving k) (Slot q x) may all fits = (all, tt)

@@ -1,5 +1,6 @@
 -- How many readings a lookup makes at most.
 use Rattle.std.proofs.Common.{ℕ, zero, suc, ◌≡◌, ◌+◌, ◌*◌, ◌≤◌, List, [], ◌∷◌, ◌++◌, length, Option, Some, None, arith, refl, ap, ◌∙◌, inl, inr, length-append}
+use Rattle.mc_words.proofs.Payload.{value_fits}
 use Rattle.mc_words.specs.Places.{payload}
 use Rattle.mc_words.specs.declared.history.Reply.{Reply}
 use Rattle.mc_words.specs.declared.place.Place.{Place}
@@ -29,7 +30,7 @@ values_length i j (r ∷ rs) [] reads = absurd reads
 
 hit_length : (V : ℕ) (hit : Option ℕ) (rs : List Reading) (v : List ℕ) → ReadsHit V hit rs v → length rs ≤ payload V
 hit_length V None rs v reads = let none = ap length reads.0 in omega (arith, none)
-hit_length V (Some i) rs v reads = let same = values_length i 1 rs v reads.1 in omega (arith, same, reads.0)
+hit_length V (Some i) rs v reads = let same = values_length i 1 rs v reads.1 in omega (arith, same, reads.0, value_fits V)
 
 -- the version, the slots and keys, the value, the moment and the version again
 try_length : (V : ℕ) (sh : Shape) (k : ℕ) (rs : List Reading) (hit : Option ℕ) (v : List ℕ) (before after at : ℕ) → Tries V sh k rs hit v before after at → length rs ≤ 19 + payload V

@@ -11,6 +11,7 @@ use Rattle.mc_theory.specs.Readings.{AreRead, Reading, RiseTo}
 use Rattle.mc_theory.specs.States.{State}
 use Rattle.mc_words.proofs.Frames.{stands_on}
 use Rattle.mc_words.proofs.Keys.{alternate-lt, first_of-lt, tag_of-lt}
+use Rattle.mc_words.proofs.Payload.{value_fits}
 use Rattle.mc_words.specs.History.{IsTrueAnswer, map_value}
 use Rattle.mc_words.specs.Keys.{first_of, second_of, stripe_of, tag_of}
 use Rattle.mc_words.specs.Places.{item, version}
@@ -69,7 +70,7 @@ hit_told V sh acts k f g d b c e (Some i) v scan values shape w key_in fd bg fc 
     let val : HasValue V sh (front V sh acts f).words here.2.1 here.0 = here.2.3 in
     let same : v ≡ here.0 = ext_get_or 0 v here.0 (reads.0 ∙ sym val.0) (λ m l.
     let turn : 1 + m ≡ m + 1 = omega arith in
-    values_are V sh acts k f g c e at.0 i 1 values v w at.1 fc eg values_read values_rise reads.1 m l (omega (arith, reads.0)) ∙
+    values_are V sh acts k f g c e at.0 i 1 values v w at.1 fc eg values_read values_rise reads.1 m l (omega (arith, reads.0, value_fits V)) ∙
     ap (λ y. item V sh (front V sh acts f).words i y) turn ∙
     ap (λ y. item V sh (front V sh acts f).words y (m + 1)) is ∙
     val.1 m (omega (arith, reads.0, val.0))) in

@@ -33,7 +33,7 @@ lines-preserved g c = (
         known_more g.row.V sh (first_replay g.row.V sh readers) (g.R.Read.remaining c.args.input.now) (g.R.Read.remaining c.lines.input) (g.R.Read.remaining c.play_line.new.input)
             (g.W.Write.contents c.args.output.now) (g.W.Write.contents c.lines.output) (g.W.Write.contents c.play_line.new.output) c.lines.before so_far.0 step.0 so_far.3 played,
       ),
-  search rules,
+  omega (arith, c.in-Ok-true.ensures.few (ap (λ (b : Bool). Ok b) c.in-Ok-true.field-0-test)),
 )
 
 pub returns-in-Ok-false : goal.returns-in-Ok-false

@@ -1,6 +1,6 @@
 use Rattle.mc_core.proofs.writer.Writer.allows.Goals as goal
 use Rattle.std.proofs.Common.{take, rules}
-use Rattle.mc_core.specs.Inside.Writers.{shape_of_writer, words_of_writer}
+use Rattle.mc_core.specs.Inside.Writers.{shape_of_writer, words_of_writer, payload_in}
 use Rattle.mc_core.specs.declared.progress.Progress.TheVariants as progress
 use Rattle.mc_core.proofs.WrittenWords.{holds_at, quiet_well, renewing_well, moving_well}
 
@@ -18,7 +18,7 @@ may_renew-requires g c =
       search rules,
       (
         rw c.in-Renewing.is at w.count_in,
-        renewing_well g.row.V (shape_of_writer w) (words_of_writer w) w.history.items c.in-Renewing.key (take c.in-Renewing.count w.written)
+        renewing_well g.row.V (shape_of_writer w) (words_of_writer w) w.history.items c.in-Renewing.key (take c.in-Renewing.count (payload_in w.written))
             (holds_at g.row.V (shape_of_writer w) (words_of_writer w) w.history.items w.written w.progress p c.in-Renewing.is c.requires.holds),
       ),
     )

@@ -8,10 +8,10 @@ use Rattle.mc_core.proofs.DeedChanges.{change_placed, change_renewing, closing_p
 pub count-requires : goal.count-requires
 count-requires g c =
     let w = c.args.self.now in
-    (search rules, (search rules, (c.requires.moment, (c.requires.used, (change_placed g.row.V w.written w.progress _ _ c.in-Placed.is w.whole, closing_placed w.written w.progress _ _ c.in-Placed.is)))))
+    (search rules, (search rules, (c.requires.moment, (c.requires.used, (change_placed g.row.V w.written w.progress _ _ _ c.in-Placed.is c.value.ensures, closing_placed g.row.V w.written w.progress _ _ c.in-Placed.is)))))
 
 pub count-requires-in-Renewing : goal.count-requires-in-Renewing
 count-requires-in-Renewing g c =
     let w = c.args.self.now in
     let may = may_at g.row.V (shape_of_writer w) (words_of_writer w) w.hand w.cleared w.written w.progress _ act.Moment c.in-Renewing.is c.requires.may in
-    (search rules, (search rules, (c.requires.moment, (c.requires.used, (change_renewing g.row.V w.written w.progress _ _ c.in-Renewing.is w.whole may, closing_renewing w.written w.progress _ _ c.in-Renewing.is)))))
+    (search rules, (search rules, (c.requires.moment, (c.requires.used, (change_renewing g.row.V w.written w.progress _ _ _ c.in-Renewing.is may c.value-in-Renewing.ensures, closing_renewing g.row.V w.written w.progress _ _ c.in-Renewing.is)))))

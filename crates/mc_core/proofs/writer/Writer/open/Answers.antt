@@ -8,5 +8,5 @@ pub returns : goal.returns
 returns g c = λ bit.
     let w = c.args.self.now in
     let e = c.bump.ensures in
-    made w _ (omega arith) (act.Open c.args.key c.args.deed) bit w.progress _ refl refl e.shape e.words (c.opening_of-self.ensures.phase w.written) refl refl refl refl
+    made w _ (omega arith) (act.Open c.args.key c.args.deed) bit w.progress _ refl refl e.shape e.words (c.opening_of-self.ensures.phase g.row.V w.written) refl refl refl refl
     (rw (e.words, e.used, e.free) (used_bumped (shape_of_writer w) (words_of_writer w) c.args.key w.table.used.items w.table.free w.table.checked.sound c.requires.used))

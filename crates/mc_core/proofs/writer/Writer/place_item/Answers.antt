@@ -31,5 +31,5 @@ returns g c = λ bit.
     let e = c.set_slot.ensures in
     let size : 1 + (shape_of_writer w).stripes + slot_number c.args.place < length (words_of_writer w) = omega (arith, w.table.size, may.1.0) in
     made w _ (omega arith) (act.Slot c.args.place c.args.word) bit p (progress.Placed c.args.key c.args.i) c.requires.running refl e.shape e.words
-    (ap (λ (xs : List ℕ). phases.Placed c.args.key c.args.i xs) (whole_written g.row.V c.args.count w.written w.whole may.0)) refl refl refl refl
+    (ap (λ (xs : List ℕ). phases.Placed c.args.key c.args.i xs) (whole_written g.row.V c.args.count w.written may.0)) refl refl refl refl
     (rw (e.words, e.used, e.free) (used_place (shape_of_writer w) (words_of_writer w) w.table.used.items w.table.free (slot_number c.args.place) c.args.word (tag_of (shape_of_writer w) c.args.key) c.args.i w.table.checked.sound w.table.flags size may.1.0 may.1.1 (tag_of-lt (shape_of_writer w) c.args.key ready.in_range) ready.in_items ready.free may.4 c.requires.used))

@@ -1,14 +1,18 @@
 use Rattle.mc_core.proofs.writer.Writer.write_again.Goals as goal
 use Rattle.std.proofs.Common.{refl, ap, ◌+◌, arith}
-use Rattle.mc_words.specs.Places.{payload}
+use Rattle.mc_words.proofs.Payload.{payload_few}
 use Rattle.mc_theory.specs.Phases as phases
 use Rattle.mc_core.specs.Inside.Writers.{shape_of_writer, words_of_writer}
 use Rattle.mc_theory.specs.declared.act.Act.TheVariants as act
 use Rattle.mc_core.specs.declared.progress.Progress.TheVariants as progress
-use Rattle.mc_core.proofs.MadeActs.{made, used_item, written_more}
+use Rattle.mc_core.proofs.MadeActs.{made, used_item}
+
+pub overflow_add-count : goal.overflow_add-count
+overflow_add-count g c =
+    let t = c.args.self.now.table in
+    omega (arith, c.requires.more, payload_few g.row.V (record { some = t.some_words; most = t.most_words }))
 
 pub set_item-requires : goal.set_item-requires
-unfolding payload
 set_item-requires g c = (omega arith, (c.requires.item, omega (arith, c.requires.more)))
 
 pub returns : goal.returns
@@ -17,5 +21,5 @@ returns g c = λ bit.
     let e = c.set_item.ensures in
     let more = c.args.count + 1 in
     made w _ (omega arith) (act.Item c.args.i more c.args.word) bit (progress.Renewing c.args.key c.args.count) (progress.Renewing c.args.key more) c.requires.running refl e.shape e.words
-    (ap (λ xs. phases.Renewing c.args.key xs) (written_more g.row.V w.written c.args.count c.args.word w.whole c.requires.more)) refl refl refl refl
+    (ap (λ xs. phases.Renewing c.args.key xs) c.keep.ensures) refl refl refl refl
     (rw (e.words, e.used, e.free) (used_item g.row.V (shape_of_writer w) (words_of_writer w) c.args.i more c.args.word w.table.used.items w.table.free c.requires.used))

@@ -1,5 +1,6 @@
 use Rattle.std.proofs.Common.{◌≡◌, ◌+◌, refl, ◌∙◌, Some, arith}
 use Rattle.std.proofs.lemmas.Bool.{cond_below, cond_above}
+use Rattle.mc_words.proofs.Payload.{value_fits}
 use Rattle.mc_lookup.specs.Machine.{shape_for, values_from}
 use Rattle.mc_theory.specs.declared.access.Access.TheVariants as access
 use Rattle.mc_lookup.specs.declared.stage.Stage.TheVariants as stage
@@ -19,4 +20,4 @@ returns-clause-takes g c =
     ] in
     takes_at l _ (stage.Value i c.args.count) (values_from g.row.V i more) (access.Value i more) c.args.word c.requires then refl refl
     (λ f rs reply. left_value g.row.V (shape_for l) l.key l.tries l.version l.value l.reply i c.args.count c.args.word f rs reply l.whole below)
-    (omega (arith, below, steps_values g.row.V l.tries i more))
+    (omega (arith, below, value_fits g.row.V, steps_values g.row.V l.tries i more))

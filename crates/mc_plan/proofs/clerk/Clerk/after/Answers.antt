@@ -29,7 +29,7 @@ ended : (g : Over) (c : Then-is_none g) (call : Call) (s : State g.row.V) (acts 
     → HasEndedSweep g.row.V (record c.args.self.now { stage = Sweeping (record c.in-Sweeping.waiting { sweep = c.after.new.self }) }) call s r.readings
 ended g c call s acts on all r = record {
   begun = on.begun;
-  now = (r.sweeping, over_at c.next.result _ _ (c.next.ensures.round (shape_of_clerk c.args.self.now).items s.hand r.readings r.sweeping.has) (c.is_none.ensures ∙ ap not c.if-is_none.true), r.none);
+  now = (r.sweeping, over_at c.next.result _ _ (c.next.ensures.round (shape_of_clerk c.args.self.now).items s.hand r.readings r.sweeping.has) (c.is_none.ensures ∙ ap not c.if-is_none.true), r.none, r.empty);
 }
 
 pub go_on-requires : goal.go_on-requires
@@ -59,7 +59,7 @@ returns-else-is_none-clause-on g c call s acts a on next words =
     let at = goal.at.returns-else-is_none-clause-on g c in
     let r = read g at.After-after call s acts a on next in
     let more = subst (λ (o : Option ℕ). IsSome o) c.next.ensures.value (c.is_none.ensures ∙ ap not c.if-is_none.false) in
-    record { begun = on.begun; now = (r.readings, r.sweeping, more, r.none, r.are) }
+    record { begun = on.begun; now = (r.readings, r.sweeping, more, r.none, r.are, r.empty) }
 
 pub returns-else-is_none-clause-left : goal.returns-else-is_none-clause-left
 unfolding acts_left

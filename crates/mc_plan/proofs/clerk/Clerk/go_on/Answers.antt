@@ -14,15 +14,15 @@ pub returns-in-Sweeping-clause-on : goal.returns-in-Sweeping-clause-on
 returns-in-Sweeping-clause-on g c call s rs ended same =
     let V = g.row.V in
     let old = c.args.self.now in
-    let new = c.go_on-answer.new in
+    let new = c.finish_put-answer.new in
     let now = subst (λ (st : Stage V). IsAtEnd V st old.books old.plan.items old.made call s rs) (sym c.replace-stage.ensures.value ∙ c.in-Sweeping.is) ended.now in
-    let planned = c.go_on-answer.ensures.planned call s rs now.0 now.1 same in
-    let shape = ap shape_of (sym c.go_on-answer.ensures.shape) in
+    let planned = c.finish_put-answer.ensures.planned call s rs now.0 now.1 same in
+    let shape = ap shape_of (sym c.finish_put-answer.ensures.shape) in
     record {
       begun = subst (λ (sh : Shape). IsQuiet V sh s) shape ended.begun;
-      now = planned_after V new.self new.plan.items old.made call s rs (answer.Put c.go_on-answer.result) (shape_of old.books.checked) shape (hands_may V old.books old.plan.items c.in-Sweeping.waiting call s rs now.0) planned.1 planned.0 c.go_on-answer.ensures.fits now.2;
+      now = planned_after V new.books new.plan.items old.made call s rs (answer.Put c.finish_put-answer.result) (shape_of old.books.checked) shape (hands_may V old.books c.in-Sweeping.waiting call s rs now.0) planned.1 planned.0 c.finish_put-answer.ensures.fits now.2;
     }
 
 pub returns-in-Sweeping-clause-left : goal.returns-in-Sweeping-clause-left
 unfolding acts_left
-returns-in-Sweeping-clause-left g c = omega (arith, c.go_on-answer.ensures.fits)
+returns-in-Sweeping-clause-left g c = omega (arith, c.finish_put-answer.ensures.fits)

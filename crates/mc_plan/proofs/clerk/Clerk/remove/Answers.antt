@@ -4,4 +4,4 @@ use Rattle.mc_plan.proofs.clerk.Clerk.remove.Goals as goal
 
 pub returns-clause-left : goal.returns-clause-left
 unfolding acts_left
-returns-clause-left g c = omega (arith, c.remove-answer.ensures.fits)
+returns-clause-left g c = omega (arith, c.start_removal-answer.ensures.fits)

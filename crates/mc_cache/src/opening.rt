@@ -1,0 +1,86 @@
+//! A cache is opened.
+ghost use Rattle.std.specs.Prelude.{ℕ, ◌≡◌, [], IfOk, MatchResult, replicate};
+ghost use Rattle.mc_words.specs.Checks.{shape_of};
+ghost use Rattle.mc_words.specs.Places.{IsWidth};
+ghost use Rattle.mc_shared.specs.Records.{reader_record, writer_record};
+ghost use Rattle.mc_shared.specs.Views.{layout_of};
+ghost use Rattle.mc_cache.specs.Openings.{HasReaders, RefusesOpening};
+ghost use Rattle.mc_shared.specs.Records.{ReaderRecord};
+
+use crate::cache::Cache;
+use crate::reader::Reader;
+use crate::writer::Writer;
+use mc_plan::Books;
+use mc_shared::ReaderSeat;
+use mc_words::{Checked, NoMemory, Shape, ShapeError};
+use std::alloc::{AllocError, Global};
+use thiserror::Error;
+
+/// Why no cache is opened.
+#[derive(Clone, Copy, Debug, PartialEq, Eq, Error)]
+pub enum OpenError {
+    #[error(transparent)]
+    Shape(#[from] ShapeError),
+    #[error("readers must be from 1 to 1024")]
+    Readers,
+    #[error("no memory")]
+    NoMemory,
+}
+
+impl From<NoMemory> for OpenError {
+    fn from(_: NoMemory) -> OpenError {
+        OpenError::NoMemory
+    }
+}
+
+// The readers on these seats.
+fn seat_readers<const V: usize>(
+    alloc: Global,
+    mut seats: Vec<ReaderSeat>,
+) -> Result<Vec<Reader<V>>, AllocError>
+    requires alike { (n : ℕ) × (r : ReaderRecord) × (seats.items ≡ replicate n r) }
+    ensures readers { (n : ℕ) (r : ReaderRecord) → seats.items ≡ replicate n r → IfOk result (λ readers. readers.items ≡ replicate n r) }
+{
+    let mut readers = Vec::new(alloc);
+    while let Some(seat) = seats.pop() {
+        readers.push(Reader { seat })?;
+    }
+    Ok(readers)
+}
+
+// A cache of a shape that was checked.
+fn open_checked<const V: usize>(
+    alloc: Global,
+    checked: &Checked,
+    readers: u32,
+) -> Result<(Cache<V>, Writer<V>, Vec<Reader<V>>), NoMemory>
+    requires width { IsWidth V }
+    requires readers { HasReaders readers }
+    ensures cache { IfOk result (λ r. r.0.layout ≡ layout_of V (shape_of checked.now)) }
+    ensures writer { IfOk result (λ r. r.1 ≡ writer_record r.0 []) }
+    ensures readers { IfOk result (λ r. r.2.items ≡ replicate readers (reader_record r.0 [] [])) }
+{
+    let books = Books::new(alloc, checked)?;
+    let (cells, seat, seats) = mc_shared::open::<V>(alloc, checked, readers)?;
+    let readers = seat_readers::<V>(alloc, seats)?;
+    Ok((Cache { cells }, Writer { seat, books }, readers))
+}
+
+/// A cache with nothing in it, its writer and so many readers. The first fault of what is asked for is told: `Shape`, then
+/// `Readers` where there are none or more than 1024, then `NoMemory`. Nothing is left of a cache that is not opened.
+pub fn open<const V: usize>(
+    alloc: Global,
+    shape: Shape,
+    readers: u32,
+) -> Result<(Cache<V>, Writer<V>, Vec<Reader<V>>), OpenError>
+    requires width { IsWidth V }
+    ensures cache { MatchResult result (λ r. r.0.layout ≡ layout_of V shape) (λ e. RefusesOpening shape readers e) }
+    ensures writer { IfOk result (λ r. r.1 ≡ writer_record r.0 []) }
+    ensures readers { IfOk result (λ r. r.2.items ≡ replicate readers (reader_record r.0 [] [])) }
+{
+    let checked = shape.check()?;
+    if readers == 0 || readers > 1024 {
+        return Err(OpenError::Readers);
+    }
+    Ok(open_checked::<V>(alloc, &checked, readers)?)
+}

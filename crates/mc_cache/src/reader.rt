@@ -1,0 +1,100 @@
+//! The readers.
+ghost use Rattle.std.specs.Prelude.{ℕ, ◌≡◌, [], ◌∷◌, length, Some, IfSome, IfNone};
+ghost use Rattle.mc_theory.specs.Lists.{state_of};
+ghost use Rattle.mc_theory.specs.Plain.{IsBetween};
+ghost use Rattle.mc_words.specs.History.{IsTrueAnswer, map_value};
+ghost use Rattle.mc_words.specs.Standing.{Stands};
+ghost use Rattle.mc_writer.specs.WriterCalls.{IsRested};
+ghost use Rattle.mc_shared.specs.Records.{reader_record};
+ghost use Rattle.mc_shared.specs.Views.{IsFrontOf};
+ghost use Rattle.mc_reader.specs.Records.{HasLooked};
+ghost use Rattle.mc_cache.specs.Beside.{HasLookedBeside};
+
+use crate::cache::Cache;
+use crate::writer::Writer;
+use mc_plan::Books;
+use mc_reader::get;
+use mc_search::read;
+use mc_shared::{Cells, ReaderSeat, WriterSeat, catch, mark_unless_set};
+use mc_words::Reply;
+use mc_writer::Lens;
+use std::marker::Model;
+
+/// A reader. Contracts see it as its record: the last front of the writer's acts that it has seen, and what it read and marked.
+#[derive(Drop)]
+pub struct Reader<const V: usize> {
+    pub(crate) seat: ReaderSeat,
+}
+
+impl<const V: usize> Model for Reader<V> {
+    ghost use Rattle.mc_shared.specs.Records.{ReaderRecord};
+
+    ghost Value = { ReaderRecord };
+
+    ghost view = { λ r. r.seat };
+}
+
+// What the words hold of a key, while the writer rests: its item and its value.
+fn look_beside<const V: usize>(
+    cells: &Cells<V>,
+    seat: &mut WriterSeat,
+    books: &Books,
+    key: u64,
+) -> Option<(u32, [u64; V])>
+    requires of { seat.old.of ≡ cells.now }
+    requires rested { IsRested V books.now seat.old }
+    ensures found { IfSome result (λ r. map_value (state_of V cells.now.layout.shape seat.old.acts).history key ≡ Some r.1) }
+    ensures item { IfSome result (λ r. (q : ℕ) × Stands V cells.now.layout.shape (state_of V cells.now.layout.shape seat.old.acts).words key q r.0) }
+    ensures none { IfNone result (map_value (state_of V cells.now.layout.shape seat.old.acts).history key ≡ None) }
+    ensures seat { seat.new ≡ seat.old }
+{
+    let checked = cells.checked();
+    let mut lens = Lens { cells, seat };
+    read::<V, Lens<V>>(checked, &mut lens, key)
+}
+
+impl<const V: usize> Reader<V> {
+    /// What the cache holds of the key. `Busy` where each of the shape's tries was spoiled by a change of a key of the same
+    /// stripe. A hit marks the key's item as recently used.
+    pub fn get(&mut self, cache: &Cache<V>, key: u64) -> Reply<V>
+        requires of { self.old.of ≡ cache.now }
+        ensures looked { HasLooked V cache.now.layout.shape key self.old self.new result }
+        ensures truth { IsTrueAnswer (state_of V cache.now.layout.shape self.new.front).history key result }
+        ensures between { IsBetween (length (state_of V cache.now.layout.shape self.old.front).history) (length (state_of V cache.now.layout.shape self.new.front).history) result }
+    {
+        get(&cache.cells, &mut self.seat, key)
+    }
+
+    /// The writer's moment. No later answer of this reader has a lower one.
+    pub fn catch_up(&mut self, cache: &Cache<V>, writer: &mut Writer<V>) -> u64
+        requires of { (self.old.of ≡ cache.now) × (writer.old.of ≡ cache.now) }
+        ensures writer { writer.new ≡ writer.old }
+        ensures reader { self.new ≡ reader_record self.old.of writer.old.acts self.old.done }
+        ensures begins { IsFrontOf self.old.front writer.old.acts }
+        ensures moment { result ≡ length (state_of V cache.now.layout.shape writer.old.acts).history }
+    {
+        catch(&cache.cells, &mut self.seat, &mut writer.seat);
+        writer.seat.moment()
+    }
+
+    /// What the cache holds of the key at the writer's moment, never `Busy`. A hit marks the key's item.
+    pub fn get_beside(&mut self, cache: &Cache<V>, writer: &mut Writer<V>, key: u64) -> Reply<V>
+        requires of { (self.old.of ≡ cache.now) × (writer.old.of ≡ cache.now) }
+        ensures writer { writer.new ≡ writer.old }
+        ensures looked { HasLookedBeside V cache.now.layout.shape key writer.old.acts self.old self.new result }
+    {
+        catch(&cache.cells, &mut self.seat, &mut writer.seat);
+        let found = look_beside(&cache.cells, &mut writer.seat, &writer.books, key);
+        let at = writer.seat.moment();
+        let reply = match found {
+            Some(hit) => {
+                let value = hit.1;
+                mark_unless_set(&cache.cells, &mut self.seat, hit.0);
+                Reply::Found { value, at }
+            }
+            None => Reply::Absent { at },
+        };
+        catch(&cache.cells, &mut self.seat, &mut writer.seat);
+        reply
+    }
+}

@@ -1,0 +1,46 @@
+-- Moves as a list, and their acts.
+use Rattle.std.proofs.Common.{ℕ, ◌≡◌, ◌+◌, ◌<◌, ◌≤◌, ◌∙◌, List, [], ◌∷◌, ◌++◌, ap, drop, get_or, refl, sym, length, append_assoc, append-nil, add-one, drop-cons}
+use Rattle.std.proofs.Math.ListN.{drop_of_length-le}
+use Rattle.mc_words.specs.declared.place.Place.{Place}
+use Rattle.mc_words.specs.declared.shape.Shape.{Shape}
+use Rattle.mc_theory.specs.declared.act.Act.{Act}
+use Rattle.mc_theory.specs.declared.act.Act.TheVariants.{Mark}
+use Rattle.mc_search.specs.Paths.{first_place}
+use Rattle.mc_plan.specs.declared.decision.Move.{Move}
+use Rattle.mc_plan.specs.declared.decision.Replacement.{Replacement}
+use Rattle.mc_plan.specs.declared.decision.Storing.{Storing}
+use Rattle.mc_plan.specs.Decisions.{acts_of_moves, replacement_acts, storing_acts}
+use Rattle.mc_plan.specs.Plans.{evict_acts, fill_acts, move_acts, moves_acts}
+use Rattle.mc_plan.specs.Puts.{put_acts}
+use Rattle.mc_plan.specs.Replacing.{replace_acts}
+
+-- one move more
+pub moves_push : (ms : List Move) (m : Move) → acts_of_moves (ms ++ m ∷ []) ≡ acts_of_moves ms ++ move_acts m.key m.word m.from m.to
+moves_push [] m = refl
+moves_push (x ∷ ms) m = ap (λ (acts : List Act). move_acts x.key x.word x.from x.to ++ acts) (moves_push ms m)
+
+-- the acts of one move more are in the list, and those of one are left less
+pub move_step : (acts : List Act) (j : ℕ) (ms : List Move) (d : Move) (m : Move) → j < length ms → m ≡ get_or ms j d
+    → (acts ++ move_acts m.key m.word m.from m.to) ++ acts_of_moves (drop (j + 1) ms) ≡ acts ++ acts_of_moves (drop j ms)
+move_step acts j ms d m l is =
+    let parts : drop j ms ≡ get_or ms j d ∷ drop (j + 1) ms = rw add-one (drop-cons ms j d l) in
+    append_assoc acts (move_acts m.key m.word m.from m.to) (acts_of_moves (drop (j + 1) ms))
+    ∙ ap (λ (xs : List Move). acts ++ acts_of_moves xs) (ap (λ (x : Move). x ∷ drop (j + 1) ms) is ∙ sym parts)
+
+-- no move is left
+pub moves_done : (acts all : List Act) (n : ℕ) (ms : List Move) → length ms ≤ n → acts ++ acts_of_moves (drop n ms) ≡ all → acts ≡ all
+moves_done acts all n ms l left = sym (append-nil acts) ∙ ap (λ (rest : List Move). acts ++ acts_of_moves rest) (sym (drop_of_length-le ms l)) ∙ left
+
+-- the acts that put a new key
+pub stored_acts : (V : ℕ) (sh : Shape) (w : List ℕ) (k : ℕ) (v : List ℕ) (ps : List Place) (hole : Place) (storing : Storing) → acts_of_moves storing.moves.items ≡ moves_acts V sh w ps hole → storing.place ≡ first_place ps hole
+    → put_acts V sh w k v storing.item ps hole ++ Mark storing.item ∷ [] ≡ storing_acts sh k v storing
+stored_acts V sh w k v ps hole storing moves place =
+    append_assoc (moves_acts V sh w ps hole) (fill_acts sh k v storing.item (first_place ps hole)) (Mark storing.item ∷ [])
+    ∙ ap (λ (p : Place). moves_acts V sh w ps hole ++ (fill_acts sh k v storing.item p ++ Mark storing.item ∷ [])) (sym place)
+    ∙ ap (λ (acts : List Act). acts ++ (fill_acts sh k v storing.item storing.place ++ Mark storing.item ∷ [])) (sym moves)
+
+-- and those that take another key's item for it
+pub replaced_acts : (V : ℕ) (sh : Shape) (w : List ℕ) (k : ℕ) (v : List ℕ) (ps : List Place) (hole : Place) (r : Replacement) → acts_of_moves r.storing.moves.items ≡ moves_acts V sh w ps hole → r.storing.place ≡ first_place ps hole
+    → replace_acts V sh w k v r.storing.item r.evicted r.victim ps hole ++ Mark r.storing.item ∷ [] ≡ replacement_acts sh k v r
+replaced_acts V sh w k v ps hole r moves place =
+    ap (λ (acts : List Act). evict_acts r.evicted r.victim ++ acts) (stored_acts V sh w k v ps hole r.storing moves place)

@@ -1,0 +1,100 @@
+use Rattle.std.proofs.Common.{ℕ, List, refl, ◌∷◌, ◌++◌, [], None, Ok, Err, ◌≡◌, ◌+◌, ◌*◌, ◌<◌, ◌∙◌, ap, arith, length, sym, subst}
+use Rattle.mc_words.specs.Checks.{shape_of}
+use Rattle.mc_words.specs.declared.shape.Shape.{Shape}
+use Rattle.mc_theory.specs.declared.act.Act.{Act}
+use Rattle.mc_theory.specs.declared.act.Act.TheVariants as act
+use Rattle.mc_plan.specs.Clerks.{PutCall, IsPlanned, Waits}
+use Rattle.mc_plan.specs.Decisions.{storing_acts, storing_told}
+use Rattle.mc_plan.specs.declared.answer.Answer.TheVariants as answer
+use Rattle.mc_plan.specs.declared.answer.Put.{Put}
+use Rattle.mc_plan.specs.declared.answer.Put.TheVariants as put
+use Rattle.mc_plan.specs.declared.answer.PutError.TheVariants as why
+use Rattle.mc_plan.specs.declared.books.Books.{Books}
+use Rattle.mc_plan.specs.Moves.{AreTaken, AreKeys}
+use Rattle.mc_plan.specs.Plans.{moves_acts}
+use Rattle.mc_plan.specs.Puts.{put_acts}
+use Rattle.mc_search.specs.Readable.{IsFilled}
+use Rattle.mc_search.proofs.TakenItems.{free_below}
+use Rattle.mc_plan.proofs.Puts.MoveLists.{stored_acts}
+use Rattle.mc_plan.proofs.Puts.PathSteps.{chain_taken}
+use Rattle.mc_plan.proofs.Calls.AfterPlan.{idle_planned, books_still, path_refused, stored_planned, filled_in, none_in, least_in}
+use Rattle.mc_plan.proofs.books.Books.insert.Goals as goal
+
+pub returns-in_default-clause-inserted : goal.returns-in_default-clause-inserted
+returns-in_default-clause-inserted g c s lacks same =
+    let V = g.row.V in
+    let b = c.args.self.now in
+    let call = PutCall c.args.key c.args.value.now in
+    let none = none_in V b s (g.P.Peek.words c.args.peek.now) lacks.known same c.args.key c.in_default.ensures.none in
+    let refused = path_refused V (shape_of b.checked) s c.args.key lacks.known.quiet lacks.unspent lacks.absent none in
+    let told = answer.Put (Err why.NoPath) in
+    let planned : IsPlanned V b [] call s s told = idle_planned V b call s told lacks.known refused tt in
+    (subst (λ (f : Shape). IsPlanned V (record b { finder = f }) [] call s s told) (sym c.path.ensures.finder) planned, refl)
+
+pub returns-in_default-take_least-clause-inserted : goal.returns-in_default-take_least-clause-inserted
+returns-in_default-take_least-clause-inserted g c s lacks same =
+    let V = g.row.V in
+    let b = c.args.self.now in
+    let k = c.args.key in
+    let old = lacks.known in
+    let free = c.take_least.new.self in
+    let none = c.in_default-take_least.ensures.none in
+    let still = books_still V b s free old c.take_least.ensures.kept c.take_least.ensures.items none c.in_default-take_least.ensures.same in
+    let waits : Waits V (record b { free = free }) k s c.in-Some.path = record {
+      known = still;
+      unspent = lacks.unspent;
+      absent = lacks.absent;
+      least = least_in V b s (g.P.Peek.words c.args.peek.now) old same k c.in-Some.path c.in-Some.ensures.found;
+      none = c.in_default-take_least.ensures.same;
+    } in
+    subst (λ (f : Shape). Waits V (record b { finder = f; free = free }) k s c.in-Some.path) (sym c.path.ensures.finder) waits
+
+pub storing-requires-clause-filled : goal.storing-requires-clause-filled
+storing-requires-clause-filled g c =
+    let r = c.requires.books in
+    subst (λ (x : List ℕ). IsFilled (shape_of c.args.self.now.checked) x) (sym c.path.ensures.words) (filled_in g.row.V c.args.self.now r.0 _ r.1.known r.2)
+
+pub storing-requires-clause-taken : goal.storing-requires-clause-taken
+storing-requires-clause-taken g c =
+    let b = c.args.self.now in
+    let r = c.requires.books in
+    let path = c.in-Some.path in
+    let least = least_in g.row.V b r.0 (g.P.Peek.words c.args.peek.now) r.1.known r.2 c.args.key path c.in-Some.ensures.found in
+    subst (λ (x : List ℕ). AreTaken (shape_of b.checked) x path.places.items) (sym (c.path.ensures.words ∙ r.2)) (chain_taken (shape_of b.checked) r.0.words c.args.key path.places.items path.hole least.chain)
+
+pub returns-clause-inserted : goal.returns-clause-inserted
+returns-clause-inserted g c s lacks same =
+    let V = g.row.V in
+    let b = c.args.self.now in
+    let sh = shape_of b.checked in
+    let k = c.args.key in
+    let v = c.args.value.now in
+    let old = lacks.known in
+    let i = c.in-Some-take_least.item in
+    let path = c.in-Some.path in
+    let ps = path.places.items in
+    let free = c.take_least.new.self in
+    let steps = 2 * length ps + 2 in
+    let now = c.path.ensures.words ∙ same in
+    let storing = c.storing.result in
+    let told = answer.Put (Ok (storing_told storing None)) in
+    let least = least_in V b s (g.P.Peek.words c.args.peek.now) old same k path c.in-Some.ensures.found in
+    let keys = subst (λ (x : List ℕ). AreKeys V sh x ps) now c.storing.ensures.keys in
+    let was = c.in-Some-take_least.ensures.free in
+    let item = free_below b.free i old.kept was in
+    let below : i < sh.items = omega (arith, item, old.items) in
+    let planned : IsPlanned V (record b { free = free; version_steps = b.version_steps + steps }) (put_acts V sh s.words k v i ps path.hole ++ act.Mark i ∷ []) (PutCall k v) s s (answer.Put (Ok (put.Stored c.args.at (length ps) None))) =
+    stored_planned V b k v i c.args.at path free s b.checked.sound (omega arith) (c.told-value, c.have_words.ensures.words) old lacks.absent least keys below lacks.unspent lacks.next was c.take_least.ensures.kept c.take_least.ensures.items c.in-Some-take_least.ensures.takes in
+    let at_item : (put_acts V sh s.words k v i ps path.hole ++ act.Mark i ∷ []) ≡ (put_acts V sh s.words k v storing.item ps path.hole ++ act.Mark storing.item ∷ []) =
+    ap (λ (j : ℕ). put_acts V sh s.words k v j ps path.hole ++ act.Mark j ∷ []) (sym c.storing.ensures.item) in
+    let moved = c.storing.ensures.moves ∙ ap (λ (x : List ℕ). moves_acts V sh x ps path.hole) now in
+    let acts = at_item ∙ stored_acts V sh s.words k v ps path.hole storing moved c.storing.ensures.place in
+    let tells : put.Stored c.args.at (length ps) None ≡ storing_told storing None =
+    ap (λ (n : ℕ). put.Stored n (length ps) None) (sym c.storing.ensures.at) ∙ ap (λ (n : ℕ). put.Stored storing.at n None) (sym c.storing.ensures.many) in
+    let all : IsPlanned V (record b { free = free; version_steps = b.version_steps + steps }) (storing_acts sh k v storing) (PutCall k v) s s told =
+    subst (λ (x : Put). IsPlanned V (record b { free = free; version_steps = b.version_steps + steps }) (storing_acts sh k v storing) (PutCall k v) s s (answer.Put (Ok x))) tells
+    (subst (λ (x : List Act). IsPlanned V (record b { free = free; version_steps = b.version_steps + steps }) x (PutCall k v) s s (answer.Put (Ok (put.Stored c.args.at (length ps) None)))) acts planned) in (
+      subst (λ (x : Books). storing.item < (shape_of x.checked).items) (sym c.storing.ensures.books) (subst (λ (j : ℕ). j < sh.items) (sym c.storing.ensures.item) below),
+      subst (λ (x : Books). IsPlanned V x (storing_acts (shape_of x.checked) k v storing) (PutCall k v) s s told) (sym c.storing.ensures.books)
+          (subst (λ (f : Shape). IsPlanned V (record b { finder = f; free = free; version_steps = b.version_steps + steps }) (storing_acts sh k v storing) (PutCall k v) s s told) (sym c.path.ensures.finder) all),
+    )

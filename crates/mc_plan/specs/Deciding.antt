@@ -1,0 +1,59 @@
+-- What the books' decisions say of the state in which they were made.
+use Rattle.std.specs.Prelude.{ℕ, ◌≡◌, ◌+◌, ◌<◌, List, [], Some, None, Result, Ok, Err}
+use Rattle.mc_words.specs.Answers.{PutIsSpent}
+use Rattle.mc_words.specs.Checks.{shape_of}
+use Rattle.mc_words.specs.Places.{moment}
+use Rattle.mc_words.specs.Standing.{IsAbsent}
+use Rattle.mc_theory.specs.States.{State}
+use Rattle.mc_plan.specs.Clerks.{AreBooksOf, Call, IsPlanned, IsSweepOf, PutCall, RemoveCall, Waits, quiet_of, state_after_sweep}
+use Rattle.mc_plan.specs.Decisions.{removal_acts, removal_told, renewal_acts, replacement_acts, storing_acts, storing_told}
+use Rattle.mc_plan.specs.declared.answer.Answer.TheVariants as answer
+use Rattle.mc_plan.specs.declared.answer.Put.TheVariants as put
+use Rattle.mc_plan.specs.declared.answer.PutError.{PutError}
+use Rattle.mc_plan.specs.declared.books.Books.{Books}
+use Rattle.mc_plan.specs.declared.decision.Decision.{Decision}
+use Rattle.mc_plan.specs.declared.decision.Decision.TheVariants as decision
+use Rattle.mc_plan.specs.declared.decision.Insertion.{Insertion}
+use Rattle.mc_plan.specs.declared.decision.Insertion.TheVariants as insertion
+use Rattle.mc_plan.specs.declared.decision.Removal.{Removal}
+use Rattle.mc_plan.specs.declared.decision.Replacement.{Replacement}
+use Rattle.mc_plan.specs.declared.waiting.Waiting.{Waiting}
+use Rattle.mc_search.specs.Sweeps.{Swept}
+
+-- the key is not there, the limit is far enough for its put, and the put is to have this moment
+pub record IsLackingKey (V : ℕ) (books : Books) (k : ℕ) (s : State V) (at : ℕ) : Type 0 where
+  pub known : AreBooksOf V books s
+  pub unspent : PutIsSpent (shape_of books.checked) (quiet_of s) → ⊥
+  pub absent : IsAbsent V (shape_of books.checked) s.words k
+  pub next : at ≡ moment s.words + 1
+
+-- a put in state s is decided: the acts of its plan and its answer, or what is known where the key is not there
+abbrev pub IsDecided : (V : ℕ) → Books → ℕ → List ℕ → State V → Decision → Type 0
+IsDecided V books k v s (decision.Refuse why) =
+    IsPlanned V books [] (PutCall k v) s s (answer.Put (Err why)) × IsSweepOf V (shape_of books.checked) s [] (answer.Put (Err why))
+IsDecided V books k v s (decision.Renew item at) = IsPlanned V books (renewal_acts k v item) (PutCall k v) s s (answer.Put (Ok (put.Renewed at)))
+IsDecided V books k v s (decision.Insert at) = IsLackingKey V books k s at
+
+-- the put of a new key in state s is decided: the acts of its plan and its answer, or the path with which it waits
+abbrev pub IsInserted : (V : ℕ) → Books → ℕ → List ℕ → State V → Insertion → Type 0
+IsInserted V books k v s (insertion.Refuse why) =
+    IsPlanned V books [] (PutCall k v) s s (answer.Put (Err why)) × IsSweepOf V (shape_of books.checked) s [] (answer.Put (Err why))
+IsInserted V books k v s (insertion.Store storing) =
+    (storing.item < (shape_of books.checked).items) × IsPlanned V books (storing_acts (shape_of books.checked) k v storing) (PutCall k v) s s (answer.Put (Ok (storing_told storing None)))
+IsInserted V books k v s (insertion.Wait path) = Waits V books k s path
+
+-- the sweep of a put has these readings, and the item that it found is taken from its key
+pub record IsReplaced (V : ℕ) (books : Books) (waiting : Waiting V) (call : Call) (s : State V) (rs : List Swept) (r : Replacement) : Type 0 where
+  pub in_items : r.storing.item < (shape_of books.checked).items
+  pub planned : IsPlanned V books (replacement_acts (shape_of books.checked) waiting.key waiting.value r) call s (state_after_sweep V (shape_of books.checked) s rs) (answer.Put (Ok (storing_told r.storing (Some r.evicted))))
+  pub sweeps : IsSweepOf V (shape_of books.checked) s rs (answer.Put (Ok (storing_told r.storing (Some r.evicted))))
+
+-- the put is decided once its sweep is over
+abbrev pub IsFinished : (V : ℕ) → Books → Waiting V → Call → State V → List Swept → Result Replacement PutError → Type 0
+IsFinished V books waiting call s rs (Ok r) = IsReplaced V books waiting call s rs r
+IsFinished V books waiting call s rs (Err why) =
+    IsPlanned V books [] call s (state_after_sweep V (shape_of books.checked) s rs) (answer.Put (Err why)) × IsSweepOf V (shape_of books.checked) s rs (answer.Put (Err why))
+
+-- a removal in state s is decided
+abbrev pub IsRemovalDecided : (V : ℕ) → Books → ℕ → State V → Removal → Type 0
+IsRemovalDecided V books k s r = IsPlanned V books (removal_acts k r) (RemoveCall k) s s (answer.Remove (removal_told r))

@@ -1,0 +1,96 @@
+//! What a call does, decided as a value before any act is made.
+ghost use Rattle.std.specs.Prelude.{◌≡◌};
+
+use crate::answer::{Put, PutError, Remove, Spent};
+use arrayvec::ArrayVec;
+use mc_search::Path;
+use mc_words::Place;
+
+/// A key's way from one slot to an empty one. `word` is what its slot holds.
+#[derive(Clone, Copy, Debug, Default, PartialEq, Eq)]
+pub struct Move {
+    pub key: u64,
+    pub word: u64,
+    pub from: Place,
+    pub to: Place,
+}
+
+/// What a put does, as far as one look for the key tells. It is small, so that a renewal pays for no path.
+#[derive(Clone, Copy, Debug, PartialEq, Eq)]
+pub enum Decision {
+    /// It changes nothing.
+    Refuse(PutError),
+    /// The key stands at the item, which gets the new value.
+    Renew { item: u32, at: u64 },
+    /// The key is not there: `Books::insert` decides the rest.
+    Insert { at: u64 },
+}
+
+/// What the put of a key does that is not there.
+#[derive(Drop)]
+pub enum Insertion {
+    /// It changes nothing.
+    Refuse(PutError),
+    /// It makes room, and fills it.
+    Store(Storing),
+    /// A path leads to a hole, and every item is in use: the hand looks for one.
+    Wait(Path),
+}
+
+/// The moves that make room for a key, in the order in which they are made, and the item and the place where it goes.
+#[derive(Drop)]
+pub struct Storing {
+    pub item: u32,
+    pub place: Place,
+    pub moves: ArrayVec<Move, 8>,
+    pub at: u64,
+}
+
+/// A put that takes the item of another key: that key is taken out of its slot before anything else.
+#[derive(Drop)]
+pub struct Replacement {
+    pub evicted: u64,
+    pub victim: Place,
+    pub storing: Storing,
+}
+
+/// What a removal does.
+#[derive(Clone, Copy, Debug, PartialEq, Eq)]
+pub enum Removal {
+    /// It changes nothing.
+    Refuse(Spent),
+    /// The key stands in the slot, which is cleared.
+    TakeOut { place: Place, at: u64 },
+    /// There is nothing to do.
+    Leave { at: u64 },
+}
+
+impl Storing {
+    ghost use Rattle.mc_plan.specs.Decisions.{storing_told};
+
+    /// The answer of the put, with the key that was taken out for it.
+    pub fn told(&self, evicted: Option<u64>) -> Put
+        ensures { result ≡ storing_told self.now evicted }
+    {
+        Put::Stored {
+            at: self.at,
+            moves: self.moves.len() as u8,
+            evicted,
+        }
+    }
+}
+
+impl Removal {
+    ghost use Rattle.mc_plan.specs.Decisions.{removal_told};
+
+    /// The answer of the removal.
+    pub fn told(&self) -> Result<Remove, Spent>
+        ensures { result ≡ removal_told self.now }
+    {
+        match *self {
+            Removal::Refuse(spent) => Err(spent),
+            Removal::TakeOut { at, .. } => Ok(Remove::Removed { at }),
+            Removal::Leave { at } => Ok(Remove::NotThere { at }),
+        }
+    }
+}

@@ -1,0 +1,178 @@
+//! What was decided, as the list of its acts.
+ghost use Rattle.std.specs.Prelude.{◌≡◌, ◌+◌, ◌<◌, ◌≤◌, ◌++◌, [], List, length};
+ghost use Rattle.arrayvec.specs.ArrayVec.{array_vec_len};
+ghost use Rattle.mc_words.specs.Checks.{shape_of};
+ghost use Rattle.mc_words.specs.Places.{IsWidth};
+ghost use Rattle.mc_theory.specs.States.{State};
+ghost use Rattle.mc_plan.specs.Clerks.{AreBooksOf, Call, IsPlanned, IsSweepOf, IsSweeping, RemoveCall, state_after_sweep};
+ghost use Rattle.mc_plan.specs.Deciding.{IsLackingKey};
+ghost use Rattle.mc_plan.specs.Decisions.{removal_acts, renewal_acts, replacement_acts, storing_acts};
+ghost use Rattle.mc_plan.specs.Inside.Clerks.{IsStarted};
+ghost use Rattle.mc_plan.specs.declared.answer.Answer.TheVariants as answer;
+ghost use Rattle.mc_search.specs.Sweeps.{IsOver, Swept};
+
+use crate::Plan;
+use crate::answer::{Put, PutError, Remove, Spent};
+use crate::books::Books;
+use crate::decision::{Decision, Insertion, Removal, Replacement, Storing};
+use crate::fill::add_fill;
+use crate::moves::push_moves;
+use crate::renew::add_renew;
+use crate::take_out::{add_evict, add_remove};
+use crate::waiting::{Start, Waiting};
+use mc_theory::{Act, Peek};
+use mc_words::Checked;
+
+/// Adds the acts of a renewal, and the mark of its item.
+fn add_renewal<const V: usize>(acts: &mut Plan, key: u64, value: &[u64; V], item: u32)
+    requires width { IsWidth V }
+    requires room { array_vec_len acts.old ≤ 4 }
+    ensures items { acts.new.items ≡ acts.old.items ++ renewal_acts key value.now item }
+    ensures fits { array_vec_len acts.new ≤ 64 }
+{
+    add_renew(acts, key, value, item);
+    acts.push(Act::Mark(item));
+}
+
+/// Adds the acts of the moves and of the fill, and the mark of its item.
+fn add_storing<const V: usize>(
+    checked: &Checked,
+    acts: &mut Plan,
+    key: u64,
+    value: &[u64; V],
+    storing: &Storing,
+)
+    requires width { IsWidth V }
+    requires room { array_vec_len acts.old ≤ 4 }
+    requires item { storing.now.item < (shape_of checked.now).items }
+    ensures items { acts.new.items ≡ acts.old.items ++ storing_acts (shape_of checked.now) key value.now storing.now }
+    ensures fits { array_vec_len acts.new ≤ 64 }
+{
+    push_moves(acts, storing.moves.as_slice());
+    add_fill(checked, acts, key, value, storing.item, storing.place);
+    acts.push(Act::Mark(storing.item));
+}
+
+/// Adds the acts of the eviction, and then those of the put.
+fn add_replacement<const V: usize>(
+    checked: &Checked,
+    acts: &mut Plan,
+    key: u64,
+    value: &[u64; V],
+    replacement: &Replacement,
+)
+    requires width { IsWidth V }
+    requires none { acts.old.items ≡ [] }
+    requires item { replacement.now.storing.item < (shape_of checked.now).items }
+    ensures items { acts.new.items ≡ replacement_acts (shape_of checked.now) key value.now replacement.now }
+    ensures fits { array_vec_len acts.new ≤ 64 }
+{
+    add_evict(acts, replacement.evicted, replacement.victim);
+    add_storing(checked, acts, key, value, &replacement.storing);
+}
+
+/// Adds the acts of a removal that finds its key.
+fn add_removal(acts: &mut Plan, key: u64, removal: &Removal)
+    requires none { acts.old.items ≡ [] }
+    ensures items { acts.new.items ≡ removal_acts key removal.now }
+    ensures fits { array_vec_len acts.new ≤ 64 }
+{
+    if let Removal::TakeOut { place, .. } = *removal {
+        add_remove(acts, key, place);
+    }
+}
+
+/// Lists the acts of the put of a key that is not there.
+fn start_insert<const V: usize, P: Peek>(
+    books: &mut Books,
+    peek: &mut P,
+    plan: &mut Plan,
+    key: u64,
+    value: &[u64; V],
+    at: u64,
+) -> Start
+    requires books { (s : State V) × IsLackingKey V books.old key s at × (P.words peek.old ≡ s.words) }
+    requires plan { plan.old.items ≡ [] }
+    ensures started { (s : State V) → IsLackingKey V books.old key s at → P.words peek.old ≡ s.words → IsStarted V books.new plan.new.items key value.now s result }
+    ensures fits { array_vec_len plan.new ≤ 64 }
+    ensures shape { books.new.checked ≡ books.old.checked }
+    ensures same { P.words peek.new ≡ P.words peek.old }
+    ensures kept { peek.new ≡ peek.old }
+{
+    match books.insert::<V, P>(peek, key, value, at) {
+        Insertion::Refuse(why) => Start::Planned(Err(why)),
+        Insertion::Store(storing) => {
+            add_storing(&books.checked, plan, key, value, &storing);
+            Start::Planned(Ok(storing.told(None)))
+        }
+        Insertion::Wait(path) => Start::Waits(path),
+    }
+}
+
+/// Lists the acts of a put, or finds the path of one that waits for an item.
+pub(crate) fn start_put<const V: usize, P: Peek>(
+    books: &mut Books,
+    peek: &mut P,
+    plan: &mut Plan,
+    key: u64,
+    value: &[u64; V],
+) -> Start
+    requires books { (s : State V) × AreBooksOf V books.old s × (P.words peek.old ≡ s.words) }
+    requires plan { plan.old.items ≡ [] }
+    ensures started { (s : State V) → AreBooksOf V books.old s → P.words peek.old ≡ s.words → IsStarted V books.new plan.new.items key value.now s result }
+    ensures fits { array_vec_len plan.new ≤ 64 }
+    ensures shape { books.new.checked ≡ books.old.checked }
+    ensures same { P.words peek.new ≡ P.words peek.old }
+    ensures kept { peek.new ≡ peek.old }
+{
+    match books.decide::<V, P>(peek, key, value) {
+        Decision::Refuse(why) => Start::Planned(Err(why)),
+        Decision::Renew { item, at } => {
+            add_renewal(plan, key, value, item);
+            Start::Planned(Ok(Put::Renewed { at }))
+        }
+        Decision::Insert { at } => start_insert::<V, P>(books, peek, plan, key, value, at),
+    }
+}
+
+/// Lists the acts of the rest of a put whose sweep is over.
+pub(crate) fn finish_put<const V: usize, P: Peek>(
+    books: &mut Books,
+    peek: &mut P,
+    plan: &mut Plan,
+    waiting: Waiting<V>,
+) -> Result<Put, PutError>
+    requires over { (call : Call) × (s : State V) × (rs : List Swept) × IsSweeping V books.old waiting call s rs × IsOver (shape_of books.old.checked).items rs × (P.words peek.old ≡ s.words) }
+    requires plan { plan.old.items ≡ [] }
+    ensures planned { (call : Call) (s : State V) (rs : List Swept) → IsSweeping V books.old waiting.entry call s rs → IsOver (shape_of books.old.checked).items rs → P.words peek.old ≡ s.words → IsPlanned V books.new plan.new.items call s (state_after_sweep V (shape_of books.old.checked) s rs) (answer.Put result) × IsSweepOf V (shape_of books.old.checked) s rs (answer.Put result) }
+    ensures fits { array_vec_len plan.new ≤ 64 }
+    ensures shape { books.new.checked ≡ books.old.checked }
+    ensures same { P.words peek.new ≡ P.words peek.old }
+    ensures kept { peek.new ≡ peek.old }
+{
+    let key = waiting.key;
+    let value = waiting.value;
+    let replacement = books.finish::<V, P>(peek, waiting)?;
+    add_replacement(&books.checked, plan, key, &value, &replacement);
+    Ok(replacement.storing.told(Some(replacement.evicted)))
+}
+
+/// Lists the acts of a removal.
+pub(crate) fn start_removal<const V: usize, P: Peek>(
+    books: &mut Books,
+    peek: &mut P,
+    plan: &mut Plan,
+    key: u64,
+) -> Result<Remove, Spent>
+    requires books { (s : State V) × AreBooksOf V books.old s × (P.words peek.old ≡ s.words) }
+    requires plan { plan.old.items ≡ [] }
+    ensures planned { (s : State V) → AreBooksOf V books.old s → P.words peek.old ≡ s.words → IsPlanned V books.new plan.new.items (RemoveCall key) s s (answer.Remove result) }
+    ensures fits { array_vec_len plan.new ≤ 64 }
+    ensures shape { books.new.checked ≡ books.old.checked }
+    ensures same { P.words peek.new ≡ P.words peek.old }
+    ensures kept { peek.new ≡ peek.old }
+{
+    let removal = books.decide_removal::<V, P>(peek, key);
+    add_removal(plan, key, &removal);
+    removal.told()
+}

@@ -1,0 +1,10 @@
+//! One lookup of a running reader, in straight-line code over the stages of the lookup machine.
+//!
+//! The contract says that just a lookup's readings were added to the reader's record, and that its reply is true: it is
+//! what the map held at the front at which this lookup read the moment.
+#![tactic(auto)]
+
+mod places;
+mod running_lookup;
+
+pub use running_lookup::get;

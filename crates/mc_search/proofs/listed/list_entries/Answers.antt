@@ -1,0 +1,40 @@
+use Rattle.std.proofs.Common.{ℕ, ◌≡◌, ◌+◌, List, None, Vec, Global, ap, sym, subst, ◌∙◌, arith}
+use Rattle.mc_words.specs.Standing.{Agrees, Stands}
+use Rattle.mc_words.specs.Checks.{shape_of}
+use Rattle.mc_words.specs.declared.shape.Shape.{Shape}
+use Rattle.mc_search.specs.Inside.Entries.{AreEntriesBelow}
+use Rattle.mc_search.proofs.EntryLists.{all_entries, none_more, none_of, one_more}
+use Rattle.mc_search.proofs.listed.list_entries.Goals as goal
+use Rattle.mc_search.proofs.listed.list_entries.Goals.{in-Some+in_ok-push, in_default}
+
+pub returns-clause-entries : goal.returns-clause-entries
+returns-clause-entries g c = λ h agrees.
+    let V = g.row.V in
+    let sh = shape_of c.args.checked.now in
+    let w = g.P.Peek.words c.args.peek.now in
+    all_entries V sh w h c.loop-item.entries.items agrees (subst (λ (n : ℕ). AreEntriesBelow V sh w h n c.loop-item.entries.items) (omega (arith, c.loop-item-test.false, ap (λ (x : Shape). x.items) c.shape-item-end.ensures)) (c.loop-item.invariant.entries h agrees))
+
+pub loop-item-preserved : goal.loop-item-preserved
+loop-item-preserved g c =
+    let V = g.row.V in
+    let sh = shape_of c.args.checked.now in
+    let w = g.P.Peek.words c.args.peek.now in
+    let n = c.loop-item.item in
+    let same : g.P.Peek.words c.loop-item.peek ≡ w = ap g.P.Peek.words c.loop-item.invariant.kept in
+    record {
+      kept = c.entry_at.ensures.kept ∙ c.loop-item.invariant.kept;
+      entries = λ h agrees.
+          let before = c.loop-item.invariant.entries h agrees in
+          let seen = subst (λ (ws : List ℕ). Agrees V sh ws None h) (sym same) agrees in
+          elim c.match-entry_at.branch [
+            | in-Some+in_ok-push b ↦ (
+                let e = b.in-Some.entry in
+                let there = b.in-Some.ensures.stands in
+                let stands = subst (λ (ws : List ℕ). Stands V sh ws e.0 there.0 n) same there.1 in
+                let more = one_more V sh w h n there.0 e.0 e.1 c.loop-item.entries.items agrees before stands (b.in-Some.ensures.value h seen) in
+                subst (AreEntriesBelow V sh w h (n + 1)) (sym (ap (λ (v : Vec (ℕ × List ℕ) Global). v.items) b.entries-is ∙ b.in_ok-push.ensures.items)) more)
+            | in_default b ↦ (
+                let unused : (k q : ℕ) → Stands V sh w k q n → ⊥ = λ k q s. none_of c.entry_at.result ((k q : ℕ) → Stands V sh (g.P.Peek.words c.loop-item.peek) k q n → ⊥) b.in_default.is c.entry_at.ensures.none k q (subst (λ (ws : List ℕ). Stands V sh ws k q n) (sym same) s) in
+                subst (AreEntriesBelow V sh w h (n + 1)) (sym (ap (λ (v : Vec (ℕ × List ℕ) Global). v.items) b.entries-is)) (none_more V sh w h n c.loop-item.entries.items before unused))
+          ];
+    }

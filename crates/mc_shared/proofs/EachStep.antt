@@ -1,0 +1,500 @@
+-- Each step keeps the rule of the table.
+use Rattle.std.proofs.Common.{◌≡◌, Bool, ℕ, zero, suc, ◌+◌, ◌<◌, ◌≤◌, ◌≢◌, eqb, eq-eqb, ne_eqb, List, [], ◌∷◌, ◌++◌, length, get_or, set, refl, ap, sym, ◌∙◌, subst, ⊎_elim, arith, length-set, length-append, get_or-set_other, get_or-set_same, Some}
+use Rattle.std.specs.Prelude.{replicate, if◌then◌else◌}
+use Rattle.std.proofs.lemmas.List.{length-replicate}
+use mathlib.Core.Logic.{dite}
+use mathlib.Core.Option.{none, some, some-injective, some-ne-none}
+use native.Mathlib.Decide.{ℕ_discrete}
+use lib.ListN.{get_elem?}
+use lib.Seq.{set-get_or}
+use Rattle.atomic_table.specs.Table as table
+use Rattle.atomic_table.specs.Table.{Step, step, keeps, stepped, opening, Allows, Splits, Joins}
+use Rattle.atomic_table.proofs.Lists.{at_set, at_snoc}
+use Rattle.mc_words.specs.Places.{word_count, all_words, recency_place}
+use Rattle.mc_words.specs.Recency.{recency_bit}
+use Rattle.std.specs.Int.{bit_at}
+use Rattle.std.specs.Int.RustNames.{bit_or}
+use lib.Bits.{bit_and}
+use Rattle.std.proofs.lemmas.Nat.Bits.{bit_at-zero}
+use Rattle.mc_words.specs.declared.shape.Shape.{Shape}
+use Rattle.mc_theory.specs.Lists.{Made}
+use Rattle.mc_theory.specs.Readings.{Reading, IsWordOf}
+use Rattle.mc_theory.specs.States as states
+use Rattle.mc_theory.specs.States.{State}
+use Rattle.mc_theory.specs.Writes.{place_read}
+use Rattle.mc_theory.specs.declared.access.Access.{Access}
+use Rattle.mc_theory.specs.declared.access.Access.TheVariants as access
+use Rattle.mc_theory.specs.declared.act.Act.{Act}
+use Rattle.mc_theory.specs.declared.act.Act.TheVariants.{Open, Slot, Item, Moment, Close, Hand, Mark}
+use Rattle.mc_theory.proofs.Lists.Bounds.{state_length}
+use Rattle.mc_theory.proofs.Lists.Fronts.{lawful_none, lawful_push, state_none}
+use Rattle.mc_theory.proofs.Invariant.EachState.{zeros}
+use Rattle.mc_theory.proofs.Lists.WrittenWords.{reads_its_word}
+use Rattle.mc_shared.specs.declared.layout.Layout.{Layout}
+use Rattle.mc_shared.specs.RecencyTrace.{Trace, trace_swept, trace_marked, new_trace, trace_after, trace_of, marks_in, is_mark_of, total, Coherent}
+use Rattle.mc_shared.specs.Views.{Role, Spent, Writes, Reads, Both, View, view_as, writer_view, reader_view, new_writer_view, spent_view, acts_of, tally_of, front_of, done_of, AreLawful, layout_state, with_bit, IsFrontOf}
+use Rattle.mc_shared.specs.TableRule.{word_after, IsRecord, FitsRole, Fits, AllFit, marks_of, bit_in, Ruled}
+use Rattle.mc_shared.specs.Steps.{SeatView, WritesAt, only, all_but, MayMake, IsOffBits, bit_of, AddsAct, AddsActIfSet, FetchesWord, reading, ReadsOne, ReadsWord, mark_at, AddsMark, with_mark, AddsMarkIfSet, ComparesMoment, new_reader_view, joined_view, writer_part, reader_part}
+use Rattle.mc_shared.specs.SeatFacts.{IsReader}
+use Rattle.mc_shared.proofs.WrittenPlaces.{act_names_in, write_low, place_below, word_written}
+use Rattle.mc_shared.proofs.PackedBits.{bit_low, recency_below, Spares, or_here, or_spares, and_here, and_spares, or_same, bit_elsewhere, bit_there, bit_spared}
+use Rattle.mc_shared.proofs.Coherence.{trace-push, coherent_swept, coherent_touched, coherent_marked, marks_in-push, total_set, total_push}
+use Rattle.mc_shared.proofs.ReaderRecords.{front_self, front_none, front_push, record_none, record_longer, record_read, record_mark}
+
+pub fits_set : (l : Layout) (log : List Made) (sums : List ℕ) (at id : ℕ) (views : List View) (w : View) → ((j : ℕ) (u : View) → j ≢ id → get_elem? views j ≡ some u → Fits l log sums at j u) → Fits l log sums at id w → AllFit l log sums at (set views id w)
+fits_set l log sums at id views w others mine j u e =
+    ⊎_elim
+    (λ (x : (j ≡ id) × (w ≡ u)). subst (λ (y : ℕ × View). Fits l log sums at y.0 y.1) (λ i. (sym x.0 i, x.1 i)) mine)
+    (λ (x : (j ≢ id) × (get_elem? views j ≡ some u)). others j u x.0 x.1)
+    (at_set views id j w u e)
+
+-- a seat other than the writer's still fits when the writer makes an act
+grows : (l own : Layout) (log : List Made) (sums : List ℕ) (m : Made) (n at j : ℕ) → j ≢ at → (r : Role) → FitsRole l own log sums at j r → FitsRole l own (log ++ m ∷ []) (sums ++ n ∷ []) at j r
+grows l own log sums m n at j ne Spent f = tt
+grows l own log sums m n at j ne (Writes acts tally) f = absurd (ne f.1)
+grows l own log sums m n at j ne (Reads front done) f = (f.0, front_push front log m f.1, f.2)
+grows l own log sums m n at j ne (Both acts tally front done) f = absurd (ne f.1)
+
+-- a view with as many marks in the place of another
+same_marks : (i id : ℕ) (views : List View) (v w : View) → get_elem? views id ≡ some v → marks_in i (done_of w) ≡ marks_in i (done_of v) → marks_of i (set views id w) ≡ marks_of i views
+same_marks i id views v w at e = let t = total_set (λ (u : View). marks_in i (done_of u)) views id v w at in omega arith
+
+-- ---- what an act owes of the recency bits, where the word at its place becomes f of what it was
+abbrev pub StepBits : Layout → Act → ℕ → (ℕ → ℕ) → (ℕ → ℕ) → Type 0
+StepBits l a n f g =
+    (t : Trace) (words : List ℕ) → n < length words → (k many : ℕ) → Coherent t many (bit_in l words k)
+    → Coherent (trace_after k t a (bit_of a (g (get_or words n 0))) many) many (bit_in l (set words n (f (get_or words n 0))) k)
+
+-- bits past the last item stay
+abbrev pub StepPast : Layout → ℕ → (ℕ → ℕ) → Type 0
+StepPast l n f = (words : List ℕ) → n < length words → (k : ℕ) → l.shape.items ≤ k → bit_in l (set words n (f (get_or words n 0))) k ≡ bit_in l words k
+
+-- a step at a word that is no recency word
+low_bits : (l : Layout) (a : Act) (n x : ℕ) (g : ℕ → ℕ) → ((t : Trace) (k bit many : ℕ) → trace_after k t a bit many ≡ t) → n < word_count l.width l.shape → StepBits l a n (λ _. x) g
+low_bits l a n x g quiet low t words long k many c =
+    subst (λ (y : Trace × ℕ). Coherent y.0 many y.1) (λ i. (sym (quiet t k (bit_of a (g (get_or words n 0))) many) i, sym (bit_elsewhere l words n x k (λ e. omega (arith, e))) i)) c
+
+low_past : (l : Layout) (n x : ℕ) → n < word_count l.width l.shape → StepPast l n (λ _. x)
+low_past l n x low words long k past = bit_elsewhere l words n x k (λ e. omega (arith, e))
+
+pub store_bits : (l : Layout) (acts : List Made) (a : Act) (n x : ℕ) (g : ℕ → ℕ) → IsOffBits a → MayMake l acts a → WritesAt l acts a n x → StepBits l a n (λ _. x) g
+store_bits l acts (Open key d) n x g st may w = low_bits l (Open key d) n x g (λ t k bit many. refl) (write_low l acts (Open key d) n x may w)
+store_bits l acts (Slot p y) n x g st may w = low_bits l (Slot p y) n x g (λ t k bit many. refl) (write_low l acts (Slot p y) n x may w)
+store_bits l acts (Item i j y) n x g st may w = low_bits l (Item i j y) n x g (λ t k bit many. refl) (write_low l acts (Item i j y) n x may w)
+store_bits l acts Moment n x g st may w = low_bits l Moment n x g (λ t k bit many. refl) (write_low l acts Moment n x may w)
+store_bits l acts Close n x g st may w = low_bits l Close n x g (λ t k bit many. refl) (write_low l acts Close n x may w)
+store_bits l acts (Hand i) n x g st may w = absurd st
+store_bits l acts (Mark i) n x g st may w = absurd st
+
+pub store_past : (l : Layout) (acts : List Made) (a : Act) (n x : ℕ) → IsOffBits a → MayMake l acts a → WritesAt l acts a n x → StepPast l n (λ _. x)
+store_past l acts (Open key d) n x st may w = low_past l n x (write_low l acts (Open key d) n x may w)
+store_past l acts (Slot p y) n x st may w = low_past l n x (write_low l acts (Slot p y) n x may w)
+store_past l acts (Item i j y) n x st may w = low_past l n x (write_low l acts (Item i j y) n x may w)
+store_past l acts Moment n x st may w = low_past l n x (write_low l acts Moment n x may w)
+store_past l acts Close n x st may w = low_past l n x (write_low l acts Close n x may w)
+store_past l acts (Hand i) n x st may w = absurd st
+store_past l acts (Mark i) n x st may w = absurd st
+
+-- a step on the bit of an item leaves the bits past the last one
+pub spared_past : (l : Layout) (i : ℕ) (f : ℕ → ℕ) → i < l.shape.items → Spares (recency_bit i) f → StepPast l (recency_place l.width l.shape i) f
+spared_past l i f within spares words long k past = bit_spared l words i k f spares (λ e. omega (arith, e)) long
+
+-- the hand clears the bit of its item
+pub hand_bits : (l : Layout) (i : ℕ) → StepBits l (Hand i) (recency_place l.width l.shape i) (λ w. bit_and w (all_but i)) (λ w. w)
+hand_bits l i t words long k many c =
+    let n : ℕ = recency_place l.width l.shape i in
+    let w : ℕ = get_or words n 0 in
+    let f : ℕ → ℕ = λ w. bit_and w (all_but i) in
+    let told : ℕ = bit_at w (recency_bit i) in
+    dite (ℕ_discrete i k)
+    (λ same. subst (λ (j : ℕ). Coherent t many (bit_in l words j) → Coherent (trace_after j t (Hand i) told many) many (bit_in l (set words n (f w)) j)) same
+    (λ h. subst (λ (y : Bool × ℕ). Coherent (if y.0 then trace_swept t told many else t) many y.1)
+    (λ z. (sym (eq-eqb i i refl) z, sym (bit_there l words i (f w) long ∙ and_here (recency_bit i) w (bit_low i)) z))
+    (coherent_swept t many told h)) c)
+    (λ ne. subst (λ (y : Bool × ℕ). Coherent (if y.0 then trace_swept t told many else t) many y.1)
+    (λ z. (sym (ne_eqb i k ne) z, sym (bit_spared l words i k f (and_spares (recency_bit i) (bit_low i)) ne long) z)) c)
+
+-- the writer's mark sets it
+pub touch_bits : (l : Layout) (i : ℕ) → StepBits l (Mark i) (recency_place l.width l.shape i) (λ w. bit_or w (only i)) (λ w. w)
+touch_bits l i t words long k many c =
+    let n : ℕ = recency_place l.width l.shape i in
+    let w : ℕ = get_or words n 0 in
+    let f : ℕ → ℕ = λ w. bit_or w (only i) in
+    dite (ℕ_discrete i k)
+    (λ same. subst (λ (j : ℕ). Coherent t many (bit_in l words j) → Coherent (trace_after j t (Mark i) 0 many) many (bit_in l (set words n (f w)) j)) same
+    (λ h. subst (λ (y : Bool × ℕ). Coherent (if y.0 then trace_marked t else t) many y.1)
+    (λ z. (sym (eq-eqb i i refl) z, sym (bit_there l words i (f w) long ∙ or_here (recency_bit i) w (bit_low i)) z))
+    (coherent_touched t many (bit_at w (recency_bit i)) h)) c)
+    (λ ne. subst (λ (y : Bool × ℕ). Coherent (if y.0 then trace_marked t else t) many y.1)
+    (λ z. (sym (ne_eqb i k ne) z, sym (bit_spared l words i k f (or_spares (recency_bit i) (bit_low i)) ne long) z)) c)
+
+-- how many marks of its item the hand meets
+abbrev pub sum_at : Act → List View → ℕ
+sum_at (Hand i) views = marks_of i views
+sum_at _ views = 0
+
+-- what the tally has for another item says nothing of this one
+sum_here : (k : ℕ) (t : Trace) (a : Act) (bit : ℕ) (views : List View) → trace_after k t a bit (sum_at a views) ≡ trace_after k t a bit (marks_of k views)
+sum_here k t (Open key d) bit views = refl
+sum_here k t (Slot p y) bit views = refl
+sum_here k t (Item i j y) bit views = refl
+sum_here k t Moment bit views = refl
+sum_here k t Close bit views = refl
+sum_here k t (Mark i) bit views = refl
+sum_here k t (Hand i) bit views = dite (ℕ_discrete i k)
+    (λ (e : i ≡ k). ap (λ (j : ℕ). if eqb i k then trace_swept t bit (marks_of j views) else t) e)
+    (λ ne. subst (λ (b : Bool). (if b then trace_swept t bit (marks_of i views) else t) ≡ (if b then trace_swept t bit (marks_of k views) else t)) (sym (ne_eqb i k ne)) refl)
+
+-- ---- a new table
+opening_zero : (V : ℕ) (sh : Shape) (n : ℕ) → get_or (states.opening V sh).words n 0 ≡ 0
+unfolding states.opening
+opening_zero V sh n = zeros (word_count V sh) n
+
+pub begins : (l : Layout) (ws : List ℕ) → ws ≡ replicate (all_words l.width l.shape) 0 → Ruled l (opening ws [] (new_writer_view l))
+begins l ws is = record {
+  log = [];
+  sums = [];
+  paired = refl;
+  at = 0;
+  lawful = lawful_none l.width l.shape;
+  wide = ap length is ∙ length-replicate (all_words l.width l.shape) 0;
+  words = λ n below. zero_in n ∙ sym (ap (λ (s : State l.width). get_or s.words n 0) (state_none l.width l.shape) ∙ opening_zero l.width l.shape n);
+  views = one;
+  bits = λ i below. subst (λ (z : ℕ). Coherent (trace_of i [] []) 0 z) (sym (clear i)) (record { is = omega arith; seen = omega arith; right = refl });
+  past = λ i past. clear i;
+}
+  where
+    zero_in : (n : ℕ) → get_or ws n 0 ≡ 0
+    zero_in n = ap (λ (x : List ℕ). get_or x n 0) is ∙ zeros (all_words l.width l.shape) n
+
+    clear : (i : ℕ) → bit_in l ws i ≡ 0
+    clear i = ap (λ (z : ℕ). bit_at z (recency_bit i)) (zero_in (recency_place l.width l.shape i)) ∙ bit_at-zero (recency_bit i)
+
+    one : AllFit l [] [] 0 (new_writer_view l ∷ [])
+    one zero v e = subst (Fits l [] [] 0 0) (some-injective _ _ e) (refl, refl, refl, refl)
+    one (suc j) v e = absurd (some-ne-none v (sym e))
+
+module _ (l : Layout) (id slots : ℕ) (c : List (ℕ × Unit {0})) where
+  -- a step that changes no word
+  unmoved : (s : table.State (Unit {0}) View) (r : Ruled l s) (n : ℕ) (v w : View) → get_elem? s.views id ≡ some v → ((i : ℕ) → marks_in i (done_of w) ≡ marks_in i (done_of v)) → Fits l r.log r.sums r.at id w → Ruled l (stepped s n (get_or s.words n 0) id c w keeps)
+  unmoved s r n v w at alike mine = subst (λ (ws : List ℕ). Ruled l record { words = ws; homes = s.homes; views = set s.views id w }) (sym (set-get_or s.words n 0)) record {
+    log = r.log;
+    sums = r.sums;
+    paired = r.paired;
+    at = r.at;
+    lawful = r.lawful;
+    wide = r.wide;
+    words = r.words;
+    views = fits_set l r.log r.sums r.at id s.views w (λ j u _ e. r.views j u e) mine;
+    bits = λ i below. subst (λ (m : ℕ). Coherent (trace_of i r.log r.sums) m (bit_in l s.words i)) (sym (same_marks i id s.views v w at (alike i))) (r.bits i below);
+    past = r.past;
+  }
+
+  -- the writer's act, where the word at its place becomes what the act writes
+  pub makes : (acts : List Made) (tally : List ℕ) (a : Act) (n x : ℕ) (f g : ℕ → ℕ) (st : Step (Unit {0})) → MayMake l acts a → WritesAt l acts a n x → (n < word_count l.width l.shape → f (word_after l acts n) ≡ x) → StepBits l a n f g → StepPast l n f
+      → Allows (Ruled l) slots id (writer_view l acts tally, c) n f (λ r. AddsAct a st (writer_view l acts tally, c) (g r))
+  makes acts tally a n x f g st may w writes bit past s r long at fits =
+      let mine = r.views id (writer_view l acts tally) at in
+      let same : acts ≡ r.log = mine.2 in
+      let even : tally ≡ r.sums = mine.3 in
+      let sum : ℕ = sum_at a s.views in
+      let paired : length tally ≡ length acts = subst (λ (z : List ℕ × List Made). length z.0 ≡ length z.1) (λ i. (sym even i, sym same i)) r.paired in
+      let m : Made = with_bit a (bit_of a (g (get_or s.words n 0))) in
+      let ws : (k : ℕ) → k < word_count l.width l.shape → get_or s.words k 0 ≡ word_after l acts k = subst (λ (z : List Made). (k : ℕ) → k < word_count l.width l.shape → get_or s.words k 0 ≡ word_after l z k) (sym same) r.words in
+      let wide : length s.words ≡ all_words l.width l.shape = r.wide in
+      let size : length (layout_state l acts).words ≡ word_count l.width l.shape = state_length l.width l.shape acts in
+      let v : ℕ = f (get_or s.words n 0) in
+      let words' : (k : ℕ) → k < word_count l.width l.shape → get_or (set s.words n v) k 0 ≡ word_after l (acts ++ m ∷ []) k = λ k below. dite (ℕ_discrete k n)
+      (λ e. let low : n < word_count l.width l.shape = omega (arith, e) in
+      ap (λ (z : ℕ). get_or (set s.words n v) z 0) e ∙ (get_or-set_same s.words n v 0 (omega arith) ∙ (ap f (ws n low) ∙ (writes low ∙ sym (
+      word_written l acts m n x k may w below ∙ (ap (λ (z : ℕ). get_or (set (layout_state l acts).words n x) z 0) e ∙ get_or-set_same (layout_state l acts).words n x 0 (omega arith)))))))
+      (λ other. get_or-set_other s.words n k v 0 other ∙ (ws k below ∙ sym (word_written l acts m n x k may w below ∙ get_or-set_other (layout_state l acts).words n k x 0 other)))
+      in
+      let inside : n < all_words l.width l.shape = place_below l acts a n x may w in (
+        writer_view l (acts ++ m ∷ []) (tally ++ sum ∷ []),
+        keeps,
+        tt,
+        record {
+          log = acts ++ m ∷ [];
+          sums = tally ++ sum ∷ [];
+          paired = omega (arith, length-append tally (sum ∷ []), length-append acts (m ∷ []), paired);
+          at = r.at;
+          lawful = lawful_push l.width l.shape acts m may.lawful may.allowed;
+          wide = length-set s.words n v ∙ wide;
+          words = words';
+          views = fits_set l (acts ++ m ∷ []) (tally ++ sum ∷ []) r.at id s.views (writer_view l (acts ++ m ∷ []) (tally ++ sum ∷ []))
+              (λ j u ne e. grows l u.layout acts tally m sum r.at j (λ (z : j ≡ r.at). ne (z ∙ sym mine.1)) u.role (subst (λ (z : List Made × List ℕ). Fits l z.0 z.1 r.at j u) (λ i. (sym same i, sym even i)) (r.views j u e)))
+              (refl, mine.1, refl, refl);
+          bits = λ k below.
+              let t : Trace = trace_of k acts tally in
+              let old : Coherent t (marks_of k s.views) (bit_in l s.words k) = subst (λ (z : List Made × List ℕ). Coherent (trace_of k z.0 z.1) (marks_of k s.views) (bit_in l s.words k)) (λ i. (sym same i, sym even i)) (r.bits k below) in
+              let new : Coherent (trace_after k t a m.bit (marks_of k s.views)) (marks_of k s.views) (bit_in l (set s.words n v) k) = bit t s.words (omega arith) k (marks_of k s.views) old in
+              subst (λ (y : Trace × ℕ). Coherent y.0 y.1 (bit_in l (set s.words n v) k)) (λ i. (sym (trace-push k new_trace acts tally m sum paired ∙ sum_here k t a m.bit s.views) i, sym (same_marks k id s.views (writer_view l acts tally) (writer_view l (acts ++ m ∷ []) (tally ++ sum ∷ [])) at refl) i)) new;
+          past = λ k over. past s.words (omega arith) k over ∙ r.past k over;
+        },
+        (sum, refl),
+      )
+
+  -- a load of the word that holds the bit of the writer's mark. Where it finds the bit set, it is the very step that sets it
+  pub remarks : (acts : List Made) (tally : List ℕ) (i : ℕ) (st : Step (Unit {0})) → MayMake l acts (Mark i)
+      → Allows (Ruled l) slots id (writer_view l acts tally, c) (recency_place l.width l.shape i) (λ w. w) (AddsActIfSet (Mark i) st (writer_view l acts tally, c))
+  remarks acts tally i st may s r long at fits =
+      let v : View = writer_view l acts tally in
+      let n : ℕ = recency_place l.width l.shape i in
+      let w : ℕ = get_or s.words n 0 in
+      dite (ℕ_discrete (bit_at w (recency_bit i)) 1)
+      (λ (e : bit_at w (recency_bit i) ≡ 1).
+      let m = makes acts tally (Mark i) n (only i) (λ z. bit_or z (only i)) (λ z. z) st may (refl, refl) (λ low. absurd (omega arith)) (touch_bits l i) (spared_past l i (λ z. bit_or z (only i)) (act_names_in l acts (Mark i) may) (or_spares (recency_bit i) (bit_low i))) s r long at fits in
+      (m.0, m.1, m.2, subst (λ (x : ℕ). Ruled l (stepped s n x id c m.0 m.1)) (or_same (recency_bit i) w e) m.3, ((λ _. m.4), (λ z. absurd (omega (arith, e, z))))))
+      (λ ne. (v, keeps, tt, unmoved s r n v v at (λ k. refl) (r.views id v at), ((λ z. absurd (ne z)), (λ _. refl))))
+
+  pub looks : (acts : List Made) (tally : List ℕ) (n : ℕ) (st : Step (Unit {0})) → st.word ≡ n → n < word_count l.width l.shape → Allows (Ruled l) slots id (writer_view l acts tally, c) n (λ r. r) (FetchesWord st (writer_view l acts tally, c))
+  looks acts tally n st is below s r long at fits =
+      let mine = r.views id (writer_view l acts tally) at in
+      (writer_view l acts tally, keeps, tt, unmoved s r n (writer_view l acts tally) (writer_view l acts tally) at (λ i. refl) mine, (refl, r.words n below ∙ λ i. word_after l (sym (mine.2) i) (sym is i)))
+
+  pub reads_one : (front : List Made) (done : List Reading) (a : Access) (n : ℕ) (st : Step (Unit {0})) → place_read l.width l.shape a ≡ Some n → st.word ≡ n → n < word_count l.width l.shape
+      → Allows (Ruled l) slots id (reader_view l front done, c) n (λ r. r) (ReadsWord a st (reader_view l front done, c))
+  reads_one front done a n st where_is is below s r long at fits =
+      let mine = r.views id (reader_view l front done) at in
+      let p : IsFrontOf front r.log = mine.1 in
+      let x : ℕ = get_or s.words n 0 in
+      let done' : List Reading = done ++ reading a x r.log ∷ [] in
+      let word : IsWordOf l.width l.shape (layout_state l r.log).words a x = subst (IsWordOf l.width l.shape (layout_state l r.log).words a) (sym (r.words n below)) (reads_its_word l.width l.shape (layout_state l r.log).words a n where_is).0 in
+      let kept : IsRecord l r.log done' = record_read l r.log done a x (record_longer l front r.log done p mine.2) word in (
+        reader_view l r.log done',
+        keeps,
+        tt,
+        unmoved s r n (reader_view l front done) (reader_view l r.log done') at (λ i. marks_in-push i (reading a x r.log) done ∙ no_mark l i a n (marks_in i done) where_is) (refl, front_self r.log, kept),
+        (where_is ∙ ap Some (sym is), refl, record { begins = p; adds = refl; lawful = r.lawful; recorded = kept }),
+      )
+    where
+      no_mark : (l : Layout) (i : ℕ) (a : Access) (n many : ℕ) → place_read l.width l.shape a ≡ Some n → many + is_mark_of i a ≡ many
+      no_mark l i (access.Version t) n many e = omega arith
+      no_mark l i (access.Slot p) n many e = omega arith
+      no_mark l i (access.Key k) n many e = omega arith
+      no_mark l i (access.Value k j) n many e = omega arith
+      no_mark l i access.Moment n many e = omega arith
+      no_mark l i (access.Mark k) n many e = absurd (cc)
+
+  -- a step that sets the bit of an item
+  pub marks_one : (front : List Made) (done : List Reading) (i : ℕ) (g : ℕ → ℕ) (st : Step (Unit {0})) → i < l.shape.items
+      → Allows (Ruled l) slots id (reader_view l front done, c) (recency_place l.width l.shape i) (λ w. bit_or w (only i)) (λ r. AddsMark i st (reader_view l front done, c) (g r))
+  marks_one front done i g st within s r long at fits =
+      let mine = r.views id (reader_view l front done) at in
+      let done' : List Reading = done ++ mark_at i front ∷ [] in
+      let wide : length s.words ≡ all_words l.width l.shape = r.wide in
+      let n : ℕ = recency_place l.width l.shape i in
+      let f : ℕ → ℕ = λ w. bit_or w (only i) in
+      let x : ℕ = f (get_or s.words n 0) in
+      let inside : n < all_words l.width l.shape = recency_below l.width l.shape i within in (
+        reader_view l front done',
+        keeps,
+        tt,
+        record {
+          log = r.log;
+          sums = r.sums;
+          paired = r.paired;
+          at = r.at;
+          lawful = r.lawful;
+          wide = length-set s.words n x ∙ wide;
+          words = λ k below. get_or-set_other s.words n k x 0 (λ e. omega arith) ∙ r.words k below;
+          views = fits_set l r.log r.sums r.at id s.views (reader_view l front done') (λ j u _ e. r.views j u e) (refl, mine.1, record_mark l front done i mine.2);
+          bits = λ k below.
+              let all = total_set (λ (u : View). marks_in k (done_of u)) s.views id (reader_view l front done) (reader_view l front done') at in
+              let more = marks_in-push k (mark_at i front) done in
+              dite (ℕ_discrete i k)
+              (λ e. let hit : ◌≡◌ {A = ℕ} (if eqb i k then 1 else 0) 1 = ap (λ (b : Bool). if◌then◌else◌ {A = ℕ} b 1 0) (eq-eqb i k e) in
+              let count : marks_of k (set s.views id (reader_view l front done')) ≡ marks_of k s.views + 1 = omega arith in
+              let there : bit_in l (set s.words n x) k ≡ 1 = ap (bit_in l (set s.words n x)) (sym e) ∙ (bit_there l s.words i x (omega arith) ∙ or_here (recency_bit i) (get_or s.words n 0) (bit_low i)) in
+              subst (λ (y : ℕ × ℕ). Coherent (trace_of k r.log r.sums) y.0 y.1) (λ j. (sym count j, sym there j)) (coherent_marked (trace_of k r.log r.sums) (marks_of k s.views) (bit_in l s.words k) (r.bits k below)))
+              (λ ne. let miss : ◌≡◌ {A = ℕ} (if eqb i k then 1 else 0) 0 = ap (λ (b : Bool). if◌then◌else◌ {A = ℕ} b 1 0) (ne_eqb i k ne) in
+              let count : marks_of k (set s.views id (reader_view l front done')) ≡ marks_of k s.views = omega arith in
+              let there : bit_in l (set s.words n x) k ≡ bit_in l s.words k = bit_spared l s.words i k f (or_spares (recency_bit i) (bit_low i)) ne (omega arith) in
+              subst (λ (y : ℕ × ℕ). Coherent (trace_of k r.log r.sums) y.0 y.1) (λ j. (sym count j, sym there j)) (r.bits k below));
+          past = λ k over. spared_past l i f within (or_spares (recency_bit i) (bit_low i)) s.words (omega arith) k over ∙ r.past k over;
+        },
+        refl,
+      )
+
+  -- a load of the word. Where it finds the bit set, it is the very step that sets it: the word and the views after it are the same
+  pub notices_one : (front : List Made) (done : List Reading) (i : ℕ) (st : Step (Unit {0})) → i < l.shape.items → Allows (Ruled l) slots id (reader_view l front done, c) (recency_place l.width l.shape i) (λ w. w) (AddsMarkIfSet i st (reader_view l front done, c))
+  notices_one front done i st within s r long at fits =
+      let v : View = reader_view l front done in
+      let n : ℕ = recency_place l.width l.shape i in
+      let w : ℕ = get_or s.words n 0 in
+      dite (ℕ_discrete (bit_at w (recency_bit i)) 1)
+      (λ (e : bit_at w (recency_bit i) ≡ 1).
+      let m = marks_one front done i (λ z. z) st within s r long at fits in
+      (m.0, m.1, m.2, subst (λ (x : ℕ). Ruled l (stepped s n x id c m.0 m.1)) (or_same (recency_bit i) w e) m.3, ((λ _. m.4), (λ z. absurd (omega (arith, e, z))))))
+      (λ ne. (v, keeps, tt, unmoved s r n v v at (λ k. refl) (r.views id v at), ((λ z. absurd (ne z)), (λ _. refl))))
+
+  pub compares_one : (acts : List Made) (tally : List ℕ) (front : List Made) (done : List Reading) (n : ℕ) (st : Step (Unit {0})) → st.word ≡ n → n < word_count l.width l.shape
+      → Allows (Ruled l) slots id (view_as l (Both acts tally front done), c) n (λ r. r) (ComparesMoment st (view_as l (Both acts tally front done), c))
+  compares_one acts tally front done n st is below s r long at fits =
+      let v : View = view_as l (Both acts tally front done) in
+      let mine = r.views id v at in
+      let same : acts ≡ r.log = mine.2 in
+      let p : IsFrontOf front acts = subst (IsFrontOf front) (sym same) mine.4 in
+      (v, keeps, tt, unmoved s r n v v at (λ i. refl) mine, (refl, p, record_longer l front acts done p mine.5, r.words n below ∙ λ i. word_after l (sym same i) (sym is i)))
+
+-- ---- seats
+-- a view is cut in two
+splits_as : (l : Layout) (id : ℕ) (s : table.State (Unit {0}) View) (r : Ruled l s) (v left right : View) → get_elem? s.views id ≡ some v → ((i : ℕ) → marks_in i (done_of left) + marks_in i (done_of right) ≡ marks_in i (done_of v)) → Fits l r.log r.sums r.at id left → ((j : ℕ) → Fits l r.log r.sums r.at j right)
+    → Ruled l record { words = s.words; homes = s.homes; views = set s.views id left ++ right ∷ [] }
+splits_as l id s r v left right at cut mine new = record {
+  log = r.log;
+  sums = r.sums;
+  paired = r.paired;
+  at = r.at;
+  lawful = r.lawful;
+  wide = r.wide;
+  words = r.words;
+  views = λ j u e. ⊎_elim (λ was. fits_set l r.log r.sums r.at id s.views left (λ k x _ h. r.views k x h) mine j u was) (λ (is : right ≡ u). subst (Fits l r.log r.sums r.at j) is (new j)) (at_snoc (set s.views id left) right u j e);
+  bits = λ i below.
+      let f = λ (u : View). marks_in i (done_of u) in
+      let a = total_push f (set s.views id left) right in
+      let b = total_set f s.views id v left at in
+      let d = cut i in
+      let count : total f (set s.views id left ++ right ∷ []) ≡ total f s.views = omega arith in
+      subst (λ (m : ℕ). Coherent (trace_of i r.log r.sums) m (bit_in l s.words i)) (sym count) (r.bits i below);
+  past = r.past;
+}
+
+-- a new reader
+pub splits_new : (l : Layout) (id : ℕ) (acts : List Made) (tally : List ℕ) → Splits (Ruled l) id (writer_view l acts tally) (writer_view l acts tally) (reader_view l [] [])
+splits_new l id acts tally s r at = splits_as l id s r (writer_view l acts tally) (writer_view l acts tally) (reader_view l [] []) at (λ i. omega arith) (r.views id (writer_view l acts tally) at) (λ j. (refl, front_none r.log, record_none l []))
+
+-- the reader that was joined to the writer is split off
+pub splits_back : (l : Layout) (id : ℕ) (acts : List Made) (tally : List ℕ) (front : List Made) (done : List Reading) → Splits (Ruled l) id (view_as l (Both acts tally front done)) (writer_view l acts tally) (reader_view l acts done)
+splits_back l id acts tally front done s r at =
+    let mine = r.views id (view_as l (Both acts tally front done)) at in
+    let same : acts ≡ r.log = mine.2 in
+    let p : IsFrontOf front acts = subst (IsFrontOf front) (sym same) mine.4 in
+    splits_as l id s r (view_as l (Both acts tally front done)) (writer_view l acts tally) (reader_view l acts done) at (λ i. omega arith) (refl, mine.1, same, mine.3) (λ j. (refl, subst (IsFrontOf acts) same (front_self acts), record_longer l front acts done p mine.5))
+
+pub joins_reader : (l : Layout) (id other : ℕ) (acts : List Made) (tally : List ℕ) (front : List Made) (done : List Reading) → Joins (Ruled l) id (writer_view l acts tally) other (reader_view l front done) (view_as l (Both acts tally front done)) spent_view
+joins_reader l id other acts tally front done s r at apart there =
+    let w : View = view_as l (Both acts tally front done) in
+    let mine = r.views id (writer_view l acts tally) at in
+    let theirs : Fits l r.log r.sums r.at other (reader_view l front done) =
+    ⊎_elim (λ (t : (other ≡ id) × (w ≡ reader_view l front done)). absurd (apart t.0)) (λ (t : (other ≢ id) × (get_elem? s.views other ≡ some (reader_view l front done))). r.views other (reader_view l front done) t.1) (at_set s.views id other w (reader_view l front done) there)
+    in
+    let both : AllFit l r.log r.sums r.at (set s.views id w) = fits_set l r.log r.sums r.at id s.views w (λ k x _ h. r.views k x h) (refl, mine.1, mine.2, mine.3, theirs.1, theirs.2) in
+    record {
+      log = r.log;
+      sums = r.sums;
+      paired = r.paired;
+      at = r.at;
+      lawful = r.lawful;
+      wide = r.wide;
+      words = r.words;
+      views = fits_set l r.log r.sums r.at other (set s.views id w) spent_view (λ k x _ h. both k x h) tt;
+      bits = λ i below.
+          let f = λ (u : View). marks_in i (done_of u) in
+          let a = total_set f s.views id (writer_view l acts tally) w at in
+          let b = total_set f (set s.views id w) other (reader_view l front done) spent_view there in
+          let count : total f (set (set s.views id w) other spent_view) ≡ total f s.views = omega arith in
+          subst (λ (m : ℕ). Coherent (trace_of i r.log r.sums) m (bit_in l s.words i)) (sym count) (r.bits i below);
+      past = r.past;
+    }
+
+-- ---- the same, at a key and a view of which this is known
+module _ (key l : Layout) (key-is : key ≡ l) (id slots : ℕ) (me : SeatView) where
+  pub makes_as : me ≡ (writer_view l (acts_of me.0) (tally_of me.0), []) → (a : Act) (n x : ℕ) (f g : ℕ → ℕ) (st : Step (Unit {0})) → MayMake l (acts_of me.0) a → WritesAt l (acts_of me.0) a n x
+      → (n < word_count l.width l.shape → f (word_after l (acts_of me.0) n) ≡ x) → StepBits l a n f g → StepPast l n f → Allows (Ruled key) slots id me n f (λ r. AddsAct a st me (g r))
+  makes_as is a n x f g st may w writes bit past = subst (λ (k : Layout). Allows (Ruled k) slots id me n f (λ r. AddsAct a st me (g r))) (sym key-is)
+      (subst (λ (z : SeatView). Allows (Ruled l) slots id z n f (λ r. AddsAct a st z (g r))) (sym is) (makes l id slots [] (acts_of me.0) (tally_of me.0) a n x f g st may w writes bit past))
+
+  -- the hand, and the writer's mark
+  pub hands_as : me ≡ (writer_view l (acts_of me.0) (tally_of me.0), []) → (a : Act) (i n m : ℕ) → a ≡ Hand i → MayMake l (acts_of me.0) (Hand i) → m ≡ all_but i → n ≡ recency_place l.width l.shape i → Allows (Ruled key) slots id me n (λ w. bit_and w m) (AddsAct a (step slots n m 0 none) me)
+  hands_as is a i n m act may mask here =
+      subst (λ (y : Act × ℕ × ℕ). Allows (Ruled key) slots id me y.1 (λ w. bit_and w y.2) (AddsAct y.0 (step slots y.1 y.2 0 none) me)) (λ j. (sym act j, sym here j, sym mask j))
+      (makes_as is (Hand i) (recency_place l.width l.shape i) (all_but i) (λ w. bit_and w (all_but i)) (λ w. w) (step slots (recency_place l.width l.shape i) (all_but i) 0 none) may (refl, refl)
+      (λ low. absurd (omega arith)) (hand_bits l i) (spared_past l i (λ w. bit_and w (all_but i)) (act_names_in l (acts_of me.0) (Hand i) may) (and_spares (recency_bit i) (bit_low i))))
+
+  pub touches_as : me ≡ (writer_view l (acts_of me.0) (tally_of me.0), []) → (a : Act) (i n m : ℕ) → a ≡ Mark i → MayMake l (acts_of me.0) (Mark i) → m ≡ only i → n ≡ recency_place l.width l.shape i → Allows (Ruled key) slots id me n (λ w. bit_or w m) (AddsAct a (step slots n m 0 none) me)
+  touches_as is a i n m act may mask here =
+      subst (λ (y : Act × ℕ × ℕ). Allows (Ruled key) slots id me y.1 (λ w. bit_or w y.2) (AddsAct y.0 (step slots y.1 y.2 0 none) me)) (λ j. (sym act j, sym here j, sym mask j))
+      (makes_as is (Mark i) (recency_place l.width l.shape i) (only i) (λ w. bit_or w (only i)) (λ w. w) (step slots (recency_place l.width l.shape i) (only i) 0 none) may (refl, refl)
+      (λ low. absurd (omega arith)) (touch_bits l i) (spared_past l i (λ w. bit_or w (only i)) (act_names_in l (acts_of me.0) (Mark i) may) (or_spares (recency_bit i) (bit_low i))))
+
+  pub remarks_as : me ≡ (writer_view l (acts_of me.0) (tally_of me.0), []) → (a : Act) (i n : ℕ) (st : Step (Unit {0})) → a ≡ Mark i → MayMake l (acts_of me.0) (Mark i) → n ≡ recency_place l.width l.shape i → Allows (Ruled key) slots id me n (λ w. w) (AddsActIfSet a st me)
+  remarks_as is a i n st act may here = subst (λ (y : Act × ℕ). Allows (Ruled key) slots id me y.1 (λ w. w) (AddsActIfSet y.0 st me)) (λ j. (sym act j, sym here j))
+      (subst (λ (k : Layout). Allows (Ruled k) slots id me (recency_place l.width l.shape i) (λ w. w) (AddsActIfSet (Mark i) st me)) (sym key-is)
+      (subst (λ (z : SeatView). Allows (Ruled l) slots id z (recency_place l.width l.shape i) (λ w. w) (AddsActIfSet (Mark i) st z)) (sym is) (remarks l id slots [] (acts_of me.0) (tally_of me.0) i st may)))
+
+  pub looks_as : me ≡ (writer_view l (acts_of me.0) (tally_of me.0), []) → (n : ℕ) → n < word_count l.width l.shape → Allows (Ruled key) slots id me n (λ r. r) (FetchesWord (step slots n 0 0 none) me)
+  looks_as is n below = subst (λ (k : Layout). Allows (Ruled k) slots id me n (λ r. r) (FetchesWord (step slots n 0 0 none) me)) (sym key-is)
+      (subst (λ (z : SeatView). Allows (Ruled l) slots id z n (λ r. r) (FetchesWord (step slots n 0 0 none) z)) (sym is) (looks l id slots [] (acts_of me.0) (tally_of me.0) n (step slots n 0 0 none) refl below))
+
+  pub reads_as : me ≡ (reader_view l (front_of me.0) (done_of me.0), []) → (a : Access) (n : ℕ) → place_read l.width l.shape a ≡ Some n → n < word_count l.width l.shape → Allows (Ruled key) slots id me n (λ r. r) (ReadsWord a (step slots n 0 0 none) me)
+  reads_as is a n at below = subst (λ (k : Layout). Allows (Ruled k) slots id me n (λ r. r) (ReadsWord a (step slots n 0 0 none) me)) (sym key-is)
+      (subst (λ (z : SeatView). Allows (Ruled l) slots id z n (λ r. r) (ReadsWord a (step slots n 0 0 none) z)) (sym is) (reads_one l id slots [] (front_of me.0) (done_of me.0) a n (step slots n 0 0 none) at refl below))
+
+  pub marks_as : me ≡ (reader_view l (front_of me.0) (done_of me.0), []) → (i n m : ℕ) (g : ℕ → ℕ) (st : Step (Unit {0})) → i < l.shape.items → m ≡ only i → n ≡ recency_place l.width l.shape i
+      → Allows (Ruled key) slots id me n (λ w. bit_or w m) (λ r. AddsMark i st me (g r))
+  marks_as is i n m g st within one here = subst (λ (y : ℕ × ℕ). Allows (Ruled key) slots id me y.0 (λ w. bit_or w y.1) (λ r. AddsMark i st me (g r))) (λ j. (sym here j, sym one j))
+      (subst (λ (k : Layout). Allows (Ruled k) slots id me (recency_place l.width l.shape i) (λ w. bit_or w (only i)) (λ r. AddsMark i st me (g r))) (sym key-is)
+      (subst (λ (z : SeatView). Allows (Ruled l) slots id z (recency_place l.width l.shape i) (λ w. bit_or w (only i)) (λ r. AddsMark i st z (g r))) (sym is) (marks_one l id slots [] (front_of me.0) (done_of me.0) i g st within)))
+
+  pub notices_as : me ≡ (reader_view l (front_of me.0) (done_of me.0), []) → (i n : ℕ) (st : Step (Unit {0})) → i < l.shape.items → n ≡ recency_place l.width l.shape i → Allows (Ruled key) slots id me n (λ w. w) (AddsMarkIfSet i st me)
+  notices_as is i n st within here = subst (λ (y : ℕ). Allows (Ruled key) slots id me y (λ w. w) (AddsMarkIfSet i st me)) (sym here)
+      (subst (λ (k : Layout). Allows (Ruled k) slots id me (recency_place l.width l.shape i) (λ w. w) (AddsMarkIfSet i st me)) (sym key-is)
+      (subst (λ (z : SeatView). Allows (Ruled l) slots id z (recency_place l.width l.shape i) (λ w. w) (AddsMarkIfSet i st z)) (sym is) (notices_one l id slots [] (front_of me.0) (done_of me.0) i st within)))
+
+  pub compares_as : me ≡ (view_as l (Both (acts_of me.0) (tally_of me.0) (front_of me.0) (done_of me.0)), []) → (n : ℕ) → n < word_count l.width l.shape → Allows (Ruled key) slots id me n (λ r. r) (ComparesMoment (step slots n 0 0 none) me)
+  compares_as is n below = subst (λ (k : Layout). Allows (Ruled k) slots id me n (λ r. r) (ComparesMoment (step slots n 0 0 none) me)) (sym key-is)
+      (subst (λ (z : SeatView). Allows (Ruled l) slots id z n (λ r. r) (ComparesMoment (step slots n 0 0 none) z)) (sym is)
+      (compares_one l id slots [] (acts_of me.0) (tally_of me.0) (front_of me.0) (done_of me.0) n (step slots n 0 0 none) refl below))
+
+module _ (key l : Layout) (key-is : key ≡ l) (id : ℕ) where
+  pub splits_new_as : (v : View) → v ≡ writer_view l [] [] → Splits (Ruled key) id v v (new_reader_view v)
+  splits_new_as v is = subst (λ (k : Layout). Splits (Ruled k) id v v (new_reader_view v)) (sym key-is) (subst (λ (x : View). Splits (Ruled l) id x x (new_reader_view x)) (sym is) (splits_new l id [] []))
+
+  pub splits_back_as : (v : View) → v ≡ view_as l (Both (acts_of v) (tally_of v) (front_of v) (done_of v)) → Splits (Ruled key) id v (writer_part v) (reader_part v)
+  splits_back_as v is = subst (λ (k : Layout). Splits (Ruled k) id v (writer_part v) (reader_part v)) (sym key-is)
+      (subst (λ (x : View). Splits (Ruled l) id x (writer_part x) (reader_part x)) (sym is) (splits_back l id (acts_of v) (tally_of v) (front_of v) (done_of v)))
+
+  pub joins_as : (other : ℕ) (v w : View) → v ≡ writer_view l (acts_of v) (tally_of v) → w ≡ reader_view l (front_of w) (done_of w) → Joins (Ruled key) id v other w (joined_view v w) spent_view
+  joins_as other v w is is' = subst (λ (k : Layout). Joins (Ruled k) id v other w (joined_view v w) spent_view) (sym key-is)
+      (subst (λ (x : View × View). Joins (Ruled l) id x.0 other x.1 (joined_view x.0 x.1) spent_view) (λ i. (sym is i, sym is' i)) (joins_reader l id other (acts_of v) (tally_of v) (front_of w) (done_of w)))
+
+-- what the writer's seat is once a reader was joined to it
+pub met_is : (l : Layout) (me me' : SeatView) (w : View) → me ≡ (writer_view l (acts_of me.0) (tally_of me.0), []) → me' ≡ (joined_view me.0 w, me.1) → me' ≡ (view_as l (Both (acts_of me'.0) (tally_of me'.0) (front_of me'.0) (done_of me'.0)), [])
+met_is l me me' w is now' =
+    let layout : me.0.layout ≡ l = ap (λ (m : SeatView). m.0.layout) is in
+    let empty : me.1 ≡ [] = ap (λ (m : SeatView). m.1) is in
+    subst (λ (x : SeatView). x ≡ (view_as l (Both (acts_of x.0) (tally_of x.0) (front_of x.0) (done_of x.0)), [])) (sym now') (λ i. (view_as (layout i) (Both (acts_of me.0) (tally_of me.0) (front_of w) (done_of w)), empty i))
+
+-- what a mark leaves
+pub marked_is : (l : Layout) (me mid me' : SeatView) (i j : ℕ) → i ≡ j → mid ≡ me → me ≡ (reader_view l (front_of me.0) (done_of me.0), []) → me' ≡ with_mark i mid → me' ≡ (reader_view l (front_of me.0) (done_of me.0 ++ mark_at j (front_of me.0) ∷ []), [])
+marked_is l me mid me' i j same still is e = e ∙ (ap (with_mark i) still ∙ (λ z. (reader_view (ap (λ (m : SeatView). m.0.layout) is z) (front_of me.0) (done_of me.0 ++ mark_at (same z) (front_of me.0) ∷ []), ap (λ (m : SeatView). m.1) is z)))
+
+-- what is known of a reader's badge after a mark
+pub marked_as : (l : Layout) (views views' : List View) (v v' : View) (i : ℕ) → IsReader views → views ≡ v ∷ [] → v.layout ≡ l → v' ≡ reader_view l (front_of v) (done_of v ++ mark_at i (front_of v) ∷ []) → views' ≡ v' ∷ [] → IsReader views'
+marked_as l views views' v v' i mine is layout now' is' =
+    let h : IsReader (v ∷ []) = subst IsReader is mine in
+    let lawful : AreLawful l (front_of v) = subst (λ (z : Layout). AreLawful z (front_of v)) layout h.lawful in
+    let r : IsRecord l (front_of v) (done_of v) = subst (λ (z : Layout). IsRecord z (front_of v) (done_of v)) layout h.recorded in
+    subst IsReader (sym is') (subst (λ (x : View). IsReader (x ∷ [])) (sym now') (record { seat = refl; lawful = lawful; recorded = record_mark l (front_of v) (done_of v) i r }))
+
+pub index_at : (xs : List ℕ) (i x : ℕ) → get_elem? xs i ≡ some x → x ≡ get_or xs i 0
+index_at [] i x e = absurd (some-ne-none x (sym e))
+index_at (y ∷ ys) zero x e = sym (some-injective _ _ e)
+index_at (y ∷ ys) (suc i) x e = index_at ys i x e
+
+-- a new reader's badge
+pub new_reader : (l : Layout) (views : List View) (v : View) → views ≡ v ∷ [] → v ≡ reader_view l [] [] → IsReader views
+new_reader l views v is new = subst IsReader (sym (is ∙ ap (λ (x : View). x ∷ []) new)) (record { seat = refl; lawful = lawful_none l.width l.shape; recorded = record_none l [] })
+
+-- how many words a table of the layout has
+abbrev pub all_of : Layout → ℕ
+all_of l = all_words l.width l.shape
+
+-- what a reading leaves
+pub read_seat : (l : Layout) (me me' : SeatView) → me ≡ (reader_view l (front_of me.0) (done_of me.0), []) → me' ≡ (reader_view me.0.layout (front_of me'.0) (done_of me'.0), me.1) → me' ≡ (reader_view l (front_of me'.0) (done_of me'.0), [])
+read_seat l me me' is e = e ∙ (λ i. (reader_view (ap (λ (m : SeatView). m.0.layout) is i) (front_of me'.0) (done_of me'.0), ap (λ (m : SeatView). m.1) is i))
+
+pub read_one : (l : Layout) (me me' : SeatView) (a b : Access) (x : ℕ) → a ≡ b → me ≡ (reader_view l (front_of me.0) (done_of me.0), []) → ReadsOne me.0.layout (front_of me.0) (done_of me.0) a x (front_of me'.0) (done_of me'.0) → ReadsOne l (front_of me.0) (done_of me.0) b x (front_of me'.0) (done_of me'.0)
+read_one l me me' a b x same is r = subst (λ (y : Layout × Access). ReadsOne y.0 (front_of me.0) (done_of me.0) y.1 x (front_of me'.0) (done_of me'.0)) (λ i. (ap (λ (m : SeatView). m.0.layout) is i, same i)) r

@@ -1,0 +1,148 @@
+-- What a call on the writer's seat knows of the seat's view, and what its step leaves there.
+use Rattle.std.proofs.Common.{◌≡◌, ℕ, ◌+◌, ◌^◌, ◌<◌, List, [], ◌∷◌, ◌++◌, refl, ap, sym, ◌∙◌, subst, arith, Option, Some}
+use Rattle.std.specs.Prelude.{slice_index}
+use Rattle.mc_words.specs.declared.shape.Shape.{Shape}
+use Rattle.atomic_table.specs.Seated.{TableId}
+use Rattle.mc_words.specs.Keys.{stripe_of}
+use Rattle.mc_words.specs.Places.{word_count, version_place, version}
+use Rattle.mc_words.specs.Shapes.{IsShape}
+use Rattle.mc_words.proofs.Keys.{stripe_of-lt}
+use Rattle.mc_theory.specs.Acts.{IsAllowed}
+use Rattle.mc_theory.specs.Lists.{Made, state_of}
+use Rattle.mc_theory.specs.Traces.{HasVersionSteps}
+use Rattle.mc_theory.specs.declared.act.Act.{Act}
+use Rattle.mc_theory.specs.declared.act.Act.TheVariants.{Open, Slot, Item, Moment, Close, Hand, Mark}
+use Rattle.mc_theory.specs.declared.act.Deed.{Deed}
+use Rattle.mc_shared.specs.declared.layout.Layout.{Layout}
+use Rattle.mc_shared.specs.Records.{Opening, WriterRecord, opening_of, writer_record}
+use Rattle.mc_shared.specs.Views.{writer_view, acts_of, tally_of, layout_state, with_bit, layout_of}
+use Rattle.mc_shared.specs.Steps.{SeatView, WritesAt, MayMake, IsOffBits, IsPlain, bit_of}
+use Rattle.mc_shared.specs.TableRule.{word_after}
+use Rattle.mc_shared.specs.SeatFacts.{IsWriter, IsRun}
+use Rattle.mc_theory.specs.Writes.{NamesIn}
+use Rattle.mc_shared.proofs.WrittenPlaces.{act_names_in, write_small}
+use Rattle.mc_shared.proofs.BesideSeat.{may_make, close_writes, beside_of, plain_made, opened_made, counted_made, closed_made}
+
+-- an act that is stored read no bit
+stored_bit : (a : Act) (x : ℕ) → IsOffBits a → bit_of a x ≡ 0
+stored_bit (Open k d) x is = refl
+stored_bit (Slot p y) x is = refl
+stored_bit (Item i j y) x is = refl
+stored_bit Moment x is = refl
+stored_bit Close x is = refl
+stored_bit (Hand i) x is = absurd is
+stored_bit (Mark i) x is = absurd is
+
+-- the act is noted with some sum
+abbrev pub Noted : Act → SeatView → ℕ → SeatView → Type 0
+Noted a me x me' = (sum : ℕ) × (me' ≡ (writer_view me.0.layout (acts_of me.0 ++ with_bit a (bit_of a x) ∷ []) (tally_of me.0 ++ sum ∷ []), me.1))
+
+-- what a step of the writer leaves, whatever the tally is
+noted : (l : Layout) (me me' : SeatView) (a : Act) (x : ℕ) → Noted a me x me' → me' ≡ (writer_view me.0.layout (acts_of me.0 ++ with_bit a (bit_of a x) ∷ []) (tally_of me'.0), me.1)
+noted l me me' a x e = e.1 ∙ λ i. (writer_view me.0.layout (acts_of me.0 ++ with_bit a (bit_of a x) ∷ []) (ap (λ (m : SeatView). tally_of m.0) (sym e.1) i), me.1)
+
+-- what a store leaves, and what the hand leaves
+pub put_is : (l : Layout) (me me' : SeatView) (a b : Act) (x : ℕ) → a ≡ b → IsOffBits b → me ≡ (writer_view l (acts_of me.0) (tally_of me.0), []) → Noted a me x me' → me' ≡ (writer_view l (acts_of me.0 ++ with_bit b 0 ∷ []) (tally_of me'.0), [])
+put_is l me me' a b x same st is e =
+    let bit : bit_of a x ≡ 0 = ap (λ (c : Act). bit_of c x) same ∙ stored_bit b x st in
+    noted l me me' a x e ∙ λ i. (writer_view (ap (λ (m : SeatView). m.0.layout) is i) (acts_of me.0 ++ with_bit (same i) (bit i) ∷ []) (tally_of me'.0), ap (λ (m : SeatView). m.1) is i)
+
+pub take_is : (l : Layout) (me me' : SeatView) (a : Act) (i x y : ℕ) → a ≡ Hand i → y ≡ bit_of (Hand i) x → me ≡ (writer_view l (acts_of me.0) (tally_of me.0), []) → Noted a me x me' → me' ≡ (writer_view l (acts_of me.0 ++ with_bit (Hand i) y ∷ []) (tally_of me'.0), [])
+take_is l me me' a i x y same bit is e =
+    let found : bit_of a x ≡ y = ap (λ (b : Act). bit_of b x) same ∙ sym bit in
+    noted l me me' a x e ∙ λ j. (writer_view (ap (λ (m : SeatView). m.0.layout) is j) (acts_of me.0 ++ with_bit (same j) (found j) ∷ []) (tally_of me'.0), ap (λ (m : SeatView). m.1) is j)
+
+-- what a mark leaves
+pub touch_is : (l : Layout) (me me' : SeatView) (a : Act) (i x : ℕ) → a ≡ Mark i → me ≡ (writer_view l (acts_of me.0) (tally_of me.0), []) → Noted a me x me' → me' ≡ (writer_view l (acts_of me.0 ++ with_bit (Mark i) 0 ∷ []) (tally_of me'.0), [])
+touch_is l me me' a i x same is e =
+    let found : bit_of a x ≡ 0 = ap (λ (b : Act). bit_of b x) same in
+    noted l me me' a x e ∙ λ j. (writer_view (ap (λ (m : SeatView). m.0.layout) is j) (acts_of me.0 ++ with_bit (same j) (found j) ∷ []) (tally_of me'.0), ap (λ (m : SeatView). m.1) is j)
+
+-- the word at the place of a version is that version
+version_is : (w : List ℕ) (s n x : ℕ) → n ≡ version_place s → x ≡ slice_index w n → x ≡ version w s
+unfolding version
+version_is w s n x here is = is ∙ ap (λ (z : ℕ). slice_index w z) here
+
+version_at : (sh : Shape) (w : List ℕ) (s n x : ℕ) → n ≡ version_place s → x ≡ slice_index w n → ◌≡◌ {A = Option (ℕ × ℕ)} (Some (version_place s, version w s + 1)) (Some (n, x + 1))
+version_at sh w s n x here is = let e = version_is w s n x here is in λ i. Some (sym here i, sym e i + 1)
+
+module _ (t : TableId) (me : SeatView) (o : Opening) (w : WriterRecord) (place count at : ℕ) (v : writer_record (opening_of t me.0.layout) (acts_of me.0) ≡ w) (of : w.of ≡ o) (mine : IsWriter me place count at) where
+  layout_is : me.0.layout ≡ o.layout
+  layout_is = ap (λ (r : WriterRecord). r.of.layout) v ∙ ap (λ (p : Opening). p.layout) of
+
+  acts_is : acts_of me.0 ≡ w.acts
+  acts_is = ap (λ (r : WriterRecord). r.acts) v
+
+  pub seat_of : opening_of t me.0.layout ≡ o
+  seat_of = ap (λ (r : WriterRecord). r.of) v ∙ of
+
+  pub seat_is : me ≡ (writer_view o.layout (acts_of me.0) (tally_of me.0), [])
+  seat_is = mine.seat ∙ (λ i. (writer_view (layout_is i) (acts_of me.0) (tally_of me.0), []))
+
+  allowed_in : (a : Act) → IsAllowed o.layout.shape (layout_state o.layout w.acts) a → IsAllowed me.0.layout.shape (layout_state me.0.layout (acts_of me.0)) a
+  allowed_in a h = subst (λ (y : Layout × List Made). IsAllowed y.0.shape (layout_state y.0 y.1) a) (λ i. (sym layout_is i, sym acts_is i)) h
+
+  may_in : (a : Act) → IsAllowed o.layout.shape (layout_state o.layout w.acts) a → MayMake me.0.layout (acts_of me.0) a
+  may_in a h = may_make me place count at a mine (allowed_in a h)
+
+  pub may_at : (a : Act) → IsAllowed o.layout.shape (layout_state o.layout w.acts) a → MayMake o.layout (acts_of me.0) a
+  may_at a h = subst (λ (l : Layout). MayMake l (acts_of me.0) a) layout_is (may_in a h)
+
+  pub writes_at : (a : Act) (n x : ℕ) → WritesAt o.layout w.acts a n x → WritesAt o.layout (acts_of me.0) a n x
+  writes_at a n x h = subst (λ (z : List Made). WritesAt o.layout z a n x) (sym acts_is) h
+
+  -- where the moment and a close write, and that it fits
+  pub moment_at : WritesAt o.layout (acts_of me.0) Moment 0 (at + 1)
+  moment_at = subst (λ (l : Layout). WritesAt l (acts_of me.0) Moment 0 (at + 1)) layout_is (ap (λ (y : ℕ). Some (0, y + 1)) (sym mine.moment_is))
+
+  pub moment_fits : IsAllowed o.layout.shape (layout_state o.layout w.acts) Moment → at + 1 < 2 ^ 64
+  moment_fits h = write_small o.layout (acts_of me.0) Moment 0 (at + 1) (may_at Moment h) moment_at
+
+  pub close_at : IsAllowed o.layout.shape (layout_state o.layout w.acts) Close → WritesAt o.layout (acts_of me.0) Close place (count + 1)
+  close_at h =
+      let s = layout_state me.0.layout (acts_of me.0) in
+      subst (λ (l : Layout). WritesAt l (acts_of me.0) Close place (count + 1)) layout_is (close_writes me.0.layout s.words s.hand s.cleared s.phase place count at (allowed_in Close h) (beside_of me place count at mine))
+
+  pub close_fits : IsAllowed o.layout.shape (layout_state o.layout w.acts) Close → count + 1 < 2 ^ 64
+  close_fits h = write_small o.layout (acts_of me.0) Close place (count + 1) (may_at Close h) (close_at h)
+
+  -- where an opening writes, and that it fits
+  pub open_at : (k : ℕ) (d : Deed) (n x : ℕ) → n ≡ version_place (stripe_of o.layout.shape k) → x ≡ word_after o.layout (acts_of me.0) n → WritesAt o.layout (acts_of me.0) (Open k d) n (x + 1)
+  open_at k d n x here is = version_at o.layout.shape (layout_state o.layout (acts_of me.0)).words (stripe_of o.layout.shape k) n x here is
+
+  pub open_below : (k n : ℕ) → n ≡ version_place (stripe_of o.layout.shape k) → n < word_count o.layout.width o.layout.shape
+  open_below k n here =
+      let s : IsShape o.layout.shape = subst (λ (l : Layout). IsShape l.shape) layout_is mine.shape in
+      omega (arith, stripe_of-lt o.layout.shape k s, here)
+
+  pub open_fits : (k : ℕ) (d : Deed) (n x : ℕ) → n ≡ version_place (stripe_of o.layout.shape k) → x ≡ word_after o.layout (acts_of me.0) n → IsAllowed o.layout.shape (layout_state o.layout w.acts) (Open k d) → x + 1 < 2 ^ 64
+  open_fits k d n x here is h = write_small o.layout (acts_of me.0) (Open k d) n (x + 1) (may_at (Open k d) h) (open_at k d n x here is)
+
+  -- ---- after a step
+  made_in : (me' : SeatView) (a : Act) (b : ℕ) → me' ≡ (writer_view o.layout (acts_of me.0 ++ with_bit a b ∷ []) (tally_of me'.0), []) → me' ≡ (writer_view me.0.layout (acts_of me.0 ++ with_bit a b ∷ []) (tally_of me'.0), [])
+  made_in me' a b e = e ∙ (λ i. (writer_view (sym layout_is i) (acts_of me.0 ++ with_bit a b ∷ []) (tally_of me'.0), []))
+
+  pub after_plain : (me' : SeatView) (a : Act) (b : ℕ) → IsPlain a → IsAllowed o.layout.shape (layout_state o.layout w.acts) a → me' ≡ (writer_view o.layout (acts_of me.0 ++ with_bit a b ∷ []) (tally_of me'.0), []) → IsWriter me' place count at
+  after_plain me' a b is h e = plain_made me me' a b place count at mine is (may_in a h) (made_in me' a b e)
+
+  pub after_moment : (me' : SeatView) (b : ℕ) → IsAllowed o.layout.shape (layout_state o.layout w.acts) Moment → me' ≡ (writer_view o.layout (acts_of me.0 ++ with_bit Moment b ∷ []) (tally_of me'.0), []) → IsWriter me' place count (at + 1)
+  after_moment me' b h e = counted_made me me' b place count at mine (may_in Moment h) (made_in me' Moment b e)
+
+  pub after_close : (me' : SeatView) (b place' count' : ℕ) → IsAllowed o.layout.shape (layout_state o.layout w.acts) Close → me' ≡ (writer_view o.layout (acts_of me.0 ++ with_bit Close b ∷ []) (tally_of me'.0), []) → IsWriter me' place' count' at
+  after_close me' b place' count' h e = closed_made me me' b place count at place' count' mine (may_in Close h) (made_in me' Close b e)
+
+  pub after_open : (me' : SeatView) (k : ℕ) (d : Deed) (b n x : ℕ) → n ≡ version_place (stripe_of o.layout.shape k) → x ≡ word_after o.layout (acts_of me.0) n → IsAllowed o.layout.shape (layout_state o.layout w.acts) (Open k d) → HasVersionSteps o.layout.shape.limit (layout_state o.layout w.acts).version_steps (Open k d)
+      → me' ≡ (writer_view o.layout (acts_of me.0 ++ with_bit (Open k d) b ∷ []) (tally_of me'.0), []) → IsWriter me' n (x + 1) at
+  after_open me' k d b n x here is h has e =
+      let has' : HasVersionSteps me.0.layout.shape.limit (layout_state me.0.layout (acts_of me.0)).version_steps (Open k d) = subst (λ (y : Layout × List Made). HasVersionSteps y.0.shape.limit (layout_state y.0 y.1).version_steps (Open k d)) (λ i. (sym layout_is i, sym acts_is i)) has in
+      let here' : n ≡ version_place (stripe_of me.0.layout.shape k) = subst (λ (l : Layout). n ≡ version_place (stripe_of l.shape k)) (sym layout_is) here in
+      let is' : x ≡ word_after me.0.layout (acts_of me.0) n = subst (λ (l : Layout). x ≡ word_after l (acts_of me.0) n) (sym layout_is) is in
+      let next : x + 1 ≡ version (layout_state me.0.layout (acts_of me.0)).words (stripe_of me.0.layout.shape k) + 1 = ap (λ y. y + 1) (version_is (layout_state me.0.layout (acts_of me.0)).words _ n x here' is') in
+      opened_made me me' k d b place count at n (x + 1) mine (may_in (Open k d) h) has' here' next (made_in me' (Open k d) b e)
+
+-- what an allowed act names is of the table, for a caller that knows the number of words of a value
+pub named_in : (V : ℕ) (sh : Shape) (o : Opening) (w : WriterRecord) (a : Act) → o.layout ≡ layout_of V sh → w.of ≡ o → IsRun w.of.layout w.acts → IsAllowed o.layout.shape (state_of V o.layout.shape w.acts) a → NamesIn V sh a
+named_in V sh o w a e of run h =
+    let r : IsRun (layout_of V sh) w.acts = subst (λ (l : Layout). IsRun l w.acts) (ap (λ (p : Opening). p.layout) of ∙ e) run in
+    let allowed : IsAllowed sh (state_of V sh w.acts) a = subst (λ (z : Shape). IsAllowed z (state_of V z w.acts) a) (ap (λ (l : Layout). l.shape) e) h in
+    act_names_in (layout_of V sh) w.acts a (record { shape = r.shape; lawful = r.lawful; allowed = allowed; few = omega (arith, r.within, r.shape.limit) })

@@ -1,0 +1,10 @@
+use Rattle.std.proofs.Common.{ap, sym, ◌∙◌}
+use Rattle.mc_words.specs.Checks.{shape_of}
+use Rattle.mc_theory.specs.declared.act.Act.TheVariants.{Item}
+use Rattle.mc_shared.specs.Records.{Opening}
+use Rattle.mc_shared.proofs.SeatSteps.{named_in}
+use Rattle.mc_shared.proofs.writer_calls.write_item.Goals as goal
+
+pub item_place-at-requires-clause-item : goal.item_place-at-requires-clause-item
+item_place-at-requires-clause-item g c =
+    (named_in g.row.V (shape_of c.cells.inside.checked) c.args.cells.now c.args.writer.now (Item c.args.i c.args.j c.args.word) (ap (λ (o : Opening). o.layout) (sym c.cells.view_is) ∙ c.cells.invariant.0) c.requires.of c.known.ensures c.requires.allowed).0

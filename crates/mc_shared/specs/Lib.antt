@@ -1,0 +1,6 @@
+pub mod Views
+pub mod RecencyTrace
+pub mod TableRule
+pub mod Steps
+pub mod SeatFacts
+pub mod Records

@@ -1,0 +1,40 @@
+-- What a clause sees of a table and of its seats.
+use Rattle.std.specs.Prelude.{◌≡◌, List}
+use Rattle.atomic_table.specs.Seated.{TableId}
+use Rattle.mc_words.specs.Places.{all_words, IsWidth}
+use Rattle.mc_words.specs.Shapes.{IsShape}
+use Rattle.mc_theory.specs.Lists.{Made}
+use Rattle.mc_theory.specs.Readings.{Reading}
+use Rattle.mc_shared.specs.declared.layout.Layout.{Layout}
+
+-- which table it is
+pub record Opening : Type 0 where
+  pub table : TableId
+  pub layout : Layout
+
+-- the acts that the writer of a table made
+pub record WriterRecord : Type 0 where
+  pub of : Opening
+  pub acts : List Made
+
+-- the last front that a reader of a table saw, and what it read and marked
+pub record ReaderRecord : Type 0 where
+  pub of : Opening
+  pub front : List Made
+  pub done : List Reading
+
+abbrev pub opening_of : TableId → Layout → Opening
+opening_of t l = record { table = t; layout = l }
+
+abbrev pub writer_record : Opening → List Made → WriterRecord
+writer_record o acts = record { of = o; acts = acts }
+
+abbrev pub reader_record : Opening → List Made → List Reading → ReaderRecord
+reader_record o front done = record { of = o; front = front; done = done }
+
+-- the table has the words of this layout, and no slots
+pub record IsLaid (t : TableId) (l : Layout) : Type 0 where
+  pub words : t.words ≡ all_words l.width l.shape
+  pub slots : t.slots ≡ 0
+  pub shape : IsShape l.shape
+  pub width : IsWidth l.width

@@ -1,0 +1,137 @@
+-- What each step on a seat tells: what is written where, and what the seat's view is after it.
+use Rattle.std.specs.Prelude.{◌≡◌, ℕ, ◌-◌, ◌^◌, ◌≤◌, List, [], ◌∷◌, ◌++◌, length, Some}
+use Rattle.std.specs.Int.{bit_at}
+use Rattle.atomic_table.specs.Table.{Me, Step}
+use Rattle.mc_words.specs.Places.{recency_place}
+use Rattle.mc_words.specs.Recency.{recency_bit}
+use Rattle.mc_words.specs.Shapes.{IsShape}
+use Rattle.mc_theory.specs.Acts.{IsAllowed}
+use Rattle.mc_theory.specs.Lists.{Made}
+use Rattle.mc_theory.specs.Readings.{Reading}
+use Rattle.mc_theory.specs.Writes.{write_of, place_read}
+use Rattle.mc_theory.specs.declared.access.Access.{Access}
+use Rattle.mc_theory.specs.declared.access.Access.TheVariants as access
+use Rattle.mc_theory.specs.declared.act.Act.{Act}
+use Rattle.mc_theory.specs.declared.act.Act.TheVariants.{Slot, Item, Hand, Mark}
+use Rattle.mc_shared.specs.TableRule.{word_after, IsRecord}
+use Rattle.mc_shared.specs.Views.{Both, View, view_as, writer_view, reader_view, acts_of, tally_of, front_of, done_of, AreLawful, layout_state, with_bit, IsFrontOf}
+use Rattle.mc_shared.specs.declared.layout.Layout.{Layout}
+
+-- a seat's view, and the slots that it holds: none
+abbrev pub SeatView : Type 0
+SeatView = Me (Unit {0}) View
+
+-- ---- the writer's steps
+-- a word with the bit of the item alone, and one with all bits but that
+abbrev pub only : ℕ → ℕ
+only i = 2 ^ recency_bit i
+
+abbrev pub all_but : ℕ → ℕ
+all_but i = 2 ^ 64 - 1 - only i
+
+-- the word at which an act is made, and what it writes there: of a recency word, which bits are kept by an `and`, or set by an `or`
+abbrev pub WritesAt : Layout → List Made → Act → ℕ → ℕ → Type 0
+WritesAt l acts (Hand i) n x = (n ≡ recency_place l.width l.shape i) × (x ≡ all_but i)
+WritesAt l acts (Mark i) n x = (n ≡ recency_place l.width l.shape i) × (x ≡ only i)
+WritesAt l acts a n x = write_of l.width l.shape (layout_state l acts).words (layout_state l acts).phase a ≡ Some (n, x)
+
+-- the act may be made after these, and the versions are still far from 2^64
+pub record MayMake (l : Layout) (acts : List Made) (a : Act) : Type 0 where
+  pub shape : IsShape l.shape
+  pub lawful : AreLawful l acts
+  pub allowed : IsAllowed l.shape (layout_state l acts) a
+  pub few : (layout_state l acts).version_steps ≤ 2 ^ 62
+
+-- the act is none of the hand
+abbrev pub IsStored : Act → Type 0
+IsStored (Hand i) = ⊥
+IsStored _ = Unit {0}
+
+-- the act is on no recency bit
+abbrev pub IsOffBits : Act → Type 0
+IsOffBits (Hand i) = ⊥
+IsOffBits (Mark i) = ⊥
+IsOffBits _ = Unit {0}
+
+-- the act changes neither the moment nor a version
+abbrev pub IsPlain : Act → Type 0
+IsPlain (Slot p x) = Unit {0}
+IsPlain (Item i j x) = Unit {0}
+IsPlain (Hand i) = Unit {0}
+IsPlain (Mark i) = Unit {0}
+IsPlain _ = ⊥
+
+-- the bit that an act read: only the hand reads one
+abbrev pub bit_of : Act → ℕ → ℕ
+bit_of (Hand i) found = bit_at found (recency_bit i)
+bit_of _ found = 0
+
+-- the writer's record has this act more, with the bit that the step found. What the step may write, and where, the rule says
+abbrev pub AddsAct : Act → Step (Unit {0}) → SeatView → ℕ → SeatView → Type 0
+AddsAct a st me found me' = (sum : ℕ) × (me' ≡ (writer_view me.0.layout (acts_of me.0 ++ with_bit a (bit_of a found) ∷ []) (tally_of me.0 ++ sum ∷ []), me.1))
+
+-- the number of the bit that a mark sets
+abbrev pub mark_bit : Act → ℕ
+mark_bit (Mark i) = recency_bit i
+mark_bit _ = 0
+
+-- a load that finds the bit of its item set is that mark, and one that finds it clear adds nothing
+abbrev pub AddsActIfSet : Act → Step (Unit {0}) → SeatView → ℕ → SeatView → Type 0
+AddsActIfSet a st me found me' = (bit_at found (mark_bit a) ≡ 1 → AddsAct a st me found me') × (bit_at found (mark_bit a) ≡ 0 → me' ≡ me)
+
+-- nothing changes, and what is found is the word of the place in the writer's state
+abbrev pub FetchesWord : Step (Unit {0}) → SeatView → ℕ → SeatView → Type 0
+FetchesWord st me found me' = (me' ≡ me) × (found ≡ word_after me.0.layout (acts_of me.0) st.word)
+
+-- ---- a reader's steps
+abbrev pub reading : Access → ℕ → List Made → Reading
+reading a word front = record { access = a; word = word; front = length front }
+
+-- what a reading adds to a record: it is the last, at a front which the old one begins
+pub record ReadsOne (l : Layout) (front : List Made) (done : List Reading) (a : Access) (word : ℕ) (front' : List Made) (done' : List Reading) : Type 0 where
+  pub begins : IsFrontOf front front'
+  pub adds : done' ≡ done ++ reading a word front' ∷ []
+  pub lawful : AreLawful l front'
+  pub recorded : IsRecord l front' done'
+
+-- a load of the place of the access adds that reading
+abbrev pub ReadsWord : Access → Step (Unit {0}) → SeatView → ℕ → SeatView → Type 0
+ReadsWord a st me found me' =
+    (place_read me.0.layout.width me.0.layout.shape a ≡ Some st.word)
+    × (me' ≡ (reader_view me.0.layout (front_of me'.0) (done_of me'.0), me.1))
+    × ReadsOne me.0.layout (front_of me.0) (done_of me.0) a found (front_of me'.0) (done_of me'.0)
+
+-- a mark reads no word
+abbrev pub mark_at : ℕ → List Made → Reading
+mark_at i front = reading (access.Mark i) 0 front
+
+-- a seat with one mark more
+abbrev pub with_mark : ℕ → SeatView → SeatView
+with_mark i me = (reader_view me.0.layout (front_of me.0) (done_of me.0 ++ mark_at i (front_of me.0) ∷ []), me.1)
+
+abbrev pub AddsMark : ℕ → Step (Unit {0}) → SeatView → ℕ → SeatView → Type 0
+AddsMark i st me found me' = me' ≡ with_mark i me
+
+-- a load that finds the bit of the item set is a mark of it, and one that finds it clear adds nothing
+abbrev pub AddsMarkIfSet : ℕ → Step (Unit {0}) → SeatView → ℕ → SeatView → Type 0
+AddsMarkIfSet i st me found me' = (bit_at found (recency_bit i) ≡ 1 → me' ≡ with_mark i me) × (bit_at found (recency_bit i) ≡ 0 → me' ≡ me)
+
+-- ---- a reader joined to the writer
+-- what the reader saw begins the acts, and its record is one of them too
+abbrev pub ComparesMoment : Step (Unit {0}) → SeatView → ℕ → SeatView → Type 0
+ComparesMoment st me found me' =
+    (me' ≡ me) × IsFrontOf (front_of me.0) (acts_of me.0) × IsRecord me.0.layout (acts_of me.0) (done_of me.0)
+    × (found ≡ word_after me.0.layout (acts_of me.0) st.word)
+
+abbrev pub new_reader_view : View → View
+new_reader_view v = reader_view v.layout [] []
+
+abbrev pub joined_view : View → View → View
+joined_view v w = view_as v.layout (Both (acts_of v) (tally_of v) (front_of w) (done_of w))
+
+abbrev pub writer_part : View → View
+writer_part v = writer_view v.layout (acts_of v) (tally_of v)
+
+-- the reader that is split off again has seen all acts
+abbrev pub reader_part : View → View
+reader_part v = reader_view v.layout (acts_of v) (done_of v)

@@ -1,0 +1,96 @@
+-- What a seat of a table knows. It exists in proofs alone.
+use Rattle.std.specs.Prelude.{ℕ, ◌≡◌, List, [], ◌++◌}
+use Rattle.mc_theory.specs.Lists.{Made, IsLawful, state_of}
+use Rattle.mc_theory.specs.Readings.{Reading}
+use Rattle.mc_theory.specs.States.{State}
+use Rattle.mc_theory.specs.declared.act.Act.{Act}
+use Rattle.mc_words.specs.declared.shape.Shape.{Shape}
+use Rattle.mc_words.specs.declared.mix.Mix.TheVariants.{Plain}
+use Rattle.mc_shared.specs.declared.layout.Layout.{Layout}
+
+-- what was done on a seat: the acts that were made, or the last front that was seen and what was read and marked
+pub data Role : Type 0 where
+  -- it was joined to the writer's
+  Spent : Role
+  -- the acts, and for each how many marks readers had made of its item, where it is one of the hand
+  Writes : (acts : List Made) (tally : List ℕ) → Role
+  Reads : (front : List Made) (done : List Reading) → Role
+  -- the writer's, with a reader's joined to it
+  Both : (acts : List Made) (tally : List ℕ) (front : List Made) (done : List Reading) → Role
+
+-- of which tables it is one, and what was done
+pub record View : Type 0 where
+  pub layout : Layout
+  pub role : Role
+
+abbrev pub view_as : Layout → Role → View
+view_as l r = record { layout = l; role = r }
+
+abbrev pub writer_view : Layout → List Made → List ℕ → View
+writer_view l acts tally = view_as l (Writes acts tally)
+
+abbrev pub reader_view : Layout → List Made → List Reading → View
+reader_view l front done = view_as l (Reads front done)
+
+-- the writer's seat of a new table
+abbrev pub new_writer_view : Layout → View
+new_writer_view l = writer_view l [] []
+
+-- what no seat of a table knows
+abbrev pub spent_view : View
+spent_view = view_as (record { shape = record { buckets = 0; items = 0; stripes = 0; depth = 0; tries = 0; limit = 0; mix = Plain }; width = 0 }) Spent
+
+abbrev pub acts_in : Role → List Made
+acts_in Spent = []
+acts_in (Writes acts tally) = acts
+acts_in (Reads front done) = []
+acts_in (Both acts tally front done) = acts
+
+abbrev pub tally_in : Role → List ℕ
+tally_in Spent = []
+tally_in (Writes acts tally) = tally
+tally_in (Reads front done) = []
+tally_in (Both acts tally front done) = tally
+
+abbrev pub front_in : Role → List Made
+front_in Spent = []
+front_in (Writes acts tally) = []
+front_in (Reads front done) = front
+front_in (Both acts tally front done) = front
+
+abbrev pub done_in : Role → List Reading
+done_in Spent = []
+done_in (Writes acts tally) = []
+done_in (Reads front done) = done
+done_in (Both acts tally front done) = done
+
+abbrev pub acts_of : View → List Made
+acts_of v = acts_in v.role
+
+abbrev pub tally_of : View → List ℕ
+tally_of v = tally_in v.role
+
+abbrev pub front_of : View → List Made
+front_of v = front_in v.role
+
+abbrev pub done_of : View → List Reading
+done_of v = done_in v.role
+
+-- the acts of this layout are lawful
+abbrev pub AreLawful : Layout → List Made → Type 0
+AreLawful l acts = IsLawful l.width l.shape acts
+
+-- the state after these acts
+abbrev pub layout_state : (l : Layout) → List Made → State l.width
+layout_state l acts = state_of l.width l.shape acts
+
+abbrev pub with_bit : Act → ℕ → Made
+with_bit a bit = record { act = a; bit = bit }
+
+-- one list begins the other
+abbrev pub IsFrontOf : List Made → List Made → Type 0
+IsFrontOf front acts = (more : List Made) × (acts ≡ front ++ more)
+
+-- where the words of a table of this shape lie, if a value has V words
+abbrev pub layout_of : ℕ → Shape → Layout
+layout_of V sh = record { shape = sh; width = V }

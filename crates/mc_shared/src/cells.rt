@@ -1,0 +1,81 @@
+//! The shared words of a table whose values have `V` words: they are opened, and closed.
+ghost use Rattle.std.specs.Prelude.{◌≡◌, ◌<◌, ◌≤◌, ℕ, [], IfOk, length, replicate, slice_index};
+ghost use Rattle.mc_words.specs.Checks.{shape_of};
+ghost use Rattle.mc_words.specs.Places.{IsWidth, all_words, word_count};
+ghost use Rattle.mc_theory.specs.Lists.{state_of};
+ghost use Rattle.mc_shared.specs.Views.{layout_of};
+ghost use Rattle.mc_shared.specs.Records.{writer_record, reader_record};
+
+use crate::layout::Layout;
+use crate::opening::{close_words, open_words};
+use crate::ruled_words::RuledWords;
+use crate::seats::{ReaderSeat, WriterSeat};
+use crate::words::Words;
+use mc_words::{Checked, NoMemory};
+use std::alloc::Global;
+use std::marker::Model;
+
+/// The words of a table, which all threads share, and their rule.
+#[derive(Drop)]
+pub struct Cells<const V: usize> {
+    pub(crate) ruled: RuledWords,
+    pub(crate) checked: Checked,
+}
+
+impl<const V: usize> Model for Cells<V> {
+    ghost use Rattle.std.specs.Prelude.{◌≡◌};
+    ghost use Rattle.mc_words.specs.Checks.{shape_of};
+    ghost use Rattle.mc_words.specs.Places.{IsWidth};
+    ghost use Rattle.mc_shared.specs.Records.{Opening};
+    ghost use Rattle.mc_shared.specs.Views.{layout_of};
+
+    ghost Value = { Opening };
+
+    ghost view = { λ c. c.ruled };
+
+    ghost invariant = { λ c. (c.ruled.layout ≡ layout_of V (shape_of c.checked)) × IsWidth V };
+}
+
+impl<const V: usize> Cells<V> {
+    /// The shape of the table.
+    pub fn checked(&self) -> &Checked
+        ensures layout { self.now.layout ≡ layout_of V (shape_of result.now) }
+        ensures width { IsWidth V }
+    {
+        &self.checked
+    }
+}
+
+/// A table with empty records, and as many readers' seats as are asked for. `Err(NoMemory)` where the words or the seats can't be stored.
+pub fn open<const V: usize>(
+    alloc: Global,
+    checked: &Checked,
+    readers: u32,
+) -> Result<(Cells<V>, WriterSeat, Vec<ReaderSeat>), NoMemory>
+    requires width { IsWidth V }
+    requires readers { (1 ≤ readers) × (readers ≤ 1024) }
+    ensures cells { IfOk result (λ r. r.0.layout ≡ layout_of V (shape_of checked.now)) }
+    ensures writer { IfOk result (λ r. r.1 ≡ writer_record r.0 []) }
+    ensures readers { IfOk result (λ r. r.2.items ≡ replicate readers (reader_record r.0 [] [])) }
+{
+    let layout = Layout {
+        shape: checked.shape(),
+        width: V,
+    };
+    let (ruled, writer, seats) = open_words(alloc, layout, checked.words::<V>(), readers)?;
+    let cells = Cells {
+        ruled,
+        checked: *checked,
+    };
+    Ok((cells, writer, seats))
+}
+
+/// The words at the end. Those before the recency words are those after all acts.
+pub fn close<const V: usize>(cells: Cells<V>, writer: WriterSeat, readers: Vec<ReaderSeat>) -> Words
+    requires { writer.of ≡ cells }
+    ensures length { length result ≡ all_words V cells.entry.layout.shape }
+    ensures words { (n : ℕ) → n < word_count V cells.entry.layout.shape → slice_index result n ≡ slice_index (state_of V cells.entry.layout.shape writer.acts).words n }
+{
+    let Cells { ruled, checked: _ } = cells;
+    close_words(ruled, writer, readers)
+}

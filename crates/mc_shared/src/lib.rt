@@ -1,0 +1,31 @@
+//! The words of a table that threads share under a rule, and the seats of its writer and its readers.
+//!
+//! Each step on a seat is one act of the writer or one access of a reader, of the states that `mc_theory` speaks of. The
+//! rule says that between any two steps the words are those after the writer's acts, and each reader's record is one of
+//! a front of them. Every load, store, `fetch_and` and `fetch_or` of the running cache is in `writer_steps`,
+//! `reader_steps` and `catch_up`; no call waits, and none but `open` takes memory.
+#![tactic(auto)]
+
+mod catch_up;
+mod cells;
+mod layout;
+mod opening;
+mod plays;
+mod reader_calls;
+mod reader_steps;
+mod ruled_words;
+mod seats;
+mod words;
+mod writer_calls;
+mod writer_steps;
+
+pub use cells::{Cells, close, open};
+pub use layout::Layout;
+pub use plays::{Known, NamesAccess, NamesAct, NamesItem, Ruling};
+pub use reader_calls::{catch, mark, mark_unless_set, read, read_at};
+pub use seats::{ReaderSeat, WriterSeat};
+pub use words::Words;
+pub use writer_calls::{
+    begin_deed, count_moment, end_deed, fetch, perform, set_mark, set_mark_unless_set, turn_hand,
+    write_item, write_slot,
+};

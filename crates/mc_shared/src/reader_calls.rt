@@ -1,0 +1,84 @@
+//! The readers' steps on shared words: one reading, one mark, and the meeting with the writer.
+ghost use Rattle.std.specs.Prelude.{◌≡◌, ◌<◌, [], ◌∷◌, ◌++◌, Some, IsSome};
+ghost use Rattle.mc_words.specs.Places.{moment, word_count};
+ghost use Rattle.mc_theory.specs.Lists.{state_of};
+ghost use Rattle.mc_theory.specs.Writes.{IsAccess, place_read};
+ghost use Rattle.mc_shared.specs.Views.{layout_of, IsFrontOf};
+ghost use Rattle.mc_shared.specs.Steps.{ReadsOne, mark_at};
+ghost use Rattle.mc_shared.specs.Records.{reader_record};
+
+use crate::catch_up::catch_up;
+use crate::cells::Cells;
+use crate::reader_steps::{mark_item, mark_item_unless_set, read_word};
+use crate::seats::{ReaderSeat, WriterSeat};
+use mc_theory::Access;
+
+/// One reading: a load of the word of the access.
+pub fn read<const V: usize>(cells: &Cells<V>, reader: &mut ReaderSeat, access: Access) -> u64
+    requires of { reader.old.of ≡ cells.now }
+    requires access { IsAccess V cells.now.layout.shape access }
+    requires load { IsSome (place_read V cells.now.layout.shape access) }
+    ensures of { reader.new.of ≡ reader.old.of }
+    ensures one { ReadsOne (layout_of V cells.now.layout.shape) reader.old.front reader.old.done access result reader.new.front reader.new.done }
+{
+    let checked = &cells.checked;
+    let place = match access {
+        Access::Version(stripe) => checked.version_place(stripe),
+        Access::Slot(place) => checked.slot_place(place),
+        Access::Key(i) => checked.item_place::<V>(i, 0),
+        Access::Value(i, j) => checked.item_place::<V>(i, j),
+        Access::Moment | Access::Mark(_) => checked.moment_place(),
+    };
+    read_word(&cells.ruled, reader, access, place)
+}
+
+/// The same, for a caller that has worked out the place of the access.
+pub fn read_at<const V: usize>(
+    cells: &Cells<V>,
+    reader: &mut ReaderSeat,
+    access: Access,
+    place: usize,
+) -> u64
+    requires of { reader.old.of ≡ cells.now }
+    requires place { place_read V cells.now.layout.shape access ≡ Some place }
+    requires range { place < word_count V cells.now.layout.shape }
+    ensures of { reader.new.of ≡ reader.old.of }
+    ensures one { ReadsOne (layout_of V cells.now.layout.shape) reader.old.front reader.old.done access result reader.new.front reader.new.done }
+{
+    read_word(&cells.ruled, reader, access, place)
+}
+
+/// Sets the recency bit of an item: one `fetch_or`.
+pub fn mark<const V: usize>(cells: &Cells<V>, reader: &mut ReaderSeat, i: u32)
+    requires of { reader.old.of ≡ cells.now }
+    requires item { i < cells.now.layout.shape.items }
+    ensures { reader.new ≡ reader_record reader.old.of reader.old.front (reader.old.done ++ mark_at i reader.old.front ∷ []) }
+{
+    let place = cells.checked.recency_place::<V>(i);
+    mark_item(&cells.ruled, reader, i, place, cells.checked.recency_bit(i));
+}
+
+/// The same as `mark`. Where the bit is set already, the load that finds it so is the mark, and nothing is written.
+pub fn mark_unless_set<const V: usize>(cells: &Cells<V>, reader: &mut ReaderSeat, i: u32)
+    requires of { reader.old.of ≡ cells.now }
+    requires item { i < cells.now.layout.shape.items }
+    ensures { reader.new ≡ reader_record reader.old.of reader.old.front (reader.old.done ++ mark_at i reader.old.front ∷ []) }
+{
+    let place = cells.checked.recency_place::<V>(i);
+    mark_item_unless_set(&cells.ruled, reader, i, place, cells.checked.recency_bit(i));
+}
+
+/// Shows the reader all acts of the writer, and gives the moment.
+pub fn catch<const V: usize>(
+    cells: &Cells<V>,
+    reader: &mut ReaderSeat,
+    writer: &mut WriterSeat,
+) -> u64
+    requires of { (reader.old.of ≡ cells.now) × (writer.old.of ≡ cells.now) }
+    ensures writer { writer.new ≡ writer.old }
+    ensures reader { reader.new ≡ reader_record reader.old.of writer.old.acts reader.old.done }
+    ensures begins { IsFrontOf reader.old.front writer.old.acts }
+    ensures moment { result ≡ moment (state_of V cells.now.layout.shape writer.old.acts).words }
+{
+    catch_up(&cells.ruled, reader, writer)
+}

@@ -1,0 +1,80 @@
+//! The seats of the writer and of the readers.
+use crate::plays::Known;
+use atomic_table::{Badge, Seat};
+use std::marker::Model;
+
+/// The writer's seat. Contracts see it as the acts that were made on it.
+#[derive(Drop)]
+pub struct WriterSeat {
+    pub(crate) seat: Seat<(), Known>,
+    /// Where the version of the running deed's key lies.
+    pub(crate) place: usize,
+    /// That version.
+    pub(crate) count: u64,
+    /// The moment.
+    pub(crate) at: u64,
+}
+
+impl Model for WriterSeat {
+    ghost use Rattle.mc_shared.specs.Views.{acts_of};
+    ghost use Rattle.mc_shared.specs.SeatFacts.{IsWriter};
+    ghost use Rattle.mc_shared.specs.Records.{WriterRecord, writer_record, opening_of};
+
+    ghost Value = { WriterRecord };
+
+    ghost view = { λ w. writer_record (opening_of w.seat.table_id w.seat.me.0.layout) (acts_of w.seat.me.0) };
+
+    ghost invariant = { λ w. IsWriter w.seat.me w.place w.count w.at };
+}
+
+impl WriterSeat {
+    ghost use Rattle.mc_shared.specs.SeatFacts.{IsRun};
+    ghost use Rattle.std.specs.Prelude.{◌≡◌};
+    ghost use Rattle.mc_words.specs.Places.{moment};
+    ghost use Rattle.mc_shared.specs.Views.{layout_state};
+
+    /// The moment, which the seat keeps beside the words.
+    pub fn moment(&self) -> u64
+        ensures { result ≡ moment (layout_state self.now.of.layout self.now.acts).words }
+    {
+        self.at
+    }
+
+    /// What is always known of the acts.
+    pub fn known(&self)
+        ensures { IsRun self.now.of.layout self.now.acts }
+    {
+        let _at = self.at;
+    }
+}
+
+/// A reader's seat. Contracts see it as the last front that was seen on it, and what was read and marked.
+#[derive(Drop)]
+pub struct ReaderSeat {
+    pub(crate) badge: Badge<Known>,
+}
+
+impl Model for ReaderSeat {
+    ghost use Rattle.mc_shared.specs.Views.{front_of, done_of};
+    ghost use Rattle.mc_shared.specs.SeatFacts.{view_of, IsReader};
+    ghost use Rattle.mc_shared.specs.Records.{ReaderRecord, reader_record, opening_of};
+
+    ghost Value = { ReaderRecord };
+
+    ghost view = { λ r. reader_record (opening_of r.badge.table_id (view_of r.badge.views).layout) (front_of (view_of r.badge.views)) (done_of (view_of r.badge.views)) };
+
+    ghost invariant = { λ r. IsReader r.badge.views };
+}
+
+impl ReaderSeat {
+    ghost use Rattle.mc_shared.specs.Views.{AreLawful};
+    ghost use Rattle.mc_shared.specs.TableRule.{IsRecord};
+
+    /// What is always known of the front and of what was read.
+    pub fn known(&self)
+        ensures lawful { AreLawful self.now.of.layout self.now.front }
+        ensures recorded { IsRecord self.now.of.layout self.now.front self.now.done }
+    {
+        let _badge = &self.badge;
+    }
+}

@@ -1,0 +1,145 @@
+//! The writer's steps on shared words: one call an act, and a load that changes no record.
+ghost use Rattle.std.specs.Prelude.{◌≡◌, ◌<◌, [], ◌∷◌, ◌++◌, slice_index};
+ghost use Rattle.mc_words.specs.Places.{word_count};
+ghost use Rattle.mc_theory.specs.Acts.{IsAllowed};
+ghost use Rattle.mc_theory.specs.Lists.{state_of};
+ghost use Rattle.mc_theory.specs.Traces.{HasVersionSteps};
+ghost use Rattle.mc_theory.specs.declared.act.Act.TheVariants.{Open, Slot, Item, Moment, Close, Hand, Mark};
+ghost use Rattle.mc_shared.specs.Views.{with_bit};
+ghost use Rattle.mc_shared.specs.Steps.{IsStored};
+ghost use Rattle.mc_shared.specs.Records.{writer_record};
+
+use crate::cells::Cells;
+use crate::seats::WriterSeat;
+use crate::writer_steps::{
+    close_deed, count_change, fetch_word, mark_unless_word_set, mark_word, open_deed, sweep_word,
+    write_word,
+};
+use mc_theory::{Act, Deed};
+use mc_words::Place;
+
+/// Opens a deed on a key: a load of its version, and a store of one more.
+pub fn begin_deed<const V: usize>(cells: &Cells<V>, writer: &mut WriterSeat, key: u64, deed: Deed)
+    requires of { writer.old.of ≡ cells.now }
+    requires allowed { IsAllowed cells.now.layout.shape (state_of V cells.now.layout.shape writer.old.acts) (Open key deed) }
+    requires limit { HasVersionSteps cells.now.layout.shape.limit (state_of V cells.now.layout.shape writer.old.acts).version_steps (Open key deed) }
+    ensures acts { writer.new ≡ writer_record writer.old.of (writer.old.acts ++ with_bit (Open key deed) 0 ∷ []) }
+{
+    let checked = &cells.checked;
+    let place = checked.version_place(checked.stripe(key));
+    open_deed(&cells.ruled, writer, key, deed, place);
+}
+
+/// Writes a slot word: one store.
+pub fn write_slot<const V: usize>(
+    cells: &Cells<V>,
+    writer: &mut WriterSeat,
+    place: Place,
+    word: u64,
+)
+    requires of { writer.old.of ≡ cells.now }
+    requires allowed { IsAllowed cells.now.layout.shape (state_of V cells.now.layout.shape writer.old.acts) (Slot place word) }
+    ensures acts { writer.new ≡ writer_record writer.old.of (writer.old.acts ++ with_bit (Slot place word) 0 ∷ []) }
+{
+    writer.known();
+    let at = cells.checked.slot_place(place);
+    write_word(&cells.ruled, writer, Act::Slot(place, word), at, word);
+}
+
+/// Writes word `j` of an item, where word 0 is its key: one store.
+pub fn write_item<const V: usize>(
+    cells: &Cells<V>,
+    writer: &mut WriterSeat,
+    i: u32,
+    j: u8,
+    word: u64,
+)
+    requires of { writer.old.of ≡ cells.now }
+    requires allowed { IsAllowed cells.now.layout.shape (state_of V cells.now.layout.shape writer.old.acts) (Item i j word) }
+    ensures acts { writer.new ≡ writer_record writer.old.of (writer.old.acts ++ with_bit (Item i j word) 0 ∷ []) }
+{
+    writer.known();
+    let at = cells.checked.item_place::<V>(i, j);
+    write_word(&cells.ruled, writer, Act::Item(i, j, word), at, word);
+}
+
+/// Counts the change of the deed that runs: one store of the moment.
+pub fn count_moment<const V: usize>(cells: &Cells<V>, writer: &mut WriterSeat)
+    requires of { writer.old.of ≡ cells.now }
+    requires allowed { IsAllowed cells.now.layout.shape (state_of V cells.now.layout.shape writer.old.acts) Moment }
+    ensures acts { writer.new ≡ writer_record writer.old.of (writer.old.acts ++ with_bit Moment 0 ∷ []) }
+{
+    count_change(&cells.ruled, writer);
+}
+
+/// Closes the deed that runs: one store of its version.
+pub fn end_deed<const V: usize>(cells: &Cells<V>, writer: &mut WriterSeat)
+    requires of { writer.old.of ≡ cells.now }
+    requires allowed { IsAllowed cells.now.layout.shape (state_of V cells.now.layout.shape writer.old.acts) Close }
+    ensures acts { writer.new ≡ writer_record writer.old.of (writer.old.acts ++ with_bit Close 0 ∷ []) }
+{
+    close_deed(&cells.ruled, writer);
+}
+
+/// Sets the recency bit of an item: one `fetch_or`.
+pub fn set_mark<const V: usize>(cells: &Cells<V>, writer: &mut WriterSeat, i: u32)
+    requires of { writer.old.of ≡ cells.now }
+    requires allowed { IsAllowed cells.now.layout.shape (state_of V cells.now.layout.shape writer.old.acts) (Mark i) }
+    ensures acts { writer.new ≡ writer_record writer.old.of (writer.old.acts ++ with_bit (Mark i) 0 ∷ []) }
+{
+    writer.known();
+    let place = cells.checked.recency_place::<V>(i);
+    mark_word(&cells.ruled, writer, i, place, cells.checked.recency_bit(i));
+}
+
+/// The same as `set_mark`. Where the bit is set already, the load that finds it so is the mark, and nothing is written.
+pub fn set_mark_unless_set<const V: usize>(cells: &Cells<V>, writer: &mut WriterSeat, i: u32)
+    requires of { writer.old.of ≡ cells.now }
+    requires allowed { IsAllowed cells.now.layout.shape (state_of V cells.now.layout.shape writer.old.acts) (Mark i) }
+    ensures acts { writer.new ≡ writer_record writer.old.of (writer.old.acts ++ with_bit (Mark i) 0 ∷ []) }
+{
+    writer.known();
+    let place = cells.checked.recency_place::<V>(i);
+    mark_unless_word_set(&cells.ruled, writer, i, place, cells.checked.recency_bit(i));
+}
+
+/// Reads the recency bit of the item at which the hand stands, and clears it: one `fetch_and`.
+pub fn turn_hand<const V: usize>(cells: &Cells<V>, writer: &mut WriterSeat, i: u32) -> u64
+    requires of { writer.old.of ≡ cells.now }
+    requires allowed { IsAllowed cells.now.layout.shape (state_of V cells.now.layout.shape writer.old.acts) (Hand i) }
+    ensures acts { writer.new ≡ writer_record writer.old.of (writer.old.acts ++ with_bit (Hand i) result ∷ []) }
+{
+    writer.known();
+    let place = cells.checked.recency_place::<V>(i);
+    sweep_word(&cells.ruled, writer, i, place, cells.checked.recency_bit(i))
+}
+
+/// Makes one act. It gives the bit that the hand read, else 0.
+pub fn perform<const V: usize>(cells: &Cells<V>, writer: &mut WriterSeat, act: Act) -> u64
+    requires of { writer.old.of ≡ cells.now }
+    requires allowed { IsAllowed cells.now.layout.shape (state_of V cells.now.layout.shape writer.old.acts) act }
+    requires limit { HasVersionSteps cells.now.layout.shape.limit (state_of V cells.now.layout.shape writer.old.acts).version_steps act }
+    ensures acts { writer.new ≡ writer_record writer.old.of (writer.old.acts ++ with_bit act result ∷ []) }
+    ensures bit { IsStored act → result ≡ 0 }
+{
+    match act {
+        Act::Open(key, deed) => begin_deed(cells, writer, key, deed),
+        Act::Slot(place, word) => write_slot(cells, writer, place, word),
+        Act::Item(i, j, word) => write_item(cells, writer, i, j, word),
+        Act::Moment => count_moment(cells, writer),
+        Act::Close => end_deed(cells, writer),
+        Act::Mark(i) => set_mark(cells, writer, i),
+        Act::Hand(i) => return turn_hand(cells, writer, i),
+    }
+    0
+}
+
+/// A load by the writer of a word that only the writer changes. It changes no record.
+pub fn fetch<const V: usize>(cells: &Cells<V>, writer: &mut WriterSeat, n: usize) -> u64
+    requires of { writer.old.of ≡ cells.now }
+    requires place { n < word_count V cells.now.layout.shape }
+    ensures writer { writer.new ≡ writer.old }
+    ensures word { result ≡ slice_index (state_of V cells.now.layout.shape writer.old.acts).words n }
+{
+    fetch_word(&cells.ruled, writer, n)
+}

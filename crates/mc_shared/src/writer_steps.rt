@@ -1,0 +1,225 @@
+//! The steps of the writer's seat.
+ghost use Rattle.std.specs.Prelude.{◌≡◌, ◌+◌, ◌^◌, ◌<◌, ◌≤◌, [], ◌∷◌, ◌++◌, Some};
+ghost use Rattle.mc_words.specs.Keys.{stripe_of};
+ghost use Rattle.mc_words.specs.Places.{word_count, version_place, recency_place};
+ghost use Rattle.mc_words.specs.Recency.{recency_bit};
+ghost use Rattle.mc_theory.specs.Acts.{IsAllowed};
+ghost use Rattle.mc_theory.specs.Traces.{HasVersionSteps};
+ghost use Rattle.mc_theory.specs.Writes.{write_of};
+ghost use Rattle.mc_theory.specs.declared.act.Act.TheVariants.{Open, Moment, Close, Hand, Mark};
+ghost use Rattle.mc_shared.specs.Views.{writer_view, acts_of, tally_of, layout_state, with_bit};
+ghost use Rattle.mc_shared.specs.TableRule.{word_after};
+ghost use Rattle.mc_shared.specs.Steps.{WritesAt, MayMake, IsOffBits, IsPlain};
+ghost use Rattle.mc_shared.specs.Records.{opening_of, writer_record};
+
+use crate::plays::{Fetches, Known, Makes, MakesMarkIfSet, NamesAct};
+use crate::ruled_words::RuledWords;
+use crate::seats::WriterSeat;
+use atomic_table::Seat;
+use mc_theory::{Act, Deed};
+use std::marker::Brand;
+
+// A load of the writer.
+fn load_as_writer(ruled: &RuledWords, seat: &mut Seat<(), Known>, place: usize) -> u64
+    requires of { opening_of seat.old.table_id seat.old.me.0.layout ≡ ruled.now }
+    requires seat { seat.old.me ≡ (writer_view ruled.now.layout (acts_of seat.old.me.0) (tally_of seat.old.me.0), []) }
+    requires place { place < word_count ruled.now.layout.width ruled.now.layout.shape }
+    ensures seat { (seat.new.table_id ≡ seat.old.table_id) × (seat.new.id ≡ seat.old.id) × (seat.new.me ≡ seat.old.me) }
+    ensures word { result ≡ word_after ruled.now.layout (acts_of seat.old.me.0) place }
+{
+    ruled.table.shared.load::<Fetches>(seat, place)
+}
+
+/// A load by the writer, which changes no record.
+pub fn fetch_word(ruled: &RuledWords, writer: &mut WriterSeat, place: usize) -> u64
+    requires of { writer.old.of ≡ ruled.now }
+    requires place { place < word_count ruled.now.layout.width ruled.now.layout.shape }
+    ensures writer { writer.new ≡ writer.old }
+    ensures word { result ≡ word_after ruled.now.layout writer.old.acts place }
+{
+    load_as_writer(ruled, &mut writer.seat, place)
+}
+
+// A store of the writer that makes the act.
+fn store_as_writer<J: NamesAct>(
+    ruled: &RuledWords,
+    seat: &mut Seat<(), Known>,
+    act: Act,
+    place: usize,
+    word: u64,
+)
+    requires of { opening_of seat.old.table_id seat.old.me.0.layout ≡ ruled.now }
+    requires seat { seat.old.me ≡ (writer_view ruled.now.layout (acts_of seat.old.me.0) (tally_of seat.old.me.0), []) }
+    requires act { J.act ≡ act }
+    requires may { MayMake ruled.now.layout (acts_of seat.old.me.0) act }
+    requires low { IsOffBits act }
+    requires writes { WritesAt ruled.now.layout (acts_of seat.old.me.0) act place word }
+    ensures table { (seat.new.table_id ≡ seat.old.table_id) × (seat.new.id ≡ seat.old.id) }
+    ensures acts { seat.new.me ≡ (writer_view ruled.now.layout (acts_of seat.old.me.0 ++ with_bit act 0 ∷ []) (tally_of seat.new.me.0), []) }
+{
+    let _ = act;
+    ruled.table.shared.store::<Makes<J>>(seat, place, word);
+}
+
+// A step of the writer that clears one bit of a word and makes the act of the hand. It gives the bit that it found.
+fn clear_bit_as_writer<J: NamesAct>(
+    ruled: &RuledWords,
+    seat: &mut Seat<(), Known>,
+    item: u32,
+    place: usize,
+    bit: u8,
+) -> u64
+    requires of { opening_of seat.old.table_id seat.old.me.0.layout ≡ ruled.now }
+    requires seat { seat.old.me ≡ (writer_view ruled.now.layout (acts_of seat.old.me.0) (tally_of seat.old.me.0), []) }
+    requires act { J.act ≡ Hand item }
+    requires may { MayMake ruled.now.layout (acts_of seat.old.me.0) (Hand item) }
+    requires place { place ≡ recency_place ruled.now.layout.width ruled.now.layout.shape item }
+    requires bit { (bit ≡ recency_bit item) × (bit < 64) }
+    ensures table { (seat.new.table_id ≡ seat.old.table_id) × (seat.new.id ≡ seat.old.id) }
+    ensures acts { seat.new.me ≡ (writer_view ruled.now.layout (acts_of seat.old.me.0 ++ with_bit (Hand item) result ∷ []) (tally_of seat.new.me.0), []) }
+{
+    let _ = item;
+    let found = ruled
+        .table
+        .shared
+        .fetch_and::<Makes<J>>(seat, place, !(1u64 << bit));
+    (found >> bit) & 1
+}
+
+// A step of the writer that sets one bit of a word and makes a mark.
+fn set_bit_as_writer<J: NamesAct>(
+    ruled: &RuledWords,
+    seat: &mut Seat<(), Known>,
+    item: u32,
+    place: usize,
+    bit: u8,
+)
+    requires of { opening_of seat.old.table_id seat.old.me.0.layout ≡ ruled.now }
+    requires seat { seat.old.me ≡ (writer_view ruled.now.layout (acts_of seat.old.me.0) (tally_of seat.old.me.0), []) }
+    requires act { J.act ≡ Mark item }
+    requires may { MayMake ruled.now.layout (acts_of seat.old.me.0) (Mark item) }
+    requires place { place ≡ recency_place ruled.now.layout.width ruled.now.layout.shape item }
+    requires bit { (bit ≡ recency_bit item) × (bit < 64) }
+    ensures table { (seat.new.table_id ≡ seat.old.table_id) × (seat.new.id ≡ seat.old.id) }
+    ensures acts { seat.new.me ≡ (writer_view ruled.now.layout (acts_of seat.old.me.0 ++ with_bit (Mark item) 0 ∷ []) (tally_of seat.new.me.0), []) }
+{
+    let _ = item;
+    ruled
+        .table
+        .shared
+        .fetch_or::<Makes<J>>(seat, place, 1u64 << bit);
+}
+
+// The writer's mark. Where the bit is set, the load that found it so is the mark. Where it is clear, the step that sets it is made.
+fn notice_as_writer<J: NamesAct>(
+    ruled: &RuledWords,
+    seat: &mut Seat<(), Known>,
+    item: u32,
+    place: usize,
+    bit: u8,
+)
+    requires of { opening_of seat.old.table_id seat.old.me.0.layout ≡ ruled.now }
+    requires seat { seat.old.me ≡ (writer_view ruled.now.layout (acts_of seat.old.me.0) (tally_of seat.old.me.0), []) }
+    requires act { J.act ≡ Mark item }
+    requires may { MayMake ruled.now.layout (acts_of seat.old.me.0) (Mark item) }
+    requires place { place ≡ recency_place ruled.now.layout.width ruled.now.layout.shape item }
+    requires bit { (bit ≡ recency_bit item) × (bit < 64) }
+    ensures table { (seat.new.table_id ≡ seat.old.table_id) × (seat.new.id ≡ seat.old.id) }
+    ensures acts { seat.new.me ≡ (writer_view ruled.now.layout (acts_of seat.old.me.0 ++ with_bit (Mark item) 0 ∷ []) (tally_of seat.new.me.0), []) }
+{
+    let found = ruled.table.shared.load::<MakesMarkIfSet<J>>(seat, place);
+    if (found >> bit) & 1 == 0 {
+        set_bit_as_writer::<J>(ruled, seat, item, place, bit);
+    }
+}
+
+/// An act that writes this word at this place, and changes neither the moment nor a version.
+pub fn write_word(ruled: &RuledWords, writer: &mut WriterSeat, act: Act, place: usize, word: u64)
+    requires of { writer.old.of ≡ ruled.now }
+    requires plain { IsPlain act × IsOffBits act }
+    requires allowed { IsAllowed ruled.now.layout.shape (layout_state ruled.now.layout writer.old.acts) act }
+    requires writes { WritesAt ruled.now.layout writer.old.acts act place word }
+    ensures { writer.new ≡ writer_record writer.old.of (writer.old.acts ++ with_bit act 0 ∷ []) }
+{
+    store_as_writer::<Brand>(ruled, &mut writer.seat, act, place, word);
+}
+
+/// Opens a deed. The key's version lies at this place.
+pub fn open_deed(ruled: &RuledWords, writer: &mut WriterSeat, key: u64, deed: Deed, place: usize)
+    requires of { writer.old.of ≡ ruled.now }
+    requires allowed { IsAllowed ruled.now.layout.shape (layout_state ruled.now.layout writer.old.acts) (Open key deed) }
+    requires limit { HasVersionSteps ruled.now.layout.shape.limit (layout_state ruled.now.layout writer.old.acts).version_steps (Open key deed) }
+    requires place { place ≡ version_place (stripe_of ruled.now.layout.shape key) }
+    ensures { writer.new ≡ writer_record writer.old.of (writer.old.acts ++ with_bit (Open key deed) 0 ∷ []) }
+{
+    let count = load_as_writer(ruled, &mut writer.seat, place) + 1;
+    store_as_writer::<Brand>(ruled, &mut writer.seat, Act::Open(key, deed), place, count);
+    writer.place = place;
+    writer.count = count;
+}
+
+/// Counts the change of the deed.
+pub fn count_change(ruled: &RuledWords, writer: &mut WriterSeat)
+    requires of { writer.old.of ≡ ruled.now }
+    requires allowed { IsAllowed ruled.now.layout.shape (layout_state ruled.now.layout writer.old.acts) Moment }
+    ensures { writer.new ≡ writer_record writer.old.of (writer.old.acts ++ with_bit Moment 0 ∷ []) }
+{
+    let at = writer.at + 1;
+    store_as_writer::<Brand>(ruled, &mut writer.seat, Act::Moment, 0, at);
+    writer.at = at;
+}
+
+/// Closes the deed that runs.
+pub fn close_deed(ruled: &RuledWords, writer: &mut WriterSeat)
+    requires of { writer.old.of ≡ ruled.now }
+    requires allowed { IsAllowed ruled.now.layout.shape (layout_state ruled.now.layout writer.old.acts) Close }
+    ensures { writer.new ≡ writer_record writer.old.of (writer.old.acts ++ with_bit Close 0 ∷ []) }
+{
+    let count = writer.count + 1;
+    store_as_writer::<Brand>(ruled, &mut writer.seat, Act::Close, writer.place, count);
+}
+
+/// Reads the bit of the item at which the hand stands, and clears it.
+pub fn sweep_word(
+    ruled: &RuledWords,
+    writer: &mut WriterSeat,
+    item: u32,
+    place: usize,
+    bit: u8,
+) -> u64
+    requires of { writer.old.of ≡ ruled.now }
+    requires allowed { IsAllowed ruled.now.layout.shape (layout_state ruled.now.layout writer.old.acts) (Hand item) }
+    requires place { place ≡ recency_place ruled.now.layout.width ruled.now.layout.shape item }
+    requires bit { (bit ≡ recency_bit item) × (bit < 64) }
+    ensures { writer.new ≡ writer_record writer.old.of (writer.old.acts ++ with_bit (Hand item) result ∷ []) }
+{
+    clear_bit_as_writer::<Brand>(ruled, &mut writer.seat, item, place, bit)
+}
+
+/// Sets the bit of an item.
+pub fn mark_word(ruled: &RuledWords, writer: &mut WriterSeat, item: u32, place: usize, bit: u8)
+    requires of { writer.old.of ≡ ruled.now }
+    requires allowed { IsAllowed ruled.now.layout.shape (layout_state ruled.now.layout writer.old.acts) (Mark item) }
+    requires place { place ≡ recency_place ruled.now.layout.width ruled.now.layout.shape item }
+    requires bit { (bit ≡ recency_bit item) × (bit < 64) }
+    ensures { writer.new ≡ writer_record writer.old.of (writer.old.acts ++ with_bit (Mark item) 0 ∷ []) }
+{
+    set_bit_as_writer::<Brand>(ruled, &mut writer.seat, item, place, bit);
+}
+
+/// The same, with nothing written where the bit is set already.
+pub fn mark_unless_word_set(
+    ruled: &RuledWords,
+    writer: &mut WriterSeat,
+    item: u32,
+    place: usize,
+    bit: u8,
+)
+    requires of { writer.old.of ≡ ruled.now }
+    requires allowed { IsAllowed ruled.now.layout.shape (layout_state ruled.now.layout writer.old.acts) (Mark item) }
+    requires place { place ≡ recency_place ruled.now.layout.width ruled.now.layout.shape item }
+    requires bit { (bit ≡ recency_bit item) × (bit < 64) }
+    ensures { writer.new ≡ writer_record writer.old.of (writer.old.acts ++ with_bit (Mark item) 0 ∷ []) }
+{
+    notice_as_writer::<Brand>(ruled, &mut writer.seat, item, place, bit);
+}

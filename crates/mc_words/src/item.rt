@@ -1,0 +1,12 @@
+ghost use Rattle.std.specs.Prelude.{◌≡◌, ◌≤◌};
+ghost use Rattle.mc_words.specs.Places.{IsWidth, payload, most_payload};
+
+/// How many words an item keeps behind its key. The first `V` of them are its value.
+#[tactic(auto, unfolding(crate::specs::Places::payload))]
+pub fn payload_words<const V: usize>() -> usize
+    requires { IsWidth V }
+    ensures count { result ≡ payload V }
+    ensures few { result ≤ most_payload }
+{
+    V
+}

@@ -1,0 +1,6 @@
+//! The calls of a running writer.
+#![tactic(auto)]
+
+mod lens;
+
+pub use lens::Lens;
