@@ -3,10 +3,10 @@ use Rattle.std.proofs.Common.{ℕ, ◌≡◌, ◌≢◌, List, [], ◌∷◌, �
 use Rattle.std.specs.Prelude.{slice_get}
 use Rattle.std.proofs.lemmas.List.{append-nil, append_assoc, map-append}
 use Rattle.mc_words.specs.declared.shape.Shape.{Shape}
-use Rattle.mc_core.specs.Inside.Parts.{shape_of_parts, shown_of, StandFor, AreReached, HasMade}
-use Rattle.mc_core.specs.Seen.{Shown, Shows}
+use Rattle.mc_core.specs.Inside.Parts.{shape_of_parts, view_of, StandFor, AreReached, MakesEvents}
+use Rattle.mc_core.specs.Seen.{WorldView, Shows}
 use Rattle.mc_theory.specs.Plain.{events_made}
-use Rattle.mc_theory.specs.Worlds.{World, Running, Ended, given_of, bit_of, Steps, Gives, Refuses, Runs, IsReached, StopsAt, HasRun, first_world}
+use Rattle.mc_theory.specs.Traces.{Trace, OpenLookup, Ended, given_of, bit_of, Steps, EventGives, RefusesEvent, StepsAll, IsReached, StopsAt, HasRun, first_trace}
 use Rattle.mc_theory.specs.declared.act.Act.{Act}
 use Rattle.mc_theory.specs.declared.act.Act.TheVariants as act
 use Rattle.mc_theory.specs.declared.event.Done.{Done}
@@ -34,31 +34,31 @@ act_tells_none V bit act.Moment = refl
 act_tells_none V bit act.Close = refl
 act_tells_none V bit (act.Mark i) = refl
 
-abbrev pub Tells : {V : ℕ} → World V → World V → List (Done V) → Type 0
+abbrev pub Tells : {V : ℕ} → Trace V → Trace V → List (Done V) → Type 0
 Tells {V} w x done = (ended : List (Ended V)) × (x.ended ≡ w.ended ++ ended) × (done ≡ map (λ e. e.told) ended)
 
-tells_none : {V : ℕ} (w x : World V) (done : List (Done V)) → x.ended ≡ w.ended → done ≡ [] → Tells {V = V} w x done
+tells_none : {V : ℕ} (w x : Trace V) (done : List (Done V)) → x.ended ≡ w.ended → done ≡ [] → Tells {V = V} w x done
 tells_none {V} w x done same none = ([], same ∙ sym (append-nil w.ended), none)
 
 -- an event tells of the lookups that it ends
-event_tells : (V : ℕ) (sh : Shape) (w x : World V) (e : Event) (out : Stepped V) → Steps V sh w e x → Gives {V = V} w e x out → Tells {V = V} w x (done_of {V = V} out)
-event_tells V sh w x (Write a) out s gives = tells_none {V = V} w x (done_of {V = V} out) (ap (λ (y : World V). y.ended) s.2) (ap (λ (o : Stepped V). done_of {V = V} o) gives ∙ act_tells_none V (bit_of w.bits a) a)
-event_tells V sh w x (Begin r k) out s gives = tells_none {V = V} w x (done_of {V = V} out) (ap (λ (y : World V). y.ended) s.3) (ap (λ (o : Stepped V). done_of {V = V} o) gives)
+event_tells : (V : ℕ) (sh : Shape) (w x : Trace V) (e : Event) (out : Stepped V) → Steps V sh w e x → EventGives {V = V} w e x out → Tells {V = V} w x (done_of {V = V} out)
+event_tells V sh w x (Write a) out s gives = tells_none {V = V} w x (done_of {V = V} out) (ap (λ (y : Trace V). y.ended) s.2) (ap (λ (o : Stepped V). done_of {V = V} o) gives ∙ act_tells_none V (bit_of w.bits a) a)
+event_tells V sh w x (Begin r k) out s gives = tells_none {V = V} w x (done_of {V = V} out) (ap (λ (y : Trace V). y.ended) s.3) (ap (λ (o : Stepped V). done_of {V = V} o) gives)
 event_tells V sh w x (Read r) (stepped.Done done) s gives = (gives.0 ∷ [], gives.1, ap (λ d. d ∷ []) (sym gives.2))
 event_tells V sh w x (Read r) stepped.Nothing s gives = absurd gives
 event_tells V sh w x (Read r) (stepped.Word n) s gives =
     elim s.5 [
       | inl over ↦
-          let none : slice_get x.readers r ≡ Some None = ap (λ (y : World V). slice_get y.readers r) over.2 ∙ set_there w.readers r None (Some s.0) s.2 in
+          let none : slice_get x.readers r ≡ Some None = ap (λ (y : Trace V). slice_get y.readers r) over.2 ∙ set_there w.readers r None (Some s.0) s.2 in
           absurd (ended_not gives.0 (sym gives.3 ∙ none))
-      | inr more ↦ tells_none {V = V} w x [] (ap (λ (y : World V). y.ended) more.1) refl
+      | inr more ↦ tells_none {V = V} w x [] (ap (λ (y : Trace V). y.ended) more.1) refl
     ]
   where
-    ended_not : (run : Running) → ◌≡◌ {A = Option (Option Running)} (Some (Some run)) (Some None) → ⊥
+    ended_not : (run : OpenLookup) → ◌≡◌ {A = Option (Option OpenLookup)} (Some (Some run)) (Some None) → ⊥
     ended_not run e = cc (e)
 
 -- an event that was made
-pub made_one : {V : ℕ} (old new : Parts V) (e : Event) (out : Stepped V) (before after : List (Done V)) → shape_of_parts {V = V} new ≡ shape_of_parts {V = V} old → Leads {V = V} old new e out → after ≡ before ++ done_of {V = V} out → HasMade {V = V} old new (e ∷ []) before after
+pub made_one : {V : ℕ} (old new : Parts V) (e : Event) (out : Stepped V) (before after : List (Done V)) → shape_of_parts {V = V} new ≡ shape_of_parts {V = V} old → Leads {V = V} old new e out → after ≡ before ++ done_of {V = V} out → MakesEvents {V = V} old new (e ∷ []) before after
 made_one {V} old new e out before after same leads told = record {
   shape = same;
   made = λ seen s.
@@ -68,14 +68,14 @@ made_one {V} old new e out before after same leads told = record {
 }
 
 -- some events, and then some more
-pub made_then : {V : ℕ} (old mid new : Parts V) (es ds : List Event) (before between after : List (Done V)) → HasMade {V = V} old mid es before between → HasMade {V = V} mid new ds between after → HasMade {V = V} old new (es ++ ds) before after
+pub made_then : {V : ℕ} (old mid new : Parts V) (es ds : List Event) (before between after : List (Done V)) → MakesEvents {V = V} old mid es before between → MakesEvents {V = V} mid new ds between after → MakesEvents {V = V} old new (es ++ ds) before after
 made_then {V} old mid new es ds before between after first second = record {
   shape = second.shape ∙ first.shape;
   made = λ seen s.
       let now = first.made seen s in
       let next = second.made now.0 now.2 in
       let told : Ended V → Done V = λ e. e.told in
-      let runs = subst (λ (sh : Shape). Runs V sh now.0 ds next.0) first.shape next.1 in (
+      let runs = subst (λ (sh : Shape). StepsAll V sh now.0 ds next.0) first.shape next.1 in (
         next.0,
         runs_append V (shape_of_parts {V = V} old) seen now.0 next.0 es ds now.1 runs,
         next.2,
@@ -88,27 +88,27 @@ made_then {V} old mid new es ds before between after first second = record {
 }
 
 abbrev pub Refused : {V : ℕ} → Parts V → Parts V → Event → Unlawful → Type 0
-Refused {V} old new e why = (seen : World V) → StandFor {V = V} old seen → Refuses {V = V} (shape_of_parts {V = V} old) seen e why × StandFor {V = V} new seen
+Refused {V} old new e why = (seen : Trace V) → StandFor {V = V} old seen → RefusesEvent {V = V} (shape_of_parts {V = V} old) seen e why × StandFor {V = V} new seen
 
 -- an event refused
-pub made_same : {V : ℕ} (old mid new : Parts V) (es : List Event) (e : Event) (why : Unlawful) (before after now : List (Done V)) → HasMade {V = V} old mid es before after → shown_of {V = V} new ≡ shown_of {V = V} mid → Refused {V = V} mid new e why → now ≡ after → HasMade {V = V} old new es before now
+pub made_same : {V : ℕ} (old mid new : Parts V) (es : List Event) (e : Event) (why : Unlawful) (before after now : List (Done V)) → MakesEvents {V = V} old mid es before after → view_of {V = V} new ≡ view_of {V = V} mid → Refused {V = V} mid new e why → now ≡ after → MakesEvents {V = V} old new es before now
 made_same {V} old mid new es e why before after now so_far same refused silent = record {
-  shape = ap (λ (s : Shown V). s.shape) same ∙ so_far.shape;
+  shape = ap (λ (s : WorldView V). s.shape) same ∙ so_far.shape;
   made = λ seen s.
       let made = so_far.made seen s in
       (made.0, made.1, (refused made.0 made.2).1, (made.3.0, made.3.1, silent ∙ made.3.2));
 }
 
 -- where a list of events stops
-pub stops_at : {V : ℕ} (old new : Parts V) (es : List Event) (i : ℕ) (e : Event) (why : Unlawful) (known : World V) → StandFor {V = V} old known → slice_get es i ≡ Some e → shown_of {V = V} new ≡ shown_of {V = V} old → Refused {V = V} old new e why → why ≢ unlawful.NoMemory →
-    (seen : World V) → StandFor {V = V} new seen → StopsAt {V = V} (shape_of_parts {V = V} new) seen es (Some (i, why))
+pub stops_at : {V : ℕ} (old new : Parts V) (es : List Event) (i : ℕ) (e : Event) (why : Unlawful) (known : Trace V) → StandFor {V = V} old known → slice_get es i ≡ Some e → view_of {V = V} new ≡ view_of {V = V} old → Refused {V = V} old new e why → why ≢ unlawful.NoMemory →
+    (seen : Trace V) → StandFor {V = V} new seen → StopsAt {V = V} (shape_of_parts {V = V} new) seen es (Some (i, why))
 stops_at {V} old new es i e why known stands at same refused lawful = λ seen s.
-    let before : StandFor {V = V} old seen = record { shows = subst (λ (shown : Shown V). Shows {V = V} shown seen) same s.shows; used = stands.used; within = stands.within } in
-    let shape = ap (λ (shown : Shown V). shown.shape) same in
-    (e, at, subst (λ (sh : Shape). Refuses {V = V} sh seen e why) (sym shape) (refused seen before).0, lawful)
+    let before : StandFor {V = V} old seen = record { shows = subst (λ (shown : WorldView V). Shows {V = V} shown seen) same s.shows; used = stands.used; within = stands.within } in
+    let shape = ap (λ (shown : WorldView V). shown.shape) same in
+    (e, at, subst (λ (sh : Shape). RefusesEvent {V = V} sh seen e why) (sym shape) (refused seen before).0, lawful)
 
 -- the parts stand as one more list of events leaves them
-pub reached_made : {V : ℕ} (old new : Parts V) (es : List Event) (before after : List (Done V)) → AreReached {V = V} old → HasMade {V = V} old new es before after → AreReached {V = V} new
+pub reached_made : {V : ℕ} (old new : Parts V) (es : List Event) (before after : List (Done V)) → AreReached {V = V} old → MakesEvents {V = V} old new es before after → AreReached {V = V} new
 reached_made {V} old new es before after reached made =
     let sh = shape_of_parts {V = V} old in
     let next = made.made reached.seen reached.stand in
@@ -116,13 +116,13 @@ reached_made {V} old new es before after reached made =
     record {
       seen = next.0;
       stand = next.2;
-      reached = subst (λ (y : Shape). IsReached V y next.0) (sym made.shape) (record { readers = so_far.readers; events = so_far.events ++ es; runs = runs_append V sh (first_world V sh so_far.readers) reached.seen next.0 so_far.events es so_far.runs next.1 });
+      reached = subst (λ (y : Shape). IsReached V y next.0) (sym made.shape) (record { readers = so_far.readers; events = so_far.events ++ es; runs = runs_append V sh (first_trace V sh so_far.readers) reached.seen next.0 so_far.events es so_far.runs next.1 });
     }
 
--- what a run promises of every world of events that is shown
-pub has_run : {V : ℕ} (old new : Parts V) (events : List Event) (done : List (Done V)) (stopped : Option (ℕ × Unlawful)) → AreReached {V = V} old → HasMade {V = V} old new (events_made events stopped) [] done →
-    ((seen : World V) → StandFor {V = V} new seen → StopsAt {V = V} (shape_of_parts {V = V} new) seen events stopped) →
-    (seen : World V) → Shows {V = V} (shown_of {V = V} old) seen → (x : World V) × HasRun V (shape_of_parts {V = V} old) seen x events done stopped × Shows {V = V} (shown_of {V = V} new) x
+-- what a run promises of every trace of events that is shown
+pub has_run : {V : ℕ} (old new : Parts V) (events : List Event) (done : List (Done V)) (stopped : Option (ℕ × Unlawful)) → AreReached {V = V} old → MakesEvents {V = V} old new (events_made events stopped) [] done →
+    ((seen : Trace V) → StandFor {V = V} new seen → StopsAt {V = V} (shape_of_parts {V = V} new) seen events stopped) →
+    (seen : Trace V) → Shows {V = V} (view_of {V = V} old) seen → (x : Trace V) × HasRun V (shape_of_parts {V = V} old) seen x events done stopped × Shows {V = V} (view_of {V = V} new) x
 has_run {V} old new events done stopped reached made stops = λ seen shows.
     let next = made.made seen (stand_for {V = V} old seen reached shows) in (
       next.0,

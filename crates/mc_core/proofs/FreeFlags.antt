@@ -7,12 +7,12 @@ use Rattle.mc_words.specs.Standing.{HasFree}
 use Rattle.mc_words.specs.Places.{slot}
 use Rattle.mc_words.specs.declared.shape.Shape.{Shape}
 use Rattle.mc_words.proofs.Frames.{moved_names}
-use Rattle.mc_core.specs.Inside.Tables.{shape_in, words_in}
+use Rattle.mc_core.specs.Inside.Tables.{shape_of_table, words_of_table}
 use Rattle.mc_core.specs.Inside.Writers.{downs, UsedIn, UsedWell, IsFreeItem}
 use Rattle.mc_core.specs.declared.table.Table.{Table}
 
 -- a flag that is down is that of a free item
-pub flag_down : {V : ℕ} (t : Table V) (i : ℕ) (b : Bool) → UsedWell {V = V} t → i < (shape_in {V = V} t).items → b ≡ get_or t.used.items i b → IsTrue (not b) ↔ IsFreeItem (shape_in {V = V} t) (words_in {V = V} t) i
+pub flag_down : {V : ℕ} (t : Table V) (i : ℕ) (b : Bool) → UsedWell {V = V} t → i < (shape_of_table {V = V} t).items → b ≡ get_or t.used.items i b → IsTrue (not b) ↔ IsFreeItem (shape_of_table {V = V} t) (words_of_table {V = V} t) i
 flag_down t i false u l e = (λ h. (l, u.unused i l (sym e)), λ h. refl)
 flag_down {V} t i true u l e = (
   λ h. absurd (false≢true h),
@@ -35,11 +35,11 @@ some_down (true ∷ xs) zero l e = absurd (false≢true (sym e))
 some_down (true ∷ xs) (suc i) l e = some_down xs i (omega arith) e
 
 -- some item is free exactly where some flag is down
-pub some_free : {V : ℕ} (t : Table V) → UsedWell {V = V} t → (0 < t.free) ↔ HasFree (shape_in {V = V} t) (words_in {V = V} t)
+pub some_free : {V : ℕ} (t : Table V) → UsedWell {V = V} t → (0 < t.free) ↔ HasFree (shape_of_table {V = V} t) (words_of_table {V = V} t)
 some_free {V} t u = (
   λ h.
       let at = down_at t.used.items (omega (arith, u.many, h)) in
-      let l : at.0 < (shape_in {V = V} t).items = omega (arith, at.1, t.flags) in
+      let l : at.0 < (shape_of_table {V = V} t).items = omega (arith, at.1, t.flags) in
       (at.0, l, u.unused at.0 l at.2),
   λ h. elim (cases_Bool (get_or t.used.items h.0 false)) [
     | inl up ↦ let named = u.used h.0 h.1 up in absurd (h.2 named.0 named.1)

@@ -8,10 +8,10 @@ use Rattle.mc_words.specs.declared.history.Change.{Change}
 use Rattle.mc_words.specs.declared.shape.Shape.{Shape}
 use Rattle.mc_theory.specs.Lists.{state_of}
 use Rattle.mc_core.specs.Inside.Parts.{shape_of_parts, StandFor}
-use Rattle.mc_theory.specs.Phases.{Phase, Quiet, runs}
-use Rattle.mc_core.specs.Seen.{Both, IsRunning}
+use Rattle.mc_theory.specs.Phases.{Phase, Quiet, close_owed}
+use Rattle.mc_core.specs.Seen.{Both, IsOpenLookup}
 use Rattle.mc_theory.specs.States.{State, opening}
-use Rattle.mc_theory.specs.Worlds.{first_world, Running}
+use Rattle.mc_theory.specs.Traces.{first_trace, OpenLookup}
 use Rattle.mc_core.specs.Inside.Writers.{state_in, phase_at, downs, UsedIn, UsedWell}
 use Rattle.mc_core.specs.declared.parts.Parts.{Parts}
 use Rattle.mc_core.specs.declared.reader.Reader.{Reader}
@@ -20,7 +20,7 @@ use Rattle.mc_theory.proofs.Invariant.EachState.{zeros}
 
 -- the state of a new writer is the opening
 pub new_state : (V : ℕ) (sh : Shape) (words : List ℕ) (history : List (Change V)) → words ≡ replicate {A = ℕ} (word_count V sh) 0 → history ≡ [] →
-    ◌≡◌ {A = State V} (record { words = words; phase = Quiet; hand = 0; cleared = None; history = history; changes = 0 }) (opening V sh)
+    ◌≡◌ {A = State V} (record { words = words; phase = Quiet; hand = 0; cleared = None; history = history; version_steps = 0 }) (opening V sh)
 unfolding opening
 new_state V sh words history a b = rw (a, b) refl
 
@@ -54,12 +54,12 @@ filled {A} old items len n x e a b =
     e ∙ ap (λ ys. ys ++ replicate (n - len) x) none ∙ ap (λ m. replicate m x) all
 
 -- no reader has a lookup
-idle_both : (V : ℕ) (sh : Shape) (n r : ℕ) → Both (Both (IsRunning V sh)) (slice_get (replicate {A = Option (Reader V)} n None) r) (slice_get (replicate {A = Option Running} n None) r)
+idle_both : (V : ℕ) (sh : Shape) (n r : ℕ) → Both (Both (IsOpenLookup V sh)) (slice_get (replicate {A = Option (Reader V)} n None) r) (slice_get (replicate {A = Option OpenLookup} n None) r)
 idle_both V sh zero r = tt
 idle_both V sh (suc n) zero = tt
 idle_both V sh (suc n) (suc r) = idle_both V sh n r
 
-new_changes : (V : ℕ) (sh : Shape) (n : ℕ) → n ≡ (opening V sh).changes → n ≡ 0
+new_changes : (V : ℕ) (sh : Shape) (n : ℕ) → n ≡ (opening V sh).version_steps → n ≡ 0
 unfolding opening
 new_changes V sh n e = e
 
@@ -69,21 +69,21 @@ new_phase V sh p e = e
 
 -- the parts of a new world
 pub new_stands : {V : ℕ} (p : Parts V) (sh : Shape) (readers : ℕ) → shape_of_parts {V = V} p ≡ sh → state_in {V = V} p.writer ≡ opening V sh → UsedWell {V = V} p.writer.table → p.bits.items ≡ replicate sh.items 0 → p.readers.items ≡ replicate {A = Option (Reader V)} readers None → p.events ≡ 0 →
-    StandFor {V = V} p (first_world V sh readers)
+    StandFor {V = V} p (first_trace V sh readers)
 new_stands {V} p sh readers shape state used bits idle events =
     let opened : state_in {V = V} p.writer ≡ state_of V sh [] = state ∙ sym (state_none V sh) in
-    let changes = new_changes V sh p.writer.changes (ap (λ (s : State V). s.changes) state) in
+    let changes = new_changes V sh p.writer.version_steps (ap (λ (s : State V). s.version_steps) state) in
     let phase = new_phase V sh (phase_at p.writer.written p.writer.progress) (ap (λ (s : State V). s.phase) state) in
-    let all : (r : ℕ) → Both (Both (IsRunning V sh)) (slice_get p.readers.items r) (slice_get (replicate {A = Option Running} readers None) r) =
-    λ r. subst (λ (rs : List (Option (Reader V))). Both (Both (IsRunning V sh)) (slice_get rs r) (slice_get (replicate {A = Option Running} readers None) r)) (sym idle) (idle_both V sh readers r) in
+    let all : (r : ℕ) → Both (Both (IsOpenLookup V sh)) (slice_get p.readers.items r) (slice_get (replicate {A = Option OpenLookup} readers None) r) =
+    λ r. subst (λ (rs : List (Option (Reader V))). Both (Both (IsOpenLookup V sh)) (slice_get rs r) (slice_get (replicate {A = Option OpenLookup} readers None) r)) (sym idle) (idle_both V sh readers r) in
     record {
       shows = record {
         lawful = lawful_none V (shape_of_parts {V = V} p);
         state = subst (λ (y : Shape). state_in {V = V} p.writer ≡ state_of V y []) (sym shape) opened;
         bits = bits;
-        readers = λ r. subst (λ (y : Shape). Both (Both (IsRunning V y)) (slice_get p.readers.items r) (slice_get (replicate {A = Option Running} readers None) r)) (sym shape) (all r);
+        readers = λ r. subst (λ (y : Shape). Both (Both (IsOpenLookup V y)) (slice_get p.readers.items r) (slice_get (replicate {A = Option OpenLookup} readers None) r)) (sym shape) (all r);
         events = events;
       };
       used = used;
-      within = omega (arith, changes, ap runs phase);
+      within = omega (arith, changes, ap close_owed phase);
     }

@@ -11,9 +11,9 @@ use Rattle.std.proofs.lemmas.Nat.{or_lt}
 use Rattle.mc_words.specs.Places.{recency_place, word_count}
 use Rattle.mc_words.specs.Recency.{recency_bit, recency_word}
 use Rattle.mc_words.specs.declared.shape.Shape.{Shape}
-use Rattle.mc_theory.specs.Worlds.{World, IsBit, IsReached}
+use Rattle.mc_theory.specs.Traces.{Trace, IsBit, IsReached}
 use Rattle.mc_theory.proofs.Events.Bits.{bits_stay}
-use Rattle.mc_core.specs.Seen.{Shown, Shows}
+use Rattle.mc_core.specs.Seen.{WorldView, Shows}
 use Rattle.mc_core.specs.Packed.{HasBits}
 use Rattle.mc_core.specs.Inside.Packed.{IsPacked}
 use mathlib.Core.Logic.{dite}
@@ -78,5 +78,5 @@ packed_bits V sh bits n word many all past packed =
     }
 
 -- the bits that are shown are those of the events
-pub bits_now : (V : ℕ) (now : Shown V) (seen : World V) → Shows {V = V} now seen → IsReached V now.shape seen → (length now.bits ≡ now.shape.items) × All IsBit now.bits
+pub bits_now : (V : ℕ) (now : WorldView V) (seen : Trace V) → Shows {V = V} now seen → IsReached V now.shape seen → (length now.bits ≡ now.shape.items) × All IsBit now.bits
 bits_now V now seen shows reached = subst (λ (bits : List ℕ). (length bits ≡ now.shape.items) × All IsBit bits) (sym shows.bits) (bits_stay V now.shape seen reached)

@@ -9,15 +9,15 @@ use Rattle.mc_words.specs.declared.shape.Shape.{Shape}
 use Rattle.mc_lookup.specs.Course.{BeginsWith}
 use Rattle.mc_theory.specs.Lists.{IsLawful, state_of}
 use Rattle.mc_theory.specs.Lookups.{IsLookup}
-use Rattle.mc_lookup.specs.Machine.{shape_for, next_at, next_of, reply_at, reply_now, LeftAt, Left, Takes}
+use Rattle.mc_lookup.specs.Machine.{shape_for, next_at, next_access, reply_at, reply_now, IsRemainderAt, IsRemainder, Consumes}
 use Rattle.mc_core.specs.Inside.Parts.{shape_of_parts, StandFor}
-use Rattle.mc_theory.specs.Phases.{runs}
+use Rattle.mc_theory.specs.Phases.{close_owed}
 use Rattle.mc_theory.specs.Readings.{Reading, IsWordOf}
-use Rattle.mc_core.specs.Seen.{Both, IsRunning}
+use Rattle.mc_core.specs.Seen.{Both, IsOpenLookup}
 use Rattle.mc_theory.specs.States.{State}
-use Rattle.mc_theory.specs.Worlds as worlds
-use Rattle.mc_theory.specs.Worlds.{Running, Ended, bits_read, first_read, ReadsNext, EndsRead, GoesOn}
-use Rattle.mc_core.specs.Inside.Writers.{state_in, words_at, shape_at, phase_at, UsedWell}
+use Rattle.mc_theory.specs.Traces as traces
+use Rattle.mc_theory.specs.Traces.{OpenLookup, Ended, bits_read, first_read, ReadsNext, EndsRead, ContinuesRead}
+use Rattle.mc_core.specs.Inside.Writers.{state_in, words_of_writer, shape_of_writer, phase_at, UsedWell}
 use Rattle.mc_theory.specs.declared.access.Access.{Access}
 use Rattle.mc_theory.specs.declared.event.Done.{Done}
 use Rattle.mc_theory.specs.declared.event.Event.TheVariants as event
@@ -33,7 +33,7 @@ use Rattle.mc_lookup.proofs.NextAccess.{next_is_determined, can_end}
 use Rattle.mc_lookup.proofs.StageSteps.{at_stage, both_trans}
 
 -- ---- the end of a lookup
-over_at : {V : ℕ} (l : Lookup V) (st : Stage) (reply : Reply V) → reply_at {V = V} l st ≡ Some reply → LeftAt V (shape_for {V = V} l) l.key l.tries l.version l.value l.reply st [] reply
+over_at : {V : ℕ} (l : Lookup V) (st : Stage) (reply : Reply V) → reply_at {V = V} l st ≡ Some reply → IsRemainderAt V (shape_for {V = V} l) l.key l.tries l.version l.value l.reply st [] reply
 over_at l Over reply e = let is : reply ≡ l.reply = cc in (refl, is)
 over_at l First reply e = absurd (cc (e))
 over_at l (Slot j) reply e = absurd (cc (e))
@@ -44,7 +44,7 @@ over_at l (Last hit at) reply e = absurd (cc (e))
 over_at l (Mark i) reply e = absurd (cc (e))
 
 -- once it has its reply, nothing is left of it
-over_left : {V : ℕ} (l : Lookup V) (reply : Reply V) → reply_now {V = V} l ≡ Some reply → Left {V = V} l [] reply
+over_left : {V : ℕ} (l : Lookup V) (reply : Reply V) → reply_now {V = V} l ≡ Some reply → IsRemainder {V = V} l [] reply
 over_left {V} l reply e = (at_stage {V = V} l l.stage [] reply refl).0 (over_at {V = V} l l.stage reply e)
 
 going_at : {V : ℕ} (l : Lookup V) (st : Stage) → reply_at {V = V} l st ≡ None → IsSome (next_at {V = V} l st)
@@ -62,55 +62,55 @@ begins_not l (Some a) reply s b = cc (b.2)
 begins_not l None reply s b = cc (s)
 
 -- before that, something is left of it
-going_left : {V : ℕ} (l : Lookup V) (reply : Reply V) → reply_now {V = V} l ≡ None → Left {V = V} l [] reply → ⊥
-going_left {V} l reply e left = begins_not {V = V} l (next_of {V = V} l) reply (going_at {V = V} l l.stage e) (next_is_determined V l [] reply left)
+going_left : {V : ℕ} (l : Lookup V) (reply : Reply V) → reply_now {V = V} l ≡ None → IsRemainder {V = V} l [] reply → ⊥
+going_left {V} l reply e left = begins_not {V = V} l (next_access {V = V} l) reply (going_at {V = V} l l.stage e) (next_is_determined V l [] reply left)
 
 -- ---- a reader's part
 -- what a reader's event leaves of the parts, where only its own lookup and the bits are changed
-stand_read : {V : ℕ} (old new : Parts V) (seen : worlds.World V) (r : ℕ) (x : Option (Reader V)) (y : Option Running) (bits : List ℕ → List ℕ) (ended : List (Ended V)) → StandFor {V = V} old seen →
-    new.writer ≡ old.writer → new.bits.items ≡ bits old.bits.items → new.readers.items ≡ slice_set old.readers.items r x → new.events ≡ old.events + 1 → Both (IsRunning V (shape_of_parts {V = V} old)) x y →
+stand_read : {V : ℕ} (old new : Parts V) (seen : traces.Trace V) (r : ℕ) (x : Option (Reader V)) (y : Option OpenLookup) (bits : List ℕ → List ℕ) (ended : List (Ended V)) → StandFor {V = V} old seen →
+    new.writer ≡ old.writer → new.bits.items ≡ bits old.bits.items → new.readers.items ≡ slice_set old.readers.items r x → new.events ≡ old.events + 1 → Both (IsOpenLookup V (shape_of_parts {V = V} old)) x y →
     StandFor {V = V} new (record { acts = seen.acts; bits = bits seen.bits; readers = slice_set seen.readers r y; ended = ended; events = seen.events + 1 })
 stand_read {V} old new seen r x y bits ended s writer bits_are readers events both =
     let sh = shape_of_parts {V = V} old in
     let shown = s.shows in
-    let now : (q : ℕ) → Both (Both (IsRunning V sh)) (slice_get new.readers.items q) (slice_get (slice_set seen.readers r y) q) =
-    λ q. subst (λ (z : List (Option (Reader V))). Both (Both (IsRunning V sh)) (slice_get z q) (slice_get (slice_set seen.readers r y) q)) (sym readers) (both_set (Both (IsRunning V sh)) old.readers.items seen.readers r x y shown.readers both q) in
+    let now : (q : ℕ) → Both (Both (IsOpenLookup V sh)) (slice_get new.readers.items q) (slice_get (slice_set seen.readers r y) q) =
+    λ q. subst (λ (z : List (Option (Reader V))). Both (Both (IsOpenLookup V sh)) (slice_get z q) (slice_get (slice_set seen.readers r y) q)) (sym readers) (both_set (Both (IsOpenLookup V sh)) old.readers.items seen.readers r x y shown.readers both q) in
     record {
       shows = record {
-        lawful = subst (λ (w : Writer V). IsLawful V (shape_at {V = V} w) seen.acts) (sym writer) shown.lawful;
-        state = subst (λ (w : Writer V). state_in {V = V} w ≡ state_of V (shape_at {V = V} w) seen.acts) (sym writer) shown.state;
+        lawful = subst (λ (w : Writer V). IsLawful V (shape_of_writer {V = V} w) seen.acts) (sym writer) shown.lawful;
+        state = subst (λ (w : Writer V). state_in {V = V} w ≡ state_of V (shape_of_writer {V = V} w) seen.acts) (sym writer) shown.state;
         bits = bits_are ∙ ap bits shown.bits;
-        readers = λ q. subst (λ (w : Writer V). Both (Both (IsRunning V (shape_at {V = V} w))) (slice_get new.readers.items q) (slice_get (slice_set seen.readers r y) q)) (sym writer) (now q);
+        readers = λ q. subst (λ (w : Writer V). Both (Both (IsOpenLookup V (shape_of_writer {V = V} w))) (slice_get new.readers.items q) (slice_get (slice_set seen.readers r y) q)) (sym writer) (now q);
         events = events ∙ ap (λ n. n + 1) shown.events;
       };
       used = subst (λ (w : Writer V). UsedWell {V = V} w.table) (sym writer) s.used;
-      within = subst (λ (w : Writer V). w.changes + runs (phase_at w.written w.progress) ≤ (shape_at {V = V} w).limit) (sym writer) s.within;
+      within = subst (λ (w : Writer V). w.version_steps + close_owed (phase_at w.written w.progress) ≤ (shape_of_writer {V = V} w).limit) (sym writer) s.within;
     }
 
--- the lookup of a reader in memory is one that runs in the world of events
-pub running_of : {V : ℕ} (old : Parts V) (seen : worlds.World V) (r : ℕ) (reader : Reader V) → StandFor {V = V} old seen → slice_get old.readers.items r ≡ Some (Some reader) → (run : Running) × (slice_get seen.readers r ≡ Some (Some run)) × IsRunning V (shape_of_parts {V = V} old) reader run
+-- the lookup of a reader in memory is one that runs in the trace of events
+pub running_of : {V : ℕ} (old : Parts V) (seen : traces.Trace V) (r : ℕ) (reader : Reader V) → StandFor {V = V} old seen → slice_get old.readers.items r ≡ Some (Some reader) → (run : OpenLookup) × (slice_get seen.readers r ≡ Some (Some run)) × IsOpenLookup V (shape_of_parts {V = V} old) reader run
 running_of {V} old seen r reader s at =
     let sh = shape_of_parts {V = V} old in
-    let one = both_some (Both (IsRunning V sh)) (Some reader) (slice_get old.readers.items r) (slice_get seen.readers r) (s.shows.readers r) at in
-    let two = both_some (IsRunning V sh) reader (Some reader) one.0 one.2 refl in
-    (two.0, one.1 ∙ ap (λ (o : Option Running). Some o) two.1, two.2)
+    let one = both_some (Both (IsOpenLookup V sh)) (Some reader) (slice_get old.readers.items r) (slice_get seen.readers r) (s.shows.readers r) at in
+    let two = both_some (IsOpenLookup V sh) reader (Some reader) one.0 one.2 refl in
+    (two.0, one.1 ∙ ap (λ (o : Option OpenLookup). Some o) two.1, two.2)
 
 -- and a reader in memory without a lookup has none there
-pub idle_of : {V : ℕ} (old : Parts V) (seen : worlds.World V) (r : ℕ) → StandFor {V = V} old seen → slice_get old.readers.items r ≡ Some None → slice_get seen.readers r ≡ Some None
+pub idle_of : {V : ℕ} (old : Parts V) (seen : traces.Trace V) (r : ℕ) → StandFor {V = V} old seen → slice_get old.readers.items r ≡ Some None → slice_get seen.readers r ≡ Some None
 idle_of {V} old seen r s at =
     let sh = shape_of_parts {V = V} old in
-    let one = both_some (Both (IsRunning V sh)) None (slice_get old.readers.items r) (slice_get seen.readers r) (s.shows.readers r) at in
-    one.1 ∙ ap (λ (o : Option Running). Some o) (both_none (IsRunning V sh) None one.0 one.2 refl)
+    let one = both_some (Both (IsOpenLookup V sh)) None (slice_get old.readers.items r) (slice_get seen.readers r) (s.shows.readers r) at in
+    one.1 ∙ ap (λ (o : Option OpenLookup). Some o) (both_none (IsOpenLookup V sh) None one.0 one.2 refl)
 
 -- what is left after a reading
-left_more : {V : ℕ} (sh : Shape) (reader : Reader V) (run : Running) (a : Access) (word f : ℕ) (next : Lookup V) → IsRunning V sh reader run → Takes {V = V} reader.lookup a word next → (rest : List Reading) (reply : Reply V) → Left {V = V} next rest reply ↔ IsLookup V sh run.key sh.tries ((run.sofar ++ record { access = a; word = word; front = f } ∷ []) ++ rest) reply
+left_more : {V : ℕ} (sh : Shape) (reader : Reader V) (run : OpenLookup) (a : Access) (word f : ℕ) (next : Lookup V) → IsOpenLookup V sh reader run → Consumes {V = V} reader.lookup a word next → (rest : List Reading) (reply : Reply V) → IsRemainder {V = V} next rest reply ↔ IsLookup V sh run.key sh.tries ((run.sofar ++ record { access = a; word = word; front = f } ∷ []) ++ rest) reply
 left_more {V} sh reader run a word f next is takes rest reply =
     let reading : Reading = record { access = a; word = word; front = f } in
     let same : (run.sofar ++ reading ∷ []) ++ rest ≡ run.sofar ++ reading ∷ rest = append_assoc run.sofar (reading ∷ []) rest in
-    subst (λ (rs : List Reading). Left {V = V} next rest reply ↔ IsLookup V sh run.key sh.tries rs reply) (sym same) (both_trans (takes.left f rest reply) (is.left (reading ∷ rest) reply))
+    subst (λ (rs : List Reading). IsRemainder {V = V} next rest reply ↔ IsLookup V sh run.key sh.tries rs reply) (sym same) (both_trans (takes.left f rest reply) (is.left (reading ∷ rest) reply))
 
 -- the reading is the one that the lookup has next
-reads_next : {V : ℕ} (sh : Shape) (seen : worlds.World V) (reader : Reader V) (run : Running) (a : Access) (word : ℕ) (next : Lookup V) → IsRunning V sh reader run → IsWordOf V sh (state_of V sh seen.acts).words a word → Takes {V = V} reader.lookup a word next → ReadsNext V sh seen run (record { access = a; word = word; front = length seen.acts })
+reads_next : {V : ℕ} (sh : Shape) (seen : traces.Trace V) (reader : Reader V) (run : OpenLookup) (a : Access) (word : ℕ) (next : Lookup V) → IsOpenLookup V sh reader run → IsWordOf V sh (state_of V sh seen.acts).words a word → Consumes {V = V} reader.lookup a word next → ReadsNext V sh seen run (record { access = a; word = word; front = length seen.acts })
 reads_next {V} sh seen reader run a word next is reads takes =
     let end = can_end V next in
     record {
@@ -129,15 +129,15 @@ pub told_is : {V : ℕ} (r k key : ℕ) (reply : Reply V) (first f last e : ℕ)
 told_is r k key reply first f last e a b c = rw (a, b, c) refl
 
 -- the access that ends a lookup
-pub access_ends : {V : ℕ} (old new : Parts V) (seen : worlds.World V) (r : ℕ) (reader : Reader V) (a : Access) (word : ℕ) (next : Lookup V) (reply : Reply V) (done : Done V) (mid : List (Option (Reader V))) → StandFor {V = V} old seen → slice_get old.readers.items r ≡ Some (Some reader) → old.events < 2 ^ 64 - 1 →
-    IsWordOf V (shape_of_parts {V = V} old) (words_at {V = V} old.writer) a word → Takes {V = V} reader.lookup a word next → reply_now {V = V} next ≡ Some reply →
+pub access_ends : {V : ℕ} (old new : Parts V) (seen : traces.Trace V) (r : ℕ) (reader : Reader V) (a : Access) (word : ℕ) (next : Lookup V) (reply : Reply V) (done : Done V) (mid : List (Option (Reader V))) → StandFor {V = V} old seen → slice_get old.readers.items r ≡ Some (Some reader) → old.events < 2 ^ 64 - 1 →
+    IsWordOf V (shape_of_parts {V = V} old) (words_of_writer {V = V} old.writer) a word → Consumes {V = V} reader.lookup a word next → reply_now {V = V} next ≡ Some reply →
     done ≡ record { reader = r; key = next.key; reply = reply; first = unwrap_or reader.first old.events; last = old.events } →
     new.writer ≡ old.writer → new.bits.items ≡ bits_read old.bits.items a → mid ≡ old.readers.items → new.readers.items ≡ slice_set mid r None → new.events ≡ old.events + 1 →
-    (x : worlds.World V) × worlds.Steps V (shape_of_parts {V = V} old) seen (event.Read r) x × worlds.Gives {V = V} seen (event.Read r) x (stepped.Done done) × StandFor {V = V} new x
+    (x : traces.Trace V) × traces.Steps V (shape_of_parts {V = V} old) seen (event.Read r) x × traces.EventGives {V = V} seen (event.Read r) x (stepped.Done done) × StandFor {V = V} new x
 access_ends {V} old new seen r reader a word next reply done mid s at below reads takes over told writer bits kept readers events =
     let sh = shape_of_parts {V = V} old in
     let found = running_of {V = V} old seen r reader s at in
-    let run : Running = found.0 in
+    let run : OpenLookup = found.0 in
     let is = found.2 in
     let reading : Reading = record { access = a; word = word; front = length seen.acts } in
     let word_now : IsWordOf V sh (state_of V sh seen.acts).words a word = subst (λ (y : State V). IsWordOf V sh y.words a word) s.shows.state reads in
@@ -153,29 +153,29 @@ access_ends {V} old new seen r reader a word next reply done mid s at below read
     )
 
 -- an access after which the lookup goes on
-pub access_goes_on : {V : ℕ} (old new : Parts V) (seen : worlds.World V) (r : ℕ) (reader : Reader V) (a : Access) (word : ℕ) (next : Lookup V) (after : Reader V) (mid : List (Option (Reader V))) → StandFor {V = V} old seen → slice_get old.readers.items r ≡ Some (Some reader) → old.events < 2 ^ 64 - 1 →
-    IsWordOf V (shape_of_parts {V = V} old) (words_at {V = V} old.writer) a word → Takes {V = V} reader.lookup a word next → reply_now {V = V} next ≡ None →
+pub access_goes_on : {V : ℕ} (old new : Parts V) (seen : traces.Trace V) (r : ℕ) (reader : Reader V) (a : Access) (word : ℕ) (next : Lookup V) (after : Reader V) (mid : List (Option (Reader V))) → StandFor {V = V} old seen → slice_get old.readers.items r ≡ Some (Some reader) → old.events < 2 ^ 64 - 1 →
+    IsWordOf V (shape_of_parts {V = V} old) (words_of_writer {V = V} old.writer) a word → Consumes {V = V} reader.lookup a word next → reply_now {V = V} next ≡ None →
     after.lookup ≡ next → after.first ≡ Some (unwrap_or reader.first old.events) →
     new.writer ≡ old.writer → new.bits.items ≡ bits_read old.bits.items a → mid ≡ old.readers.items → new.readers.items ≡ slice_set mid r (Some after) → new.events ≡ old.events + 1 →
-    (x : worlds.World V) × worlds.Steps V (shape_of_parts {V = V} old) seen (event.Read r) x × worlds.Gives {V = V} seen (event.Read r) x (stepped.Word word) × StandFor {V = V} new x
+    (x : traces.Trace V) × traces.Steps V (shape_of_parts {V = V} old) seen (event.Read r) x × traces.EventGives {V = V} seen (event.Read r) x (stepped.Word word) × StandFor {V = V} new x
 access_goes_on {V} old new seen r reader a word next after mid s at below reads takes on lookup_is first_is writer bits kept readers events =
     let sh = shape_of_parts {V = V} old in
     let found = running_of {V = V} old seen r reader s at in
-    let run : Running = found.0 in
+    let run : OpenLookup = found.0 in
     let is = found.2 in
     let reading : Reading = record { access = a; word = word; front = length seen.acts } in
     let word_now : IsWordOf V sh (state_of V sh seen.acts).words a word = subst (λ (y : State V). IsWordOf V sh y.words a word) s.shows.state reads in
     let first : unwrap_or reader.first old.events ≡ first_read seen.events run = is.first old.events ∙ ap (λ n. first_read n run) s.shows.events in
-    let more : Running = record { key = run.key; sofar = run.sofar ++ reading ∷ []; first = first_read seen.events run } in
+    let more : OpenLookup = record { key = run.key; sofar = run.sofar ++ reading ∷ []; first = first_read seen.events run } in
     let unended : (reply : Reply V) → IsLookup V sh run.key sh.tries (run.sofar ++ reading ∷ []) reply → ⊥ =
     λ reply looked. going_left {V = V} next reply on ((left_more {V = V} sh reader run a word (length seen.acts) next is takes [] reply).1 (rw append-nil looked)) in
-    let running : IsRunning V sh after more =
+    let running : IsOpenLookup V sh after more =
     record {
       shape = ap (λ (l : Lookup V). shape_for {V = V} l) lookup_is ∙ ap (λ (y : Checked). shape_of y) takes.shape ∙ is.shape;
       key = ap (λ (l : Lookup V). l.key) lookup_is ∙ takes.key ∙ is.key;
-      left = λ rest reply. subst (λ (l : Lookup V). Left {V = V} l rest reply ↔ IsLookup V sh run.key sh.tries ((run.sofar ++ reading ∷ []) ++ rest) reply) (sym lookup_is) (left_more {V = V} sh reader run a word (length seen.acts) next is takes rest reply);
+      left = λ rest reply. subst (λ (l : Lookup V). IsRemainder {V = V} l rest reply ↔ IsLookup V sh run.key sh.tries ((run.sofar ++ reading ∷ []) ++ rest) reply) (sym lookup_is) (left_more {V = V} sh reader run a word (length seen.acts) next is takes rest reply);
       first = λ n. ap (λ (o : Option ℕ). unwrap_or o n) first_is ∙ first ∙ sym (first_more run.sofar reading run.key (first_read seen.events run) n);
-      more = subst (λ (l : Lookup V). IsSome (next_of {V = V} l)) (sym lookup_is) (going_at {V = V} next next.stage on);
+      more = subst (λ (l : Lookup V). IsSome (next_access {V = V} l)) (sym lookup_is) (going_at {V = V} next next.stage on);
     } in (
       _,
       (run, reading, found.1, reads_next {V = V} sh seen reader run a word next is word_now takes, omega (arith, s.shows.events), inr (unended, refl)),
@@ -184,13 +184,13 @@ access_goes_on {V} old new seen r reader a word next after mid s at below reads 
     )
 
 -- the beginning of a lookup
-pub begins : {V : ℕ} (old new : Parts V) (seen : worlds.World V) (r key : ℕ) (after : Reader V) → StandFor {V = V} old seen → slice_get seen.readers r ≡ Some None → key < 2 ^ 64 → old.events < 2 ^ 64 - 1 →
-    shape_for {V = V} after.lookup ≡ shape_of_parts {V = V} old → after.lookup.key ≡ key → ((rs : List Reading) (reply : Reply V) → Left {V = V} after.lookup rs reply ↔ IsLookup V (shape_of_parts {V = V} old) key (shape_of_parts {V = V} old).tries rs reply) → IsSome (next_of {V = V} after.lookup) → after.first ≡ None →
+pub begins : {V : ℕ} (old new : Parts V) (seen : traces.Trace V) (r key : ℕ) (after : Reader V) → StandFor {V = V} old seen → slice_get seen.readers r ≡ Some None → key < 2 ^ 64 → old.events < 2 ^ 64 - 1 →
+    shape_for {V = V} after.lookup ≡ shape_of_parts {V = V} old → after.lookup.key ≡ key → ((rs : List Reading) (reply : Reply V) → IsRemainder {V = V} after.lookup rs reply ↔ IsLookup V (shape_of_parts {V = V} old) key (shape_of_parts {V = V} old).tries rs reply) → IsSome (next_access {V = V} after.lookup) → after.first ≡ None →
     new.writer ≡ old.writer → new.bits.items ≡ old.bits.items → new.readers.items ≡ slice_set old.readers.items r (Some after) → new.events ≡ old.events + 1 →
-    (x : worlds.World V) × worlds.Steps V (shape_of_parts {V = V} old) seen (event.Begin r key) x × worlds.Gives {V = V} seen (event.Begin r key) x stepped.Nothing × StandFor {V = V} new x
+    (x : traces.Trace V) × traces.Steps V (shape_of_parts {V = V} old) seen (event.Begin r key) x × traces.EventGives {V = V} seen (event.Begin r key) x stepped.Nothing × StandFor {V = V} new x
 begins {V} old new seen r key after s idle range below shape key_is left more first writer bits readers events =
-    let run : Running = record { key = key; sofar = []; first = 0 } in
-    let running : IsRunning V (shape_of_parts {V = V} old) after run = record {
+    let run : OpenLookup = record { key = key; sofar = []; first = 0 } in
+    let running : IsOpenLookup V (shape_of_parts {V = V} old) after run = record {
       shape = shape;
       key = key_is;
       left = left;

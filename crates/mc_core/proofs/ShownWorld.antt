@@ -1,4 +1,4 @@
--- What follows of a world in memory from the world of events that it shows.
+-- What follows of a world in memory from the trace of events that it shows.
 use Rattle.std.proofs.Common.{ℕ, ◌≡◌, ◌+◌, ◌<◌, ◌≤◌, List, [], ◌∷◌, ◌++◌, Option, sym, ◌∙◌, ap, subst, arith}
 use Rattle.std.specs.Prelude.{Result, Ok, Err, OnOk, false, slice_get}
 use Rattle.std.specs.Result.{is_err}
@@ -8,15 +8,15 @@ use Rattle.mc_words.specs.declared.checked.Checked.{Checked}
 use Rattle.mc_theory.specs.Lists.{Made, IsLawful, state_of}
 use Rattle.mc_words.specs.declared.shape.Shape.{Shape}
 use Rattle.mc_theory.specs.Acts.{MayFrom, IsAllowed}
-use Rattle.mc_theory.specs.Effects.{phase_after, changes_after, after_act}
+use Rattle.mc_theory.specs.Effects.{phase_after, version_steps_after, after_act}
 use Rattle.mc_theory.specs.Inner.{StateHolds, StateCounted}
-use Rattle.mc_theory.specs.Phases.{Phase, Quiet, Filling, Keyed, Placed, Renewing, Removing, Removed, Moving, Moved, Closing, runs}
-use Rattle.mc_core.specs.Seen.{Both, IsRunning}
+use Rattle.mc_theory.specs.Phases.{Phase, Quiet, Filling, Keyed, Placed, Renewing, Removing, Removed, Moving, Moved, Closing, close_owed}
+use Rattle.mc_core.specs.Seen.{Both, IsOpenLookup}
 use Rattle.mc_core.specs.Inside.Seen.{ReadsIn}
 use Rattle.mc_core.specs.Inside.Parts.{shape_of_parts, StandFor}
 use Rattle.mc_theory.specs.States.{State}
-use Rattle.mc_theory.specs.Worlds as worlds
-use Rattle.mc_core.specs.Inside.Writers.{state_in, words_at, phase_at, IsMade}
+use Rattle.mc_theory.specs.Traces as traces
+use Rattle.mc_core.specs.Inside.Writers.{state_in, words_of_writer, phase_at, IsMade}
 use Rattle.mc_theory.specs.declared.act.Act.{Act}
 use Rattle.mc_theory.specs.declared.act.Act.TheVariants.{Open, Slot, Item, Moment, Close, Hand, Mark}
 use Rattle.mc_theory.specs.declared.act.Deed.TheVariants as deed
@@ -25,13 +25,13 @@ use Rattle.mc_core.specs.declared.reader.Reader.{Reader}
 use Rattle.mc_theory.proofs.Lists.Bounds.{state_counted, state_hand}
 use Rattle.mc_theory.proofs.Lists.Fronts.{state_holds, state_push, lawful_push}
 
-pub holds_of : {V : ℕ} (parts : Parts V) (seen : worlds.World V) → StandFor {V = V} parts seen → StateHolds (shape_of_parts {V = V} parts) (state_in {V = V} parts.writer)
+pub holds_of : {V : ℕ} (parts : Parts V) (seen : traces.Trace V) → StandFor {V = V} parts seen → StateHolds (shape_of_parts {V = V} parts) (state_in {V = V} parts.writer)
 holds_of {V} parts seen s = subst (λ (y : State V). StateHolds (shape_of_parts {V = V} parts) y) (sym s.shows.state) (state_holds V (shape_of_parts {V = V} parts) seen.acts parts.writer.table.checked.sound s.shows.lawful)
 
-pub counted_of : {V : ℕ} (parts : Parts V) (seen : worlds.World V) → StandFor {V = V} parts seen → StateCounted (shape_of_parts {V = V} parts) (state_in {V = V} parts.writer)
+pub counted_of : {V : ℕ} (parts : Parts V) (seen : traces.Trace V) → StandFor {V = V} parts seen → StateCounted (shape_of_parts {V = V} parts) (state_in {V = V} parts.writer)
 counted_of {V} parts seen s = subst (λ (y : State V). StateCounted (shape_of_parts {V = V} parts) y) (sym s.shows.state) (state_counted V (shape_of_parts {V = V} parts) seen.acts parts.writer.table.checked.sound s.shows.lawful)
 
-pub hand_of : {V : ℕ} (parts : Parts V) (seen : worlds.World V) → StandFor {V = V} parts seen → parts.writer.hand < (shape_of_parts {V = V} parts).items
+pub hand_of : {V : ℕ} (parts : Parts V) (seen : traces.Trace V) → StandFor {V = V} parts seen → parts.writer.hand < (shape_of_parts {V = V} parts).items
 hand_of {V} parts seen s = subst (λ (y : State V). y.hand < (shape_of_parts {V = V} parts).items) (sym s.shows.state) (state_hand V (shape_of_parts {V = V} parts) seen.acts parts.writer.table.checked.sound)
 
 -- an allowed act is on the bit of an item
@@ -46,7 +46,7 @@ reads_in V sh w hand cleared p Close l may = tt
 reads_in V sh w hand cleared _ _ l may = absurd may
 
 -- the close of a running deed passes no limit
-pub within_after : (V : ℕ) (sh : Shape) (w : List ℕ) (hand : ℕ) (cleared : Option ℕ) (c limit : ℕ) (p : Phase) (a : Act) → MayFrom V sh w hand cleared p a → worlds.HasChanges limit c a → c + runs p ≤ limit → changes_after c a + runs (phase_after p a) ≤ limit
+pub within_after : (V : ℕ) (sh : Shape) (w : List ℕ) (hand : ℕ) (cleared : Option ℕ) (c limit : ℕ) (p : Phase) (a : Act) → MayFrom V sh w hand cleared p a → traces.HasVersionSteps limit c a → c + close_owed p ≤ limit → version_steps_after c a + close_owed (phase_after p a) ≤ limit
 within_after V sh w hand cleared c limit Quiet (Open k deed.Fill) may has l = omega (arith, has)
 within_after V sh w hand cleared c limit Quiet (Open k deed.Renew) may has l = omega (arith, has)
 within_after V sh w hand cleared c limit Quiet (Open k deed.Remove) may has l = omega (arith, has)
@@ -73,30 +73,30 @@ ok_of (Ok x) P e h = h
 ok_of (Err x) P e h = absurd (false≢true (sym e))
 
 -- the parts after an act that was made
-pub stand_after : {V : ℕ} (old new : Parts V) (seen : worlds.World V) (a : Act) → StandFor {V = V} old seen → IsAllowed (shape_of_parts {V = V} old) (state_in {V = V} old.writer) a → worlds.HasChanges (shape_of_parts {V = V} old).limit old.writer.changes a →
-    IsMade {V = V} old.writer new.writer a (worlds.bit_of old.bits.items a) → new.bits.items ≡ worlds.bits_after old.bits.items a → new.readers.items ≡ old.readers.items → new.events ≡ old.events + 1 →
-    StandFor {V = V} new (record { acts = seen.acts ++ record { act = a; bit = worlds.bit_of seen.bits a } ∷ []; bits = worlds.bits_after seen.bits a; readers = seen.readers; ended = seen.ended; events = seen.events + 1 })
+pub stand_after : {V : ℕ} (old new : Parts V) (seen : traces.Trace V) (a : Act) → StandFor {V = V} old seen → IsAllowed (shape_of_parts {V = V} old) (state_in {V = V} old.writer) a → traces.HasVersionSteps (shape_of_parts {V = V} old).limit old.writer.version_steps a →
+    IsMade {V = V} old.writer new.writer a (traces.bit_of old.bits.items a) → new.bits.items ≡ traces.bits_after old.bits.items a → new.readers.items ≡ old.readers.items → new.events ≡ old.events + 1 →
+    StandFor {V = V} new (record { acts = seen.acts ++ record { act = a; bit = traces.bit_of seen.bits a } ∷ []; bits = traces.bits_after seen.bits a; readers = seen.readers; ended = seen.ended; events = seen.events + 1 })
 stand_after {V} old new seen a s may has made bits readers events =
     let sh = shape_of_parts {V = V} old in
     let shown = s.shows in
     let same : shape_of_parts {V = V} new ≡ sh = ap (λ (y : Checked). shape_of y) made.shape in
-    let m : Made = record { act = a; bit = worlds.bit_of seen.bits a } in
+    let m : Made = record { act = a; bit = traces.bit_of seen.bits a } in
     let allowed : IsAllowed sh (state_of V sh seen.acts) a = subst (λ (y : State V). IsAllowed sh y a) shown.state may in
     let state : state_in {V = V} new.writer ≡ state_of V sh (seen.acts ++ m ∷ []) =
-    made.state ∙ ap (λ (y : State V). after_act sh y a (worlds.bit_of old.bits.items a)) shown.state ∙ ap (λ (y : List ℕ). after_act sh (state_of V sh seen.acts) a (worlds.bit_of y a)) shown.bits ∙ sym (state_push V sh seen.acts m) in
-    let changes : new.writer.changes ≡ changes_after old.writer.changes a = ap (λ (y : State V). y.changes) made.state in
+    made.state ∙ ap (λ (y : State V). after_act sh y a (traces.bit_of old.bits.items a)) shown.state ∙ ap (λ (y : List ℕ). after_act sh (state_of V sh seen.acts) a (traces.bit_of y a)) shown.bits ∙ sym (state_push V sh seen.acts m) in
+    let changes : new.writer.version_steps ≡ version_steps_after old.writer.version_steps a = ap (λ (y : State V). y.version_steps) made.state in
     let phase : phase_at new.writer.written new.writer.progress ≡ phase_after (phase_at old.writer.written old.writer.progress) a = ap (λ (y : State V). y.phase) made.state in
-    let close = within_after V sh (words_at {V = V} old.writer) old.writer.hand old.writer.cleared old.writer.changes sh.limit (phase_at old.writer.written old.writer.progress) a may has s.within in
-    let now : (r : ℕ) → Both (Both (IsRunning V sh)) (slice_get new.readers.items r) (slice_get seen.readers r) =
-    λ r. subst (λ (y : List (Option (Reader V))). Both (Both (IsRunning V sh)) (slice_get y r) (slice_get seen.readers r)) (sym readers) (shown.readers r) in
+    let close = within_after V sh (words_of_writer {V = V} old.writer) old.writer.hand old.writer.cleared old.writer.version_steps sh.limit (phase_at old.writer.written old.writer.progress) a may has s.within in
+    let now : (r : ℕ) → Both (Both (IsOpenLookup V sh)) (slice_get new.readers.items r) (slice_get seen.readers r) =
+    λ r. subst (λ (y : List (Option (Reader V))). Both (Both (IsOpenLookup V sh)) (slice_get y r) (slice_get seen.readers r)) (sym readers) (shown.readers r) in
     record {
       shows = record {
         lawful = subst (λ (y : Shape). IsLawful V y (seen.acts ++ m ∷ [])) (sym same) (lawful_push V sh seen.acts m shown.lawful allowed);
         state = subst (λ (y : Shape). state_in {V = V} new.writer ≡ state_of V y (seen.acts ++ m ∷ [])) (sym same) state;
-        bits = bits ∙ ap (λ (y : List ℕ). worlds.bits_after y a) shown.bits;
-        readers = λ r. subst (λ (y : Shape). Both (Both (IsRunning V y)) (slice_get new.readers.items r) (slice_get seen.readers r)) (sym same) (now r);
+        bits = bits ∙ ap (λ (y : List ℕ). traces.bits_after y a) shown.bits;
+        readers = λ r. subst (λ (y : Shape). Both (Both (IsOpenLookup V y)) (slice_get new.readers.items r) (slice_get seen.readers r)) (sym same) (now r);
         events = events ∙ ap (λ y. y + 1) shown.events;
       };
       used = made.used;
-      within = subst (λ (y : Shape). new.writer.changes + runs (phase_at new.writer.written new.writer.progress) ≤ y.limit) (sym same) (omega (arith, close, changes, ap runs phase));
+      within = subst (λ (y : Shape). new.writer.version_steps + close_owed (phase_at new.writer.written new.writer.progress) ≤ y.limit) (sym same) (omega (arith, close, changes, ap close_owed phase));
     }

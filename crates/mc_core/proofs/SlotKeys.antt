@@ -5,7 +5,7 @@ use Rattle.mc_words.proofs.Frames.{slot_word-parts}
 use Rattle.mc_words.specs.Keys.{NamesUnder}
 use Rattle.mc_words.specs.Places.{IsPlace, slot_number, slot, item}
 use Rattle.mc_words.specs.Shapes.{IsShape}
-use Rattle.mc_words.specs.Standing.{Names, Stands}
+use Rattle.mc_words.specs.Standing.{NamesItem, Stands}
 use Rattle.mc_words.specs.declared.place.Place.{Place}
 use Rattle.mc_words.specs.declared.shape.Shape.{Shape}
 
@@ -14,7 +14,7 @@ pub number_in : (sh : Shape) (p : Place) → IsPlace sh p → slot_number p < 4 
 number_in sh p is = omega (arith, is.in_table, is.in_bucket)
 
 -- the item that the word of a slot names is the one that the slot names
-pub named_item : (sh : Shape) (w : List ℕ) (q tag i g : ℕ) → IsShape sh → NamesUnder sh (slot sh w q) tag i → Names sh w q g → g ≡ i
+pub named_item : (sh : Shape) (w : List ℕ) (q tag i g : ℕ) → IsShape sh → NamesUnder sh (slot sh w q) tag i → NamesItem sh w q g → g ≡ i
 named_item sh w q tag i g s under names =
     (slot_word-parts names.tag tag g i (omega (arith, names.in_items, s.items.1, s.buckets.1)) (omega (arith, under.1, s.items.1, s.buckets.1)) (sym names.word ∙ under.2)).1
 

@@ -10,41 +10,41 @@ use Rattle.mc_theory.specs.declared.event.Event.TheVariants.{Write, Begin, Read}
 use Rattle.mc_theory.specs.declared.event.Unlawful.TheVariants as unlawful
 use Rattle.mc_words.specs.Shapes.{IsShape}
 use Rattle.mc_words.specs.declared.shape.Shape.{Shape}
-use Rattle.mc_core.specs.Inside.Parts.{shape_of_parts, shown_of, StandFor, AreReached}
+use Rattle.mc_core.specs.Inside.Parts.{shape_of_parts, view_of, StandFor, AreReached}
 use Rattle.mc_core.specs.Seen.{Shows, MayAct}
-use Rattle.mc_theory.specs.Worlds.{World, IsWithin, HasChanges, bit_of, given_of, Steps, Gives, Refuses, Runs, IsReached, IsTrueEnd, first_world}
+use Rattle.mc_theory.specs.Traces.{Trace, IsWithin, HasVersionSteps, bit_of, given_of, Steps, EventGives, RefusesEvent, StepsAll, IsReached, IsTrueEnd, first_trace}
 use Rattle.mc_theory.specs.declared.event.Event.{Event}
 use Rattle.mc_theory.specs.declared.event.Stepped.{Stepped}
 use Rattle.mc_theory.specs.declared.event.Unlawful.{Unlawful}
 use Rattle.mc_core.specs.declared.parts.Parts.{Parts}
-use Rattle.mc_theory.proofs.Events.ReachedWorlds.{worlds_are_true}
+use Rattle.mc_theory.proofs.Events.ReachedTraces.{traces_are_true}
 
 -- one event more
-pub runs_push : (V : ℕ) (sh : Shape) (w : World V) (es : List Event) (x y : World V) (e : Event) → Runs V sh w es x → Steps V sh x e y → Runs V sh w (es ++ e ∷ []) y
-runs_push V sh w [] x y e r s = (y, subst (λ (z : World V). Steps V sh z e y) r s, refl)
+pub runs_push : (V : ℕ) (sh : Shape) (w : Trace V) (es : List Event) (x y : Trace V) (e : Event) → StepsAll V sh w es x → Steps V sh x e y → StepsAll V sh w (es ++ e ∷ []) y
+runs_push V sh w [] x y e r s = (y, subst (λ (z : Trace V). Steps V sh z e y) r s, refl)
 runs_push V sh w (d ∷ ds) x y e r s = (r.0, r.1, runs_push V sh r.0 ds x y e r.2 s)
 
 -- more events, one after the other
-pub runs_append : (V : ℕ) (sh : Shape) (w x y : World V) (es ds : List Event) → Runs V sh w es x → Runs V sh x ds y → Runs V sh w (es ++ ds) y
-runs_append V sh w x y [] ds r s = subst (λ (z : World V). Runs V sh z ds y) r s
+pub runs_append : (V : ℕ) (sh : Shape) (w x y : Trace V) (es ds : List Event) → StepsAll V sh w es x → StepsAll V sh x ds y → StepsAll V sh w (es ++ ds) y
+runs_append V sh w x y [] ds r s = subst (λ (z : Trace V). StepsAll V sh z ds y) r s
 runs_append V sh w x y (e ∷ es) ds r s = (r.0, r.1, runs_append V sh r.0 x y es ds r.2 s)
 
-pub reached_append : (V : ℕ) (sh : Shape) (x y : World V) (es : List Event) → IsReached V sh x → Runs V sh x es y → IsReached V sh y
-reached_append V sh x y es r s = record { readers = r.readers; events = r.events ++ es; runs = runs_append V sh (first_world V sh r.readers) x y r.events es r.runs s }
+pub reached_append : (V : ℕ) (sh : Shape) (x y : Trace V) (es : List Event) → IsReached V sh x → StepsAll V sh x es y → IsReached V sh y
+reached_append V sh x y es r s = record { readers = r.readers; events = r.events ++ es; runs = runs_append V sh (first_trace V sh r.readers) x y r.events es r.runs s }
 
 -- what has ended in a world that is reached replied truly
-pub reached_true : (V : ℕ) (sh : Shape) (x : World V) → IsShape sh → IsReached V sh x → All (IsTrueEnd V sh x) x.ended
-reached_true V sh x sound r = (worlds_are_true V sh r.readers r.events x sound r.runs).1
+pub reached_true : (V : ℕ) (sh : Shape) (x : Trace V) → IsShape sh → IsReached V sh x → All (IsTrueEnd V sh x) x.ended
+reached_true V sh x sound r = (traces_are_true V sh r.readers r.events x sound r.runs).1
 
-pub reached_push : (V : ℕ) (sh : Shape) (x y : World V) (e : Event) → IsReached V sh x → Steps V sh x e y → IsReached V sh y
-reached_push V sh x y e r s = record { readers = r.readers; events = r.events ++ e ∷ []; runs = runs_push V sh (first_world V sh r.readers) r.events x y e r.runs s }
+pub reached_push : (V : ℕ) (sh : Shape) (x y : Trace V) (e : Event) → IsReached V sh x → Steps V sh x e y → IsReached V sh y
+reached_push V sh x y e r s = record { readers = r.readers; events = r.events ++ e ∷ []; runs = runs_push V sh (first_trace V sh r.readers) r.events x y e r.runs s }
 
--- what a step promises of every world of events
+-- what a step promises of every trace of events
 abbrev pub Leads : {V : ℕ} → Parts V → Parts V → Event → Stepped V → Type 0
-Leads {V} old new e out = (seen : World V) → StandFor {V = V} old seen → (next : World V) × Steps V (shape_of_parts {V = V} old) seen e next × Gives {V = V} seen e next out × StandFor {V = V} new next
+Leads {V} old new e out = (seen : Trace V) → StandFor {V = V} old seen → (next : Trace V) × Steps V (shape_of_parts {V = V} old) seen e next × EventGives {V = V} seen e next out × StandFor {V = V} new next
 
 abbrev pub Stays : {V : ℕ} → Parts V → Parts V → Event → Unlawful → Type 0
-Stays {V} old new e why = (seen : World V) → StandFor {V = V} old seen → Refuses {V = V} (shape_of_parts {V = V} old) seen e why × StandFor {V = V} new seen
+Stays {V} old new e why = (seen : Trace V) → StandFor {V = V} old seen → RefusesEvent {V = V} (shape_of_parts {V = V} old) seen e why × StandFor {V = V} new seen
 
 pub reached_after : {V : ℕ} (old new : Parts V) (e : Event) (r : Result (Stepped V) Unlawful) → AreReached {V = V} old → shape_of_parts {V = V} new ≡ shape_of_parts {V = V} old → IfOk r (λ out. Leads {V = V} old new e out) → IfErr r (λ why. Stays {V = V} old new e why) → AreReached {V = V} new
 reached_after {V} old new e (Ok out) reached shape leads stays =
@@ -62,12 +62,12 @@ reached_after {V} old new e (Err why) reached shape leads stays =
     }
 
 -- every event is counted
-steps_count : (V : ℕ) (sh : Shape) (w x : World V) (e : Event) → Steps V sh w e x → x.events ≡ w.events + 1
-steps_count V sh w x (Write a) s = ap (λ (y : World V). y.events) s.2
-steps_count V sh w x (Begin r k) s = ap (λ (y : World V). y.events) s.3
+steps_count : (V : ℕ) (sh : Shape) (w x : Trace V) (e : Event) → Steps V sh w e x → x.events ≡ w.events + 1
+steps_count V sh w x (Write a) s = ap (λ (y : Trace V). y.events) s.2
+steps_count V sh w x (Begin r k) s = ap (λ (y : Trace V). y.events) s.3
 steps_count V sh w x (Read r) s = elim s.5 [
-  | inl over ↦ ap (λ (y : World V). y.events) over.2
-  | inr more ↦ ap (λ (y : World V). y.events) more.1
+  | inl over ↦ ap (λ (y : Trace V). y.events) over.2
+  | inr more ↦ ap (λ (y : Trace V). y.events) more.1
 ]
 
 pub counted_after : {V : ℕ} (old new : Parts V) (e : Event) (r : Result (Stepped V) Unlawful) → AreReached {V = V} old → IfOk r (λ out. Leads {V = V} old new e out) → OnOk r (new.events ≡ old.events + 1)
@@ -77,7 +77,7 @@ counted_after {V} old new e (Ok out) reached leads =
 counted_after old new e (Err why) reached leads = leads
 
 -- an act that is allowed and passes no limit is refused for want of memory alone, and only where it counts a change
-refused_act : (V : ℕ) (sh : Shape) (w : World V) (a : Act) (why : Unlawful) → Refuses {V = V} sh w (Write a) why → IsAllowed sh (state_of V sh w.acts) a → IsWithin {V = V} sh w (Write a) → (why ≡ unlawful.NoMemory) × (a ≡ act.Moment)
+refused_act : (V : ℕ) (sh : Shape) (w : Trace V) (a : Act) (why : Unlawful) → RefusesEvent {V = V} sh w (Write a) why → IsAllowed sh (state_of V sh w.acts) a → IsWithin {V = V} sh w (Write a) → (why ≡ unlawful.NoMemory) × (a ≡ act.Moment)
 refused_act V sh w a unlawful.NotLawful h may within = absurd (h may)
 refused_act V sh w a unlawful.Limit h may within = absurd (h.1 within)
 refused_act V sh w act.Moment unlawful.NoMemory h may within = (refl, refl)
@@ -90,35 +90,35 @@ refused_act V sh w (act.Mark i) unlawful.NoMemory h may within = absurd h
 refused_act V sh w a unlawful.NoReader h may within = absurd h
 refused_act V sh w a unlawful.StillRunning h may within = absurd h
 
-pub lawful_after : {V : ℕ} (old new : Parts V) (e : Event) (r : Result (Stepped V) Unlawful) → AreReached {V = V} old → IfErr r (λ why. Stays {V = V} old new e why) → (a : Act) → e ≡ Write a → MayAct {V = V} (shown_of {V = V} old) a → IfErr r (λ why. (why ≡ unlawful.NoMemory) × (a ≡ act.Moment))
+pub lawful_after : {V : ℕ} (old new : Parts V) (e : Event) (r : Result (Stepped V) Unlawful) → AreReached {V = V} old → IfErr r (λ why. Stays {V = V} old new e why) → (a : Act) → e ≡ Write a → MayAct {V = V} (view_of {V = V} old) a → IfErr r (λ why. (why ≡ unlawful.NoMemory) × (a ≡ act.Moment))
 lawful_after old new e (Ok out) reached stays a is may = stays
 lawful_after {V} old new e (Err why) reached stays a is may =
     let sh = shape_of_parts {V = V} old in
     let shows = reached.stand.shows in
-    let refused = subst (λ (d : Event). Refuses {V = V} sh reached.seen d why) is (stays reached.seen reached.stand).0 in
+    let refused = subst (λ (d : Event). RefusesEvent {V = V} sh reached.seen d why) is (stays reached.seen reached.stand).0 in
     let allowed = subst (λ (s : State V). IsAllowed sh s a) shows.state may.0 in
-    let has = subst (λ (s : State V). HasChanges sh.limit s.changes a) shows.state may.1 in
+    let has = subst (λ (s : State V). HasVersionSteps sh.limit s.version_steps a) shows.state may.1 in
     refused_act V sh reached.seen a why refused allowed (omega (arith, may.2, shows.events), has)
 
 -- and gives the bit that the hand read
 pub given_after : {V : ℕ} (old new : Parts V) (e : Event) (r : Result (Stepped V) Unlawful) → AreReached {V = V} old → IfOk r (λ out. Leads {V = V} old new e out) → (a : Act) → e ≡ Write a → IfOk r (λ out. out ≡ given_of {V = V} (bit_of old.bits.items a) a)
 given_after {V} old new e (Ok out) reached leads a is =
     let next = leads reached.seen reached.stand in
-    let gives = subst (λ (d : Event). Gives {V = V} reached.seen d next.0 out) is next.2 in
+    let gives = subst (λ (d : Event). EventGives {V = V} reached.seen d next.0 out) is next.2 in
     gives ∙ ap (λ (bits : List ℕ). given_of {V = V} (bit_of bits a) a) (sym reached.stand.shows.bits)
 given_after old new e (Err why) reached leads a is = leads
 
 -- what the parts show is enough, where they are reached
-pub stand_for : {V : ℕ} (p : Parts V) (seen : World V) → AreReached {V = V} p → Shows {V = V} (shown_of {V = V} p) seen → StandFor {V = V} p seen
+pub stand_for : {V : ℕ} (p : Parts V) (seen : Trace V) → AreReached {V = V} p → Shows {V = V} (view_of {V = V} p) seen → StandFor {V = V} p seen
 stand_for {V} p seen reached shows = record { shows = shows; used = reached.stand.used; within = reached.stand.within }
 
--- and so of every world of events that is shown
+-- and so of every trace of events that is shown
 pub leads_shown : {V : ℕ} (old new : Parts V) (e : Event) (r : Result (Stepped V) Unlawful) → AreReached {V = V} old → IfOk r (λ out. Leads {V = V} old new e out) →
-    IfOk r (λ out. (seen : World V) → Shows {V = V} (shown_of {V = V} old) seen → (next : World V) × Steps V (shape_of_parts {V = V} old) seen e next × Gives {V = V} seen e next out × Shows {V = V} (shown_of {V = V} new) next)
+    IfOk r (λ out. (seen : Trace V) → Shows {V = V} (view_of {V = V} old) seen → (next : Trace V) × Steps V (shape_of_parts {V = V} old) seen e next × EventGives {V = V} seen e next out × Shows {V = V} (view_of {V = V} new) next)
 leads_shown {V} old new e (Ok out) reached leads = λ seen shows. let next = leads seen (stand_for {V = V} old seen reached shows) in (next.0, next.1, next.2, next.3.shows)
 leads_shown old new e (Err why) reached leads = leads
 
 pub refused_shown : {V : ℕ} (old new : Parts V) (e : Event) (r : Result (Stepped V) Unlawful) → AreReached {V = V} old → IfErr r (λ why. Stays {V = V} old new e why) →
-    IfErr r (λ why. (seen : World V) → Shows {V = V} (shown_of {V = V} old) seen → Refuses {V = V} (shape_of_parts {V = V} old) seen e why)
+    IfErr r (λ why. (seen : Trace V) → Shows {V = V} (view_of {V = V} old) seen → RefusesEvent {V = V} (shape_of_parts {V = V} old) seen e why)
 refused_shown {V} old new e (Err why) reached stays = λ seen shows. (stays seen (stand_for {V = V} old seen reached shows)).0
 refused_shown old new e (Ok out) reached stays = stays

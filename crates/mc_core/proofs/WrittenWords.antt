@@ -11,7 +11,7 @@ use Rattle.mc_core.specs.Inside.Writers.{StandsWell, phase_at}
 use Rattle.mc_theory.specs.Inner.{Holds}
 use Rattle.mc_theory.specs.Phases.{Quiet, Renewing, Moving}
 use Rattle.mc_core.specs.declared.progress.Progress.{Progress}
-use Rattle.mc_words.specs.History.{held}
+use Rattle.mc_words.specs.History.{map_value}
 use Rattle.mc_words.specs.declared.history.Change.{Change}
 
 -- the word after those that were written
@@ -52,7 +52,7 @@ agrees_well V sh w k (Some v) a = only_well V sh w k a.0 a.1 a.2
 
 -- while nothing runs each key stands well, and so does the key of a renewal and of a move that was opened
 pub quiet_well : (V : ℕ) (sh : Shape) (w : List ℕ) (h : List (Change V)) → Holds V sh w Quiet h → (k : ℕ) → StandsWell V sh w k
-quiet_well V sh w h holds k = agrees_well V sh w k (held h k) (holds.agrees.keys k (λ e. cc))
+quiet_well V sh w h holds k = agrees_well V sh w k (map_value h k) (holds.agrees.keys k (λ e. cc))
 
 pub renewing_well : (V : ℕ) (sh : Shape) (w : List ℕ) (h : List (Change V)) (k : ℕ) (xs : List ℕ) → Holds V sh w (Renewing k xs) h → StandsWell V sh w k
 renewing_well V sh w h k xs holds = let d = holds.deed in only_well V sh w k d.0.0 d.0.1 d.0.2

@@ -4,7 +4,7 @@ ghost use Rattle.mc_core.specs.Runs.{RunsTruly};
 ghost use Rattle.mc_core.specs.Seen.{Shows};
 ghost use Rattle.mc_core.specs.declared.world.WorldError.TheVariants as error;
 ghost use Rattle.mc_theory.specs.Plain.{IsPlainlyTrue, events_made};
-ghost use Rattle.mc_theory.specs.Worlds as worlds;
+ghost use Rattle.mc_theory.specs.Traces as traces;
 ghost use Rattle.mc_words.specs.Checks.{shape_of};
 ghost use Rattle.mc_words.specs.Places.{IsWidth};
 
@@ -22,8 +22,8 @@ pub fn run<const V: usize>(
     world: &mut World<V>,
     events: &[Event],
 ) -> Result<Run<V>, NoMemory>
-    ensures ran { IfOk result (λ run. (seen : worlds.World V) → Shows {V = V} world.old seen →
-        (x : worlds.World V) × RunsTruly {V = V} world.old world.new events.now run seen x) }
+    ensures ran { IfOk result (λ run. (seen : traces.Trace V) → Shows {V = V} world.old seen →
+        (x : traces.Trace V) × RunsTruly {V = V} world.old world.new events.now run seen x) }
     ensures shape { world.new.shape ≡ world.old.shape }
     ensures unchanged { OnErr result (world.new ≡ world.old) }
 {
@@ -45,8 +45,8 @@ pub fn run_new<const V: usize>(
 ) -> Result<Run<V>, WorldError>
     requires { IsWidth V }
     ensures plain { IfOk result (λ run. All (IsPlainlyTrue (events_made events.now run.stopped)) run.done.items) }
-    ensures ran { IfOk result (λ run. (x : worlds.World V) ×
-        worlds.HasRun V (shape_of checked.now) (worlds.first_world V (shape_of checked.now) readers) x events.now run.done.items run.stopped) }
+    ensures ran { IfOk result (λ run. (x : traces.Trace V) ×
+        traces.HasRun V (shape_of checked.now) (traces.first_trace V (shape_of checked.now) readers) x events.now run.done.items run.stopped) }
     ensures readers { IsErrOf result error.Readers ↔ ((readers ≡ 0) ⊎ (1024 < readers)) }
 {
     let mut world = World::new(alloc, checked, readers)?;

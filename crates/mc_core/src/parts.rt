@@ -1,6 +1,6 @@
 //! The parts of a world, which only its own calls see. Each event is one atomic step.
 ghost use Rattle.std.specs.Prelude.{◌≡◌, ◌<◌, ◌^◌, length};
-ghost use Rattle.mc_core.specs.Inside.Writers.{shape_at};
+ghost use Rattle.mc_core.specs.Inside.Writers.{shape_of_writer};
 
 use crate::reader::Reader;
 use crate::writer::Writer;
@@ -19,26 +19,26 @@ pub(crate) struct Parts<const V: usize> {
     /// For each reader, its lookup while one runs.
     pub(crate) readers: Vec<Option<Reader<V>>>,
     pub(crate) events: u64,
-    ghost marked: { length bits.items ≡ (shape_at writer).items },
+    ghost marked: { length bits.items ≡ (shape_of_writer writer).items },
     ghost countable: { length readers.items < 2 ^ 32 },
 }
 
 impl<const V: usize> Parts<V> {
     ghost use Rattle.std.specs.Prelude.{IfOk, IfErr, OnErr, OnOk, ◌+◌, ◌≤◌};
-    ghost use Rattle.mc_theory.specs.Worlds as worlds;
+    ghost use Rattle.mc_theory.specs.Traces as traces;
     ghost use Rattle.mc_core.specs.Inside.Writers.{room_of};
     ghost use Rattle.mc_theory.specs.declared.event.Unlawful.TheVariants as unlawful;
-    ghost use Rattle.mc_core.specs.Inside.Parts.{shape_of_parts, shown_of, StandFor};
+    ghost use Rattle.mc_core.specs.Inside.Parts.{shape_of_parts, view_of, StandFor};
     ghost use Rattle.mc_core.specs.Seen.{state_after};
 
     /// Makes the event, if it is lawful.
     pub(crate) fn step(&mut self, event: Event) -> Result<Stepped<V>, Unlawful>
-        requires { (seen : worlds.World V) × StandFor {V = V} self.old seen }
-        ensures ok { IfOk result (λ out. (seen : worlds.World V) → StandFor {V = V} self.old seen → (next : worlds.World V) × worlds.Steps V (shape_of_parts {V = V} self.old) seen event next × worlds.Gives {V = V} seen event next out × StandFor {V = V} self.new next) }
-        ensures err { IfErr result (λ why. (seen : worlds.World V) → StandFor {V = V} self.old seen → worlds.Refuses {V = V} (shape_of_parts {V = V} self.old) seen event why × StandFor {V = V} self.new seen) }
-        ensures kept { OnErr result (shown_of {V = V} self.new ≡ shown_of {V = V} self.old) }
+        requires { (seen : traces.Trace V) × StandFor {V = V} self.old seen }
+        ensures ok { IfOk result (λ out. (seen : traces.Trace V) → StandFor {V = V} self.old seen → (next : traces.Trace V) × traces.Steps V (shape_of_parts {V = V} self.old) seen event next × traces.EventGives {V = V} seen event next out × StandFor {V = V} self.new next) }
+        ensures err { IfErr result (λ why. (seen : traces.Trace V) → StandFor {V = V} self.old seen → traces.RefusesEvent {V = V} (shape_of_parts {V = V} self.old) seen event why × StandFor {V = V} self.new seen) }
+        ensures kept { OnErr result (view_of {V = V} self.new ≡ view_of {V = V} self.old) }
         ensures shape { shape_of_parts {V = V} self.new ≡ shape_of_parts {V = V} self.old }
-        ensures state { OnOk result ((shown_of {V = V} self.new).state ≡ state_after {V = V} (shown_of {V = V} self.old) event) }
+        ensures state { OnOk result ((view_of {V = V} self.new).state ≡ state_after {V = V} (view_of {V = V} self.old) event) }
         ensures room { OnOk result (room_of {V = V} self.old.writer ≤ room_of {V = V} self.new.writer + 1) }
         ensures full { IfErr result (λ why. why ≡ unlawful.NoMemory → room_of {V = V} self.old.writer ≡ 0) }
     {

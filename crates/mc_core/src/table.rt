@@ -25,8 +25,8 @@ impl<const V: usize> Table<V> {
     ghost use Rattle.mc_words.specs.Keys.{IsBucketOf, stripe_of};
     ghost use Rattle.mc_words.specs.Places.{IsWidth, IsPlace, payload, slot_number, slot, item, version, moment, with_version, with_moment, with_slot, with_item};
     ghost use Rattle.mc_words.specs.Standing.{Stands};
-    ghost use Rattle.mc_core.specs.Inside.Tables.{shape_in, words_in, StandsAt, WritesTable};
-    ghost use Rattle.mc_theory.specs.Effects.{bumped};
+    ghost use Rattle.mc_core.specs.Inside.Tables.{shape_of_table, words_of_table, StandsAt, WritesTable};
+    ghost use Rattle.mc_theory.specs.Effects.{with_bump};
     ghost use Rattle.mc_theory.specs.Readings.{IsWordOf};
     ghost use Rattle.mc_theory.specs.Writes.{IsAccess};
 
@@ -34,7 +34,7 @@ impl<const V: usize> Table<V> {
     #[tactic(auto, unfolding(mc_words::specs::Recency::recency_words))]
     pub(crate) fn new(alloc: Global, checked: &Checked) -> Result<Table<V>, AllocError>
         requires { IsWidth V }
-        ensures { IfOk result (λ t. (shape_in {V = V} t ≡ shape_of checked.now) × (words_in {V = V} t ≡ replicate (word_count V (shape_of checked.now)) 0) × (t.used.items ≡ replicate (shape_of checked.now).items false) × (t.free ≡ (shape_of checked.now).items)) }
+        ensures { IfOk result (λ t. (shape_of_table {V = V} t ≡ shape_of checked.now) × (words_of_table {V = V} t ≡ replicate (word_count V (shape_of checked.now)) 0) × (t.used.items ≡ replicate (shape_of checked.now).items false) × (t.free ≡ (shape_of checked.now).items)) }
     {
         let free = checked.shape().items;
         let mut words = Vec::new(alloc);
@@ -52,8 +52,8 @@ impl<const V: usize> Table<V> {
     /// The word of a slot.
     #[tactic(auto, unfolding(mc_words::specs::Places::slot))]
     pub(crate) fn slot(&self, place: Place) -> u64
-        requires { IsPlace (shape_in {V = V} self.now) place }
-        ensures { result ≡ slot (shape_in {V = V} self.now) (words_in {V = V} self.now) (slot_number place) }
+        requires { IsPlace (shape_of_table {V = V} self.now) place }
+        ensures { result ≡ slot (shape_of_table {V = V} self.now) (words_of_table {V = V} self.now) (slot_number place) }
     {
         self.words[self.checked.slot_place(place)]
     }
@@ -61,9 +61,9 @@ impl<const V: usize> Table<V> {
     /// A word of an item.
     #[tactic(auto, unfolding(mc_words::specs::Places::item))]
     pub(crate) fn item(&self, i: u32, j: u8) -> u64
-        requires item { i < (shape_in {V = V} self.now).items }
+        requires item { i < (shape_of_table {V = V} self.now).items }
         requires word { j ≤ payload V }
-        ensures { result ≡ item V (shape_in {V = V} self.now) (words_in {V = V} self.now) i j }
+        ensures { result ≡ item V (shape_of_table {V = V} self.now) (words_of_table {V = V} self.now) i j }
     {
         self.words[self.checked.item_place::<V>(i, j)]
     }
@@ -71,8 +71,8 @@ impl<const V: usize> Table<V> {
     /// The word that an access reads. A mark reads none.
     #[tactic(auto, unfolding(mc_words::specs::Places::version, mc_words::specs::Places::moment))]
     pub(crate) fn read(&self, access: Access) -> u64
-        requires { IsAccess V (shape_in {V = V} self.now) access }
-        ensures { IsWordOf V (shape_in {V = V} self.now) (words_in {V = V} self.now) access result }
+        requires { IsAccess V (shape_of_table {V = V} self.now) access }
+        ensures { IsWordOf V (shape_of_table {V = V} self.now) (words_of_table {V = V} self.now) access result }
     {
         match access {
             Access::Version(stripe) => self.words[self.checked.version_place(stripe)],
@@ -86,8 +86,8 @@ impl<const V: usize> Table<V> {
 
     /// The item at which the key stands in a slot.
     pub(crate) fn stands(&self, place: Place, key: u64) -> Option<u32>
-        requires { IsPlace (shape_in {V = V} self.now) place }
-        ensures { MatchOption result ((i : ℕ) → Stands V (shape_in {V = V} self.now) (words_in {V = V} self.now) key (slot_number place) i → ⊥) (λ i. Stands V (shape_in {V = V} self.now) (words_in {V = V} self.now) key (slot_number place) i) }
+        requires { IsPlace (shape_of_table {V = V} self.now) place }
+        ensures { MatchOption result ((i : ℕ) → Stands V (shape_of_table {V = V} self.now) (words_of_table {V = V} self.now) key (slot_number place) i → ⊥) (λ i. Stands V (shape_of_table {V = V} self.now) (words_of_table {V = V} self.now) key (slot_number place) i) }
     {
         let (_, i) = self.checked.slot_parts(self.slot(place))?;
         if self.item(i, 0) == key {
@@ -99,8 +99,8 @@ impl<const V: usize> Table<V> {
 
     /// The slot of a bucket in which the key stands, and its item.
     fn find_in(&self, bucket: u32, key: u64) -> Option<(Place, u32)>
-        requires { bucket < (shape_in {V = V} self.now).buckets }
-        ensures { MatchOption result ((q i : ℕ) → q / 4 ≡ bucket → Stands V (shape_in {V = V} self.now) (words_in {V = V} self.now) key q i → ⊥) (λ at. StandsAt V (shape_in {V = V} self.now) (words_in {V = V} self.now) key at.0 at.1) }
+        requires { bucket < (shape_of_table {V = V} self.now).buckets }
+        ensures { MatchOption result ((q i : ℕ) → q / 4 ≡ bucket → Stands V (shape_of_table {V = V} self.now) (words_of_table {V = V} self.now) key q i → ⊥) (λ at. StandsAt V (shape_of_table {V = V} self.now) (words_of_table {V = V} self.now) key at.0 at.1) }
     {
         for slot in 0..4u8 {
             let place = Place { bucket, slot };
@@ -113,7 +113,7 @@ impl<const V: usize> Table<V> {
 
     /// Where the key stands, if it stands in one of its buckets.
     pub(crate) fn find(&self, key: u64) -> Option<(Place, u32)>
-        ensures { MatchOption result ((q i : ℕ) → IsBucketOf (shape_in {V = V} self.now) key (q / 4) → Stands V (shape_in {V = V} self.now) (words_in {V = V} self.now) key q i → ⊥) (λ at. StandsAt V (shape_in {V = V} self.now) (words_in {V = V} self.now) key at.0 at.1) }
+        ensures { MatchOption result ((q i : ℕ) → IsBucketOf (shape_of_table {V = V} self.now) key (q / 4) → Stands V (shape_of_table {V = V} self.now) (words_of_table {V = V} self.now) key q i → ⊥) (λ at. StandsAt V (shape_of_table {V = V} self.now) (words_of_table {V = V} self.now) key at.0 at.1) }
     {
         let first = self.checked.first(key);
         if let Some(at) = self.find_in(first, key) {
@@ -125,8 +125,8 @@ impl<const V: usize> Table<V> {
     /// Counts one change of the version of the key's stripe.
     #[tactic(auto, unfolding(mc_words::specs::Places::version, mc_words::specs::Places::with_version))]
     pub(crate) fn bump(&mut self, key: u64)
-        requires { version (words_in {V = V} self.old) (stripe_of (shape_in {V = V} self.old) key) < 2 ^ 64 - 1 }
-        ensures { WritesTable {V = V} self.old self.new (bumped (shape_in {V = V} self.old) (words_in {V = V} self.old) key) }
+        requires { version (words_of_table {V = V} self.old) (stripe_of (shape_of_table {V = V} self.old) key) < 2 ^ 64 - 1 }
+        ensures { WritesTable {V = V} self.old self.new (with_bump (shape_of_table {V = V} self.old) (words_of_table {V = V} self.old) key) }
     {
         let at = self.checked.version_place(self.checked.stripe(key));
         self.words[at] += 1;
@@ -135,8 +135,8 @@ impl<const V: usize> Table<V> {
     /// Counts one change.
     #[tactic(auto, unfolding(mc_words::specs::Places::moment, mc_words::specs::Places::with_moment))]
     pub(crate) fn tick(&mut self)
-        requires { moment (words_in {V = V} self.old) < 2 ^ 64 - 1 }
-        ensures { WritesTable {V = V} self.old self.new (with_moment (words_in {V = V} self.old) (moment (words_in {V = V} self.old) + 1)) }
+        requires { moment (words_of_table {V = V} self.old) < 2 ^ 64 - 1 }
+        ensures { WritesTable {V = V} self.old self.new (with_moment (words_of_table {V = V} self.old) (moment (words_of_table {V = V} self.old) + 1)) }
     {
         let at = self.checked.moment_place();
         self.words[at] += 1;
@@ -145,8 +145,8 @@ impl<const V: usize> Table<V> {
     /// Writes the word of a slot.
     #[tactic(auto, unfolding(mc_words::specs::Places::with_slot))]
     pub(crate) fn set_slot(&mut self, place: Place, word: u64)
-        requires { IsPlace (shape_in {V = V} self.old) place }
-        ensures { WritesTable {V = V} self.old self.new (with_slot (shape_in {V = V} self.old) (words_in {V = V} self.old) (slot_number place) word) }
+        requires { IsPlace (shape_of_table {V = V} self.old) place }
+        ensures { WritesTable {V = V} self.old self.new (with_slot (shape_of_table {V = V} self.old) (words_of_table {V = V} self.old) (slot_number place) word) }
     {
         let at = self.checked.slot_place(place);
         self.words[at] = word;
@@ -155,9 +155,9 @@ impl<const V: usize> Table<V> {
     /// Writes a word of an item.
     #[tactic(auto, unfolding(mc_words::specs::Places::with_item))]
     pub(crate) fn set_item(&mut self, i: u32, j: u8, word: u64)
-        requires item { i < (shape_in {V = V} self.old).items }
+        requires item { i < (shape_of_table {V = V} self.old).items }
         requires word { j ≤ payload V }
-        ensures { WritesTable {V = V} self.old self.new (with_item V (shape_in {V = V} self.old) (words_in {V = V} self.old) i j word) }
+        ensures { WritesTable {V = V} self.old self.new (with_item V (shape_of_table {V = V} self.old) (words_of_table {V = V} self.old) i j word) }
     {
         let at = self.checked.item_place::<V>(i, j);
         self.words[at] = word;

@@ -9,6 +9,9 @@ use std::alloc::Global;
 use std::marker::Model;
 use thiserror::Error;
 
+/// The most readers of a world.
+const MOST_READERS: u32 = 1024;
+
 /// Why no world is made.
 #[derive(Clone, Copy, Debug, PartialEq, Eq, Error)]
 pub enum WorldError {
@@ -25,13 +28,13 @@ pub struct World<const V: usize> {
 }
 
 impl<const V: usize> Model for World<V> {
-    ghost use Rattle.mc_core.specs.Seen.{Shown};
+    ghost use Rattle.mc_core.specs.Seen.{WorldView};
 
-    ghost Value = { Shown V };
+    ghost Value = { WorldView V };
 
-    ghost use Rattle.mc_core.specs.Inside.Parts.{shown_of, AreReached};
+    ghost use Rattle.mc_core.specs.Inside.Parts.{view_of, AreReached};
 
-    ghost view = { λ w. shown_of {V = V} w.parts };
+    ghost view = { λ w. view_of {V = V} w.parts };
 
     ghost invariant = { λ w. AreReached {V = V} w.parts };
 }
@@ -43,8 +46,8 @@ impl<const V: usize> World<V> {
     ghost use Rattle.mc_words.specs.Shapes.{IsShape};
     ghost use Rattle.mc_core.specs.Packed.{HasBits};
     ghost use Rattle.mc_core.specs.Seen.{Shows, MayAct, state_after};
-    ghost use Rattle.mc_theory.specs.Worlds as worlds;
-    ghost use Rattle.mc_theory.specs.Worlds.{IsBit, bit_of, given_of};
+    ghost use Rattle.mc_theory.specs.Traces as traces;
+    ghost use Rattle.mc_theory.specs.Traces.{IsBit, bit_of, given_of};
     ghost use Rattle.mc_theory.specs.declared.act.Act.{Act};
     ghost use Rattle.mc_theory.specs.declared.act.Act.TheVariants as act;
     ghost use Rattle.mc_theory.specs.declared.event.Event.TheVariants.{Write};
@@ -54,10 +57,10 @@ impl<const V: usize> World<V> {
     /// A new world with so many readers: nothing was written, and no lookup runs.
     pub fn new(alloc: Global, checked: &Checked, readers: u32) -> Result<World<V>, WorldError>
         requires { IsWidth V }
-        ensures ok { IfOk result (λ w. (w.shape ≡ shape_of checked.now) × Shows {V = V} w (worlds.first_world V (shape_of checked.now) readers)) }
+        ensures ok { IfOk result (λ w. (w.shape ≡ shape_of checked.now) × Shows {V = V} w (traces.first_trace V (shape_of checked.now) readers)) }
         ensures readers { IsErrOf result error.Readers ↔ ((readers ≡ 0) ⊎ (1024 < readers)) }
     {
-        if readers == 0 || readers > 1024 {
+        if readers == 0 || readers > MOST_READERS {
             return Err(WorldError::Readers);
         }
         match Parts::new(alloc, checked, readers) {
@@ -68,9 +71,9 @@ impl<const V: usize> World<V> {
 
     /// Makes one event, or refuses it.
     pub fn step(&mut self, event: Event) -> Result<Stepped<V>, Unlawful>
-        ensures ok { IfOk result (λ out. (seen : worlds.World V) → Shows {V = V} self.old seen → (next : worlds.World V) × worlds.Steps V self.old.shape seen event next × worlds.Gives {V = V} seen event next out × Shows {V = V} self.new next) }
-        ensures told { IfOk result (λ out. (seen : worlds.World V) → Shows {V = V} self.old seen → worlds.IsReached V self.old.shape seen → (next : worlds.World V) × worlds.Steps V self.old.shape seen event next × worlds.Gives {V = V} seen event next out × Shows {V = V} self.new next × worlds.IsReached V self.old.shape next × All (worlds.IsTrueEnd V self.old.shape next) next.ended) }
-        ensures refused { IfErr result (λ why. (seen : worlds.World V) → Shows {V = V} self.old seen → worlds.Refuses {V = V} self.old.shape seen event why) }
+        ensures ok { IfOk result (λ out. (seen : traces.Trace V) → Shows {V = V} self.old seen → (next : traces.Trace V) × traces.Steps V self.old.shape seen event next × traces.EventGives {V = V} seen event next out × Shows {V = V} self.new next) }
+        ensures told { IfOk result (λ out. (seen : traces.Trace V) → Shows {V = V} self.old seen → traces.IsReached V self.old.shape seen → (next : traces.Trace V) × traces.Steps V self.old.shape seen event next × traces.EventGives {V = V} seen event next out × Shows {V = V} self.new next × traces.IsReached V self.old.shape next × All (traces.IsTrueEnd V self.old.shape next) next.ended) }
+        ensures refused { IfErr result (λ why. (seen : traces.Trace V) → Shows {V = V} self.old seen → traces.RefusesEvent {V = V} self.old.shape seen event why) }
         ensures unchanged { OnErr result (self.new ≡ self.old) }
         ensures shape { self.new.shape ≡ self.old.shape }
         ensures state { OnOk result (self.new.state ≡ state_after {V = V} self.old event) }
@@ -84,8 +87,8 @@ impl<const V: usize> World<V> {
     /// Does nothing. Every world stands as some events leave it, from a new one on, whose lookups replied truly.
     pub fn reached(&self)
         ensures shape { IsShape self.now.shape }
-        ensures events { (seen : worlds.World V) × worlds.IsReached V self.now.shape seen × Shows {V = V} self.now seen × All (worlds.IsTrueEnd V self.now.shape seen) seen.ended }
-        ensures limit { self.now.state.changes ≤ self.now.shape.limit }
+        ensures events { (seen : traces.Trace V) × traces.IsReached V self.now.shape seen × Shows {V = V} self.now seen × All (traces.IsTrueEnd V self.now.shape seen) seen.ended }
+        ensures limit { self.now.state.version_steps ≤ self.now.shape.limit }
         ensures bits { All IsBit self.now.bits }
         ensures items { length self.now.bits ≡ self.now.shape.items }
     {

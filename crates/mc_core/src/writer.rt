@@ -22,7 +22,7 @@ pub(crate) struct Writer<const V: usize> {
     pub(crate) hand: u32,
     pub(crate) cleared: Option<u32>,
     pub(crate) history: Vec<Change<V>>,
-    pub(crate) changes: u64,
+    pub(crate) version_steps: u64,
     ghost whole: { length written ≡ V },
     ghost count_in: { count_at progress ≤ V },
     ghost slot_in: { fresh_slot progress < 4 },
@@ -35,12 +35,12 @@ impl<const V: usize> Writer<V> {
     ghost use Rattle.mc_words.specs.Places.{IsWidth};
     ghost use Rattle.mc_theory.specs.States.{opening};
     ghost use Rattle.mc_theory.specs.Inner.{StateHolds, StateCounted};
-    ghost use Rattle.mc_core.specs.Inside.Writers.{shape_at, room_of, state_in, UsedWell, IsMade, IsKept};
+    ghost use Rattle.mc_core.specs.Inside.Writers.{shape_of_writer, room_of, state_in, UsedWell, IsMade, KeepsWriter};
 
     /// The writer of a new world.
     pub(crate) fn new(alloc: Global, checked: &Checked) -> Result<Writer<V>, AllocError>
         requires { IsWidth V }
-        ensures { IfOk result (λ w. (shape_at {V = V} w ≡ shape_of checked.now) × (state_in {V = V} w ≡ opening V (shape_of checked.now)) × UsedWell {V = V} w.table) }
+        ensures { IfOk result (λ w. (shape_of_writer {V = V} w ≡ shape_of checked.now) × (state_in {V = V} w ≡ opening V (shape_of checked.now)) × UsedWell {V = V} w.table) }
     {
         let table = Table::new(alloc, checked)?;
         Ok(Writer {
@@ -50,15 +50,15 @@ impl<const V: usize> Writer<V> {
             hand: 0,
             cleared: None,
             history: Vec::new(alloc),
-            changes: 0,
+            version_steps: 0,
         })
     }
 
     /// Whether the act is allowed now.
     pub(crate) fn allows(&self, act: Act) -> bool
-        requires holds { StateHolds (shape_at {V = V} self.now) (state_in {V = V} self.now) }
+        requires holds { StateHolds (shape_of_writer {V = V} self.now) (state_in {V = V} self.now) }
         requires used { UsedWell {V = V} self.now.table }
-        ensures { IsTrue result ↔ IsAllowed (shape_at {V = V} self.now) (state_in {V = V} self.now) act }
+        ensures { IsTrue result ↔ IsAllowed (shape_of_writer {V = V} self.now) (state_in {V = V} self.now) act }
     {
         match self.progress {
             Progress::Quiet => self.may_when_quiet(act),
@@ -75,14 +75,14 @@ impl<const V: usize> Writer<V> {
 
     /// Makes an act that is allowed; `bit` is what the hand reads. Memory may be wanting for the change that a `Moment` counts.
     pub(crate) fn make(&mut self, act: Act, bit: u64) -> Result<(), AllocError>
-        requires holds { StateHolds (shape_at {V = V} self.old) (state_in {V = V} self.old) }
+        requires holds { StateHolds (shape_of_writer {V = V} self.old) (state_in {V = V} self.old) }
         requires used { UsedWell {V = V} self.old.table }
-        requires hand { self.old.hand < (shape_at {V = V} self.old).items }
-        requires counted { StateCounted (shape_at {V = V} self.old) (state_in {V = V} self.old) }
-        requires changes { self.old.changes ≤ 2 ^ 62 }
-        requires may { IsAllowed (shape_at {V = V} self.old) (state_in {V = V} self.old) act }
+        requires hand { self.old.hand < (shape_of_writer {V = V} self.old).items }
+        requires counted { StateCounted (shape_of_writer {V = V} self.old) (state_in {V = V} self.old) }
+        requires version_steps { self.old.version_steps ≤ 2 ^ 62 }
+        requires may { IsAllowed (shape_of_writer {V = V} self.old) (state_in {V = V} self.old) act }
         ensures ok { OnOk result (IsMade {V = V} self.old self.new act bit) }
-        ensures err { OnErr result (IsKept {V = V} self.old self.new × (act ≡ Act.Moment)) }
+        ensures err { OnErr result (KeepsWriter {V = V} self.old self.new × (act ≡ Act.Moment)) }
         ensures full { OnErr result (room_of {V = V} self.old ≡ 0) }
     {
         match act {

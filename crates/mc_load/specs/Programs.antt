@@ -5,11 +5,11 @@ use Rattle.clap.specs.declared.error.kind.ErrorKind.{ErrorKind}
 use Rattle.clap.specs.declared.error.kind.ErrorKind.TheVariants as kind
 use Rattle.mc_words.specs.declared.shape.Shape.{Shape}
 use Rattle.mc_words.specs.declared.shape.ShapeError.{ShapeError}
-use Rattle.mc_words.specs.Shapes.{IsShape, Refuses}
+use Rattle.mc_words.specs.Shapes.{IsShape, RefusesShape}
 use Rattle.mc_replay.specs.declared.fault.Stop.{Stop}
 use Rattle.mc_options.specs.declared.options.Options.{Options}
 use Rattle.mc_replay.specs.Faults.{exit_of}
-use Rattle.mc_options.specs.Options.{Gives, AsksHelp, AsksVersion, IsFaulty}
+use Rattle.mc_options.specs.Options.{GivesOptions, AsksHelp, AsksVersion, IsFaulty}
 use Rattle.mc_replay.specs.Scripts.{ReplaysKnown}
 use Rattle.mc_replay.specs.FaultTexts.{stop_text}
 use Rattle.mc_load.specs.ShapeTexts.{shape_text}
@@ -42,7 +42,7 @@ Ends V sh readers input output errors status = (r : Result (Unit {0}) Stop) × R
 -- the shape is refused, and nothing is replayed
 abbrev pub IsRefused : Shape → Stream → Stream → Stream → ℕ → Type 0
 IsRefused sh input output errors status =
-    (e : ShapeError) × Refuses sh e × IsUntouched input × IsUntouched output × Tells errors (codes "refused: " ++ shape_text e) × (status ≡ 2)
+    (e : ShapeError) × RefusesShape sh e × IsUntouched input × IsUntouched output × Tells errors (codes "refused: " ++ shape_text e) × (status ≡ 2)
 
 -- a run with these options: a replay over their shape, or its refusal
 abbrev pub RunsOptions : Options → Stream → Stream → Stream → ℕ → Type 0
@@ -59,7 +59,7 @@ IsShort output errors status = IsUntouched output × Tells errors (codes "refuse
 
 -- what the words of the command line ask for, and what comes of it
 pub data Runs (words : List (List ℕ)) (input output errors : Stream) (status : ℕ) : Type 0 where
-  runs : (o : Options) → Gives words o → RunsOptions o input output errors status → Runs words input output errors status
+  runs : (o : Options) → GivesOptions words o → RunsOptions o input output errors status → Runs words input output errors status
   prints : AsksHelp words ⊎ AsksVersion words → IsUntouched input → Prints errors status → Runs words input output errors status
   refuses : IsFaulty words → IsUntouched input → IsUntouched output → status ≡ 2 → Runs words input output errors status
   is_short : IsUntouched input → IsShort output errors status → Runs words input output errors status

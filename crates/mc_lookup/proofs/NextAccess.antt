@@ -10,9 +10,9 @@ use Rattle.mc_words.specs.declared.place.Place.{Place}
 use Rattle.mc_words.specs.declared.shape.Shape.{Shape}
 use Rattle.mc_lookup.specs.Course.{BeginsWith, NextIsDetermined, NextIsInTable, CanEnd}
 use Rattle.mc_theory.specs.Lookups.{slots_for, ReadsValues, Scans, IsLookup}
-use Rattle.mc_lookup.specs.Machine.{shape_for, next_at, place_of, value_for, LeftAt}
+use Rattle.mc_lookup.specs.Machine.{shape_for, next_at, lookup_place, value_for, IsRemainderAt}
 use Rattle.mc_theory.specs.Readings.{Reading}
-use Rattle.mc_lookup.specs.Rest.{RestMoment, RestValues, RestSlots, RestKey, RestLast}
+use Rattle.mc_lookup.specs.Rest.{RemainderAtMoment, RemainderAtValues, RemainderAtSlots, RemainderAtKey, RemainderAtLast}
 use Rattle.mc_lookup.specs.Inside.Stages.{slot_at, word_at, tries_owed}
 use Rattle.mc_theory.specs.Writes.{IsAccess}
 use Rattle.mc_theory.specs.declared.access.Access.{Access}
@@ -27,7 +27,7 @@ use Rattle.mc_lookup.proofs.Split.{first_reading, slot_reading, value_reading}
 use Rattle.mc_lookup.proofs.StageSteps.{at_stage, place_in_table, slots_at}
 
 -- ---- the next access
-begins_at : {V : ℕ} (l : Lookup V) (st : Stage) (rs : List Reading) (reply : Reply V) → slot_at st < 8 → word_at st < V → tries_owed st ≤ l.tries → LeftAt V (shape_for {V = V} l) l.key l.tries l.version l.value l.reply st rs reply → BeginsWith {V = V} l (next_at {V = V} l st) rs reply
+begins_at : {V : ℕ} (l : Lookup V) (st : Stage) (rs : List Reading) (reply : Reply V) → slot_at st < 8 → word_at st < V → tries_owed st ≤ l.tries → IsRemainderAt V (shape_for {V = V} l) l.key l.tries l.version l.value l.reply st rs reply → BeginsWith {V = V} l (next_at {V = V} l st) rs reply
 unfolding payload
 begins_at {V} l First rs reply slots words tries left =
     let e : l.tries ≡ suc (l.tries - 1) = omega arith in
@@ -35,8 +35,8 @@ begins_at {V} l First rs reply slots words tries left =
     (one.0, one.1, one.2, one.3 ∙ ap (λ y. access.Version y) (sym l.stripe_is))
 begins_at {V} l (Slot j) rs reply slots words tries left =
     let here = slots_at (shape_for {V = V} l) l.key l.first l.second j l.first_is l.second_is slots in
-    let one = slot_reading V (shape_for {V = V} l) l.key l.tries l.version (place_of {V = V} l j) (drop (suc j) (slots_for (shape_for {V = V} l) l.key)) rs reply
-    (subst (λ (ps : List Place). RestSlots V (shape_for {V = V} l) l.key l.tries l.version ps rs reply) here left) in
+    let one = slot_reading V (shape_for {V = V} l) l.key l.tries l.version (lookup_place {V = V} l j) (drop (suc j) (slots_for (shape_for {V = V} l) l.key)) rs reply
+    (subst (λ (ps : List Place). RemainderAtSlots V (shape_for {V = V} l) l.key l.tries l.version ps rs reply) here left) in
     (one.0, one.1, one.2, one.3)
 begins_at {V} l (Key j i) rs reply slots words tries left = (left.0, left.1, left.2, left.3)
 begins_at {V} l (Value i c) rs reply slots words tries left =
@@ -65,12 +65,12 @@ spoiled V sh k (suc t) =
     let rest = spoiled V sh k t in
     (read (access.Version (stripe_of sh k)) 1 ∷ rest.0, from_odd V sh k t (read (access.Version (stripe_of sh k)) 1) rest.0 Busy refl refl rest.1)
 
-last_ends : (V : ℕ) (sh : Shape) (k t x : ℕ) (hit : Option ℕ) (v : List ℕ) (at : ℕ) → (rs : List Reading) × RestLast V sh k t x hit v at rs Busy
+last_ends : (V : ℕ) (sh : Shape) (k t x : ℕ) (hit : Option ℕ) (v : List ℕ) (at : ℕ) → (rs : List Reading) × RemainderAtLast V sh k t x hit v at rs Busy
 last_ends V sh k t x hit v at =
     let rest = spoiled V sh k t in
     (read (access.Version (stripe_of sh k)) (suc x) ∷ rest.0, (read (access.Version (stripe_of sh k)) (suc x), rest.0, refl, refl, inl (λ e. omega (arith, e), rest.1)))
 
-moment_ends : (V : ℕ) (sh : Shape) (k t x : ℕ) (hit : Option ℕ) (v : List ℕ) → (rs : List Reading) × RestMoment V sh k t x hit v rs Busy
+moment_ends : (V : ℕ) (sh : Shape) (k t x : ℕ) (hit : Option ℕ) (v : List ℕ) → (rs : List Reading) × RemainderAtMoment V sh k t x hit v rs Busy
 moment_ends V sh k t x hit v =
     let rest = last_ends V sh k t x hit v 0 in
     (read access.Moment 0 ∷ rest.0, (read access.Moment 0, rest.0, refl, refl, rest.1))
@@ -80,7 +80,7 @@ zeros : (n i j : ℕ) → (xs : List Reading) × ReadsValues i j xs (replicate n
 zeros zero i j = ([], tt)
 zeros (suc n) i j = let rest = zeros n i (j + 1) in (read (access.Value i j) 0 ∷ rest.0, (refl, refl, rest.1))
 
-values_end : (V : ℕ) (sh : Shape) (k t x i : ℕ) (got : List ℕ) → length got ≤ payload V → (rs : List Reading) × RestValues V sh k t x i got rs Busy
+values_end : (V : ℕ) (sh : Shape) (k t x i : ℕ) (got : List ℕ) → length got ≤ payload V → (rs : List Reading) × RemainderAtValues V sh k t x i got rs Busy
 values_end V sh k t x i got l =
     let n = payload V - length got in
     let more : List ℕ = replicate n 0 in
@@ -95,18 +95,18 @@ empties sh k (p ∷ ps) =
     let rest = empties sh k ps in
     (read (access.Slot p) 0 ∷ rest.0, (read (access.Slot p) 0, rest.0, refl, refl, inl (λ i m. slot_word-some (tag_of sh k) i (sym m.1), rest.1)))
 
-slots_end : (V : ℕ) (sh : Shape) (k t x : ℕ) (ps : List Place) → (rs : List Reading) × RestSlots V sh k t x ps rs Busy
+slots_end : (V : ℕ) (sh : Shape) (k t x : ℕ) (ps : List Place) → (rs : List Reading) × RemainderAtSlots V sh k t x ps rs Busy
 slots_end V sh k t x ps =
     let scan = empties sh k ps in
     let rest = moment_ends V sh k t x None [] in
     (scan.0 ++ rest.0, (scan.0, None, rest.0, refl, scan.1, rest.1))
 
-key_ends : (V : ℕ) (sh : Shape) (k t x i : ℕ) (ps : List Place) → (rs : List Reading) × RestKey V sh k t x i ps rs Busy
+key_ends : (V : ℕ) (sh : Shape) (k t x i : ℕ) (ps : List Place) → (rs : List Reading) × RemainderAtKey V sh k t x i ps rs Busy
 key_ends V sh k t x i ps =
     let rest = slots_end V sh k t x ps in
     (read (access.Key i) (suc k) ∷ rest.0, (read (access.Key i) (suc k), rest.0, refl, refl, inr (λ e. omega (arith, e), rest.1)))
 
-ends_at : {V : ℕ} (l : Lookup V) (st : Stage) → word_at st < V → (rs : List Reading) × (reply : Reply V) × LeftAt V (shape_for {V = V} l) l.key l.tries l.version l.value l.reply st rs reply
+ends_at : {V : ℕ} (l : Lookup V) (st : Stage) → word_at st < V → (rs : List Reading) × (reply : Reply V) × IsRemainderAt V (shape_for {V = V} l) l.key l.tries l.version l.value l.reply st rs reply
 unfolding payload
 ends_at {V} l First words = let e = spoiled V (shape_for {V = V} l) l.key l.tries in (e.0, Busy, e.1)
 ends_at {V} l (Slot j) words = let e = slots_end V (shape_for {V = V} l) l.key l.tries l.version (drop j (slots_for (shape_for {V = V} l) l.key)) in (e.0, Busy, e.1)

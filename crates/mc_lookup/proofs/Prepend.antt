@@ -1,9 +1,9 @@
 -- From what is left of a lookup after a reading to what was left before it.
 use Rattle.std.proofs.Common.{ℕ, suc, ◌≡◌, ◌+◌, ◌%◌, List, [], ◌∷◌, ◌++◌, length, Option, Some, None, refl, sym, ◌∙◌, ap, subst, inl, inr, arith}
 use Rattle.std.proofs.lemmas.List.{append_assoc, length_push}
-use Rattle.mc_theory.specs.Lookups.{IsLookup, Meets, ReadsHit, Scans, Tries, slots_for}
+use Rattle.mc_theory.specs.Lookups.{IsLookup, TagMatches, ReadsHit, Scans, Tries, slots_for}
 use Rattle.mc_theory.specs.Readings.{Reading}
-use Rattle.mc_lookup.specs.Rest.{RestHit, RestKey, RestMoment, RestSlots, RestValues}
+use Rattle.mc_lookup.specs.Rest.{RemainderAtHit, RemainderAtKey, RemainderAtMoment, RemainderAtSlots, RemainderAtValues}
 use Rattle.mc_words.specs.Keys.{stripe_of}
 use Rattle.mc_words.specs.declared.history.Reply.{Reply}
 use Rattle.mc_words.specs.declared.place.Place.{Place}
@@ -15,7 +15,7 @@ pub from_odd : (V : ℕ) (sh : Shape) (k t : ℕ) (r : Reading) (rs : List Readi
 from_odd V sh k t r rs reply a odd l = inl (r ∷ [], rs, refl, inl (r, refl, a, odd), l)
 
 -- the try as a whole, from its parts
-try_end : (V : ℕ) (sh : Shape) (k t : ℕ) (r : Reading) (scan values rest : List Reading) (hit : Option ℕ) (v : List ℕ) (reply : Reply V) → r.access ≡ Version (stripe_of sh k) → r.word % 2 ≡ 0 → Scans sh k (slots_for sh k) scan hit → ReadsHit V hit values v → RestMoment V sh k t r.word hit v rest reply → IsLookup V sh k (suc t) (r ∷ (scan ++ (values ++ rest))) reply
+try_end : (V : ℕ) (sh : Shape) (k t : ℕ) (r : Reading) (scan values rest : List Reading) (hit : Option ℕ) (v : List ℕ) (reply : Reply V) → r.access ≡ Version (stripe_of sh k) → r.word % 2 ≡ 0 → Scans sh k (slots_for sh k) scan hit → ReadsHit V hit values v → RemainderAtMoment V sh k t r.word hit v rest reply → IsLookup V sh k (suc t) (r ∷ (scan ++ (values ++ rest))) reply
 try_end V sh k t r scan values rest hit v reply a even scans reads m =
     let mid : Reading = m.0 in
     let end = m.4 in
@@ -48,19 +48,19 @@ try_end V sh k t r scan values rest hit v reply a even scans reads m =
     ]
 
 -- an even first version
-pub from_even : (V : ℕ) (sh : Shape) (k t : ℕ) (r : Reading) (rs : List Reading) (reply : Reply V) → r.access ≡ Version (stripe_of sh k) → r.word % 2 ≡ 0 → RestSlots V sh k t r.word (slots_for sh k) rs reply → IsLookup V sh k (suc t) (r ∷ rs) reply
+pub from_even : (V : ℕ) (sh : Shape) (k t : ℕ) (r : Reading) (rs : List Reading) (reply : Reply V) → r.access ≡ Version (stripe_of sh k) → r.word % 2 ≡ 0 → RemainderAtSlots V sh k t r.word (slots_for sh k) rs reply → IsLookup V sh k (suc t) (r ∷ rs) reply
 from_even V sh k t r rs reply a even s = rw s.3 (go s.1 s.4 s.5)
   where
-    go : (hit : Option ℕ) → Scans sh k (slots_for sh k) s.0 hit → RestHit V sh k t r.word hit s.2 reply → IsLookup V sh k (suc t) (r ∷ (s.0 ++ s.2)) reply
+    go : (hit : Option ℕ) → Scans sh k (slots_for sh k) s.0 hit → RemainderAtHit V sh k t r.word hit s.2 reply → IsLookup V sh k (suc t) (r ∷ (s.0 ++ s.2)) reply
     go None scans m = try_end V sh k t r s.0 [] s.2 None [] reply a even scans (refl, refl) m
     go (Some i) scans m = rw m.3 (try_end V sh k t r s.0 m.0 m.2 (Some i) m.1 reply a even scans (m.4, m.5) m.6)
 
 -- a slot that doesn't name the tag
-pub from_other : (V : ℕ) (sh : Shape) (k t x : ℕ) (p : Place) (ps : List Place) (r : Reading) (rs : List Reading) (reply : Reply V) → r.access ≡ Slot p → ((i : ℕ) → Meets sh k r.word i → ⊥) → RestSlots V sh k t x ps rs reply → RestSlots V sh k t x (p ∷ ps) (r ∷ rs) reply
+pub from_other : (V : ℕ) (sh : Shape) (k t x : ℕ) (p : Place) (ps : List Place) (r : Reading) (rs : List Reading) (reply : Reply V) → r.access ≡ Slot p → ((i : ℕ) → TagMatches sh k r.word i → ⊥) → RemainderAtSlots V sh k t x ps rs reply → RemainderAtSlots V sh k t x (p ∷ ps) (r ∷ rs) reply
 from_other V sh k t x p ps r rs reply a other s = (r ∷ s.0, s.1, s.2, ap (λ y. r ∷ y) s.3, (r, s.0, refl, a, inl (other, s.4)), s.5)
 
 -- a slot that names it
-pub from_meet : (V : ℕ) (sh : Shape) (k t x i : ℕ) (p : Place) (ps : List Place) (r : Reading) (rs : List Reading) (reply : Reply V) → r.access ≡ Slot p → Meets sh k r.word i → RestKey V sh k t x i ps rs reply → RestSlots V sh k t x (p ∷ ps) (r ∷ rs) reply
+pub from_meet : (V : ℕ) (sh : Shape) (k t x i : ℕ) (p : Place) (ps : List Place) (r : Reading) (rs : List Reading) (reply : Reply V) → r.access ≡ Slot p → TagMatches sh k r.word i → RemainderAtKey V sh k t x i ps rs reply → RemainderAtSlots V sh k t x (p ∷ ps) (r ∷ rs) reply
 from_meet V sh k t x i p ps r rs reply a meets s =
     elim s.4 [
       | inl h ↦ (r ∷ s.0 ∷ [], Some i, s.1, ap (λ y. r ∷ y) s.2, (r, s.0 ∷ [], refl, a, inr (i, s.0, [], meets, refl, s.3, inl (h.0, refl, refl))), h.1)
@@ -70,11 +70,11 @@ from_meet V sh k t x i p ps r rs reply a meets s =
     ]
 
 -- no slot left
-pub from_none : (V : ℕ) (sh : Shape) (k t x : ℕ) (rs : List Reading) (reply : Reply V) → RestMoment V sh k t x None [] rs reply → RestSlots V sh k t x [] rs reply
+pub from_none : (V : ℕ) (sh : Shape) (k t x : ℕ) (rs : List Reading) (reply : Reply V) → RemainderAtMoment V sh k t x None [] rs reply → RemainderAtSlots V sh k t x [] rs reply
 from_none V sh k t x rs reply m = ([], None, rs, refl, (refl, refl), m)
 
 -- a value word
-pub from_value : (V : ℕ) (sh : Shape) (k t x i : ℕ) (got : List ℕ) (r : Reading) (rs : List Reading) (reply : Reply V) → r.access ≡ Value i (suc (length got)) → RestValues V sh k t x i (got ++ r.word ∷ []) rs reply → RestValues V sh k t x i got (r ∷ rs) reply
+pub from_value : (V : ℕ) (sh : Shape) (k t x i : ℕ) (got : List ℕ) (r : Reading) (rs : List Reading) (reply : Reply V) → r.access ≡ Value i (suc (length got)) → RemainderAtValues V sh k t x i (got ++ r.word ∷ []) rs reply → RemainderAtValues V sh k t x i got (r ∷ rs) reply
 from_value V sh k t x i got r rs reply a m =
     let e : (got ++ r.word ∷ []) ++ m.1 ≡ got ++ r.word ∷ m.1 = append_assoc got (r.word ∷ []) m.1 in
     let j : suc (length (got ++ r.word ∷ [])) ≡ suc (length got) + 1 = omega (arith, length_push got r.word) in

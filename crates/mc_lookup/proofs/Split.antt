@@ -1,9 +1,9 @@
 -- From what was left of a lookup to its next reading, and to what is left after it.
 use Rattle.std.proofs.Common.{ℕ, suc, ◌≡◌, ◌≢◌, ◌+◌, ◌%◌, ◌⊎◌, List, [], ◌∷◌, ◌++◌, length, Option, Some, None, refl, sym, ◌∙◌, ap, subst, inl, inr, arith}
 use Rattle.std.proofs.lemmas.List.{append_assoc, append-nil, length_push}
-use Rattle.mc_theory.specs.Lookups.{IsLookup, Marks, Meets, ReadsHit, ReadsValues, Tries, reply_of, slots_for}
+use Rattle.mc_theory.specs.Lookups.{IsLookup, MarksHit, TagMatches, ReadsHit, ReadsValues, Tries, reply_of, slots_for}
 use Rattle.mc_theory.specs.Readings.{Reading}
-use Rattle.mc_lookup.specs.Rest.{RestHit, RestKey, RestMoment, RestSlots, RestValues}
+use Rattle.mc_lookup.specs.Rest.{RemainderAtHit, RemainderAtKey, RemainderAtMoment, RemainderAtSlots, RemainderAtValues}
 use Rattle.mc_words.specs.Keys.{stripe_of}
 use Rattle.mc_words.specs.Places.{payload}
 use Rattle.mc_words.specs.declared.history.Reply.{Reply}
@@ -14,9 +14,9 @@ use Rattle.mc_theory.specs.declared.access.Access.TheVariants.{Version, Slot, Va
 -- after the last version: the next try, or the end
 abbrev GoesOn : (V : ℕ) → Shape → ℕ → ℕ → Option ℕ → List ℕ → ℕ → ℕ → ℕ → List Reading → Reply V → Type 0
 GoesOn V sh k t hit v before after at ys reply =
-    ((after ≢ before) × IsLookup V sh k t ys reply) ⊎ ((after ≡ before) × Marks hit ys × (reply ≡ reply_of hit v at))
+    ((after ≢ before) × IsLookup V sh k t ys reply) ⊎ ((after ≡ before) × MarksHit hit ys × (reply ≡ reply_of hit v at))
 
-rest_hit : (V : ℕ) (sh : Shape) (k t x at after : ℕ) (hit : Option ℕ) (v : List ℕ) (values ys : List Reading) (mid last : Reading) (reply : Reply V) → ReadsHit V hit values v → mid.access ≡ Moment → mid.word ≡ at → last.access ≡ Version (stripe_of sh k) → last.word ≡ after → GoesOn V sh k t hit v x after at ys reply → RestHit V sh k t x hit (values ++ mid ∷ last ∷ ys) reply
+rest_hit : (V : ℕ) (sh : Shape) (k t x at after : ℕ) (hit : Option ℕ) (v : List ℕ) (values ys : List Reading) (mid last : Reading) (reply : Reply V) → ReadsHit V hit values v → mid.access ≡ Moment → mid.word ≡ at → last.access ≡ Version (stripe_of sh k) → last.word ≡ after → GoesOn V sh k t hit v x after at ys reply → RemainderAtHit V sh k t x hit (values ++ mid ∷ last ∷ ys) reply
 rest_hit V sh k t x at after None v values ys mid last reply reads a e b f go =
     rw reads.0 (mid, last ∷ ys, refl, a, (last, ys, refl, b, elim go [ inl h ↦ inl (rw f h.0, h.1) | inr h ↦ inr (f ∙ h.0, h.1, h.2 ∙ ap (λ y. reply_of {V = V} None v y) (sym e)) ]))
 rest_hit V sh k t x at after (Some i) v values ys mid last reply reads a e b f go =
@@ -26,7 +26,7 @@ rest_hit V sh k t x at after (Some i) v values ys mid last reply reads a e b f g
 abbrev pub FirstReading : (V : ℕ) → Shape → ℕ → ℕ → List Reading → Reply V → Type 0
 FirstReading V sh k t rs reply =
     (r : Reading) × (rest : List Reading) × (rs ≡ r ∷ rest) × (r.access ≡ Version (stripe_of sh k)) × (
-    ((r.word % 2 ≡ 1) × IsLookup V sh k t rest reply) ⊎ ((r.word % 2 ≡ 0) × RestSlots V sh k t r.word (slots_for sh k) rest reply))
+    ((r.word % 2 ≡ 1) × IsLookup V sh k t rest reply) ⊎ ((r.word % 2 ≡ 0) × RemainderAtSlots V sh k t r.word (slots_for sh k) rest reply))
 
 tries_first : (V : ℕ) (sh : Shape) (k t : ℕ) (xs ys : List Reading) (hit : Option ℕ) (v : List ℕ) (before after at : ℕ) (reply : Reply V) → Tries V sh k xs hit v before after at → GoesOn V sh k t hit v before after at ys reply → FirstReading V sh k t (xs ++ ys) reply
 tries_first V sh k t xs ys hit v before after at reply r go =
@@ -47,9 +47,9 @@ first_reading V sh k t rs reply look =
     ]
 
 -- the reading of a slot
-pub slot_reading : (V : ℕ) (sh : Shape) (k t x : ℕ) (p : Place) (ps : List Place) (rs : List Reading) (reply : Reply V) → RestSlots V sh k t x (p ∷ ps) rs reply →
+pub slot_reading : (V : ℕ) (sh : Shape) (k t x : ℕ) (p : Place) (ps : List Place) (rs : List Reading) (reply : Reply V) → RemainderAtSlots V sh k t x (p ∷ ps) rs reply →
     (r : Reading) × (more : List Reading) × (rs ≡ r ∷ more) × (r.access ≡ Slot p) × (
-    (((i : ℕ) → Meets sh k r.word i → ⊥) × RestSlots V sh k t x ps more reply) ⊎ ((i : ℕ) × Meets sh k r.word i × RestKey V sh k t x i ps more reply))
+    (((i : ℕ) → TagMatches sh k r.word i → ⊥) × RemainderAtSlots V sh k t x ps more reply) ⊎ ((i : ℕ) × TagMatches sh k r.word i × RemainderAtKey V sh k t x i ps more reply))
 slot_reading V sh k t x p ps rs reply s =
     let scan = s.4 in
     let more : List Reading = scan.1 ++ s.2 in (
@@ -69,7 +69,7 @@ slot_reading V sh k t x p ps rs reply s =
             a.5,
             elim a.6 [
               | inl b ↦
-                  let h : RestHit V sh k t x (Some a.0) s.2 reply = subst (λ (o : Option ℕ). RestHit V sh k t x o s.2 reply) b.2 s.5 in
+                  let h : RemainderAtHit V sh k t x (Some a.0) s.2 reply = subst (λ (o : Option ℕ). RemainderAtHit V sh k t x o s.2 reply) b.2 s.5 in
                   inl (b.0, rw b.1 h)
               | inr b ↦ inr (b.0, (a.2, s.1, s.2, refl, b.1, s.5))
             ],
@@ -78,20 +78,20 @@ slot_reading V sh k t x p ps rs reply s =
       ],
     )
 
-pub slots_over : (V : ℕ) (sh : Shape) (k t x : ℕ) (rs : List Reading) (reply : Reply V) → RestSlots V sh k t x [] rs reply → RestMoment V sh k t x None [] rs reply
+pub slots_over : (V : ℕ) (sh : Shape) (k t x : ℕ) (rs : List Reading) (reply : Reply V) → RemainderAtSlots V sh k t x [] rs reply → RemainderAtMoment V sh k t x None [] rs reply
 slots_over V sh k t x rs reply s =
-    let h : RestHit V sh k t x None s.2 reply = subst (λ (o : Option ℕ). RestHit V sh k t x o s.2 reply) s.4.1 s.5 in
-    subst (λ (y : List Reading). RestMoment V sh k t x None [] y reply) (sym (s.3 ∙ ap (λ y. y ++ s.2) s.4.0)) h
+    let h : RemainderAtHit V sh k t x None s.2 reply = subst (λ (o : Option ℕ). RemainderAtHit V sh k t x o s.2 reply) s.4.1 s.5 in
+    subst (λ (y : List Reading). RemainderAtMoment V sh k t x None [] y reply) (sym (s.3 ∙ ap (λ y. y ++ s.2) s.4.0)) h
 
 -- the reading of a value word
-pub value_reading : (V : ℕ) (sh : Shape) (k t x i : ℕ) (got : List ℕ) (rs : List Reading) (reply : Reply V) → RestValues V sh k t x i got rs reply →
-    ((length got ≡ payload V) × RestMoment V sh k t x (Some i) got rs reply) ⊎
-    ((r : Reading) × (more : List Reading) × (rs ≡ r ∷ more) × (r.access ≡ Value i (suc (length got))) × RestValues V sh k t x i (got ++ r.word ∷ []) more reply)
+pub value_reading : (V : ℕ) (sh : Shape) (k t x i : ℕ) (got : List ℕ) (rs : List Reading) (reply : Reply V) → RemainderAtValues V sh k t x i got rs reply →
+    ((length got ≡ payload V) × RemainderAtMoment V sh k t x (Some i) got rs reply) ⊎
+    ((r : Reading) × (more : List Reading) × (rs ≡ r ∷ more) × (r.access ≡ Value i (suc (length got))) × RemainderAtValues V sh k t x i (got ++ r.word ∷ []) more reply)
 value_reading V sh k t x i got rs reply m = go m.0 m.1 m.3 m.4 m.5 m.6
   where
-    go : (xs : List Reading) (v : List ℕ) → rs ≡ xs ++ m.2 → length (got ++ v) ≡ payload V → ReadsValues i (suc (length got)) xs v → RestMoment V sh k t x (Some i) (got ++ v) m.2 reply →
-        ((length got ≡ payload V) × RestMoment V sh k t x (Some i) got rs reply) ⊎
-        ((r : Reading) × (more : List Reading) × (rs ≡ r ∷ more) × (r.access ≡ Value i (suc (length got))) × RestValues V sh k t x i (got ++ r.word ∷ []) more reply)
+    go : (xs : List Reading) (v : List ℕ) → rs ≡ xs ++ m.2 → length (got ++ v) ≡ payload V → ReadsValues i (suc (length got)) xs v → RemainderAtMoment V sh k t x (Some i) (got ++ v) m.2 reply →
+        ((length got ≡ payload V) × RemainderAtMoment V sh k t x (Some i) got rs reply) ⊎
+        ((r : Reading) × (more : List Reading) × (rs ≡ r ∷ more) × (r.access ≡ Value i (suc (length got))) × RemainderAtValues V sh k t x i (got ++ r.word ∷ []) more reply)
     go [] [] e l reads rest = inl (rw append-nil at l, rw e (rw append-nil at rest))
     go (r ∷ rs') (y ∷ ys) e l reads rest =
         let same : (got ++ r.word ∷ []) ++ ys ≡ got ++ y ∷ ys = append_assoc got (r.word ∷ []) ys ∙ ap (λ z. got ++ z ∷ ys) reads.1 in

@@ -11,11 +11,11 @@ use Rattle.mc_words.specs.Shapes.{IsShape}
 use Rattle.mc_words.specs.declared.history.Reply.{Reply}
 use Rattle.mc_words.specs.declared.place.Place.{Place}
 use Rattle.mc_words.specs.declared.shape.Shape.{Shape}
-use Rattle.mc_theory.specs.Lookups.{Meets, slots_for, IsLookup}
-use Rattle.mc_lookup.specs.Machine.{next_at, next_of, shape_for, place_in, slots_from, values_from, LeftAt, Left, steps_at, Takes}
+use Rattle.mc_theory.specs.Lookups.{TagMatches, slots_for, IsLookup}
+use Rattle.mc_lookup.specs.Machine.{next_at, next_access, shape_for, place_in, slots_from, values_from, IsRemainderAt, IsRemainder, steps_at, Consumes}
 use Rattle.mc_lookup.specs.Inside.Machine.{Restarts}
 use Rattle.mc_theory.specs.Readings.{Reading}
-use Rattle.mc_lookup.specs.Rest.{RestSlots, RestValues, RestMoment}
+use Rattle.mc_lookup.specs.Rest.{RemainderAtSlots, RemainderAtValues, RemainderAtMoment}
 use Rattle.mc_theory.specs.declared.access.Access.{Access}
 use Rattle.mc_theory.specs.declared.access.Access.TheVariants as access
 use Rattle.mc_lookup.specs.declared.lookup.Lookup.{Lookup}
@@ -29,15 +29,15 @@ both_trans p q = (λ a. q.0 (p.0 a), λ c. p.1 (q.1 c))
 
 -- from the stages before and after a reading to the lookups
 pub takes_at : {V : ℕ} (old new : Lookup V) (st after : Stage) (a : Access) (w : ℕ) → old.stage ≡ st → new.stage ≡ after → new.checked ≡ old.checked → new.key ≡ old.key →
-    ((f : ℕ) (rs : List Reading) (reply : Reply V) → LeftAt V (shape_for {V = V} old) old.key new.tries new.version new.value new.reply after rs reply ↔ LeftAt V (shape_for {V = V} old) old.key old.tries old.version old.value old.reply st (record { access = a; word = w; front = f } ∷ rs) reply) →
-    steps_at V new.tries after < steps_at V old.tries st → Takes {V = V} old a w new
-unfolding Left
+    ((f : ℕ) (rs : List Reading) (reply : Reply V) → IsRemainderAt V (shape_for {V = V} old) old.key new.tries new.version new.value new.reply after rs reply ↔ IsRemainderAt V (shape_for {V = V} old) old.key old.tries old.version old.value old.reply st (record { access = a; word = w; front = f } ∷ rs) reply) →
+    steps_at V new.tries after < steps_at V old.tries st → Consumes {V = V} old a w new
+unfolding IsRemainder
 takes_at {V} old new st after a w before then shape key left fewer = record {
   shape = shape;
   key = key;
   left = λ f rs reply.
-      subst (λ (y : Stage). LeftAt V (shape_for {V = V} new) new.key new.tries new.version new.value new.reply new.stage rs reply ↔ LeftAt V (shape_for {V = V} old) old.key old.tries old.version old.value old.reply y (record { access = a; word = w; front = f } ∷ rs) reply) (sym before)
-      (subst (λ (y : Stage). LeftAt V (shape_for {V = V} new) new.key new.tries new.version new.value new.reply y rs reply ↔ LeftAt V (shape_for {V = V} old) old.key old.tries old.version old.value old.reply st (record { access = a; word = w; front = f } ∷ rs) reply) (sym then)
+      subst (λ (y : Stage). IsRemainderAt V (shape_for {V = V} new) new.key new.tries new.version new.value new.reply new.stage rs reply ↔ IsRemainderAt V (shape_for {V = V} old) old.key old.tries old.version old.value old.reply y (record { access = a; word = w; front = f } ∷ rs) reply) (sym before)
+      (subst (λ (y : Stage). IsRemainderAt V (shape_for {V = V} new) new.key new.tries new.version new.value new.reply y rs reply ↔ IsRemainderAt V (shape_for {V = V} old) old.key old.tries old.version old.value old.reply st (record { access = a; word = w; front = f } ∷ rs) reply) (sym then)
       (rw (shape, key) (left f rs reply)));
   fewer = rw (before, then) fewer;
 }
@@ -78,53 +78,53 @@ pub both_refl : {A : Type 0} → A ↔ A
 both_refl = (λ a. a, λ a. a)
 
 -- the slots from j on, where there may be none
-pub left_slots : (V : ℕ) (sh : Shape) (k t x : ℕ) (v : List ℕ) (told : Reply V) (j : ℕ) (rs : List Reading) (reply : Reply V) → j ≤ 8 → LeftAt V sh k t x v told (slots_from j) rs reply ↔ RestSlots V sh k t x (drop j (slots_for sh k)) rs reply
+pub left_slots : (V : ℕ) (sh : Shape) (k t x : ℕ) (v : List ℕ) (told : Reply V) (j : ℕ) (rs : List Reading) (reply : Reply V) → j ≤ 8 → IsRemainderAt V sh k t x v told (slots_from j) rs reply ↔ RemainderAtSlots V sh k t x (drop j (slots_for sh k)) rs reply
 left_slots V sh k t x v told j rs reply l =
     elim (cases_lt j 8) [
       | inl below ↦
-          subst (λ (st : Stage). LeftAt V sh k t x v told st rs reply ↔ RestSlots V sh k t x (drop j (slots_for sh k)) rs reply) (cond_below j 8 (Slot j) (Moment None) below) both_refl
+          subst (λ (st : Stage). IsRemainderAt V sh k t x v told st rs reply ↔ RemainderAtSlots V sh k t x (drop j (slots_for sh k)) rs reply) (cond_below j 8 (Slot j) (Moment None) below) both_refl
       | inr past ↦
           let e : j ≡ 8 = omega arith in
           let none : drop j (slots_for sh k) ≡ [] = rw e refl in
-          subst (λ (st : Stage). LeftAt V sh k t x v told st rs reply ↔ RestSlots V sh k t x (drop j (slots_for sh k)) rs reply) (cond_above j 8 (Slot j) (Moment None) (Moment None) past refl)
-          (subst (λ (ps : List Place). RestMoment V sh k t x None [] rs reply ↔ RestSlots V sh k t x ps rs reply) (sym none) (feed_none V sh k t x rs reply))
+          subst (λ (st : Stage). IsRemainderAt V sh k t x v told st rs reply ↔ RemainderAtSlots V sh k t x (drop j (slots_for sh k)) rs reply) (cond_above j 8 (Slot j) (Moment None) (Moment None) past refl)
+          (subst (λ (ps : List Place). RemainderAtMoment V sh k t x None [] rs reply ↔ RemainderAtSlots V sh k t x ps rs reply) (sym none) (feed_none V sh k t x rs reply))
     ]
 
 -- before a slot that doesn't name the tag, and the slots after it
-pub left_other : (V : ℕ) (sh : Shape) (k t x : ℕ) (v : List ℕ) (told : Reply V) (first second j w f : ℕ) (rs : List Reading) (reply : Reply V) → first ≡ first_of sh k → second ≡ second_of sh k → j < 8 → ((i : ℕ) → Meets sh k w i → ⊥) → LeftAt V sh k t x v told (slots_from (j + 1)) rs reply ↔ LeftAt V sh k t x v told (Slot j) (read (access.Slot (place_in first second j)) w f ∷ rs) reply
+pub left_other : (V : ℕ) (sh : Shape) (k t x : ℕ) (v : List ℕ) (told : Reply V) (first second j w f : ℕ) (rs : List Reading) (reply : Reply V) → first ≡ first_of sh k → second ≡ second_of sh k → j < 8 → ((i : ℕ) → TagMatches sh k w i → ⊥) → IsRemainderAt V sh k t x v told (slots_from (j + 1)) rs reply ↔ IsRemainderAt V sh k t x v told (Slot j) (read (access.Slot (place_in first second j)) w f ∷ rs) reply
 left_other V sh k t x v told first second j w f rs reply a b l other =
     let e : suc j ≡ j + 1 = omega arith in
     let here : drop j (slots_for sh k) ≡ place_in first second j ∷ drop (j + 1) (slots_for sh k) = subst (λ (y : ℕ). drop j (slots_for sh k) ≡ place_in first second j ∷ drop y (slots_for sh k)) e (slots_at sh k first second j a b l) in
     both_trans (left_slots V sh k t x v told (j + 1) rs reply (omega arith))
-    (subst (λ (ps : List Place). RestSlots V sh k t x (drop (j + 1) (slots_for sh k)) rs reply ↔ RestSlots V sh k t x ps (read (access.Slot (place_in first second j)) w f ∷ rs) reply) (sym here)
+    (subst (λ (ps : List Place). RemainderAtSlots V sh k t x (drop (j + 1) (slots_for sh k)) rs reply ↔ RemainderAtSlots V sh k t x ps (read (access.Slot (place_in first second j)) w f ∷ rs) reply) (sym here)
     (feed_other V sh k t x (place_in first second j) (drop (j + 1) (slots_for sh k)) (read (access.Slot (place_in first second j)) w f) rs reply refl other))
 
 -- before one that names an item under it, and the key of that item
-pub left_met : (V : ℕ) (sh : Shape) (k t x : ℕ) (v : List ℕ) (told : Reply V) (first second j i w f : ℕ) (rs : List Reading) (reply : Reply V) → IsShape sh → first ≡ first_of sh k → second ≡ second_of sh k → j < 8 → Meets sh k w i → LeftAt V sh k t x v told (Key (j + 1) i) rs reply ↔ LeftAt V sh k t x v told (Slot j) (read (access.Slot (place_in first second j)) w f ∷ rs) reply
+pub left_met : (V : ℕ) (sh : Shape) (k t x : ℕ) (v : List ℕ) (told : Reply V) (first second j i w f : ℕ) (rs : List Reading) (reply : Reply V) → IsShape sh → first ≡ first_of sh k → second ≡ second_of sh k → j < 8 → TagMatches sh k w i → IsRemainderAt V sh k t x v told (Key (j + 1) i) rs reply ↔ IsRemainderAt V sh k t x v told (Slot j) (read (access.Slot (place_in first second j)) w f ∷ rs) reply
 left_met V sh k t x v told first second j i w f rs reply s a b l meets =
     let e : j + 1 ≡ suc j = omega arith in
     rw (e, slots_at sh k first second j a b l) (feed_meet V sh k t x i (place_in first second j) (drop (suc j) (slots_for sh k)) (read (access.Slot (place_in first second j)) w f) rs reply s refl meets)
 
 -- before a word of the value, and the words after it
-pub left_value : (V : ℕ) (sh : Shape) (k t x : ℕ) (v : List ℕ) (told : Reply V) (i c w f : ℕ) (rs : List Reading) (reply : Reply V) → length v ≡ V → c < V → LeftAt V sh k t x (slice_set v c w) told (values_from V i (c + 1)) rs reply ↔ LeftAt V sh k t x v told (Value i c) (read (access.Value i (c + 1)) w f ∷ rs) reply
+pub left_value : (V : ℕ) (sh : Shape) (k t x : ℕ) (v : List ℕ) (told : Reply V) (i c w f : ℕ) (rs : List Reading) (reply : Reply V) → length v ≡ V → c < V → IsRemainderAt V sh k t x (slice_set v c w) told (values_from V i (c + 1)) rs reply ↔ IsRemainderAt V sh k t x v told (Value i c) (read (access.Value i (c + 1)) w f ∷ rs) reply
 unfolding payload
 left_value V sh k t x v told i c w f rs reply whole l =
     let r = read (access.Value i (c + 1)) w f in
     let got : length (take c v) ≡ c = omega (arith, length-take c v) in
     let more : take (c + 1) (slice_set v c w) ≡ take c v ++ w ∷ [] = take-set_at v c (c + 1) w refl (omega (arith, whole)) in
-    let fed : RestValues V sh k t x i (take c v ++ w ∷ []) rs reply ↔ RestValues V sh k t x i (take c v) (r ∷ rs) reply =
+    let fed : RemainderAtValues V sh k t x i (take c v ++ w ∷ []) rs reply ↔ RemainderAtValues V sh k t x i (take c v) (r ∷ rs) reply =
     feed_value V sh k t x i (take c v) r rs reply (omega arith) (ap (λ y. access.Value i y) (omega (arith, got))) in
-    let one : RestValues V sh k t x i (take (c + 1) (slice_set v c w)) rs reply ↔ RestValues V sh k t x i (take c v) (r ∷ rs) reply =
-    subst (λ (y : List ℕ). RestValues V sh k t x i y rs reply ↔ RestValues V sh k t x i (take c v) (r ∷ rs) reply) (sym more) fed in
+    let one : RemainderAtValues V sh k t x i (take (c + 1) (slice_set v c w)) rs reply ↔ RemainderAtValues V sh k t x i (take c v) (r ∷ rs) reply =
+    subst (λ (y : List ℕ). RemainderAtValues V sh k t x i y rs reply ↔ RemainderAtValues V sh k t x i (take c v) (r ∷ rs) reply) (sym more) fed in
     elim (cases_lt (c + 1) V) [
       | inl below ↦
-          subst (λ (st : Stage). LeftAt V sh k t x (slice_set v c w) told st rs reply ↔ RestValues V sh k t x i (take c v) (r ∷ rs) reply) (cond_below (c + 1) V (Value i (c + 1)) (Moment (Some i)) below) one
+          subst (λ (st : Stage). IsRemainderAt V sh k t x (slice_set v c w) told st rs reply ↔ RemainderAtValues V sh k t x i (take c v) (r ∷ rs) reply) (cond_below (c + 1) V (Value i (c + 1)) (Moment (Some i)) below) one
       | inr past ↦
           let long : length (slice_set v c w) ≡ V = omega (arith, length-set v c w, whole) in
           let all : take (c + 1) (slice_set v c w) ≡ slice_set v c w = take_all (c + 1) (slice_set v c w) (omega (arith, long)) in
-          subst (λ (st : Stage). LeftAt V sh k t x (slice_set v c w) told st rs reply ↔ RestValues V sh k t x i (take c v) (r ∷ rs) reply) (cond_above (c + 1) V (Value i (c + 1)) (Moment (Some i)) (Moment (Some i)) past refl)
+          subst (λ (st : Stage). IsRemainderAt V sh k t x (slice_set v c w) told st rs reply ↔ RemainderAtValues V sh k t x i (take c v) (r ∷ rs) reply) (cond_above (c + 1) V (Value i (c + 1)) (Moment (Some i)) (Moment (Some i)) past refl)
           (both_trans (feed_full V sh k t x i (slice_set v c w) rs reply long)
-          (subst (λ (y : List ℕ). RestValues V sh k t x i y rs reply ↔ RestValues V sh k t x i (take c v) (r ∷ rs) reply) all one))
+          (subst (λ (y : List ℕ). RemainderAtValues V sh k t x i y rs reply ↔ RemainderAtValues V sh k t x i (take c v) (r ∷ rs) reply) all one))
     ]
 
 -- ---- how many accesses are left
@@ -148,15 +148,15 @@ steps_try V zero l = absurd (omega arith)
 steps_try V (suc t) l = let e : suc t - 1 ≡ t = omega arith in rw e (grind arith)
 
 -- what is left at the stage of a lookup
-pub at_stage : {V : ℕ} (l : Lookup V) (st : Stage) (rs : List Reading) (reply : Reply V) → l.stage ≡ st → LeftAt V (shape_for {V = V} l) l.key l.tries l.version l.value l.reply st rs reply ↔ Left {V = V} l rs reply
-unfolding Left
+pub at_stage : {V : ℕ} (l : Lookup V) (st : Stage) (rs : List Reading) (reply : Reply V) → l.stage ≡ st → IsRemainderAt V (shape_for {V = V} l) l.key l.tries l.version l.value l.reply st rs reply ↔ IsRemainder {V = V} l rs reply
+unfolding IsRemainder
 at_stage {V} l st rs reply e =
-    subst (λ (y : Stage). LeftAt V (shape_for {V = V} l) l.key l.tries l.version l.value l.reply st rs reply ↔ LeftAt V (shape_for {V = V} l) l.key l.tries l.version l.value l.reply y rs reply) (sym e) both_refl
+    subst (λ (y : Stage). IsRemainderAt V (shape_for {V = V} l) l.key l.tries l.version l.value l.reply st rs reply ↔ IsRemainderAt V (shape_for {V = V} l) l.key l.tries l.version l.value l.reply y rs reply) (sym e) both_refl
 
 -- a reading that spoils a try
 pub takes_restart : {V : ℕ} (old mid new : Lookup V) (st : Stage) (a : Access) (w : ℕ) → Restarts {V = V} mid new → old.stage ≡ st → mid.checked ≡ old.checked → mid.key ≡ old.key →
-    ((f : ℕ) (rs : List Reading) (reply : Reply V) → IsLookup V (shape_for {V = V} mid) mid.key mid.tries rs reply ↔ LeftAt V (shape_for {V = V} old) old.key old.tries old.version old.value old.reply st (record { access = a; word = w; front = f } ∷ rs) reply) →
-    mid.tries * (19 + V) + 1 < steps_at V old.tries st → Takes {V = V} old a w new
+    ((f : ℕ) (rs : List Reading) (reply : Reply V) → IsLookup V (shape_for {V = V} mid) mid.key mid.tries rs reply ↔ IsRemainderAt V (shape_for {V = V} old) old.key old.tries old.version old.value old.reply st (record { access = a; word = w; front = f } ∷ rs) reply) →
+    mid.tries * (19 + V) + 1 < steps_at V old.tries st → Consumes {V = V} old a w new
 takes_restart {V} old mid new st a w again before shape key left fewer = record {
   shape = again.shape ∙ shape;
   key = again.key ∙ key;
@@ -165,10 +165,10 @@ takes_restart {V} old mid new st a w again before shape key left fewer = record 
 }
 
 -- a first version, and the tries after this one
-pub left_first : (V : ℕ) (sh : Shape) (k t : ℕ) (r : Reading) (rs : List Reading) (reply : Reply V) → 0 < t → r.access ≡ access.Version (stripe_of sh k) → r.word % 2 ≡ 0 → RestSlots V sh k (t - 1) r.word (slots_for sh k) rs reply ↔ IsLookup V sh k t (r ∷ rs) reply
+pub left_first : (V : ℕ) (sh : Shape) (k t : ℕ) (r : Reading) (rs : List Reading) (reply : Reply V) → 0 < t → r.access ≡ access.Version (stripe_of sh k) → r.word % 2 ≡ 0 → RemainderAtSlots V sh k (t - 1) r.word (slots_for sh k) rs reply ↔ IsLookup V sh k t (r ∷ rs) reply
 left_first V sh k t r rs reply some a even =
     let e : suc (t - 1) ≡ t = omega arith in
-    subst (λ (y : ℕ). RestSlots V sh k (t - 1) r.word (slots_for sh k) rs reply ↔ IsLookup V sh k y (r ∷ rs) reply) e (feed_even V sh k (t - 1) r rs reply a even)
+    subst (λ (y : ℕ). RemainderAtSlots V sh k (t - 1) r.word (slots_for sh k) rs reply ↔ IsLookup V sh k y (r ∷ rs) reply) e (feed_even V sh k (t - 1) r rs reply a even)
 
 pub left_odd : (V : ℕ) (sh : Shape) (k t : ℕ) (r : Reading) (rs : List Reading) (reply : Reply V) → 0 < t → r.access ≡ access.Version (stripe_of sh k) → r.word % 2 ≢ 0 → IsLookup V sh k (t - 1) rs reply ↔ IsLookup V sh k t (r ∷ rs) reply
 left_odd V sh k t r rs reply some a odd =
@@ -176,5 +176,5 @@ left_odd V sh k t r rs reply some a odd =
     subst (λ (y : ℕ). IsLookup V sh k (t - 1) rs reply ↔ IsLookup V sh k y (r ∷ rs) reply) e (feed_odd V sh k (t - 1) r rs reply a (omega arith))
 
 -- the access at a stage is the one that comes next
-pub takes_next : {V : ℕ} (old new : Lookup V) (st : Stage) (w : ℕ) → old.stage ≡ st → IfSome (next_at {V = V} old st) (λ (a : Access). Takes {V = V} old a w new) → IfSome (next_of {V = V} old) (λ (a : Access). Takes {V = V} old a w new)
-takes_next {V} old new st w e h = subst (λ (y : Stage). IfSome (next_at {V = V} old y) (λ (a : Access). Takes {V = V} old a w new)) (sym e) h
+pub takes_next : {V : ℕ} (old new : Lookup V) (st : Stage) (w : ℕ) → old.stage ≡ st → IfSome (next_at {V = V} old st) (λ (a : Access). Consumes {V = V} old a w new) → IfSome (next_access {V = V} old) (λ (a : Access). Consumes {V = V} old a w new)
+takes_next {V} old new st w e h = subst (λ (y : Stage). IfSome (next_at {V = V} old y) (λ (a : Access). Consumes {V = V} old a w new)) (sym e) h

@@ -1,3 +1,3 @@
 pub mod Machine
-pub mod Met
+pub mod TagMatch
 pub mod Stages

@@ -4,9 +4,9 @@ use Rattle.mc_words.specs.Checks.{shape_of}
 use Rattle.mc_words.specs.declared.history.Reply.{Reply}
 use Rattle.mc_words.specs.declared.place.Place.{Place}
 use Rattle.mc_words.specs.declared.shape.Shape.{Shape}
-use Rattle.mc_theory.specs.Lookups.{Marks, slots_for, IsLookup}
+use Rattle.mc_theory.specs.Lookups.{MarksHit, slots_for, IsLookup}
 use Rattle.mc_theory.specs.Readings.{Reading}
-use Rattle.mc_lookup.specs.Rest.{RestSlots, RestKey, RestValues, RestMoment, RestLast}
+use Rattle.mc_lookup.specs.Rest.{RemainderAtSlots, RemainderAtKey, RemainderAtValues, RemainderAtMoment, RemainderAtLast}
 use Rattle.mc_theory.specs.declared.access.Access.{Access}
 use Rattle.mc_theory.specs.declared.access.Access.TheVariants as access
 use Rattle.mc_lookup.specs.declared.lookup.Lookup.{Lookup}
@@ -23,12 +23,12 @@ stage_of l = l.stage
 abbrev pub place_in : ℕ → ℕ → ℕ → Place
 place_in first second j = if nat_lt j 4 then record { bucket = first; slot = j } else record { bucket = second; slot = j - 4 }
 
-abbrev pub place_of : {V : ℕ} → Lookup V → ℕ → Place
-place_of l j = place_in l.first l.second j
+abbrev pub lookup_place : {V : ℕ} → Lookup V → ℕ → Place
+lookup_place l j = place_in l.first l.second j
 
 abbrev pub next_at : {V : ℕ} → Lookup V → Stage → Option Access
 next_at l First = Some (access.Version l.stripe)
-next_at l (Slot j) = Some (access.Slot (place_of l j))
+next_at l (Slot j) = Some (access.Slot (lookup_place l j))
 next_at l (Key j i) = Some (access.Key i)
 next_at l (Value i c) = Some (access.Value i (c + 1))
 next_at l (Moment hit) = Some access.Moment
@@ -37,8 +37,8 @@ next_at l (Mark i) = Some (access.Mark i)
 next_at l Over = None
 
 -- the access that the lookup makes next
-abbrev pub next_of : {V : ℕ} → Lookup V → Option Access
-next_of l = next_at l l.stage
+abbrev pub next_access : {V : ℕ} → Lookup V → Option Access
+next_access l = next_at l l.stage
 
 abbrev pub reply_at : {V : ℕ} → Lookup V → Stage → Option (Reply V)
 reply_at l Over = Some l.reply
@@ -57,9 +57,9 @@ abbrev pub values_from : ℕ → ℕ → ℕ → Stage
 values_from V i c = if nat_lt c V then Value i c else Moment (Some i)
 
 -- the stage after a try that stands
-abbrev pub ended : Option ℕ → Stage
-ended None = Over
-ended (Some i) = Mark i
+abbrev pub stage_after_try : Option ℕ → Stage
+stage_after_try None = Over
+stage_after_try (Some i) = Mark i
 
 -- the stage after a try that was spoiled
 abbrev pub IsRestart : Stage → Type 0
@@ -71,19 +71,19 @@ value_for None v = []
 value_for (Some i) v = v
 
 -- what is left at a stage: of this key, with so many tries left, this first version and these words of the value
-abbrev pub LeftAt : (V : ℕ) → Shape → ℕ → ℕ → ℕ → List ℕ → Reply V → Stage → List Reading → Reply V → Type 0
-LeftAt V sh k t x v told First rs reply = IsLookup V sh k t rs reply
-LeftAt V sh k t x v told (Slot j) rs reply = RestSlots V sh k t x (drop j (slots_for sh k)) rs reply
-LeftAt V sh k t x v told (Key j i) rs reply = RestKey V sh k t x i (drop j (slots_for sh k)) rs reply
-LeftAt V sh k t x v told (Value i c) rs reply = RestValues V sh k t x i (take c v) rs reply
-LeftAt V sh k t x v told (Moment hit) rs reply = RestMoment V sh k t x hit (value_for hit v) rs reply
-LeftAt V sh k t x v told (Last hit at) rs reply = RestLast V sh k t x hit (value_for hit v) at rs reply
-LeftAt V sh k t x v told (Mark i) rs reply = Marks (Some i) rs × (reply ≡ told)
-LeftAt V sh k t x v told Over rs reply = (rs ≡ []) × (reply ≡ told)
+abbrev pub IsRemainderAt : (V : ℕ) → Shape → ℕ → ℕ → ℕ → List ℕ → Reply V → Stage → List Reading → Reply V → Type 0
+IsRemainderAt V sh k t x v told First rs reply = IsLookup V sh k t rs reply
+IsRemainderAt V sh k t x v told (Slot j) rs reply = RemainderAtSlots V sh k t x (drop j (slots_for sh k)) rs reply
+IsRemainderAt V sh k t x v told (Key j i) rs reply = RemainderAtKey V sh k t x i (drop j (slots_for sh k)) rs reply
+IsRemainderAt V sh k t x v told (Value i c) rs reply = RemainderAtValues V sh k t x i (take c v) rs reply
+IsRemainderAt V sh k t x v told (Moment hit) rs reply = RemainderAtMoment V sh k t x hit (value_for hit v) rs reply
+IsRemainderAt V sh k t x v told (Last hit at) rs reply = RemainderAtLast V sh k t x hit (value_for hit v) at rs reply
+IsRemainderAt V sh k t x v told (Mark i) rs reply = MarksHit (Some i) rs × (reply ≡ told)
+IsRemainderAt V sh k t x v told Over rs reply = (rs ≡ []) × (reply ≡ told)
 
 -- these readings are left of the lookup, and this is what it then replies
-unfoldable pub Left : {V : ℕ} → Lookup V → List Reading → Reply V → Type 0
-Left {V} l rs reply = LeftAt V (shape_for l) l.key l.tries l.version l.value l.reply l.stage rs reply
+unfoldable pub IsRemainder : {V : ℕ} → Lookup V → List Reading → Reply V → Type 0
+IsRemainder {V} l rs reply = IsRemainderAt V (shape_for l) l.key l.tries l.version l.value l.reply l.stage rs reply
 
 -- how many accesses are left at most: of the running try, without those of the tries after it and the mark
 abbrev pub steps_of_try : ℕ → Stage → ℕ
@@ -106,8 +106,8 @@ abbrev pub steps_left : {V : ℕ} → Lookup V → ℕ
 steps_left {V} l = steps_at V l.tries l.stage
 
 -- a reading of this word, by this access, leads from one lookup to the other: what is left of the first is that reading and what is left of the second
-pub record Takes {V : ℕ} (old : Lookup V) (a : Access) (word : ℕ) (new : Lookup V) : Type 0 where
+pub record Consumes {V : ℕ} (old : Lookup V) (a : Access) (word : ℕ) (new : Lookup V) : Type 0 where
   pub shape : new.checked ≡ old.checked
   pub key : new.key ≡ old.key
-  pub left : (f : ℕ) (rs : List Reading) (reply : Reply V) → Left new rs reply ↔ Left old (record { access = a; word = word; front = f } ∷ rs) reply
+  pub left : (f : ℕ) (rs : List Reading) (reply : Reply V) → IsRemainder new rs reply ↔ IsRemainder old (record { access = a; word = word; front = f } ∷ rs) reply
   pub fewer : steps_left new < steps_left old

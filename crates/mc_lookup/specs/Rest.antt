@@ -1,6 +1,6 @@
 -- What is left to read of a lookup, at each stage of its machine. A machine's contract names these.
 use Rattle.std.specs.Prelude.{ℕ, suc, ◌≡◌, ◌≢◌, ◌⊎◌, List, [], ◌∷◌, ◌++◌, length, Option, Some, None}
-use Rattle.mc_theory.specs.Lookups.{IsLookup, Marks, ReadsValues, Scans, reply_of}
+use Rattle.mc_theory.specs.Lookups.{IsLookup, MarksHit, ReadsValues, Scans, reply_of}
 use Rattle.mc_theory.specs.Readings.{Reading}
 use Rattle.mc_words.specs.Keys.{stripe_of}
 use Rattle.mc_words.specs.Places.{payload}
@@ -10,34 +10,34 @@ use Rattle.mc_words.specs.declared.shape.Shape.{Shape}
 use Rattle.mc_theory.specs.declared.access.Access.TheVariants.{Version, Key, Moment}
 
 -- the version is to be read again; t tries are left beside this one, whose first version was x
-abbrev pub RestLast : (V : ℕ) → Shape → ℕ → ℕ → ℕ → Option ℕ → List ℕ → ℕ → List Reading → Reply V → Type 0
-RestLast V sh k t x hit v at rs reply =
+abbrev pub RemainderAtLast : (V : ℕ) → Shape → ℕ → ℕ → ℕ → Option ℕ → List ℕ → ℕ → List Reading → Reply V → Type 0
+RemainderAtLast V sh k t x hit v at rs reply =
     (last : Reading) × (rest : List Reading) × (rs ≡ last ∷ rest) × (last.access ≡ Version (stripe_of sh k)) × (
     ((last.word ≢ x) × IsLookup V sh k t rest reply) ⊎
-    ((last.word ≡ x) × Marks hit rest × (reply ≡ reply_of hit v at)))
+    ((last.word ≡ x) × MarksHit hit rest × (reply ≡ reply_of hit v at)))
 
-abbrev pub RestMoment : (V : ℕ) → Shape → ℕ → ℕ → ℕ → Option ℕ → List ℕ → List Reading → Reply V → Type 0
-RestMoment V sh k t x hit v rs reply =
-    (mid : Reading) × (rest : List Reading) × (rs ≡ mid ∷ rest) × (mid.access ≡ Moment) × RestLast V sh k t x hit v mid.word rest reply
+abbrev pub RemainderAtMoment : (V : ℕ) → Shape → ℕ → ℕ → ℕ → Option ℕ → List ℕ → List Reading → Reply V → Type 0
+RemainderAtMoment V sh k t x hit v rs reply =
+    (mid : Reading) × (rest : List Reading) × (rs ≡ mid ∷ rest) × (mid.access ≡ Moment) × RemainderAtLast V sh k t x hit v mid.word rest reply
 
 -- these value words were read of the item
-abbrev pub RestValues : (V : ℕ) → Shape → ℕ → ℕ → ℕ → ℕ → List ℕ → List Reading → Reply V → Type 0
-RestValues V sh k t x i got rs reply =
+abbrev pub RemainderAtValues : (V : ℕ) → Shape → ℕ → ℕ → ℕ → ℕ → List ℕ → List Reading → Reply V → Type 0
+RemainderAtValues V sh k t x i got rs reply =
     (xs : List Reading) × (more : List ℕ) × (rest : List Reading) × (rs ≡ xs ++ rest) × (length (got ++ more) ≡ payload V) ×
-    ReadsValues i (suc (length got)) xs more × RestMoment V sh k t x (Some i) (got ++ more) rest reply
+    ReadsValues i (suc (length got)) xs more × RemainderAtMoment V sh k t x (Some i) (got ++ more) rest reply
 
-abbrev pub RestHit : (V : ℕ) → Shape → ℕ → ℕ → ℕ → Option ℕ → List Reading → Reply V → Type 0
-RestHit V sh k t x None rs reply = RestMoment V sh k t x None [] rs reply
-RestHit V sh k t x (Some i) rs reply = RestValues V sh k t x i [] rs reply
+abbrev pub RemainderAtHit : (V : ℕ) → Shape → ℕ → ℕ → ℕ → Option ℕ → List Reading → Reply V → Type 0
+RemainderAtHit V sh k t x None rs reply = RemainderAtMoment V sh k t x None [] rs reply
+RemainderAtHit V sh k t x (Some i) rs reply = RemainderAtValues V sh k t x i [] rs reply
 
 -- these slots are to be read
-abbrev pub RestSlots : (V : ℕ) → Shape → ℕ → ℕ → ℕ → List Place → List Reading → Reply V → Type 0
-RestSlots V sh k t x ps rs reply =
-    (scan : List Reading) × (hit : Option ℕ) × (rest : List Reading) × (rs ≡ scan ++ rest) × Scans sh k ps scan hit × RestHit V sh k t x hit rest reply
+abbrev pub RemainderAtSlots : (V : ℕ) → Shape → ℕ → ℕ → ℕ → List Place → List Reading → Reply V → Type 0
+RemainderAtSlots V sh k t x ps rs reply =
+    (scan : List Reading) × (hit : Option ℕ) × (rest : List Reading) × (rs ≡ scan ++ rest) × Scans sh k ps scan hit × RemainderAtHit V sh k t x hit rest reply
 
 -- the key word of an item that a slot names is to be read
-abbrev pub RestKey : (V : ℕ) → Shape → ℕ → ℕ → ℕ → ℕ → List Place → List Reading → Reply V → Type 0
-RestKey V sh k t x i ps rs reply =
+abbrev pub RemainderAtKey : (V : ℕ) → Shape → ℕ → ℕ → ℕ → ℕ → List Place → List Reading → Reply V → Type 0
+RemainderAtKey V sh k t x i ps rs reply =
     (s : Reading) × (rest : List Reading) × (rs ≡ s ∷ rest) × (s.access ≡ Key i) × (
-    ((s.word ≡ k) × RestValues V sh k t x i [] rest reply) ⊎
-    ((s.word ≢ k) × RestSlots V sh k t x ps rest reply))
+    ((s.word ≡ k) × RemainderAtValues V sh k t x i [] rest reply) ⊎
+    ((s.word ≢ k) × RemainderAtSlots V sh k t x ps rest reply))

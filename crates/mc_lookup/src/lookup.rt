@@ -46,7 +46,7 @@ impl<const V: usize> Lookup<V> {
     ghost use Rattle.mc_theory.specs.Lookups.{IsLookup};
     ghost use Rattle.mc_theory.specs.Readings.{Reading};
     ghost use Rattle.mc_theory.specs.Writes.{IsAccess};
-    ghost use Rattle.mc_lookup.specs.Machine.{shape_for, stage_of, next_of, reply_now, Left, Takes, steps_left};
+    ghost use Rattle.mc_lookup.specs.Machine.{shape_for, stage_of, next_access, reply_now, IsRemainder, Consumes, steps_left};
     ghost use Rattle.mc_theory.specs.declared.access.Access.{Access};
 
     /// The lookup of a key, with nothing read yet.
@@ -54,9 +54,9 @@ impl<const V: usize> Lookup<V> {
         requires { IsWidth V }
         ensures shape { shape_for {V = V} result ≡ shape_of checked.now }
         ensures key { result.key ≡ key }
-        ensures left { (rs : List Reading) (reply : Reply V) → Left {V = V} result rs reply ↔ IsLookup V (shape_of checked.now) key (shape_of checked.now).tries rs reply }
+        ensures left { (rs : List Reading) (reply : Reply V) → IsRemainder {V = V} result rs reply ↔ IsLookup V (shape_of checked.now) key (shape_of checked.now).tries rs reply }
         ensures steps { steps_left {V = V} result ≡ (shape_of checked.now).tries * (19 + V) + 1 }
-        ensures running { IsSome (next_of {V = V} result) }
+        ensures running { IsSome (next_access {V = V} result) }
         ensures stage { stage_of {V = V} result ≡ Stage.First }
     {
         let tag = checked.tag(key);
@@ -99,7 +99,7 @@ impl<const V: usize> Lookup<V> {
 
     /// The access that comes next, until the lookup has its reply.
     pub fn next(&self) -> Option<Access>
-        ensures next { result ≡ next_of {V = V} self.now }
+        ensures next { result ≡ next_access {V = V} self.now }
         ensures range { IfSome result (λ (a : Access). IsAccess V (shape_for {V = V} self.now) a) }
     {
         match self.stage {
@@ -116,7 +116,7 @@ impl<const V: usize> Lookup<V> {
     /// The reply, once nothing is left to read.
     pub fn reply(&self) -> Option<Reply<V>>
         ensures reply { result ≡ reply_now {V = V} self.now }
-        ensures over { IsSome result ↔ (next_of {V = V} self.now ≡ None) }
+        ensures over { IsSome result ↔ (next_access {V = V} self.now ≡ None) }
     {
         match self.stage {
             Stage::Over => Some(self.reply),
@@ -126,8 +126,8 @@ impl<const V: usize> Lookup<V> {
 
     /// Takes the word that the next access read. Of a mark, which reads nothing, the word isn't looked at.
     pub fn after(&mut self, word: u64)
-        requires { IsSome (next_of {V = V} self.old) }
-        ensures { IfSome (next_of {V = V} self.old) (λ (a : Access). Takes {V = V} self.old a word self.new) }
+        requires { IsSome (next_access {V = V} self.old) }
+        ensures { IfSome (next_access {V = V} self.old) (λ (a : Access). Consumes {V = V} self.old a word self.new) }
     {
         match self.stage {
             Stage::First => {

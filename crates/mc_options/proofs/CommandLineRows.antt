@@ -3,11 +3,11 @@ use Rattle.std.proofs.Common.{◌≡◌, ℕ, [], ◌∷◌, Some, refl, codes}
 use Rattle.clap.specs.Words.{first_of}
 use Rattle.clap.specs.declared.error.kind.ErrorKind.TheVariants as kind
 use Rattle.clap.proofs.OnLiterals.{clap_on_literals}
-use Rattle.mc_options.specs.Options.{Names, faults_of, texts_of}
+use Rattle.mc_options.specs.Options.{MixNames, faults_of, texts_of}
 
 module _ (p q r : ℕ × ℕ) where
   -- the two names, at any places
-  abbrev mixes : Names
+  abbrev mixes : MixNames
   mixes = record { ref_ptr = p; now = record { ref_ptr = q; now = codes "plain" } ∷ record { ref_ptr = r; now = codes "fmix" } ∷ [] }
 
   -- no option is given: each has its default

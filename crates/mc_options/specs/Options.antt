@@ -21,10 +21,10 @@ use Rattle.mc_options.specs.declared.options.Options.{Options}
 -- ---- the options
 
 -- the names that `--mix` takes, wherever they stand in memory
-abbrev pub Names : Type 0
-Names = Bor (List (Bor Text))
+abbrev pub MixNames : Type 0
+MixNames = Bor (List (Bor Text))
 
-abbrev pub AreMixes : Names → Type 0
+abbrev pub AreMixes : MixNames → Type 0
 AreMixes names = map (λ name. name.now) names.now ≡ codes "plain" ∷ codes "fmix" ∷ []
 
 -- an option `--name` with one value, and its default
@@ -45,7 +45,7 @@ bounds =
     ∷ option (codes "limit") (parser.Unsigned 0 18446744073709551615) (codes "4611686018427387904")
     ∷ []
 
-abbrev pub others : Names → List Rule
+abbrev pub others : MixNames → List Rule
 others mixes =
     option (codes "mix") (parser.Names mixes) (codes "plain")
     ∷ option (codes "readers") (parser.Signed (pos 0) (pos 4294967295)) (codes "2")
@@ -57,11 +57,11 @@ abbrev pub with_rules : App → List Rule → App
 with_rules app rules = fold with_rule app rules
 
 -- the command `mcstep`, which has a version, without its options
-abbrev pub named : App
-named = on_top (λ s. record s { has_version = true }) (new_app (codes "mcstep"))
+abbrev pub mcstep_command : App
+mcstep_command = on_top (λ s. record s { has_version = true }) (new_app (codes "mcstep"))
 
-abbrev pub program : Names → App
-program mixes = with_rules (with_rules (with_rules named sizes) bounds) (others mixes)
+abbrev pub program : MixNames → App
+program mixes = with_rules (with_rules (with_rules mcstep_command sizes) bounds) (others mixes)
 
 -- ---- what their texts say
 
@@ -89,25 +89,25 @@ pub record Says (rows : List Row) (o : Options) : Type 0 where
 -- ---- what the words ask for
 
 -- the kinds of the words' first fault; none where they are taken
-unfoldable pub faults_of : Names → List Text → Kinds
+unfoldable pub faults_of : MixNames → List Text → Kinds
 faults_of mixes words = fault_of (program mixes) words
 
 -- the options with their texts
-unfoldable pub texts_of : Names → List Text → List Row
+unfoldable pub texts_of : MixNames → List Text → List Row
 texts_of mixes words = matches_of (program mixes) words
 
 -- the words are taken, and say these options
-abbrev pub Gives : List Text → Options → Type 0
-Gives words o = (mixes : Names) × AreMixes mixes × (faults_of mixes words ≡ []) × Says (texts_of mixes words) o
+abbrev pub GivesOptions : List Text → Options → Type 0
+GivesOptions words o = (mixes : MixNames) × AreMixes mixes × (faults_of mixes words ≡ []) × Says (texts_of mixes words) o
 
 -- the words are taken, but some text doesn't say a value of its option, as a number with a sign
 abbrev pub SaysNothing : List Text → Type 0
 SaysNothing words =
-    (mixes : Names) × AreMixes mixes × (faults_of mixes words ≡ []) × ((o : Options) → Says (texts_of mixes words) o → ⊥)
+    (mixes : MixNames) × AreMixes mixes × (faults_of mixes words ≡ []) × ((o : Options) → Says (texts_of mixes words) o → ⊥)
 
 -- the words have a fault of this kind
 abbrev pub HasFault : List Text → ErrorKind → Type 0
-HasFault words k = (mixes : Names) × AreMixes mixes × IsAmong k (faults_of mixes words)
+HasFault words k = (mixes : MixNames) × AreMixes mixes × IsAmong k (faults_of mixes words)
 
 -- the words ask for help
 abbrev pub AsksHelp : List Text → Type 0
@@ -128,4 +128,4 @@ IsUnread words k = (k ≡ kind.OutOfMemory) ⊎ (HasFault words k ⊎ ((k ≡ ki
 
 -- the options that the words say, or why there are none
 abbrev pub Reads : List Text → Result Options Error → Type 0
-Reads words r = MatchResult r (Gives words) (λ e. IsUnread words (kind_of e))
+Reads words r = MatchResult r (GivesOptions words) (λ e. IsUnread words (kind_of e))

@@ -4,7 +4,7 @@ ghost use Rattle.std.specs.List.{list_all};
 ghost use Rattle.std.specs.Char.{is_ascii_digit};
 ghost use Rattle.std.specs.Result.{result_ok};
 ghost use Rattle.clap.specs.Words.{app_of, first_of, found_of, kind_of, rows_of, rule_of};
-ghost use Rattle.mc_options.specs.Options.{AreMixes, Names, Reads, Says, bounds, mix_in, named, number_in, option, others, program, sizes, with_rules};
+ghost use Rattle.mc_options.specs.Options.{AreMixes, MixNames, Reads, Says, bounds, mix_in, mcstep_command, number_in, option, others, program, sizes, with_rules};
 
 use clap::builder::ValueParser;
 use clap::error::ErrorKind;
@@ -123,7 +123,7 @@ fn with_bounds<'a>(alloc: Global, command: Command<'a>) -> Result<Command<'a>, A
 }
 
 fn with_others<'a>(alloc: Global, command: Command<'a>) -> Result<Command<'a>, AllocError>
-    ensures { IfOk result (λ c. (mixes : Names) × AreMixes mixes × (app_of c ≡ with_rules (app_of command.entry) (others mixes))) }
+    ensures { IfOk result (λ c. (mixes : MixNames) × AreMixes mixes × (app_of c ≡ with_rules (app_of command.entry) (others mixes))) }
 {
     let names = ["plain", "fmix"].as_slice();
     let mix = option(
@@ -152,7 +152,7 @@ fn with_others<'a>(alloc: Global, command: Command<'a>) -> Result<Command<'a>, A
 
 /// The command without its options.
 fn named<'a>(alloc: Global) -> Command<'a>
-    ensures { app_of result ≡ named }
+    ensures { app_of result ≡ mcstep_command }
 {
     Command::new(alloc, "mcstep")
         .version(VERSION)
@@ -161,7 +161,7 @@ fn named<'a>(alloc: Global) -> Command<'a>
 }
 
 fn command<'a>(alloc: Global) -> Result<Command<'a>, AllocError>
-    ensures { IfOk result (λ c. (mixes : Names) × AreMixes mixes × (app_of c ≡ program mixes)) }
+    ensures { IfOk result (λ c. (mixes : MixNames) × AreMixes mixes × (app_of c ≡ program mixes)) }
 {
     let sized = with_sizes(alloc, named(alloc))?;
     let bounded = with_bounds(alloc, sized)?;

@@ -5,7 +5,7 @@ use Rattle.mc_words.specs.Answers.{Quiet, PutIsSpent}
 use Rattle.mc_words.specs.Checks.{shape_of}
 use Rattle.mc_words.specs.History.{IsWord}
 use Rattle.mc_words.specs.Places.{IsWidth}
-use Rattle.mc_words.specs.Standing.{Names, Stands, IsAbsent, IsFree}
+use Rattle.mc_words.specs.Standing.{NamesItem, Stands, IsAbsent, IsFree}
 use Rattle.mc_theory.specs.Lists.{Made, AreAllowed, after_all}
 use Rattle.mc_theory.specs.States.{State}
 use Rattle.mc_theory.specs.declared.act.Act.{Act}
@@ -23,8 +23,8 @@ use Rattle.mc_plan.specs.declared.waiting.Start.{Start}
 use Rattle.mc_plan.specs.declared.waiting.Start.TheVariants as start
 use Rattle.mc_plan.specs.declared.waiting.Waiting.{Waiting}
 use Rattle.mc_plan.specs.Calls.{PutAnswers, RemoveAnswers}
-use Rattle.mc_search.specs.Free.{IsKept, IsFreeIn}
-use Rattle.mc_plan.specs.Making.{IsQuiet, made, left}
+use Rattle.mc_search.specs.Free.{IsConsistent, IsFreeIn}
+use Rattle.mc_plan.specs.Making.{IsQuiet, as_made, state_after_acts}
 use Rattle.mc_search.specs.Paths.{IsLeastPath}
 use Rattle.mc_search.specs.Sweeps.{Swept, IsSweep, HasSwept, IsOver, hand_acts, next_item, victim_of}
 
@@ -34,12 +34,12 @@ pub data Call : Type 0 where
   RemoveCall : (key : ℕ) → Call
 
 -- the shape of the clerk's table
-abbrev pub shape_in : {V : ℕ} → Clerk V → Shape
-shape_in clerk = shape_of clerk.books.checked
+abbrev pub shape_of_clerk : {V : ℕ} → Clerk V → Shape
+shape_of_clerk clerk = shape_of clerk.books.checked
 
 -- a state as answers speak of it
 abbrev pub quiet_of : {V : ℕ} → State V → Quiet V
-quiet_of s = record { words = s.words; hand = s.hand; history = s.history; changes = s.changes }
+quiet_of s = record { words = s.words; hand = s.hand; history = s.history; version_steps = s.version_steps }
 
 -- what the answer of a call means for the states before the call and after it
 abbrev pub Means : {V : ℕ} → Shape → Call → Answer → State V → State V → Type 0
@@ -87,8 +87,8 @@ IsSweepOf V sh s rs (answer.Put (Err why.AllRecent)) = IsSweep sh.items s.hand r
 IsSweepOf V sh s rs told = rs ≡ []
 
 -- the state after the readings
-abbrev pub swept : (V : ℕ) → Shape → State V → List Swept → State V
-swept V sh s rs = after_all sh s (hand_acts rs)
+abbrev pub state_after_sweep : (V : ℕ) → Shape → State V → List Swept → State V
+state_after_sweep V sh s rs = after_all sh s (hand_acts rs)
 
 -- from state s on these acts are a whole call: a sweep, and then others. Each is allowed after those before it, they end quiet, and the answer is true
 pub record Answered (V : ℕ) (sh : Shape) (call : Call) (s : State V) (acts : List Made) (told : Answer) : Type 0 where
@@ -107,20 +107,20 @@ pub record AreBooksOf (V : ℕ) (books : Books) (s : State V) : Type 0 where
   pub quiet : IsQuiet V (shape_of books.checked) s
   pub hand : books.hand ≡ s.hand
   pub stands : s.hand < (shape_of books.checked).items
-  pub changes : books.changes ≡ s.changes
-  pub limit : s.changes ≤ (shape_of books.checked).limit
+  pub version_steps : books.version_steps ≡ s.version_steps
+  pub limit : s.version_steps ≤ (shape_of books.checked).limit
   pub finder : books.finder ≡ shape_of books.checked
-  pub kept : IsKept books.free
+  pub kept : IsConsistent books.free
   pub items : books.free.items ≡ (shape_of books.checked).items
   pub free : (i : ℕ) → IsFreeIn books.free i → IsFree (shape_of books.checked) s.words i
-  pub named : (i : ℕ) → i < (shape_of books.checked).items → (IsFreeIn books.free i → ⊥) → (q : ℕ) × Names (shape_of books.checked) s.words q i
+  pub named : (i : ℕ) → i < (shape_of books.checked).items → (IsFreeIn books.free i → ⊥) → (q : ℕ) × NamesItem (shape_of books.checked) s.words q i
 
 -- the call began in state s, and the plan is made in state m, after the sweep: it is the rest of the call with this answer, and the books are those of the state after it
 pub record IsPlanned (V : ℕ) (books : Books) (plan : List Act) (call : Call) (s m : State V) (told : Answer) : Type 0 where
-  pub allowed : AreAllowed (shape_of books.checked) m (made plan)
-  pub means : Means (shape_of books.checked) call told s (left V (shape_of books.checked) m plan)
-  pub marks : Marks V (shape_of books.checked) (left V (shape_of books.checked) m plan).words call told plan
-  pub ends : AreBooksOf V books (left V (shape_of books.checked) m plan)
+  pub allowed : AreAllowed (shape_of books.checked) m (as_made plan)
+  pub means : Means (shape_of books.checked) call told s (state_after_acts V (shape_of books.checked) m plan)
+  pub marks : Marks V (shape_of books.checked) (state_after_acts V (shape_of books.checked) m plan).words call told plan
+  pub ends : AreBooksOf V books (state_after_acts V (shape_of books.checked) m plan)
 
 -- a put of a new key has a least path, and no item is free
 pub record Waits (V : ℕ) (books : Books) (k : ℕ) (s : State V) (path : Path) : Type 0 where
@@ -152,30 +152,30 @@ pub record MakesPlan (V : ℕ) (books : Books) (plan : List Act) (many : ℕ) (c
   pub parts : acts ≡ hand_acts sweep ++ others
   pub hands : AreAllowed (shape_of books.checked) s (hand_acts sweep)
   pub sweeps : IsSweepOf V (shape_of books.checked) s sweep told
-  pub planned : IsPlanned V books plan call s (swept V (shape_of books.checked) s sweep) told
+  pub planned : IsPlanned V books plan call s (state_after_sweep V (shape_of books.checked) s sweep) told
   pub fits : length plan ≤ 64
   pub within : many ≤ length plan
   pub done : acts_of others ≡ take many plan
 
 -- how far the clerk is in the call, of which these acts were made
-abbrev pub IsAt : (V : ℕ) → Stage V → Books → List Act → ℕ → Call → State V → List Made → Type 0
-IsAt V Idle books plan many call s acts = ⊥
-IsAt V (Sweeping waiting) books plan many call s acts = (rs : List Swept) × IsSweeping V books plan waiting call s rs × IsSome (next_item waiting.sweep) × (many ≡ 0) × (acts ≡ hand_acts rs)
-IsAt V (Planned told) books plan many call s acts = MakesPlan V books plan many call s acts told
+abbrev pub IsAtStage : (V : ℕ) → Stage V → Books → List Act → ℕ → Call → State V → List Made → Type 0
+IsAtStage V Idle books plan many call s acts = ⊥
+IsAtStage V (Sweeping waiting) books plan many call s acts = (rs : List Swept) × IsSweeping V books plan waiting call s rs × IsSome (next_item waiting.sweep) × (many ≡ 0) × (acts ≡ hand_acts rs)
+IsAtStage V (Planned told) books plan many call s acts = MakesPlan V books plan many call s acts told
 
 -- the clerk is in the call, which began in state s, and these acts were made of it
 pub record IsOn (V : ℕ) (clerk : Clerk V) (call : Call) (s : State V) (acts : List Made) : Type 0 where
-  pub begun : IsQuiet V (shape_in clerk) s
-  pub now : IsAt V clerk.stage clerk.books clerk.plan.items clerk.made call s acts
+  pub begun : IsQuiet V (shape_of_clerk clerk) s
+  pub now : IsAtStage V clerk.stage clerk.books clerk.plan.items clerk.made call s acts
 
 -- a call runs: its answer was not taken yet
-abbrev pub Runs : {V : ℕ} → Stage V → Type 0
-Runs Idle = ⊥
-Runs (Sweeping waiting) = IsSome (next_item waiting.sweep)
-Runs (Planned told) = Unit {0}
+abbrev pub StageHasCall : {V : ℕ} → Stage V → Type 0
+StageHasCall Idle = ⊥
+StageHasCall (Sweeping waiting) = IsSome (next_item waiting.sweep)
+StageHasCall (Planned told) = Unit {0}
 
-unfoldable pub IsRunning : {V : ℕ} → Clerk V → Type 0
-IsRunning clerk = Runs clerk.stage
+unfoldable pub HasCall : {V : ℕ} → Clerk V → Type 0
+HasCall clerk = StageHasCall clerk.stage
 
 -- the act that reads an item's bit
 abbrev pub hand_of : Option ℕ → Option Act

@@ -5,8 +5,8 @@ use Rattle.mc_words.specs.declared.shape.Shape.{Shape}
 use Rattle.mc_words.specs.History.{IsWord}
 use Rattle.mc_words.specs.Places.{payload}
 use Rattle.mc_words.specs.Shapes.{IsShape}
-use Rattle.mc_plan.specs.Making.{Fills, Renews, Removes, Evicts}
-use Rattle.mc_plan.specs.Moves.{Moves}
+use Rattle.mc_plan.specs.Making.{ActsFill, ActsRenew, ActsRemove, ActsEvict}
+use Rattle.mc_plan.specs.Moves.{ActsMove}
 use Rattle.mc_plan.specs.Plans.{fill_acts, renew_acts, remove_acts, evict_acts, move_acts}
 
 -- a value: so many words
@@ -14,16 +14,16 @@ abbrev pub IsValue : ℕ → List ℕ → Type 0
 IsValue V v = (length v ≡ payload V) × All IsWord v
 
 abbrev pub FillsPut : ℕ → Type 0
-FillsPut V = (sh : Shape) (k : ℕ) (v : List ℕ) (i : ℕ) (p : Place) → IsShape sh → IsWord k → IsValue V v → Fills V sh k v i p (fill_acts sh k v i p)
+FillsPut V = (sh : Shape) (k : ℕ) (v : List ℕ) (i : ℕ) (p : Place) → IsShape sh → IsWord k → IsValue V v → ActsFill V sh k v i p (fill_acts sh k v i p)
 
 abbrev pub RenewalsPut : ℕ → Type 0
-RenewalsPut V = (sh : Shape) (k : ℕ) (v : List ℕ) (i : ℕ) → IsShape sh → IsWord k → IsValue V v → Renews V sh k v i (renew_acts k v i)
+RenewalsPut V = (sh : Shape) (k : ℕ) (v : List ℕ) (i : ℕ) → IsShape sh → IsWord k → IsValue V v → ActsRenew V sh k v i (renew_acts k v i)
 
 abbrev pub RemovalsTakeOut : ℕ → Type 0
-RemovalsTakeOut V = (sh : Shape) (k : ℕ) (p : Place) → IsShape sh → IsWord k → Removes V sh k p (remove_acts k p)
+RemovalsTakeOut V = (sh : Shape) (k : ℕ) (p : Place) → IsShape sh → IsWord k → ActsRemove V sh k p (remove_acts k p)
 
 abbrev pub EvictionsTakeOut : ℕ → Type 0
-EvictionsTakeOut V = (sh : Shape) (k : ℕ) (p : Place) → IsShape sh → IsWord k → Evicts V sh k p (evict_acts k p)
+EvictionsTakeOut V = (sh : Shape) (k : ℕ) (p : Place) → IsShape sh → IsWord k → ActsEvict V sh k p (evict_acts k p)
 
 abbrev pub MovesKeepTheMap : ℕ → Type 0
-MovesKeepTheMap V = (sh : Shape) (k word : ℕ) (from to : Place) → IsShape sh → IsWord k → Moves V sh k word from to (move_acts k word from to)
+MovesKeepTheMap V = (sh : Shape) (k word : ℕ) (from to : Place) → IsShape sh → IsWord k → ActsMove V sh k word from to (move_acts k word from to)

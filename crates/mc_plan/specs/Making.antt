@@ -22,20 +22,20 @@ pub record IsQuiet (V : ℕ) (sh : Shape) (s : State V) : Type 0 where
   pub counted : StateCounted sh s
 
 -- acts that read no bit, as they are made
-abbrev pub made : List Act → List Made
-made acts = map (λ (a : Act). record { act = a; bit = 0 }) acts
+abbrev pub as_made : List Act → List Made
+as_made acts = map (λ (a : Act). record { act = a; bit = 0 }) acts
 
 -- the state after the acts
-abbrev pub left : (V : ℕ) → Shape → State V → List Act → State V
-left V sh s acts = after_all sh s (made acts)
+abbrev pub state_after_acts : (V : ℕ) → Shape → State V → List Act → State V
+state_after_acts V sh s acts = after_all sh s (as_made acts)
 
 -- each act is allowed after those before it, and they leave a quiet state: its history has these changes more, and so many version changes were made
 pub record Makes (V : ℕ) (sh : Shape) (s : State V) (acts : List Act) (new : List (Change V)) (steps : ℕ) : Type 0 where
-  pub allowed : AreAllowed sh s (made acts)
-  pub quiet : IsQuiet V sh (left V sh s acts)
-  pub history : (left V sh s acts).history ≡ s.history ++ new
-  pub changes : (left V sh s acts).changes ≡ s.changes + steps
-  pub hand : (left V sh s acts).hand ≡ s.hand
+  pub allowed : AreAllowed sh s (as_made acts)
+  pub quiet : IsQuiet V sh (state_after_acts V sh s acts)
+  pub history : (state_after_acts V sh s acts).history ≡ s.history ++ new
+  pub version_steps : (state_after_acts V sh s acts).version_steps ≡ s.version_steps + steps
+  pub hand : (state_after_acts V sh s acts).hand ≡ s.hand
 
 -- the key has room: an item that no slot names, and an empty slot in one of its buckets
 pub record CanFill (V : ℕ) (sh : Shape) (w : List ℕ) (k i : ℕ) (p : Place) : Type 0 where
@@ -46,35 +46,35 @@ pub record CanFill (V : ℕ) (sh : Shape) (w : List ℕ) (k i : ℕ) (p : Place)
   pub bucket : IsBucketOf sh k p.bucket
 
 -- from each quiet state in which the key has room, the acts put the key there, and the slot names it
-abbrev pub Fills : ℕ → Shape → ℕ → List ℕ → ℕ → Place → List Act → Type 0
-Fills V sh k v i p acts =
+abbrev pub ActsFill : ℕ → Shape → ℕ → List ℕ → ℕ → Place → List Act → Type 0
+ActsFill V sh k v i p acts =
     (s : State V) → IsQuiet V sh s → CanFill V sh s.words k i p →
     Makes V sh s acts (Put k v ∷ []) 2 ×
-    Stands V sh (left V sh s acts).words k (slot_number p) i ×
-    SetsSlot sh s.words (left V sh s acts).words (slot_number p) (slot_word (tag_of sh k) i)
+    Stands V sh (state_after_acts V sh s acts).words k (slot_number p) i ×
+    SetsSlot sh s.words (state_after_acts V sh s acts).words (slot_number p) (slot_word (tag_of sh k) i)
 
 -- from each quiet state in which the key stands at the item, the acts put the new value
-abbrev pub Renews : ℕ → Shape → ℕ → List ℕ → ℕ → List Act → Type 0
-Renews V sh k v i acts =
+abbrev pub ActsRenew : ℕ → Shape → ℕ → List ℕ → ℕ → List Act → Type 0
+ActsRenew V sh k v i acts =
     (s : State V) (q : ℕ) → IsQuiet V sh s → Stands V sh s.words k q i →
     Makes V sh s acts (Put k v ∷ []) 2 ×
-    Stands V sh (left V sh s acts).words k q i ×
-    KeepsSlots sh s.words (left V sh s acts).words
+    Stands V sh (state_after_acts V sh s acts).words k q i ×
+    KeepsSlots sh s.words (state_after_acts V sh s acts).words
 
 -- from each quiet state in which the key stands in the slot, the acts take it out: no slot names its item, and all items are as they were
-abbrev pub Removes : ℕ → Shape → ℕ → Place → List Act → Type 0
-Removes V sh k p acts =
+abbrev pub ActsRemove : ℕ → Shape → ℕ → Place → List Act → Type 0
+ActsRemove V sh k p acts =
     (s : State V) (i : ℕ) → IsQuiet V sh s → p.slot < 4 → Stands V sh s.words k (slot_number p) i →
     Makes V sh s acts (Remove k ∷ []) 2 ×
-    IsFree sh (left V sh s acts).words i ×
-    SetsSlot sh s.words (left V sh s acts).words (slot_number p) 0 ×
-    KeepsItems V sh s.words (left V sh s acts).words
+    IsFree sh (state_after_acts V sh s acts).words i ×
+    SetsSlot sh s.words (state_after_acts V sh s acts).words (slot_number p) 0 ×
+    KeepsItems V sh s.words (state_after_acts V sh s acts).words
 
 -- the same of a key at the item whose bit the hand found clear
-abbrev pub Evicts : ℕ → Shape → ℕ → Place → List Act → Type 0
-Evicts V sh k p acts =
+abbrev pub ActsEvict : ℕ → Shape → ℕ → Place → List Act → Type 0
+ActsEvict V sh k p acts =
     (s : State V) (i : ℕ) → IsQuiet V sh s → p.slot < 4 → Stands V sh s.words k (slot_number p) i → s.cleared ≡ Some i →
     Makes V sh s acts (Evict k ∷ []) 2 ×
-    IsFree sh (left V sh s acts).words i ×
-    SetsSlot sh s.words (left V sh s acts).words (slot_number p) 0 ×
-    KeepsItems V sh s.words (left V sh s acts).words
+    IsFree sh (state_after_acts V sh s acts).words i ×
+    SetsSlot sh s.words (state_after_acts V sh s acts).words (slot_number p) 0 ×
+    KeepsItems V sh s.words (state_after_acts V sh s acts).words

@@ -10,7 +10,7 @@ use Rattle.mc_words.specs.Shapes.{IsShape}
 use Rattle.mc_words.specs.Standing.{Stands, IsAbsent, IsFree}
 use Rattle.mc_theory.specs.States.{State}
 use Rattle.mc_theory.specs.declared.act.Act.{Act}
-use Rattle.mc_plan.specs.Making.{IsQuiet, Makes, left}
+use Rattle.mc_plan.specs.Making.{IsQuiet, Makes, state_after_acts}
 use Rattle.mc_search.specs.Kept.{KeepsItems, KeepsNamed}
 use Rattle.mc_plan.specs.Plans.{key_named, moves_acts}
 use Rattle.mc_search.specs.Paths.{first_place}
@@ -30,12 +30,12 @@ pub record MovesSlot (V : ℕ) (sh : Shape) (w later : List ℕ) (from to : ℕ)
   pub items : KeepsItems V sh w later
 
 -- from each quiet state in which the key can move, the acts move it, and no change enters the history
-abbrev pub Moves : ℕ → Shape → ℕ → ℕ → Place → Place → List Act → Type 0
-Moves V sh k word from to acts =
+abbrev pub ActsMove : ℕ → Shape → ℕ → ℕ → Place → Place → List Act → Type 0
+ActsMove V sh k word from to acts =
     (s : State V) (i : ℕ) → IsQuiet V sh s → CanMove V sh s.words k i from to → word ≡ slot sh s.words (slot_number from) →
     Makes V sh s acts [] 2 ×
-    Stands V sh (left V sh s acts).words k (slot_number to) i ×
-    MovesSlot V sh s.words (left V sh s acts).words (slot_number from) (slot_number to)
+    Stands V sh (state_after_acts V sh s acts).words k (slot_number to) i ×
+    MovesSlot V sh s.words (state_after_acts V sh s acts).words (slot_number from) (slot_number to)
 
 -- each of the places is in the table and occupied
 abbrev pub AreTaken : Shape → List ℕ → List Place → Type 0
@@ -48,7 +48,7 @@ AreKeys V sh w [] = Unit {0}
 AreKeys V sh w (p ∷ ps) = IsWord (key_named V sh w p) × AreKeys V sh w ps
 
 -- the key has room where the path begins; where it was absent it still is, and the same items are free
-pub record HasRoom (V : ℕ) (sh : Shape) (w later : List ℕ) (k : ℕ) (first : Place) : Type 0 where
+pub record HasRoomFor (V : ℕ) (sh : Shape) (w later : List ℕ) (k : ℕ) (first : Place) : Type 0 where
   pub hole : IsHole sh later first
   pub bucket : IsBucketOf sh k first.bucket
   pub absent : IsAbsent V sh w k → IsAbsent V sh later k
@@ -60,7 +60,7 @@ abbrev pub MakesRoomFor : ℕ → Shape → List ℕ → ℕ → List Place → 
 MakesRoomFor V sh w k places hole acts =
     (s : State V) → IsQuiet V sh s → s.words ≡ w →
     Makes V sh s acts [] (2 * length places) ×
-    HasRoom V sh w (left V sh s acts).words k (first_place places hole)
+    HasRoomFor V sh w (state_after_acts V sh s acts).words k (first_place places hole)
 
 -- they do so for each key from which the places are a chain to the hole
 abbrev pub MakesRoom : ℕ → Shape → List ℕ → List Place → Place → List Act → Type 0

@@ -7,11 +7,11 @@ use Rattle.mc_words.specs.Chains.{IsChain}
 use Rattle.mc_words.specs.History.{IsWord}
 use Rattle.mc_words.specs.Places.{slot_number}
 use Rattle.mc_words.specs.Shapes.{IsShape}
-use Rattle.mc_words.specs.Standing.{Names, Stands, IsAbsent, IsFree}
+use Rattle.mc_words.specs.Standing.{NamesItem, Stands, IsAbsent, IsFree}
 use Rattle.mc_theory.specs.States.{State}
 use Rattle.mc_theory.specs.declared.act.Act.{Act}
 use Rattle.mc_plan.specs.Laws.{IsValue}
-use Rattle.mc_plan.specs.Making.{IsQuiet, Makes, left}
+use Rattle.mc_plan.specs.Making.{IsQuiet, Makes, state_after_acts}
 use Rattle.mc_search.specs.Kept.{KeepsNamed}
 use Rattle.mc_plan.specs.Moves.{AreKeys}
 use Rattle.mc_plan.specs.Plans.{fill_acts, moves_acts}
@@ -27,7 +27,7 @@ pub record CanPut (V : ℕ) (sh : Shape) (w : List ℕ) (k i : ℕ) (places : Li
 
 -- the item is taken, and each other is free or named as it was
 pub record TakesItem (sh : Shape) (w later : List ℕ) (i : ℕ) : Type 0 where
-  pub taken : (q : ℕ) × Names sh later q i
+  pub taken : (q : ℕ) × NamesItem sh later q i
   pub free : (j : ℕ) → j ≢ i → IsFree sh w j → IsFree sh later j
   pub named : KeepsNamed sh w later
 
@@ -40,5 +40,5 @@ abbrev pub PutsMakeRoom : ℕ → Type 0
 PutsMakeRoom V =
     (sh : Shape) (s : State V) (k : ℕ) (v : List ℕ) (i : ℕ) (places : List Place) (hole : Place) → IsShape sh → IsWord k → IsValue V v → IsQuiet V sh s → CanPut V sh s.words k i places hole →
     Makes V sh s (put_acts V sh s.words k v i places hole) (Put k v ∷ []) (2 * length places + 2) ×
-    Stands V sh (left V sh s (put_acts V sh s.words k v i places hole)).words k (slot_number (first_place places hole)) i ×
-    TakesItem sh s.words (left V sh s (put_acts V sh s.words k v i places hole)).words i
+    Stands V sh (state_after_acts V sh s (put_acts V sh s.words k v i places hole)).words k (slot_number (first_place places hole)) i ×
+    TakesItem sh s.words (state_after_acts V sh s (put_acts V sh s.words k v i places hole)).words i

@@ -11,7 +11,7 @@ use Rattle.mc_words.specs.Standing.{Stands, IsAbsent}
 use Rattle.mc_theory.specs.States.{State}
 use Rattle.mc_theory.specs.declared.act.Act.{Act}
 use Rattle.mc_plan.specs.Laws.{IsValue}
-use Rattle.mc_plan.specs.Making.{IsQuiet, Makes, left}
+use Rattle.mc_plan.specs.Making.{IsQuiet, Makes, state_after_acts}
 use Rattle.mc_search.specs.Kept.{KeepsNamed}
 use Rattle.mc_plan.specs.Moves.{AreKeys}
 use Rattle.mc_search.specs.Paths.{IsCut, first_place}
@@ -36,5 +36,5 @@ abbrev pub EvictionsMakeRoom : ℕ → Type 0
 EvictionsMakeRoom V =
     (sh : Shape) (s : State V) (k : ℕ) (v : List ℕ) (i e : ℕ) (p : Place) (places : List Place) (hole : Place) (kept : List Place) (end : Place) → IsShape sh → IsWord k → IsWord e → IsValue V v → IsQuiet V sh s → s.cleared ≡ Some i → CanReplace V sh s.words k i e p places hole kept end →
     Makes V sh s (replace_acts V sh s.words k v i e p kept end) (Evict e ∷ Put k v ∷ []) (2 * length kept + 4) ×
-    Stands V sh (left V sh s (replace_acts V sh s.words k v i e p kept end)).words k (slot_number (first_place kept end)) i ×
-    KeepsNamed sh s.words (left V sh s (replace_acts V sh s.words k v i e p kept end)).words
+    Stands V sh (state_after_acts V sh s (replace_acts V sh s.words k v i e p kept end)).words k (slot_number (first_place kept end)) i ×
+    KeepsNamed sh s.words (state_after_acts V sh s (replace_acts V sh s.words k v i e p kept end)).words

@@ -12,13 +12,13 @@ ghost use Rattle.mc_plan.specs.Plans.{renew_acts};
 ghost use Rattle.mc_plan.specs.Puts.{put_acts};
 ghost use Rattle.mc_search.specs.Readable.{IsFilled};
 
+use crate::Plan;
 use crate::answer::{Put, PutError, Remove, Spent};
 use crate::fill::add_fill;
 use crate::moves::add_moves;
 use crate::renew::add_renew;
 use crate::take_out::{add_evict, add_remove};
 use crate::waiting::{Start, Waiting};
-use arrayvec::ArrayVec;
 use mc_search::{Finder, FreeItems, Path, Sweep, find, key_at, moment};
 use mc_theory::{Act, Peek};
 use mc_words::{Checked, NoMemory};
@@ -32,12 +32,12 @@ pub(crate) struct Books {
     /// The item at which the hand stands, but while a call sweeps: at which it stood when the call began.
     hand: u32,
     /// The version changes, with those of the plan.
-    changes: u64,
+    version_steps: u64,
 }
 
 impl Books {
     ghost use Rattle.mc_theory.specs.declared.act.Act.TheVariants as act;
-    ghost use Rattle.mc_plan.specs.Clerks.{AreBooksOf, Call, IsPlanned, IsSweepOf, IsSweeping, RemoveCall, quiet_of, swept};
+    ghost use Rattle.mc_plan.specs.Clerks.{AreBooksOf, Call, IsPlanned, IsSweepOf, IsSweeping, RemoveCall, quiet_of, state_after_sweep};
     ghost use Rattle.mc_plan.specs.Inside.Clerks.{IsReplacing, IsStarted};
     ghost use Rattle.mc_search.specs.Sweeps.{HasSwept, IsOver, Swept};
     ghost use Rattle.mc_plan.specs.declared.answer.Answer.TheVariants as answer;
@@ -54,46 +54,40 @@ impl Books {
             finder,
             free,
             hand: 0,
-            changes: 0,
+            version_steps: 0,
         })
     }
 
     /// Whether so many version changes more could pass the limit.
     fn is_spent(&self, changes: u64) -> bool
         requires { changes < 2 ^ 8 }
-        ensures { IsTrue result ↔ ((shape_of self.now.checked).limit < self.now.changes + changes) }
+        ensures { IsTrue result ↔ ((shape_of self.now.checked).limit < self.now.version_steps + changes) }
     {
         let limit = self.checked.shape().limit;
-        changes > limit || self.changes > limit - changes
+        changes > limit || self.version_steps > limit - changes
     }
 
     /// Ends the plan of a put: its item is marked, and its version changes are counted.
-    fn end(&mut self, plan: &mut ArrayVec<Act, 64>, item: u32, changes: u64)
+    fn end(&mut self, plan: &mut Plan, item: u32, changes: u64)
         requires plan { array_vec_len plan.old < 64 }
-        requires room { self.old.changes + changes < 2 ^ 64 }
+        requires room { self.old.version_steps + changes < 2 ^ 64 }
         ensures plan { plan.new.items ≡ plan.old.items ++ act.Mark item ∷ [] }
         ensures many { array_vec_len plan.new ≡ array_vec_len plan.old + 1 }
-        ensures books { self.new ≡ record self.old { changes = self.old.changes + changes } }
+        ensures books { self.new ≡ record self.old { version_steps = self.old.version_steps + changes } }
     {
         plan.push(Act::Mark(item));
-        self.changes += changes;
+        self.version_steps += changes;
     }
 
     /// Plans a new value of the key that stands at the item.
-    fn renew<const V: usize>(
-        &mut self,
-        plan: &mut ArrayVec<Act, 64>,
-        key: u64,
-        value: &[u64; V],
-        item: u32,
-    )
+    fn renew<const V: usize>(&mut self, plan: &mut Plan, key: u64, value: &[u64; V], item: u32)
         requires width { IsWidth V }
         requires plan { plan.old.items ≡ [] }
-        requires room { self.old.changes < 2 ^ 63 }
+        requires room { self.old.version_steps < 2 ^ 63 }
         ensures plan { plan.new.items ≡ renew_acts key value.now item ++ act.Mark item ∷ [] }
         ensures fits { array_vec_len plan.new ≤ 64 }
         ensures words { All IsWord value.now }
-        ensures books { self.new ≡ record self.old { changes = self.old.changes + 2 } }
+        ensures books { self.new ≡ record self.old { version_steps = self.old.version_steps + 2 } }
     {
         add_renew(plan, key, value, item);
         self.end(plan, item, 2);
@@ -103,7 +97,7 @@ impl Books {
     fn fill<const V: usize, P: Peek>(
         &mut self,
         peek: &mut P,
-        plan: &mut ArrayVec<Act, 64>,
+        plan: &mut Plan,
         key: u64,
         value: &[u64; V],
         item: u32,
@@ -116,12 +110,12 @@ impl Books {
         requires within { length path.now.places.items ≤ 8 }
         requires item { item < (shape_of self.old.checked).items }
         requires plan { array_vec_len plan.old ≤ 4 }
-        requires room { self.old.changes < 2 ^ 63 }
+        requires room { self.old.version_steps < 2 ^ 63 }
         ensures plan { plan.new.items ≡ (plan.old.items ++ put_acts V (shape_of self.old.checked) (P.words peek.old) key value.now item path.now.places.items path.now.hole) ++ act.Mark item ∷ [] }
         ensures fits { array_vec_len plan.new ≤ 64 }
         ensures words { All IsWord value.now }
         ensures keys { AreKeys V (shape_of self.old.checked) (P.words peek.old) path.now.places.items }
-        ensures books { self.new ≡ record self.old { changes = self.old.changes + (2 * length path.now.places.items + 2) } }
+        ensures books { self.new ≡ record self.old { version_steps = self.old.version_steps + (2 * length path.now.places.items + 2) } }
         ensures same { P.words peek.new ≡ P.words peek.old }
         ensures kept { peek.new ≡ peek.old }
     {
@@ -134,7 +128,7 @@ impl Books {
     fn store<const V: usize, P: Peek>(
         &mut self,
         peek: &mut P,
-        plan: &mut ArrayVec<Act, 64>,
+        plan: &mut Plan,
         key: u64,
         value: &[u64; V],
         at: u64,
@@ -167,7 +161,7 @@ impl Books {
     pub(crate) fn put<const V: usize, P: Peek>(
         &mut self,
         peek: &mut P,
-        plan: &mut ArrayVec<Act, 64>,
+        plan: &mut Plan,
         key: u64,
         value: &[u64; V],
     ) -> Start
@@ -206,12 +200,12 @@ impl Books {
     fn replace<const V: usize, P: Peek>(
         &mut self,
         peek: &mut P,
-        plan: &mut ArrayVec<Act, 64>,
+        plan: &mut Plan,
         waiting: Waiting<V>,
         item: u32,
     ) -> Put
         requires books { (call : Call) × (s : State V) × (rs : List Swept) × IsReplacing V self.old plan.old.items waiting call s rs item × (P.words peek.old ≡ s.words) }
-        ensures planned { (call : Call) (s : State V) (rs : List Swept) → IsReplacing V self.old plan.old.items waiting.entry call s rs item → P.words peek.old ≡ s.words → IsPlanned V self.new plan.new.items call s (swept V (shape_of self.old.checked) s rs) (answer.Put (Ok result)) × IsSweepOf V (shape_of self.old.checked) s rs (answer.Put (Ok result)) }
+        ensures planned { (call : Call) (s : State V) (rs : List Swept) → IsReplacing V self.old plan.old.items waiting.entry call s rs item → P.words peek.old ≡ s.words → IsPlanned V self.new plan.new.items call s (state_after_sweep V (shape_of self.old.checked) s rs) (answer.Put (Ok result)) × IsSweepOf V (shape_of self.old.checked) s rs (answer.Put (Ok result)) }
         ensures fits { array_vec_len plan.new ≤ 64 }
         ensures shape { self.new.checked ≡ self.old.checked }
         ensures same { P.words peek.new ≡ P.words peek.old }
@@ -225,7 +219,7 @@ impl Books {
         let path = waiting.path.cut_at(place);
         add_evict(plan, evicted, place);
         self.fill::<V, P>(peek, plan, waiting.key, &waiting.value, item, &path);
-        self.changes += 2;
+        self.version_steps += 2;
         let moves = path.places.len() as u8;
         Put::Stored {
             at,
@@ -238,11 +232,11 @@ impl Books {
     pub(crate) fn go_on<const V: usize, P: Peek>(
         &mut self,
         peek: &mut P,
-        plan: &mut ArrayVec<Act, 64>,
+        plan: &mut Plan,
         waiting: Waiting<V>,
     ) -> Result<Put, PutError>
         requires over { (call : Call) × (s : State V) × (rs : List Swept) × IsSweeping V self.old plan.old.items waiting call s rs × IsOver (shape_of self.old.checked).items rs × (P.words peek.old ≡ s.words) }
-        ensures planned { (call : Call) (s : State V) (rs : List Swept) → IsSweeping V self.old plan.old.items waiting.entry call s rs → IsOver (shape_of self.old.checked).items rs → P.words peek.old ≡ s.words → IsPlanned V self.new plan.new.items call s (swept V (shape_of self.old.checked) s rs) (answer.Put result) × IsSweepOf V (shape_of self.old.checked) s rs (answer.Put result) }
+        ensures planned { (call : Call) (s : State V) (rs : List Swept) → IsSweeping V self.old plan.old.items waiting.entry call s rs → IsOver (shape_of self.old.checked).items rs → P.words peek.old ≡ s.words → IsPlanned V self.new plan.new.items call s (state_after_sweep V (shape_of self.old.checked) s rs) (answer.Put result) × IsSweepOf V (shape_of self.old.checked) s rs (answer.Put result) }
         ensures fits { array_vec_len plan.new ≤ 64 }
         ensures shape { self.new.checked ≡ self.old.checked }
         ensures same { P.words peek.new ≡ P.words peek.old }
@@ -259,7 +253,7 @@ impl Books {
     pub(crate) fn remove<const V: usize, P: Peek>(
         &mut self,
         peek: &mut P,
-        plan: &mut ArrayVec<Act, 64>,
+        plan: &mut Plan,
         key: u64,
     ) -> Result<Remove, Spent>
         requires books { (s : State V) × AreBooksOf V self.old s × (P.words peek.old ≡ s.words) }
@@ -278,7 +272,7 @@ impl Books {
             Some((place, item)) => {
                 add_remove(plan, key, place);
                 self.free.give(item);
-                self.changes += 2;
+                self.version_steps += 2;
                 Ok(Remove::Removed { at: at + 1 })
             }
             None => Ok(Remove::NotThere { at }),

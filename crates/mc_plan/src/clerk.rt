@@ -5,8 +5,9 @@ ghost use Rattle.mc_words.specs.Places.{IsWidth};
 ghost use Rattle.mc_theory.specs.Acts.{IsAllowed};
 ghost use Rattle.mc_theory.specs.Lists.{Made, after_all};
 ghost use Rattle.mc_theory.specs.States.{State, opening};
-ghost use Rattle.mc_theory.specs.Worlds.{HasChanges};
+ghost use Rattle.mc_theory.specs.Traces.{HasVersionSteps};
 
+use crate::Plan;
 use crate::answer::Answer;
 use crate::books::Books;
 use crate::waiting::{Start, Waiting};
@@ -32,14 +33,14 @@ enum Stage<const V: usize> {
 pub struct Clerk<const V: usize> {
     books: Books,
     stage: Stage<V>,
-    plan: ArrayVec<Act, 64>,
+    plan: Plan,
     /// How many acts of the plan were made.
     made: usize,
 }
 
 impl<const V: usize> Clerk<V> {
     ghost use Rattle.mc_theory.specs.declared.act.Act.{Act};
-    ghost use Rattle.mc_plan.specs.Clerks.{Call, PutCall, RemoveCall, Knows, IsOn, IsRunning, Answered, next_act, acts_left, shape_in};
+    ghost use Rattle.mc_plan.specs.Clerks.{Call, PutCall, RemoveCall, Knows, IsOn, HasCall, Answered, next_act, acts_left, shape_of_clerk};
     ghost use Rattle.mc_plan.specs.Inside.Clerks.{HasEndedSweep};
     ghost use Rattle.mc_search.specs.Sweeps.{Swept, hand_acts};
 
@@ -47,7 +48,7 @@ impl<const V: usize> Clerk<V> {
     pub fn new(alloc: Global, checked: &Checked) -> Result<Clerk<V>, NoMemory>
         requires width { IsWidth V }
         ensures knows { IfOk result (λ clerk. Knows V clerk (opening V (shape_of checked.now))) }
-        ensures shape { IfOk result (λ clerk. shape_in clerk ≡ shape_of checked.now) }
+        ensures shape { IfOk result (λ clerk. shape_of_clerk clerk ≡ shape_of checked.now) }
     {
         let books = Books::new(alloc, checked)?;
         Ok(Clerk {
@@ -62,8 +63,8 @@ impl<const V: usize> Clerk<V> {
     pub fn put<P: Peek>(&mut self, peek: &mut P, key: u64, value: [u64; V])
         requires { (s : State V) × Knows V self.old s × (P.words peek.old ≡ s.words) }
         ensures on { (s : State V) → Knows V self.old s → P.words peek.old ≡ s.words → IsOn V self.new (PutCall key value.entry) s [] }
-        ensures left { acts_left self.new ≤ 2 * (shape_in self.new).items + 64 }
-        ensures shape { shape_in self.new ≡ shape_in self.old }
+        ensures left { acts_left self.new ≤ 2 * (shape_of_clerk self.new).items + 64 }
+        ensures shape { shape_of_clerk self.new ≡ shape_of_clerk self.old }
         ensures same { P.words peek.new ≡ P.words peek.old }
         ensures kept { peek.new ≡ peek.old }
     {
@@ -85,7 +86,7 @@ impl<const V: usize> Clerk<V> {
         requires { (s : State V) × Knows V self.old s × (P.words peek.old ≡ s.words) }
         ensures on { (s : State V) → Knows V self.old s → P.words peek.old ≡ s.words → IsOn V self.new (RemoveCall key) s [] }
         ensures left { acts_left self.new ≤ 64 }
-        ensures shape { shape_in self.new ≡ shape_in self.old }
+        ensures shape { shape_of_clerk self.new ≡ shape_of_clerk self.old }
         ensures same { P.words peek.new ≡ P.words peek.old }
         ensures kept { peek.new ≡ peek.old }
     {
@@ -98,7 +99,7 @@ impl<const V: usize> Clerk<V> {
     /// The act that is to be made next, while one is left.
     pub fn next(&self) -> Option<Act>
         ensures value { result ≡ next_act self.now }
-        ensures allowed { (call : Call) (s : State V) (acts : List Made) → IsOn V self.now call s acts → IfSome result (λ a. IsAllowed (shape_in self.now) (after_all (shape_in self.now) s acts) a × HasChanges (shape_in self.now).limit (after_all (shape_in self.now) s acts).changes a) }
+        ensures allowed { (call : Call) (s : State V) (acts : List Made) → IsOn V self.now call s acts → IfSome result (λ a. IsAllowed (shape_of_clerk self.now) (after_all (shape_of_clerk self.now) s acts) a × HasVersionSteps (shape_of_clerk self.now).limit (after_all (shape_of_clerk self.now) s acts).version_steps a) }
     {
         match &self.stage {
             Stage::Idle => None,
@@ -112,7 +113,7 @@ impl<const V: usize> Clerk<V> {
         requires over { (call : Call) × (s : State V) × (rs : List Swept) × HasEndedSweep V self.old call s rs × (P.words peek.old ≡ s.words) }
         ensures on { (call : Call) (s : State V) (rs : List Swept) → HasEndedSweep V self.old call s rs → P.words peek.old ≡ s.words → IsOn V self.new call s (hand_acts rs) }
         ensures left { acts_left self.new ≤ 64 }
-        ensures shape { shape_in self.new ≡ shape_in self.old }
+        ensures shape { shape_of_clerk self.new ≡ shape_of_clerk self.old }
         ensures same { P.words peek.new ≡ P.words peek.old }
         ensures kept { peek.new ≡ peek.old }
     {
@@ -125,10 +126,10 @@ impl<const V: usize> Clerk<V> {
 
     /// Goes on after the next act was made. `word` is the bit that it read, where it was one of the hand.
     pub fn after<P: Peek>(&mut self, peek: &mut P, word: u64)
-        requires { (call : Call) × (s : State V) × (acts : List Made) × (a : Act) × IsOn V self.old call s acts × (next_act self.old ≡ Some a) × (P.words peek.old ≡ (after_all (shape_in self.old) s (acts ++ record { act = a; bit = word } ∷ [])).words) }
-        ensures on { (call : Call) (s : State V) (acts : List Made) (a : Act) → IsOn V self.old call s acts → next_act self.old ≡ Some a → P.words peek.old ≡ (after_all (shape_in self.old) s (acts ++ record { act = a; bit = word } ∷ [])).words → IsOn V self.new call s (acts ++ record { act = a; bit = word } ∷ []) }
+        requires { (call : Call) × (s : State V) × (acts : List Made) × (a : Act) × IsOn V self.old call s acts × (next_act self.old ≡ Some a) × (P.words peek.old ≡ (after_all (shape_of_clerk self.old) s (acts ++ record { act = a; bit = word } ∷ [])).words) }
+        ensures on { (call : Call) (s : State V) (acts : List Made) (a : Act) → IsOn V self.old call s acts → next_act self.old ≡ Some a → P.words peek.old ≡ (after_all (shape_of_clerk self.old) s (acts ++ record { act = a; bit = word } ∷ [])).words → IsOn V self.new call s (acts ++ record { act = a; bit = word } ∷ []) }
         ensures left { acts_left self.new < acts_left self.old }
-        ensures shape { shape_in self.new ≡ shape_in self.old }
+        ensures shape { shape_of_clerk self.new ≡ shape_of_clerk self.old }
         ensures same { P.words peek.new ≡ P.words peek.old }
         ensures kept { peek.new ≡ peek.old }
     {
@@ -146,11 +147,11 @@ impl<const V: usize> Clerk<V> {
 
     /// Takes the answer, once no act is left. The call ends with it.
     pub fn answer(&mut self) -> Option<Answer>
-        ensures some { IsSome result ↔ (IsRunning self.old × (next_act self.old ≡ None)) }
+        ensures some { IsSome result ↔ (HasCall self.old × (next_act self.old ≡ None)) }
         ensures due { (call : Call) (s : State V) (acts : List Made) → IsOn V self.old call s acts → next_act self.old ≡ None → IsSome result }
-        ensures told { IfSome result (λ told. (call : Call) (s : State V) (acts : List Made) → IsOn V self.old call s acts → Answered V (shape_in self.old) call s acts told × Knows V self.new (after_all (shape_in self.old) s acts)) }
+        ensures told { IfSome result (λ told. (call : Call) (s : State V) (acts : List Made) → IsOn V self.old call s acts → Answered V (shape_of_clerk self.old) call s acts told × Knows V self.new (after_all (shape_of_clerk self.old) s acts)) }
         ensures none { IfNone result (self.new ≡ self.old) }
-        ensures shape { shape_in self.new ≡ shape_in self.old }
+        ensures shape { shape_of_clerk self.new ≡ shape_of_clerk self.old }
     {
         if self.next().is_some() {
             return None;

@@ -4,9 +4,10 @@ ghost use Rattle.arrayvec.specs.ArrayVec.{array_vec_len};
 ghost use Rattle.mc_words.specs.Checks.{shape_of};
 ghost use Rattle.mc_words.specs.History.{IsWord};
 ghost use Rattle.mc_words.specs.Places.{IsWidth};
-ghost use Rattle.mc_plan.specs.Making.{Fills};
+ghost use Rattle.mc_plan.specs.Making.{ActsFill};
 ghost use Rattle.mc_plan.specs.Plans.{fill_acts};
 
+use crate::Plan;
 use crate::value::{add_value, words_of};
 use arrayvec::ArrayVec;
 use mc_theory::{Act, Deed};
@@ -15,7 +16,7 @@ use mc_words::{Checked, Place};
 /// Adds the acts that put a key, at a free item and in an empty slot of one of its buckets.
 pub fn add_fill<const V: usize>(
     checked: &Checked,
-    acts: &mut ArrayVec<Act, 64>,
+    acts: &mut Plan,
     key: u64,
     value: &[u64; V],
     item: u32,
@@ -44,11 +45,11 @@ pub fn plan_fill<const V: usize>(
     value: &[u64; V],
     item: u32,
     place: Place,
-) -> ArrayVec<Act, 64>
+) -> Plan
     requires width { IsWidth V }
     requires item { item < (shape_of checked.now).items }
     ensures items { result.items ≡ fill_acts (shape_of checked.now) key value.now item place }
-    ensures law { Fills V (shape_of checked.now) key value.now item place result.items }
+    ensures law { ActsFill V (shape_of checked.now) key value.now item place result.items }
 {
     let mut acts = ArrayVec::new();
     add_fill(checked, &mut acts, key, value, item, place);

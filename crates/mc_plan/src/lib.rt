@@ -17,9 +17,14 @@ mod value;
 mod waiting;
 
 pub use answer::{Answer, Put, PutError, Remove, Spent};
+use arrayvec::ArrayVec;
 pub use clerk::Clerk;
 pub use fill::{add_fill, plan_fill};
 pub use mc_search::{Finder, NoMemory, Path, Peek, Sweep, find, moment, read};
+use mc_theory::Act;
 pub use moves::{add_move, add_moves, plan_moves};
 pub use renew::{add_renew, plan_renew};
 pub use take_out::{add_evict, add_remove, plan_evict, plan_remove};
+
+/// The acts of a plan, in their order.
+pub type Plan = ArrayVec<Act, 64>;

@@ -9,6 +9,7 @@ ghost use Rattle.mc_plan.specs.Plans.{item_in, move_acts, moves_acts};
 ghost use Rattle.mc_search.specs.Readable.{IsFilled};
 ghost use Rattle.mc_search.specs.Inside.Readable.{NamesSome};
 
+use crate::Plan;
 use arrayvec::ArrayVec;
 use mc_search::{Path, key_at, slot_at};
 use mc_theory::{Act, Deed, Peek};
@@ -16,7 +17,7 @@ use mc_words::{Checked, Place};
 
 /// Adds the acts that move the key to an empty slot of its other bucket. The new slot is written before the old one
 /// is cleared.
-pub fn add_move(acts: &mut ArrayVec<Act, 64>, key: u64, word: u64, from: Place, to: Place)
+pub fn add_move(acts: &mut Plan, key: u64, word: u64, from: Place, to: Place)
     requires room { array_vec_len acts.old + 4 ≤ 64 }
     ensures items { acts.new.items ≡ acts.old.items ++ move_acts key word from to }
     ensures many { array_vec_len acts.new ≡ array_vec_len acts.old + 4 }
@@ -46,7 +47,7 @@ fn key_in<const V: usize, P: Peek>(checked: &Checked, peek: &mut P, word: u64) -
 pub fn add_moves<const V: usize, P: Peek>(
     checked: &Checked,
     peek: &mut P,
-    acts: &mut ArrayVec<Act, 64>,
+    acts: &mut Plan,
     path: &Path,
 )
     requires width { IsWidth V }
@@ -73,11 +74,7 @@ pub fn add_moves<const V: usize, P: Peek>(
 }
 
 /// The acts that make room where the path begins, by moving the items at its places, the last one first.
-pub fn plan_moves<const V: usize, P: Peek>(
-    checked: &Checked,
-    peek: &mut P,
-    path: &Path,
-) -> ArrayVec<Act, 64>
+pub fn plan_moves<const V: usize, P: Peek>(checked: &Checked, peek: &mut P, path: &Path) -> Plan
     requires width { IsWidth V }
     requires words { word_count V (shape_of checked.now) ≤ length (P.words peek.old) }
     requires filled { IsFilled (shape_of checked.now) (P.words peek.old) }

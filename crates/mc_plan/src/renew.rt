@@ -5,20 +5,16 @@ ghost use Rattle.mc_words.specs.declared.shape.Shape.{Shape};
 ghost use Rattle.mc_words.specs.History.{IsWord};
 ghost use Rattle.mc_words.specs.Places.{IsWidth};
 ghost use Rattle.mc_words.specs.Shapes.{IsShape};
-ghost use Rattle.mc_plan.specs.Making.{Renews};
+ghost use Rattle.mc_plan.specs.Making.{ActsRenew};
 ghost use Rattle.mc_plan.specs.Plans.{renew_acts};
 
+use crate::Plan;
 use crate::value::{add_value, words_of};
 use arrayvec::ArrayVec;
 use mc_theory::{Act, Deed};
 
 /// Adds the acts that put a new value of the key that stands at the item.
-pub fn add_renew<const V: usize>(
-    acts: &mut ArrayVec<Act, 64>,
-    key: u64,
-    value: &[u64; V],
-    item: u32,
-)
+pub fn add_renew<const V: usize>(acts: &mut Plan, key: u64, value: &[u64; V], item: u32)
     requires width { IsWidth V }
     requires room { array_vec_len acts.old + V + 3 ≤ 64 }
     ensures items { acts.new.items ≡ acts.old.items ++ renew_acts key value.now item }
@@ -32,10 +28,10 @@ pub fn add_renew<const V: usize>(
 }
 
 /// The acts that put a new value of the key that stands at the item.
-pub fn plan_renew<const V: usize>(key: u64, value: &[u64; V], item: u32) -> ArrayVec<Act, 64>
+pub fn plan_renew<const V: usize>(key: u64, value: &[u64; V], item: u32) -> Plan
     requires width { IsWidth V }
     ensures items { result.items ≡ renew_acts key value.now item }
-    ensures law { (sh : Shape) → IsShape sh → Renews V sh key value.now item result.items }
+    ensures law { (sh : Shape) → IsShape sh → ActsRenew V sh key value.now item result.items }
 {
     let mut acts = ArrayVec::new();
     add_renew(&mut acts, key, value, item);

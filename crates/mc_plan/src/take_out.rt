@@ -3,15 +3,16 @@ ghost use Rattle.std.specs.Prelude.{ℕ, ◌≡◌, ◌+◌, ◌≤◌, ◌++◌
 ghost use Rattle.arrayvec.specs.ArrayVec.{array_vec_len};
 ghost use Rattle.mc_words.specs.declared.shape.Shape.{Shape};
 ghost use Rattle.mc_words.specs.Shapes.{IsShape};
-ghost use Rattle.mc_plan.specs.Making.{Removes, Evicts};
+ghost use Rattle.mc_plan.specs.Making.{ActsRemove, ActsEvict};
 ghost use Rattle.mc_plan.specs.Plans.{take_out_acts, remove_acts, evict_acts};
 
+use crate::Plan;
 use arrayvec::ArrayVec;
 use mc_theory::{Act, Deed};
 use mc_words::Place;
 
 /// Adds the acts that take out the key that stands in the slot, by a removal or an eviction.
-fn add_take_out(acts: &mut ArrayVec<Act, 64>, key: u64, deed: Deed, place: Place)
+fn add_take_out(acts: &mut Plan, key: u64, deed: Deed, place: Place)
     requires room { array_vec_len acts.old + 4 ≤ 64 }
     ensures items { acts.new.items ≡ acts.old.items ++ take_out_acts key deed place }
     ensures many { array_vec_len acts.new ≡ array_vec_len acts.old + 4 }
@@ -23,7 +24,7 @@ fn add_take_out(acts: &mut ArrayVec<Act, 64>, key: u64, deed: Deed, place: Place
 }
 
 /// Adds the acts that take out the key that stands in the slot.
-pub fn add_remove(acts: &mut ArrayVec<Act, 64>, key: u64, place: Place)
+pub fn add_remove(acts: &mut Plan, key: u64, place: Place)
     requires room { array_vec_len acts.old + 4 ≤ 64 }
     ensures items { acts.new.items ≡ acts.old.items ++ remove_acts key place }
     ensures many { array_vec_len acts.new ≡ array_vec_len acts.old + 4 }
@@ -32,7 +33,7 @@ pub fn add_remove(acts: &mut ArrayVec<Act, 64>, key: u64, place: Place)
 }
 
 /// Adds the acts that take out the key that stands in the slot, to make room for another.
-pub fn add_evict(acts: &mut ArrayVec<Act, 64>, key: u64, place: Place)
+pub fn add_evict(acts: &mut Plan, key: u64, place: Place)
     requires room { array_vec_len acts.old + 4 ≤ 64 }
     ensures items { acts.new.items ≡ acts.old.items ++ evict_acts key place }
     ensures many { array_vec_len acts.new ≡ array_vec_len acts.old + 4 }
@@ -41,9 +42,9 @@ pub fn add_evict(acts: &mut ArrayVec<Act, 64>, key: u64, place: Place)
 }
 
 /// The acts that take out the key that stands in the slot.
-pub fn plan_remove(key: u64, place: Place) -> ArrayVec<Act, 64>
+pub fn plan_remove(key: u64, place: Place) -> Plan
     ensures items { result.items ≡ remove_acts key place }
-    ensures law { (V : ℕ) (sh : Shape) → IsShape sh → Removes V sh key place result.items }
+    ensures law { (V : ℕ) (sh : Shape) → IsShape sh → ActsRemove V sh key place result.items }
 {
     let mut acts = ArrayVec::new();
     add_remove(&mut acts, key, place);
@@ -51,9 +52,9 @@ pub fn plan_remove(key: u64, place: Place) -> ArrayVec<Act, 64>
 }
 
 /// The acts that take out the key that stands in the slot, to make room for another.
-pub fn plan_evict(key: u64, place: Place) -> ArrayVec<Act, 64>
+pub fn plan_evict(key: u64, place: Place) -> Plan
     ensures items { result.items ≡ evict_acts key place }
-    ensures law { (V : ℕ) (sh : Shape) → IsShape sh → Evicts V sh key place result.items }
+    ensures law { (V : ℕ) (sh : Shape) → IsShape sh → ActsEvict V sh key place result.items }
 {
     let mut acts = ArrayVec::new();
     add_evict(&mut acts, key, place);

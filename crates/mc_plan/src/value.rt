@@ -4,7 +4,7 @@ ghost use Rattle.arrayvec.specs.ArrayVec.{array_vec_len};
 ghost use Rattle.mc_words.specs.History.{IsWord};
 ghost use Rattle.mc_plan.specs.Plans.{value_acts};
 
-use arrayvec::ArrayVec;
+use crate::Plan;
 use mc_theory::Act;
 
 /// The words of a value as a slice.
@@ -16,7 +16,7 @@ pub(crate) fn words_of<const V: usize>(value: &[u64; V]) -> &[u64]
 }
 
 /// Adds the writes of the words into the item, after its key.
-pub(crate) fn add_value(acts: &mut ArrayVec<Act, 64>, item: u32, value: &[u64])
+pub(crate) fn add_value(acts: &mut Plan, item: u32, value: &[u64])
     requires width { length value.now ≤ 8 }
     requires room { array_vec_len acts.old + length value.now ≤ 64 }
     ensures items { acts.new.items ≡ acts.old.items ++ value_acts item 1 value.now }

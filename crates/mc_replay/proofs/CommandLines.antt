@@ -6,7 +6,7 @@ use Rattle.mc_words.specs.declared.history.Reply.{Reply}
 use Rattle.mc_words.specs.declared.shape.Shape.{Shape}
 use Rattle.mc_theory.specs.Lists.{state_of}
 use Rattle.mc_theory.specs.States.{State}
-use Rattle.mc_theory.specs.Worlds.{World}
+use Rattle.mc_theory.specs.Traces.{Trace}
 use Rattle.mc_plan.specs.Clerks as clerks
 use Rattle.mc_plan.specs.Clerks.{Answered, Call, Knows, next_act, acts_left}
 use Rattle.mc_plan.specs.declared.answer.Answer.{Answer}
@@ -15,7 +15,7 @@ use Rattle.mc_replay.specs.declared.fault.Fault.{Fault}
 use Rattle.mc_replay.specs.declared.fault.Fault.TheVariants.{ReadFailed, NoMemory, TooLong, NotACommand, BadNumber, NoSuchReader, StillRunning, NothingToStep, WriteFailed}
 use Rattle.mc_replay.specs.declared.player.Player.{Player}
 use Rattle.mc_replay.specs.Replay.{Replay, Pending, IsUnanswered, WriterMakes, WhereIdle, CallDoes, BeginDoes, GetDoes, ActDoes}
-use Rattle.mc_replay.specs.Inside.Players.{shape_in, most_steps, HasRoom, IsIdle, IsRunning, FitsCall, Fits, FitsStill, with_acts, Begins, MakesAct, CallIsWhole, Looks, DoneAs, ActsSoFar}
+use Rattle.mc_replay.specs.Inside.Players.{shape_of_player, most_steps, HasRoom, IsIdle, IsMidCall, FitsCall, Fits, FitsStill, with_acts, Begins, MakesAct, CallIsWhole, Looks, DoneAs, ActsSoFar}
 use Rattle.mc_replay.specs.Replay.{pending}
 use Rattle.mc_replay.specs.Texts.{answer_line, reply_line}
 use Rattle.mc_plan.proofs.Calls.CanEnd.{can_end}
@@ -28,12 +28,12 @@ unfolding next_act
 knows_no_act V clerk s knows = ap (λ y. is_some (clerks.next_in y clerk.plan.items clerk.made)) knows.idle
 
 -- the clerk has no act to make: no call runs
-pub idle_of : (V : ℕ) (player : Player V) (most : ℕ) (running : Option (Pending V)) (w : World V) → FitsCall V player most running w → is_some (next_act player.clerk) ≡ false → (running ≡ None) × IsIdle V player most w
+pub idle_of : (V : ℕ) (player : Player V) (most : ℕ) (running : Option (Pending V)) (w : Trace V) → FitsCall V player most running w → is_some (next_act player.clerk) ≡ false → (running ≡ None) × IsIdle V player most w
 idle_of V player most None w fits none = (refl, fits)
 idle_of V player most (Some p) w fits none = absurd (false≢true (sym none ∙ fits.1))
 
 -- the clerk has one: a call runs
-pub runs_of : (V : ℕ) (player : Player V) (most : ℕ) (running : Option (Pending V)) (w : World V) → FitsCall V player most running w → is_some (next_act player.clerk) ≡ true → (p : Pending V) × (running ≡ Some p) × IsRunning V player most p w
+pub runs_of : (V : ℕ) (player : Player V) (most : ℕ) (running : Option (Pending V)) (w : Trace V) → FitsCall V player most running w → is_some (next_act player.clerk) ≡ true → (p : Pending V) × (running ≡ Some p) × IsMidCall V player most p w
 runs_of V player most None w fits some = absurd (false≢true (sym (knows_no_act V player.clerk _ fits.knows) ∙ some))
 runs_of V player most (Some p) w fits some = (p, refl, fits)
 
@@ -61,23 +61,23 @@ pub wanted : {V : ℕ} (P : List ℕ → Option Fault → Replay V → Type 0) (
 wanted {V} P text t fault e = subst (λ (f : Fault). DoneAs {V = V} P text t (Err f)) (sym e) tt
 
 -- ---- whole calls
-pub idle_in : {V : ℕ} → World V → Replay V
+pub idle_in : {V : ℕ} → Trace V → Replay V
 idle_in w = record { world = w; running = None }
 
 pub call_done : (V : ℕ) (old new : Player V) (most : ℕ) (call : Call) (s : Replay V) (a : Answer) (text : List ℕ) → s.running ≡ None → (whole : CallIsWhole V old new most call s.world a) → text ≡ answer_line a
-    → CallDoes (shape_in old) s call text None (idle_in whole.after) × FitsStill V old new (most + most_steps) (idle_in whole.after)
+    → CallDoes (shape_of_player old) s call text None (idle_in whole.after) × FitsStill V old new (most + most_steps) (idle_in whole.after)
 unfolding idle_in
 call_done V old new most call s a text none whole is =
     (inl (none, refl, (a, whole.acts, record { makes = whole.makes; answered = whole.answered; idle = refl }, is)), (whole.shape, whole.idle))
 
 pub get_done : (V : ℕ) (old new : Player V) (most k : ℕ) (s : Replay V) (reply : Reply V) (text : List ℕ) → s.running ≡ None → (looks : Looks V old new most k s.world reply) → text ≡ reply_line reply
-    → GetDoes (shape_in old) s k text None (idle_in looks.after) × FitsStill V old new (most + most_steps) (idle_in looks.after)
+    → GetDoes (shape_of_player old) s k text None (idle_in looks.after) × FitsStill V old new (most + most_steps) (idle_in looks.after)
 unfolding idle_in
 get_done V old new most k s reply text none looks is =
     (inl (none, refl, (reply, looks.acts, looks.looks, looks.makes, refl, is)), (looks.shape, looks.idle))
 
 -- a call with acts to make comes to an answer
-unanswered : (V : ℕ) (player : Player V) (most : ℕ) (p : Pending V) (w : World V) (sh : Shape) → IsRunning V player most p w → shape_in player ≡ sh → IsUnanswered V sh p
+unanswered : (V : ℕ) (player : Player V) (most : ℕ) (p : Pending V) (w : Trace V) (sh : Shape) → IsMidCall V player most p w → shape_of_player player ≡ sh → IsUnanswered V sh p
 unanswered V player most p w sh runs same =
     let ends = can_end V player.clerk p.call p.from p.acts runs.0.on in
     record {
@@ -88,15 +88,15 @@ unanswered V player most p w sh runs same =
     }
 
 -- ---- calls that begin
-makes_none_to : (V : ℕ) (sh : Shape) (w : World V) → WriterMakes V sh w [] w
+makes_none_to : (V : ℕ) (sh : Shape) (w : Trace V) → WriterMakes V sh w [] w
 makes_none_to V sh w = (refl, sym (append-nil w.acts))
 
 -- a call that is answered where it begins
 pub begin_answered : (V : ℕ) (old new : Player V) (most : ℕ) (call : Call) (s : Replay V) (a : Answer) (text : List ℕ) → s.running ≡ None → Begins V old new most call s.world (Some a) → text ≡ answer_line a
-    → BeginDoes (shape_in old) s call text None (idle_in s.world) × FitsStill V old new (most + most_steps) (idle_in s.world)
+    → BeginDoes (shape_of_player old) s call text None (idle_in s.world) × FitsStill V old new (most + most_steps) (idle_in s.world)
 unfolding idle_in
 begin_answered V old new most call s a text none begins is = (
-  inl (none, refl, inl (a, record { makes = makes_none_to V (shape_in old) s.world; answered = begins.1.0; idle = refl }, is)),
+  inl (none, refl, inl (a, record { makes = makes_none_to V (shape_of_player old) s.world; answered = begins.1.0; idle = refl }, is)),
   (begins.0, idle_more V new most (most + most_steps) s.world (omega arith) begins.1.1),
 )
 
@@ -105,31 +105,31 @@ pub running_in : {V : ℕ} → Shape → Replay V → Call → Replay V
 running_in {V} sh s call = record { world = s.world; running = Some (pending call (state_of V sh s.world.acts)) }
 
 pub begin_begun : (V : ℕ) (old new : Player V) (most : ℕ) (call : Call) (s : Replay V) (text : List ℕ) → s.running ≡ None → Begins V old new most call s.world None → text ≡ []
-    → BeginDoes (shape_in old) s call text None (running_in (shape_in old) s call) × FitsStill V old new (most + most_steps) (running_in (shape_in old) s call)
+    → BeginDoes (shape_of_player old) s call text None (running_in (shape_of_player old) s call) × FitsStill V old new (most + most_steps) (running_in (shape_of_player old) s call)
 unfolding running_in
 begin_begun V old new most call s text none begins is =
-    (inl (none, refl, inr (is, refl, unanswered V new most (pending call (state_of V (shape_in old) s.world.acts)) s.world (shape_in old) begins.1 begins.0)), (begins.0, fits_more V new most (most + most_steps) (Some (pending call (state_of V (shape_in old) s.world.acts))) s.world (omega arith) begins.1))
+    (inl (none, refl, inr (is, refl, unanswered V new most (pending call (state_of V (shape_of_player old) s.world.acts)) s.world (shape_of_player old) begins.1 begins.0)), (begins.0, fits_more V new most (most + most_steps) (Some (pending call (state_of V (shape_of_player old) s.world.acts))) s.world (omega arith) begins.1))
 
 -- ---- one act of a call after the other
 -- the call that runs, where the clerk has an act to make
-pub runs_in : (V : ℕ) (player : Player V) (most n : ℕ) (m : Replay V) (p : Pending V) → HasRoom most → ActsSoFar V player most n m → m.running ≡ Some p → IsRunning V player (most + n) p m.world × (most + n + acts_left player.clerk < 2 ^ 64 - 1)
+pub runs_in : (V : ℕ) (player : Player V) (most n : ℕ) (m : Replay V) (p : Pending V) → HasRoom most → ActsSoFar V player most n m → m.running ≡ Some p → IsMidCall V player (most + n) p m.world × (most + n + acts_left player.clerk < 2 ^ 64 - 1)
 runs_in V player most n m p room so_far runs =
     let few = so_far.few (ap is_some runs) in
     (subst (λ (r : Option (Pending V)). FitsCall V player (most + n) r m.world) runs so_far.fits, omega (arith, few, room))
 
 -- an act after which the call goes on
 pub act_goes_on : (V : ℕ) (old new : Player V) (most n : ℕ) (m : Replay V) (p : Pending V) (before : List ℕ) → ActsSoFar V old most n m → m.running ≡ Some p → (act : MakesAct V old new (most + n) p m.world None)
-    → (t : Replay V) × (own : List ℕ) × ActDoes (shape_in old) m p own t × (before ≡ before ++ own) × ActsSoFar V new most (n + 1) t × (shape_in new ≡ shape_in old)
+    → (t : Replay V) × (own : List ℕ) × ActDoes (shape_of_player old) m p own t × (before ≡ before ++ own) × ActsSoFar V new most (n + 1) t × (shape_of_player new ≡ shape_of_player old)
 act_goes_on V old new most n m p before so_far runs act =
     let few = so_far.few (ap is_some runs) in
     let less = act.goes_on.1 in
     let count : most + n + 1 ≡ most + (n + 1) = omega arith in (
       record { world = act.after; running = Some (with_acts p (act.made ∷ [])) },
       [],
-      (act.made, act.makes, inl (refl, refl, unanswered V new (most + n + 1) (with_acts p (act.made ∷ [])) act.after (shape_in old) act.goes_on.0 act.shape)),
+      (act.made, act.makes, inl (refl, refl, unanswered V new (most + n + 1) (with_acts p (act.made ∷ [])) act.after (shape_of_player old) act.goes_on.0 act.shape)),
       sym (append-nil before),
       record {
-        fits = subst (λ (k : ℕ). IsRunning V new k (with_acts p (act.made ∷ [])) act.after) count act.goes_on.0;
+        fits = subst (λ (k : ℕ). IsMidCall V new k (with_acts p (act.made ∷ [])) act.after) count act.goes_on.0;
         few = λ some. omega (arith, few, less);
         past = omega (arith, few, less);
       },
@@ -138,7 +138,7 @@ act_goes_on V old new most n m p before so_far runs act =
 
 -- the last act of a call
 pub act_ends : (V : ℕ) (old new : Player V) (most n : ℕ) (m : Replay V) (p : Pending V) (a : Answer) (before after : List ℕ) → HasRoom most → ActsSoFar V old most n m → m.running ≡ Some p → (act : MakesAct V old new (most + n) p m.world (Some a)) → after ≡ before ++ answer_line a
-    → (t : Replay V) × (own : List ℕ) × ActDoes (shape_in old) m p own t × (after ≡ before ++ own) × ActsSoFar V new most (n + 1) t × (shape_in new ≡ shape_in old)
+    → (t : Replay V) × (own : List ℕ) × ActDoes (shape_of_player old) m p own t × (after ≡ before ++ own) × ActsSoFar V new most (n + 1) t × (shape_of_player new ≡ shape_of_player old)
 act_ends V old new most n m p a before after room so_far runs act is =
     let few = so_far.few (ap is_some runs) in
     let call = runs_in V old most n m p room so_far runs in

@@ -8,9 +8,9 @@ use Rattle.mc_words.specs.declared.shape.Shape.{Shape}
 use Rattle.mc_core.proofs.PairedLists.{set_there}
 use Rattle.mc_theory.proofs.Replies.Lengths.{lookup_length}
 use Rattle.mc_theory.specs.Readings.{Reading}
-use Rattle.mc_theory.specs.Worlds.{World, Running, Steps, ReadsNext, first_read}
+use Rattle.mc_theory.specs.Traces.{Trace, OpenLookup, Steps, ReadsNext, first_read}
 use Rattle.mc_theory.specs.declared.event.Event.TheVariants as event
-use Rattle.mc_replay.specs.Inside.Players.{HasMade, most_accesses}
+use Rattle.mc_replay.specs.Inside.Players.{HasAccessed, most_accesses}
 
 product_le : (a b c d : ℕ) → a ≤ c → b ≤ d → a * b ≤ c * d
 product_le a b c d l m = grind arith
@@ -27,17 +27,17 @@ few_readings V sh k rs reply sound width tries few =
     omega (arith, few, most)
 
 -- a reading more leaves room for itself
-sofar_few : (V : ℕ) (sh : Shape) (w : World V) (run : Running) (reading : Reading) → IsShape sh → IsWidth V → ReadsNext V sh w run reading → length run.sofar < most_accesses
+sofar_few : (V : ℕ) (sh : Shape) (w : Trace V) (run : OpenLookup) (reading : Reading) → IsShape sh → IsWidth V → ReadsNext V sh w run reading → length run.sofar < most_accesses
 sofar_few V sh w run reading sound width next =
     let few = few_readings V sh run.key (run.sofar ++ reading ∷ next.rest) next.reply sound width sound.tries.1 (lookup_length V sh run.key sh.tries (run.sofar ++ reading ∷ next.rest) next.reply next.next) in
     let parts = length-append run.sofar (reading ∷ next.rest) in
     omega (arith, few, parts)
 
-same_run : (a b : Running) → Some (Some a) ≡ Some (Some b) → a ≡ b
+same_run : (a b : OpenLookup) → Some (Some a) ≡ Some (Some b) → a ≡ b
 same_run a b e = cc
 
 -- each access is one more of the lookup that runs, and there are not many
-pub made_more : (V : ℕ) (sh : Shape) (w x : World V) (r n : ℕ) → IsShape sh → IsWidth V → Steps V sh w (event.Read r) x → HasMade w r n → HasMade x r (n + 1) × (n < most_accesses)
+pub made_more : (V : ℕ) (sh : Shape) (w x : Trace V) (r n : ℕ) → IsShape sh → IsWidth V → Steps V sh w (event.Read r) x → HasAccessed w r n → HasAccessed x r (n + 1) × (n < most_accesses)
 made_more V sh w x r n sound width steps made =
     let run = steps.0 in
     let reading = steps.1 in
@@ -47,15 +47,15 @@ made_more V sh w x r n sound width steps made =
     let more = length-append run.sofar (reading ∷ []) in
     elim steps.5 [
       | inl ends ↦ (
-          let there = ap (λ (y : World V). slice_get y.readers r) ends.2 ∙ set_there w.readers r None (Some run) steps.2 in
+          let there = ap (λ (y : Trace V). slice_get y.readers r) ends.2 ∙ set_there w.readers r None (Some run) steps.2 in
           (λ other is. absurd (ended other (sym there ∙ is)), n_few)
           )
       | inr on ↦ (
-          let later : Running = record { key = run.key; sofar = run.sofar ++ reading ∷ []; first = first_read w.events run } in
-          let there = ap (λ (y : World V). slice_get y.readers r) on.1 ∙ set_there w.readers r (Some later) (Some run) steps.2 in
-          (λ other is. let same = ap (λ (y : Running). length y.sofar) (same_run later other (sym there ∙ is)) in omega (arith, same, more, before), n_few)
+          let later : OpenLookup = record { key = run.key; sofar = run.sofar ++ reading ∷ []; first = first_read w.events run } in
+          let there = ap (λ (y : Trace V). slice_get y.readers r) on.1 ∙ set_there w.readers r (Some later) (Some run) steps.2 in
+          (λ other is. let same = ap (λ (y : OpenLookup). length y.sofar) (same_run later other (sym there ∙ is)) in omega (arith, same, more, before), n_few)
           )
     ]
   where
-    ended : (other : Running) → Some None ≡ Some (Some other) → ⊥
+    ended : (other : OpenLookup) → Some None ≡ Some (Some other) → ⊥
     ended other e = absurd (cc (e))

@@ -2,7 +2,7 @@
 use Rattle.std.proofs.Common.{◌≡◌, ℕ, ◌+◌, ◌<◌, ◌≤◌, List, [], ◌∷◌, ◌++◌, Option, Some, None, refl, sym, ap, ◌∙◌, subst, inl, inr, arith, length, map, append_assoc, append-nil}
 use Rattle.std.specs.Prelude.{◌-◌, ◌^◌, ◌⊎◌, ◌↔◌, IsSome, IfSome, IfNone, slice_get}
 use Rattle.std.proofs.lemmas.Option.{slice_get_within}
-use Rattle.mc_words.specs.History.{held}
+use Rattle.mc_words.specs.History.{map_value}
 use Rattle.mc_words.specs.Places.{moment}
 use Rattle.mc_words.specs.Standing.{Agrees, Stands}
 use Rattle.mc_words.specs.declared.history.Reply.TheVariants.{Found, Absent}
@@ -12,10 +12,10 @@ use Rattle.mc_core.proofs.WorldSteps.{reached_append}
 use Rattle.mc_theory.specs.Acts.{IsAllowed}
 use Rattle.mc_theory.specs.Effects.{after_act}
 use Rattle.mc_theory.specs.Lists.{Made, after_all, state_of}
-use Rattle.mc_theory.specs.Phases.{Phase, running}
-use Rattle.mc_core.specs.Seen.{Shown, Shows, MayAct, state_after}
+use Rattle.mc_theory.specs.Phases.{Phase, deed_key}
+use Rattle.mc_core.specs.Seen.{WorldView, Shows, MayAct, state_after}
 use Rattle.mc_theory.specs.States.{State}
-use Rattle.mc_theory.specs.Worlds.{World, IsReached, Steps, Runs, HasChanges, bit_of, given_of}
+use Rattle.mc_theory.specs.Traces.{Trace, IsReached, Steps, StepsAll, HasVersionSteps, bit_of, given_of}
 use Rattle.mc_theory.specs.declared.act.Act.{Act}
 use Rattle.mc_theory.specs.declared.act.Act.TheVariants.{Open, Slot, Item, Moment, Close, Hand, Mark}
 use Rattle.mc_theory.specs.declared.event.Event.TheVariants as event
@@ -28,27 +28,27 @@ use Rattle.mc_plan.specs.declared.clerk.Stage.TheVariants.{Idle, Sweeping, Plann
 use Rattle.mc_plan.proofs.Calls.MidCall.{on_runs}
 use Rattle.mc_replay.specs.declared.player.Player.{Player}
 use Rattle.mc_replay.specs.Replay.{Pending, WriterMakes, LooksUp}
-use Rattle.mc_replay.specs.Inside.Players.{shape_in, most_steps, IsAt, IsIdle, IsInCall, IsRunning, BeginsAs, GoesOn, MakesAct, Completes, CallIsWhole, with_acts, bit_given}
+use Rattle.mc_replay.specs.Inside.Players.{shape_of_player, most_steps, IsAt, IsIdle, IsInCall, IsMidCall, BeginsAs, GoesOn, MakesAct, Completes, CallIsWhole, with_acts, bit_given}
 use Rattle.mc_replay.specs.Replay.{pending}
 
 -- ---- acts of the writer in a world
 -- no act is made
-pub makes_none : (V : ℕ) (sh : Shape) (w : World V) → WriterMakes V sh w [] w
+pub makes_none : (V : ℕ) (sh : Shape) (w : Trace V) → WriterMakes V sh w [] w
 makes_none V sh w = (refl, sym (append-nil w.acts))
 
 -- an act that was made, with the bit that it read
-abbrev pub made_of : {V : ℕ} → World V → Act → Made
+abbrev pub made_of : {V : ℕ} → Trace V → Act → Made
 made_of w a = record { act = a; bit = bit_of w.bits a }
 
-pub makes_one : (V : ℕ) (sh : Shape) (w x : World V) (a : Act) → Steps V sh w (event.Write a) x → WriterMakes V sh w (made_of w a ∷ []) x
-makes_one V sh w x a steps = ((x, steps, refl), ap (λ (y : World V). y.acts) steps.2)
+pub makes_one : (V : ℕ) (sh : Shape) (w x : Trace V) (a : Act) → Steps V sh w (event.Write a) x → WriterMakes V sh w (made_of w a ∷ []) x
+makes_one V sh w x a steps = ((x, steps, refl), ap (λ (y : Trace V). y.acts) steps.2)
 
-runs_append : (V : ℕ) (sh : Shape) (w m x : World V) (xs ys : List Made) → Runs V sh w (map (λ (m : Made). event.Write m.act) xs) m → Runs V sh m (map (λ (m : Made). event.Write m.act) ys) x → Runs V sh w (map (λ (m : Made). event.Write m.act) (xs ++ ys)) x
-runs_append V sh w m x [] ys first second = subst (λ (y : World V). Runs V sh y (map (λ (m : Made). event.Write m.act) ys) x) first second
+runs_append : (V : ℕ) (sh : Shape) (w m x : Trace V) (xs ys : List Made) → StepsAll V sh w (map (λ (m : Made). event.Write m.act) xs) m → StepsAll V sh m (map (λ (m : Made). event.Write m.act) ys) x → StepsAll V sh w (map (λ (m : Made). event.Write m.act) (xs ++ ys)) x
+runs_append V sh w m x [] ys first second = subst (λ (y : Trace V). StepsAll V sh y (map (λ (m : Made). event.Write m.act) ys) x) first second
 runs_append V sh w m x (a ∷ xs) ys first second = (first.0, first.1, runs_append V sh first.0 m x xs ys first.2 second)
 
 -- acts, and then others
-pub makes_append : (V : ℕ) (sh : Shape) (w m x : World V) (xs ys : List Made) → WriterMakes V sh w xs m → WriterMakes V sh m ys x → WriterMakes V sh w (xs ++ ys) x
+pub makes_append : (V : ℕ) (sh : Shape) (w m x : Trace V) (xs ys : List Made) → WriterMakes V sh w xs m → WriterMakes V sh m ys x → WriterMakes V sh w (xs ++ ys) x
 makes_append V sh w m x xs ys first second =
     (runs_append V sh w m x xs ys first.0 second.0, second.1 ∙ ap (λ (l : List Made). l ++ ys) first.1 ∙ append_assoc w.acts xs ys)
 
@@ -64,48 +64,48 @@ bit_given_is V bits (Hand i) = refl
 bit_given_is V bits (Mark i) = refl
 
 -- the state after one act more
-pub state_after_one : (V : ℕ) (sh : Shape) (from : State V) (acts : List Made) (w x : World V) (m : Made) → after_all sh from acts ≡ state_of V sh w.acts → x.acts ≡ w.acts ++ m ∷ []
+pub state_after_one : (V : ℕ) (sh : Shape) (from : State V) (acts : List Made) (w x : Trace V) (m : Made) → after_all sh from acts ≡ state_of V sh w.acts → x.acts ≡ w.acts ++ m ∷ []
     → after_all sh from (acts ++ m ∷ []) ≡ state_of V sh x.acts
 state_after_one V sh from acts w x m now more =
     after_all-append sh from acts (m ∷ []) ∙ ap (λ (s : State V). after_act sh s m.act m.bit) now ∙ sym (state_push V sh w.acts m) ∙ ap (state_of V sh) (sym more)
 
 -- the writer's acts change no reader
-makes_readers : (V : ℕ) (sh : Shape) (w x : World V) (acts : List Made) → WriterMakes V sh w acts x → x.readers ≡ w.readers
+makes_readers : (V : ℕ) (sh : Shape) (w x : Trace V) (acts : List Made) → WriterMakes V sh w acts x → x.readers ≡ w.readers
 makes_readers V sh w x acts makes = runs_readers w acts makes.0
   where
-    runs_readers : (w : World V) (acts : List Made) → Runs V sh w (map (λ (m : Made). event.Write m.act) acts) x → x.readers ≡ w.readers
-    runs_readers w [] runs = ap (λ (y : World V). y.readers) runs
-    runs_readers w (m ∷ acts) runs = runs_readers runs.0 acts runs.2 ∙ ap (λ (y : World V). y.readers) runs.1.2
+    runs_readers : (w : Trace V) (acts : List Made) → StepsAll V sh w (map (λ (m : Made). event.Write m.act) acts) x → x.readers ≡ w.readers
+    runs_readers w [] runs = ap (λ (y : Trace V). y.readers) runs
+    runs_readers w (m ∷ acts) runs = runs_readers runs.0 acts runs.2 ∙ ap (λ (y : Trace V). y.readers) runs.1.2
 
 -- the player shows the world after one act
-at_after_one : (V : ℕ) (old new : Player V) (most : ℕ) (w x : World V) (m : Made) → IsAt V old most w → shape_in new ≡ shape_in old → Shows {V = V} new.world x → WriterMakes V (shape_in old) w (m ∷ []) x → x.events ≡ w.events + 1
-    → new.readers ≡ old.readers → clerks.shape_in new.clerk ≡ clerks.shape_in old.clerk → IsAt V new (most + 1) x
+at_after_one : (V : ℕ) (old new : Player V) (most : ℕ) (w x : Trace V) (m : Made) → IsAt V old most w → shape_of_player new ≡ shape_of_player old → Shows {V = V} new.world x → WriterMakes V (shape_of_player old) w (m ∷ []) x → x.events ≡ w.events + 1
+    → new.readers ≡ old.readers → clerks.shape_of_clerk new.clerk ≡ clerks.shape_of_clerk old.clerk → IsAt V new (most + 1) x
 at_after_one V old new most w x m at same shows makes events many clerk = record {
   world = shows;
-  reached = subst (λ (y : Shape). IsReached V y x) (sym same) (reached_append V (shape_in old) w x (event.Write m.act ∷ []) at.reached makes.0);
+  reached = subst (λ (y : Shape). IsReached V y x) (sym same) (reached_append V (shape_of_player old) w x (event.Write m.act ∷ []) at.reached makes.0);
   shape = clerk ∙ at.shape ∙ sym same;
-  readers = ap length (makes_readers V (shape_in old) w x (m ∷ []) makes) ∙ at.readers ∙ sym many;
+  readers = ap length (makes_readers V (shape_of_player old) w x (m ∷ []) makes) ∙ at.readers ∙ sym many;
   events = omega (arith, events, at.events);
 }
 
 -- the call goes on after one act
-pub call_goes_on : (V : ℕ) (old new : Player V) (most : ℕ) (p : Pending V) (w x : World V) (m : Made) → IsInCall V old most p w → shape_in new ≡ shape_in old → Shows {V = V} new.world x → WriterMakes V (shape_in old) w (m ∷ []) x → x.events ≡ w.events + 1
-    → new.readers ≡ old.readers → clerks.shape_in new.clerk ≡ clerks.shape_in old.clerk → IsOn V new.clerk p.call p.from (p.acts ++ m ∷ []) → acts_left new.clerk < acts_left old.clerk → IsInCall V new (most + 1) (with_acts p (m ∷ [])) x
+pub call_goes_on : (V : ℕ) (old new : Player V) (most : ℕ) (p : Pending V) (w x : Trace V) (m : Made) → IsInCall V old most p w → shape_of_player new ≡ shape_of_player old → Shows {V = V} new.world x → WriterMakes V (shape_of_player old) w (m ∷ []) x → x.events ≡ w.events + 1
+    → new.readers ≡ old.readers → clerks.shape_of_clerk new.clerk ≡ clerks.shape_of_clerk old.clerk → IsOn V new.clerk p.call p.from (p.acts ++ m ∷ []) → acts_left new.clerk < acts_left old.clerk → IsInCall V new (most + 1) (with_acts p (m ∷ [])) x
 call_goes_on V old new most p w x m call same shows makes events many clerk on fewer = record {
   at = at_after_one V old new most w x m call.at same shows makes events many clerk;
   on = on;
-  now = subst (λ (sh : Shape). after_all sh p.from (p.acts ++ m ∷ []) ≡ state_of V sh x.acts) (sym same) (state_after_one V (shape_in old) p.from p.acts w x m call.now makes.1);
+  now = subst (λ (sh : Shape). after_all sh p.from (p.acts ++ m ∷ []) ≡ state_of V sh x.acts) (sym same) (state_after_one V (shape_of_player old) p.from p.acts w x m call.now makes.1);
   few = omega (arith, fewer, call.few);
 }
 
 -- the call was answered
-pub call_is_over : (V : ℕ) (old new : Player V) (most : ℕ) (p : Pending V) (w : World V) → IsInCall V old most p w → new.world ≡ old.world
-    → new.readers ≡ old.readers → clerks.shape_in new.clerk ≡ clerks.shape_in old.clerk → Knows V new.clerk (after_all (clerks.shape_in old.clerk) p.from p.acts) → IsIdle V new most w
+pub call_is_over : (V : ℕ) (old new : Player V) (most : ℕ) (p : Pending V) (w : Trace V) → IsInCall V old most p w → new.world ≡ old.world
+    → new.readers ≡ old.readers → clerks.shape_of_clerk new.clerk ≡ clerks.shape_of_clerk old.clerk → Knows V new.clerk (after_all (clerks.shape_of_clerk old.clerk) p.from p.acts) → IsIdle V new most w
 call_is_over V old new most p w call world many clerk knows =
-    let same : shape_in new ≡ shape_in old = ap (λ (y : Shown V). y.shape) world in
+    let same : shape_of_player new ≡ shape_of_player old = ap (λ (y : WorldView V). y.shape) world in
     record {
       at = record {
-        world = subst (λ (y : Shown V). Shows {V = V} y w) (sym world) call.at.world;
+        world = subst (λ (y : WorldView V). Shows {V = V} y w) (sym world) call.at.world;
         reached = subst (λ (y : Shape). IsReached V y w) (sym same) call.at.reached;
         shape = clerk ∙ call.at.shape ∙ sym same;
         readers = call.at.readers ∙ sym many;
@@ -116,21 +116,21 @@ call_is_over V old new most p w call world many clerk knows =
 
 -- ---- what a call needs of the world
 -- the clerk's next act may be made
-pub may_act : (V : ℕ) (player : Player V) (most : ℕ) (p : Pending V) (w : World V) (a : Act) → IsInCall V player most p w
-    → IsAllowed (clerks.shape_in player.clerk) (after_all (clerks.shape_in player.clerk) p.from p.acts) a → HasChanges (clerks.shape_in player.clerk).limit (after_all (clerks.shape_in player.clerk) p.from p.acts).changes a
+pub may_act : (V : ℕ) (player : Player V) (most : ℕ) (p : Pending V) (w : Trace V) (a : Act) → IsInCall V player most p w
+    → IsAllowed (clerks.shape_of_clerk player.clerk) (after_all (clerks.shape_of_clerk player.clerk) p.from p.acts) a → HasVersionSteps (clerks.shape_of_clerk player.clerk).limit (after_all (clerks.shape_of_clerk player.clerk) p.from p.acts).version_steps a
     → most < 2 ^ 64 - 1 → MayAct {V = V} player.world a
 may_act V player most p w a call allowed changes room =
-    let sh = shape_in player in
+    let sh = shape_of_player player in
     let now : after_all sh p.from p.acts ≡ player.world.state = call.now ∙ sym call.at.world.state in
     let allowed_now = subst (λ (s : State V). IsAllowed sh s a) now (subst (λ (y : Shape). IsAllowed y (after_all y p.from p.acts) a) call.at.shape allowed) in
-    let changes_now = subst (λ (s : State V). HasChanges sh.limit s.changes a) now (subst (λ (y : Shape). HasChanges y.limit (after_all y p.from p.acts).changes a) call.at.shape changes) in
+    let changes_now = subst (λ (s : State V). HasVersionSteps sh.limit s.version_steps a) now (subst (λ (y : Shape). HasVersionSteps y.limit (after_all y p.from p.acts).version_steps a) call.at.shape changes) in
     (allowed_now, changes_now, omega (arith, call.at.world.events, call.at.events, room))
 
 -- the words after the act are those that the clerk counts on
-pub words_after : (V : ℕ) (player : Player V) (most : ℕ) (p : Pending V) (w : World V) (a : Act) (word : ℕ) (new : Shown V) → IsInCall V player most p w → word ≡ bit_of player.world.bits a → new.state ≡ state_after {V = V} player.world (event.Write a)
-    → new.state.words ≡ (after_all (clerks.shape_in player.clerk) p.from (p.acts ++ record { act = a; bit = word } ∷ [])).words
+pub words_after : (V : ℕ) (player : Player V) (most : ℕ) (p : Pending V) (w : Trace V) (a : Act) (word : ℕ) (new : WorldView V) → IsInCall V player most p w → word ≡ bit_of player.world.bits a → new.state ≡ state_after {V = V} player.world (event.Write a)
+    → new.state.words ≡ (after_all (clerks.shape_of_clerk player.clerk) p.from (p.acts ++ record { act = a; bit = word } ∷ [])).words
 words_after V player most p w a word new call is state =
-    let sh = shape_in player in
+    let sh = shape_of_player player in
     let m : Made = record { act = a; bit = word } in
     let now : after_all sh p.from p.acts ≡ player.world.state = call.now ∙ sym call.at.world.state in
     let read : after_act sh player.world.state a (bit_of player.world.bits a) ≡ after_act sh (after_all sh p.from p.acts) a word = ap (λ (b : ℕ). after_act sh player.world.state a b) (sym is) ∙ ap (λ (s : State V). after_act sh s a word) (sym now) in
@@ -143,7 +143,7 @@ none_or_some None = inl refl
 none_or_some (Some x) = inr refl
 
 -- where no answer is told there is an act to make
-acts_to_make : (V : ℕ) (clerk : Clerk V) (call : Call) (s : State V) (acts : List Made) → IsOn V clerk call s acts → (IsSome {T = Answer} None ↔ (clerks.IsRunning {V = V} clerk × (next_act clerk ≡ None))) → IsSome (next_act clerk)
+acts_to_make : (V : ℕ) (clerk : Clerk V) (call : Call) (s : State V) (acts : List Made) → IsOn V clerk call s acts → (IsSome {T = Answer} None ↔ (clerks.HasCall {V = V} clerk × (next_act clerk ≡ None))) → IsSome (next_act clerk)
 acts_to_make V clerk call s acts on ends = elim (none_or_some (next_act clerk)) [
   | inl none ↦ absurd (cc (ends.1 (on_runs V clerk call s acts on, none)))
   | inr some ↦ some
@@ -153,25 +153,25 @@ acts_to_make V clerk call s acts on ends = elim (none_or_some (next_act clerk)) 
 pub record TellsAs (V : ℕ) (mid new : Player V) (told : Option Answer) : Type 0 where
   pub world : new.world ≡ mid.world
   pub readers : new.readers ≡ mid.readers
-  pub shape : clerks.shape_in new.clerk ≡ clerks.shape_in mid.clerk
-  pub ends : IsSome told ↔ (clerks.IsRunning {V = V} mid.clerk × (next_act mid.clerk ≡ None))
-  pub some : IfSome told (λ a. (call : Call) (s : State V) (acts : List Made) → IsOn V mid.clerk call s acts → Answered V (clerks.shape_in mid.clerk) call s acts a × Knows V new.clerk (after_all (clerks.shape_in mid.clerk) s acts))
+  pub shape : clerks.shape_of_clerk new.clerk ≡ clerks.shape_of_clerk mid.clerk
+  pub ends : IsSome told ↔ (clerks.HasCall {V = V} mid.clerk × (next_act mid.clerk ≡ None))
+  pub some : IfSome told (λ a. (call : Call) (s : State V) (acts : List Made) → IsOn V mid.clerk call s acts → Answered V (clerks.shape_of_clerk mid.clerk) call s acts a × Knows V new.clerk (after_all (clerks.shape_of_clerk mid.clerk) s acts))
   pub none : IfNone told (new.clerk ≡ mid.clerk)
 
 -- a player that is the same but for its clerk, which is the same too
-same_call : (V : ℕ) (mid new : Player V) (most : ℕ) (p : Pending V) (w : World V) → new.world ≡ mid.world → new.readers ≡ mid.readers → new.clerk ≡ mid.clerk → IsInCall V mid most p w → IsInCall V new most p w
+same_call : (V : ℕ) (mid new : Player V) (most : ℕ) (p : Pending V) (w : Trace V) → new.world ≡ mid.world → new.readers ≡ mid.readers → new.clerk ≡ mid.clerk → IsInCall V mid most p w → IsInCall V new most p w
 same_call V mid new most p w world readers clerk call =
     subst (λ (y : Player V). IsInCall V y most p w) (player_is mid new world readers clerk) call
   where
-    of_parts : Shown V → Clerk V → ℕ → Player V
+    of_parts : WorldView V → Clerk V → ℕ → Player V
     of_parts world clerk readers = record { world = world; clerk = clerk; readers = readers }
 
     player_is : (mid new : Player V) → new.world ≡ mid.world → new.readers ≡ mid.readers → new.clerk ≡ mid.clerk → mid ≡ new
     player_is mid new world readers clerk =
-        ap (λ (y : Shown V). of_parts y mid.clerk mid.readers) (sym world) ∙ ap (λ (y : Clerk V). of_parts new.world y mid.readers) (sym clerk) ∙ ap (λ (y : ℕ). of_parts new.world new.clerk y) (sym readers)
+        ap (λ (y : WorldView V). of_parts y mid.clerk mid.readers) (sym world) ∙ ap (λ (y : Clerk V). of_parts new.world y mid.readers) (sym clerk) ∙ ap (λ (y : ℕ). of_parts new.world new.clerk y) (sym readers)
 
 -- after an act the call goes on, or is answered
-pub goes_on_as : (V : ℕ) (old mid new : Player V) (most : ℕ) (p : Pending V) (w : World V) (told : Option Answer) → IsInCall V mid most p w → shape_in mid ≡ shape_in old → acts_left mid.clerk < acts_left old.clerk → TellsAs V mid new told → GoesOn V old new most p w told
+pub goes_on_as : (V : ℕ) (old mid new : Player V) (most : ℕ) (p : Pending V) (w : Trace V) (told : Option Answer) → IsInCall V mid most p w → shape_of_player mid ≡ shape_of_player old → acts_left mid.clerk < acts_left old.clerk → TellsAs V mid new told → GoesOn V old new most p w told
 goes_on_as V old mid new most p w None call same fewer tells =
     let on = call.on in
     let more = acts_to_make V mid.clerk p.call p.from p.acts on tells.ends in (
@@ -183,25 +183,25 @@ goes_on_as V old mid new most p w (Some a) call same fewer tells =
     (subst (λ (y : Shape). Answered V y p.call p.from p.acts a) (call.at.shape ∙ same) said.0, call_is_over V mid new most p w call tells.world tells.readers tells.shape said.1)
 
 -- a call begins, or is answered at once
-pub begins_as : (V : ℕ) (old mid new : Player V) (most : ℕ) (call : Call) (w : World V) (told : Option Answer) → IsInCall V mid most (pending call (state_of V (shape_in old) w.acts)) w → shape_in mid ≡ shape_in old → TellsAs V mid new told → BeginsAs V (shape_in old) new most call w told
+pub begins_as : (V : ℕ) (old mid new : Player V) (most : ℕ) (call : Call) (w : Trace V) (told : Option Answer) → IsInCall V mid most (pending call (state_of V (shape_of_player old) w.acts)) w → shape_of_player mid ≡ shape_of_player old → TellsAs V mid new told → BeginsAs V (shape_of_player old) new most call w told
 begins_as V old mid new most call w None in_call same tells =
-    let p = pending call (state_of V (shape_in old) w.acts) in
+    let p = pending call (state_of V (shape_of_player old) w.acts) in
     let more = acts_to_make V mid.clerk p.call p.from p.acts in_call.on tells.ends in
     (same_call V mid new most p w tells.world tells.readers tells.none in_call, subst (λ (c : Clerk V). IsSome (next_act c)) (sym tells.none) more)
 begins_as V old mid new most call w (Some a) in_call same tells =
-    let p = pending call (state_of V (shape_in old) w.acts) in
+    let p = pending call (state_of V (shape_of_player old) w.acts) in
     let said = tells.some p.call p.from p.acts in_call.on in
     (subst (λ (y : Shape). Answered V y p.call p.from p.acts a) (in_call.at.shape ∙ same) said.0, call_is_over V mid new most p w in_call tells.world tells.readers tells.shape said.1)
 
 -- ---- a whole call
 -- a call that was begun has an answer to tell, or acts to make
-pub begun : (V : ℕ) (old mid : Player V) (most : ℕ) (call : Call) (w : World V) → IsIdle V old most w → mid.world ≡ old.world → mid.readers ≡ old.readers → clerks.shape_in mid.clerk ≡ clerks.shape_in old.clerk
-    → IsOn V mid.clerk call (state_of V (shape_in old) w.acts) [] → acts_left mid.clerk ≤ 2 ^ 23 + 64 → IsInCall V mid most (pending call (state_of V (shape_in old) w.acts)) w
+pub begun : (V : ℕ) (old mid : Player V) (most : ℕ) (call : Call) (w : Trace V) → IsIdle V old most w → mid.world ≡ old.world → mid.readers ≡ old.readers → clerks.shape_of_clerk mid.clerk ≡ clerks.shape_of_clerk old.clerk
+    → IsOn V mid.clerk call (state_of V (shape_of_player old) w.acts) [] → acts_left mid.clerk ≤ 2 ^ 23 + 64 → IsInCall V mid most (pending call (state_of V (shape_of_player old) w.acts)) w
 begun V old mid most call w idle world readers clerk on few =
-    let same : shape_in mid ≡ shape_in old = ap (λ (y : Shown V). y.shape) world in
+    let same : shape_of_player mid ≡ shape_of_player old = ap (λ (y : WorldView V). y.shape) world in
     record {
       at = record {
-        world = subst (λ (y : Shown V). Shows {V = V} y w) (sym world) idle.at.world;
+        world = subst (λ (y : WorldView V). Shows {V = V} y w) (sym world) idle.at.world;
         reached = subst (λ (y : Shape). IsReached V y w) (sym same) idle.at.reached;
         shape = clerk ∙ idle.at.shape ∙ sym same;
         readers = idle.at.readers ∙ sym readers;
@@ -213,12 +213,12 @@ begun V old mid most call w idle world readers clerk on few =
     }
 
 -- the acts that were made of a call that goes on
-pub record MakesSome (V : ℕ) (old now : Player V) (most : ℕ) (p : Pending V) (w : World V) : Type 0 where
+pub record MakesSome (V : ℕ) (old now : Player V) (most : ℕ) (p : Pending V) (w : Trace V) : Type 0 where
   pub acts : List Made
-  pub after : World V
-  pub makes : WriterMakes V (shape_in old) w acts after
-  pub call : IsRunning V now (most + (acts_left old.clerk - acts_left now.clerk)) (with_acts p acts) after
-  pub shape : shape_in now ≡ shape_in old
+  pub after : Trace V
+  pub makes : WriterMakes V (shape_of_player old) w acts after
+  pub call : IsMidCall V now (most + (acts_left old.clerk - acts_left now.clerk)) (with_acts p acts) after
+  pub shape : shape_of_player now ≡ shape_of_player old
   pub fewer : acts_left now.clerk ≤ acts_left old.clerk
 
 same_pending : (V : ℕ) (p : Pending V) (xs ys : List Made) → with_acts (with_acts p xs) ys ≡ with_acts p (xs ++ ys)
@@ -228,14 +228,14 @@ same_pending V p xs ys = ap (λ (l : List Made). of_acts l) (append_assoc p.acts
     of_acts l = record { call = p.call; from = p.from; acts = l }
 
 -- no act was made yet
-pub makes_nothing : (V : ℕ) (player : Player V) (most : ℕ) (p : Pending V) (w : World V) → IsRunning V player most p w → MakesSome V player player most p w
+pub makes_nothing : (V : ℕ) (player : Player V) (most : ℕ) (p : Pending V) (w : Trace V) → IsMidCall V player most p w → MakesSome V player player most p w
 makes_nothing V player most p w runs =
     let none : most ≡ most + (acts_left player.clerk - acts_left player.clerk) = omega arith in
     record {
       acts = [];
       after = w;
-      makes = makes_none V (shape_in player) w;
-      call = subst (λ (m : ℕ). IsRunning V player m (with_acts p []) w) none (subst (λ (q : Pending V). IsRunning V player most q w) (sym (with_none p)) runs);
+      makes = makes_none V (shape_of_player player) w;
+      call = subst (λ (m : ℕ). IsMidCall V player m (with_acts p []) w) none (subst (λ (q : Pending V). IsMidCall V player most q w) (sym (with_none p)) runs);
       shape = refl;
       fewer = omega arith;
     }
@@ -247,7 +247,7 @@ makes_nothing V player most p w runs =
     with_none p = ap (of_acts p) (append-nil p.acts)
 
 -- more events may be counted
-in_call_more : (V : ℕ) (player : Player V) (most more : ℕ) (p : Pending V) (w : World V) → most ≤ more → IsInCall V player most p w → IsInCall V player more p w
+in_call_more : (V : ℕ) (player : Player V) (most more : ℕ) (p : Pending V) (w : Trace V) → most ≤ more → IsInCall V player most p w → IsInCall V player more p w
 in_call_more V player most more p w le call = record {
   at = record { world = call.at.world; reached = call.at.reached; shape = call.at.shape; readers = call.at.readers; events = omega (arith, call.at.events, le) };
   on = call.on;
@@ -255,60 +255,60 @@ in_call_more V player most more p w le call = record {
   few = call.few;
 }
 
-pub idle_more : (V : ℕ) (player : Player V) (most more : ℕ) (w : World V) → most ≤ more → IsIdle V player most w → IsIdle V player more w
+pub idle_more : (V : ℕ) (player : Player V) (most more : ℕ) (w : Trace V) → most ≤ more → IsIdle V player most w → IsIdle V player more w
 idle_more V player most more w le idle = record {
   at = record { world = idle.at.world; reached = idle.at.reached; shape = idle.at.shape; readers = idle.at.readers; events = omega (arith, idle.at.events, le) };
   knows = idle.knows;
 }
 
 -- one act more was made
-pub makes_more : (V : ℕ) (old now new : Player V) (most : ℕ) (p : Pending V) (w : World V) (some : MakesSome V old now most p w) → MakesAct V now new (most + (acts_left old.clerk - acts_left now.clerk)) (with_acts p some.acts) some.after None → MakesSome V old new most p w
+pub makes_more : (V : ℕ) (old now new : Player V) (most : ℕ) (p : Pending V) (w : Trace V) (some : MakesSome V old now most p w) → MakesAct V now new (most + (acts_left old.clerk - acts_left now.clerk)) (with_acts p some.acts) some.after None → MakesSome V old new most p w
 makes_more V old now new most p w some act =
     let less = act.goes_on.1 in
     let le : most + (acts_left old.clerk - acts_left now.clerk) + 1 ≤ most + (acts_left old.clerk - acts_left new.clerk) = omega (arith, less, some.fewer) in
     record {
       acts = some.acts ++ act.made ∷ [];
       after = act.after;
-      makes = makes_append V (shape_in old) w some.after act.after some.acts (act.made ∷ []) some.makes (subst (λ (y : Shape). WriterMakes V y some.after (act.made ∷ []) act.after) some.shape act.makes);
+      makes = makes_append V (shape_of_player old) w some.after act.after some.acts (act.made ∷ []) some.makes (subst (λ (y : Shape). WriterMakes V y some.after (act.made ∷ []) act.after) some.shape act.makes);
       call = (subst (λ (q : Pending V). IsInCall V new (most + (acts_left old.clerk - acts_left new.clerk)) q act.after) (same_pending V p some.acts (act.made ∷ [])) (in_call_more V new _ _ _ act.after le act.goes_on.0.0), act.goes_on.0.1);
       shape = act.shape ∙ some.shape;
       fewer = omega (arith, less, some.fewer);
     }
 
 -- the last act was made
-pub makes_last : (V : ℕ) (old now new : Player V) (most : ℕ) (p : Pending V) (w : World V) (a : Answer) (some : MakesSome V old now most p w) → 0 < acts_left now.clerk
+pub makes_last : (V : ℕ) (old now new : Player V) (most : ℕ) (p : Pending V) (w : Trace V) (a : Answer) (some : MakesSome V old now most p w) → 0 < acts_left now.clerk
     → MakesAct V now new (most + (acts_left old.clerk - acts_left now.clerk)) (with_acts p some.acts) some.after (Some a) → Completes V old new most p w a
 makes_last V old now new most p w a some more act =
     let le : most + (acts_left old.clerk - acts_left now.clerk) + 1 ≤ most + acts_left old.clerk = omega (arith, more, some.fewer) in
     record {
       acts = some.acts ++ act.made ∷ [];
       after = act.after;
-      makes = makes_append V (shape_in old) w some.after act.after some.acts (act.made ∷ []) some.makes (subst (λ (y : Shape). WriterMakes V y some.after (act.made ∷ []) act.after) some.shape act.makes);
+      makes = makes_append V (shape_of_player old) w some.after act.after some.acts (act.made ∷ []) some.makes (subst (λ (y : Shape). WriterMakes V y some.after (act.made ∷ []) act.after) some.shape act.makes);
       shape = act.shape ∙ some.shape;
-      answered = subst (λ (y : Shape). Answered V y p.call p.from (p.acts ++ (some.acts ++ act.made ∷ [])) a) some.shape (subst (λ (l : List Made). Answered V (shape_in now) p.call p.from l a) (append_assoc p.acts some.acts (act.made ∷ [])) act.goes_on.0);
+      answered = subst (λ (y : Shape). Answered V y p.call p.from (p.acts ++ (some.acts ++ act.made ∷ [])) a) some.shape (subst (λ (l : List Made). Answered V (shape_of_player now) p.call p.from l a) (append_assoc p.acts some.acts (act.made ∷ [])) act.goes_on.0);
       idle = idle_more V new _ _ act.after le act.goes_on.1;
     }
 
 -- a call that was answered at once is whole
-pub whole_at_once : (V : ℕ) (old new : Player V) (most : ℕ) (call : Call) (w : World V) (a : Answer) → shape_in new ≡ shape_in old → BeginsAs V (shape_in old) new most call w (Some a) → CallIsWhole V old new most call w a
+pub whole_at_once : (V : ℕ) (old new : Player V) (most : ℕ) (call : Call) (w : Trace V) (a : Answer) → shape_of_player new ≡ shape_of_player old → BeginsAs V (shape_of_player old) new most call w (Some a) → CallIsWhole V old new most call w a
 whole_at_once V old new most call w a same begins = record {
   acts = [];
   after = w;
-  makes = makes_none V (shape_in old) w;
+  makes = makes_none V (shape_of_player old) w;
   shape = same;
   answered = begins.0;
   idle = idle_more V new most (most + most_steps) w (omega arith) begins.1;
 }
 
 -- a call that was begun and completed is whole
-pub whole_in_time : (V : ℕ) (old mid new : Player V) (most : ℕ) (call : Call) (w : World V) (a : Answer) → shape_in mid ≡ shape_in old → acts_left mid.clerk ≤ most_steps
-    → Completes V mid new most (pending call (state_of V (shape_in old) w.acts)) w a → CallIsWhole V old new most call w a
+pub whole_in_time : (V : ℕ) (old mid new : Player V) (most : ℕ) (call : Call) (w : Trace V) (a : Answer) → shape_of_player mid ≡ shape_of_player old → acts_left mid.clerk ≤ most_steps
+    → Completes V mid new most (pending call (state_of V (shape_of_player old) w.acts)) w a → CallIsWhole V old new most call w a
 whole_in_time V old mid new most call w a same few done = record {
   acts = done.acts;
   after = done.after;
   makes = subst (λ (y : Shape). WriterMakes V y w done.acts done.after) same done.makes;
   shape = done.shape ∙ same;
-  answered = subst (λ (y : Shape). Answered V y call (state_of V (shape_in old) w.acts) done.acts a) same done.answered;
+  answered = subst (λ (y : Shape). Answered V y call (state_of V (shape_of_player old) w.acts) done.acts a) same done.answered;
   idle = idle_more V new _ _ done.after (omega (arith, few)) done.idle;
 }
 
@@ -327,36 +327,36 @@ unfolding next_act acts_left
 acts_are_left V clerk some = some_left_in V clerk.stage clerk.plan.items clerk.made some
 
 -- there is room for the acts that are left
-pub room_left : (V : ℕ) (old now : Player V) (most : ℕ) (p : Pending V) (w : World V) → MakesSome V old now most p w → most + acts_left old.clerk < 2 ^ 64 - 1 → most + (acts_left old.clerk - acts_left now.clerk) + acts_left now.clerk < 2 ^ 64 - 1
+pub room_left : (V : ℕ) (old now : Player V) (most : ℕ) (p : Pending V) (w : Trace V) → MakesSome V old now most p w → most + acts_left old.clerk < 2 ^ 64 - 1 → most + (acts_left old.clerk - acts_left now.clerk) + acts_left now.clerk < 2 ^ 64 - 1
 room_left V old now most p w some room = omega (arith, room, some.fewer)
 
 -- where there is an answer the call was still running
-some_left : (V : ℕ) (player : Player V) (most : ℕ) (p : Pending V) (w : World V) → IsRunning V player most p w → 0 < acts_left player.clerk
+some_left : (V : ℕ) (player : Player V) (most : ℕ) (p : Pending V) (w : Trace V) → IsMidCall V player most p w → 0 < acts_left player.clerk
 some_left V player most p w runs = acts_are_left V player.clerk runs.1
 
-pub makes_last_of : (V : ℕ) (old now new : Player V) (most : ℕ) (p : Pending V) (w : World V) (a : Answer) (some : MakesSome V old now most p w) → MakesAct V now new (most + (acts_left old.clerk - acts_left now.clerk)) (with_acts p some.acts) some.after (Some a) → Completes V old new most p w a
+pub makes_last_of : (V : ℕ) (old now new : Player V) (most : ℕ) (p : Pending V) (w : Trace V) (a : Answer) (some : MakesSome V old now most p w) → MakesAct V now new (most + (acts_left old.clerk - acts_left now.clerk)) (with_acts p some.acts) some.after (Some a) → Completes V old new most p w a
 makes_last_of V old now new most p w a some act = makes_last V old now new most p w a some (some_left V now _ _ some.after some.call) act
 
 -- ---- between two calls
 -- the words agree with the history
-pub agrees_now : (V : ℕ) (player : Player V) (most : ℕ) (w : World V) (sh : Shape) → IsIdle V player most w → sh ≡ shape_in player → Agrees V sh player.world.state.words None (state_of V (shape_in player) w.acts).history
+pub agrees_now : (V : ℕ) (player : Player V) (most : ℕ) (w : Trace V) (sh : Shape) → IsIdle V player most w → sh ≡ shape_of_player player → Agrees V sh player.world.state.words None (state_of V (shape_of_player player) w.acts).history
 agrees_now V player most w sh idle same =
-    let s : State V = state_of V (shape_in player) w.acts in
+    let s : State V = state_of V (shape_of_player player) w.acts in
     let quiet = idle.knows.books.quiet in
-    let none : Agrees V (clerks.shape_in player.clerk) s.words None s.history = subst (λ (p : Phase). Agrees V (clerks.shape_in player.clerk) s.words (running p) s.history) quiet.quiet quiet.holds.agrees in
+    let none : Agrees V (clerks.shape_of_clerk player.clerk) s.words None s.history = subst (λ (p : Phase). Agrees V (clerks.shape_of_clerk player.clerk) s.words (deed_key p) s.history) quiet.quiet quiet.holds.agrees in
     let here : Agrees V sh s.words None s.history = subst (λ (y : Shape). Agrees V y s.words None s.history) (idle.at.shape ∙ sym same) none in
     subst (λ (x : State V). Agrees V sh x.words None s.history) (sym idle.at.world.state) here
 
 -- the writer's lookup found the key
-pub looks_found : (V : ℕ) (player : Player V) (most k i at q : ℕ) (v : List ℕ) (w : World V) (sh : Shape) → IsIdle V player most w → sh ≡ shape_in player → held (state_of V (shape_in player) w.acts).history k ≡ Some v → at ≡ moment player.world.state.words → Stands V sh player.world.state.words k q i
-    → LooksUp {V = V} (shape_in player) (state_of V (shape_in player) w.acts) k (Found v at) (record { act = Mark i; bit = 0 } ∷ [])
+pub looks_found : (V : ℕ) (player : Player V) (most k i at q : ℕ) (v : List ℕ) (w : Trace V) (sh : Shape) → IsIdle V player most w → sh ≡ shape_of_player player → map_value (state_of V (shape_of_player player) w.acts).history k ≡ Some v → at ≡ moment player.world.state.words → Stands V sh player.world.state.words k q i
+    → LooksUp {V = V} (shape_of_player player) (state_of V (shape_of_player player) w.acts) k (Found v at) (record { act = Mark i; bit = 0 } ∷ [])
 looks_found V player most k i at q v w sh idle same value is stands =
     let agrees = agrees_now V player most w sh idle same in
-    let there : Stands V (shape_in player) (state_of V (shape_in player) w.acts).words k q i =
-    subst (λ (x : State V). Stands V (shape_in player) x.words k q i) idle.at.world.state (subst (λ (y : Shape). Stands V y player.world.state.words k q i) same stands) in
+    let there : Stands V (shape_of_player player) (state_of V (shape_of_player player) w.acts).words k q i =
+    subst (λ (x : State V). Stands V (shape_of_player player) x.words k q i) idle.at.world.state (subst (λ (y : Shape). Stands V y player.world.state.words k q i) same stands) in
     (record { value = value; unchanged = refl; moment = is ∙ agrees.at_moment }, (q, i, there, refl))
 
-pub looks_missed : (V : ℕ) (player : Player V) (most k at : ℕ) (w : World V) (sh : Shape) → IsIdle V player most w → sh ≡ shape_in player → held (state_of V (shape_in player) w.acts).history k ≡ None → at ≡ moment player.world.state.words
-    → LooksUp {V = V} (shape_in player) (state_of V (shape_in player) w.acts) k (Absent at) []
+pub looks_missed : (V : ℕ) (player : Player V) (most k at : ℕ) (w : Trace V) (sh : Shape) → IsIdle V player most w → sh ≡ shape_of_player player → map_value (state_of V (shape_of_player player) w.acts).history k ≡ None → at ≡ moment player.world.state.words
+    → LooksUp {V = V} (shape_of_player player) (state_of V (shape_of_player player) w.acts) k (Absent at) []
 looks_missed V player most k at w sh idle same absent is =
     (record { absent = absent; unchanged = refl; moment = is ∙ (agrees_now V player most w sh idle same).at_moment }, refl)

@@ -7,16 +7,16 @@ use Rattle.mc_replay.specs.declared.fault.Fault.TheVariants.{ReadFailed, NoMemor
 use Rattle.mc_replay.specs.declared.fault.Stop.{Stop}
 use Rattle.mc_replay.specs.declared.fault.ReplayError.{ReplayError}
 
-abbrev pub number_of : Fault → ℕ
-number_of ReadFailed = 1
-number_of NoMemory = 2
-number_of TooLong = 3
-number_of NotACommand = 4
-number_of BadNumber = 5
-number_of NoSuchReader = 6
-number_of StillRunning = 7
-number_of NothingToStep = 8
-number_of WriteFailed = 9
+abbrev pub fault_number : Fault → ℕ
+fault_number ReadFailed = 1
+fault_number NoMemory = 2
+fault_number TooLong = 3
+fault_number NotACommand = 4
+fault_number BadNumber = 5
+fault_number NoSuchReader = 6
+fault_number StillRunning = 7
+fault_number NothingToStep = 8
+fault_number WriteFailed = 9
 
 -- 2 where the script is at fault, 3 where the machine is
 abbrev pub status_of : Fault → ℕ
@@ -35,9 +35,9 @@ fault_of said.NotACommand = NotACommand
 fault_of said.BadNumber = BadNumber
 
 -- the error that a caller is told
-abbrev pub told : Result (Unit {0}) Stop → Result (Unit {0}) ReplayError
-told (Ok u) = Ok u
-told (Err stop) = Err (record { line = stop.line; number = number_of stop.fault })
+abbrev pub as_replay_error : Result (Unit {0}) Stop → Result (Unit {0}) ReplayError
+as_replay_error (Ok u) = Ok u
+as_replay_error (Err stop) = Err (record { line = stop.line; number = fault_number stop.fault })
 
 -- the exit status
 abbrev pub exit_of : Result (Unit {0}) Stop → ℕ

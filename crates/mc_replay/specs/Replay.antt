@@ -7,7 +7,7 @@ use Rattle.mc_words.specs.Answers.{Finds, Misses}
 use Rattle.mc_words.specs.Standing.{Stands}
 use Rattle.mc_theory.specs.Lists.{Made, state_of}
 use Rattle.mc_theory.specs.States.{State}
-use Rattle.mc_theory.specs.Worlds.{World, Running, Ended, IsTrueEnd, first_world, Steps, Runs}
+use Rattle.mc_theory.specs.Traces.{Trace, OpenLookup, Ended, IsTrueEnd, first_trace, Steps, StepsAll}
 use Rattle.mc_theory.specs.declared.act.Act.TheVariants.{Mark}
 use Rattle.mc_theory.specs.declared.event.Event.TheVariants as event
 use Rattle.mc_plan.specs.Clerks.{Call, PutCall, RemoveCall, Answered, quiet_of}
@@ -26,20 +26,20 @@ pub record Pending (V : ℕ) : Type 0 where
 
 -- the world in which a script plays, and the writer's call that runs
 pub record Replay (V : ℕ) : Type 0 where
-  pub world : World V
+  pub world : Trace V
   pub running : Option (Pending V)
 
 -- a new world, in which no call runs
 abbrev pub first_replay : (V : ℕ) → Shape → ℕ → Replay V
-first_replay V sh readers = record { world = first_world V sh readers; running = None }
+first_replay V sh readers = record { world = first_trace V sh readers; running = None }
 
 -- the state of the table and its writer
 abbrev pub state_now : {V : ℕ} → Shape → Replay V → State V
 state_now {V} sh s = state_of V sh s.world.acts
 
 -- the writer makes these acts, with the bits that they read, and nothing else happens
-abbrev pub WriterMakes : (V : ℕ) → Shape → World V → List Made → World V → Type 0
-WriterMakes V sh w acts x = Runs V sh w (map (λ (m : Made). event.Write m.act) acts) x × (x.acts ≡ w.acts ++ acts)
+abbrev pub WriterMakes : (V : ℕ) → Shape → Trace V → List Made → Trace V → Type 0
+WriterMakes V sh w acts x = StepsAll V sh w (map (λ (m : Made). event.Write m.act) acts) x × (x.acts ≡ w.acts ++ acts)
 
 -- the line does what P says, unless a call of the writer runs
 abbrev pub WhereIdle : {V : ℕ} → Replay V → List ℕ → Option Fault → Replay V → Type 0 → Type 0
@@ -110,7 +110,7 @@ ActsDo {V} sh (suc n) s text fault t =
     ((p : Pending V) × (m : Replay V) × (first : List ℕ) × (rest : List ℕ) × (s.running ≡ Some p) × ActDoes sh s p first m × ActsDo sh n m rest fault t × (text ≡ first ++ rest))
 
 -- what is written after an access: nothing, or the line of the lookup that it ended, whose reply is true of the history at a moment of its span
-abbrev pub IsTold : {V : ℕ} → Shape → World V → World V → List ℕ → Type 0
+abbrev pub IsTold : {V : ℕ} → Shape → Trace V → Trace V → List ℕ → Type 0
 IsTold {V} sh w x text = ((x.ended ≡ w.ended) × (text ≡ [])) ⊎ ((e : Ended V) × (x.ended ≡ w.ended ++ e ∷ []) × IsTrueEnd V sh x e × (text ≡ done_line e.told))
 
 -- one access of a reader's lookup; after its last access the lookup is told
@@ -136,7 +136,7 @@ abbrev pub LookUpDoes : {V : ℕ} → Shape → Replay V → ℕ → ℕ → Lis
 LookUpDoes {V} sh s r k text fault t =
     OfReader s r text fault t ((text ≡ []) × (
     ((fault ≡ None) × Steps V sh s.world (event.Begin r k) t.world × (t.running ≡ s.running)) ⊎
-    ((fault ≡ Some StillRunning) × ((run : Running) × (slice_get s.world.readers r ≡ Some (Some run))) × (t ≡ s))
+    ((fault ≡ Some StillRunning) × ((run : OpenLookup) × (slice_get s.world.readers r ≡ Some (Some run))) × (t ≡ s))
     ))
 
 -- some accesses of a reader

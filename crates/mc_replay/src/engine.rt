@@ -2,10 +2,10 @@
 ghost use Rattle.std.specs.Prelude.{◌≡◌, ℕ, ◌≤◌, ◌<◌, ◌+◌, ◌^◌, true, length, Result, Ok, OnOk, string_bytes};
 ghost use Rattle.mc_words.specs.Checks.{shape_of};
 ghost use Rattle.mc_words.specs.Places.{IsWidth};
-ghost use Rattle.mc_replay.specs.Faults.{told};
+ghost use Rattle.mc_replay.specs.Faults.{as_replay_error};
 ghost use Rattle.mc_replay.specs.Replay.{Replay, first_replay};
 ghost use Rattle.mc_replay.specs.Scripts.{ReplaysKnown, IsReaders};
-ghost use Rattle.mc_replay.specs.Inside.Players.{Fits, FitsStill, shape_in, most_before};
+ghost use Rattle.mc_replay.specs.Inside.Players.{Fits, FitsStill, shape_of_player, most_before};
 ghost use Rattle.mc_replay.specs.Inside.Steps.{DoesLine, PlaysKnown, is_wanting};
 ghost use Rattle.mc_replay.specs.declared.fault.Stop.{Stop};
 
@@ -29,7 +29,7 @@ fn do_line<const V: usize>(
 ) -> Result<(), Fault>
     requires fits { (s : Replay V) × Fits V player.old (most_before before) s }
     requires short { length line.now ≤ 4096 }
-    ensures does { (s : Replay V) → Fits V player.old (most_before before) s → (t : Replay V) × DoesLine V (shape_in player.old) before s line.now (string_bytes text.new) t result × OnOk result (FitsStill V player.old player.new (most_before (before + 1)) t) }
+    ensures does { (s : Replay V) → Fits V player.old (most_before before) s → (t : Replay V) × DoesLine V (shape_of_player player.old) before s line.now (string_bytes text.new) t result × OnOk result (FitsStill V player.old player.new (most_before (before + 1)) t) }
     ensures few { OnOk result (before < 2 ^ 40) }
 {
     text.clear();
@@ -63,7 +63,7 @@ fn play_line<const V: usize, R: BufRead, W: Write>(
 ) -> Result<bool, Fault>
     requires { (s : Replay V) × Fits V player.old (most_before before) s }
     ensures plays { (s : Replay V) → Fits V player.old (most_before before) s → (t : Replay V) ×
-        PlaysKnown V (shape_in player.old) before s t (R.remaining input.old) (R.remaining input.new) (W.contents output.old) (W.contents output.new) result × (result ≡ Ok true → FitsStill V player.old player.new (most_before (before + 1)) t) }
+        PlaysKnown V (shape_of_player player.old) before s t (R.remaining input.old) (R.remaining input.new) (W.contents output.old) (W.contents output.new) result × (result ≡ Ok true → FitsStill V player.old player.new (most_before (before + 1)) t) }
     ensures few { result ≡ Ok true → before < 2 ^ 40 }
 {
     let mut line = Line::new();
@@ -92,8 +92,8 @@ fn play_lines<const V: usize, R: BufRead, W: Write>(
     input: &mut R,
     output: &mut W,
 ) -> Result<(), Stop>
-    requires { (readers : ℕ) × IsReaders readers × Fits V player.old 0 (first_replay V (shape_in player.old) readers) }
-    ensures { (readers : ℕ) → IsReaders readers → Fits V player.old 0 (first_replay V (shape_in player.old) readers) → ReplaysKnown V (shape_in player.old) readers (R.remaining input.old) (R.remaining input.new) (W.contents output.old) (W.contents output.new) result }
+    requires { (readers : ℕ) × IsReaders readers × Fits V player.old 0 (first_replay V (shape_of_player player.old) readers) }
+    ensures { (readers : ℕ) → IsReaders readers → Fits V player.old 0 (first_replay V (shape_of_player player.old) readers) → ReplaysKnown V (shape_of_player player.old) readers (R.remaining input.old) (R.remaining input.new) (W.contents output.old) (W.contents output.new) result }
 {
     let mut text = String::new(alloc);
     'lines: for before in 0..u64::MAX {
@@ -138,7 +138,7 @@ pub fn replay<const V: usize, R: BufRead, W: Write>(
     output: &mut W,
 ) -> Result<(), ReplayError>
     requires { IsWidth V }
-    ensures { (r : Result (Unit {0}) Stop) × ReplaysKnown V (shape_of checked.now) readers (R.remaining input.old) (R.remaining input.new) (W.contents output.old) (W.contents output.new) r × (result ≡ told r) }
+    ensures { (r : Result (Unit {0}) Stop) × ReplaysKnown V (shape_of checked.now) readers (R.remaining input.old) (R.remaining input.new) (W.contents output.old) (W.contents output.new) r × (result ≡ as_replay_error r) }
 {
     match play::<V, R, W>(alloc, checked, readers, input, output) {
         Ok(()) => Ok(()),

@@ -1,5 +1,5 @@
 ghost use Rattle.std.specs.Prelude.{◌≡◌, Some};
-ghost use Rattle.mc_replay.specs.Faults.{number_of, status_of, fault_of};
+ghost use Rattle.mc_replay.specs.Faults.{fault_number, status_of, fault_of};
 ghost use Rattle.mc_replay.specs.FaultTexts.{fault_text, refusal_text, stop_text};
 
 use mc_script::LineFault;
@@ -39,7 +39,7 @@ pub struct ReplayError {
 
 impl Fault {
     pub fn number(self) -> u8
-        ensures { result ≡ number_of self }
+        ensures { result ≡ fault_number self }
     {
         match self {
             Fault::ReadFailed => 1,

@@ -2,11 +2,11 @@
 ghost use Rattle.std.specs.Prelude.{◌≡◌, ◌+◌, ◌^◌, ◌-◌, ◌<◌, ℕ, IfOk, IfErr, OnOk, OnErr, IsSome, Err, is_some};
 ghost use Rattle.mc_words.specs.Checks.{shape_of};
 ghost use Rattle.mc_words.specs.Places.{IsWidth};
-ghost use Rattle.mc_theory.specs.Worlds as worlds;
+ghost use Rattle.mc_theory.specs.Traces as traces;
 ghost use Rattle.mc_plan.specs.Clerks.{PutCall, RemoveCall, next_act, acts_left};
 ghost use Rattle.mc_replay.specs.Replay.{Pending, first_replay};
 ghost use Rattle.mc_replay.specs.Scripts.{IsReaders};
-ghost use Rattle.mc_replay.specs.Inside.Players.{Begins, Completes, Fits, HasRoom, IsIdle, IsInCall, MakesAct, CallIsWhole, IsMarked, Looks, shape_in, bit_given, IsRefusedAs};
+ghost use Rattle.mc_replay.specs.Inside.Players.{Begins, Completes, Fits, HasRoom, IsIdle, IsInCall, MakesAct, CallIsWhole, IsMarked, Looks, shape_of_player, bit_given, IsRefusedAs};
 ghost use Rattle.mc_replay.specs.declared.fault.Fault.TheVariants.{NoMemory};
 
 use crate::fault::Fault;
@@ -38,7 +38,7 @@ impl<const V: usize> Player<V> {
     pub(crate) fn new(alloc: Global, checked: &Checked, readers: u32) -> Result<Player<V>, Fault>
         requires { IsWidth V }
         ensures fits { IfOk result (λ player. Fits V player 0 (first_replay V (shape_of checked.now) readers)) }
-        ensures shape { IfOk result (λ player. shape_in player ≡ shape_of checked.now) }
+        ensures shape { IfOk result (λ player. shape_of_player player ≡ shape_of checked.now) }
         ensures readers { OnOk result (IsReaders readers) }
         ensures refused { IfErr result (λ fault. IsRefusedAs readers fault) }
     {
@@ -68,8 +68,8 @@ impl<const V: usize> Player<V> {
     /// may be wanting.
     pub(crate) fn act(&mut self) -> Result<Option<Answer>, Fault>
         requires runs { IsSome (next_act self.old.clerk) }
-        requires call { (most : ℕ) × (p : Pending V) × (w : worlds.World V) × IsInCall V self.old most p w × (most + acts_left self.old.clerk < 2 ^ 64 - 1) }
-        ensures made { IfOk result (λ told. (most : ℕ) (p : Pending V) (w : worlds.World V) → IsInCall V self.old most p w → most + acts_left self.old.clerk < 2 ^ 64 - 1 → MakesAct V self.old self.new most p w told) }
+        requires call { (most : ℕ) × (p : Pending V) × (w : traces.Trace V) × IsInCall V self.old most p w × (most + acts_left self.old.clerk < 2 ^ 64 - 1) }
+        ensures made { IfOk result (λ told. (most : ℕ) (p : Pending V) (w : traces.Trace V) → IsInCall V self.old most p w → most + acts_left self.old.clerk < 2 ^ 64 - 1 → MakesAct V self.old self.new most p w told) }
         ensures refused { OnErr result (result ≡ Err NoMemory) }
     {
         match self.clerk.next() {
@@ -89,8 +89,8 @@ impl<const V: usize> Player<V> {
     /// Makes the acts of the call that runs, up to its answer.
     fn finish(&mut self) -> Result<Answer, Fault>
         requires runs { IsSome (next_act self.old.clerk) }
-        requires call { (most : ℕ) × (p : Pending V) × (w : worlds.World V) × IsInCall V self.old most p w × (most + acts_left self.old.clerk < 2 ^ 64 - 1) }
-        ensures made { IfOk result (λ a. (most : ℕ) (p : Pending V) (w : worlds.World V) → IsInCall V self.old most p w → most + acts_left self.old.clerk < 2 ^ 64 - 1 → Completes V self.old self.new most p w a) }
+        requires call { (most : ℕ) × (p : Pending V) × (w : traces.Trace V) × IsInCall V self.old most p w × (most + acts_left self.old.clerk < 2 ^ 64 - 1) }
+        ensures made { IfOk result (λ a. (most : ℕ) (p : Pending V) (w : traces.Trace V) → IsInCall V self.old most p w → most + acts_left self.old.clerk < 2 ^ 64 - 1 → Completes V self.old self.new most p w a) }
         ensures refused { OnErr result (result ≡ Err NoMemory) }
     {
         'acts: loop {
@@ -102,8 +102,8 @@ impl<const V: usize> Player<V> {
 
     /// Begins a `put`; the answer, where it needs no act.
     pub(crate) fn begin_put(&mut self, key: u64, value: [u64; V]) -> Option<Answer>
-        requires { (most : ℕ) × (w : worlds.World V) × IsIdle V self.old most w }
-        ensures { (most : ℕ) (w : worlds.World V) → IsIdle V self.old most w → Begins V self.old self.new most (PutCall key value.entry) w result }
+        requires { (most : ℕ) × (w : traces.Trace V) × IsIdle V self.old most w }
+        ensures { (most : ℕ) (w : traces.Trace V) → IsIdle V self.old most w → Begins V self.old self.new most (PutCall key value.entry) w result }
     {
         self.clerk.put(&mut &self.world, key, value);
         self.clerk.answer()
@@ -111,8 +111,8 @@ impl<const V: usize> Player<V> {
 
     /// Begins a `remove`; the answer, where it needs no act.
     pub(crate) fn begin_remove(&mut self, key: u64) -> Option<Answer>
-        requires { (most : ℕ) × (w : worlds.World V) × IsIdle V self.old most w }
-        ensures { (most : ℕ) (w : worlds.World V) → IsIdle V self.old most w → Begins V self.old self.new most (RemoveCall key) w result }
+        requires { (most : ℕ) × (w : traces.Trace V) × IsIdle V self.old most w }
+        ensures { (most : ℕ) (w : traces.Trace V) → IsIdle V self.old most w → Begins V self.old self.new most (RemoveCall key) w result }
     {
         self.clerk.remove(&mut &self.world, key);
         self.clerk.answer()
@@ -120,8 +120,8 @@ impl<const V: usize> Player<V> {
 
     /// A whole `put`.
     pub(crate) fn put(&mut self, key: u64, value: [u64; V]) -> Result<Answer, Fault>
-        requires { (most : ℕ) × (w : worlds.World V) × IsIdle V self.old most w × HasRoom most }
-        ensures made { IfOk result (λ a. (most : ℕ) (w : worlds.World V) → IsIdle V self.old most w → HasRoom most → CallIsWhole V self.old self.new most (PutCall key value.entry) w a) }
+        requires { (most : ℕ) × (w : traces.Trace V) × IsIdle V self.old most w × HasRoom most }
+        ensures made { IfOk result (λ a. (most : ℕ) (w : traces.Trace V) → IsIdle V self.old most w → HasRoom most → CallIsWhole V self.old self.new most (PutCall key value.entry) w a) }
         ensures refused { OnErr result (result ≡ Err NoMemory) }
     {
         match self.begin_put(key, value) {
@@ -132,8 +132,8 @@ impl<const V: usize> Player<V> {
 
     /// A whole `remove`.
     pub(crate) fn remove(&mut self, key: u64) -> Result<Answer, Fault>
-        requires { (most : ℕ) × (w : worlds.World V) × IsIdle V self.old most w × HasRoom most }
-        ensures made { IfOk result (λ a. (most : ℕ) (w : worlds.World V) → IsIdle V self.old most w → HasRoom most → CallIsWhole V self.old self.new most (RemoveCall key) w a) }
+        requires { (most : ℕ) × (w : traces.Trace V) × IsIdle V self.old most w × HasRoom most }
+        ensures made { IfOk result (λ a. (most : ℕ) (w : traces.Trace V) → IsIdle V self.old most w → HasRoom most → CallIsWhole V self.old self.new most (RemoveCall key) w a) }
         ensures refused { OnErr result (result ≡ Err NoMemory) }
     {
         match self.begin_remove(key) {
@@ -144,8 +144,8 @@ impl<const V: usize> Player<V> {
 
     /// Marks an item.
     fn mark(&mut self, item: u32)
-        requires { (most : ℕ) × (w : worlds.World V) × IsIdle V self.old most w × HasRoom most × (item < (shape_in self.old).items) }
-        ensures { (most : ℕ) (w : worlds.World V) → IsIdle V self.old most w → HasRoom most → IsMarked V self.old self.new most item w }
+        requires { (most : ℕ) × (w : traces.Trace V) × IsIdle V self.old most w × HasRoom most × (item < (shape_of_player self.old).items) }
+        ensures { (most : ℕ) (w : traces.Trace V) → IsIdle V self.old most w → HasRoom most → IsMarked V self.old self.new most item w }
     {
         match self.world.step(Event::Write(Act::Mark(item))) {
             Ok(_) => {}
@@ -155,8 +155,8 @@ impl<const V: usize> Player<V> {
 
     /// Looks a key up for the writer, which marks its item.
     pub(crate) fn get(&mut self, key: u64) -> Reply<V>
-        requires { (most : ℕ) × (w : worlds.World V) × IsIdle V self.old most w × HasRoom most }
-        ensures { (most : ℕ) (w : worlds.World V) → IsIdle V self.old most w → HasRoom most → Looks V self.old self.new most key w result }
+        requires { (most : ℕ) × (w : traces.Trace V) × IsIdle V self.old most w × HasRoom most }
+        ensures { (most : ℕ) (w : traces.Trace V) → IsIdle V self.old most w → HasRoom most → Looks V self.old self.new most key w result }
     {
         let checked = self.world.checked();
         let at = moment(&checked, &mut &self.world);

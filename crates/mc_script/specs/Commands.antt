@@ -9,9 +9,9 @@ use Rattle.mc_script.specs.Words.{words_of}
 use Rattle.mc_script.specs.Numbers.{numbers_in}
 
 -- the command that is made of a line's numbers
-abbrev pub made : {v : ℕ} → (List ℕ → Command v) → Result (List ℕ) LineFault → Result (Command v) LineFault
-made command (Ok numbers) = Ok (command numbers)
-made command (Err fault) = Err fault
+abbrev pub command_from : {v : ℕ} → (List ℕ → Command v) → Result (List ℕ) LineFault → Result (Command v) LineFault
+command_from command (Ok numbers) = Ok (command numbers)
+command_from command (Err fault) = Err fault
 
 -- the form that fits: the second, where the first has other fixed words or another number of words
 abbrev pub otherwise : {v : ℕ} → Result (Command v) LineFault → Result (Command v) LineFault → Result (Command v) LineFault
@@ -35,20 +35,20 @@ get_of v numbers = Get (slice_index numbers 0)
 -- `put`, a key and the words of its value, after `begin`
 abbrev pub begin_put_in : (v : ℕ) → List ℕ → List (List ℕ) → Result (Command v) LineFault
 begin_put_in v first words =
-    if bytes_eq first (codes "put") then made (λ numbers. BeginPut (slice_index numbers 0) (drop 1 numbers)) (numbers_in (v + 1) words)
+    if bytes_eq first (codes "put") then command_from (λ numbers. BeginPut (slice_index numbers 0) (drop 1 numbers)) (numbers_in (v + 1) words)
     else Err NotACommand
 
 -- `remove` and a key, after `begin`
 abbrev pub begin_remove_in : (v : ℕ) → List ℕ → List (List ℕ) → Result (Command v) LineFault
 begin_remove_in v first words =
-    if bytes_eq first (codes "remove") then made (λ numbers. BeginRemove (slice_index numbers 0)) (numbers_in 1 words)
+    if bytes_eq first (codes "remove") then command_from (λ numbers. BeginRemove (slice_index numbers 0)) (numbers_in 1 words)
     else Err NotACommand
 
 -- a reader, `get` and a key, after `begin`
 abbrev pub begin_get_in : (v : ℕ) → List ℕ → List (List ℕ) → Result (Command v) LineFault
 begin_get_in v first [] = Err NotACommand
 begin_get_in v first (second ∷ words) =
-    if bytes_eq second (codes "get") then made (λ numbers. BeginGet (slice_index numbers 0) (slice_index numbers 1)) (numbers_in 2 (first ∷ words))
+    if bytes_eq second (codes "get") then command_from (λ numbers. BeginGet (slice_index numbers 0) (slice_index numbers 1)) (numbers_in 2 (first ∷ words))
     else Err NotACommand
 
 abbrev pub begin_in : (v : ℕ) → List (List ℕ) → Result (Command v) LineFault
@@ -57,22 +57,22 @@ begin_in v (first ∷ words) = otherwise (begin_put_in v first words) (otherwise
 
 -- one act of the writer
 abbrev pub write_one_in : (v : ℕ) → List (List ℕ) → Result (Command v) LineFault
-write_one_in v words = made (λ numbers. Write 1) (numbers_in 0 words)
+write_one_in v words = command_from (λ numbers. Write 1) (numbers_in 0 words)
 
 -- a number of its acts
 abbrev pub write_many_in : (v : ℕ) → List (List ℕ) → Result (Command v) LineFault
-write_many_in v words = made (λ numbers. Write (slice_index numbers 0)) (stepping 0 (numbers_in 1 words))
+write_many_in v words = command_from (λ numbers. Write (slice_index numbers 0)) (stepping 0 (numbers_in 1 words))
 
 abbrev pub write_in : (v : ℕ) → List (List ℕ) → Result (Command v) LineFault
 write_in v words = otherwise (write_one_in v words) (write_many_in v words)
 
 -- a reader, for one access
 abbrev pub read_one_in : (v : ℕ) → List (List ℕ) → Result (Command v) LineFault
-read_one_in v words = made (λ numbers. Read (slice_index numbers 0) 1) (numbers_in 1 words)
+read_one_in v words = command_from (λ numbers. Read (slice_index numbers 0) 1) (numbers_in 1 words)
 
 -- a reader, and a number of its accesses
 abbrev pub read_many_in : (v : ℕ) → List (List ℕ) → Result (Command v) LineFault
-read_many_in v words = made (λ numbers. Read (slice_index numbers 0) (slice_index numbers 1)) (stepping 1 (numbers_in 2 words))
+read_many_in v words = command_from (λ numbers. Read (slice_index numbers 0) (slice_index numbers 1)) (stepping 1 (numbers_in 2 words))
 
 abbrev pub read_in : (v : ℕ) → List (List ℕ) → Result (Command v) LineFault
 read_in v words = otherwise (read_one_in v words) (read_many_in v words)
@@ -80,9 +80,9 @@ read_in v words = otherwise (read_one_in v words) (read_many_in v words)
 -- The forms of a line, by its first word. v is the number of a value's words.
 unfoldable pub command_of : (v : ℕ) → List ℕ → List (List ℕ) → Result (Command v) LineFault
 command_of v name words =
-    if bytes_eq name (codes "put") then made (put_of v) (numbers_in (v + 1) words)
-    else if bytes_eq name (codes "remove") then made (remove_of v) (numbers_in 1 words)
-    else if bytes_eq name (codes "get") then made (get_of v) (numbers_in 1 words)
+    if bytes_eq name (codes "put") then command_from (put_of v) (numbers_in (v + 1) words)
+    else if bytes_eq name (codes "remove") then command_from (remove_of v) (numbers_in 1 words)
+    else if bytes_eq name (codes "get") then command_from (get_of v) (numbers_in 1 words)
     else if bytes_eq name (codes "begin") then begin_in v words
     else if bytes_eq name (codes "w") then write_in v words
     else if bytes_eq name (codes "r") then read_in v words

@@ -4,7 +4,7 @@ ghost use Rattle.std.specs.List.{list_all};
 ghost use Rattle.std.specs.Char.{is_ascii_digit};
 ghost use Rattle.std.specs.Str.Parse.{digits_value};
 ghost use Rattle.mc_script.specs.Numbers.{numbers_in};
-ghost use Rattle.mc_script.specs.Inside.Numbers.{number_of, joined};
+ghost use Rattle.mc_script.specs.Inside.Numbers.{number_of, join_numbers};
 ghost use Rattle.mc_script.specs.Words.{words_of};
 
 use crate::command::LineFault;
@@ -75,7 +75,7 @@ pub(crate) fn first_and<const N: usize>(
     first: &[u8],
     words: &[u8],
 ) -> Result<(u64, [u64; N]), LineFault>
-    ensures { joined result ≡ numbers_in (N + 1) (first.now ∷ words_of words.now) }
+    ensures { join_numbers result ≡ numbers_in (N + 1) (first.now ∷ words_of words.now) }
 {
     let others = numbers(words)?;
     let first = number(first).ok_or(LineFault::BadNumber)?;
@@ -84,7 +84,7 @@ pub(crate) fn first_and<const N: usize>(
 
 /// A key, and the words of its value.
 pub(crate) fn entry<const V: usize>(words: &[u8]) -> Result<(u64, [u64; V]), LineFault>
-    ensures { joined result ≡ numbers_in (V + 1) (words_of words.now) }
+    ensures { join_numbers result ≡ numbers_in (V + 1) (words_of words.now) }
 {
     match first_word(words) {
         None => Err(LineFault::NotACommand),

@@ -6,14 +6,14 @@ use Rattle.mc_words.specs.Places.{slot, item}
 use Rattle.mc_words.specs.Shapes.{IsShape}
 use Rattle.std.proofs.lemmas.Grind.{same_number_lists}
 use Rattle.mc_words.specs.Standing.{Stands, HasValue, IsAbsent, AgreesAt, Agrees}
-use Rattle.mc_words.specs.History.{held}
+use Rattle.mc_words.specs.History.{map_value}
 use Rattle.mc_words.specs.declared.history.Change.{Change}
 use Rattle.mc_words.proofs.Frames.{slot_word-parts}
 use Rattle.mc_search.specs.Readable.{IsPlaced}
-use Rattle.mc_search.specs.Inside.Readable.{NamesNone, IsNotAt, IsNotAmong}
+use Rattle.mc_search.specs.Inside.Readable.{MatchesNone, IsNotAt, IsNotAmong}
 
 -- a slot whose word names no item under the tag
-pub not_at-none : (V : ℕ) (sh : Shape) (w v : List ℕ) (k q word tag : ℕ) → v ≡ w → word ≡ slot sh v q → tag ≡ tag_of sh k → NamesNone sh tag word → IsNotAt V sh w k q
+pub not_at-none : (V : ℕ) (sh : Shape) (w v : List ℕ) (k q word tag : ℕ) → v ≡ w → word ≡ slot sh v q → tag ≡ tag_of sh k → MatchesNone sh tag word → IsNotAt V sh w k q
 not_at-none V sh w v k q word tag same read is none i l e =
     absurd (none i l (read ∙ ap (λ (y : List ℕ). slot sh y q) same ∙ e ∙ ap (λ t. slot_word t i) (sym is)))
 
@@ -45,7 +45,7 @@ placed-agrees V sh w k (Some v) a q i s =
 
 -- where the words agree with a history and no deed runs, every key is found
 pub placed-quiet : (V : ℕ) (sh : Shape) (w : List ℕ) (h : List (Change V)) (k : ℕ) → Agrees V sh w None h → IsPlaced V sh w k
-placed-quiet V sh w h k a = placed-agrees V sh w k (held h k) (a.keys k (λ e. cc))
+placed-quiet V sh w h k a = placed-agrees V sh w k (map_value h k) (a.keys k (λ e. cc))
 
 -- ---- the value of a key that stands
 value_is : (V : ℕ) (sh : Shape) (w : List ℕ) (i : ℕ) (v x : List ℕ) → HasValue V sh w i v → HasValue V sh w i x → x ≡ v

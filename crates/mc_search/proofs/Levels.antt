@@ -7,7 +7,7 @@ use Rattle.mc_words.specs.Keys.{alternate, first_of, second_of, IsBucketOf}
 use Rattle.mc_words.specs.Places.{slot}
 use Rattle.mc_search.specs.declared.queue.Entry.{Entry}
 use Rattle.mc_search.specs.Inside.Readable.{IsFull}
-use Rattle.mc_search.specs.Inside.Search.{entry_at, bucket_at, depth_at, next_of, AreFull, ComesFrom, Origin, IsTree, IsNear, IsUpTo, IsFollowed, IsAdded, IsSearching, IsExpanding}
+use Rattle.mc_search.specs.Inside.Search.{entry_at, bucket_at, depth_at, next_bucket, AreFull, ComesFrom, Origin, IsTree, IsNear, IsUpTo, IsFollowed, IsAdded, IsSearching, IsExpanding}
 use Rattle.mc_search.proofs.QueueEntries.{entry_at-old, entry_at-new, bucket_at-old, depth_at-old, depth_at-new, length-push, last_or, each_pushed}
 
 -- an entry that comes from an earlier one still does where one more is queued
@@ -20,7 +20,7 @@ comes-push sh w q x i e l k =
       earlier = k.earlier;
       in_bucket = k.in_bucket;
       taken = subst (λ (y : Entry). slot sh w (4 * y.bucket + e.slot) ≢ 0) same k.taken;
-      leads = subst (λ (y : Entry). e.bucket ≡ next_of sh w y.bucket e.slot) same k.leads;
+      leads = subst (λ (y : Entry). e.bucket ≡ next_bucket sh w y.bucket e.slot) same k.leads;
       deeper = subst (λ (y : Entry). e.depth ≡ y.depth + 1) same k.deeper;
     }
 
@@ -65,7 +65,7 @@ followed-push sh w k t q e lt s = record {
   from_second = near-push q e (second_of sh k) 0 s.from_second;
   followed = λ i j h l b.
       let hi : i < length q = omega arith in
-      rw (bucket_at-old q e i hi, depth_at-old q e i hi) (near-push q e (next_of sh w (bucket_at q i) j) (depth_at q i + 1) (s.followed i j hi l b));
+      rw (bucket_at-old q e i hi, depth_at-old q e i hi) (near-push q e (next_bucket sh w (bucket_at q i) j) (depth_at q i + 1) (s.followed i j hi l b));
 }
 
 -- full buckets and one more
@@ -74,7 +74,7 @@ full-push sh w q e old new = each_pushed (λ i x. IsFull sh w x.bucket) q e old 
 
 -- the entry to which slot j of the f-th entry x leads
 abbrev pub entry_from : Shape → List ℕ → ℕ → Entry → ℕ → Entry
-entry_from sh w f x j = record { bucket = next_of sh w x.bucket j; from = f; slot = j; depth = x.depth + 1 }
+entry_from sh w f x j = record { bucket = next_bucket sh w x.bucket j; from = f; slot = j; depth = x.depth + 1 }
 
 -- it joins the queue while the slots of x are looked at
 pub expanding-push : (sh : Shape) (w : List ℕ) (k f : ℕ) (x : Entry) (j : ℕ) (q : List Entry) → IsExpanding sh w k f x (4 * f + j) q → j < 4 → slot sh w (4 * x.bucket + j) ≢ 0 → x.depth < sh.depth → IsExpanding sh w k f x (4 * f + j) (q ++ entry_from sh w f x j ∷ [])
@@ -89,7 +89,7 @@ expanding-push sh w k f x j q s l o m =
             earlier = s.queued;
             in_bucket = l;
             taken = subst (λ (y : Entry). slot sh w (4 * y.bucket + j) ≢ 0) same o;
-            leads = subst (λ (y : Entry). next_of sh w x.bucket j ≡ next_of sh w y.bucket j) same refl;
+            leads = subst (λ (y : Entry). next_bucket sh w x.bucket j ≡ next_bucket sh w y.bucket j) same refl;
             deeper = subst (λ (y : Entry). x.depth + 1 ≡ y.depth + 1) same refl;
           }))
           (omega arith) s.level;
@@ -100,7 +100,7 @@ expanding-push sh w k f x j q s l o m =
     }
 
 -- where the slot's bucket is queued, one slot more is followed
-pub expanding-next : (sh : Shape) (w : List ℕ) (k f : ℕ) (x : Entry) (j : ℕ) (q : List Entry) → IsExpanding sh w k f x (4 * f + j) q → j < 4 → ((i : ℕ) × (i < length q) × (bucket_at q i ≡ next_of sh w x.bucket j)) → IsExpanding sh w k f x (4 * f + (j + 1)) q
+pub expanding-next : (sh : Shape) (w : List ℕ) (k f : ℕ) (x : Entry) (j : ℕ) (q : List Entry) → IsExpanding sh w k f x (4 * f + j) q → j < 4 → ((i : ℕ) × (i < length q) × (bucket_at q i ≡ next_bucket sh w x.bucket j)) → IsExpanding sh w k f x (4 * f + (j + 1)) q
 expanding-next sh w k f x j q s l at = record {
   tree = s.tree;
   slots = record {
@@ -210,17 +210,17 @@ pub taken_at : (sh : Shape) (w : List ℕ) (f : ℕ) (x : Entry) (j : ℕ) (q : 
 taken_at sh w f x j q full l e lj = subst (λ (y : Entry). slot sh w (4 * y.bucket + j) ≢ 0) (sym e) (full f l j lj)
 
 -- the bucket that the code found
-pub bucket_read : (sh : Shape) (w v : List ℕ) (x : Entry) (j word b : ℕ) → v ≡ w → word ≡ slot sh v (4 * x.bucket + j) → b ≡ alternate sh x.bucket (tag_in word) → b ≡ next_of sh w x.bucket j
+pub bucket_read : (sh : Shape) (w v : List ℕ) (x : Entry) (j word b : ℕ) → v ≡ w → word ≡ slot sh v (4 * x.bucket + j) → b ≡ alternate sh x.bucket (tag_in word) → b ≡ next_bucket sh w x.bucket j
 bucket_read sh w v x j word b same read is =
     is ∙ ap (λ y. alternate sh x.bucket (tag_in y)) (read ∙ ap (λ (y : List ℕ). slot sh y (4 * x.bucket + j)) same)
 
 -- a new bucket is queued
-expanding-new : (sh : Shape) (w : List ℕ) (k f : ℕ) (x : Entry) (j b : ℕ) (q : List Entry) → IsExpanding sh w k f x (4 * f + j) q → j < 4 → slot sh w (4 * x.bucket + j) ≢ 0 → x.depth < sh.depth → b ≡ next_of sh w x.bucket j → IsExpanding sh w k f x (4 * f + j) (q ++ entry_to b f x j ∷ [])
+expanding-new : (sh : Shape) (w : List ℕ) (k f : ℕ) (x : Entry) (j b : ℕ) (q : List Entry) → IsExpanding sh w k f x (4 * f + j) q → j < 4 → slot sh w (4 * x.bucket + j) ≢ 0 → x.depth < sh.depth → b ≡ next_bucket sh w x.bucket j → IsExpanding sh w k f x (4 * f + j) (q ++ entry_to b f x j ∷ [])
 expanding-new sh w k f x j b q s l o d e =
     subst (λ (y : ℕ). IsExpanding sh w k f x (4 * f + j) (q ++ entry_to y f x j ∷ [])) (sym e) (expanding-push sh w k f x j q s l o d)
 
 -- one slot more is followed, whether its bucket is new or not
-pub expanding-added : (sh : Shape) (w : List ℕ) (k f : ℕ) (x : Entry) (j b : ℕ) (q r : List Entry) (new : Bool) → IsExpanding sh w k f x (4 * f + j) q → j < 4 → slot sh w (4 * x.bucket + j) ≢ 0 → x.depth < sh.depth → b ≡ next_of sh w x.bucket j → IsAdded q (entry_to b f x j) r new → IsExpanding sh w k f x (4 * f + (j + 1)) r
+pub expanding-added : (sh : Shape) (w : List ℕ) (k f : ℕ) (x : Entry) (j b : ℕ) (q r : List Entry) (new : Bool) → IsExpanding sh w k f x (4 * f + j) q → j < 4 → slot sh w (4 * x.bucket + j) ≢ 0 → x.depth < sh.depth → b ≡ next_bucket sh w x.bucket j → IsAdded q (entry_to b f x j) r new → IsExpanding sh w k f x (4 * f + (j + 1)) r
 expanding-added sh w k f x j b q r true s l o d e a =
     let there = there-added q r (entry_to b f x j) true a in
     expanding-next sh w k f x j r (subst (λ (y : List Entry). IsExpanding sh w k f x (4 * f + j) y) (sym a) (expanding-new sh w k f x j b q s l o d e)) l (there.0, there.1, there.2 ∙ e)

@@ -11,7 +11,7 @@ use Rattle.mc_search.specs.declared.path.Path.{Path}
 use Rattle.mc_search.specs.declared.queue.Entry.{Entry}
 use Rattle.mc_search.specs.Paths.{IsLeastPath}
 use Rattle.mc_search.specs.Inside.Readable.{IsFull, IsHoleIn}
-use Rattle.mc_search.specs.Inside.Search.{entry_at, bucket_at, depth_at, next_of, AreFull, IsNear, IsFollowed, IsSearching, IsExpanding, IsFound, IsAdded}
+use Rattle.mc_search.specs.Inside.Search.{entry_at, bucket_at, depth_at, next_bucket, AreFull, IsNear, IsFollowed, IsSearching, IsExpanding, IsFound, IsAdded}
 use Rattle.mc_search.proofs.QueueEntries.{length-push, bucket_at-new, depth_at-new}
 use Rattle.mc_search.proofs.Levels.{entry_from, entry_to, expanding-push}
 
@@ -25,8 +25,8 @@ too_short sh w k t m q full s past b (p ∷ ps) h u x n l =
     let end = past n.0 n.1 (omega arith) in
     let lj : p.slot < 4 = x.0.0.in_bucket in
     let same : bucket_at q n.0 ≡ p.bucket = n.2 ∙ sym x.1 in
-    let on : IsNear q (next_of sh w (bucket_at q n.0) p.slot) (depth_at q n.0 + 1) = s.followed n.0 p.slot n.1 lj (omega arith) in
-    let on' : IsNear q (beyond sh w p) (depth_at q n.0 + 1) = subst (λ (y : ℕ). IsNear q (next_of sh w y p.slot) (depth_at q n.0 + 1)) same on in
+    let on : IsNear q (next_bucket sh w (bucket_at q n.0) p.slot) (depth_at q n.0 + 1) = s.followed n.0 p.slot n.1 lj (omega arith) in
+    let on' : IsNear q (beyond sh w p) (depth_at q n.0 + 1) = subst (λ (y : ℕ). IsNear q (next_bucket sh w y p.slot) (depth_at q n.0 + 1)) same on in
     too_short sh w k t m q full s past (beyond sh w p) ps h (depth_at q n.0 + 1) x.2 on' (omega arith)
 
 -- so it is from either bucket of the key
@@ -52,7 +52,7 @@ none_above sh w k f x q full s l e d =
     none_left sh w k f q full s (λ i h m. elim (cases_lt i f) [ inl y ↦ y | inr g ↦ let u = s.tree.sorted f i g h in absurd (omega arith) ])
 
 -- a hole in the bucket to which a slot of the f-th entry leads
-pub found_next : (sh : Shape) (w : List ℕ) (k f : ℕ) (x : Entry) (j : ℕ) (q : List Entry) (h : Place) → AreFull sh w q → IsExpanding sh w k f x (4 * f + j) q → j < 4 → slot sh w (4 * x.bucket + j) ≢ 0 → x.depth < sh.depth → IsHoleIn sh w (next_of sh w x.bucket j) h → IsFound sh w k (q ++ entry_from sh w f x j ∷ []) (length q) h
+pub found_next : (sh : Shape) (w : List ℕ) (k f : ℕ) (x : Entry) (j : ℕ) (q : List Entry) (h : Place) → AreFull sh w q → IsExpanding sh w k f x (4 * f + j) q → j < 4 → slot sh w (4 * x.bucket + j) ≢ 0 → x.depth < sh.depth → IsHoleIn sh w (next_bucket sh w x.bucket j) h → IsFound sh w k (q ++ entry_from sh w f x j ∷ []) (length q) h
 found_next sh w k f x j q h full s l o d hole =
     let e = entry_from sh w f x j in
     let many = length-push q e in
@@ -71,10 +71,10 @@ found_next sh w k f x j q h full s l o d hole =
     }
 
 -- as the code finds it: the new entry is the queue's last
-pub found_added : (sh : Shape) (w : List ℕ) (k f : ℕ) (x : Entry) (j b : ℕ) (q r : List Entry) (new : Bool) (h : Place) → AreFull sh w q → IsExpanding sh w k f x (4 * f + j) q → j < 4 → slot sh w (4 * x.bucket + j) ≢ 0 → x.depth < sh.depth → b ≡ next_of sh w x.bucket j → new ≡ true → IsAdded q (entry_to b f x j) r new → IsHoleIn sh w b h → IsFound sh w k r (length r - 1) h
+pub found_added : (sh : Shape) (w : List ℕ) (k f : ℕ) (x : Entry) (j b : ℕ) (q r : List Entry) (new : Bool) (h : Place) → AreFull sh w q → IsExpanding sh w k f x (4 * f + j) q → j < 4 → slot sh w (4 * x.bucket + j) ≢ 0 → x.depth < sh.depth → b ≡ next_bucket sh w x.bucket j → new ≡ true → IsAdded q (entry_to b f x j) r new → IsHoleIn sh w b h → IsFound sh w k r (length r - 1) h
 found_added sh w k f x j b q r false h full s l o d e t a hole = absurd (cc)
 found_added sh w k f x j b q r true h full s l o d e t a hole =
-    let n = next_of sh w x.bucket j in
+    let n = next_bucket sh w x.bucket j in
     let is : r ≡ q ++ entry_from sh w f x j ∷ [] = a ∙ ap (λ y. q ++ entry_to y f x j ∷ []) e in
     let last : length q ≡ length (q ++ entry_from sh w f x j ∷ []) - 1 = omega (arith, length-push q (entry_from sh w f x j)) in
     subst (λ (y : List Entry). IsFound sh w k y (length y - 1) h) (sym is)

@@ -14,7 +14,7 @@ use Rattle.std.specs.Ordering.{nat_cmp}
 use Rattle.std.specs.declared.cmp.Ordering.{Ordering}
 use Rattle.std.specs.declared.cmp.Reverse.{Reverse}
 use Rattle.mc_search.specs.declared.free.FreeItems.{FreeItems}
-use Rattle.mc_search.specs.Free.{returned_items, IsFreeIn, Fresh, Returned, IsKept, Takes, Gives}
+use Rattle.mc_search.specs.Free.{returned_items, IsFreeIn, Fresh, Returned, IsConsistent, TakesFree, GivesBack}
 
 abbrev numbers : List (Reverse ℕ) → List ℕ
 numbers xs = map (λ (r : Reverse ℕ). r.0) xs
@@ -52,7 +52,7 @@ bounded x [] b = tt
 bounded x (y ∷ ys) b = (grind arith, bounded x ys b.1)
 
 -- ---- the least item is taken from those that were given back
-module _ (f g : FreeItems) (x : Reverse ℕ) (kept : IsKept f) (items : g.items ≡ f.items) (fresh : g.fresh ≡ f.fresh) (perm : IsPermutation (heap_items f.returned) (x ∷ heap_items g.returned)) where
+module _ (f g : FreeItems) (x : Reverse ℕ) (kept : IsConsistent f) (items : g.items ≡ f.items) (fresh : g.fresh ≡ f.fresh) (perm : IsPermutation (heap_items f.returned) (x ∷ heap_items g.returned)) where
   perm_of : IsPermutation (returned_items f) (x.0 ∷ returned_items g)
   perm_of = IsPermutation-map (λ (r : Reverse ℕ). r.0) (heap_items f.returned) (x ∷ heap_items g.returned) perm
 
@@ -65,7 +65,7 @@ module _ (f g : FreeItems) (x : Reverse ℕ) (kept : IsKept f) (items : g.items 
   was_below : x.0 < f.fresh
   was_below = below_of 0 0 (omega arith)
 
-  pub popped_kept : IsHeap order (heap_items g.returned) → g.items ≤ heap_capacity g.returned → IsKept g
+  pub popped_kept : IsHeap order (heap_items g.returned) → g.items ≤ heap_capacity g.returned → IsConsistent g
   popped_kept ordered room = record {
     ordered = ordered;
     within = omega (arith, kept.within);
@@ -89,7 +89,7 @@ module _ (f g : FreeItems) (x : Reverse ℕ) (kept : IsKept f) (items : g.items 
   left j ne (Fresh above l) = Fresh (omega arith) (omega arith)
   left j ne (Returned c) = Returned (one_of x.0 (returned_items g) j (Contains-permutation (returned_items f) (x.0 ∷ returned_items g) j perm_of c) ne)
 
-  pub popped_takes : Takes f g x.0
+  pub popped_takes : TakesFree f g x.0
   popped_takes = record { taken = gone; free = still; others = left }
 
   pub popped_least : IsUpperBound order x (heap_items f.returned) → (j : ℕ) → IsFreeIn f j → x.0 ≤ j
@@ -97,7 +97,7 @@ module _ (f g : FreeItems) (x : Reverse ℕ) (kept : IsKept f) (items : g.items 
   popped_least top j (Returned c) = All-contains (λ i. x.0 ≤ i) (returned_items f) j (All-from_recursion (λ i. x.0 ≤ i) (returned_items f) (bounded x (heap_items f.returned) top)) c
 
 -- ---- nothing was given back, and the first fresh item is taken
-module _ (f g : FreeItems) (kept : IsKept f) (items : g.items ≡ f.items) (fresh : g.fresh ≡ f.fresh + 1) (same : heap_items g.returned ≡ heap_items f.returned) (none : heap_items f.returned ≡ []) (some : f.fresh < f.items) where
+module _ (f g : FreeItems) (kept : IsConsistent f) (items : g.items ≡ f.items) (fresh : g.fresh ≡ f.fresh + 1) (same : heap_items g.returned ≡ heap_items f.returned) (none : heap_items f.returned ≡ []) (some : f.fresh < f.items) where
   none_there : (j : ℕ) (ns : List ℕ) → ns ≡ [] → Contains ns j → ⊥
   none_there j ns e c = let l : c.0 < length ns = c.1 in omega (arith, ap length e, l)
 
@@ -119,14 +119,14 @@ module _ (f g : FreeItems) (kept : IsKept f) (items : g.items ≡ f.items) (fres
   fresh_left j ne (Fresh above l) = Fresh (omega arith) (omega arith)
   fresh_left j ne (Returned c) = absurd (nothing_back j c)
 
-  pub fresh_takes : (i : ℕ) → i ≡ f.fresh → Takes f g i
-  fresh_takes i e = subst (λ (n : ℕ). Takes f g n) (sym e) (record { taken = fresh_gone; free = fresh_still; others = fresh_left })
+  pub fresh_takes : (i : ℕ) → i ≡ f.fresh → TakesFree f g i
+  fresh_takes i e = subst (λ (n : ℕ). TakesFree f g n) (sym e) (record { taken = fresh_gone; free = fresh_still; others = fresh_left })
 
 pub fresh_free : (f : FreeItems) (i : ℕ) → i ≡ f.fresh → f.fresh < f.items → IsFreeIn f i
 fresh_free f i e some = Fresh (omega arith) (omega arith)
 
 -- ---- an item is given back
-module _ (f : FreeItems) (item : ℕ) (kept : IsKept f) (in_items : item < f.items) (taken : IsFreeIn f item → ⊥) where
+module _ (f : FreeItems) (item : ℕ) (kept : IsConsistent f) (in_items : item < f.items) (taken : IsFreeIn f item → ⊥) where
   given_below : item < f.fresh
   given_below = elim (cases_lt item f.fresh) [ inl below ↦ below | inr above ↦ absurd (taken (Fresh (omega arith) in_items)) ]
 
@@ -146,7 +146,7 @@ module _ (f : FreeItems) (item : ℕ) (kept : IsKept f) (in_items : item < f.ite
     given_perm : IsPermutation (item ∷ returned_items f) (returned_items g)
     given_perm = IsPermutation-map (λ (r : Reverse ℕ). r.0) (record { 0 = item } ∷ heap_items f.returned) (heap_items g.returned) perm
 
-    pub given_kept : IsHeap order (heap_items g.returned) → g.items ≤ heap_capacity g.returned → IsKept g
+    pub given_kept : IsHeap order (heap_items g.returned) → g.items ≤ heap_capacity g.returned → IsConsistent g
     given_kept ordered room = record {
       ordered = ordered;
       within = omega (arith, kept.within);
@@ -163,7 +163,7 @@ module _ (f : FreeItems) (item : ℕ) (kept : IsKept f) (in_items : item < f.ite
     no_other j ne (Fresh above l) = Fresh (omega arith) (omega arith)
     no_other j ne (Returned c) = Returned (one_of item (returned_items f) j (Contains-permutation (returned_items g) (item ∷ returned_items f) j (IsPermutation-sym _ _ given_perm) c) ne)
 
-    pub given_gives : Gives f g item
+    pub given_gives : GivesBack f g item
     given_gives = record {
       given = Returned (Contains-permutation (item ∷ returned_items f) (returned_items g) item given_perm (0, omega arith, refl));
       free = stays;
@@ -171,7 +171,7 @@ module _ (f : FreeItems) (item : ℕ) (kept : IsKept f) (in_items : item < f.ite
     }
 
 -- ---- a new list
-pub new_kept : (f : FreeItems) → IsHeap order (heap_items f.returned) → heap_items f.returned ≡ [] → f.fresh ≡ 0 → f.items ≤ heap_capacity f.returned → IsKept f
+pub new_kept : (f : FreeItems) → IsHeap order (heap_items f.returned) → heap_items f.returned ≡ [] → f.fresh ≡ 0 → f.items ≤ heap_capacity f.returned → IsConsistent f
 unfolding IsDistinct
 new_kept f ordered none fresh room = record {
   ordered = ordered;
@@ -182,6 +182,6 @@ new_kept f ordered none fresh room = record {
 }
 
 -- a free item is one of the table
-pub free_below : (f : FreeItems) (i : ℕ) → IsKept f → IsFreeIn f i → i < f.items
+pub free_below : (f : FreeItems) (i : ℕ) → IsConsistent f → IsFreeIn f i → i < f.items
 free_below f i kept (Fresh above l) = l
 free_below f i kept (Returned c) = let b = All-contains (λ j. j < f.fresh) (returned_items f) i kept.below c in omega (arith, kept.within, b)

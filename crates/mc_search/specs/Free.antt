@@ -16,7 +16,7 @@ pub data IsFreeIn : FreeItems → ℕ → Type 0 where
   Returned : {f : FreeItems} {i : ℕ} → Contains (returned_items f) i → IsFreeIn f i
 
 -- items were given back once each, all of them taken before, and there is room for all items
-pub record IsKept (f : FreeItems) : Type 0 where
+pub record IsConsistent (f : FreeItems) : Type 0 where
   pub ordered : IsHeap (λ x y. nat_cmp y.0 x.0) (heap_items f.returned)
   pub within : f.fresh ≤ f.items
   pub below : All (λ i. i < f.fresh) (returned_items f)
@@ -24,13 +24,13 @@ pub record IsKept (f : FreeItems) : Type 0 where
   pub room : f.items ≤ heap_capacity f.returned
 
 -- the item is free no more, and each other is as it was
-pub record Takes (old new : FreeItems) (i : ℕ) : Type 0 where
+pub record TakesFree (old new : FreeItems) (i : ℕ) : Type 0 where
   pub taken : IsFreeIn new i → ⊥
   pub free : (j : ℕ) → IsFreeIn new j → IsFreeIn old j
   pub others : (j : ℕ) → j ≢ i → IsFreeIn old j → IsFreeIn new j
 
 -- the item is free, and each other is as it was
-pub record Gives (old new : FreeItems) (i : ℕ) : Type 0 where
+pub record GivesBack (old new : FreeItems) (i : ℕ) : Type 0 where
   pub given : IsFreeIn new i
   pub free : (j : ℕ) → IsFreeIn old j → IsFreeIn new j
   pub others : (j : ℕ) → j ≢ i → IsFreeIn new j → IsFreeIn old j

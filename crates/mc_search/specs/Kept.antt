@@ -2,7 +2,7 @@
 use Rattle.std.specs.Prelude.{ℕ, ◌≡◌, ◌≢◌, ◌*◌, ◌<◌, List}
 use Rattle.mc_words.specs.declared.shape.Shape.{Shape}
 use Rattle.mc_words.specs.Places.{slot, item}
-use Rattle.mc_words.specs.Standing.{Names}
+use Rattle.mc_words.specs.Standing.{NamesItem}
 
 -- slot q of the later words holds this word, and the other slots hold what they held
 pub record SetsSlot (sh : Shape) (w later : List ℕ) (q word : ℕ) : Type 0 where
@@ -18,4 +18,4 @@ KeepsItems V sh w later = (i j : ℕ) → item V sh later i j ≡ item V sh w i 
 
 -- each item that was named still is
 abbrev pub KeepsNamed : Shape → List ℕ → List ℕ → Type 0
-KeepsNamed sh w later = (q j : ℕ) → Names sh w q j → (o : ℕ) × Names sh later o j
+KeepsNamed sh w later = (q j : ℕ) → NamesItem sh w q j → (o : ℕ) × NamesItem sh later o j

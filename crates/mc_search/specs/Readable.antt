@@ -5,7 +5,7 @@ use Rattle.mc_words.specs.declared.shape.Shape.{Shape}
 use Rattle.mc_words.specs.Chains.{IsHole}
 use Rattle.mc_words.specs.Keys.{tag_of, slot_word, IsBucketOf, NamesUnder}
 use Rattle.mc_words.specs.Places.{slot_place, slot, item}
-use Rattle.mc_words.specs.Standing.{Names, Stands}
+use Rattle.mc_words.specs.Standing.{NamesItem, Stands}
 
 -- the words reach as far as the last slot
 abbrev pub HasSlots : Shape → List ℕ → Type 0
@@ -13,7 +13,7 @@ HasSlots sh w = slot_place sh (4 * sh.buckets) ≤ length w
 
 -- each slot is empty or names an item
 abbrev pub IsFilled : Shape → List ℕ → Type 0
-IsFilled sh w = (q : ℕ) → q < 4 * sh.buckets → (slot sh w q ≡ 0) ⊎ ((i : ℕ) × Names sh w q i)
+IsFilled sh w = (q : ℕ) → q < 4 * sh.buckets → (slot sh w q ≡ 0) ⊎ ((i : ℕ) × NamesItem sh w q i)
 
 -- where the key stands in the slot, it stands under its tag, in a bucket of the key
 abbrev pub IsPlacedAt : ℕ → Shape → List ℕ → ℕ → ℕ → Type 0

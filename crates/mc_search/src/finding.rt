@@ -4,7 +4,7 @@ ghost use Rattle.mc_words.specs.Keys.{tag_of, slot_word};
 ghost use Rattle.mc_words.specs.Places.{IsPlace, IsWidth, slot_number, word_count};
 ghost use Rattle.mc_words.specs.Standing.{Stands, IsAbsent};
 ghost use Rattle.mc_search.specs.Readable.{IsPlaced};
-ghost use Rattle.mc_search.specs.Inside.Readable.{NamesNone, IsNotAmong};
+ghost use Rattle.mc_search.specs.Inside.Readable.{MatchesNone, IsNotAmong};
 
 use crate::word::{key_at, slot_at};
 use mc_theory::Peek;
@@ -13,7 +13,7 @@ use mc_words::{Checked, Place};
 /// The item that a slot's word names under the tag: one subtraction and one comparison.
 #[tactic(auto, unfolding(mc_words::specs::Keys::slot_word))]
 fn named(checked: &Checked, tag: u8, word: u64) -> Option<u32>
-    ensures { MatchOption result (NamesNone (shape_of checked.now) tag word) (λ i. (i < (shape_of checked.now).items) × (word ≡ slot_word tag i)) }
+    ensures { MatchOption result (MatchesNone (shape_of checked.now) tag word) (λ i. (i < (shape_of checked.now).items) × (word ≡ slot_word tag i)) }
 {
     let item = word.wrapping_sub(checked.slot_word(tag, 0));
     if item < u64::from(checked.shape().items) {

@@ -16,11 +16,11 @@ pub struct FreeItems {
 }
 
 impl FreeItems {
-    ghost use Rattle.mc_search.specs.Free.{IsKept, IsFreeIn, Takes, Gives};
+    ghost use Rattle.mc_search.specs.Free.{IsConsistent, IsFreeIn, TakesFree, GivesBack};
 
     /// All items of a table.
     pub fn new(alloc: Global, items: u32) -> Result<FreeItems, AllocError>
-        ensures kept { IfOk result IsKept }
+        ensures kept { IfOk result IsConsistent }
         ensures items { IfOk result (λ f. f.items ≡ items) }
         ensures all { IfOk result (λ f. (i : ℕ) → i < items → IsFreeIn f i) }
     {
@@ -34,11 +34,11 @@ impl FreeItems {
 
     /// Takes the least free item.
     pub fn take_least(&mut self) -> Option<u32>
-        requires { IsKept self.old }
-        ensures kept { IsKept self.new }
+        requires { IsConsistent self.old }
+        ensures kept { IsConsistent self.new }
         ensures items { self.new.items ≡ self.old.items }
         ensures free { IfSome result (IsFreeIn self.old) }
-        ensures takes { IfSome result (Takes self.old self.new) }
+        ensures takes { IfSome result (TakesFree self.old self.new) }
         ensures least { IfSome result (λ i. (j : ℕ) → IsFreeIn self.old j → i ≤ j) }
         ensures none { IfNone result ((j : ℕ) → IsFreeIn self.old j → ⊥) }
         ensures same { IfNone result ((j : ℕ) → IsFreeIn self.new j → ⊥) }
@@ -55,12 +55,12 @@ impl FreeItems {
 
     /// Gives an item back.
     pub fn give(&mut self, item: u32)
-        requires kept { IsKept self.old }
+        requires kept { IsConsistent self.old }
         requires in_items { item < self.old.items }
         requires taken { IsFreeIn self.old item → ⊥ }
-        ensures kept { IsKept self.new }
+        ensures kept { IsConsistent self.new }
         ensures items { self.new.items ≡ self.old.items }
-        ensures gives { Gives self.old self.new item }
+        ensures gives { GivesBack self.old self.new item }
     {
         match self.returned.push(Reverse(item)) {
             Ok(()) => {}

@@ -2,7 +2,7 @@
 ghost use Rattle.std.specs.Prelude.{ℕ, ◌≡◌, ◌<◌, ◌≤◌, List, Some, None, length, IfSome, IfNone};
 ghost use Rattle.mc_words.specs.declared.history.Change.{Change};
 ghost use Rattle.mc_words.specs.Checks.{shape_of};
-ghost use Rattle.mc_words.specs.History.{held};
+ghost use Rattle.mc_words.specs.History.{map_value};
 ghost use Rattle.mc_words.specs.Places.{IsWidth, moment, word_count};
 ghost use Rattle.mc_words.specs.Standing.{Agrees, HasValue, Stands};
 
@@ -46,9 +46,9 @@ pub fn read<const V: usize, P: Peek>(
 ) -> Option<(u32, [u64; V])>
     requires width { IsWidth V }
     requires agrees { (h : List (Change V)) × Agrees V (shape_of checked.now) (P.words peek.old) None h }
-    ensures found { (h : List (Change V)) → Agrees V (shape_of checked.now) (P.words peek.old) None h → IfSome result (λ r. held h key ≡ Some r.1) }
+    ensures found { (h : List (Change V)) → Agrees V (shape_of checked.now) (P.words peek.old) None h → IfSome result (λ r. map_value h key ≡ Some r.1) }
     ensures item { IfSome result (λ r. (q : ℕ) × Stands V (shape_of checked.now) (P.words peek.old) key q r.0) }
-    ensures none { (h : List (Change V)) → Agrees V (shape_of checked.now) (P.words peek.old) None h → IfNone result (held h key ≡ None) }
+    ensures none { (h : List (Change V)) → Agrees V (shape_of checked.now) (P.words peek.old) None h → IfNone result (map_value h key ≡ None) }
     ensures same { P.words peek.new ≡ P.words peek.old }
     ensures kept { peek.new ≡ peek.old }
 {

@@ -1,4 +1,4 @@
-pub mod ReachedWorlds
+pub mod ReachedTraces
 pub mod Bits
 pub mod ToldHistories
 pub mod Spans

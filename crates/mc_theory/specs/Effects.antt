@@ -5,30 +5,30 @@ use Rattle.mc_words.specs.Places.{slot_number, moment, version, with_moment, wit
 use Rattle.mc_words.specs.declared.history.Change.{Change}
 use Rattle.mc_words.specs.declared.history.Change.TheVariants.{Put, Remove, Evict}
 use Rattle.mc_words.specs.declared.shape.Shape.{Shape}
-use Rattle.mc_theory.specs.Phases.{Phase, Quiet, Filling, Keyed, Placed, Renewing, Removing, Removed, Moving, Moved, Closing, running, opened}
+use Rattle.mc_theory.specs.Phases.{Phase, Quiet, Filling, Keyed, Placed, Renewing, Removing, Removed, Moving, Moved, Closing, deed_key, first_phase}
 use Rattle.mc_theory.specs.States.{State}
 use Rattle.mc_theory.specs.declared.act.Act.{Act}
 use Rattle.mc_theory.specs.declared.act.Act.TheVariants.{Open, Slot, Item, Moment, Close, Hand, Mark}
 
 -- the version of the key's stripe is one more
-abbrev pub bumped : Shape → List ℕ → ℕ → List ℕ
-bumped sh w k = with_version w (stripe_of sh k) (version w (stripe_of sh k) + 1)
+abbrev pub with_bump : Shape → List ℕ → ℕ → List ℕ
+with_bump sh w k = with_version w (stripe_of sh k) (version w (stripe_of sh k) + 1)
 
-abbrev pub closed : Shape → List ℕ → Option ℕ → List ℕ
-closed sh w None = w
-closed sh w (Some k) = bumped sh w k
+abbrev pub with_close : Shape → List ℕ → Option ℕ → List ℕ
+with_close sh w None = w
+with_close sh w (Some k) = with_bump sh w k
 
 abbrev pub words_after : ℕ → Shape → List ℕ → Phase → Act → List ℕ
-words_after V sh w p (Open k d) = bumped sh w k
+words_after V sh w p (Open k d) = with_bump sh w k
 words_after V sh w p (Slot q x) = with_slot sh w (slot_number q) x
 words_after V sh w p (Item i j x) = with_item V sh w i j x
 words_after V sh w p Moment = with_moment w (moment w + 1)
-words_after V sh w p Close = closed sh w (running p)
+words_after V sh w p Close = with_close sh w (deed_key p)
 words_after V sh w p (Hand i) = w
 words_after V sh w p (Mark i) = w
 
 abbrev pub phase_after : Phase → Act → Phase
-phase_after p (Open k d) = opened k d
+phase_after p (Open k d) = first_phase k d
 phase_after (Filling k) (Item i j x) = Keyed k i []
 phase_after (Keyed k i xs) (Item g j x) = Keyed k i (xs ++ x ∷ [])
 phase_after (Keyed k i xs) (Slot q x) = Placed k i xs
@@ -43,15 +43,15 @@ phase_after (Closing k) Close = Quiet
 phase_after p _ = p
 
 -- the change of a removal, or of an eviction
-abbrev pub taken_out : {V : ℕ} → Bool → ℕ → Change V
-taken_out false k = Remove k
-taken_out true k = Evict k
+abbrev pub removal_of : {V : ℕ} → Bool → ℕ → Change V
+removal_of false k = Remove k
+removal_of true k = Evict k
 
 -- the change of the running deed: the value is the first V words that were written
 abbrev pub change_of : {V : ℕ} → Phase → List (Change V)
 change_of {V} (Placed k i xs) = Put k (take V xs) ∷ []
 change_of {V} (Renewing k xs) = Put k (take V xs) ∷ []
-change_of {V} (Removed k e) = taken_out e k ∷ []
+change_of {V} (Removed k e) = removal_of e k ∷ []
 change_of {V} _ = []
 
 abbrev pub history_after : {V : ℕ} → List (Change V) → Phase → Act → List (Change V)
@@ -67,10 +67,10 @@ cleared_after c (Open k d) bit = None
 cleared_after c (Hand i) bit = if bit == 0 then Some i else None
 cleared_after c _ bit = c
 
-abbrev pub changes_after : ℕ → Act → ℕ
-changes_after v (Open k d) = v + 1
-changes_after v Close = v + 1
-changes_after v _ = v
+abbrev pub version_steps_after : ℕ → Act → ℕ
+version_steps_after v (Open k d) = v + 1
+version_steps_after v Close = v + 1
+version_steps_after v _ = v
 
 -- the state after an act; bit is what the hand read, where the act is one of the hand
 abbrev pub after_act : {V : ℕ} → Shape → State V → Act → ℕ → State V
@@ -80,5 +80,5 @@ after_act {V} sh s a bit = record {
   hand = hand_after sh s.hand a;
   cleared = cleared_after s.cleared a bit;
   history = history_after s.history s.phase a;
-  changes = changes_after s.changes a;
+  version_steps = version_steps_after s.version_steps a;
 }

@@ -3,10 +3,10 @@ use Rattle.std.specs.Prelude.{ℕ, ◌≡◌, ◌+◌, ◌*◌, ◌%◌, ◌^◌
 use Rattle.mc_theory.specs.Inner.{StateCounted}
 use Rattle.mc_theory.specs.Lists.{IsLawful, Made, front, state_of}
 use Rattle.mc_theory.specs.Lookups.{IsLookup}
-use Rattle.mc_theory.specs.Phases.{running}
+use Rattle.mc_theory.specs.Phases.{deed_key}
 use Rattle.mc_theory.specs.Plain.{IsBetween}
 use Rattle.mc_theory.specs.Readings.{AreRead, Reading, RiseTo}
-use Rattle.mc_words.specs.History.{IsChange, IsLegal, IsTrueAnswer, held}
+use Rattle.mc_words.specs.History.{IsChange, IsLegal, IsTrueAnswer, map_value}
 use Rattle.mc_words.specs.Keys.{stripe_of}
 use Rattle.mc_words.specs.Places.{item, payload, version}
 use Rattle.mc_words.specs.Shapes.{IsShape}
@@ -21,7 +21,7 @@ use Rattle.mc_theory.specs.declared.act.Deed.TheVariants as deed
 abbrev pub AgreesAlways : ℕ → Type 0
 AgreesAlways V =
     (sh : Shape) (acts : List Made) (f : ℕ) → IsShape sh → IsLawful V sh acts →
-    Agrees V sh (front V sh acts f).words (running (front V sh acts f).phase) (front V sh acts f).history × IsLegal sh.items (front V sh acts f).history
+    Agrees V sh (front V sh acts f).words (deed_key (front V sh acts f).phase) (front V sh acts f).history × IsLegal sh.items (front V sh acts f).history
 
 -- while the version of a key's stripe stays at an even number, the key stands where it stood, with the words it had, and the map says of it what it said
 abbrev pub StaysWhileEven : ℕ → Type 0
@@ -31,7 +31,7 @@ StaysWhileEven V =
     version (front V sh acts g).words (stripe_of sh k) ≡ version (front V sh acts f).words (stripe_of sh k) →
     ((q i : ℕ) → Stands V sh (front V sh acts f).words k q i ↔ Stands V sh (front V sh acts e).words k q i) ×
     ((q i j : ℕ) → Stands V sh (front V sh acts f).words k q i → j ≤ payload V → item V sh (front V sh acts e).words i j ≡ item V sh (front V sh acts f).words i j) ×
-    (held (front V sh acts e).history k ≡ held (front V sh acts f).history k)
+    (map_value (front V sh acts e).history k ≡ map_value (front V sh acts f).history k)
 
 -- a reply of readings at fronts that do not fall is true, at a moment of their span
 abbrev pub RepliesAreTrue : ℕ → Type 0

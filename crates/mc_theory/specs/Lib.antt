@@ -7,7 +7,7 @@ pub mod Inner
 pub mod Plain
 pub mod Readings
 pub mod Lookups
-pub mod Worlds
+pub mod Traces
 pub mod Laws
 pub mod Growth
 pub mod Writes

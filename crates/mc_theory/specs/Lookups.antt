@@ -18,16 +18,16 @@ abbrev pub slots_for : Shape → ℕ → List Place
 slots_for sh k = slots_of (first_of sh k) ++ slots_of (second_of sh k)
 
 -- the word names the key's tag, and this item
-abbrev pub Meets : Shape → ℕ → ℕ → ℕ → Type 0
-Meets sh k x i = (i < sh.items) × (x ≡ slot_word (tag_of sh k) i)
+abbrev pub TagMatches : Shape → ℕ → ℕ → ℕ → Type 0
+TagMatches sh k x i = (i < sh.items) × (x ≡ slot_word (tag_of sh k) i)
 
 -- the slots are read one after the other, each item of the key's tag at its key word, up to the key itself
 abbrev pub Scans : Shape → ℕ → List Place → List Reading → Option ℕ → Type 0
 Scans sh k [] rs hit = (rs ≡ []) × (hit ≡ None)
 Scans sh k (p ∷ ps) rs hit =
     (r : Reading) × (more : List Reading) × (rs ≡ r ∷ more) × (r.access ≡ Slot p) × (
-    (((i : ℕ) → Meets sh k r.word i → ⊥) × Scans sh k ps more hit) ⊎
-    ((i : ℕ) × (s : Reading) × (rest : List Reading) × Meets sh k r.word i × (more ≡ s ∷ rest) × (s.access ≡ Key i) × (
+    (((i : ℕ) → TagMatches sh k r.word i → ⊥) × Scans sh k ps more hit) ⊎
+    ((i : ℕ) × (s : Reading) × (rest : List Reading) × TagMatches sh k r.word i × (more ≡ s ∷ rest) × (s.access ≡ Key i) × (
     ((s.word ≡ k) × (rest ≡ []) × (hit ≡ Some i)) ⊎ ((s.word ≢ k) × Scans sh k ps rest hit))))
 
 -- the value words of an item, from word j on
@@ -64,9 +64,9 @@ IsSpoiled V sh k rs =
     ((hit : Option ℕ) × (v : List ℕ) × (before : ℕ) × (after : ℕ) × (at : ℕ) × (after ≢ before) × Tries V sh k rs hit v before after at)
 
 -- a hit has one mark, of its item
-abbrev pub Marks : Option ℕ → List Reading → Type 0
-Marks None rs = rs ≡ []
-Marks (Some i) rs = (r : Reading) × (rs ≡ r ∷ []) × (r.access ≡ Mark i)
+abbrev pub MarksHit : Option ℕ → List Reading → Type 0
+MarksHit None rs = rs ≡ []
+MarksHit (Some i) rs = (r : Reading) × (rs ≡ r ∷ []) × (r.access ≡ Mark i)
 
 abbrev pub reply_of : {V : ℕ} → Option ℕ → List ℕ → ℕ → Reply V
 reply_of None v at = Absent at
@@ -77,4 +77,4 @@ abbrev pub IsLookup : (V : ℕ) → Shape → ℕ → ℕ → List Reading → R
 IsLookup V sh k zero rs reply = (rs ≡ []) × (reply ≡ Busy)
 IsLookup V sh k (suc t) rs reply =
     ((xs : List Reading) × (ys : List Reading) × (rs ≡ xs ++ ys) × IsSpoiled V sh k xs × IsLookup V sh k t ys reply) ⊎
-    ((xs : List Reading) × (ys : List Reading) × (hit : Option ℕ) × (v : List ℕ) × (version : ℕ) × (at : ℕ) × (rs ≡ xs ++ ys) × Tries V sh k xs hit v version version at × Marks hit ys × (reply ≡ reply_of hit v at))
+    ((xs : List Reading) × (ys : List Reading) × (hit : Option ℕ) × (v : List ℕ) × (version : ℕ) × (at : ℕ) × (rs ≡ xs ++ ys) × Tries V sh k xs hit v version version at × MarksHit hit ys × (reply ≡ reply_of hit v at))

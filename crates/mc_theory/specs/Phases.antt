@@ -25,37 +25,37 @@ pub data Phase : Type 0 where
   Closing : (k : ℕ) → Phase
 
 -- the key of the running deed
-abbrev pub running : Phase → Option ℕ
-running Quiet = None
-running (Filling k) = Some k
-running (Keyed k i xs) = Some k
-running (Placed k i xs) = Some k
-running (Renewing k xs) = Some k
-running (Removing k e) = Some k
-running (Removed k e) = Some k
-running (Moving k) = Some k
-running (Moved k fresh) = Some k
-running (Closing k) = Some k
+abbrev pub deed_key : Phase → Option ℕ
+deed_key Quiet = None
+deed_key (Filling k) = Some k
+deed_key (Keyed k i xs) = Some k
+deed_key (Placed k i xs) = Some k
+deed_key (Renewing k xs) = Some k
+deed_key (Removing k e) = Some k
+deed_key (Removed k e) = Some k
+deed_key (Moving k) = Some k
+deed_key (Moved k fresh) = Some k
+deed_key (Closing k) = Some k
 
 -- the phase in which a deed begins
-abbrev pub opened : ℕ → Deed → Phase
-opened k deed.Fill = Filling k
-opened k deed.Renew = Renewing k []
-opened k deed.Remove = Removing k false
-opened k deed.Evict = Removing k true
-opened k deed.Move = Moving k
+abbrev pub first_phase : ℕ → Deed → Phase
+first_phase k deed.Fill = Filling k
+first_phase k deed.Renew = Renewing k []
+first_phase k deed.Remove = Removing k false
+first_phase k deed.Evict = Removing k true
+first_phase k deed.Move = Moving k
 
 -- 1 where the moment of the running deed is still to come
-abbrev pub owes : Phase → ℕ
-owes (Filling k) = 1
-owes (Keyed k i xs) = 1
-owes (Placed k i xs) = 1
-owes (Renewing k xs) = 1
-owes (Removing k e) = 1
-owes (Removed k e) = 1
-owes _ = 0
+abbrev pub moment_owed : Phase → ℕ
+moment_owed (Filling k) = 1
+moment_owed (Keyed k i xs) = 1
+moment_owed (Placed k i xs) = 1
+moment_owed (Renewing k xs) = 1
+moment_owed (Removing k e) = 1
+moment_owed (Removed k e) = 1
+moment_owed _ = 0
 
 -- 1 while a deed runs, whose close is still to come
-abbrev pub runs : Phase → ℕ
-runs Quiet = 0
-runs _ = 1
+abbrev pub close_owed : Phase → ℕ
+close_owed Quiet = 0
+close_owed _ = 1

@@ -1,16 +1,16 @@
--- What worlds of events owe to the plain words: the history that the acts make, and the span of each lookup that ended.
+-- What traces of events owe to the plain words: the history that the acts make, and the span of each lookup that ended.
 use Rattle.std.specs.Prelude.{ℕ, ◌≡◌, All, List, length, take}
 use Rattle.mc_words.specs.Shapes.{IsShape}
 use Rattle.mc_words.specs.declared.shape.Shape.{Shape}
 use Rattle.mc_theory.specs.Lists.{front, state_of}
 use Rattle.mc_theory.specs.Plain.{IsPlainlyTrue, IsSpan, acts_in, history_of}
-use Rattle.mc_theory.specs.Worlds.{Ended, Runs, World, first_world, start_of}
+use Rattle.mc_theory.specs.Traces.{Ended, StepsAll, Trace, first_trace, start_of}
 use Rattle.mc_theory.specs.declared.event.Event.{Event}
 
 -- after each number of events, the front of the acts among them has the history that they make
 abbrev pub EventsTellHistories : ℕ → Type 0
 EventsTellHistories V =
-    (sh : Shape) (readers : ℕ) (es : List Event) (w : World V) → Runs V sh (first_world V sh readers) es w →
+    (sh : Shape) (readers : ℕ) (es : List Event) (w : Trace V) → StepsAll V sh (first_trace V sh readers) es w →
     ((state_of V sh w.acts).history ≡ history_of V es) ×
     ((n : ℕ) → (front V sh w.acts (length (acts_in (take n es)))).history ≡ history_of V (take n es))
 
@@ -23,9 +23,9 @@ pub record IsSpanned {V : ℕ} (es : List Event) (e : Ended V) : Type 0 where
 -- whatever the events are: each lookup that has ended tells its first access and its last
 abbrev pub EndsTellSpans : ℕ → Type 0
 EndsTellSpans V =
-    (sh : Shape) (readers : ℕ) (es : List Event) (w : World V) → Runs V sh (first_world V sh readers) es w → All (IsSpanned es) w.ended
+    (sh : Shape) (readers : ℕ) (es : List Event) (w : Trace V) → StepsAll V sh (first_trace V sh readers) es w → All (IsSpanned es) w.ended
 
 -- whatever the events are: each lookup that has ended has a plainly true reply
-abbrev pub WorldsArePlainlyTrue : ℕ → Type 0
-WorldsArePlainlyTrue V =
-    (sh : Shape) (readers : ℕ) (es : List Event) (w : World V) → IsShape sh → Runs V sh (first_world V sh readers) es w → All (λ e. IsPlainlyTrue es e.told) w.ended
+abbrev pub TracesArePlainlyTrue : ℕ → Type 0
+TracesArePlainlyTrue V =
+    (sh : Shape) (readers : ℕ) (es : List Event) (w : Trace V) → IsShape sh → StepsAll V sh (first_trace V sh readers) es w → All (λ e. IsPlainlyTrue es e.told) w.ended

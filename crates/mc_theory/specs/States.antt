@@ -12,7 +12,7 @@ pub record State (V : ℕ) : Type 0 where
   pub hand : ℕ
   pub cleared : Option ℕ
   pub history : List (Change V)
-  pub changes : ℕ
+  pub version_steps : ℕ
 
 -- the state of a new table
 unfoldable pub opening : (V : ℕ) → Shape → State V
@@ -22,5 +22,5 @@ opening V sh = record {
   hand = 0;
   cleared = None;
   history = [];
-  changes = 0;
+  version_steps = 0;
 }

@@ -8,7 +8,7 @@ use Rattle.mc_words.specs.declared.shape.Shape.{Shape}
 use Rattle.mc_theory.specs.Acts.{IsAllowed}
 use Rattle.mc_theory.specs.Effects.{after_act}
 use Rattle.mc_theory.specs.Lists.{Made, IsLawful, state_of, front}
-use Rattle.mc_theory.specs.Phases.{Phase, running}
+use Rattle.mc_theory.specs.Phases.{Phase, deed_key}
 use Rattle.mc_theory.specs.Readings.{IsWordOf}
 use Rattle.mc_theory.specs.declared.access.Access.{Access}
 use Rattle.mc_theory.specs.declared.access.Access.TheVariants as access
@@ -26,14 +26,14 @@ write_of V sh w p (act.Open k d) = bump_of sh w (Some k)
 write_of V sh w p (act.Slot q x) = Some (slot_place sh (slot_number q), x)
 write_of V sh w p (act.Item i j x) = Some (item_place V sh i j, x)
 write_of V sh w p act.Moment = Some (0, moment w + 1)
-write_of V sh w p act.Close = bump_of sh w (running p)
+write_of V sh w p act.Close = bump_of sh w (deed_key p)
 write_of V sh w p (act.Hand i) = None
 write_of V sh w p (act.Mark i) = None
 
 -- the words after a write
-abbrev pub written : List ℕ → Option (ℕ × ℕ) → List ℕ
-written w None = w
-written w (Some at) = slice_set w at.0 at.1
+abbrev pub with_write : List ℕ → Option (ℕ × ℕ) → List ℕ
+with_write w None = w
+with_write w (Some at) = slice_set w at.0 at.1
 
 -- the place is one of these words, and the word is below 2^64
 abbrev pub FitsIn : List ℕ → Option (ℕ × ℕ) → Type 0
@@ -44,8 +44,8 @@ FitsIn w (Some at) = (at.0 < length w) × (at.1 < 2 ^ 64)
 abbrev pub WritesItsWord : ℕ → Type 0
 WritesItsWord V =
     (sh : Shape) (acts : List Made) (m : Made) → IsShape sh → IsLawful V sh acts → IsAllowed sh (state_of V sh acts) m.act →
-    (state_of V sh acts).changes ≤ 2 ^ 62 →
-    ((after_act sh (state_of V sh acts) m.act m.bit).words ≡ written (state_of V sh acts).words (write_of V sh (state_of V sh acts).words (state_of V sh acts).phase m.act)) ×
+    (state_of V sh acts).version_steps ≤ 2 ^ 62 →
+    ((after_act sh (state_of V sh acts) m.act m.bit).words ≡ with_write (state_of V sh acts).words (write_of V sh (state_of V sh acts).words (state_of V sh acts).phase m.act)) ×
     FitsIn (state_of V sh acts).words (write_of V sh (state_of V sh acts).words (state_of V sh acts).phase m.act)
 
 -- the slot, the item and the word of an item that an act names are of a table of this shape
@@ -70,7 +70,7 @@ KeepsItsWords V = (sh : Shape) (acts : List Made) (f : ℕ) → length (front V 
 -- while there were fewer than 2^64 version changes, each word is below 2^64
 abbrev pub WordsFit : ℕ → Type 0
 WordsFit V =
-    (sh : Shape) (acts : List Made) (f : ℕ) → IsShape sh → IsLawful V sh acts → (front V sh acts f).changes < 2 ^ 64 → All IsWord (front V sh acts f).words
+    (sh : Shape) (acts : List Made) (f : ℕ) → IsShape sh → IsLawful V sh acts → (front V sh acts f).version_steps < 2 ^ 64 → All IsWord (front V sh acts f).words
 
 -- the place that an access reads; a mark reads none
 abbrev pub place_read : ℕ → Shape → Access → Option ℕ

@@ -1,5 +1,5 @@
 ghost use Rattle.std.specs.Prelude.{◌≡◌};
-ghost use Rattle.mc_theory.specs.Worlds.{given_of};
+ghost use Rattle.mc_theory.specs.Traces.{given_of};
 
 use crate::act::Act;
 use mc_words::Reply;

@@ -1,8 +1,8 @@
-//! The laws of lists of acts, of lookups and of worlds, one function each. A body does nothing: what it ensures is the law.
+//! The laws of lists of acts, of lookups and of traces, one function each. A body does nothing: what it ensures is the law.
 ghost use Rattle.mc_theory.specs.Growth.{LawfulGrows, StatesFollow, FrontsStay, ReadingsStay, ReadingsGrow, HistoriesGrow};
 ghost use Rattle.mc_theory.specs.Laws.{AgreesAlways, StaysWhileEven, RepliesAreTrue, EvictsAreClear, CountsAlways, HandStays, ChangesFit, LookupsAreShort};
-ghost use Rattle.mc_theory.specs.Spans.{EventsTellHistories, EndsTellSpans, WorldsArePlainlyTrue};
-ghost use Rattle.mc_theory.specs.Worlds.{WorldsAreTrue, BitsStay};
+ghost use Rattle.mc_theory.specs.Spans.{EventsTellHistories, EndsTellSpans, TracesArePlainlyTrue};
+ghost use Rattle.mc_theory.specs.Traces.{TracesAreTrue, BitsStay};
 ghost use Rattle.mc_theory.specs.Writes.{WritesItsWord, ActsNameTheTable, KeepsItsWords, WordsFit, ReadsItsWord};
 
 /// At every front of a lawful list of acts the words agree with the history, which is legal.
@@ -101,8 +101,8 @@ pub fn lookups_are_short<const V: usize>()
 {}
 
 /// Whatever the writer and the readers do, one atomic step after the other: each lookup that ends replies what the map held at a moment between its first reading and its last.
-pub fn worlds_are_true<const V: usize>()
-    ensures { WorldsAreTrue V }
+pub fn traces_are_true<const V: usize>()
+    ensures { TracesAreTrue V }
 {}
 
 /// A recency bit is never anything but 0 or 1.
@@ -110,7 +110,7 @@ pub fn bits_stay<const V: usize>()
     ensures { BitsStay V }
 {}
 
-/// The acts in a list of events tell the history that a world has after them, without its words.
+/// The acts in a list of events tell the history that a trace has after them, without its words.
 pub fn events_tell_histories<const V: usize>()
     ensures { EventsTellHistories V }
 {}
@@ -121,6 +121,6 @@ pub fn ends_tell_spans<const V: usize>()
 {}
 
 /// Each lookup that ends has a true reply, said in terms of the list of events and of what the lookup tells: no word of the table is named of it.
-pub fn worlds_are_plainly_true<const V: usize>()
-    ensures { WorldsArePlainlyTrue V }
+pub fn traces_are_plainly_true<const V: usize>()
+    ensures { TracesArePlainlyTrue V }
 {}

@@ -9,9 +9,9 @@ use Rattle.std.proofs.lemmas.Map.Keys.{IsDistinct-cons, IsDistinct-head, IsDisti
 use Rattle.std.proofs.lemmas.Map.Made.{is_some-lookup}
 use Rattle.std.proofs.lemmas.Map.Steps.{length-le_from_distinct_below, length-le_from_keys}
 use Rattle.std.proofs.lemmas.Map.Entries.{length-keys_of}
-use Rattle.mc_words.specs.History.{held, key_count, map_from}
+use Rattle.mc_words.specs.History.{map_value, key_count, map_from}
 use Rattle.mc_words.specs.Places.{item}
-use Rattle.mc_words.specs.Standing.{Names, Stands, IsPresent, AgreesAt, HasFree}
+use Rattle.mc_words.specs.Standing.{NamesItem, Stands, IsPresent, AgreesAt, HasFree}
 use Rattle.mc_words.specs.declared.history.Change.{Change}
 use Rattle.mc_words.specs.declared.shape.Shape.{Shape}
 use Rattle.mc_words.proofs.Maps.{distinct_keys}
@@ -64,12 +64,12 @@ present_from : (V : ℕ) (sh : Shape) (w : List ℕ) (k : ℕ) (o : Option (List
 present_from V sh w k None a t = absurd (false≢true t)
 present_from V sh w k (Some v) a t = (a.0, a.1, a.2.stands)
 
-pub keys_fit : (V : ℕ) (sh : Shape) (w : List ℕ) (h : List (Change V)) → ((k : ℕ) → AgreesAt V sh w k (held h k)) → key_count h ≤ sh.items
-unfolding held key_count IsDistinct
+pub keys_fit : (V : ℕ) (sh : Shape) (w : List ℕ) (h : List (Change V)) → ((k : ℕ) → AgreesAt V sh w k (map_value h k)) → key_count h ≤ sh.items
+unfolding map_value key_count IsDistinct
 keys_fit V sh w h a =
     let m = map_from [] h in
     let ks = keys_of m in
-    let its = items_of V sh w ks (distinct_keys [] h tt) (λ k t. present_from V sh w k (held h k) (a k) (is_some-lookup (eqb k) m ∙ t)) in
+    let its = items_of V sh w ks (distinct_keys [] h tt) (λ k t. present_from V sh w k (map_value h k) (a k) (is_some-lookup (eqb k) m ∙ t)) in
     let fit : length its.its ≤ sh.items = length-le_from_distinct_below its.its sh.items its.distinct (λ i t. (its.stand i t).2.1.names.in_items) in
     omega (arith, its.many, length-keys_of m)
 
@@ -90,9 +90,9 @@ record KeysBelow (V : ℕ) (sh : Shape) (w : List ℕ) (n : ℕ) : Type 0 where
   each : (k : ℕ) → list_any (eqb k) ks ≡ true → (i : ℕ) × (i < n) × (item V sh w i 0 ≡ k)
 
 abbrev AllNamed : Shape → List ℕ → Type 0
-AllNamed sh w = (i : ℕ) → i < sh.items → (q : ℕ) × Names sh w q i
+AllNamed sh w = (i : ℕ) → i < sh.items → (q : ℕ) × NamesItem sh w q i
 
-keys_below : (V : ℕ) (sh : Shape) (w : List ℕ) (h : List (Change V)) → ((k : ℕ) → AgreesAt V sh w k (held h k)) → AllNamed sh w → (n : ℕ) → n ≤ sh.items → KeysBelow V sh w n
+keys_below : (V : ℕ) (sh : Shape) (w : List ℕ) (h : List (Change V)) → ((k : ℕ) → AgreesAt V sh w k (map_value h k)) → AllNamed sh w → (n : ℕ) → n ≤ sh.items → KeysBelow V sh w n
 unfolding IsDistinct
 keys_below V sh w h a named zero l = record { ks = []; many = refl; distinct = tt; each = λ k t. absurd (false≢true t) }
 keys_below V sh w h a named (suc n) l =
@@ -105,7 +105,7 @@ keys_below V sh w h a named (suc n) l =
       distinct = IsDistinct-cons eqb key rest.ks (none_any key rest.ks (λ t.
           let other = rest.each key t in
           let there = named other.0 (omega (arith, other.1)) in
-          let same = one_item V sh w key (held h key) (a key) here.0 there.0 n other.0 (record { names = here.1; key = refl }) (record { names = there.1; key = other.2 }) in
+          let same = one_item V sh w key (map_value h key) (a key) here.0 there.0 n other.0 (record { names = here.1; key = refl }) (record { names = there.1; key = other.2 }) in
           absurd (omega (arith, same, other.1)))) rest.distinct;
       each = λ k t. elim (or_cases (eqb k key) (list_any (eqb k) rest.ks) t) [
         | inl e ↦ (n, omega arith, sym (eqb-true k key e))
@@ -114,24 +114,24 @@ keys_below V sh w h a named (suc n) l =
     }
 
 -- where each item is named, there are as many keys as items
-pub full_from_named : (V : ℕ) (sh : Shape) (w : List ℕ) (h : List (Change V)) → ((k : ℕ) → AgreesAt V sh w k (held h k)) → AllNamed sh w → key_count h ≡ sh.items
-unfolding held key_count
+pub full_from_named : (V : ℕ) (sh : Shape) (w : List ℕ) (h : List (Change V)) → ((k : ℕ) → AgreesAt V sh w k (map_value h k)) → AllNamed sh w → key_count h ≡ sh.items
+unfolding map_value key_count
 full_from_named V sh w h a named =
     let all = keys_below V sh w h a named sh.items (omega arith) in
     let most = keys_fit V sh w h a in
     let least = length-le_from_keys nat_eq_equiv all.ks (map_from [] h) all.distinct (λ k t.
     let i = all.each k t in
     let here = named i.0 i.1 in
-    some_from_present V sh w k (held h k) (a k) (here.0, i.0, record { names = here.1; key = i.2 })) in
+    some_from_present V sh w k (map_value h k) (a k) (here.0, i.0, record { names = here.1; key = i.2 })) in
     omega (arith, all.many, most, least)
 
 -- where an item is free, there are fewer keys than items
-pub room_from_free : (V : ℕ) (sh : Shape) (w : List ℕ) (h : List (Change V)) → ((k : ℕ) → AgreesAt V sh w k (held h k)) → HasFree sh w → key_count h < sh.items
-unfolding held key_count IsDistinct
+pub room_from_free : (V : ℕ) (sh : Shape) (w : List ℕ) (h : List (Change V)) → ((k : ℕ) → AgreesAt V sh w k (map_value h k)) → HasFree sh w → key_count h < sh.items
+unfolding map_value key_count IsDistinct
 room_from_free V sh w h a free =
     let m = map_from [] h in
     let ks = keys_of m in
-    let its = items_of V sh w ks (distinct_keys [] h tt) (λ k t. present_from V sh w k (held h k) (a k) (is_some-lookup (eqb k) m ∙ t)) in
+    let its = items_of V sh w ks (distinct_keys [] h tt) (λ k t. present_from V sh w k (map_value h k) (a k) (is_some-lookup (eqb k) m ∙ t)) in
     let distinct = IsDistinct-cons eqb free.0 its.its (none_any free.0 its.its (λ t. let here = its.stand free.0 t in free.2 here.2.0 here.2.1.names)) its.distinct in
     let fit : length (free.0 ∷ its.its) ≤ sh.items = length-le_from_distinct_below (free.0 ∷ its.its) sh.items distinct (λ i t. elim (or_cases (eqb i free.0) (list_any (eqb i) its.its) t) [
       | inl e ↦ omega (arith, eqb-true i free.0 e, free.1)

@@ -3,7 +3,7 @@ use Rattle.std.proofs.Common.{ℕ, ◌≡◌, ◌≢◌, ◌+◌, ◌*◌, ◌^�
 use Rattle.mc_words.specs.Keys.{slot_word}
 use Rattle.mc_words.specs.Places.{payload, slot, item, with_moment, with_version, with_slot, with_item}
 use Rattle.mc_words.specs.Shapes.{IsShape}
-use Rattle.mc_words.specs.Standing.{Names, Stands, OnlyAt, AgreesAt, Begins}
+use Rattle.mc_words.specs.Standing.{NamesItem, Stands, OnlyAt, AgreesAt, ItemBegins}
 use Rattle.mc_words.specs.declared.shape.Shape.{Shape}
 use Rattle.mc_words.proofs.Places.{slot-with_slot_other, slot-with_item, slot-with_version, slot-with_moment, item-with_slot, item-with_item_other, item-with_version, item-with_moment}
 
@@ -16,15 +16,15 @@ unfolding slot_word
 slot_word-some t i e = omega arith
 
 -- a slot names one item
-pub one_named : (sh : Shape) (w : List ℕ) (q i g : ℕ) → IsShape sh → Names sh w q i → Names sh w q g → i ≡ g
+pub one_named : (sh : Shape) (w : List ℕ) (q i g : ℕ) → IsShape sh → NamesItem sh w q i → NamesItem sh w q g → i ≡ g
 one_named sh w q i g s a b =
     let e : slot_word a.tag i ≡ slot_word b.tag g = sym a.word ∙ b.word in
     (slot_word-parts a.tag b.tag i g (omega arith) (omega arith) e).1
 
-pub empty_names_none : (sh : Shape) (w : List ℕ) (q i : ℕ) → slot sh w q ≡ 0 → Names sh w q i → ⊥
+pub empty_names_none : (sh : Shape) (w : List ℕ) (q i : ℕ) → slot sh w q ≡ 0 → NamesItem sh w q i → ⊥
 empty_names_none sh w q i e a = slot_word-some a.tag i (sym a.word ∙ e)
 
-pub moved_names : (sh : Shape) (w x : List ℕ) (q i : ℕ) → slot sh x q ≡ slot sh w q → Names sh w q i → Names sh x q i
+pub moved_names : (sh : Shape) (w x : List ℕ) (q i : ℕ) → slot sh x q ≡ slot sh w q → NamesItem sh w q i → NamesItem sh x q i
 moved_names sh w x q i e a = record { tag = a.tag; in_table = a.in_table; in_items = a.in_items; is_tag = a.is_tag; word = e ∙ a.word }
 
 -- in x the key stands where it does in w, with the same words
@@ -39,7 +39,7 @@ stands_on V sh w x k q i s a = record {
   key = s.items q i a 0 (omega arith) ∙ a.key;
 }
 
-pub begins_on : (V : ℕ) (sh : Shape) (w x : List ℕ) (i : ℕ) (v : List ℕ) → ((j : ℕ) → j ≤ payload V → item V sh x i j ≡ item V sh w i j) → length v ≤ payload V → Begins V sh w i v → Begins V sh x i v
+pub begins_on : (V : ℕ) (sh : Shape) (w x : List ℕ) (i : ℕ) (v : List ℕ) → ((j : ℕ) → j ≤ payload V → item V sh x i j ≡ item V sh w i j) → length v ≤ payload V → ItemBegins V sh w i v → ItemBegins V sh x i v
 begins_on V sh w x i v same l b = λ j h. same (j + 1) (omega arith) ∙ b j h
 
 pub only_on : (V : ℕ) (sh : Shape) (w x : List ℕ) (k q i : ℕ) → SameFor V sh w x k → OnlyAt V sh w k q i → OnlyAt V sh x k q i

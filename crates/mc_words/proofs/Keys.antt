@@ -1,6 +1,6 @@
 -- The parts of a key are in their ranges, and the two buckets of a key give each other.
 use Rattle.std.proofs.Common.{ℕ, zero, suc, ◌≡◌, ◌≢◌, ◌+◌, ◌*◌, ◌/◌, ◌%◌, ◌^◌, ◌<◌, ◌≤◌, ◌-◌, sym, ◌∙◌, ap, subst, arith}
-use Rattle.mc_words.specs.Keys.{stripe_of, tag_of, alternate, first_of, mixed, folded, offset_of}
+use Rattle.mc_words.specs.Keys.{stripe_of, tag_of, alternate, first_of, mixed_key, xor_shift, offset_of}
 use Rattle.mc_words.specs.Shapes.{IsShape, IsPower}
 use Rattle.std.specs.Prelude.{bit_xor, bit_and}
 use Rattle.std.specs.Int.{w32, trailing_zeros}
@@ -23,13 +23,13 @@ pub first_of-lt : (sh : Shape) (k : ℕ) → IsShape sh → first_of sh k < sh.b
 unfolding first_of
 first_of-lt sh k s = omega (arith, s.buckets.0)
 
-folded-lt : (h : ℕ) → h < 2 ^ 64 → folded h < 2 ^ 64
+folded-lt : (h : ℕ) → h < 2 ^ 64 → xor_shift h < 2 ^ 64
 folded-lt h l = xor_lt 64 h (h / 2 ^ 33) l (omega arith)
 
-mixed-lt : (m : Mix) (k : ℕ) → k < 2 ^ 64 → mixed m k < 2 ^ 64
-unfolding mixed
+mixed-lt : (m : Mix) (k : ℕ) → k < 2 ^ 64 → mixed_key m k < 2 ^ 64
+unfolding mixed_key
 mixed-lt Plain k l = l
-mixed-lt Fmix k l = folded-lt (folded (folded k * 0xff51afd7ed558ccd % 2 ^ 64) * 0xc4ceb9fe1a85ec53 % 2 ^ 64) (omega arith)
+mixed-lt Fmix k l = folded-lt (xor_shift (xor_shift k * 0xff51afd7ed558ccd % 2 ^ 64) * 0xc4ceb9fe1a85ec53 % 2 ^ 64) (omega arith)
 
 pub tag_of-lt : (sh : Shape) (k : ℕ) → k < 2 ^ 64 → tag_of sh k < 256
 unfolding tag_of

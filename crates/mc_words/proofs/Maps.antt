@@ -4,11 +4,11 @@ use Rattle.std.specs.List.{AllByRecursion, IsDistinct}
 use Rattle.std.specs.Map.{lookup, keys_of}
 use Rattle.std.proofs.lemmas.Bool.{eqb-true, eq-eqb, ne_eqb, cases_Bool, cond-true, cond-false}
 use Rattle.std.proofs.lemmas.Map.Keys.{IsDistinct-cons, IsDistinct-head, IsDistinct-tail}
-use Rattle.mc_words.specs.History.{without, changed, map_from, held, MayFollow, LegalFrom}
+use Rattle.mc_words.specs.History.{map_without, map_after, map_from, map_value, MayFollow, LegalFrom}
 use Rattle.mc_words.specs.declared.history.Change.{Change}
 use Rattle.mc_words.specs.declared.history.Change.TheVariants.{Put, Remove, Evict}
 
-pub lookup-without_same : (k : ℕ) (m : List (ℕ × List ℕ)) → lookup (λ q. eqb k q) (without k m) ≡ None
+pub lookup-without_same : (k : ℕ) (m : List (ℕ × List ℕ)) → lookup (λ q. eqb k q) (map_without k m) ≡ None
 lookup-without_same k [] = refl
 lookup-without_same k (e ∷ es) =
     elim (cases_Bool (eqb k e.0)) [
@@ -16,7 +16,7 @@ lookup-without_same k (e ∷ es) =
       | inr f ↦ rw (cond-false (eqb k e.0) _ _ f) (rw f (lookup-without_same k es))
     ]
 
-pub lookup-without_other : (k q : ℕ) (m : List (ℕ × List ℕ)) → q ≢ k → lookup (λ x. eqb q x) (without k m) ≡ lookup (λ x. eqb q x) m
+pub lookup-without_other : (k q : ℕ) (m : List (ℕ × List ℕ)) → q ≢ k → lookup (λ x. eqb q x) (map_without k m) ≡ lookup (λ x. eqb q x) m
 lookup-without_other k q [] ne = refl
 lookup-without_other k q (e ∷ es) ne =
     elim (cases_Bool (eqb k e.0)) [
@@ -26,24 +26,24 @@ lookup-without_other k q (e ∷ es) ne =
       | inr f ↦ rw (cond-false (eqb k e.0) _ _ f) (ap (λ r. cond (eqb q e.0) (Some e.1) r) (lookup-without_other k q es ne))
     ]
 
-pub map_from-push : {n : ℕ} (m : List (ℕ × List ℕ)) (h : List (Change n)) (c : Change n) → map_from m (h ++ c ∷ []) ≡ changed (map_from m h) c
+pub map_from-push : {n : ℕ} (m : List (ℕ × List ℕ)) (h : List (Change n)) (c : Change n) → map_from m (h ++ c ∷ []) ≡ map_after (map_from m h) c
 map_from-push m [] c = refl
-map_from-push m (x ∷ xs) c = map_from-push (changed m x) xs c
+map_from-push m (x ∷ xs) c = map_from-push (map_after m x) xs c
 
-pub held-none : (n : ℕ) (k : ℕ) → held {V = n} [] k ≡ None
-unfolding held
+pub held-none : (n : ℕ) (k : ℕ) → map_value {V = n} [] k ≡ None
+unfolding map_value
 held-none n k = refl
 
-pub held-put : {n : ℕ} (h : List (Change n)) (k : ℕ) (v : List ℕ) → held (h ++ Put k v ∷ []) k ≡ Some v
-unfolding held
+pub held-put : {n : ℕ} (h : List (Change n)) (k : ℕ) (v : List ℕ) → map_value (h ++ Put k v ∷ []) k ≡ Some v
+unfolding map_value
 held-put h k v = rw (map_from-push [] h (Put k v)) (rw (eq-eqb k k refl) refl)
 
-pub held-remove : {n : ℕ} (h : List (Change n)) (k : ℕ) → held (h ++ Remove k ∷ []) k ≡ None
-unfolding held
+pub held-remove : {n : ℕ} (h : List (Change n)) (k : ℕ) → map_value (h ++ Remove k ∷ []) k ≡ None
+unfolding map_value
 held-remove h k = rw (map_from-push [] h (Remove k)) (lookup-without_same k (map_from [] h))
 
-pub held-evict : {n : ℕ} (h : List (Change n)) (k : ℕ) → held (h ++ Evict k ∷ []) k ≡ None
-unfolding held
+pub held-evict : {n : ℕ} (h : List (Change n)) (k : ℕ) → map_value (h ++ Evict k ∷ []) k ≡ None
+unfolding map_value
 held-evict h k = rw (map_from-push [] h (Evict k)) (lookup-without_same k (map_from [] h))
 
 abbrev pub key_of : {n : ℕ} → Change n → ℕ
@@ -51,17 +51,17 @@ key_of (Put k v) = k
 key_of (Remove k) = k
 key_of (Evict k) = k
 
-lookup-changed_other : {n : ℕ} (m : List (ℕ × List ℕ)) (c : Change n) (q : ℕ) → q ≢ key_of c → lookup (λ x. eqb q x) (changed m c) ≡ lookup (λ x. eqb q x) m
+lookup-changed_other : {n : ℕ} (m : List (ℕ × List ℕ)) (c : Change n) (q : ℕ) → q ≢ key_of c → lookup (λ x. eqb q x) (map_after m c) ≡ lookup (λ x. eqb q x) m
 lookup-changed_other m (Put k v) q ne = rw (ne_eqb q k ne) (lookup-without_other k q m ne)
 lookup-changed_other m (Remove k) q ne = lookup-without_other k q m ne
 lookup-changed_other m (Evict k) q ne = lookup-without_other k q m ne
 
-pub held-other : {n : ℕ} (h : List (Change n)) (c : Change n) (q : ℕ) → q ≢ key_of c → held (h ++ c ∷ []) q ≡ held h q
-unfolding held
+pub held-other : {n : ℕ} (h : List (Change n)) (c : Change n) (q : ℕ) → q ≢ key_of c → map_value (h ++ c ∷ []) q ≡ map_value h q
+unfolding map_value
 held-other h c q ne = rw (map_from-push [] h c) (lookup-changed_other (map_from [] h) c q ne)
 
 -- the keys of a map are distinct
-all_without : (P : ℕ → Type 0) (k : ℕ) (m : List (ℕ × List ℕ)) → AllByRecursion P (keys_of m) → AllByRecursion P (keys_of (without k m))
+all_without : (P : ℕ → Type 0) (k : ℕ) (m : List (ℕ × List ℕ)) → AllByRecursion P (keys_of m) → AllByRecursion P (keys_of (map_without k m))
 all_without P k [] a = a
 all_without P k (e ∷ es) a =
     elim (cases_Bool (eqb k e.0)) [
@@ -69,7 +69,7 @@ all_without P k (e ∷ es) a =
       | inr f ↦ rw (cond-false (eqb k e.0) _ _ f) (a.0, all_without P k es a.1)
     ]
 
-none_without : (k : ℕ) (m : List (ℕ × List ℕ)) → AllByRecursion (λ y. eqb k y ≡ false) (keys_of (without k m))
+none_without : (k : ℕ) (m : List (ℕ × List ℕ)) → AllByRecursion (λ y. eqb k y ≡ false) (keys_of (map_without k m))
 none_without k [] = tt
 none_without k (e ∷ es) =
     elim (cases_Bool (eqb k e.0)) [
@@ -77,23 +77,23 @@ none_without k (e ∷ es) =
       | inr f ↦ rw (cond-false (eqb k e.0) _ _ f) (f, none_without k es)
     ]
 
-distinct_without : (k : ℕ) (m : List (ℕ × List ℕ)) → IsDistinct eqb (keys_of m) → IsDistinct eqb (keys_of (without k m))
+distinct_without : (k : ℕ) (m : List (ℕ × List ℕ)) → IsDistinct eqb (keys_of m) → IsDistinct eqb (keys_of (map_without k m))
 distinct_without k [] d = d
 distinct_without k (e ∷ es) d =
     elim (cases_Bool (eqb k e.0)) [
       | inl t ↦ rw (cond-true (eqb k e.0) _ _ t) (distinct_without k es (IsDistinct-tail eqb e.0 (keys_of es) d))
-      | inr f ↦ rw (cond-false (eqb k e.0) _ _ f) (IsDistinct-cons eqb e.0 (keys_of (without k es)) (all_without (λ y. eqb e.0 y ≡ false) k es (IsDistinct-head eqb e.0 (keys_of es) d)) (distinct_without k es (IsDistinct-tail eqb e.0 (keys_of es) d)))
+      | inr f ↦ rw (cond-false (eqb k e.0) _ _ f) (IsDistinct-cons eqb e.0 (keys_of (map_without k es)) (all_without (λ y. eqb e.0 y ≡ false) k es (IsDistinct-head eqb e.0 (keys_of es) d)) (distinct_without k es (IsDistinct-tail eqb e.0 (keys_of es) d)))
     ]
 
-distinct_changed : {n : ℕ} (m : List (ℕ × List ℕ)) (c : Change n) → IsDistinct eqb (keys_of m) → IsDistinct eqb (keys_of (changed m c))
-distinct_changed m (Put k v) d = IsDistinct-cons eqb k (keys_of (without k m)) (none_without k m) (distinct_without k m d)
+distinct_changed : {n : ℕ} (m : List (ℕ × List ℕ)) (c : Change n) → IsDistinct eqb (keys_of m) → IsDistinct eqb (keys_of (map_after m c))
+distinct_changed m (Put k v) d = IsDistinct-cons eqb k (keys_of (map_without k m)) (none_without k m) (distinct_without k m d)
 distinct_changed m (Remove k) d = distinct_without k m d
 distinct_changed m (Evict k) d = distinct_without k m d
 
 pub distinct_keys : {n : ℕ} (m : List (ℕ × List ℕ)) (h : List (Change n)) → IsDistinct eqb (keys_of m) → IsDistinct eqb (keys_of (map_from m h))
 distinct_keys m [] d = d
-distinct_keys m (c ∷ cs) d = distinct_keys (changed m c) cs (distinct_changed m c d)
+distinct_keys m (c ∷ cs) d = distinct_keys (map_after m c) cs (distinct_changed m c d)
 
 pub legal-push : {n : ℕ} (z : ℕ) (m : List (ℕ × List ℕ)) (h : List (Change n)) (c : Change n) → LegalFrom z m h → MayFollow (map_from m h) c → length (map_from m (h ++ c ∷ [])) ≤ z → LegalFrom z m (h ++ c ∷ [])
 legal-push z m [] c l may size = (l, may, size)
-legal-push z m (x ∷ xs) c l may size = (l.0, l.1, legal-push z (changed m x) xs c l.2 may size)
+legal-push z m (x ∷ xs) c l may size = (l.0, l.1, legal-push z (map_after m x) xs c l.2 may size)

@@ -7,24 +7,24 @@ use Rattle.mc_words.specs.declared.history.Reply.{Reply}
 use Rattle.mc_words.specs.declared.history.Reply.TheVariants.{Found, Absent, Busy}
 
 -- the pairs without that of the key
-abbrev pub without : ℕ → List (ℕ × List ℕ) → List (ℕ × List ℕ)
-without k [] = []
-without k (e ∷ es) = if k == e.0 then without k es else e ∷ without k es
+abbrev pub map_without : ℕ → List (ℕ × List ℕ) → List (ℕ × List ℕ)
+map_without k [] = []
+map_without k (e ∷ es) = if k == e.0 then map_without k es else e ∷ map_without k es
 
 -- the map after one change more
-abbrev pub changed : {V : ℕ} → List (ℕ × List ℕ) → Change V → List (ℕ × List ℕ)
-changed m (Put k v) = (k, v) ∷ without k m
-changed m (Remove k) = without k m
-changed m (Evict k) = without k m
+abbrev pub map_after : {V : ℕ} → List (ℕ × List ℕ) → Change V → List (ℕ × List ℕ)
+map_after m (Put k v) = (k, v) ∷ map_without k m
+map_after m (Remove k) = map_without k m
+map_after m (Evict k) = map_without k m
 
 -- the map after these changes
 abbrev pub map_from : {V : ℕ} → List (ℕ × List ℕ) → List (Change V) → List (ℕ × List ℕ)
 map_from m [] = m
-map_from m (c ∷ cs) = map_from (changed m c) cs
+map_from m (c ∷ cs) = map_from (map_after m c) cs
 
 -- what the map of the history holds of the key
-unfoldable pub held : {V : ℕ} → List (Change V) → ℕ → Option (List ℕ)
-held h k = lookup (λ q. k == q) (map_from [] h)
+unfoldable pub map_value : {V : ℕ} → List (Change V) → ℕ → Option (List ℕ)
+map_value h k = lookup (λ q. k == q) (map_from [] h)
 
 -- how many keys the map of the history has
 unfoldable pub key_count : {V : ℕ} → List (Change V) → ℕ
@@ -38,7 +38,7 @@ MayFollow m (Evict k) = IsSome (lookup (λ q. k == q) m)
 
 abbrev pub LegalFrom : {V : ℕ} → ℕ → List (ℕ × List ℕ) → List (Change V) → Type 0
 LegalFrom c m [] = length m ≤ c
-LegalFrom c m (x ∷ xs) = (length m ≤ c) × MayFollow m x × LegalFrom c (changed m x) xs
+LegalFrom c m (x ∷ xs) = (length m ≤ c) × MayFollow m x × LegalFrom c (map_after m x) xs
 
 -- each key that is taken out was present, and no front of the history has more than c keys
 unfoldable pub IsLegal : {V : ℕ} → ℕ → List (Change V) → Type 0
@@ -56,6 +56,6 @@ IsChange (Evict k) = IsWord k
 
 -- the reply is what the map held after the changes that it names
 abbrev pub IsTrueAnswer : {V : ℕ} → List (Change V) → ℕ → Reply V → Type 0
-IsTrueAnswer h k (Found v at) = (at ≤ length h) × (held (take at h) k ≡ Some v)
-IsTrueAnswer h k (Absent at) = (at ≤ length h) × (held (take at h) k ≡ None)
+IsTrueAnswer h k (Found v at) = (at ≤ length h) × (map_value (take at h) k ≡ Some v)
+IsTrueAnswer h k (Absent at) = (at ≤ length h) × (map_value (take at h) k ≡ None)
 IsTrueAnswer h k Busy = Unit {0}

@@ -4,25 +4,25 @@ use Rattle.mc_words.specs.declared.mix.Mix.{Mix}
 use Rattle.mc_words.specs.declared.mix.Mix.TheVariants.{Plain, Fmix}
 use Rattle.mc_words.specs.declared.shape.Shape.{Shape}
 
-abbrev pub folded : ℕ → ℕ
-folded h = bit_xor h (h / 2 ^ 33)
+abbrev pub xor_shift : ℕ → ℕ
+xor_shift h = bit_xor h (h / 2 ^ 33)
 
 -- the key as it is, or as the finalizer of MurmurHash3 leaves it
-unfoldable pub mixed : Mix → ℕ → ℕ
-mixed Plain k = k
-mixed Fmix k = folded (folded (folded k * 0xff51afd7ed558ccd % 2 ^ 64) * 0xc4ceb9fe1a85ec53 % 2 ^ 64)
+unfoldable pub mixed_key : Mix → ℕ → ℕ
+mixed_key Plain k = k
+mixed_key Fmix k = xor_shift (xor_shift (xor_shift k * 0xff51afd7ed558ccd % 2 ^ 64) * 0xc4ceb9fe1a85ec53 % 2 ^ 64)
 
 -- one byte of the key, which its slot keeps
 unfoldable pub tag_of : Shape → ℕ → ℕ
-tag_of sh k = mixed sh.mix k / 2 ^ 56
+tag_of sh k = mixed_key sh.mix k / 2 ^ 56
 
 -- the stripe whose version counts the changes of the key
 unfoldable pub stripe_of : Shape → ℕ → ℕ
-stripe_of sh k = (mixed sh.mix k / 2 ^ 32) % sh.stripes
+stripe_of sh k = (mixed_key sh.mix k / 2 ^ 32) % sh.stripes
 
 -- the first of the key's two buckets
 unfoldable pub first_of : Shape → ℕ → ℕ
-first_of sh k = mixed sh.mix k % sh.buckets
+first_of sh k = mixed_key sh.mix k % sh.buckets
 
 -- how far apart two buckets of one tag are
 unfoldable pub offset_of : Shape → ℕ → ℕ

@@ -37,10 +37,10 @@ pub record IsShape (sh : Shape) : Type 0 where
   pub limit : HasLimit sh
 
 -- the first fault of the shape
-abbrev pub Refuses : Shape → ShapeError → Type 0
-Refuses sh Buckets = ¬ HasBuckets sh
-Refuses sh Items = HasBuckets sh × (¬ HasItems sh)
-Refuses sh Stripes = HasBuckets sh × HasItems sh × (¬ HasStripes sh)
-Refuses sh Depth = HasBuckets sh × HasItems sh × HasStripes sh × (¬ HasDepth sh)
-Refuses sh Tries = HasBuckets sh × HasItems sh × HasStripes sh × HasDepth sh × (¬ HasTries sh)
-Refuses sh Limit = HasBuckets sh × HasItems sh × HasStripes sh × HasDepth sh × HasTries sh × (¬ HasLimit sh)
+abbrev pub RefusesShape : Shape → ShapeError → Type 0
+RefusesShape sh Buckets = ¬ HasBuckets sh
+RefusesShape sh Items = HasBuckets sh × (¬ HasItems sh)
+RefusesShape sh Stripes = HasBuckets sh × HasItems sh × (¬ HasStripes sh)
+RefusesShape sh Depth = HasBuckets sh × HasItems sh × HasStripes sh × (¬ HasDepth sh)
+RefusesShape sh Tries = HasBuckets sh × HasItems sh × HasStripes sh × HasDepth sh × (¬ HasTries sh)
+RefusesShape sh Limit = HasBuckets sh × HasItems sh × HasStripes sh × HasDepth sh × HasTries sh × (¬ HasLimit sh)

@@ -2,12 +2,12 @@
 use Rattle.std.specs.Prelude.{ℕ, ◌≡◌, ◌≢◌, ◌+◌, ◌*◌, ◌/◌, ◌%◌, ◌<◌, ◌≤◌, ◌⊎◌, ◌==◌, if◌then◌else◌, List, length, Option, Some, None, slice_index}
 use Rattle.mc_words.specs.declared.history.Change.{Change}
 use Rattle.mc_words.specs.declared.shape.Shape.{Shape}
-use Rattle.mc_words.specs.History.{held}
+use Rattle.mc_words.specs.History.{map_value}
 use Rattle.mc_words.specs.Keys.{tag_of, stripe_of, slot_word, IsBucketOf}
 use Rattle.mc_words.specs.Places.{payload, word_count, moment, version, slot, item}
 
 -- the slot names the item
-pub record Names (sh : Shape) (w : List ℕ) (q i : ℕ) : Type 0 where
+pub record NamesItem (sh : Shape) (w : List ℕ) (q i : ℕ) : Type 0 where
   pub tag : ℕ
   pub in_table : q < 4 * sh.buckets
   pub in_items : i < sh.items
@@ -16,7 +16,7 @@ pub record Names (sh : Shape) (w : List ℕ) (q i : ℕ) : Type 0 where
 
 -- the key stands in the slot, at the item
 pub record Stands (V : ℕ) (sh : Shape) (w : List ℕ) (k q i : ℕ) : Type 0 where
-  pub names : Names sh w q i
+  pub names : NamesItem sh w q i
   pub key : item V sh w i 0 ≡ k
 
 abbrev pub IsAbsent : ℕ → Shape → List ℕ → ℕ → Type 0
@@ -27,7 +27,7 @@ IsPresent V sh w k = (q : ℕ) × (i : ℕ) × Stands V sh w k q i
 
 -- no slot names the item
 abbrev pub IsFree : Shape → List ℕ → ℕ → Type 0
-IsFree sh w i = (q : ℕ) → Names sh w q i → ⊥
+IsFree sh w i = (q : ℕ) → NamesItem sh w q i → ⊥
 
 abbrev pub HasFree : Shape → List ℕ → Type 0
 HasFree sh w = (i : ℕ) × (i < sh.items) × IsFree sh w i
@@ -36,12 +36,12 @@ abbrev pub IsEmpty : Shape → List ℕ → ℕ → Type 0
 IsEmpty sh w q = (q < 4 * sh.buckets) × (slot sh w q ≡ 0)
 
 -- the first words after an item's key are these
-abbrev pub Begins : ℕ → Shape → List ℕ → ℕ → List ℕ → Type 0
-Begins V sh w i xs = (j : ℕ) → j < length xs → item V sh w i (j + 1) ≡ slice_index xs j
+abbrev pub ItemBegins : ℕ → Shape → List ℕ → ℕ → List ℕ → Type 0
+ItemBegins V sh w i xs = (j : ℕ) → j < length xs → item V sh w i (j + 1) ≡ slice_index xs j
 
 -- the words after an item's key are these
 abbrev pub HasValue : ℕ → Shape → List ℕ → ℕ → List ℕ → Type 0
-HasValue V sh w i v = (length v ≡ payload V) × Begins V sh w i v
+HasValue V sh w i v = (length v ≡ payload V) × ItemBegins V sh w i v
 
 -- where the key stands is one slot, in a bucket of the key and under its tag
 pub record OnlyAt (V : ℕ) (sh : Shape) (w : List ℕ) (k q i : ℕ) : Type 0 where
@@ -64,6 +64,6 @@ odd_at sh (Some k) t = if stripe_of sh k == t then 1 else 0
 pub record Agrees (V : ℕ) (sh : Shape) (w : List ℕ) (running : Option ℕ) (h : List (Change V)) : Type 0 where
   pub size : word_count V sh ≤ length w
   pub at_moment : moment w ≡ length h
-  pub filled : (q : ℕ) → q < 4 * sh.buckets → (slot sh w q ≡ 0) ⊎ ((i : ℕ) × Names sh w q i)
+  pub filled : (q : ℕ) → q < 4 * sh.buckets → (slot sh w q ≡ 0) ⊎ ((i : ℕ) × NamesItem sh w q i)
   pub versions : (t : ℕ) → t < sh.stripes → version w t % 2 ≡ odd_at sh running t
-  pub keys : (k : ℕ) → running ≢ Some k → AgreesAt V sh w k (held h k)
+  pub keys : (k : ℕ) → running ≢ Some k → AgreesAt V sh w k (map_value h k)

@@ -1,5 +1,5 @@
 ghost use Rattle.std.specs.Prelude.{◌≡◌, ◌/◌, ◌^◌};
-ghost use Rattle.mc_words.specs.Keys.{folded, mixed};
+ghost use Rattle.mc_words.specs.Keys.{xor_shift, mixed_key};
 
 /// How a key is mixed before it is cut into its parts.
 #[derive(Clone, Copy, Debug, PartialEq, Eq)]
@@ -11,16 +11,16 @@ pub enum Mix {
 }
 
 fn fold(hash: u64) -> u64
-    ensures { result ≡ folded hash }
+    ensures { result ≡ xor_shift hash }
 {
     hash ^ (hash >> 33)
 }
 
 impl Mix {
     /// The mixed key, of which the tag, the first bucket and the stripe are cut.
-    #[tactic(auto, unfolding(crate::specs::Keys::mixed))]
+    #[tactic(auto, unfolding(crate::specs::Keys::mixed_key))]
     pub(crate) fn mix(self, key: u64) -> u64
-        ensures { result ≡ mixed self key }
+        ensures { result ≡ mixed_key self key }
     {
         match self {
             Mix::Plain => key,

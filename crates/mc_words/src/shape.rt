@@ -49,12 +49,12 @@ fn is_power(n: u32) -> bool
 }
 
 impl Shape {
-    ghost use Rattle.mc_words.specs.Shapes.{IsShape, Refuses};
+    ghost use Rattle.mc_words.specs.Shapes.{IsShape, RefusesShape};
     ghost use Rattle.mc_words.specs.Checks.{shape_of};
 
     /// The shape, checked. The first fault in the order of `ShapeError` is answered.
     pub fn check(self) -> Result<Checked, ShapeError>
-        ensures { MatchResult result (λ c. (shape_of c ≡ self) × IsShape self) (λ e. Refuses self e) }
+        ensures { MatchResult result (λ c. (shape_of c ≡ self) × IsShape self) (λ e. RefusesShape self e) }
     {
         if self.buckets < 2 || self.buckets > 1 << 20 || !is_power(self.buckets) {
             return Err(ShapeError::Buckets);

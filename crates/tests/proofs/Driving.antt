@@ -4,7 +4,7 @@ use Rattle.mc_words.specs.declared.shape.Shape.{Shape}
 use Rattle.mc_theory.specs.Acts.{IsAllowed, MayFrom}
 use Rattle.mc_theory.specs.Effects.{phase_after, words_after}
 use Rattle.mc_theory.specs.Lists.{Made, after_all}
-use Rattle.mc_theory.specs.Phases.{Phase, Quiet, Filling, Keyed, Placed, Renewing, Removing, Removed, Moving, Moved, Closing, opened, running}
+use Rattle.mc_theory.specs.Phases.{Phase, Quiet, Filling, Keyed, Placed, Renewing, Removing, Removed, Moving, Moved, Closing, first_phase, deed_key}
 use Rattle.mc_theory.specs.States.{State}
 use Rattle.mc_theory.specs.declared.act.Act.{Act}
 use Rattle.mc_theory.specs.declared.act.Act.TheVariants.{Open, Slot, Item, Moment, Close, Hand, Mark}
@@ -13,7 +13,7 @@ use Rattle.mc_theory.specs.declared.act.Deed.TheVariants as deed
 use Rattle.mc_theory.proofs.Lists.Fronts.{after_all-append}
 use Rattle.tests.specs.Drivers.{key_after, IsTied}
 
-opened_running : (k : ℕ) (d : Deed) → running (opened k d) ≡ Some k
+opened_running : (k : ℕ) (d : Deed) → deed_key (first_phase k d) ≡ Some k
 opened_running k deed.Fill = refl
 opened_running k deed.Renew = refl
 opened_running k deed.Remove = refl
@@ -39,7 +39,7 @@ tied_after V sh w hand cleared (Closing k) Close key may tie = λ j e. absurd (c
 tied_after V sh w hand cleared _ _ key may tie = absurd may
 
 -- a close is of the tied key
-close_tied : (V : ℕ) (sh : Shape) (w : List ℕ) (hand : ℕ) (cleared : Option ℕ) (p : Phase) (key : ℕ) → MayFrom V sh w hand cleared p Close → IsTied key p → running p ≡ Some key
+close_tied : (V : ℕ) (sh : Shape) (w : List ℕ) (hand : ℕ) (cleared : Option ℕ) (p : Phase) (key : ℕ) → MayFrom V sh w hand cleared p Close → IsTied key p → deed_key p ≡ Some key
 close_tied V sh w hand cleared (Closing k) key may tie = ap Some (tie k refl)
 close_tied V sh w hand cleared _ key may tie = absurd may
 
@@ -50,7 +50,7 @@ module _ (sh : Shape) (s : State 1) (acts : List Made) (a : Act) (bit : ℕ) (ke
       subst (λ (u : State 1). IsTied (key_after key a) u.phase) (sym (after_all-append sh s acts (record { act = a; bit = bit } ∷ [])))
       (tied_after 1 sh t.words t.hand t.cleared t.phase a key may tie)
 
-  pub closes_tied : a ≡ Close → running (after_all sh s acts).phase ≡ Some key
+  pub closes_tied : a ≡ Close → deed_key (after_all sh s acts).phase ≡ Some key
   closes_tied e =
       let t = after_all sh s acts in
       close_tied 1 sh t.words t.hand t.cleared t.phase key (subst (λ (b : Act). IsAllowed {V = 1} sh t b) e may) tie

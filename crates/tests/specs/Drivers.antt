@@ -2,12 +2,12 @@
 use Rattle.std.specs.Prelude.{ℕ, ◌≡◌, List, Some}
 use Rattle.mc_words.specs.declared.shape.Shape.{Shape}
 use Rattle.mc_theory.specs.Lists.{Made, after_all}
-use Rattle.mc_theory.specs.Phases.{Phase, running}
+use Rattle.mc_theory.specs.Phases.{Phase, deed_key}
 use Rattle.mc_theory.specs.States.{State}
 use Rattle.mc_theory.specs.declared.act.Act.{Act}
 use Rattle.mc_theory.specs.declared.act.Act.TheVariants.{Open}
 use Rattle.mc_plan.specs.declared.clerk.Clerk.{Clerk}
-use Rattle.mc_plan.specs.Clerks.{Call, Knows, IsOn, shape_in}
+use Rattle.mc_plan.specs.Clerks.{Call, Knows, IsOn, shape_of_clerk}
 
 -- the key of the last open
 abbrev pub key_after : ℕ → Act → ℕ
@@ -16,14 +16,14 @@ key_after key _ = key
 
 -- a running deed is of this key
 abbrev pub IsTied : ℕ → Phase → Type 0
-IsTied key p = (k : ℕ) → running p ≡ Some k → k ≡ key
+IsTied key p = (k : ℕ) → deed_key p ≡ Some k → k ≡ key
 
 -- the clerk knows the words
 pub record IsBeside (clerk : Clerk 1) (sh : Shape) (words : List ℕ) : Type 0 where
   pub s : State 1
   pub knows : Knows 1 clerk s
   pub now : words ≡ s.words
-  pub shape : shape_in clerk ≡ sh
+  pub shape : shape_of_clerk clerk ≡ sh
 
 -- the clerk is in a call, of which some acts were made on the words
 pub record IsMaking (clerk : Clerk 1) (sh : Shape) (words : List ℕ) (key : ℕ) : Type 0 where
@@ -31,6 +31,6 @@ pub record IsMaking (clerk : Clerk 1) (sh : Shape) (words : List ℕ) (key : ℕ
   pub s : State 1
   pub acts : List Made
   pub on : IsOn 1 clerk call s acts
-  pub now : words ≡ (after_all (shape_in clerk) s acts).words
-  pub tied : IsTied key (after_all (shape_in clerk) s acts).phase
-  pub shape : shape_in clerk ≡ sh
+  pub now : words ≡ (after_all (shape_of_clerk clerk) s acts).words
+  pub tied : IsTied key (after_all (shape_of_clerk clerk) s acts).phase
+  pub shape : shape_of_clerk clerk ≡ sh

@@ -1,7 +1,7 @@
 ghost use Rattle.std.specs.Prelude.{◌≡◌, ◌+◌, ◌<◌, IfOk, IfSome, IsTrue, Some, slice_set, length};
 ghost use Rattle.mc_words.specs.Checks.{shape_of};
-ghost use Rattle.mc_theory.specs.Effects.{bumped, words_after};
-ghost use Rattle.mc_theory.specs.Phases.{Phase, Quiet, running};
+ghost use Rattle.mc_theory.specs.Effects.{with_bump, words_after};
+ghost use Rattle.mc_theory.specs.Phases.{Phase, Quiet, deed_key};
 ghost use Rattle.mc_theory.specs.States.{opening};
 ghost use Rattle.mc_theory.specs.declared.act.Act.TheVariants.{Close, Moment};
 ghost use Rattle.tests.specs.Drivers.{key_after, IsBeside, IsMaking};
@@ -69,7 +69,7 @@ impl Driver {
     /// Adds one to the version of the running deed's key.
     #[tactic(auto, unfolding(mc_words::specs::Places::version, mc_words::specs::Places::with_version))]
     fn bump(&mut self) -> bool
-        ensures bumped { IsTrue result → self.new.words.items ≡ bumped (shape_of self.old.checked) self.old.words.items self.old.key }
+        ensures bumped { IsTrue result → self.new.words.items ≡ with_bump (shape_of self.old.checked) self.old.words.items self.old.key }
         ensures shape { self.new.checked ≡ self.old.checked }
         ensures key { self.new.key ≡ self.old.key }
     {
@@ -98,7 +98,7 @@ impl Driver {
     /// Makes the act, if it is one of the table.
     #[tactic(auto, unfolding(mc_words::specs::Places::payload, mc_words::specs::Places::with_slot, mc_words::specs::Places::with_item))]
     fn make(&mut self, act: Act) -> bool
-        ensures made { IsTrue result → (p : Phase) → (act ≡ Close → running p ≡ Some self.old.key) → self.new.words.items ≡ words_after 1 (shape_of self.old.checked) self.old.words.items p act }
+        ensures made { IsTrue result → (p : Phase) → (act ≡ Close → deed_key p ≡ Some self.old.key) → self.new.words.items ≡ words_after 1 (shape_of self.old.checked) self.old.words.items p act }
         ensures key { self.new.key ≡ key_after self.old.key act }
         ensures shape { self.new.checked ≡ self.old.checked }
     {

@@ -6,17 +6,17 @@ use Rattle.mc_theory.specs.Acts.{IsAllowed}
 use Rattle.mc_theory.specs.Effects.{after_act}
 use Rattle.mc_theory.specs.Lists.{IsLawful, state_of}
 use Rattle.mc_theory.specs.Lookups.{IsLookup}
-use Rattle.mc_lookup.specs.Machine.{shape_for, next_of, Left}
+use Rattle.mc_lookup.specs.Machine.{shape_for, next_access, IsRemainder}
 use Rattle.mc_theory.specs.Readings.{Reading}
 use Rattle.mc_theory.specs.States.{State}
-use Rattle.mc_theory.specs.Worlds as worlds
-use Rattle.mc_theory.specs.Worlds.{HasChanges, bit_of}
+use Rattle.mc_theory.specs.Traces as traces
+use Rattle.mc_theory.specs.Traces.{HasVersionSteps, bit_of}
 use Rattle.mc_theory.specs.declared.act.Act.{Act}
 use Rattle.mc_theory.specs.declared.act.Act.TheVariants as act
 use Rattle.mc_theory.specs.declared.event.Event.{Event}
 use Rattle.mc_theory.specs.declared.event.Event.TheVariants as event
 use Rattle.mc_core.specs.declared.reader.Reader.{Reader}
-use Rattle.mc_core.specs.Seen.{Shown, Both, IsRunning, Shows, MayAct, state_after}
+use Rattle.mc_core.specs.Seen.{WorldView, Both, IsOpenLookup, Shows, MayAct, state_after}
 
 -- an act on a recency bit is one on the bit of an item
 abbrev pub ReadsIn : Shape → Act → Type 0

@@ -7,11 +7,11 @@ use Rattle.mc_words.specs.declared.place.Place.{Place}
 use Rattle.mc_words.specs.declared.shape.Shape.{Shape}
 use Rattle.mc_core.specs.declared.table.Table.{Table}
 
-abbrev pub shape_in : {V : ℕ} → Table V → Shape
-shape_in t = shape_of t.checked
+abbrev pub shape_of_table : {V : ℕ} → Table V → Shape
+shape_of_table t = shape_of t.checked
 
-abbrev pub words_in : {V : ℕ} → Table V → List ℕ
-words_in t = t.words.items
+abbrev pub words_of_table : {V : ℕ} → Table V → List ℕ
+words_of_table t = t.words.items
 
 -- the key stands in the slot at this place, at the item
 abbrev pub StandsAt : ℕ → Shape → List ℕ → ℕ → Place → ℕ → Type 0

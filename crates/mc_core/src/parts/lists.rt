@@ -7,10 +7,10 @@ use std::alloc::{AllocError, Global};
 
 impl<const V: usize> Parts<V> {
     ghost use Rattle.std.specs.Prelude.{◌≡◌, ◌≢◌, ◌+◌, ◌<◌, ◌≤◌, ◌∷◌, [], length, IfOk, IfErr, OnOk, OnErr, vec_len, vec_capacity};
-    ghost use Rattle.mc_core.specs.Inside.Parts.{shape_of_parts, shown_of, StandFor, HasMade};
-    ghost use Rattle.mc_theory.specs.Worlds as worlds;
+    ghost use Rattle.mc_core.specs.Inside.Parts.{shape_of_parts, view_of, StandFor, MakesEvents};
+    ghost use Rattle.mc_theory.specs.Traces as traces;
     ghost use Rattle.mc_theory.specs.Plain.{events_made};
-    ghost use Rattle.mc_theory.specs.Worlds.{StopsAt};
+    ghost use Rattle.mc_theory.specs.Traces.{StopsAt};
     ghost use Rattle.mc_core.specs.Inside.Writers.{room_of};
     ghost use Rattle.mc_theory.specs.declared.event.Unlawful.TheVariants as unlawful;
 
@@ -20,10 +20,10 @@ impl<const V: usize> Parts<V> {
         alloc: Global,
         events: &[Event],
     ) -> Result<(Vec<Done<V>>, Option<(usize, Unlawful)>), AllocError>
-        requires { (seen : worlds.World V) × StandFor {V = V} self.old seen }
-        ensures ok { IfOk result (λ run. HasMade {V = V} self.old self.new (events_made events.now run.1) [] run.0.items × ((seen : worlds.World V) → StandFor {V = V} self.new seen → StopsAt {V = V} (shape_of_parts {V = V} self.new) seen events.now run.1)) }
-        ensures err { OnErr result (HasMade {V = V} self.old self.new [] [] []) }
-        ensures kept { OnErr result (shown_of {V = V} self.new ≡ shown_of {V = V} self.old) }
+        requires { (seen : traces.Trace V) × StandFor {V = V} self.old seen }
+        ensures ok { IfOk result (λ run. MakesEvents {V = V} self.old self.new (events_made events.now run.1) [] run.0.items × ((seen : traces.Trace V) → StandFor {V = V} self.new seen → StopsAt {V = V} (shape_of_parts {V = V} self.new) seen events.now run.1)) }
+        ensures err { OnErr result (MakesEvents {V = V} self.old self.new [] [] []) }
+        ensures kept { OnErr result (view_of {V = V} self.new ≡ view_of {V = V} self.old) }
     {
         let mut done = Vec::with_capacity(alloc, events.len())?;
         self.reserve(events.len())?;
@@ -34,19 +34,19 @@ impl<const V: usize> Parts<V> {
     /// Makes room for so many changes.
     fn reserve(&mut self, changes: usize) -> Result<(), AllocError>
         ensures room { OnOk result (changes ≤ room_of {V = V} self.new.writer) }
-        ensures made { HasMade {V = V} self.old self.new [] [] [] }
-        ensures kept { shown_of {V = V} self.new ≡ shown_of {V = V} self.old }
+        ensures made { MakesEvents {V = V} self.old self.new [] [] [] }
+        ensures kept { view_of {V = V} self.new ≡ view_of {V = V} self.old }
     {
         self.writer.history.try_reserve(changes)
     }
 
     /// Makes the events up to the first that is refused. Room for all that they tell and change is there.
     fn make_all(&mut self, events: &[Event], done: &mut Vec<Done<V>>) -> Option<(usize, Unlawful)>
-        requires stands { (seen : worlds.World V) × StandFor {V = V} self.old seen }
+        requires stands { (seen : traces.Trace V) × StandFor {V = V} self.old seen }
         requires room { length events.now ≤ room_of {V = V} self.old.writer }
         requires spare { vec_len done.old + length events.now ≤ vec_capacity done.old }
-        ensures made { HasMade {V = V} self.old self.new (events_made events.now result) done.old.items done.new.items }
-        ensures stops { (seen : worlds.World V) → StandFor {V = V} self.new seen → StopsAt {V = V} (shape_of_parts {V = V} self.new) seen events.now result }
+        ensures made { MakesEvents {V = V} self.old self.new (events_made events.now result) done.old.items done.new.items }
+        ensures stops { (seen : traces.Trace V) → StandFor {V = V} self.new seen → StopsAt {V = V} (shape_of_parts {V = V} self.new) seen events.now result }
     {
         for (i, event) in events.iter().enumerate() {
             if let Err(why) = self.make_one(*event, done) {
@@ -58,15 +58,15 @@ impl<const V: usize> Parts<V> {
 
     /// Makes an event. Room for what it tells and changes is there.
     fn make_one(&mut self, event: Event, done: &mut Vec<Done<V>>) -> Result<(), Unlawful>
-        requires stands { (seen : worlds.World V) × StandFor {V = V} self.old seen }
+        requires stands { (seen : traces.Trace V) × StandFor {V = V} self.old seen }
         requires room { 1 ≤ room_of {V = V} self.old.writer }
         requires spare { vec_len done.old < vec_capacity done.old }
-        ensures made { OnOk result (HasMade {V = V} self.old self.new (event ∷ []) done.old.items done.new.items) }
+        ensures made { OnOk result (MakesEvents {V = V} self.old self.new (event ∷ []) done.old.items done.new.items) }
         ensures room { OnOk result (room_of {V = V} self.old.writer ≤ room_of {V = V} self.new.writer + 1) }
         ensures spare { OnOk result (vec_len done.new + vec_capacity done.old ≤ vec_len done.old + vec_capacity done.new + 1) }
-        ensures refused { IfErr result (λ why. (seen : worlds.World V) → StandFor {V = V} self.old seen → worlds.Refuses {V = V} (shape_of_parts {V = V} self.old) seen event why × StandFor {V = V} self.new seen) }
+        ensures refused { IfErr result (λ why. (seen : traces.Trace V) → StandFor {V = V} self.old seen → traces.RefusesEvent {V = V} (shape_of_parts {V = V} self.old) seen event why × StandFor {V = V} self.new seen) }
         ensures lawful { IfErr result (λ why. why ≢ unlawful.NoMemory) }
-        ensures kept { OnErr result (shown_of {V = V} self.new ≡ shown_of {V = V} self.old) }
+        ensures kept { OnErr result (view_of {V = V} self.new ≡ view_of {V = V} self.old) }
         ensures silent { OnErr result (done.new.items ≡ done.old.items) }
     {
         match self.step(event) {

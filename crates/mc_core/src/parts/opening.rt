@@ -9,7 +9,7 @@ impl<const V: usize> Parts<V> {
     ghost use Rattle.mc_words.specs.Checks.{shape_of};
     ghost use Rattle.mc_words.specs.Places.{IsWidth};
     ghost use Rattle.mc_core.specs.Inside.Parts.{shape_of_parts, StandFor};
-    ghost use Rattle.mc_theory.specs.Worlds.{first_world};
+    ghost use Rattle.mc_theory.specs.Traces.{first_trace};
 
     /// The parts of a new world with so many readers.
     pub(crate) fn new(
@@ -18,7 +18,7 @@ impl<const V: usize> Parts<V> {
         readers: u32,
     ) -> Result<Parts<V>, AllocError>
         requires { IsWidth V }
-        ensures { IfOk result (λ p. (shape_of_parts {V = V} p ≡ shape_of checked.now) × StandFor {V = V} p (first_world V (shape_of checked.now) readers)) }
+        ensures { IfOk result (λ p. (shape_of_parts {V = V} p ≡ shape_of checked.now) × StandFor {V = V} p (first_trace V (shape_of checked.now) readers)) }
     {
         let writer = Writer::new(alloc, checked)?;
         let mut bits = Vec::new(alloc);

@@ -1,6 +1,6 @@
 //! The readers of a world begin lookups and make their accesses.
 ghost use Rattle.std.specs.Prelude.{◌≡◌, Some, IsSome};
-ghost use Rattle.mc_lookup.specs.Machine.{next_of, shape_for};
+ghost use Rattle.mc_lookup.specs.Machine.{next_access, shape_for};
 ghost use Rattle.mc_theory.specs.Writes.{IsAccess};
 
 use crate::parts::Parts;
@@ -11,18 +11,18 @@ use mc_theory::{Access, Done, Stepped, Unlawful};
 impl<const V: usize> Parts<V> {
     ghost use Rattle.mc_theory.specs.declared.event.Unlawful.TheVariants as unlawful;
     ghost use Rattle.std.specs.Prelude.{◌≡◌, ◌≢◌, ◌+◌, ◌-◌, ◌^◌, ◌<◌, Some, None, IfOk, IfErr, OnOk, OnErr, IsSome, length, slice_get, slice_set, unwrap_or};
-    ghost use Rattle.mc_core.specs.Inside.Parts.{shape_of_parts, shown_of, StandFor};
+    ghost use Rattle.mc_core.specs.Inside.Parts.{shape_of_parts, view_of, StandFor};
     ghost use Rattle.mc_core.specs.Seen.{state_after};
-    ghost use Rattle.mc_theory.specs.Worlds as worlds;
-    ghost use Rattle.mc_theory.specs.Worlds.{bits_read};
+    ghost use Rattle.mc_theory.specs.Traces as traces;
+    ghost use Rattle.mc_theory.specs.Traces.{bits_read};
     ghost use Rattle.mc_theory.specs.Writes.{IsAccess};
     ghost use Rattle.mc_theory.specs.declared.event.Event.TheVariants as event;
 
     /// A reader begins a lookup of a key.
     pub(crate) fn begin(&mut self, reader: u32, key: u64) -> Result<Stepped<V>, Unlawful>
-        requires { (seen : worlds.World V) × StandFor {V = V} self.old seen }
-        ensures ok { IfOk result (λ out. (seen : worlds.World V) → StandFor {V = V} self.old seen → (next : worlds.World V) × worlds.Steps V (shape_of_parts {V = V} self.old) seen (event.Begin reader key) next × worlds.Gives {V = V} seen (event.Begin reader key) next out × StandFor {V = V} self.new next) }
-        ensures err { IfErr result (λ why. (seen : worlds.World V) → StandFor {V = V} self.old seen → worlds.Refuses {V = V} (shape_of_parts {V = V} self.old) seen (event.Begin reader key) why) }
+        requires { (seen : traces.Trace V) × StandFor {V = V} self.old seen }
+        ensures ok { IfOk result (λ out. (seen : traces.Trace V) → StandFor {V = V} self.old seen → (next : traces.Trace V) × traces.Steps V (shape_of_parts {V = V} self.old) seen (event.Begin reader key) next × traces.EventGives {V = V} seen (event.Begin reader key) next out × StandFor {V = V} self.new next) }
+        ensures err { IfErr result (λ why. (seen : traces.Trace V) → StandFor {V = V} self.old seen → traces.RefusesEvent {V = V} (shape_of_parts {V = V} self.old) seen (event.Begin reader key) why) }
         ensures kept { OnErr result (self.new ≡ self.old) }
         ensures full { IfErr result (λ why. why ≢ unlawful.NoMemory) }
         ensures writer { self.new.writer ≡ self.old.writer }
@@ -48,9 +48,9 @@ impl<const V: usize> Parts<V> {
 
     /// A reader makes its next access.
     pub(crate) fn read(&mut self, reader: u32) -> Result<Stepped<V>, Unlawful>
-        requires { (seen : worlds.World V) × StandFor {V = V} self.old seen }
-        ensures ok { IfOk result (λ out. (seen : worlds.World V) → StandFor {V = V} self.old seen → (next : worlds.World V) × worlds.Steps V (shape_of_parts {V = V} self.old) seen (event.Read reader) next × worlds.Gives {V = V} seen (event.Read reader) next out × StandFor {V = V} self.new next) }
-        ensures err { IfErr result (λ why. (seen : worlds.World V) → StandFor {V = V} self.old seen → worlds.Refuses {V = V} (shape_of_parts {V = V} self.old) seen (event.Read reader) why) }
+        requires { (seen : traces.Trace V) × StandFor {V = V} self.old seen }
+        ensures ok { IfOk result (λ out. (seen : traces.Trace V) → StandFor {V = V} self.old seen → (next : traces.Trace V) × traces.Steps V (shape_of_parts {V = V} self.old) seen (event.Read reader) next × traces.EventGives {V = V} seen (event.Read reader) next out × StandFor {V = V} self.new next) }
+        ensures err { IfErr result (λ why. (seen : traces.Trace V) → StandFor {V = V} self.old seen → traces.RefusesEvent {V = V} (shape_of_parts {V = V} self.old) seen (event.Read reader) why) }
         ensures kept { OnErr result (self.new ≡ self.old) }
         ensures full { IfErr result (λ why. why ≢ unlawful.NoMemory) }
         ensures writer { self.new.writer ≡ self.old.writer }
@@ -72,8 +72,8 @@ impl<const V: usize> Parts<V> {
     fn access(&mut self, reader: u32, running: Reader<V>) -> Stepped<V>
         requires running { slice_get self.old.readers.items reader ≡ Some (Some running) }
         requires events { self.old.events < 2 ^ 64 - 1 }
-        requires stands { (seen : worlds.World V) × StandFor {V = V} self.old seen }
-        ensures stepped { (seen : worlds.World V) → StandFor {V = V} self.old seen → (next : worlds.World V) × worlds.Steps V (shape_of_parts {V = V} self.old) seen (event.Read reader) next × worlds.Gives {V = V} seen (event.Read reader) next result × StandFor {V = V} self.new next }
+        requires stands { (seen : traces.Trace V) × StandFor {V = V} self.old seen }
+        ensures stepped { (seen : traces.Trace V) → StandFor {V = V} self.old seen → (next : traces.Trace V) × traces.Steps V (shape_of_parts {V = V} self.old) seen (event.Read reader) next × traces.EventGives {V = V} seen (event.Read reader) next result × StandFor {V = V} self.new next }
         ensures writer { self.new.writer ≡ self.old.writer }
     {
         let Reader { mut lookup, first } = running;
@@ -122,8 +122,8 @@ impl<const V: usize> Parts<V> {
 
 /// The access that comes next in a lookup that hasn't ended.
 fn next_access<const V: usize>(lookup: &Lookup<V>) -> Access
-    requires { IsSome (next_of {V = V} lookup.now) }
-    ensures next { next_of {V = V} lookup.now ≡ Some result }
+    requires { IsSome (next_access {V = V} lookup.now) }
+    ensures next { next_access {V = V} lookup.now ≡ Some result }
     ensures range { IsAccess V (shape_for {V = V} lookup.now) result }
 {
     match lookup.next() {

@@ -4,25 +4,26 @@ use mc_theory::{Act, Stepped, Unlawful, given_by};
 
 impl<const V: usize> Parts<V> {
     ghost use Rattle.std.specs.Prelude.{◌≡◌, ◌+◌, ◌-◌, ◌^◌, ◌<◌, ◌≤◌, ◌↔◌, IfOk, IfErr, OnOk, OnErr, IsTrue};
-    ghost use Rattle.mc_theory.specs.Worlds as worlds;
-    ghost use Rattle.mc_theory.specs.Worlds.{HasChanges, bit_of, bits_after};
+    ghost use Rattle.mc_theory.specs.Traces as traces;
+    ghost use Rattle.mc_theory.specs.Traces.{HasVersionSteps, bit_of, bits_after};
     ghost use Rattle.mc_core.specs.Inside.Writers.{room_of};
     ghost use Rattle.mc_theory.specs.declared.event.Unlawful.TheVariants as unlawful;
-    ghost use Rattle.mc_core.specs.Inside.Parts.{shape_of_parts, shown_of, StandFor};
+    ghost use Rattle.mc_core.specs.Inside.Parts.{shape_of_parts, view_of, StandFor};
     ghost use Rattle.mc_core.specs.Seen.{state_after};
     ghost use Rattle.mc_core.specs.Inside.Seen.{ReadsIn};
     ghost use Rattle.mc_theory.specs.declared.event.Event.TheVariants as event;
 
     /// Whether the act passes no limit.
     fn is_within(&self, act: Act) -> bool
-        requires { self.now.writer.changes ≤ 2 ^ 62 }
-        ensures { IsTrue result ↔ ((self.now.events < 2 ^ 64 - 1) × HasChanges (shape_of_parts {V = V} self.now).limit self.now.writer.changes act) }
+        requires { self.now.writer.version_steps ≤ 2 ^ 62 }
+        ensures { IsTrue result ↔ ((self.now.events < 2 ^ 64 - 1) × HasVersionSteps (shape_of_parts {V = V} self.now).limit self.now.writer.version_steps act) }
     {
         if self.events == u64::MAX {
             return false;
         }
         match act {
-            Act::Open(_, _) => self.writer.changes + 2 <= self.writer.table.checked.shape().limit,
+            Act::Open(_, _) => self.writer.version_steps + 2
+                <= self.writer.table.checked.shape().limit,
             Act::Slot(_, _)
             | Act::Item(_, _, _)
             | Act::Moment
@@ -65,12 +66,12 @@ impl<const V: usize> Parts<V> {
 
     /// The writer makes an act, if it is lawful.
     pub(crate) fn write(&mut self, act: Act) -> Result<Stepped<V>, Unlawful>
-        requires { (seen : worlds.World V) × StandFor {V = V} self.old seen }
-        ensures ok { IfOk result (λ out. (seen : worlds.World V) → StandFor {V = V} self.old seen → (next : worlds.World V) × worlds.Steps V (shape_of_parts {V = V} self.old) seen (event.Write act) next × worlds.Gives {V = V} seen (event.Write act) next out × StandFor {V = V} self.new next) }
-        ensures err { IfErr result (λ why. (seen : worlds.World V) → StandFor {V = V} self.old seen → worlds.Refuses {V = V} (shape_of_parts {V = V} self.old) seen (event.Write act) why × StandFor {V = V} self.new seen) }
-        ensures kept { OnErr result (shown_of {V = V} self.new ≡ shown_of {V = V} self.old) }
+        requires { (seen : traces.Trace V) × StandFor {V = V} self.old seen }
+        ensures ok { IfOk result (λ out. (seen : traces.Trace V) → StandFor {V = V} self.old seen → (next : traces.Trace V) × traces.Steps V (shape_of_parts {V = V} self.old) seen (event.Write act) next × traces.EventGives {V = V} seen (event.Write act) next out × StandFor {V = V} self.new next) }
+        ensures err { IfErr result (λ why. (seen : traces.Trace V) → StandFor {V = V} self.old seen → traces.RefusesEvent {V = V} (shape_of_parts {V = V} self.old) seen (event.Write act) why × StandFor {V = V} self.new seen) }
+        ensures kept { OnErr result (view_of {V = V} self.new ≡ view_of {V = V} self.old) }
         ensures shape { shape_of_parts {V = V} self.new ≡ shape_of_parts {V = V} self.old }
-        ensures state { OnOk result ((shown_of {V = V} self.new).state ≡ state_after {V = V} (shown_of {V = V} self.old) (event.Write act)) }
+        ensures state { OnOk result ((view_of {V = V} self.new).state ≡ state_after {V = V} (view_of {V = V} self.old) (event.Write act)) }
         ensures room { OnOk result (room_of {V = V} self.old.writer ≤ room_of {V = V} self.new.writer + 1) }
         ensures full { IfErr result (λ why. why ≡ unlawful.NoMemory → room_of {V = V} self.old.writer ≡ 0) }
     {

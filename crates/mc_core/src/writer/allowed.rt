@@ -7,7 +7,7 @@ ghost use Rattle.mc_words.specs.Standing.{Stands, IsAbsent, IsPresent, HasFree};
 ghost use Rattle.mc_theory.specs.Acts.{MayFrom, MayOpen};
 ghost use Rattle.mc_theory.specs.Phases.{Quiet, Filling, Keyed, Renewing, Removing, Moving, Moved};
 ghost use Rattle.mc_core.specs.Inside.Tables.{StandsAt};
-ghost use Rattle.mc_core.specs.Inside.Writers.{shape_at, words_at, UsedWell, StandsWell, IsFreeItem};
+ghost use Rattle.mc_core.specs.Inside.Writers.{shape_of_writer, words_of_writer, UsedWell, StandsWell, IsFreeItem};
 
 use crate::writer::Writer;
 use mc_theory::{Act, Deed};
@@ -16,8 +16,8 @@ use mc_words::Place;
 impl<const V: usize> Writer<V> {
     /// The item at which the key stands.
     fn item_of(&self, key: u64) -> Option<u32>
-        requires { StandsWell V (shape_at {V = V} self.now) (words_at {V = V} self.now) key }
-        ensures { MatchOption result (IsAbsent V (shape_at {V = V} self.now) (words_at {V = V} self.now) key) (λ i. (q : ℕ) × Stands V (shape_at {V = V} self.now) (words_at {V = V} self.now) key q i) }
+        requires { StandsWell V (shape_of_writer {V = V} self.now) (words_of_writer {V = V} self.now) key }
+        ensures { MatchOption result (IsAbsent V (shape_of_writer {V = V} self.now) (words_of_writer {V = V} self.now) key) (λ i. (q : ℕ) × Stands V (shape_of_writer {V = V} self.now) (words_of_writer {V = V} self.now) key q i) }
     {
         match self.table.find(key) {
             Some((_, i)) => Some(i),
@@ -27,8 +27,8 @@ impl<const V: usize> Writer<V> {
 
     /// Whether the key stands in the table.
     fn is_present(&self, key: u64) -> bool
-        requires { StandsWell V (shape_at {V = V} self.now) (words_at {V = V} self.now) key }
-        ensures { IsTrue result ↔ IsPresent V (shape_at {V = V} self.now) (words_at {V = V} self.now) key }
+        requires { StandsWell V (shape_of_writer {V = V} self.now) (words_of_writer {V = V} self.now) key }
+        ensures { IsTrue result ↔ IsPresent V (shape_of_writer {V = V} self.now) (words_of_writer {V = V} self.now) key }
     {
         match self.item_of(key) {
             Some(_) => true,
@@ -39,7 +39,7 @@ impl<const V: usize> Writer<V> {
     /// Whether some item is free.
     fn has_free(&self) -> bool
         requires { UsedWell {V = V} self.now.table }
-        ensures { IsTrue result ↔ HasFree (shape_at {V = V} self.now) (words_at {V = V} self.now) }
+        ensures { IsTrue result ↔ HasFree (shape_of_writer {V = V} self.now) (words_of_writer {V = V} self.now) }
     {
         self.table.free > 0
     }
@@ -56,8 +56,8 @@ impl<const V: usize> Writer<V> {
 
     /// Whether the key stands at the item whose bit the hand found clear.
     fn is_cleared(&self, key: u64) -> bool
-        requires { StandsWell V (shape_at {V = V} self.now) (words_at {V = V} self.now) key }
-        ensures { IsTrue result ↔ MayOpen V (shape_at {V = V} self.now) (words_at {V = V} self.now) self.now.cleared key Deed.Evict }
+        requires { StandsWell V (shape_of_writer {V = V} self.now) (words_of_writer {V = V} self.now) key }
+        ensures { IsTrue result ↔ MayOpen V (shape_of_writer {V = V} self.now) (words_of_writer {V = V} self.now) self.now.cleared key Deed.Evict }
     {
         match self.item_of(key) {
             Some(i) => self.cleared_is(i),
@@ -68,8 +68,8 @@ impl<const V: usize> Writer<V> {
     /// Whether the key stands nowhere, and some item is free for it.
     fn is_fillable(&self, key: u64) -> bool
         requires used { UsedWell {V = V} self.now.table }
-        requires well { StandsWell V (shape_at {V = V} self.now) (words_at {V = V} self.now) key }
-        ensures { IsTrue result ↔ MayOpen V (shape_at {V = V} self.now) (words_at {V = V} self.now) self.now.cleared key Deed.Fill }
+        requires well { StandsWell V (shape_of_writer {V = V} self.now) (words_of_writer {V = V} self.now) key }
+        ensures { IsTrue result ↔ MayOpen V (shape_of_writer {V = V} self.now) (words_of_writer {V = V} self.now) self.now.cleared key Deed.Fill }
     {
         match self.item_of(key) {
             Some(_) => false,
@@ -80,8 +80,8 @@ impl<const V: usize> Writer<V> {
     /// Whether the deed may be opened on the key.
     fn may_open(&self, key: u64, deed: Deed) -> bool
         requires used { UsedWell {V = V} self.now.table }
-        requires well { StandsWell V (shape_at {V = V} self.now) (words_at {V = V} self.now) key }
-        ensures { IsTrue result ↔ MayOpen V (shape_at {V = V} self.now) (words_at {V = V} self.now) self.now.cleared key deed }
+        requires well { StandsWell V (shape_of_writer {V = V} self.now) (words_of_writer {V = V} self.now) key }
+        ensures { IsTrue result ↔ MayOpen V (shape_of_writer {V = V} self.now) (words_of_writer {V = V} self.now) self.now.cleared key deed }
     {
         match deed {
             Deed::Fill => self.is_fillable(key),
@@ -93,7 +93,7 @@ impl<const V: usize> Writer<V> {
     /// Whether the item is one that no slot names.
     fn is_free(&self, i: u32) -> bool
         requires { UsedWell {V = V} self.now.table }
-        ensures { IsTrue result ↔ IsFreeItem (shape_at {V = V} self.now) (words_at {V = V} self.now) i }
+        ensures { IsTrue result ↔ IsFreeItem (shape_of_writer {V = V} self.now) (words_of_writer {V = V} self.now) i }
     {
         i < self.table.checked.shape().items && !self.table.used[i as usize]
     }
@@ -101,7 +101,7 @@ impl<const V: usize> Writer<V> {
     /// While a fill was opened: the key of a free item.
     pub(crate) fn may_key(&self, key: u64, act: Act) -> bool
         requires { UsedWell {V = V} self.now.table }
-        ensures { IsTrue result ↔ MayFrom V (shape_at {V = V} self.now) (words_at {V = V} self.now) self.now.hand self.now.cleared (Filling key) act }
+        ensures { IsTrue result ↔ MayFrom V (shape_of_writer {V = V} self.now) (words_of_writer {V = V} self.now) self.now.hand self.now.cleared (Filling key) act }
     {
         match act {
             Act::Item(i, j, word) => self.is_free(i) && j == 0 && word == key,
@@ -117,8 +117,8 @@ impl<const V: usize> Writer<V> {
     /// While nothing runs: an open, a turn of the hand or a mark.
     pub(crate) fn may_when_quiet(&self, act: Act) -> bool
         requires used { UsedWell {V = V} self.now.table }
-        requires well { (k : ℕ) → StandsWell V (shape_at {V = V} self.now) (words_at {V = V} self.now) k }
-        ensures { IsTrue result ↔ MayFrom V (shape_at {V = V} self.now) (words_at {V = V} self.now) self.now.hand self.now.cleared Quiet act }
+        requires well { (k : ℕ) → StandsWell V (shape_of_writer {V = V} self.now) (words_of_writer {V = V} self.now) k }
+        ensures { IsTrue result ↔ MayFrom V (shape_of_writer {V = V} self.now) (words_of_writer {V = V} self.now) self.now.hand self.now.cleared Quiet act }
     {
         match act {
             Act::Open(key, deed) => self.may_open(key, deed),
@@ -130,21 +130,21 @@ impl<const V: usize> Writer<V> {
 
     /// Whether the place is a slot of the table that is empty.
     fn is_empty(&self, place: Place) -> bool
-        ensures { IsTrue result ↔ IsHole (shape_at {V = V} self.now) (words_at {V = V} self.now) place }
+        ensures { IsTrue result ↔ IsHole (shape_of_writer {V = V} self.now) (words_of_writer {V = V} self.now) place }
     {
         self.is_place(place) && self.table.slot(place) == 0
     }
 
     /// Whether the place is a slot of the table.
     fn is_place(&self, place: Place) -> bool
-        ensures { IsTrue result ↔ IsPlace (shape_at {V = V} self.now) place }
+        ensures { IsTrue result ↔ IsPlace (shape_of_writer {V = V} self.now) place }
     {
         place.bucket < self.table.checked.shape().buckets && place.slot < 4
     }
 
     /// Whether the bucket is one of the key's.
     fn is_bucket_of(&self, key: u64, bucket: u32) -> bool
-        ensures { IsTrue result ↔ IsBucketOf (shape_at {V = V} self.now) key bucket }
+        ensures { IsTrue result ↔ IsBucketOf (shape_of_writer {V = V} self.now) key bucket }
     {
         let first = self.table.checked.first(key);
         let second = self.table.checked.alt(first, self.table.checked.tag(key));
@@ -153,7 +153,7 @@ impl<const V: usize> Writer<V> {
 
     /// Whether the key stands in the slot.
     fn stands(&self, key: u64, place: Place) -> bool
-        ensures { IsTrue result ↔ ((i : ℕ) × StandsAt V (shape_at {V = V} self.now) (words_at {V = V} self.now) key place i) }
+        ensures { IsTrue result ↔ ((i : ℕ) × StandsAt V (shape_of_writer {V = V} self.now) (words_of_writer {V = V} self.now) key place i) }
     {
         if !self.is_place(place) {
             return false;
@@ -166,7 +166,7 @@ impl<const V: usize> Writer<V> {
 
     /// While a removal or an eviction was opened: the key's slot is cleared.
     pub(crate) fn may_clear(&self, key: u64, evicts: bool, act: Act) -> bool
-        ensures { IsTrue result ↔ MayFrom V (shape_at {V = V} self.now) (words_at {V = V} self.now) self.now.hand self.now.cleared (Removing key evicts) act }
+        ensures { IsTrue result ↔ MayFrom V (shape_of_writer {V = V} self.now) (words_of_writer {V = V} self.now) self.now.hand self.now.cleared (Removing key evicts) act }
     {
         match act {
             Act::Slot(place, word) => word == 0 && self.stands(key, place),
@@ -181,8 +181,8 @@ impl<const V: usize> Writer<V> {
 
     /// While the key stands twice: its old slot is cleared.
     pub(crate) fn may_leave(&self, key: u64, fresh: Place, act: Act) -> bool
-        requires { IsPlace (shape_at {V = V} self.now) fresh }
-        ensures { IsTrue result ↔ MayFrom V (shape_at {V = V} self.now) (words_at {V = V} self.now) self.now.hand self.now.cleared (Moved key (slot_number fresh)) act }
+        requires { IsPlace (shape_of_writer {V = V} self.now) fresh }
+        ensures { IsTrue result ↔ MayFrom V (shape_of_writer {V = V} self.now) (words_of_writer {V = V} self.now) self.now.hand self.now.cleared (Moved key (slot_number fresh)) act }
     {
         match act {
             Act::Slot(place, word) => word == 0 && place != fresh && self.stands(key, place),
@@ -198,8 +198,8 @@ impl<const V: usize> Writer<V> {
     /// While a renewal runs: the next word of the key's item, or the moment after the last.
     pub(crate) fn may_renew(&self, key: u64, count: u8, act: Act) -> bool
         requires some { count ≤ V }
-        requires well { StandsWell V (shape_at {V = V} self.now) (words_at {V = V} self.now) key }
-        ensures { IsTrue result ↔ MayFrom V (shape_at {V = V} self.now) (words_at {V = V} self.now) self.now.hand self.now.cleared (Renewing key (take count self.now.written)) act }
+        requires well { StandsWell V (shape_of_writer {V = V} self.now) (words_of_writer {V = V} self.now) key }
+        ensures { IsTrue result ↔ MayFrom V (shape_of_writer {V = V} self.now) (words_of_writer {V = V} self.now) self.now.hand self.now.cleared (Renewing key (take count self.now.written)) act }
     {
         match act {
             Act::Item(i, j, _) => self.is_next_word(count, j) && self.is_item_of(key, i),
@@ -226,8 +226,8 @@ impl<const V: usize> Writer<V> {
 
     /// Whether the key stands at the item.
     fn is_item_of(&self, key: u64, i: u32) -> bool
-        requires { StandsWell V (shape_at {V = V} self.now) (words_at {V = V} self.now) key }
-        ensures { IsTrue result ↔ ((q : ℕ) × Stands V (shape_at {V = V} self.now) (words_at {V = V} self.now) key q i) }
+        requires { StandsWell V (shape_of_writer {V = V} self.now) (words_of_writer {V = V} self.now) key }
+        ensures { IsTrue result ↔ ((q : ℕ) × Stands V (shape_of_writer {V = V} self.now) (words_of_writer {V = V} self.now) key q i) }
     {
         match self.item_of(key) {
             Some(at) => at == i,
@@ -238,8 +238,8 @@ impl<const V: usize> Writer<V> {
     /// While a fill runs: the next word of its item, or its slot after the last.
     pub(crate) fn may_fill(&self, key: u64, item: u32, count: u8, act: Act) -> bool
         requires some { count ≤ V }
-        requires item { item < (shape_at {V = V} self.now).items }
-        ensures { IsTrue result ↔ MayFrom V (shape_at {V = V} self.now) (words_at {V = V} self.now) self.now.hand self.now.cleared (Keyed key item (take count self.now.written)) act }
+        requires item { item < (shape_of_writer {V = V} self.now).items }
+        ensures { IsTrue result ↔ MayFrom V (shape_of_writer {V = V} self.now) (words_of_writer {V = V} self.now) self.now.hand self.now.cleared (Keyed key item (take count self.now.written)) act }
     {
         match act {
             Act::Item(i, j, _) => i == item && self.is_next_word(count, j),
@@ -251,8 +251,8 @@ impl<const V: usize> Writer<V> {
 
     /// Whether the slot is empty, in a bucket of the key, and the word names the item under the key's tag.
     fn may_place(&self, key: u64, item: u32, place: Place, word: u64) -> bool
-        requires { item < (shape_at {V = V} self.now).items }
-        ensures { IsTrue result ↔ (IsHole (shape_at {V = V} self.now) (words_at {V = V} self.now) place × IsBucketOf (shape_at {V = V} self.now) key place.bucket × (word ≡ slot_word (tag_of (shape_at {V = V} self.now) key) item)) }
+        requires { item < (shape_of_writer {V = V} self.now).items }
+        ensures { IsTrue result ↔ (IsHole (shape_of_writer {V = V} self.now) (words_of_writer {V = V} self.now) place × IsBucketOf (shape_of_writer {V = V} self.now) key place.bucket × (word ≡ slot_word (tag_of (shape_of_writer {V = V} self.now) key) item)) }
     {
         let named = self
             .table
@@ -263,8 +263,8 @@ impl<const V: usize> Writer<V> {
 
     /// While a move was opened: the key's slot word is written in the key's other bucket.
     pub(crate) fn may_move(&self, key: u64, act: Act) -> bool
-        requires { StandsWell V (shape_at {V = V} self.now) (words_at {V = V} self.now) key }
-        ensures { IsTrue result ↔ MayFrom V (shape_at {V = V} self.now) (words_at {V = V} self.now) self.now.hand self.now.cleared (Moving key) act }
+        requires { StandsWell V (shape_of_writer {V = V} self.now) (words_of_writer {V = V} self.now) key }
+        ensures { IsTrue result ↔ MayFrom V (shape_of_writer {V = V} self.now) (words_of_writer {V = V} self.now) self.now.hand self.now.cleared (Moving key) act }
     {
         match act {
             Act::Slot(place, word) => self.is_empty(place) && self.is_other(key, place, word),
@@ -279,8 +279,8 @@ impl<const V: usize> Writer<V> {
 
     /// Whether the place is in the other bucket of the key than the one in which it stands, and the word is the one of its slot there.
     fn is_other(&self, key: u64, place: Place, word: u64) -> bool
-        requires { StandsWell V (shape_at {V = V} self.now) (words_at {V = V} self.now) key }
-        ensures { IsTrue result ↔ ((q : ℕ) × (i : ℕ) × Stands V (shape_at {V = V} self.now) (words_at {V = V} self.now) key q i × (place.bucket ≡ alternate (shape_at {V = V} self.now) (q / 4) (tag_of (shape_at {V = V} self.now) key)) × (word ≡ slot (shape_at {V = V} self.now) (words_at {V = V} self.now) q)) }
+        requires { StandsWell V (shape_of_writer {V = V} self.now) (words_of_writer {V = V} self.now) key }
+        ensures { IsTrue result ↔ ((q : ℕ) × (i : ℕ) × Stands V (shape_of_writer {V = V} self.now) (words_of_writer {V = V} self.now) key q i × (place.bucket ≡ alternate (shape_of_writer {V = V} self.now) (q / 4) (tag_of (shape_of_writer {V = V} self.now) key)) × (word ≡ slot (shape_of_writer {V = V} self.now) (words_of_writer {V = V} self.now) q)) }
     {
         match self.table.find(key) {
             Some((at, _)) => self.is_across(key, at, place, word),
@@ -290,8 +290,8 @@ impl<const V: usize> Writer<V> {
 
     /// Whether the place is in the other bucket than the one that is left, and the word is that of the slot that is left.
     fn is_across(&self, key: u64, from: Place, place: Place, word: u64) -> bool
-        requires { IsPlace (shape_at {V = V} self.now) from }
-        ensures { IsTrue result ↔ ((place.bucket ≡ alternate (shape_at {V = V} self.now) from.bucket (tag_of (shape_at {V = V} self.now) key)) × (word ≡ slot (shape_at {V = V} self.now) (words_at {V = V} self.now) (slot_number from))) }
+        requires { IsPlace (shape_of_writer {V = V} self.now) from }
+        ensures { IsTrue result ↔ ((place.bucket ≡ alternate (shape_of_writer {V = V} self.now) from.bucket (tag_of (shape_of_writer {V = V} self.now) key)) × (word ≡ slot (shape_of_writer {V = V} self.now) (words_of_writer {V = V} self.now) (slot_number from))) }
     {
         let other = self
             .table

@@ -4,10 +4,10 @@ ghost use Rattle.mc_words.specs.Keys.{stripe_of};
 ghost use Rattle.mc_words.specs.Places.{version, moment};
 ghost use Rattle.mc_theory.specs.Acts.{IsAllowed};
 ghost use Rattle.mc_theory.specs.Inner.{StateHolds};
-ghost use Rattle.mc_theory.specs.Phases.{opened, Closing};
+ghost use Rattle.mc_theory.specs.Phases.{first_phase, Closing};
 ghost use Rattle.mc_theory.specs.Effects.{change_of, phase_after};
 ghost use Rattle.mc_core.specs.Inside.Progresses.{count_at, fresh_slot};
-ghost use Rattle.mc_core.specs.Inside.Writers.{shape_at, words_at, room_of, state_in, phase_at, UsedWell, IsMade, IsKept};
+ghost use Rattle.mc_core.specs.Inside.Writers.{shape_of_writer, words_of_writer, room_of, state_in, phase_at, UsedWell, IsMade, KeepsWriter};
 ghost use Rattle.mc_theory.specs.declared.act.Act.{Act};
 ghost use Rattle.mc_core.specs.declared.progress.Progress.{Progress};
 
@@ -21,13 +21,13 @@ impl<const V: usize> Writer<V> {
     /// Opens a deed on a key.
     pub(crate) fn open(&mut self, key: u64, deed: Deed)
         requires used { UsedWell {V = V} self.old.table }
-        requires version { version (words_at {V = V} self.old) (stripe_of (shape_at {V = V} self.old) key) < 2 ^ 64 - 1 }
-        requires changes { self.old.changes < 2 ^ 64 - 1 }
+        requires version { version (words_of_writer {V = V} self.old) (stripe_of (shape_of_writer {V = V} self.old) key) < 2 ^ 64 - 1 }
+        requires version_steps { self.old.version_steps < 2 ^ 64 - 1 }
         ensures { (bit : ℕ) → IsMade {V = V} self.old self.new (Act.Open key deed) bit }
     {
         self.table.bump(key);
         self.cleared = None;
-        self.changes += 1;
+        self.version_steps += 1;
         self.progress = opening_of(key, deed);
     }
 
@@ -35,19 +35,19 @@ impl<const V: usize> Writer<V> {
     fn close(&mut self, key: u64)
         requires running { self.old.progress ≡ Progress.Closing key }
         requires used { UsedWell {V = V} self.old.table }
-        requires version { version (words_at {V = V} self.old) (stripe_of (shape_at {V = V} self.old) key) < 2 ^ 64 - 1 }
-        requires changes { self.old.changes < 2 ^ 64 - 1 }
+        requires version { version (words_of_writer {V = V} self.old) (stripe_of (shape_of_writer {V = V} self.old) key) < 2 ^ 64 - 1 }
+        requires version_steps { self.old.version_steps < 2 ^ 64 - 1 }
         ensures { (bit : ℕ) → IsMade {V = V} self.old self.new Act.Close bit }
     {
         self.table.bump(key);
-        self.changes += 1;
+        self.version_steps += 1;
         self.progress = Progress::Quiet;
     }
 
     /// Turns the hand past an item whose bit was read.
     pub(crate) fn turn(&mut self, i: u32, bit: u64)
         requires quiet { self.old.progress ≡ Progress.Quiet }
-        requires item { i < (shape_at {V = V} self.old).items }
+        requires item { i < (shape_of_writer {V = V} self.old).items }
         requires used { UsedWell {V = V} self.old.table }
         ensures { IsMade {V = V} self.old self.new (Act.Hand i) bit }
     {
@@ -63,7 +63,7 @@ impl<const V: usize> Writer<V> {
     /// Writes the key of a free item.
     fn write_key(&mut self, key: u64, i: u32, word: u64)
         requires running { self.old.progress ≡ Progress.Filling key }
-        requires item { i < (shape_at {V = V} self.old).items }
+        requires item { i < (shape_of_writer {V = V} self.old).items }
         requires used { UsedWell {V = V} self.old.table }
         ensures { (bit : ℕ) → IsMade {V = V} self.old self.new (Act.Item i 0 word) bit }
     {
@@ -74,7 +74,7 @@ impl<const V: usize> Writer<V> {
     /// Writes the next word of the item of a fill.
     fn write_next(&mut self, key: u64, i: u32, count: u8, word: u64)
         requires running { self.old.progress ≡ Progress.Keyed key i count }
-        requires item { i < (shape_at {V = V} self.old).items }
+        requires item { i < (shape_of_writer {V = V} self.old).items }
         requires more { count < V }
         requires used { UsedWell {V = V} self.old.table }
         ensures { (bit : ℕ) → IsMade {V = V} self.old self.new (Act.Item i (count + 1) word) bit }
@@ -87,7 +87,7 @@ impl<const V: usize> Writer<V> {
     /// Writes the next word of the item of a renewal.
     fn write_again(&mut self, key: u64, i: u32, count: u8, word: u64)
         requires running { self.old.progress ≡ Progress.Renewing key count }
-        requires item { i < (shape_at {V = V} self.old).items }
+        requires item { i < (shape_of_writer {V = V} self.old).items }
         requires more { count < V }
         requires used { UsedWell {V = V} self.old.table }
         ensures { (bit : ℕ) → IsMade {V = V} self.old self.new (Act.Item i (count + 1) word) bit }
@@ -99,9 +99,9 @@ impl<const V: usize> Writer<V> {
 
     /// Writes a word of an item as the running deed asks.
     pub(crate) fn write_item(&mut self, i: u32, j: u8, word: u64)
-        requires holds { StateHolds (shape_at {V = V} self.old) (state_in {V = V} self.old) }
+        requires holds { StateHolds (shape_of_writer {V = V} self.old) (state_in {V = V} self.old) }
         requires used { UsedWell {V = V} self.old.table }
-        requires may { IsAllowed (shape_at {V = V} self.old) (state_in {V = V} self.old) (Act.Item i j word) }
+        requires may { IsAllowed (shape_of_writer {V = V} self.old) (state_in {V = V} self.old) (Act.Item i j word) }
         ensures { (bit : ℕ) → IsMade {V = V} self.old self.new (Act.Item i j word) bit }
     {
         match self.progress {
@@ -115,9 +115,9 @@ impl<const V: usize> Writer<V> {
     /// Ends the running deed.
     pub(crate) fn close_deed(&mut self)
         requires used { UsedWell {V = V} self.old.table }
-        requires versions { (t : ℕ) → t < (shape_at {V = V} self.old).stripes → version (words_at {V = V} self.old) t < 2 ^ 64 - 1 }
-        requires changes { self.old.changes < 2 ^ 64 - 1 }
-        requires may { IsAllowed (shape_at {V = V} self.old) (state_in {V = V} self.old) Act.Close }
+        requires versions { (t : ℕ) → t < (shape_of_writer {V = V} self.old).stripes → version (words_of_writer {V = V} self.old) t < 2 ^ 64 - 1 }
+        requires version_steps { self.old.version_steps < 2 ^ 64 - 1 }
+        requires may { IsAllowed (shape_of_writer {V = V} self.old) (state_in {V = V} self.old) Act.Close }
         ensures { (bit : ℕ) → IsMade {V = V} self.old self.new Act.Close bit }
     {
         if let Progress::Closing(key) = self.progress {
@@ -127,12 +127,12 @@ impl<const V: usize> Writer<V> {
 
     /// Counts a change, for which memory may be wanting.
     fn count(&mut self, key: u64, change: Change<V>) -> Result<(), AllocError>
-        requires moment { moment (words_at {V = V} self.old) < 2 ^ 64 - 1 }
+        requires moment { moment (words_of_writer {V = V} self.old) < 2 ^ 64 - 1 }
         requires used { UsedWell {V = V} self.old.table }
         requires change { change_of {V = V} (state_in {V = V} self.old).phase ≡ change ∷ [] }
         requires phase { phase_after (state_in {V = V} self.old).phase Act.Moment ≡ Closing key }
         ensures ok { OnOk result ((bit : ℕ) → IsMade {V = V} self.old self.new Act.Moment bit) }
-        ensures err { OnErr result (IsKept {V = V} self.old self.new) }
+        ensures err { OnErr result (KeepsWriter {V = V} self.old self.new) }
         ensures full { OnErr result (room_of {V = V} self.old ≡ 0) }
     {
         self.history.push(change)?;
@@ -143,11 +143,11 @@ impl<const V: usize> Writer<V> {
 
     /// Counts the change of the running deed.
     pub(crate) fn count_change(&mut self) -> Result<(), AllocError>
-        requires moment { moment (words_at {V = V} self.old) < 2 ^ 64 - 1 }
+        requires moment { moment (words_of_writer {V = V} self.old) < 2 ^ 64 - 1 }
         requires used { UsedWell {V = V} self.old.table }
-        requires may { IsAllowed (shape_at {V = V} self.old) (state_in {V = V} self.old) Act.Moment }
+        requires may { IsAllowed (shape_of_writer {V = V} self.old) (state_in {V = V} self.old) Act.Moment }
         ensures ok { OnOk result ((bit : ℕ) → IsMade {V = V} self.old self.new Act.Moment bit) }
-        ensures err { OnErr result (IsKept {V = V} self.old self.new) }
+        ensures err { OnErr result (KeepsWriter {V = V} self.old self.new) }
         ensures full { OnErr result (room_of {V = V} self.old ≡ 0) }
     {
         match self.progress {
@@ -162,7 +162,7 @@ impl<const V: usize> Writer<V> {
 
 /// The progress with which a deed begins.
 fn opening_of(key: u64, deed: Deed) -> Progress
-    ensures phase { (xs : List ℕ) → phase_at xs result ≡ opened key deed }
+    ensures phase { (xs : List ℕ) → phase_at xs result ≡ first_phase key deed }
     ensures count { count_at result ≡ 0 }
     ensures slot { fresh_slot result ≡ 0 }
 {

@@ -2,7 +2,7 @@
 ghost use Rattle.std.specs.Prelude.{◌≡◌, ℕ};
 ghost use Rattle.mc_theory.specs.Acts.{IsAllowed};
 ghost use Rattle.mc_theory.specs.Inner.{StateHolds};
-ghost use Rattle.mc_core.specs.Inside.Writers.{shape_at, state_in, UsedWell, IsMade};
+ghost use Rattle.mc_core.specs.Inside.Writers.{shape_of_writer, state_in, UsedWell, IsMade};
 ghost use Rattle.mc_theory.specs.declared.act.Act.{Act};
 ghost use Rattle.mc_core.specs.declared.progress.Progress.{Progress};
 
@@ -15,9 +15,9 @@ impl<const V: usize> Writer<V> {
     /// A slot names the item of a fill from now on.
     pub(crate) fn place_item(&mut self, key: u64, i: u32, count: u8, place: Place, word: u64)
         requires running { self.old.progress ≡ Progress.Keyed key i count }
-        requires holds { StateHolds (shape_at {V = V} self.old) (state_in {V = V} self.old) }
+        requires holds { StateHolds (shape_of_writer {V = V} self.old) (state_in {V = V} self.old) }
         requires used { UsedWell {V = V} self.old.table }
-        requires may { IsAllowed (shape_at {V = V} self.old) (state_in {V = V} self.old) (Act.Slot place word) }
+        requires may { IsAllowed (shape_of_writer {V = V} self.old) (state_in {V = V} self.old) (Act.Slot place word) }
         ensures { (bit : ℕ) → IsMade {V = V} self.old self.new (Act.Slot place word) bit }
     {
         self.table.set_slot(place, word);
@@ -29,9 +29,9 @@ impl<const V: usize> Writer<V> {
     /// No slot names the item of a removed key from now on.
     pub(crate) fn clear_slot(&mut self, key: u64, evicts: bool, place: Place, word: u64)
         requires running { self.old.progress ≡ Progress.Removing key evicts }
-        requires holds { StateHolds (shape_at {V = V} self.old) (state_in {V = V} self.old) }
+        requires holds { StateHolds (shape_of_writer {V = V} self.old) (state_in {V = V} self.old) }
         requires used { UsedWell {V = V} self.old.table }
-        requires may { IsAllowed (shape_at {V = V} self.old) (state_in {V = V} self.old) (Act.Slot place word) }
+        requires may { IsAllowed (shape_of_writer {V = V} self.old) (state_in {V = V} self.old) (Act.Slot place word) }
         ensures { (bit : ℕ) → IsMade {V = V} self.old self.new (Act.Slot place word) bit }
     {
         if let Some(i) = self.table.stands(place, key) {
@@ -45,9 +45,9 @@ impl<const V: usize> Writer<V> {
     /// A second slot names the item of a key that moves.
     pub(crate) fn copy_slot(&mut self, key: u64, place: Place, word: u64)
         requires running { self.old.progress ≡ Progress.Moving key }
-        requires holds { StateHolds (shape_at {V = V} self.old) (state_in {V = V} self.old) }
+        requires holds { StateHolds (shape_of_writer {V = V} self.old) (state_in {V = V} self.old) }
         requires used { UsedWell {V = V} self.old.table }
-        requires may { IsAllowed (shape_at {V = V} self.old) (state_in {V = V} self.old) (Act.Slot place word) }
+        requires may { IsAllowed (shape_of_writer {V = V} self.old) (state_in {V = V} self.old) (Act.Slot place word) }
         ensures { (bit : ℕ) → IsMade {V = V} self.old self.new (Act.Slot place word) bit }
     {
         self.table.set_slot(place, word);
@@ -57,9 +57,9 @@ impl<const V: usize> Writer<V> {
     /// The old slot of a key that moved names nothing from now on.
     pub(crate) fn leave_slot(&mut self, key: u64, fresh: Place, place: Place, word: u64)
         requires running { self.old.progress ≡ Progress.Moved key fresh }
-        requires holds { StateHolds (shape_at {V = V} self.old) (state_in {V = V} self.old) }
+        requires holds { StateHolds (shape_of_writer {V = V} self.old) (state_in {V = V} self.old) }
         requires used { UsedWell {V = V} self.old.table }
-        requires may { IsAllowed (shape_at {V = V} self.old) (state_in {V = V} self.old) (Act.Slot place word) }
+        requires may { IsAllowed (shape_of_writer {V = V} self.old) (state_in {V = V} self.old) (Act.Slot place word) }
         ensures { (bit : ℕ) → IsMade {V = V} self.old self.new (Act.Slot place word) bit }
     {
         self.table.set_slot(place, word);
@@ -68,9 +68,9 @@ impl<const V: usize> Writer<V> {
 
     /// Writes a slot as the running deed asks.
     pub(crate) fn write_slot(&mut self, place: Place, word: u64)
-        requires holds { StateHolds (shape_at {V = V} self.old) (state_in {V = V} self.old) }
+        requires holds { StateHolds (shape_of_writer {V = V} self.old) (state_in {V = V} self.old) }
         requires used { UsedWell {V = V} self.old.table }
-        requires may { IsAllowed (shape_at {V = V} self.old) (state_in {V = V} self.old) (Act.Slot place word) }
+        requires may { IsAllowed (shape_of_writer {V = V} self.old) (state_in {V = V} self.old) (Act.Slot place word) }
         ensures { (bit : ℕ) → IsMade {V = V} self.old self.new (Act.Slot place word) bit }
     {
         match self.progress {

@@ -5,11 +5,11 @@ use Rattle.clap.specs.declared.error.kind.ErrorKind.{ErrorKind}
 use Rattle.clap.specs.declared.error.kind.ErrorKind.TheVariants as kind
 use Rattle.mc_words.specs.declared.shape.Shape.{Shape}
 use Rattle.mc_words.specs.declared.shape.ShapeError.{ShapeError}
-use Rattle.mc_words.specs.Shapes.{IsShape, Refuses}
+use Rattle.mc_words.specs.Shapes.{IsShape, RefusesShape}
 use Rattle.mc_replay.specs.declared.fault.Stop.{Stop}
 use Rattle.mc_options.specs.declared.options.Options.{Options}
 use Rattle.mc_replay.specs.Faults.{exit_of}
-use Rattle.mc_options.specs.Options.{Gives, AsksHelp, AsksVersion, IsFaulty}
+use Rattle.mc_options.specs.Options.{GivesOptions, AsksHelp, AsksVersion, IsFaulty}
 use Rattle.mc_replay.specs.Scripts.{ReplaysKnown}
 use Rattle.mc_replay.specs.FaultTexts.{stop_text}
 use Rattle.mc_load.specs.ShapeTexts.{shape_text}

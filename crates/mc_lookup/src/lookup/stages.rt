@@ -1,8 +1,8 @@
 //! One method a stage of a lookup. A caller that knows the stage may call it in place of `after`.
 ghost use Rattle.std.specs.Prelude.{◌≡◌, ◌+◌, ◌<◌, ℕ, MatchOption, MatchBool, Some, None};
-ghost use Rattle.mc_lookup.specs.Machine.{stage_of, place_of, slots_from, values_from, ended, IsRestart, Takes};
+ghost use Rattle.mc_lookup.specs.Machine.{stage_of, lookup_place, slots_from, values_from, stage_after_try, IsRestart, Consumes};
 ghost use Rattle.mc_lookup.specs.Inside.Machine.{Restarts};
-ghost use Rattle.mc_lookup.specs.Inside.Met.{IsMet};
+ghost use Rattle.mc_lookup.specs.Inside.TagMatch.{IsTagMatch};
 ghost use Rattle.mc_theory.specs.declared.access.Access.{Access};
 ghost use Rattle.mc_lookup.specs.declared.stage.Stage.{Stage};
 
@@ -14,7 +14,7 @@ impl<const V: usize> Lookup<V> {
     /// The place of one of the eight slots.
     pub fn place(&self, j: u8) -> Place
         requires { j < 8 }
-        ensures { result ≡ place_of {V = V} self.now j }
+        ensures { result ≡ lookup_place {V = V} self.now j }
     {
         if j < 4 {
             Place {
@@ -32,7 +32,7 @@ impl<const V: usize> Lookup<V> {
     /// The item that the word of a slot names under the key's tag.
     #[tactic(auto, unfolding(mc_words::specs::Keys::slot_word))]
     fn met(&self, word: u64) -> Option<u32>
-        ensures { IsMet {V = V} self.now word result }
+        ensures { IsTagMatch {V = V} self.now word result }
     {
         let item = word.wrapping_sub(self.base);
         if item < u64::from(self.checked.shape().items) {
@@ -45,7 +45,7 @@ impl<const V: usize> Lookup<V> {
     /// A reading of the version at the start of a try. Whether the try goes on: an odd version spoils it.
     pub fn after_first(&mut self, word: u64) -> bool
         requires { stage_of {V = V} self.old ≡ Stage.First }
-        ensures takes { Takes {V = V} self.old (Access.Version self.old.stripe) word self.new }
+        ensures takes { Consumes {V = V} self.old (Access.Version self.old.stripe) word self.new }
         ensures goes { MatchBool result (stage_of {V = V} self.new ≡ Stage.Slot 0) (IsRestart (stage_of {V = V} self.new)) }
     {
         self.stage = Stage::Slot(0);
@@ -62,7 +62,7 @@ impl<const V: usize> Lookup<V> {
     /// A reading of one of the eight slots. The item whose key is to be read, where the slot names one under the key's tag.
     pub fn after_slot(&mut self, j: u8, word: u64) -> Option<u32>
         requires { stage_of {V = V} self.old ≡ Stage.Slot j }
-        ensures takes { Takes {V = V} self.old (Access.Slot (place_of {V = V} self.old j)) word self.new }
+        ensures takes { Consumes {V = V} self.old (Access.Slot (lookup_place {V = V} self.old j)) word self.new }
         ensures goes { MatchOption result (stage_of {V = V} self.new ≡ slots_from (j + 1)) (λ i. stage_of {V = V} self.new ≡ Stage.Key (j + 1) i) }
     {
         let met = self.met(word);
@@ -87,7 +87,7 @@ impl<const V: usize> Lookup<V> {
     /// A reading of the key of an item. Whether it is the key that is looked up.
     pub fn after_key(&mut self, j: u8, i: u32, word: u64) -> bool
         requires { stage_of {V = V} self.old ≡ Stage.Key j i }
-        ensures takes { Takes {V = V} self.old (Access.Key i) word self.new }
+        ensures takes { Consumes {V = V} self.old (Access.Key i) word self.new }
         ensures goes { MatchBool result (stage_of {V = V} self.new ≡ Stage.Value i 0) (stage_of {V = V} self.new ≡ slots_from j) }
     {
         let found = word == self.key;
@@ -102,7 +102,7 @@ impl<const V: usize> Lookup<V> {
     /// A reading of a word of the value, of which this many were read before.
     pub fn after_value(&mut self, i: u32, count: u8, word: u64)
         requires { stage_of {V = V} self.old ≡ Stage.Value i count }
-        ensures takes { Takes {V = V} self.old (Access.Value i (count + 1)) word self.new }
+        ensures takes { Consumes {V = V} self.old (Access.Value i (count + 1)) word self.new }
         ensures goes { stage_of {V = V} self.new ≡ values_from V i (count + 1) }
     {
         self.value[count as usize] = word;
@@ -116,7 +116,7 @@ impl<const V: usize> Lookup<V> {
     /// A reading of the moment.
     pub fn after_moment(&mut self, hit: Option<u32>, word: u64)
         requires { stage_of {V = V} self.old ≡ Stage.Moment hit }
-        ensures takes { Takes {V = V} self.old Access.Moment word self.new }
+        ensures takes { Consumes {V = V} self.old Access.Moment word self.new }
         ensures goes { stage_of {V = V} self.new ≡ Stage.Last hit word }
     {
         self.stage = Stage::Last(hit, word);
@@ -125,8 +125,8 @@ impl<const V: usize> Lookup<V> {
     /// A reading of the version at the end of a try. Whether the try stands: another version than the first spoils it.
     pub fn after_last(&mut self, hit: Option<u32>, at: u64, word: u64) -> bool
         requires { stage_of {V = V} self.old ≡ Stage.Last hit at }
-        ensures takes { Takes {V = V} self.old (Access.Version self.old.stripe) word self.new }
-        ensures goes { MatchBool result (stage_of {V = V} self.new ≡ ended hit) (IsRestart (stage_of {V = V} self.new)) }
+        ensures takes { Consumes {V = V} self.old (Access.Version self.old.stripe) word self.new }
+        ensures goes { MatchBool result (stage_of {V = V} self.new ≡ stage_after_try hit) (IsRestart (stage_of {V = V} self.new)) }
     {
         if word != self.version {
             self.try_again();
@@ -151,7 +151,7 @@ impl<const V: usize> Lookup<V> {
     /// The mark of the item at which the key was found.
     pub fn after_mark(&mut self, i: u32)
         requires { stage_of {V = V} self.old ≡ Stage.Mark i }
-        ensures takes { (word : ℕ) → Takes {V = V} self.old (Access.Mark i) word self.new }
+        ensures takes { (word : ℕ) → Consumes {V = V} self.old (Access.Mark i) word self.new }
         ensures goes { stage_of {V = V} self.new ≡ Stage.Over }
     {
         self.stage = Stage::Over;

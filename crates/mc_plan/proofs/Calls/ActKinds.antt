@@ -3,7 +3,7 @@ use Rattle.std.proofs.Common.{ℕ, ◌≡◌, ◌+◌, ◌≤◌, ◌∙◌, Lis
 use Rattle.std.proofs.lemmas.List.{nil_from_length}
 use Rattle.mc_words.specs.declared.shape.Shape.{Shape}
 use Rattle.mc_theory.specs.Acts.{MayFrom}
-use Rattle.mc_theory.specs.Effects.{after_act, changes_after, phase_after}
+use Rattle.mc_theory.specs.Effects.{after_act, version_steps_after, phase_after}
 use Rattle.mc_theory.specs.Lists.{Made, AreAllowed, after_all}
 use Rattle.mc_theory.specs.Phases.{Phase, Quiet}
 use Rattle.mc_theory.specs.States.{State}
@@ -14,20 +14,20 @@ use Rattle.mc_plan.specs.Clerks.{AreOfDeeds, IsOfDeed, acts_of}
 
 -- ---- version changes
 -- they never fall
-act_counts : (v : ℕ) (a : Act) → v ≤ changes_after v a
+act_counts : (v : ℕ) (a : Act) → v ≤ version_steps_after v a
 act_counts v (Open k d) = omega arith
 act_counts v Close = omega arith
 act_counts v _ = omega arith
 
-acts_count : (V : ℕ) (sh : Shape) (s : State V) (ms : List Made) → s.changes ≤ (after_all sh s ms).changes
+acts_count : (V : ℕ) (sh : Shape) (s : State V) (ms : List Made) → s.version_steps ≤ (after_all sh s ms).version_steps
 acts_count V sh s [] = omega arith
 acts_count V sh s (m ∷ ms) =
-    let first = act_counts s.changes m.act in
+    let first = act_counts s.version_steps m.act in
     let rest = acts_count V sh (after_act sh s m.act m.bit) ms in
     omega (arith, first, rest)
 
 -- an act of a deed that leaves no deed running is a version change
-quiet_costs : (V : ℕ) (sh : Shape) (w : List ℕ) (hand : ℕ) (c : Option ℕ) (v : ℕ) (p : Phase) (a : Act) → MayFrom V sh w hand c p a → IsOfDeed a → phase_after p a ≡ Quiet → changes_after v a ≡ v + 1
+quiet_costs : (V : ℕ) (sh : Shape) (w : List ℕ) (hand : ℕ) (c : Option ℕ) (v : ℕ) (p : Phase) (a : Act) → MayFrom V sh w hand c p a → IsOfDeed a → phase_after p a ≡ Quiet → version_steps_after v a ≡ v + 1
 quiet_costs V sh w hand c v p (Open k d) may deed ends = refl
 quiet_costs V sh w hand c v p Close may deed ends = refl
 quiet_costs V sh w hand c v p (Hand i) may deed ends = absurd deed
@@ -40,15 +40,15 @@ quiet_costs V sh w hand c v Quiet Moment may deed ends = absurd may
 quiet_costs V sh w hand c v p Moment may deed ends = absurd (cc ends)
 
 -- acts of deeds that leave no deed running, and no version changed, are none
-pub deeds_cost : (V : ℕ) (sh : Shape) (s : State V) (ms : List Made) → AreAllowed sh s ms → AreOfDeeds (acts_of ms) → (after_all sh s ms).phase ≡ Quiet → (after_all sh s ms).changes ≡ s.changes → ms ≡ []
+pub deeds_cost : (V : ℕ) (sh : Shape) (s : State V) (ms : List Made) → AreAllowed sh s ms → AreOfDeeds (acts_of ms) → (after_all sh s ms).phase ≡ Quiet → (after_all sh s ms).version_steps ≡ s.version_steps → ms ≡ []
 deeds_cost V sh s [] may deeds ends same = refl
 deeds_cost V sh s (m ∷ []) may deeds ends same =
-    let more = quiet_costs V sh s.words s.hand s.cleared s.changes s.phase m.act may.0 deeds.0 ends in
+    let more = quiet_costs V sh s.words s.hand s.cleared s.version_steps s.phase m.act may.0 deeds.0 ends in
     absurd (omega (arith, more, same))
 deeds_cost V sh s (m ∷ n ∷ ms) may deeds ends same =
     let t = after_act sh s m.act m.bit in
-    let first : s.changes ≤ t.changes = act_counts s.changes m.act in
-    let rest : t.changes ≤ (after_all sh t (n ∷ ms)).changes = acts_count V sh t (n ∷ ms) in
+    let first : s.version_steps ≤ t.version_steps = act_counts s.version_steps m.act in
+    let rest : t.version_steps ≤ (after_all sh t (n ∷ ms)).version_steps = acts_count V sh t (n ∷ ms) in
     let none = deeds_cost V sh t (n ∷ ms) may.1 deeds.1 ends (omega (arith, first, rest, same)) in
     absurd (cc none)
 

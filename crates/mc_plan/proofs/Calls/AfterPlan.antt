@@ -12,7 +12,7 @@ use Rattle.mc_words.specs.Checks.{shape_of}
 use Rattle.mc_words.specs.History.{IsWord}
 use Rattle.mc_words.specs.Places.{IsWidth, moment, slot, slot_number, word_count}
 use Rattle.mc_words.specs.Shapes.{IsShape}
-use Rattle.mc_words.specs.Standing.{Names, Stands, IsAbsent, IsFree}
+use Rattle.mc_words.specs.Standing.{NamesItem, Stands, IsAbsent, IsFree}
 use Rattle.mc_words.proofs.Count.{full_from_named, room_from_free}
 use Rattle.mc_theory.specs.States.{State, opening}
 use Rattle.mc_theory.specs.declared.act.Act.{Act}
@@ -25,9 +25,9 @@ use Rattle.mc_plan.specs.declared.books.Books.{Books}
 use Rattle.mc_search.specs.declared.free.FreeItems.{FreeItems}
 use Rattle.mc_search.specs.declared.path.Path.{Path}
 use Rattle.mc_plan.specs.Clerks.{Call, PutCall, RemoveCall, Means, Marks, AreOfDeeds, AreBooksOf, IsPlanned, quiet_of}
-use Rattle.mc_search.specs.Free.{IsKept, IsFreeIn, Takes, Gives}
+use Rattle.mc_search.specs.Free.{IsConsistent, IsFreeIn, TakesFree, GivesBack}
 use Rattle.mc_plan.specs.Laws.{IsValue}
-use Rattle.mc_plan.specs.Making.{IsQuiet, left}
+use Rattle.mc_plan.specs.Making.{IsQuiet, state_after_acts}
 use Rattle.mc_search.specs.Kept.{KeepsSlots}
 use Rattle.mc_plan.specs.Moves.{AreKeys}
 use Rattle.mc_search.specs.Paths.{IsLeastPath, first_place}
@@ -77,25 +77,25 @@ moment_after V s t at change sh quiet grows is =
 -- the state after it, where its version changes were counted
 record Ends (V : ℕ) (b : Books) (s t : State V) (steps : ℕ) : Type 0 where
   quiet : IsQuiet V (shape_of b.checked) t
-  changes : t.changes ≡ s.changes + steps
+  version_steps : t.version_steps ≡ s.version_steps + steps
   hand : t.hand ≡ s.hand
-  limit : s.changes + steps ≤ (shape_of b.checked).limit
+  limit : s.version_steps + steps ≤ (shape_of b.checked).limit
 
 -- the free items of the state after it
 record FreeAfter (V : ℕ) (b : Books) (free : FreeItems) (w : List ℕ) : Type 0 where
-  kept : IsKept free
+  kept : IsConsistent free
   items : free.items ≡ b.free.items
   frees : (i : ℕ) → IsFreeIn free i → IsFree (shape_of b.checked) w i
-  named : (i : ℕ) → i < (shape_of b.checked).items → (IsFreeIn free i → ⊥) → (q : ℕ) × Names (shape_of b.checked) w q i
+  named : (i : ℕ) → i < (shape_of b.checked).items → (IsFreeIn free i → ⊥) → (q : ℕ) × NamesItem (shape_of b.checked) w q i
 
-books_after : (V : ℕ) (b : Books) (s t : State V) (steps : ℕ) (free : FreeItems) → AreBooksOf V b s → Ends V b s t steps → FreeAfter V b free t.words → AreBooksOf V (record b { free = free; changes = b.changes + steps }) t
+books_after : (V : ℕ) (b : Books) (s t : State V) (steps : ℕ) (free : FreeItems) → AreBooksOf V b s → Ends V b s t steps → FreeAfter V b free t.words → AreBooksOf V (record b { free = free; version_steps = b.version_steps + steps }) t
 books_after V b s t steps free old ends after = record {
   width = old.width;
   quiet = ends.quiet;
   hand = old.hand ∙ sym ends.hand;
   stands = rw ends.hand old.stands;
-  changes = omega (arith, old.changes, ends.changes);
-  limit = omega (arith, ends.changes, ends.limit);
+  version_steps = omega (arith, old.version_steps, ends.version_steps);
+  limit = omega (arith, ends.version_steps, ends.limit);
   finder = old.finder;
   kept = after.kept;
   items = after.items ∙ old.items;
@@ -113,12 +113,12 @@ free_kept V b s x old kept = record {
 }
 
 pub renewal_planned : (V : ℕ) (b : Books) (k : ℕ) (v : List ℕ) (i at : ℕ) (s : State V) (q : ℕ) → IsShape (shape_of b.checked) → IsWord k → IsValue V v → AreBooksOf V b s → Stands V (shape_of b.checked) s.words k q i
-    → (PutIsSpent (shape_of b.checked) (quiet_of s) → ⊥) → s.changes + 2 ≤ (shape_of b.checked).limit → at ≡ moment s.words + 1
-    → IsPlanned V (record b { changes = b.changes + 2 }) (renew_acts k v i ++ Mark i ∷ []) (PutCall k v) s s (answer.Put (Ok (put.Renewed at)))
+    → (PutIsSpent (shape_of b.checked) (quiet_of s) → ⊥) → s.version_steps + 2 ≤ (shape_of b.checked).limit → at ≡ moment s.words + 1
+    → IsPlanned V (record b { version_steps = b.version_steps + 2 }) (renew_acts k v i ++ Mark i ∷ []) (PutCall k v) s s (answer.Put (Ok (put.Renewed at)))
 renewal_planned V b k v i at s q shape key value old stands unspent limit is =
     let sh = shape_of b.checked in
     let acts = renew_acts k v i in
-    let t = left V sh s acts in
+    let t = state_after_acts V sh s acts in
     let law = renews V sh k v i shape key value.0 value.1 s q old.quiet stands in
     let makes = law.0 in
     let walk = marked V sh s acts (Put k v ∷ []) 2 i makes stands.names.in_items in
@@ -126,20 +126,20 @@ renewal_planned V b k v i at s q shape key value old stands unspent limit is =
     let renewed : means.Renews V sh (quiet_of s) (quiet_of t) k v at = record {
       unspent = unspent;
       present = stands_held V sh s k q i old.quiet stands;
-      grows = record { history = makes.history; changes = makes.changes };
+      grows = record { history = makes.history; version_steps = makes.version_steps };
       hand = makes.hand;
       moment = moment_after V s t at (Put k v) sh old.quiet makes.history is;
     } in
-    let ends : Ends V b s t 2 = record { quiet = makes.quiet; changes = makes.changes; hand = makes.hand; limit = limit } in
+    let ends : Ends V b s t 2 = record { quiet = makes.quiet; version_steps = makes.version_steps; hand = makes.hand; limit = limit } in
     record {
       allowed = walk.allowed;
       means = subst (λ (x : State V). Means sh (PutCall k v) told s x) (sym walk.leads) renewed;
       marks = record { before = acts; slot = q; item = i; last = refl; deeds = deeds_renew k v i; stands = subst (λ (x : State V). Stands V sh x.words k q i) (sym walk.leads) law.1 };
-      ends = subst (λ (x : State V). AreBooksOf V (record b { changes = b.changes + 2 }) x) (sym walk.leads) (books_after V b s t 2 b.free old ends (free_kept V b s t.words old law.2));
+      ends = subst (λ (x : State V). AreBooksOf V (record b { version_steps = b.version_steps + 2 }) x) (sym walk.leads) (books_after V b s t 2 b.free old ends (free_kept V b s t.words old law.2));
     }
 
 -- ---- a removal
-free_given : (V : ℕ) (b : Books) (s : State V) (x : List ℕ) (free : FreeItems) (i : ℕ) → AreBooksOf V b s → IsKept free → free.items ≡ b.free.items → Gives b.free free i → GivesItem (shape_of b.checked) s.words x i → FreeAfter V b free x
+free_given : (V : ℕ) (b : Books) (s : State V) (x : List ℕ) (free : FreeItems) (i : ℕ) → AreBooksOf V b s → IsConsistent free → free.items ≡ b.free.items → GivesBack b.free free i → GivesItem (shape_of b.checked) s.words x i → FreeAfter V b free x
 free_given V b s x free i old kept items gives given = record {
   kept = kept;
   items = items;
@@ -153,24 +153,24 @@ free_given V b s x free i old kept items gives given = record {
 }
 
 pub removal_planned : (V : ℕ) (b : Books) (k i at : ℕ) (p : Place) (free : FreeItems) (s : State V) → IsShape (shape_of b.checked) → IsWord k → AreBooksOf V b s → p.slot < 4 → Stands V (shape_of b.checked) s.words k (slot_number p) i
-    → (RemoveIsSpent (shape_of b.checked) (quiet_of s) → ⊥) → s.changes + 2 ≤ (shape_of b.checked).limit → at ≡ moment s.words + 1
-    → IsKept free → free.items ≡ b.free.items → Gives b.free free i
-    → IsPlanned V (record b { free = free; changes = b.changes + 2 }) (remove_acts k p) (RemoveCall k) s s (answer.Remove (Ok (remove.Removed at)))
+    → (RemoveIsSpent (shape_of b.checked) (quiet_of s) → ⊥) → s.version_steps + 2 ≤ (shape_of b.checked).limit → at ≡ moment s.words + 1
+    → IsConsistent free → free.items ≡ b.free.items → GivesBack b.free free i
+    → IsPlanned V (record b { free = free; version_steps = b.version_steps + 2 }) (remove_acts k p) (RemoveCall k) s s (answer.Remove (Ok (remove.Removed at)))
 removal_planned V b k i at p free s shape key old below stands unspent limit is kept items gives =
     let sh = shape_of b.checked in
     let acts = remove_acts k p in
-    let t = left V sh s acts in
+    let t = state_after_acts V sh s acts in
     let law = removes V sh k p shape key s i old.quiet below stands in
     let makes = law.0 in
     let given = slot_given sh s.words t.words (slot_number p) i shape stands.names law.2 law.1 in
     let removed : means.Removes V sh (quiet_of s) (quiet_of t) k at = record {
       unspent = unspent;
       present = stands_held V sh s k (slot_number p) i old.quiet stands;
-      grows = record { history = makes.history; changes = makes.changes };
+      grows = record { history = makes.history; version_steps = makes.version_steps };
       hand = makes.hand;
       moment = moment_after V s t at (Remove k) sh old.quiet makes.history is;
     } in
-    let ends : Ends V b s t 2 = record { quiet = makes.quiet; changes = makes.changes; hand = makes.hand; limit = limit } in
+    let ends : Ends V b s t 2 = record { quiet = makes.quiet; version_steps = makes.version_steps; hand = makes.hand; limit = limit } in
     record {
       allowed = makes.allowed;
       means = removed;
@@ -179,7 +179,7 @@ removal_planned V b k i at p free s shape key old below stands unspent limit is 
     }
 
 -- ---- a put of a new key
-free_taken : (V : ℕ) (b : Books) (s : State V) (x : List ℕ) (free : FreeItems) (i : ℕ) → AreBooksOf V b s → IsKept free → free.items ≡ b.free.items → Takes b.free free i → TakesItem (shape_of b.checked) s.words x i → FreeAfter V b free x
+free_taken : (V : ℕ) (b : Books) (s : State V) (x : List ℕ) (free : FreeItems) (i : ℕ) → AreBooksOf V b s → IsConsistent free → free.items ≡ b.free.items → TakesFree b.free free i → TakesItem (shape_of b.checked) s.words x i → FreeAfter V b free x
 free_taken V b s x free i old kept items takes taken = record {
   kept = kept;
   items = items;
@@ -188,7 +188,7 @@ free_taken V b s x free i old kept items takes taken = record {
     | inr ne ↦ taken.free j ne (old.free j (takes.free j f))
   ];
   named = λ j l none. elim (cases_eq j i) [
-    | inl e ↦ (taken.taken.0, subst (λ (n : ℕ). Names (shape_of b.checked) x taken.taken.0 n) (sym e) taken.taken.1)
+    | inl e ↦ (taken.taken.0, subst (λ (n : ℕ). NamesItem (shape_of b.checked) x taken.taken.0 n) (sym e) taken.taken.1)
     | inr ne ↦ let was = old.named j l (λ f. none (takes.others j ne f)) in taken.named was.0 j was.1
   ];
 }
@@ -200,36 +200,36 @@ least_length sh w k path least = record { places = path.places.items; hole = pat
 pub stored_planned : (V : ℕ) (b : Books) (k : ℕ) (v : List ℕ) (i at : ℕ) (path : Path) (free : FreeItems) (s : State V) → IsShape (shape_of b.checked) → IsWord k → IsValue V v → AreBooksOf V b s
     → IsAbsent V (shape_of b.checked) s.words k → IsLeastPath (shape_of b.checked) s.words k path → AreKeys V (shape_of b.checked) s.words path.places.items → i < (shape_of b.checked).items
     → (PutIsSpent (shape_of b.checked) (quiet_of s) → ⊥) → at ≡ moment s.words + 1
-    → IsFreeIn b.free i → IsKept free → free.items ≡ b.free.items → Takes b.free free i
-    → IsPlanned V (record b { free = free; changes = b.changes + (2 * length path.places.items + 2) }) (put_acts V (shape_of b.checked) s.words k v i path.places.items path.hole ++ Mark i ∷ []) (PutCall k v) s s (answer.Put (Ok (put.Stored at (length path.places.items) None)))
+    → IsFreeIn b.free i → IsConsistent free → free.items ≡ b.free.items → TakesFree b.free free i
+    → IsPlanned V (record b { free = free; version_steps = b.version_steps + (2 * length path.places.items + 2) }) (put_acts V (shape_of b.checked) s.words k v i path.places.items path.hole ++ Mark i ∷ []) (PutCall k v) s s (answer.Put (Ok (put.Stored at (length path.places.items) None)))
 stored_planned V b k v i at path free s shape key value old absent least keys in_items unspent is was kept items takes =
     let sh = shape_of b.checked in
     let ps = path.places.items in
     let acts = put_acts V sh s.words k v i ps path.hole in
-    let t = left V sh s acts in
+    let t = state_after_acts V sh s acts in
     let steps = 2 * length ps + 2 in
     let can : CanPut V sh s.words k i ps path.hole = record { absent = absent; in_items = in_items; free = old.free i was; chain = least.chain; keys = keys } in
     let law = puts_room V sh s k v i ps path.hole shape key value old.quiet can in
     let makes = law.0 in
     let walk = marked V sh s acts (Put k v ∷ []) steps i makes in_items in
     let told = answer.Put (Ok (put.Stored at (length ps) None)) in
-    let limit : s.changes + steps ≤ sh.limit = omega (arith, least.within, unspent) in
+    let limit : s.version_steps + steps ≤ sh.limit = omega (arith, least.within, unspent) in
     let stored : means.Stores V sh (quiet_of s) (quiet_of t) k v at (length ps) = record {
       unspent = unspent;
       absent = absent_held V sh s k old.quiet absent;
       within = least.within;
       least = least_length sh s.words k path least;
       room = room_from_free V sh s.words s.history (keys_quiet V sh s old.quiet) (i, in_items, old.free i was);
-      grows = record { history = makes.history; changes = makes.changes ∙ omega arith };
+      grows = record { history = makes.history; version_steps = makes.version_steps ∙ omega arith };
       hand = makes.hand;
       moment = moment_after V s t at (Put k v) sh old.quiet makes.history is;
     } in
-    let ends : Ends V b s t steps = record { quiet = makes.quiet; changes = makes.changes; hand = makes.hand; limit = limit } in
+    let ends : Ends V b s t steps = record { quiet = makes.quiet; version_steps = makes.version_steps; hand = makes.hand; limit = limit } in
     record {
       allowed = walk.allowed;
       means = subst (λ (x : State V). Means sh (PutCall k v) told s x) (sym walk.leads) stored;
       marks = record { before = acts; slot = slot_number (first_place ps path.hole); item = i; last = refl; deeds = deeds_put V sh s.words k v i ps path.hole; stands = subst (λ (x : State V). Stands V sh x.words k (slot_number (first_place ps path.hole)) i) (sym walk.leads) law.1 };
-      ends = subst (λ (x : State V). AreBooksOf V (record b { free = free; changes = b.changes + steps }) x) (sym walk.leads) (books_after V b s t steps free old ends (free_taken V b s t.words free i old kept items takes law.2));
+      ends = subst (λ (x : State V). AreBooksOf V (record b { free = free; version_steps = b.version_steps + steps }) x) (sym walk.leads) (books_after V b s t steps free old ends (free_taken V b s t.words free i old kept items takes law.2));
     }
 
 -- ---- a call that changes nothing
@@ -237,13 +237,13 @@ pub idle_planned : (V : ℕ) (b : Books) (call : Call) (s : State V) (told : Ans
 idle_planned V b call s told old means marks = record { allowed = tt; means = means; marks = marks; ends = old }
 
 -- books with another list of the same free items
-pub books_still : (V : ℕ) (b : Books) (s : State V) (free : FreeItems) → AreBooksOf V b s → IsKept free → free.items ≡ b.free.items → ((j : ℕ) → IsFreeIn b.free j → ⊥) → ((j : ℕ) → IsFreeIn free j → ⊥) → AreBooksOf V (record b { free = free }) s
+pub books_still : (V : ℕ) (b : Books) (s : State V) (free : FreeItems) → AreBooksOf V b s → IsConsistent free → free.items ≡ b.free.items → ((j : ℕ) → IsFreeIn b.free j → ⊥) → ((j : ℕ) → IsFreeIn free j → ⊥) → AreBooksOf V (record b { free = free }) s
 books_still V b s free old kept items none still = record {
   width = old.width;
   quiet = old.quiet;
   hand = old.hand;
   stands = old.stands;
-  changes = old.changes;
+  version_steps = old.version_steps;
   limit = old.limit;
   finder = old.finder;
   kept = kept;
@@ -300,7 +300,7 @@ module _ (V : ℕ) (b : Books) (s : State V) (w : List ℕ) (old : AreBooksOf V 
 
 -- ---- a new table
 -- no slot names an item
-none_names : (V : ℕ) (sh : Shape) (q i : ℕ) → Names sh (opening V sh).words q i → ⊥
+none_names : (V : ℕ) (sh : Shape) (q i : ℕ) → NamesItem sh (opening V sh).words q i → ⊥
 unfolding slot opening
 none_names V sh q i n = empty_names_none sh (opening V sh).words q i (zeros (word_count V sh) (1 + sh.stripes + q)) n
 
@@ -312,11 +312,11 @@ opening_hand : (V : ℕ) (sh : Shape) → (opening V sh).hand ≡ 0
 unfolding opening
 opening_hand V sh = refl
 
-opening_changes : (V : ℕ) (sh : Shape) → (opening V sh).changes ≡ 0
+opening_changes : (V : ℕ) (sh : Shape) → (opening V sh).version_steps ≡ 0
 unfolding opening
 opening_changes V sh = refl
 
-pub new_books : (V : ℕ) (b : Books) → IsWidth V → b.finder ≡ shape_of b.checked → b.hand ≡ 0 → b.changes ≡ 0 → IsKept b.free → b.free.items ≡ (shape_of b.checked).items → ((i : ℕ) → i < (shape_of b.checked).items → IsFreeIn b.free i) → AreBooksOf V b (opening V (shape_of b.checked))
+pub new_books : (V : ℕ) (b : Books) → IsWidth V → b.finder ≡ shape_of b.checked → b.hand ≡ 0 → b.version_steps ≡ 0 → IsConsistent b.free → b.free.items ≡ (shape_of b.checked).items → ((i : ℕ) → i < (shape_of b.checked).items → IsFreeIn b.free i) → AreBooksOf V b (opening V (shape_of b.checked))
 new_books V b width finder hand changes kept items all =
     let sh = shape_of b.checked in
     let none = opening_changes V sh in
@@ -325,7 +325,7 @@ new_books V b width finder hand changes kept items all =
       quiet = opening_quiet V sh;
       hand = hand ∙ sym (opening_hand V sh);
       stands = omega (arith, opening_hand V sh, b.checked.sound.items.0);
-      changes = omega arith;
+      version_steps = omega arith;
       limit = omega (arith, none);
       finder = finder;
       kept = kept;

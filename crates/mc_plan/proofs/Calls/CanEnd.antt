@@ -5,8 +5,8 @@ use Rattle.std.proofs.lemmas.List.{map-append, length-map, take-append-drop}
 use Rattle.mc_theory.specs.Lists.{Made}
 use Rattle.mc_theory.specs.States.{State}
 use Rattle.mc_theory.specs.declared.act.Act.{Act}
-use Rattle.mc_plan.specs.Clerks.{Answered, Call, IsAt, IsOn, IsSweeping, MakesPlan, acts_of, next_act, next_in, shape_in}
-use Rattle.mc_plan.specs.Making.{made}
+use Rattle.mc_plan.specs.Clerks.{Answered, Call, IsAtStage, IsOn, IsSweeping, MakesPlan, acts_of, next_act, next_in, shape_of_clerk}
+use Rattle.mc_plan.specs.Making.{as_made}
 use Rattle.mc_search.specs.Sweeps.{Swept, HasSwept, hand_acts, next_item}
 use Rattle.mc_plan.specs.declared.answer.Answer.{Answer}
 use Rattle.mc_plan.specs.declared.answer.Answer.TheVariants as answer
@@ -22,7 +22,7 @@ use Rattle.mc_plan.proofs.Calls.SweptStates.{hand_acts_then, rest_recent}
 use Rattle.mc_plan.proofs.Calls.AfterSweep.{recent_planned}
 
 -- acts that are made as planned are the planned ones
-acts_made : (xs : List Act) → acts_of (made xs) ≡ xs
+acts_made : (xs : List Act) → acts_of (as_made xs) ≡ xs
 acts_made [] = refl
 acts_made (x ∷ xs) = ap (λ (l : List Act). x ∷ l) (acts_made xs)
 
@@ -30,7 +30,7 @@ acts_made (x ∷ xs) = ap (λ (l : List Act). x ∷ l) (acts_made xs)
 record CanEnd (V : ℕ) (clerk : Clerk V) (call : Call) (s : State V) (acts : List Made) : Type 0 where
   more : List Made
   told : Answer
-  answered : Answered V (shape_in clerk) call s (acts ++ more) told
+  answered : Answered V (shape_of_clerk clerk) call s (acts ++ more) told
   some : IsSome (next_act clerk) → 0 < length more
 
 -- a place that has an act is within the plan
@@ -44,16 +44,16 @@ unfolding next_act
 ends_plan V clerk call s acts told is makes =
     let plan = clerk.plan.items in
     let rest = drop clerk.made plan in
-    let others = makes.others ++ made rest in
+    let others = makes.others ++ as_made rest in
     let all : acts_of others ≡ plan =
-    map-append (λ (m : Made). m.act) makes.others (made rest) ∙ ap (λ (l : List Act). acts_of makes.others ++ l) (acts_made rest) ∙ ap (λ (l : List Act). l ++ rest) makes.done ∙ take-append-drop clerk.made plan in
+    map-append (λ (m : Made). m.act) makes.others (as_made rest) ∙ ap (λ (l : List Act). acts_of makes.others ++ l) (acts_made rest) ∙ ap (λ (l : List Act). l ++ rest) makes.done ∙ take-append-drop clerk.made plan in
     let whole = whole_plan V clerk.books plan call s makes.sweep others told makes.hands makes.sweeps makes.planned all in
-    let same : hand_acts makes.sweep ++ others ≡ acts ++ made rest = sym (append_assoc (hand_acts makes.sweep) makes.others (made rest)) ∙ ap (λ (l : List Made). l ++ made rest) (sym makes.parts) in
-    let many : length (made rest) ≡ length rest = length-map rest (λ (a : Act). record { act = a; bit = 0 }) in
+    let same : hand_acts makes.sweep ++ others ≡ acts ++ as_made rest = sym (append_assoc (hand_acts makes.sweep) makes.others (as_made rest)) ∙ ap (λ (l : List Made). l ++ as_made rest) (sym makes.parts) in
+    let many : length (as_made rest) ≡ length rest = length-map rest (λ (a : Act). record { act = a; bit = 0 }) in
     record {
-      more = made rest;
+      more = as_made rest;
       told = told;
-      answered = subst (λ (l : List Made). Answered V (shape_in clerk) call s l told) same whole.0;
+      answered = subst (λ (l : List Made). Answered V (shape_of_clerk clerk) call s l told) same whole.0;
       some = λ some.
           let below = some_below plan clerk.made (slice_get plan clerk.made) refl (subst (λ (st : Stage V). IsSome (next_in st plan clerk.made)) is some) in
           let left = length-drop clerk.made plan in
@@ -70,7 +70,7 @@ ends_sweep : (V : ℕ) (clerk : Clerk V) (call : Call) (s : State V) (acts : Lis
 ends_sweep V clerk call s acts waiting rs on next parts =
     let b = clerk.books in
     let plan = clerk.plan.items in
-    let items = (shape_in clerk).items in
+    let items = (shape_of_clerk clerk).items in
     let rest = rest_recent waiting.sweep items s.hand rs on.has next in
     let all = rs ++ rest.0 in
     let sweep : Sweep = record { items = items; hand = (s.hand + length all) % items; left = 0; victim = None } in
@@ -84,17 +84,17 @@ ends_sweep V clerk call s acts waiting rs on next parts =
     record {
       more = hand_acts rest.0;
       told = told;
-      answered = subst (λ (l : List Made). Answered V (shape_in clerk) call s l told) same whole.0;
+      answered = subst (λ (l : List Made). Answered V (shape_of_clerk clerk) call s l told) same whole.0;
       some = λ some. omega (arith, rest.4, many_acts rest.0);
     }
 
-ends_at : (V : ℕ) (clerk : Clerk V) (call : Call) (s : State V) (acts : List Made) (st : Stage V) → clerk.stage ≡ st → IsAt V st clerk.books clerk.plan.items clerk.made call s acts → CanEnd V clerk call s acts
+ends_at : (V : ℕ) (clerk : Clerk V) (call : Call) (s : State V) (acts : List Made) (st : Stage V) → clerk.stage ≡ st → IsAtStage V st clerk.books clerk.plan.items clerk.made call s acts → CanEnd V clerk call s acts
 ends_at V clerk call s acts Idle is now = absurd now
 ends_at V clerk call s acts (Sweeping waiting) is now = ends_sweep V clerk call s acts waiting now.0 now.1 now.2 now.4
 ends_at V clerk call s acts (Planned told) is now = ends_plan V clerk call s acts told is now
 
 -- some acts end the call with an answer: at least one, where one is to be made
-pub can_end : (V : ℕ) (clerk : Clerk V) (call : Call) (s : State V) (acts : List Made) → IsOn V clerk call s acts → (more : List Made) × (told : Answer) × Answered V (shape_in clerk) call s (acts ++ more) told × (IsSome (next_act clerk) → 0 < length more)
+pub can_end : (V : ℕ) (clerk : Clerk V) (call : Call) (s : State V) (acts : List Made) → IsOn V clerk call s acts → (more : List Made) × (told : Answer) × Answered V (shape_of_clerk clerk) call s (acts ++ more) told × (IsSome (next_act clerk) → 0 < length more)
 can_end V clerk call s acts on =
     let ends = ends_at V clerk call s acts clerk.stage refl on.now in
     (ends.more, ends.told, ends.answered, ends.some)

@@ -102,7 +102,7 @@ only_swept V sh call s acts told c deeds same =
     let ends : after_all sh s acts ≡ after_all sh m c.others = ap (λ (l : List Made). after_all sh s l) c.parts ∙ after_all-append sh s (hand_acts c.sweep) c.others in
     let may : AreAllowed sh m c.others = allowed_after V sh s (hand_acts c.sweep) c.others (subst (λ (l : List Made). AreAllowed sh s l) c.parts c.allowed) in
     let quiet : (after_all sh m c.others).phase ≡ phase.Quiet = ap (λ (t : State V). t.phase) (sym ends) ∙ c.quiet.quiet in
-    let still : (after_all sh m c.others).changes ≡ m.changes = ap (λ (t : State V). t.changes) (sym ends) ∙ ap (λ (q : Quiet V). q.changes) same ∙ sym (swept_still V sh s c.sweep).changes in
+    let still : (after_all sh m c.others).version_steps ≡ m.version_steps = ap (λ (t : State V). t.version_steps) (sym ends) ∙ ap (λ (q : Quiet V). q.version_steps) same ∙ sym (swept_still V sh s c.sweep).version_steps in
     let none = deeds_cost V sh m c.others may deeds quiet still in
     c.parts ∙ ap (λ (l : List Made). hand_acts c.sweep ++ l) none ∙ append-nil (hand_acts c.sweep)
 
@@ -145,7 +145,7 @@ removed_once V sh k s acts more at after one two =
     let ends : after_all sh s (acts ++ more) ≡ after_all sh t more = after_all-append sh s acts more in
     let same : acts ++ more ≡ two.others = two.parts ∙ ap (λ (l : List Swept). hand_acts l ++ two.others) two.sweeps in
     let deeds : AreOfDeeds (acts_of acts ++ acts_of more) = subst (λ (l : List Act). AreOfDeeds l) (ap (λ (l : List Made). acts_of l) (sym same) ∙ acts_then acts more) two.marks in
-    let still : (after_all sh t more).changes ≡ t.changes = ap (λ (u : State V). u.changes) (sym ends) ∙ two.means.grows.changes ∙ sym one.means.grows.changes in
+    let still : (after_all sh t more).version_steps ≡ t.version_steps = ap (λ (u : State V). u.version_steps) (sym ends) ∙ two.means.grows.version_steps ∙ sym one.means.grows.version_steps in
     deeds_cost V sh t more (allowed_after V sh s acts more two.allowed) (deeds_after (acts_of acts) (acts_of more) deeds) (ap (λ (u : State V). u.phase) (sym ends) ∙ two.quiet.quiet) still
 
 -- ---- answers whose conditions exclude each other

@@ -10,11 +10,11 @@ use Rattle.mc_words.specs.Checks.{shape_of}
 use Rattle.mc_words.specs.declared.shape.Shape.{Shape}
 use Rattle.mc_words.specs.Places.{IsWidth}
 use Rattle.mc_theory.specs.Acts.{IsAllowed, MayFrom}
-use Rattle.mc_theory.specs.Effects.{after_act, changes_after, phase_after}
+use Rattle.mc_theory.specs.Effects.{after_act, version_steps_after, phase_after}
 use Rattle.mc_theory.specs.Lists.{Made, AreAllowed, after_all}
-use Rattle.mc_theory.specs.Phases.{Phase, Quiet, Filling, Keyed, Placed, Renewing, Removing, Removed, Moving, Moved, Closing, opened, runs}
+use Rattle.mc_theory.specs.Phases.{Phase, Quiet, Filling, Keyed, Placed, Renewing, Removing, Removed, Moving, Moved, Closing, first_phase, close_owed}
 use Rattle.mc_theory.specs.States.{State}
-use Rattle.mc_theory.specs.Worlds.{HasChanges}
+use Rattle.mc_theory.specs.Traces.{HasVersionSteps}
 use Rattle.mc_theory.specs.declared.act.Act.{Act}
 use Rattle.mc_theory.specs.declared.act.Act.TheVariants.{Open, Slot, Item, Moment, Close, Hand, Mark}
 use Rattle.mc_theory.specs.declared.act.Deed.{Deed}
@@ -26,8 +26,8 @@ use Rattle.mc_plan.specs.declared.books.Books.{Books}
 use Rattle.mc_plan.specs.declared.clerk.Clerk.{Clerk}
 use Rattle.mc_plan.specs.declared.clerk.Stage.{Stage}
 use Rattle.mc_plan.specs.declared.clerk.Stage.TheVariants.{Idle, Sweeping, Planned}
-use Rattle.mc_plan.specs.Clerks.{Answered, AreBooksOf, Call, PutCall, RemoveCall, IsAt, IsOfDeed, AreOfDeeds, IsOn, IsPlanned, IsRunning, IsSweepOf, Knows, MakesPlan, Means, Marks, Runs, acts_of, next_act, next_in, shape_in, swept}
-use Rattle.mc_plan.specs.Making.{IsQuiet, made, left}
+use Rattle.mc_plan.specs.Clerks.{Answered, AreBooksOf, Call, PutCall, RemoveCall, IsAtStage, IsOfDeed, AreOfDeeds, IsOn, IsPlanned, HasCall, IsSweepOf, Knows, MakesPlan, Means, Marks, StageHasCall, acts_of, next_act, next_in, shape_of_clerk, state_after_sweep}
+use Rattle.mc_plan.specs.Making.{IsQuiet, as_made, state_after_acts}
 use Rattle.mc_search.specs.Sweeps.{Swept, hand_acts}
 
 -- ---- the bit of an act that is none of the hand does nothing
@@ -48,12 +48,12 @@ any_bit sh s Close bit still = refl
 any_bit sh s (Mark i) bit still = refl
 any_bit sh s (Hand i) bit still = absurd still
 
-pub same_state : (V : ℕ) (sh : Shape) (s : State V) (acts : List Made) → AreStill (acts_of acts) → after_all sh s acts ≡ left V sh s (acts_of acts)
+pub same_state : (V : ℕ) (sh : Shape) (s : State V) (acts : List Made) → AreStill (acts_of acts) → after_all sh s acts ≡ state_after_acts V sh s (acts_of acts)
 same_state V sh s [] still = refl
 same_state V sh s (m ∷ ms) still =
     ap (λ (t : State V). after_all sh t ms) (any_bit sh s m.act m.bit still.0) ∙ same_state V sh (after_act sh s m.act 0) ms still.1
 
-pub same_allowed : (V : ℕ) (sh : Shape) (s : State V) (acts : List Made) → AreStill (acts_of acts) → AreAllowed sh s (made (acts_of acts)) → AreAllowed sh s acts
+pub same_allowed : (V : ℕ) (sh : Shape) (s : State V) (acts : List Made) → AreStill (acts_of acts) → AreAllowed sh s (as_made (acts_of acts)) → AreAllowed sh s acts
 same_allowed V sh s [] still may = tt
 same_allowed V sh s (m ∷ ms) still may =
     (may.0, subst (λ (t : State V). AreAllowed sh t ms) (sym (any_bit sh s m.act m.bit still.0)) (same_allowed V sh (after_act sh s m.act 0) ms still.1 may.1))
@@ -88,7 +88,7 @@ still_marks V sh w (PutCall k v) (answer.Remove told) acts m = absurd m
 still_marks V sh w (RemoveCall k) told acts m = still_deeds acts m
 
 -- ---- the next act
-pub allowed_next : (V : ℕ) (sh : Shape) (s : State V) (acts : List Act) (n : ℕ) (a : Act) → AreAllowed sh s (made acts) → slice_get acts n ≡ Some a → IsAllowed sh (left V sh s (take n acts)) a
+pub allowed_next : (V : ℕ) (sh : Shape) (s : State V) (acts : List Act) (n : ℕ) (a : Act) → AreAllowed sh s (as_made acts) → slice_get acts n ≡ Some a → IsAllowed sh (state_after_acts V sh s (take n acts)) a
 allowed_next V sh s [] n a l e = absurd (cc)
 allowed_next V sh s (x ∷ xs) zero a l e = let is : x ≡ a = cc in subst (λ (y : Act). IsAllowed {V = V} sh s y) is l.0
 allowed_next V sh s (x ∷ xs) (suc n) a l e = allowed_next V sh (after_act sh s x 0) xs n a l.1 e
@@ -112,9 +112,9 @@ none_left (x ∷ xs) (suc n) e = ap (λ (ys : List Act). x ∷ ys) (none_left xs
 -- ---- an open leaves room for its close
 -- the version changes, with that of the close that is to come
 tally : {V : ℕ} → State V → ℕ
-tally s = s.changes + runs s.phase
+tally s = s.version_steps + close_owed s.phase
 
-tally_act : (V : ℕ) (sh : Shape) (w : List ℕ) (hand : ℕ) (cleared : Option ℕ) (p : Phase) (a : Act) (c : ℕ) → MayFrom V sh w hand cleared p a → c + runs p ≤ changes_after c a + runs (phase_after p a)
+tally_act : (V : ℕ) (sh : Shape) (w : List ℕ) (hand : ℕ) (cleared : Option ℕ) (p : Phase) (a : Act) (c : ℕ) → MayFrom V sh w hand cleared p a → c + close_owed p ≤ version_steps_after c a + close_owed (phase_after p a)
 tally_act V sh w hand cleared Quiet (Open k d) c may = omega arith
 tally_act V sh w hand cleared Quiet (Hand g) c may = omega arith
 tally_act V sh w hand cleared Quiet (Mark g) c may = omega arith
@@ -131,35 +131,35 @@ tally_act V sh w hand cleared (Moved k f) (Slot p x) c may = omega arith
 tally_act V sh w hand cleared (Closing k) Close c may = omega arith
 tally_act V sh w hand cleared _ _ c may = absurd may
 
-tally_all : (V : ℕ) (sh : Shape) (s : State V) (acts : List Act) → AreAllowed sh s (made acts) → tally s ≤ tally (left V sh s acts)
+tally_all : (V : ℕ) (sh : Shape) (s : State V) (acts : List Act) → AreAllowed sh s (as_made acts) → tally s ≤ tally (state_after_acts V sh s acts)
 unfolding tally
 tally_all V sh s [] may = omega arith
 tally_all V sh s (a ∷ acts) may =
-    let one = tally_act V sh s.words s.hand s.cleared s.phase a s.changes may.0 in
+    let one = tally_act V sh s.words s.hand s.cleared s.phase a s.version_steps may.0 in
     omega (arith, one, tally_all V sh (after_act sh s a 0) acts may.1)
 
-opened_runs : (k : ℕ) (d : Deed) → runs (opened k d) ≡ 1
+opened_runs : (k : ℕ) (d : Deed) → close_owed (first_phase k d) ≡ 1
 opened_runs k deed.Fill = refl
 opened_runs k deed.Renew = refl
 opened_runs k deed.Remove = refl
 opened_runs k deed.Evict = refl
 opened_runs k deed.Move = refl
 
-open_closes : (V : ℕ) (sh : Shape) (s : State V) (acts : List Act) (n k : ℕ) (d : Deed) → AreAllowed sh s (made acts) → slice_get acts n ≡ Some (Open k d) → (left V sh s acts).phase ≡ Quiet
-    → (left V sh s (take n acts)).changes + 2 ≤ (left V sh s acts).changes
+open_closes : (V : ℕ) (sh : Shape) (s : State V) (acts : List Act) (n k : ℕ) (d : Deed) → AreAllowed sh s (as_made acts) → slice_get acts n ≡ Some (Open k d) → (state_after_acts V sh s acts).phase ≡ Quiet
+    → (state_after_acts V sh s (take n acts)).version_steps + 2 ≤ (state_after_acts V sh s acts).version_steps
 unfolding tally
 open_closes V sh s [] n k d may e quiet = absurd (cc)
 open_closes V sh s (x ∷ xs) zero k d may e quiet =
     let is : x ≡ Open k d = cc in
     let grows = tally_all V sh (after_act sh s x 0) xs may.1 in
-    let opens : runs (phase_after s.phase x) ≡ 1 = ap (λ (y : Act). runs (phase_after s.phase y)) is ∙ opened_runs k d in
-    let counts : changes_after s.changes x ≡ s.changes + 1 = ap (λ (y : Act). changes_after s.changes y) is in
-    let ends : runs (left V sh s (x ∷ xs)).phase ≡ 0 = ap runs quiet in
+    let opens : close_owed (phase_after s.phase x) ≡ 1 = ap (λ (y : Act). close_owed (phase_after s.phase y)) is ∙ opened_runs k d in
+    let counts : version_steps_after s.version_steps x ≡ s.version_steps + 1 = ap (λ (y : Act). version_steps_after s.version_steps y) is in
+    let ends : close_owed (state_after_acts V sh s (x ∷ xs)).phase ≡ 0 = ap close_owed quiet in
     omega (arith, grows, opens, counts, ends)
 open_closes V sh s (x ∷ xs) (suc n) k d may e quiet = open_closes V sh (after_act sh s x 0) xs n k d may.1 e quiet
 
-pub changes_left : (V : ℕ) (sh : Shape) (s : State V) (acts : List Act) (n : ℕ) (a : Act) (limit : ℕ) → AreAllowed sh s (made acts) → slice_get acts n ≡ Some a → (left V sh s acts).phase ≡ Quiet → (left V sh s acts).changes ≤ limit
-    → HasChanges limit (left V sh s (take n acts)).changes a
+pub changes_left : (V : ℕ) (sh : Shape) (s : State V) (acts : List Act) (n : ℕ) (a : Act) (limit : ℕ) → AreAllowed sh s (as_made acts) → slice_get acts n ≡ Some a → (state_after_acts V sh s acts).phase ≡ Quiet → (state_after_acts V sh s acts).version_steps ≤ limit
+    → HasVersionSteps limit (state_after_acts V sh s (take n acts)).version_steps a
 changes_left V sh s acts n (Open k d) limit may e quiet l = let c = open_closes V sh s acts n k d may e quiet in omega arith
 changes_left V sh s acts n (Slot p x) limit may e quiet l = tt
 changes_left V sh s acts n (Item i j x) limit may e quiet l = tt
@@ -184,25 +184,25 @@ module _ (V : ℕ) (b : Books) (plan : List Act) (many : ℕ) (call : Call) (s :
   sh = shape_of b.checked
 
   abbrev pub mid : State V
-  mid = swept V sh s makes.sweep
+  mid = state_after_sweep V sh s makes.sweep
 
   still_on : AreStill (acts_of makes.others)
   still_on = subst AreStill (sym makes.done) (still_take many plan (still_marks V sh _ call told plan makes.planned.marks))
 
   -- the state now is that after the sweep and the first acts of the plan
-  pub state_now : after_all sh s acts ≡ left V sh mid (take many plan)
+  pub state_now : after_all sh s acts ≡ state_after_acts V sh mid (take many plan)
   state_now =
       ap (λ (xs : List Made). after_all sh s xs) makes.parts ∙ after_all-append sh s (hand_acts makes.sweep) makes.others
-      ∙ same_state V sh mid makes.others still_on ∙ ap (λ (xs : List Act). left V sh mid xs) makes.done
+      ∙ same_state V sh mid makes.others still_on ∙ ap (λ (xs : List Act). state_after_acts V sh mid xs) makes.done
 
   -- the act that comes next is allowed, and an open leaves two version changes within the limit
-  pub plan_may : (r : Option Act) → r ≡ slice_get plan many → IfSome r (λ a. IsAllowed sh (after_all sh s acts) a × HasChanges sh.limit (after_all sh s acts).changes a)
+  pub plan_may : (r : Option Act) → r ≡ slice_get plan many → IfSome r (λ a. IsAllowed sh (after_all sh s acts) a × HasVersionSteps sh.limit (after_all sh s acts).version_steps a)
   plan_may None e = tt
   plan_may (Some a) e =
       let planned = makes.planned in
       let may = allowed_next V sh mid plan many a planned.allowed (sym e) in
       let room = changes_left V sh mid plan many a sh.limit planned.allowed (sym e) planned.ends.quiet.quiet planned.ends.limit in
-      subst (λ (t : State V). IsAllowed sh t a × HasChanges sh.limit t.changes a) (sym state_now) (may, room)
+      subst (λ (t : State V). IsAllowed sh t a × HasVersionSteps sh.limit t.version_steps a) (sym state_now) (may, room)
 
   -- one act more was made
   pub plan_next : (a : Act) (bit : ℕ) → slice_get plan many ≡ Some a → MakesPlan V b plan (many + 1) call s (acts ++ record { act = a; bit = bit } ∷ []) told
@@ -223,14 +223,14 @@ module _ (V : ℕ) (b : Books) (plan : List Act) (many : ℕ) (call : Call) (s :
 
 -- a sweep and then all acts of a plan are a whole call
 pub whole_plan : (V : ℕ) (b : Books) (plan : List Act) (call : Call) (s : State V) (rs : List Swept) (others : List Made) (told : Answer) → AreAllowed (shape_of b.checked) s (hand_acts rs) → IsSweepOf V (shape_of b.checked) s rs told
-    → IsPlanned V b plan call s (swept V (shape_of b.checked) s rs) told → acts_of others ≡ plan
-    → Answered V (shape_of b.checked) call s (hand_acts rs ++ others) told × (after_all (shape_of b.checked) s (hand_acts rs ++ others) ≡ left V (shape_of b.checked) (swept V (shape_of b.checked) s rs) plan)
+    → IsPlanned V b plan call s (state_after_sweep V (shape_of b.checked) s rs) told → acts_of others ≡ plan
+    → Answered V (shape_of b.checked) call s (hand_acts rs ++ others) told × (after_all (shape_of b.checked) s (hand_acts rs ++ others) ≡ state_after_acts V (shape_of b.checked) (state_after_sweep V (shape_of b.checked) s rs) plan)
 whole_plan V b plan call s rs others told hands sweeps p done =
     let sh = shape_of b.checked in
-    let mid = swept V sh s rs in
+    let mid = state_after_sweep V sh s rs in
     let still : AreStill (acts_of others) = subst AreStill (sym done) (still_marks V sh _ call told plan p.marks) in
-    let now : after_all sh s (hand_acts rs ++ others) ≡ left V sh mid plan = after_all-append sh s (hand_acts rs) others ∙ same_state V sh mid others still ∙ ap (λ (xs : List Act). left V sh mid xs) done in
-    let rest = same_allowed V sh mid others still (subst (λ (xs : List Act). AreAllowed sh mid (made xs)) (sym done) p.allowed) in (
+    let now : after_all sh s (hand_acts rs ++ others) ≡ state_after_acts V sh mid plan = after_all-append sh s (hand_acts rs) others ∙ same_state V sh mid others still ∙ ap (λ (xs : List Act). state_after_acts V sh mid xs) done in
+    let rest = same_allowed V sh mid others still (subst (λ (xs : List Act). AreAllowed sh mid (as_made xs)) (sym done) p.allowed) in (
       record {
         sweep = rs;
         others = others;
@@ -246,9 +246,9 @@ whole_plan V b plan call s rs others told hands sweeps p done =
 
 -- a plan that was made after a sweep, and none of its acts
 pub planned_after : (V : ℕ) (b : Books) (plan : List Act) (many : ℕ) (call : Call) (s : State V) (rs : List Swept) (told : Answer) (sh : Shape) → sh ≡ shape_of b.checked → AreAllowed sh s (hand_acts rs) → IsSweepOf V sh s rs told
-    → IsPlanned V b plan call s (swept V sh s rs) told → length plan ≤ 64 → many ≡ 0 → MakesPlan V b plan many call s (hand_acts rs) told
+    → IsPlanned V b plan call s (state_after_sweep V sh s rs) told → length plan ≤ 64 → many ≡ 0 → MakesPlan V b plan many call s (hand_acts rs) told
 planned_after V b plan many call s rs told sh same hands sweeps planned fits none =
-    subst (λ (y : Shape). AreAllowed y s (hand_acts rs) → IsSweepOf V y s rs told → IsPlanned V b plan call s (swept V y s rs) told → MakesPlan V b plan many call s (hand_acts rs) told) (sym same)
+    subst (λ (y : Shape). AreAllowed y s (hand_acts rs) → IsSweepOf V y s rs told → IsPlanned V b plan call s (state_after_sweep V y s rs) told → MakesPlan V b plan many call s (hand_acts rs) told) (sym same)
     (λ hands sweeps planned. record {
       sweep = rs;
       others = [];
@@ -264,20 +264,20 @@ planned_after V b plan many call s rs told sh same hands sweeps planned fits non
 -- ---- a clerk in a call
 -- a clerk that has planned makes its plan
 pub at_stage : (V : ℕ) (clerk : Clerk V) (call : Call) (s : State V) (acts : List Made) (told : Answer) → IsOn V clerk call s acts → clerk.stage ≡ Planned told → MakesPlan V clerk.books clerk.plan.items clerk.made call s acts told
-at_stage V clerk call s acts told on is = subst (λ (st : Stage V). IsAt V st clerk.books clerk.plan.items clerk.made call s acts) is on.now
+at_stage V clerk call s acts told on is = subst (λ (st : Stage V). IsAtStage V st clerk.books clerk.plan.items clerk.made call s acts) is on.now
 
 -- a clerk that is in a call runs
-runs_at : (V : ℕ) (st : Stage V) (b : Books) (plan : List Act) (many : ℕ) (call : Call) (s : State V) (acts : List Made) → IsAt V st b plan many call s acts → Runs st
+runs_at : (V : ℕ) (st : Stage V) (b : Books) (plan : List Act) (many : ℕ) (call : Call) (s : State V) (acts : List Made) → IsAtStage V st b plan many call s acts → StageHasCall st
 runs_at V Idle b plan many call s acts now = absurd now
 runs_at V (Sweeping waiting) b plan many call s acts now = now.2
 runs_at V (Planned told) b plan many call s acts now = tt
 
-pub on_runs : (V : ℕ) (clerk : Clerk V) (call : Call) (s : State V) (acts : List Made) → IsOn V clerk call s acts → IsRunning {V = V} clerk
-unfolding IsRunning
+pub on_runs : (V : ℕ) (clerk : Clerk V) (call : Call) (s : State V) (acts : List Made) → IsOn V clerk call s acts → HasCall {V = V} clerk
+unfolding HasCall
 on_runs V clerk call s acts on = runs_at V clerk.stage clerk.books clerk.plan.items clerk.made call s acts on.now
 
 -- its values have so many words
-width_at : (V : ℕ) (st : Stage V) (b : Books) (plan : List Act) (many : ℕ) (call : Call) (s : State V) (acts : List Made) → IsAt V st b plan many call s acts → IsWidth V
+width_at : (V : ℕ) (st : Stage V) (b : Books) (plan : List Act) (many : ℕ) (call : Call) (s : State V) (acts : List Made) → IsAtStage V st b plan many call s acts → IsWidth V
 width_at V Idle b plan many call s acts now = absurd now
 width_at V (Sweeping waiting) b plan many call s acts now = now.1.waits.known.width
 width_at V (Planned told) b plan many call s acts now = now.planned.ends.width
@@ -287,22 +287,22 @@ on_width V clerk call s acts on = width_at V clerk.stage clerk.books clerk.plan.
 
 -- no act is left: the call is whole
 pub whole_call : (V : ℕ) (clerk : Clerk V) (call : Call) (s : State V) (acts : List Made) (told : Answer) → IsOn V clerk call s acts → next_act clerk ≡ None → clerk.stage ≡ Planned told
-    → Answered V (shape_in clerk) call s acts told × Knows V (record clerk { stage = Idle }) (after_all (shape_in clerk) s acts)
+    → Answered V (shape_of_clerk clerk) call s acts told × Knows V (record clerk { stage = Idle }) (after_all (shape_of_clerk clerk) s acts)
 unfolding next_act
 whole_call V clerk call s acts told on next is =
-    let sh = shape_in clerk in
+    let sh = shape_of_clerk clerk in
     let plan = clerk.plan.items in
     let makes = at_stage V clerk call s acts told on is in
     let at : slice_get plan clerk.made ≡ None = ap (λ (st : Stage V). next_in st plan clerk.made) (sym is) ∙ next in
     let whole = whole_plan V clerk.books plan call s makes.sweep makes.others told makes.hands makes.sweeps makes.planned (makes.done ∙ none_left plan clerk.made at) in
-    let now : after_all sh s acts ≡ left V sh (swept V sh s makes.sweep) plan = ap (λ (xs : List Made). after_all sh s xs) makes.parts ∙ whole.1 in (
+    let now : after_all sh s acts ≡ state_after_acts V sh (state_after_sweep V sh s makes.sweep) plan = ap (λ (xs : List Made). after_all sh s xs) makes.parts ∙ whole.1 in (
       subst (λ (xs : List Made). Answered V sh call s xs told) (sym makes.parts) whole.0,
       record { idle = refl; books = subst (λ (t : State V). AreBooksOf V clerk.books t) (sym now) makes.planned.ends },
     )
 
 -- a call that was planned at once begins
-pub begins : (V : ℕ) (clerk : Clerk V) (call : Call) (s : State V) (told : Answer) → clerk.stage ≡ Planned told → clerk.made ≡ 0 → length clerk.plan.items ≤ 64 → IsQuiet V (shape_in clerk) s
-    → IsPlanned V clerk.books clerk.plan.items call s s told → IsSweepOf V (shape_in clerk) s [] told → IsOn V clerk call s []
+pub begins : (V : ℕ) (clerk : Clerk V) (call : Call) (s : State V) (told : Answer) → clerk.stage ≡ Planned told → clerk.made ≡ 0 → length clerk.plan.items ≤ 64 → IsQuiet V (shape_of_clerk clerk) s
+    → IsPlanned V clerk.books clerk.plan.items call s s told → IsSweepOf V (shape_of_clerk clerk) s [] told → IsOn V clerk call s []
 begins V clerk call s told owes none fits quiet planned sweeps =
-    let makes = planned_after V clerk.books clerk.plan.items clerk.made call s [] told (shape_in clerk) refl tt sweeps planned fits none in
-    record { begun = quiet; now = subst (λ (st : Stage V). IsAt V st clerk.books clerk.plan.items clerk.made call s []) (sym owes) makes }
+    let makes = planned_after V clerk.books clerk.plan.items clerk.made call s [] told (shape_of_clerk clerk) refl tt sweeps planned fits none in
+    record { begun = quiet; now = subst (λ (st : Stage V). IsAtStage V st clerk.books clerk.plan.items clerk.made call s []) (sym owes) makes }

@@ -7,7 +7,7 @@ use Rattle.mc_words.specs.Standing.{HasFree}
 use Rattle.mc_theory.specs.Acts.{IsAllowed}
 use Rattle.mc_theory.specs.Lists.{Made, AreAllowed, after_all}
 use Rattle.mc_theory.specs.States.{State}
-use Rattle.mc_theory.specs.Worlds.{HasChanges}
+use Rattle.mc_theory.specs.Traces.{HasVersionSteps}
 use Rattle.mc_theory.specs.declared.act.Act.{Act}
 use Rattle.mc_theory.specs.declared.act.Act.TheVariants.{Hand}
 use Rattle.mc_plan.specs.declared.books.Books.{Books}
@@ -17,7 +17,7 @@ use Rattle.mc_plan.specs.declared.clerk.Stage.TheVariants.{Sweeping}
 use Rattle.mc_search.specs.declared.path.Path.{Path}
 use Rattle.mc_search.specs.declared.sweep.Sweep.{Sweep}
 use Rattle.mc_plan.specs.declared.waiting.Waiting.{Waiting}
-use Rattle.mc_plan.specs.Clerks.{Call, IsAt, IsOn, IsSweeping, Waits, hand_of, next_act, next_in, shape_in, swept}
+use Rattle.mc_plan.specs.Clerks.{Call, IsAtStage, IsOn, IsSweeping, Waits, hand_of, next_act, next_in, shape_of_clerk, state_after_sweep}
 use Rattle.mc_search.specs.Sweeps.{Swept, HasSwept, hand_acts, next_item}
 use Rattle.mc_search.proofs.SweepReadings.{next_parts, next_some}
 use Rattle.mc_plan.proofs.Puts.NamedItems.{full_has_none}
@@ -36,20 +36,20 @@ module _ (V : ℕ) (b : Books) (plan : List Act) (waiting : Waiting V) (call : C
   hands_may = sweep_allowed V (shape_of b.checked) s s.hand rs on.waits.known.quiet full refl on.has.sweeps on.has.start
 
   -- the hand reads at most twice as many bits as there are items, round from where it stands
-  hand_may : (i : ℕ) → next_item waiting.sweep ≡ Some i → IsAllowed (shape_of b.checked) (swept V (shape_of b.checked) s rs) (Hand i)
+  hand_may : (i : ℕ) → next_item waiting.sweep ≡ Some i → IsAllowed (shape_of b.checked) (state_after_sweep V (shape_of b.checked) s rs) (Hand i)
   unfolding next_item
   hand_may i next =
       let parts = next_parts waiting.sweep.victim waiting.sweep.left waiting.sweep.hand i next in
       hand_next V (shape_of b.checked) s s.hand rs i on.waits.known.quiet full refl on.has.sweeps on.has.start (parts.2 ∙ on.has.stands)
 
   -- the next reading is allowed
-  next_hand : (o : Option ℕ) → o ≡ next_item waiting.sweep → IfSome (hand_of o) (λ a. IsAllowed (shape_of b.checked) (swept V (shape_of b.checked) s rs) a × HasChanges (shape_of b.checked).limit (swept V (shape_of b.checked) s rs).changes a)
+  next_hand : (o : Option ℕ) → o ≡ next_item waiting.sweep → IfSome (hand_of o) (λ a. IsAllowed (shape_of b.checked) (state_after_sweep V (shape_of b.checked) s rs) a × HasVersionSteps (shape_of b.checked).limit (state_after_sweep V (shape_of b.checked) s rs).version_steps a)
   next_hand None e = tt
   next_hand (Some i) e = (hand_may i (sym e), tt)
 
-  next_of_sweep : (r : Option Act) → r ≡ hand_of (next_item waiting.sweep) → IfSome r (λ a. IsAllowed (shape_of b.checked) (swept V (shape_of b.checked) s rs) a × HasChanges (shape_of b.checked).limit (swept V (shape_of b.checked) s rs).changes a)
+  next_of_sweep : (r : Option Act) → r ≡ hand_of (next_item waiting.sweep) → IfSome r (λ a. IsAllowed (shape_of b.checked) (state_after_sweep V (shape_of b.checked) s rs) a × HasVersionSteps (shape_of b.checked).limit (state_after_sweep V (shape_of b.checked) s rs).version_steps a)
   next_of_sweep r e =
-      subst (λ (o : Option Act). IfSome o (λ a. IsAllowed (shape_of b.checked) (swept V (shape_of b.checked) s rs) a × HasChanges (shape_of b.checked).limit (swept V (shape_of b.checked) s rs).changes a)) (sym e) (next_hand (next_item waiting.sweep) refl)
+      subst (λ (o : Option Act). IfSome o (λ a. IsAllowed (shape_of b.checked) (state_after_sweep V (shape_of b.checked) s rs) a × HasVersionSteps (shape_of b.checked).limit (state_after_sweep V (shape_of b.checked) s rs).version_steps a)) (sym e) (next_hand (next_item waiting.sweep) refl)
 
   -- a sweep with other readings
   pub sweep_on : (sweep : Sweep) (qs : List Swept) → HasSwept sweep (shape_of b.checked).items s.hand qs → IsSweeping V b plan (record waiting { sweep = sweep }) call s qs
@@ -67,20 +67,20 @@ starts sweep items hand has =
 pub begins_sweep : (V : ℕ) (clerk : Clerk V) (call : Call) (s : State V) (waiting : Waiting V) → clerk.stage ≡ Sweeping waiting → clerk.made ≡ 0 → IsSweeping V clerk.books clerk.plan.items waiting call s [] → IsOn V clerk call s []
 begins_sweep V clerk call s waiting is none on = record {
   begun = on.waits.known.quiet;
-  now = subst (λ (st : Stage V). IsAt V st clerk.books clerk.plan.items clerk.made call s []) (sym is) ([], on, starts waiting.sweep (shape_in clerk).items s.hand on.has, none, refl);
+  now = subst (λ (st : Stage V). IsAtStage V st clerk.books clerk.plan.items clerk.made call s []) (sym is) ([], on, starts waiting.sweep (shape_of_clerk clerk).items s.hand on.has, none, refl);
 }
 
 -- ---- a clerk whose hand looks for an item
-at_sweep : (V : ℕ) (clerk : Clerk V) (call : Call) (s : State V) (acts : List Made) (waiting : Waiting V) → IsOn V clerk call s acts → clerk.stage ≡ Sweeping waiting → IsAt V (Sweeping waiting) clerk.books clerk.plan.items clerk.made call s acts
-at_sweep V clerk call s acts waiting on is = subst (λ (st : Stage V). IsAt V st clerk.books clerk.plan.items clerk.made call s acts) is on.now
+at_sweep : (V : ℕ) (clerk : Clerk V) (call : Call) (s : State V) (acts : List Made) (waiting : Waiting V) → IsOn V clerk call s acts → clerk.stage ≡ Sweeping waiting → IsAtStage V (Sweeping waiting) clerk.books clerk.plan.items clerk.made call s acts
+at_sweep V clerk call s acts waiting on is = subst (λ (st : Stage V). IsAtStage V st clerk.books clerk.plan.items clerk.made call s acts) is on.now
 
 -- the act that comes next is allowed
 pub sweep_may : (V : ℕ) (clerk : Clerk V) (call : Call) (s : State V) (acts : List Made) (waiting : Waiting V) (r : Option Act) → IsOn V clerk call s acts → clerk.stage ≡ Sweeping waiting → r ≡ hand_of (next_item waiting.sweep)
-    → IfSome r (λ a. IsAllowed (shape_in clerk) (after_all (shape_in clerk) s acts) a × HasChanges (shape_in clerk).limit (after_all (shape_in clerk) s acts).changes a)
+    → IfSome r (λ a. IsAllowed (shape_of_clerk clerk) (after_all (shape_of_clerk clerk) s acts) a × HasVersionSteps (shape_of_clerk clerk).limit (after_all (shape_of_clerk clerk) s acts).version_steps a)
 sweep_may V clerk call s acts waiting r on is next =
-    let sh = shape_in clerk in
+    let sh = shape_of_clerk clerk in
     let now = at_sweep V clerk call s acts waiting on is in
-    subst (λ (xs : List Made). IfSome r (λ a. IsAllowed sh (after_all sh s xs) a × HasChanges sh.limit (after_all sh s xs).changes a)) (sym now.4)
+    subst (λ (xs : List Made). IfSome r (λ a. IsAllowed sh (after_all sh s xs) a × HasVersionSteps sh.limit (after_all sh s xs).version_steps a)) (sym now.4)
     (next_of_sweep V clerk.books clerk.plan.items waiting call s now.0 now.1 r next)
 
 -- what was read once the next bit was
@@ -104,12 +104,12 @@ one_read V clerk call s acts waiting a bit sweep on is next reads =
     let r : Swept = record { item = hand.0; bit = bit } in
     record {
       readings = rs ++ r ∷ [];
-      sweeping = sweep_on V clerk.books clerk.plan.items waiting call s rs now.1 sweep (rs ++ r ∷ []) (reads (shape_in clerk).items s.hand rs hand.0 now.1.has hand.1);
+      sweeping = sweep_on V clerk.books clerk.plan.items waiting call s rs now.1 sweep (rs ++ r ∷ []) (reads (shape_of_clerk clerk).items s.hand rs hand.0 now.1.has hand.1);
       are = ap (λ (xs : List Made). xs ++ record { act = a; bit = bit } ∷ []) now.4 ∙ ap (λ (x : Act). hand_acts rs ++ record { act = x; bit = bit } ∷ []) (sym hand.2) ∙ sym (hand_acts_then rs (r ∷ []));
       none = now.3;
     }
 
 -- the hand wrote no word
-pub words_read : (V : ℕ) (clerk : Clerk V) (waiting : Waiting V) (sweep : Sweep) (call : Call) (s : State V) (acts : List Made) (w : List ℕ) → HasRead V clerk waiting sweep call s acts → w ≡ (after_all (shape_in clerk) s acts).words → w ≡ s.words
+pub words_read : (V : ℕ) (clerk : Clerk V) (waiting : Waiting V) (sweep : Sweep) (call : Call) (s : State V) (acts : List Made) (w : List ℕ) → HasRead V clerk waiting sweep call s acts → w ≡ (after_all (shape_of_clerk clerk) s acts).words → w ≡ s.words
 words_read V clerk waiting sweep call s acts w read is =
-    is ∙ ap (λ (xs : List Made). (after_all (shape_in clerk) s xs).words) read.are ∙ (swept_still V (shape_in clerk) s read.readings).words
+    is ∙ ap (λ (xs : List Made). (after_all (shape_of_clerk clerk) s xs).words) read.are ∙ (swept_still V (shape_of_clerk clerk) s read.readings).words

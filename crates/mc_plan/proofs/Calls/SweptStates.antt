@@ -127,13 +127,13 @@ pub record StandsStill (V : ℕ) (s t : State V) : Type 0 where
   pub words : t.words ≡ s.words
   pub phase : t.phase ≡ s.phase
   pub history : t.history ≡ s.history
-  pub changes : t.changes ≡ s.changes
+  pub version_steps : t.version_steps ≡ s.version_steps
 
 pub swept_still : (V : ℕ) (sh : Shape) (s : State V) (rs : List Swept) → StandsStill V s (after_all sh s (hand_acts rs))
-swept_still V sh s [] = record { words = refl; phase = refl; history = refl; changes = refl }
+swept_still V sh s [] = record { words = refl; phase = refl; history = refl; version_steps = refl }
 swept_still V sh s (r ∷ rs) =
     let rest = swept_still V sh (after_act sh s (Hand r.item) r.bit) rs in
-    record { words = rest.words; phase = rest.phase; history = rest.history; changes = rest.changes }
+    record { words = rest.words; phase = rest.phase; history = rest.history; version_steps = rest.version_steps }
 
 pub swept_hand : (V : ℕ) (sh : Shape) (s : State V) (hand : ℕ) (rs : List Swept) → s.hand ≡ hand → IsSweep sh.items hand rs → hand < sh.items → (after_all sh s (hand_acts rs)).hand ≡ (hand + length rs) % sh.items
 swept_hand V sh s hand [] at sweeps below = at ∙ sym (mod-eq_of_lt below) ∙ ap (λ (m : ℕ). m % sh.items) (omega arith)
@@ -182,6 +182,6 @@ sweep_quiet V sh s (r ∷ rs) quiet shape may =
     let next : IsQuiet V sh (after_act sh s (Hand r.item) r.bit) = record {
       quiet = quiet.quiet;
       holds = holds_after sh s (Hand r.item) r.bit shape quiet.holds may.0;
-      counted = counted_after V sh s.words s.hand s.cleared s.history s.changes s.phase (Hand r.item) shape quiet.holds.agrees.size may.0 quiet.counted;
+      counted = counted_after V sh s.words s.hand s.cleared s.history s.version_steps s.phase (Hand r.item) shape quiet.holds.agrees.size may.0 quiet.counted;
     } in
     sweep_quiet V sh (after_act sh s (Hand r.item) r.bit) rs next shape may.1

@@ -11,12 +11,12 @@ use Rattle.mc_words.specs.Standing.{Stands, IsFree}
 use Rattle.mc_words.proofs.Frames.{moved_names}
 use Rattle.mc_words.proofs.Keys.{tag_of-lt}
 use Rattle.mc_words.proofs.Places.{slot-with_item, slot-with_slot_same, slot-with_slot_other, item-with_item_same, item-with_slot, length-with_item}
-use Rattle.mc_theory.specs.Effects.{bumped}
+use Rattle.mc_theory.specs.Effects.{with_bump}
 use Rattle.mc_theory.specs.Phases.{Quiet, Keyed}
 use Rattle.mc_theory.specs.States.{State}
 use Rattle.mc_theory.specs.declared.act.Act.TheVariants.{Open, Slot, Item, Moment, Close}
 use Rattle.mc_theory.specs.declared.act.Deed.TheVariants as deed
-use Rattle.mc_plan.specs.Making.{left, Makes, CanFill, Fills}
+use Rattle.mc_plan.specs.Making.{state_after_acts, Makes, CanFill, ActsFill}
 use Rattle.mc_search.specs.Kept.{SetsSlot}
 use Rattle.mc_plan.specs.Plans.{value_acts, fill_acts}
 use Rattle.mc_plan.proofs.Deeds.QuietStates.{state, at_quiet, makes_from_walk}
@@ -38,7 +38,7 @@ take_payload V v e = take_all V v (omega (arith, e))
 
 -- the words of a fill before its slot is written, and after its last act
 abbrev before_slot : ℕ → Shape → List ℕ → ℕ → List ℕ → ℕ → List ℕ
-before_slot V sh w k v i = valued V sh (with_item V sh (bumped sh w k) i 0 k) i 1 v
+before_slot V sh w k v i = valued V sh (with_item V sh (with_bump sh w k) i 0 k) i 1 v
 
 abbrev filled : ℕ → Shape → List ℕ → ℕ → List ℕ → ℕ → Place → List ℕ
 filled V sh w k v i p = ended sh (with_slot sh (before_slot V sh w k v i) (slot_number p) (slot_word (tag_of sh k) i)) k
@@ -50,8 +50,8 @@ fill_walk : (V : ℕ) (sh : Shape) (w : List ℕ) (hand : ℕ) (cleared : Option
     → Walk V sh (state V w Quiet hand cleared h c) (fill_acts sh k v i p) (state V (filled V sh w k v i p) Quiet hand None (h ++ Put k (take V v) ∷ []) (c + 1 + 1))
 fill_walk V sh w hand cleared h c k v i p s key many all can =
     let below : slot_number p < 4 * sh.buckets = omega (arith, can.hole.0.in_table, can.hole.0.in_bucket) in
-    let still : IsFree sh (bumped sh w k) i = λ q a. can.free q (moved_names sh (bumped sh w k) w q i (sym (slot-bumped sh w k q s)) a) in
-    let values = keyed_walk V sh (with_item V sh (bumped sh w k) i 0 k) hand None h (c + 1) k i [] v (omega (arith, many)) all in
+    let still : IsFree sh (with_bump sh w k) i = λ q a. can.free q (moved_names sh (with_bump sh w k) w q i (sym (slot-bumped sh w k q s)) a) in
+    let values = keyed_walk V sh (with_item V sh (with_bump sh w k) i 0 k) hand None h (c + 1) k i [] v (omega (arith, many)) all in
     walk_act V sh _ _ (Open k deed.Fill) _ (key, (can.absent, (i, can.in_items, can.free)))
     (walk_act V sh _ _ (Item i 0 k) _ (can.in_items, still, refl, refl)
     (walk_then V sh _ _ _ (value_acts i 1 v) _ values
@@ -66,7 +66,7 @@ filled_slots : (V : ℕ) (sh : Shape) (w : List ℕ) (k : ℕ) (v : List ℕ) (i
 filled_slots V sh w k v i p s size can =
     let q = slot_number p in
     let below : q < 4 * sh.buckets = omega (arith, can.hole.0.in_table, can.hole.0.in_bucket) in
-    let many = length-valued V sh (with_item V sh (bumped sh w k) i 0 k) i 1 v ∙ length-with_item V sh (bumped sh w k) i 0 k ∙ length-bumped sh w k in
+    let many = length-valued V sh (with_item V sh (with_bump sh w k) i 0 k) i 1 v ∙ length-with_item V sh (with_bump sh w k) i 0 k ∙ length-bumped sh w k in
     record {
       here = slot-ended sh _ k q s ∙ slot-with_slot_same sh (before_slot V sh w k v i) q (slot_word (tag_of sh k) i) (omega (arith, many, size, below));
       others = λ o l ne. slot-ended sh _ k o s ∙ slot-with_slot_other sh (before_slot V sh w k v i) q (slot_word (tag_of sh k) i) o ne ∙ slot-before V sh w k v i o s l;
@@ -86,12 +86,12 @@ filled_stands V sh w k v i p s key size can =
         word = (filled_slots V sh w k v i p s size can).here;
       };
       key = item-ended V sh _ k i 0 s ∙ item-with_slot V sh (before_slot V sh w k v i) (slot_number p) _ i 0 below ∙ key-valued V sh _ i 1 v (omega arith)
-          ∙ item-with_item_same V sh (bumped sh w k) i 0 k can.in_items (omega arith) (omega (arith, length-bumped sh w k, size));
+          ∙ item-with_item_same V sh (with_bump sh w k) i 0 k can.in_items (omega arith) (omega (arith, length-bumped sh w k, size));
     }
 
-pub fills : (V : ℕ) (sh : Shape) (k : ℕ) (v : List ℕ) (i : ℕ) (p : Place) → IsShape sh → k < 2 ^ 64 → length v ≡ payload V → All (λ x. x < 2 ^ 64) v → Fills V sh k v i p (fill_acts sh k v i p)
+pub fills : (V : ℕ) (sh : Shape) (k : ℕ) (v : List ℕ) (i : ℕ) (p : Place) → IsShape sh → k < 2 ^ 64 → length v ≡ payload V → All (λ x. x < 2 ^ 64) v → ActsFill V sh k v i p (fill_acts sh k v i p)
 fills V sh k v i p shape key many all =
-    at_quiet V sh (λ (s : State V). CanFill V sh s.words k i p → Makes V sh s (fill_acts sh k v i p) (Put k v ∷ []) 2 × Stands V sh (left V sh s (fill_acts sh k v i p)).words k (slot_number p) i × SetsSlot sh s.words (left V sh s (fill_acts sh k v i p)).words (slot_number p) (slot_word (tag_of sh k) i))
+    at_quiet V sh (λ (s : State V). CanFill V sh s.words k i p → Makes V sh s (fill_acts sh k v i p) (Put k v ∷ []) 2 × Stands V sh (state_after_acts V sh s (fill_acts sh k v i p)).words k (slot_number p) i × SetsSlot sh s.words (state_after_acts V sh s (fill_acts sh k v i p)).words (slot_number p) (slot_word (tag_of sh k) i))
     (λ w hand cleared h c q can.
     let walk = fill_walk V sh w hand cleared h c k v i p shape key many all can in
     let size = q.holds.agrees.size in (

@@ -9,13 +9,13 @@ use Rattle.mc_words.specs.Shapes.{IsShape}
 use Rattle.mc_words.specs.Standing.{Stands}
 use Rattle.mc_words.proofs.Frames.{empty_names_none, moved_names}
 use Rattle.mc_words.proofs.Places.{slot-with_slot_same, slot-with_slot_other, item-with_slot, length-with_slot}
-use Rattle.mc_theory.specs.Effects.{bumped}
+use Rattle.mc_theory.specs.Effects.{with_bump}
 use Rattle.mc_theory.specs.Phases.{Quiet}
 use Rattle.mc_theory.specs.States.{State}
 use Rattle.mc_theory.specs.declared.act.Act.TheVariants.{Open, Slot, Close}
 use Rattle.mc_theory.specs.declared.act.Deed.TheVariants as deed
-use Rattle.mc_plan.specs.Making.{left, Makes}
-use Rattle.mc_plan.specs.Moves.{CanMove, MovesSlot, Moves}
+use Rattle.mc_plan.specs.Making.{state_after_acts, Makes}
+use Rattle.mc_plan.specs.Moves.{CanMove, MovesSlot, ActsMove}
 use Rattle.mc_plan.specs.Plans.{move_acts}
 use Rattle.mc_plan.proofs.Deeds.QuietStates.{state, at_quiet, makes_from_walk}
 use Rattle.mc_plan.proofs.Deeds.Renewals.{stands_bumped}
@@ -24,10 +24,10 @@ use Rattle.mc_plan.proofs.Deeds.Walks.{Walk, walk_none, walk_act}
 
 -- the words after the new slot was written, and after the last act
 abbrev copied : Shape → List ℕ → ℕ → Place → Place → List ℕ
-copied sh w k from to = with_slot sh (bumped sh w k) (slot_number to) (slot sh w (slot_number from))
+copied sh w k from to = with_slot sh (with_bump sh w k) (slot_number to) (slot sh w (slot_number from))
 
 abbrev pub moved : Shape → List ℕ → ℕ → Place → Place → List ℕ
-moved sh w k from to = bumped sh (with_slot sh (copied sh w k from to) (slot_number from) 0) k
+moved sh w k from to = with_bump sh (with_slot sh (copied sh w k from to) (slot_number from) 0) k
 
 -- a slot in which a key stands is no empty one
 apart : (V : ℕ) (sh : Shape) (w : List ℕ) (k i : ℕ) (from to : Place) → CanMove V sh w k i from to → slot_number from ≢ slot_number to
@@ -35,10 +35,10 @@ apart V sh w k i from to can e =
     empty_names_none sh w (slot_number from) i (subst (λ (y : ℕ). slot sh w y ≡ 0) (sym e) can.hole.1) can.stands.names
 
 slot-copied : (V : ℕ) (sh : Shape) (w : List ℕ) (k : ℕ) (from to : Place) (o : ℕ) → IsShape sh → o ≢ slot_number to → slot sh (copied sh w k from to) o ≡ slot sh w o
-slot-copied V sh w k from to o s ne = slot-with_slot_other sh (bumped sh w k) (slot_number to) _ o ne ∙ slot-bumped sh w k o s
+slot-copied V sh w k from to o s ne = slot-with_slot_other sh (with_bump sh w k) (slot_number to) _ o ne ∙ slot-bumped sh w k o s
 
 item-copied : (V : ℕ) (sh : Shape) (w : List ℕ) (k : ℕ) (from to : Place) (i j : ℕ) → IsShape sh → slot_number to < 4 * sh.buckets → item V sh (copied sh w k from to) i j ≡ item V sh w i j
-item-copied V sh w k from to i j s l = item-with_slot V sh (bumped sh w k) (slot_number to) _ i j l ∙ item-bumped V sh w k i j s
+item-copied V sh w k from to i j s l = item-with_slot V sh (with_bump sh w k) (slot_number to) _ i j l ∙ item-bumped V sh w k i j s
 
 pub move_walk : (V : ℕ) (sh : Shape) (w : List ℕ) (hand : ℕ) (cleared : Option ℕ) (h : List (Change V)) (c k i : ℕ) (from to : Place) → IsShape sh → k < 2 ^ 64 → CanMove V sh w k i from to
     → Walk V sh (state V w Quiet hand cleared h c) (move_acts k (slot sh w (slot_number from)) from to) (state V (moved sh w k from to) Quiet hand None h (c + 1 + 1))
@@ -68,9 +68,9 @@ moved_slots V sh w k i from to s size can =
     let below : q < 4 * sh.buckets = omega (arith, can.hole.0.in_table, can.hole.0.in_bucket) in
     let ne = apart V sh w k i from to can in
     let one = length-bumped sh w k in
-    let two = length-with_slot sh (bumped sh w k) q (slot sh w p) in
+    let two = length-with_slot sh (with_bump sh w k) q (slot sh w p) in
     record {
-      there = slot-bumped sh _ k q s ∙ slot-with_slot_other sh (copied sh w k from to) p 0 q (λ e. ne (sym e)) ∙ slot-with_slot_same sh (bumped sh w k) q (slot sh w p) (omega (arith, one, size, below));
+      there = slot-bumped sh _ k q s ∙ slot-with_slot_other sh (copied sh w k from to) p 0 q (λ e. ne (sym e)) ∙ slot-with_slot_same sh (with_bump sh w k) q (slot sh w p) (omega (arith, one, size, below));
       here = slot-bumped sh _ k p s ∙ slot-with_slot_same sh (copied sh w k from to) p 0 (omega (arith, one, two, size, start));
       others = λ o l a b. slot-bumped sh _ k o s ∙ slot-with_slot_other sh (copied sh w k from to) p 0 o a ∙ slot-copied V sh w k from to o s b;
       items = λ g j. item-bumped V sh _ k g j s ∙ item-with_slot V sh (copied sh w k from to) p 0 g j start ∙ item-copied V sh w k from to g j s below;
@@ -88,9 +88,9 @@ moved_stands V sh w x k i from to can m = record {
   key = m.items i 0 ∙ can.stands.key;
 }
 
-pub moves : (V : ℕ) (sh : Shape) (k word : ℕ) (from to : Place) → IsShape sh → k < 2 ^ 64 → Moves V sh k word from to (move_acts k word from to)
+pub moves : (V : ℕ) (sh : Shape) (k word : ℕ) (from to : Place) → IsShape sh → k < 2 ^ 64 → ActsMove V sh k word from to (move_acts k word from to)
 moves V sh k word from to shape key s i =
-    at_quiet V sh (λ (s : State V). CanMove V sh s.words k i from to → word ≡ slot sh s.words (slot_number from) → Makes V sh s (move_acts k word from to) [] 2 × Stands V sh (left V sh s (move_acts k word from to)).words k (slot_number to) i × MovesSlot V sh s.words (left V sh s (move_acts k word from to)).words (slot_number from) (slot_number to))
+    at_quiet V sh (λ (s : State V). CanMove V sh s.words k i from to → word ≡ slot sh s.words (slot_number from) → Makes V sh s (move_acts k word from to) [] 2 × Stands V sh (state_after_acts V sh s (move_acts k word from to)).words k (slot_number to) i × MovesSlot V sh s.words (state_after_acts V sh s (move_acts k word from to)).words (slot_number from) (slot_number to))
     (λ w hand cleared h c quiet can is.
     let walk = subst (λ (x : ℕ). Walk V sh (state V w Quiet hand cleared h c) (move_acts k x from to) (state V (moved sh w k from to) Quiet hand None h (c + 1 + 1))) (sym is) (move_walk V sh w hand cleared h c k i from to shape key can) in
     let slots = moved_slots V sh w k i from to shape quiet.holds.agrees.size can in (

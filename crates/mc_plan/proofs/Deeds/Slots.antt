@@ -6,7 +6,7 @@ use Rattle.mc_words.specs.Places.{slot, item, moment, with_item, with_moment}
 use Rattle.mc_words.specs.Shapes.{IsShape}
 use Rattle.mc_words.proofs.Keys.{stripe_of-lt}
 use Rattle.mc_words.proofs.Places.{slot-with_version, slot-with_item, slot-with_moment, item-with_version, item-with_moment, item-with_item_word, length-with_version, length-with_item}
-use Rattle.mc_theory.specs.Effects.{bumped}
+use Rattle.mc_theory.specs.Effects.{with_bump}
 
 -- the words of an item from word j on are these
 abbrev pub valued : ℕ → Shape → List ℕ → ℕ → ℕ → List ℕ → List ℕ
@@ -15,9 +15,9 @@ valued V sh w i j (x ∷ xs) = valued V sh (with_item V sh w i j x) i (j + 1) xs
 
 -- the moment is one more, and the stripe's version too
 abbrev pub ended : Shape → List ℕ → ℕ → List ℕ
-ended sh w k = bumped sh (with_moment w (moment w + 1)) k
+ended sh w k = with_bump sh (with_moment w (moment w + 1)) k
 
-pub slot-bumped : (sh : Shape) (w : List ℕ) (k q : ℕ) → IsShape sh → slot sh (bumped sh w k) q ≡ slot sh w q
+pub slot-bumped : (sh : Shape) (w : List ℕ) (k q : ℕ) → IsShape sh → slot sh (with_bump sh w k) q ≡ slot sh w q
 slot-bumped sh w k q s = slot-with_version sh w (stripe_of sh k) _ q (stripe_of-lt sh k s)
 
 pub slot-valued : (V : ℕ) (sh : Shape) (w : List ℕ) (i j q : ℕ) (xs : List ℕ) → q < 4 * sh.buckets → slot sh (valued V sh w i j xs) q ≡ slot sh w q
@@ -27,7 +27,7 @@ slot-valued V sh w i j q (x ∷ xs) l = slot-valued V sh (with_item V sh w i j x
 pub slot-ended : (sh : Shape) (w : List ℕ) (k q : ℕ) → IsShape sh → slot sh (ended sh w k) q ≡ slot sh w q
 slot-ended sh w k q s = slot-bumped sh (with_moment w (moment w + 1)) k q s ∙ slot-with_moment sh w q _
 
-pub item-bumped : (V : ℕ) (sh : Shape) (w : List ℕ) (k i j : ℕ) → IsShape sh → item V sh (bumped sh w k) i j ≡ item V sh w i j
+pub item-bumped : (V : ℕ) (sh : Shape) (w : List ℕ) (k i j : ℕ) → IsShape sh → item V sh (with_bump sh w k) i j ≡ item V sh w i j
 item-bumped V sh w k i j s = item-with_version V sh w (stripe_of sh k) _ i j (stripe_of-lt sh k s)
 
 -- the writes of a value leave the key of the item
@@ -38,7 +38,7 @@ key-valued V sh w i j (x ∷ xs) l = key-valued V sh (with_item V sh w i j x) i 
 pub item-ended : (V : ℕ) (sh : Shape) (w : List ℕ) (k i j : ℕ) → IsShape sh → item V sh (ended sh w k) i j ≡ item V sh w i j
 item-ended V sh w k i j s = item-bumped V sh (with_moment w (moment w + 1)) k i j s ∙ item-with_moment V sh w _ i j
 
-pub length-bumped : (sh : Shape) (w : List ℕ) (k : ℕ) → length (bumped sh w k) ≡ length w
+pub length-bumped : (sh : Shape) (w : List ℕ) (k : ℕ) → length (with_bump sh w k) ≡ length w
 length-bumped sh w k = length-with_version w (stripe_of sh k) _
 
 pub length-valued : (V : ℕ) (sh : Shape) (w : List ℕ) (i j : ℕ) (xs : List ℕ) → length (valued V sh w i j xs) ≡ length w

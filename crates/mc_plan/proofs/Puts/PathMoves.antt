@@ -6,15 +6,15 @@ use Rattle.std.proofs.lemmas.Bool.{cases_eq, eqb-false}
 use Rattle.mc_words.specs.declared.place.Place.{Place}
 use Rattle.mc_words.specs.declared.shape.Shape.{Shape}
 use Rattle.mc_words.specs.Chains.{IsHole, IsOccupied, Leads, IsChain, tag_in, beyond}
-use Rattle.mc_words.specs.History.{held}
+use Rattle.mc_words.specs.History.{map_value}
 use Rattle.mc_words.specs.Keys.{tag_of, slot_word, alternate, first_of, second_of, IsBucketOf}
 use Rattle.mc_words.specs.Places.{slot_number, slot, item}
 use Rattle.mc_words.specs.Shapes.{IsShape}
-use Rattle.mc_words.specs.Standing.{Names, Stands, Agrees, AgreesAt, IsAbsent, IsFree}
+use Rattle.mc_words.specs.Standing.{NamesItem, Stands, Agrees, AgreesAt, IsAbsent, IsFree}
 use Rattle.mc_words.proofs.Frames.{moved_names, empty_names_none}
 use Rattle.mc_theory.specs.States.{State}
-use Rattle.mc_plan.specs.Making.{left, IsQuiet, Makes}
-use Rattle.mc_plan.specs.Moves.{CanMove, MovesSlot, AreKeys, HasRoom, MovesMakeRoom}
+use Rattle.mc_plan.specs.Making.{state_after_acts, IsQuiet, Makes}
+use Rattle.mc_plan.specs.Moves.{CanMove, MovesSlot, AreKeys, HasRoomFor, MovesMakeRoom}
 use Rattle.mc_plan.specs.Plans.{item_in, key_named, move_acts, moves_acts}
 use Rattle.mc_search.specs.Paths.{first_place}
 use Rattle.mc_plan.proofs.Deeds.Moves.{moves}
@@ -32,13 +32,13 @@ record Cleared (V : ℕ) (sh : Shape) (s : State V) (ps : List Place) (hole : Pl
   walk : Walk V sh s (moves_acts V sh s.words ps hole) t
   quiet : IsQuiet V sh t
   history : t.history ≡ s.history
-  changes : t.changes ≡ s.changes + 2 * length ps
+  version_steps : t.version_steps ≡ s.version_steps + 2 * length ps
   hand : t.hand ≡ s.hand
   empty : IsHole sh t.words (first_place ps hole)
   off : (q : ℕ) → q < 4 * sh.buckets → OffPath (q / 4) ps hole → slot sh t.words q ≡ slot sh s.words q
   items : (i j : ℕ) → item V sh t.words i j ≡ item V sh s.words i j
   free : (i : ℕ) → IsFree sh s.words i → IsFree sh t.words i
-  named : (q i : ℕ) → Names sh s.words q i → (p : ℕ) × Names sh t.words p i
+  named : (q i : ℕ) → NamesItem sh s.words q i → (p : ℕ) × NamesItem sh t.words p i
 
 -- a path begins in the bucket from which it leads
 first_bucket : (sh : Shape) (w : List ℕ) (b : ℕ) (ps : List Place) (hole : Place) → Leads sh w b ps hole → (first_place ps hole).bucket ≡ b
@@ -94,14 +94,14 @@ tenant V sh s p shape quiet taken =
     let k = key_named V sh w p in
     let below : q < 4 * sh.buckets = omega (arith, taken.0.in_table, taken.0.in_bucket) in
     let agrees = agrees_quiet V sh s quiet in
-    let found : (i : ℕ) × Names sh w q i = elim (agrees.filled q below) [ inl e ↦ absurd (taken.1 e) | inr n ↦ n ] in
+    let found : (i : ℕ) × NamesItem sh w q i = elim (agrees.filled q below) [ inl e ↦ absurd (taken.1 e) | inr n ↦ n ] in
     let small = items_small sh found.0 shape found.1.in_items in
     let is : item_in (slot sh w q) ≡ found.0 = ap item_in found.1.word ∙ item_in-word found.1.tag found.0 small in
     let stands : Stands V sh w k q found.0 = record { names = found.1; key = ap (λ (g : ℕ). item V sh w g 0) (sym is) } in
     record {
       i = found.0;
       stands = stands;
-      tag = ap tag_in (tagged_at V sh w k q found.0 (held s.history k) (agrees.keys k (λ e. cc)) stands) ∙ tag_in-word (tag_of sh k) found.0 small;
+      tag = ap tag_in (tagged_at V sh w k q found.0 (map_value s.history k) (agrees.keys k (λ e. cc)) stands) ∙ tag_in-word (tag_of sh k) found.0 small;
     }
 
 -- ---- the moves
@@ -111,7 +111,7 @@ cleared_none V sh s hole quiet empty = record {
   walk = walk_none V sh s;
   quiet = quiet;
   history = refl;
-  changes = omega arith;
+  version_steps = omega arith;
   hand = refl;
   empty = empty;
   off = λ q l off. refl;
@@ -132,7 +132,7 @@ moved_free V sh w x from to i below m free o n =
     ]
 
 -- and named items named
-moved_named : (V : ℕ) (sh : Shape) (w x : List ℕ) (from to i : ℕ) → to < 4 * sh.buckets → slot sh w to ≡ 0 → MovesSlot V sh w x from to → (o : ℕ) → Names sh w o i → (p : ℕ) × Names sh x p i
+moved_named : (V : ℕ) (sh : Shape) (w x : List ℕ) (from to i : ℕ) → to < 4 * sh.buckets → slot sh w to ≡ 0 → MovesSlot V sh w x from to → (o : ℕ) → NamesItem sh w o i → (p : ℕ) × NamesItem sh x p i
 moved_named V sh w x from to i below empty m o n =
     elim (cases_eq o from) [
       | inl e ↦ (to, record { tag = n.tag; in_table = below; in_items = n.in_items; is_tag = n.is_tag; word = m.there ∙ ap (slot sh w) (sym e) ∙ n.word })
@@ -171,11 +171,11 @@ cleared_step V sh s p ps hole shape quiet taken leads apart key c =
     let acts = move_acts k (slot sh w q) p to in
     let one = moves V sh k (slot sh w q) p to shape key c.t ten.i c.quiet can (sym same) in
     record {
-      t = left V sh c.t acts;
-      walk = walk_then V sh s c.t (left V sh c.t acts) (moves_acts V sh w ps hole) acts c.walk (record { allowed = one.0.allowed; leads = refl });
+      t = state_after_acts V sh c.t acts;
+      walk = walk_then V sh s c.t (state_after_acts V sh c.t acts) (moves_acts V sh w ps hole) acts c.walk (record { allowed = one.0.allowed; leads = refl });
       quiet = one.0.quiet;
       history = one.0.history ∙ append-nil c.t.history ∙ c.history;
-      changes = omega (arith, one.0.changes, c.changes);
+      version_steps = omega (arith, one.0.version_steps, c.version_steps);
       hand = one.0.hand ∙ c.hand;
       empty = (taken.0, one.2.here);
       off = λ o l off.
@@ -203,24 +203,24 @@ chain_leads : (V : ℕ) (sh : Shape) (s : State V) (k : ℕ) (ps : List Place) (
 chain_leads V sh s k ps hole chain = elim chain.leads [ inl l ↦ (first_of sh k, inl refl, l) | inr l ↦ (second_of sh k, inr refl, l) ]
 
 room_from : (V : ℕ) (sh : Shape) (s : State V) (k : ℕ) (ps : List Place) (hole : Place) → IsShape sh → IsQuiet V sh s → IsChain sh s.words k ps hole → AreKeys V sh s.words ps
-    → Makes V sh s (moves_acts V sh s.words ps hole) [] (2 * length ps) × HasRoom V sh s.words (left V sh s (moves_acts V sh s.words ps hole)).words k (first_place ps hole)
+    → Makes V sh s (moves_acts V sh s.words ps hole) [] (2 * length ps) × HasRoomFor V sh s.words (state_after_acts V sh s (moves_acts V sh s.words ps hole)).words k (first_place ps hole)
 room_from V sh s k ps hole shape quiet chain keys =
     let from = chain_leads V sh s k ps hole chain in
     let c = cleared V sh s from.0 ps hole shape quiet from.2 chain.distinct keys in
     let acts = moves_acts V sh s.words ps hole in
     let after : Agrees V sh c.t.words None s.history = subst (λ h. Agrees V sh c.t.words None h) c.history (agrees_quiet V sh c.t c.quiet) in
-    let room : HasRoom V sh s.words c.t.words k (first_place ps hole) = record {
+    let room : HasRoomFor V sh s.words c.t.words k (first_place ps hole) = record {
       hole = c.empty;
       bucket = subst (λ (b : ℕ). IsBucketOf sh k b) (sym (first_bucket sh s.words from.0 ps hole from.2)) from.1;
-      absent = absent_on V sh s.words c.t.words k (held s.history k) ((agrees_quiet V sh s quiet).keys k (λ e. cc)) (after.keys k (λ e. cc));
+      absent = absent_on V sh s.words c.t.words k (map_value s.history k) ((agrees_quiet V sh s quiet).keys k (λ e. cc)) (after.keys k (λ e. cc));
       free = c.free;
       named = c.named;
     } in (
-      makes_from_walk V sh s c.t acts [] (2 * length ps) shape quiet c.walk c.quiet.quiet (c.history ∙ sym (append-nil s.history)) c.changes c.hand,
-      subst (λ (x : State V). HasRoom V sh s.words x.words k (first_place ps hole)) (sym c.walk.leads) room,
+      makes_from_walk V sh s c.t acts [] (2 * length ps) shape quiet c.walk c.quiet.quiet (c.history ∙ sym (append-nil s.history)) c.version_steps c.hand,
+      subst (λ (x : State V). HasRoomFor V sh s.words x.words k (first_place ps hole)) (sym c.walk.leads) room,
     )
 
 pub room_made : (V : ℕ) → MovesMakeRoom V
 room_made V sh w ps hole shape keys k chain s quiet same =
     let acts = λ (x : List ℕ). moves_acts V sh x ps hole in
-    subst (λ (x : List ℕ). IsChain sh x k ps hole → AreKeys V sh x ps → Makes V sh s (acts x) [] (2 * length ps) × HasRoom V sh x (left V sh s (acts x)).words k (first_place ps hole)) same (room_from V sh s k ps hole shape quiet) chain keys
+    subst (λ (x : List ℕ). IsChain sh x k ps hole → AreKeys V sh x ps → Makes V sh s (acts x) [] (2 * length ps) × HasRoomFor V sh x (state_after_acts V sh s (acts x)).words k (first_place ps hole)) same (room_from V sh s k ps hole shape quiet) chain keys

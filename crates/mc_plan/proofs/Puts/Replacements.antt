@@ -7,11 +7,11 @@ use Rattle.mc_words.specs.declared.shape.Shape.{Shape}
 use Rattle.mc_words.specs.Chains.{IsOccupied}
 use Rattle.mc_words.specs.History.{IsWord}
 use Rattle.mc_words.specs.Places.{slot_number, slot, item}
-use Rattle.mc_words.specs.Standing.{Names, Stands, IsAbsent, IsFree}
+use Rattle.mc_words.specs.Standing.{NamesItem, Stands, IsAbsent, IsFree}
 use Rattle.mc_words.proofs.Frames.{moved_names, empty_names_none}
 use Rattle.mc_theory.specs.States.{State}
 use Rattle.mc_theory.specs.declared.act.Act.{Act}
-use Rattle.mc_plan.specs.Making.{Makes, left}
+use Rattle.mc_plan.specs.Making.{Makes, state_after_acts}
 use Rattle.mc_search.specs.Kept.{SetsSlot, KeepsItems, KeepsNamed}
 use Rattle.mc_plan.specs.Moves.{AreTaken, AreKeys}
 use Rattle.mc_plan.specs.Plans.{item_in, key_named, evict_acts, moves_acts, fill_acts}
@@ -68,7 +68,7 @@ module _ (V : ℕ) (sh : Shape) (w x : List ℕ) (q : ℕ) (set : SetsSlot sh w 
 -- the item is given, and then it is taken
 still_named : (sh : Shape) (w x y : List ℕ) (i : ℕ) → GivesItem sh w x i → TakesItem sh x y i → KeepsNamed sh w y
 still_named sh w x y i gives takes q j n = elim (cases_eq j i) [
-  | inl e ↦ (takes.taken.0, subst (λ (g : ℕ). Names sh y takes.taken.0 g) (sym e) takes.taken.1)
+  | inl e ↦ (takes.taken.0, subst (λ (g : ℕ). NamesItem sh y takes.taken.0 g) (sym e) takes.taken.1)
   | inr ne ↦ let there = gives.named q j ne n in takes.named there.0 j there.1
 ]
 
@@ -79,13 +79,13 @@ evictions_room V sh s k v i e p places hole kept end shape key other value quiet
     let first = first_place kept end in
     let evict = evict_acts e p in
     let put = put_acts V sh w k v i kept end in
-    let t = left V sh s evict in
+    let t = state_after_acts V sh s evict in
     let x = t.words in
     let one = evicts V sh e p shape other s i quiet can.victim.in_bucket can.stands clear in
     let fit = can_put V sh w x q one.2 one.3 k i e p places hole kept end refl can one.1 in
     let same : put_acts V sh x k v i kept end ≡ put = ap (λ (acts : List Act). acts ++ fill_acts sh k v i first) (moves_still V sh w x q one.2 one.3 kept end (chain_taken sh x k kept end fit.chain)) in
-    let two : Makes V sh t put (Put k v ∷ []) (2 * length kept + 2) × Stands V sh (left V sh t put).words k (slot_number first) i × TakesItem sh x (left V sh t put).words i =
-    subst (λ (acts : List Act). Makes V sh t acts (Put k v ∷ []) (2 * length kept + 2) × Stands V sh (left V sh t acts).words k (slot_number first) i × TakesItem sh x (left V sh t acts).words i) same
+    let two : Makes V sh t put (Put k v ∷ []) (2 * length kept + 2) × Stands V sh (state_after_acts V sh t put).words k (slot_number first) i × TakesItem sh x (state_after_acts V sh t put).words i =
+    subst (λ (acts : List Act). Makes V sh t acts (Put k v ∷ []) (2 * length kept + 2) × Stands V sh (state_after_acts V sh t acts).words k (slot_number first) i × TakesItem sh x (state_after_acts V sh t acts).words i) same
     (puts_room V sh t k v i kept end shape key value one.0.quiet fit) in
     let both = makes_then V sh s evict put (Evict e ∷ []) (Put k v ∷ []) 2 (2 * length kept + 2) one.0 two.0 in
     let steps : 2 + (2 * length kept + 2) ≡ 2 * length kept + 4 = omega arith in

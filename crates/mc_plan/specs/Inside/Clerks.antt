@@ -5,7 +5,7 @@ use Rattle.mc_words.specs.Answers.{Quiet, PutIsSpent}
 use Rattle.mc_words.specs.Checks.{shape_of}
 use Rattle.mc_words.specs.History.{IsWord}
 use Rattle.mc_words.specs.Places.{IsWidth}
-use Rattle.mc_words.specs.Standing.{Names, Stands, IsAbsent, IsFree}
+use Rattle.mc_words.specs.Standing.{NamesItem, Stands, IsAbsent, IsFree}
 use Rattle.mc_theory.specs.Lists.{Made, AreAllowed, after_all}
 use Rattle.mc_theory.specs.States.{State}
 use Rattle.mc_theory.specs.declared.act.Act.{Act}
@@ -23,11 +23,11 @@ use Rattle.mc_plan.specs.declared.waiting.Start.{Start}
 use Rattle.mc_plan.specs.declared.waiting.Start.TheVariants as start
 use Rattle.mc_plan.specs.declared.waiting.Waiting.{Waiting}
 use Rattle.mc_plan.specs.Calls.{PutAnswers, RemoveAnswers}
-use Rattle.mc_search.specs.Free.{IsKept, IsFreeIn}
-use Rattle.mc_plan.specs.Making.{IsQuiet, made, left}
+use Rattle.mc_search.specs.Free.{IsConsistent, IsFreeIn}
+use Rattle.mc_plan.specs.Making.{IsQuiet, as_made, state_after_acts}
 use Rattle.mc_search.specs.Paths.{IsLeastPath}
 use Rattle.mc_search.specs.Sweeps.{Swept, IsSweep, HasSwept, IsOver, hand_acts, next_item, victim_of}
-use Rattle.mc_plan.specs.Clerks.{Call, PutCall, shape_in, quiet_of, Means, acts_of, IsOfDeed, AreOfDeeds, MarksLast, Marks, IsSweepOf, swept, Answered, AreBooksOf, IsPlanned, Waits, Knows, IsSweeping, MakesPlan, IsAt, IsOn, Runs, IsRunning, hand_of, next_in, next_act, left_in, acts_left}
+use Rattle.mc_plan.specs.Clerks.{Call, PutCall, shape_of_clerk, quiet_of, Means, acts_of, IsOfDeed, AreOfDeeds, MarksLast, Marks, IsSweepOf, state_after_sweep, Answered, AreBooksOf, IsPlanned, Waits, Knows, IsSweeping, MakesPlan, IsAtStage, IsOn, StageHasCall, HasCall, hand_of, next_in, next_act, left_in, acts_left}
 
 -- how a put starts: it is planned, or it waits for an item
 abbrev pub IsStarted : (V : ℕ) → Books → List Act → ℕ → List ℕ → State V → Start → Type 0
@@ -47,5 +47,5 @@ IsAtEnd V (Sweeping waiting) books plan many call s rs = IsSweeping V books plan
 IsAtEnd V _ books plan many call s rs = ⊥
 
 pub record HasEndedSweep (V : ℕ) (clerk : Clerk V) (call : Call) (s : State V) (rs : List Swept) : Type 0 where
-  pub begun : IsQuiet V (shape_in clerk) s
+  pub begun : IsQuiet V (shape_of_clerk clerk) s
   pub now : IsAtEnd V clerk.stage clerk.books clerk.plan.items clerk.made call s rs

@@ -4,7 +4,7 @@ use Rattle.mc_words.specs.declared.history.Reply.{Reply}
 use Rattle.mc_words.specs.declared.shape.Shape.{Shape}
 use Rattle.mc_theory.specs.Lists.{Made, after_all, state_of}
 use Rattle.mc_core.specs.Seen.{Shows}
-use Rattle.mc_theory.specs.Worlds.{World, Running, IsReached}
+use Rattle.mc_theory.specs.Traces.{Trace, OpenLookup, IsReached}
 use Rattle.mc_theory.specs.declared.act.Act.TheVariants.{Mark}
 use Rattle.mc_theory.specs.declared.event.Stepped.{Stepped}
 use Rattle.mc_theory.specs.declared.event.Stepped.TheVariants as stepped
@@ -17,8 +17,8 @@ use Rattle.mc_replay.specs.declared.player.Player.{Player}
 use Rattle.mc_replay.specs.Replay.{Replay, Pending, pending, WriterMakes, LooksUp, ActDoes}
 use Rattle.mc_replay.specs.Scripts.{IsReaders}
 
-abbrev pub shape_in : {V : ℕ} → Player V → Shape
-shape_in player = player.world.shape
+abbrev pub shape_of_player : {V : ℕ} → Player V → Shape
+shape_of_player player = player.world.shape
 
 -- how many events one line has at most
 abbrev pub most_steps : ℕ
@@ -33,40 +33,40 @@ abbrev pub most_accesses : ℕ
 most_accesses = 64 * 27 + 1
 
 -- the lookup that the reader runs, if it runs one, has made at least n accesses
-abbrev pub HasMade : {V : ℕ} → World V → ℕ → ℕ → Type 0
-HasMade w r n = (run : Running) → slice_get w.readers r ≡ Some (Some run) → n ≤ length run.sofar
+abbrev pub HasAccessed : {V : ℕ} → Trace V → ℕ → ℕ → Type 0
+HasAccessed w r n = (run : OpenLookup) → slice_get w.readers r ≡ Some (Some run) → n ≤ length run.sofar
 
 -- there is room for the events of one line more
 abbrev pub HasRoom : ℕ → Type 0
 HasRoom most = most + most_steps < 2 ^ 64 - 1
 
 -- the player shows this world, to which some events led from a new one, at most so many
-pub record IsAt (V : ℕ) (player : Player V) (most : ℕ) (w : World V) : Type 0 where
+pub record IsAt (V : ℕ) (player : Player V) (most : ℕ) (w : Trace V) : Type 0 where
   pub world : Shows {V = V} player.world w
-  pub reached : IsReached V (shape_in player) w
-  pub shape : clerks.shape_in player.clerk ≡ shape_in player
+  pub reached : IsReached V (shape_of_player player) w
+  pub shape : clerks.shape_of_clerk player.clerk ≡ shape_of_player player
   pub readers : length w.readers ≡ player.readers
   pub events : w.events ≤ most
 
 -- no call of the writer runs
-pub record IsIdle (V : ℕ) (player : Player V) (most : ℕ) (w : World V) : Type 0 where
+pub record IsIdle (V : ℕ) (player : Player V) (most : ℕ) (w : Trace V) : Type 0 where
   pub at : IsAt V player most w
-  pub knows : Knows V player.clerk (state_of V (shape_in player) w.acts)
+  pub knows : Knows V player.clerk (state_of V (shape_of_player player) w.acts)
 
 -- the writer's call runs, or its answer is still to be told
-pub record IsInCall (V : ℕ) (player : Player V) (most : ℕ) (p : Pending V) (w : World V) : Type 0 where
+pub record IsInCall (V : ℕ) (player : Player V) (most : ℕ) (p : Pending V) (w : Trace V) : Type 0 where
   pub at : IsAt V player most w
   pub on : IsOn V player.clerk p.call p.from p.acts
-  pub now : after_all (shape_in player) p.from p.acts ≡ state_of V (shape_in player) w.acts
+  pub now : after_all (shape_of_player player) p.from p.acts ≡ state_of V (shape_of_player player) w.acts
   pub few : acts_left player.clerk ≤ most_steps
 
 -- the same, with an act to make
-abbrev pub IsRunning : (V : ℕ) → Player V → ℕ → Pending V → World V → Type 0
-IsRunning V player most p w = IsInCall V player most p w × IsSome (next_act player.clerk)
+abbrev pub IsMidCall : (V : ℕ) → Player V → ℕ → Pending V → Trace V → Type 0
+IsMidCall V player most p w = IsInCall V player most p w × IsSome (next_act player.clerk)
 
-abbrev pub FitsCall : (V : ℕ) → Player V → ℕ → Option (Pending V) → World V → Type 0
+abbrev pub FitsCall : (V : ℕ) → Player V → ℕ → Option (Pending V) → Trace V → Type 0
 FitsCall V player most None w = IsIdle V player most w
-FitsCall V player most (Some p) w = IsRunning V player most p w
+FitsCall V player most (Some p) w = IsMidCall V player most p w
 
 -- the player is this replay, in which there were at most so many events
 abbrev pub Fits : (V : ℕ) → Player V → ℕ → Replay V → Type 0
@@ -77,64 +77,64 @@ abbrev pub with_acts : {V : ℕ} → Pending V → List Made → Pending V
 with_acts p acts = record { call = p.call; from = p.from; acts = p.acts ++ acts }
 
 -- a call began, or is answered where it needs no act
-abbrev pub BeginsAs : (V : ℕ) → Shape → Player V → ℕ → Call → World V → Option Answer → Type 0
+abbrev pub BeginsAs : (V : ℕ) → Shape → Player V → ℕ → Call → Trace V → Option Answer → Type 0
 BeginsAs V sh new most call w (Some a) = Answered V sh call (state_of V sh w.acts) [] a × IsIdle V new most w
-BeginsAs V sh new most call w None = IsRunning V new most (pending call (state_of V sh w.acts)) w
+BeginsAs V sh new most call w None = IsMidCall V new most (pending call (state_of V sh w.acts)) w
 
-abbrev pub Begins : (V : ℕ) → Player V → Player V → ℕ → Call → World V → Option Answer → Type 0
-Begins V old new most call w told = (shape_in new ≡ shape_in old) × BeginsAs V (shape_in old) new most call w told
+abbrev pub Begins : (V : ℕ) → Player V → Player V → ℕ → Call → Trace V → Option Answer → Type 0
+Begins V old new most call w told = (shape_of_player new ≡ shape_of_player old) × BeginsAs V (shape_of_player old) new most call w told
 
 -- after an act the call goes on, or is answered
-abbrev pub GoesOn : (V : ℕ) → Player V → Player V → ℕ → Pending V → World V → Option Answer → Type 0
-GoesOn V old new most p x (Some a) = Answered V (shape_in old) p.call p.from p.acts a × IsIdle V new most x
-GoesOn V old new most p x None = IsRunning V new most p x × (acts_left new.clerk < acts_left old.clerk)
+abbrev pub GoesOn : (V : ℕ) → Player V → Player V → ℕ → Pending V → Trace V → Option Answer → Type 0
+GoesOn V old new most p x (Some a) = Answered V (shape_of_player old) p.call p.from p.acts a × IsIdle V new most x
+GoesOn V old new most p x None = IsMidCall V new most p x × (acts_left new.clerk < acts_left old.clerk)
 
 -- the writer made one act of the call that runs
-pub record MakesAct (V : ℕ) (old new : Player V) (most : ℕ) (p : Pending V) (w : World V) (told : Option Answer) : Type 0 where
+pub record MakesAct (V : ℕ) (old new : Player V) (most : ℕ) (p : Pending V) (w : Trace V) (told : Option Answer) : Type 0 where
   pub made : Made
-  pub after : World V
-  pub makes : WriterMakes V (shape_in old) w (made ∷ []) after
-  pub shape : shape_in new ≡ shape_in old
+  pub after : Trace V
+  pub makes : WriterMakes V (shape_of_player old) w (made ∷ []) after
+  pub shape : shape_of_player new ≡ shape_of_player old
   pub goes_on : GoesOn V old new (most + 1) (with_acts p (made ∷ [])) after told
 
 -- the writer made the other acts of the call, which is answered
-pub record Completes (V : ℕ) (old new : Player V) (most : ℕ) (p : Pending V) (w : World V) (a : Answer) : Type 0 where
+pub record Completes (V : ℕ) (old new : Player V) (most : ℕ) (p : Pending V) (w : Trace V) (a : Answer) : Type 0 where
   pub acts : List Made
-  pub after : World V
-  pub makes : WriterMakes V (shape_in old) w acts after
-  pub shape : shape_in new ≡ shape_in old
-  pub answered : Answered V (shape_in old) p.call p.from (p.acts ++ acts) a
+  pub after : Trace V
+  pub makes : WriterMakes V (shape_of_player old) w acts after
+  pub shape : shape_of_player new ≡ shape_of_player old
+  pub answered : Answered V (shape_of_player old) p.call p.from (p.acts ++ acts) a
   pub idle : IsIdle V new (most + acts_left old.clerk) after
 
 -- a whole call
-pub record CallIsWhole (V : ℕ) (old new : Player V) (most : ℕ) (call : Call) (w : World V) (a : Answer) : Type 0 where
+pub record CallIsWhole (V : ℕ) (old new : Player V) (most : ℕ) (call : Call) (w : Trace V) (a : Answer) : Type 0 where
   pub acts : List Made
-  pub after : World V
-  pub makes : WriterMakes V (shape_in old) w acts after
-  pub shape : shape_in new ≡ shape_in old
-  pub answered : Answered V (shape_in old) call (state_of V (shape_in old) w.acts) acts a
+  pub after : Trace V
+  pub makes : WriterMakes V (shape_of_player old) w acts after
+  pub shape : shape_of_player new ≡ shape_of_player old
+  pub answered : Answered V (shape_of_player old) call (state_of V (shape_of_player old) w.acts) acts a
   pub idle : IsIdle V new (most + most_steps) after
 
 -- the writer marked an item
-pub record IsMarked (V : ℕ) (old new : Player V) (most i : ℕ) (w : World V) : Type 0 where
-  pub after : World V
-  pub makes : WriterMakes V (shape_in old) w (record { act = Mark i; bit = 0 } ∷ []) after
-  pub shape : shape_in new ≡ shape_in old
+pub record IsMarked (V : ℕ) (old new : Player V) (most i : ℕ) (w : Trace V) : Type 0 where
+  pub after : Trace V
+  pub makes : WriterMakes V (shape_of_player old) w (record { act = Mark i; bit = 0 } ∷ []) after
+  pub shape : shape_of_player new ≡ shape_of_player old
   pub idle : IsIdle V new (most + 1) after
 
 -- a whole lookup by the writer
-pub record Looks (V : ℕ) (old new : Player V) (most k : ℕ) (w : World V) (reply : Reply V) : Type 0 where
+pub record Looks (V : ℕ) (old new : Player V) (most k : ℕ) (w : Trace V) (reply : Reply V) : Type 0 where
   pub acts : List Made
-  pub after : World V
-  pub looks : LooksUp (shape_in old) (state_of V (shape_in old) w.acts) k reply acts
-  pub makes : WriterMakes V (shape_in old) w acts after
-  pub shape : shape_in new ≡ shape_in old
+  pub after : Trace V
+  pub looks : LooksUp (shape_of_player old) (state_of V (shape_of_player old) w.acts) k reply acts
+  pub makes : WriterMakes V (shape_of_player old) w acts after
+  pub shape : shape_of_player new ≡ shape_of_player old
   pub idle : IsIdle V new (most + most_steps) after
 
 -- after so many accesses of a reader's lookup
 pub record ReadsSoFar (V : ℕ) (player : Player V) (most r n : ℕ) (m : Replay V) : Type 0 where
   pub fits : FitsCall V player (most + n) m.running m.world
-  pub made : HasMade m.world r n
+  pub made : HasAccessed m.world r n
   pub few : n ≤ most_accesses
 
 -- why nothing was opened
@@ -158,13 +158,13 @@ DoneAs P text t (Err fault) = P text (Some fault) t
 
 -- the player is this replay, over a table of the same shape
 abbrev pub FitsStill : (V : ℕ) → Player V → Player V → ℕ → Replay V → Type 0
-FitsStill V old new most t = (shape_in new ≡ shape_in old) × Fits V new most t
+FitsStill V old new most t = (shape_of_player new ≡ shape_of_player old) × Fits V new most t
 
 -- whatever replay the player was, it leads on as P says
 abbrev pub DoesBy : (V : ℕ) → Player V → Player V → List ℕ → Result (Unit {0}) Fault → (Shape → Replay V → List ℕ → Option Fault → Replay V → Type 0) → Type 0
 DoesBy V old new text result P =
     (most : ℕ) (s : Replay V) → HasRoom most → Fits V old most s →
-    (t : Replay V) × DoneAs (P (shape_in old) s) text t result × OnOk result (FitsStill V old new (most + most_steps) t)
+    (t : Replay V) × DoneAs (P (shape_of_player old) s) text t result × OnOk result (FitsStill V old new (most + most_steps) t)
 
 -- a command can be done: there is room for its events, and nothing was written yet
 abbrev pub CanDo : (V : ℕ) → Player V → List ℕ → Type 0
@@ -172,7 +172,7 @@ CanDo V player text = (text ≡ []) × ((most : ℕ) × (s : Replay V) × HasRoo
 
 -- a call runs, and there is room for its acts
 abbrev pub CanAct : (V : ℕ) → Player V → Type 0
-CanAct V player = (most : ℕ) × (p : Pending V) × (w : World V) × IsRunning V player most p w × (most + acts_left player.clerk < 2 ^ 64 - 1)
+CanAct V player = (most : ℕ) × (p : Pending V) × (w : Trace V) × IsMidCall V player most p w × (most + acts_left player.clerk < 2 ^ 64 - 1)
 
 -- after so many acts of calls, in which there were at most so many events
 pub record ActsSoFar (V : ℕ) (player : Player V) (most n : ℕ) (m : Replay V) : Type 0 where
@@ -184,4 +184,4 @@ pub record ActsSoFar (V : ℕ) (player : Player V) (most n : ℕ) (m : Replay V)
 abbrev pub ActsOnce : (V : ℕ) → Player V → Player V → List ℕ → List ℕ → Type 0
 ActsOnce V old new before after =
     (most n : ℕ) (m : Replay V) (p : Pending V) → HasRoom most → ActsSoFar V old most n m → m.running ≡ Some p →
-    (t : Replay V) × (own : List ℕ) × ActDoes (shape_in old) m p own t × (after ≡ before ++ own) × ActsSoFar V new most (n + 1) t × (shape_in new ≡ shape_in old)
+    (t : Replay V) × (own : List ℕ) × ActDoes (shape_of_player old) m p own t × (after ≡ before ++ own) × ActsSoFar V new most (n + 1) t × (shape_of_player new ≡ shape_of_player old)

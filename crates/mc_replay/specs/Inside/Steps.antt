@@ -32,13 +32,13 @@ PlaysLine V sh before s t bytes old new (Err fault) =
     (text : List ℕ) × LineDoes V sh before s (first_line bytes) text (Some fault) t × Appends old new text
 
 -- what was read for it
-abbrev pub ReadsNext : List ℕ → Option (List ℕ) → Result Bool Fault → Type 0
-ReadsNext bytes rest (Ok more) = ReadsLine bytes rest (Ok more)
-ReadsNext bytes rest (Err fault) = ReadsStopped bytes rest fault
+abbrev pub ReadsNextLine : List ℕ → Option (List ℕ) → Result Bool Fault → Type 0
+ReadsNextLine bytes rest (Ok more) = ReadsLine bytes rest (Ok more)
+ReadsNextLine bytes rest (Err fault) = ReadsStopped bytes rest fault
 
 abbrev pub PlaysKnown : (V : ℕ) → Shape → ℕ → Replay V → Replay V → Option (List ℕ) → Option (List ℕ) → Option (List ℕ) → Option (List ℕ) → Result Bool Fault → Type 0
 PlaysKnown V sh before s t None rest old new r = Unit {0}
-PlaysKnown V sh before s t (Some bytes) rest old new r = ReadsNext bytes rest r × PlaysLine V sh before s t bytes old new r
+PlaysKnown V sh before s t (Some bytes) rest old new r = ReadsNextLine bytes rest r × PlaysLine V sh before s t bytes old new r
 
 -- after so many lines that were not refused: which they are, and what was written
 pub record SoFar (V : ℕ) (sh : Shape) (start : Replay V) (lines left : List (List ℕ)) (old new : Option (List ℕ)) (before : ℕ) (s : Replay V) : Type 0 where

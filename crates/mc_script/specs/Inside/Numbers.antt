@@ -11,6 +11,6 @@ abbrev pub number_of : List ℕ → Option ℕ
 number_of word = if is_number word then Some (digits_value 10 word) else None
 
 -- a first number and the others, as one list
-abbrev pub joined : Result (ℕ × List ℕ) LineFault → Result (List ℕ) LineFault
-joined (Ok found) = Ok (found.0 ∷ found.1)
-joined (Err fault) = Err fault
+abbrev pub join_numbers : Result (ℕ × List ℕ) LineFault → Result (List ℕ) LineFault
+join_numbers (Ok found) = Ok (found.0 ∷ found.1)
+join_numbers (Err fault) = Err fault

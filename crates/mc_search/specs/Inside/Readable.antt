@@ -5,12 +5,12 @@ use Rattle.mc_words.specs.declared.shape.Shape.{Shape}
 use Rattle.mc_words.specs.Chains.{IsHole}
 use Rattle.mc_words.specs.Keys.{tag_of, slot_word, IsBucketOf, NamesUnder}
 use Rattle.mc_words.specs.Places.{slot_place, slot, item}
-use Rattle.mc_words.specs.Standing.{Names, Stands}
+use Rattle.mc_words.specs.Standing.{NamesItem, Stands}
 use Rattle.mc_search.specs.Readable.{HasSlots, IsFilled, IsPlacedAt, IsPlaced}
 
 -- the word names no item under the tag
-abbrev pub NamesNone : Shape → ℕ → ℕ → Type 0
-NamesNone sh tag word = (i : ℕ) → i < sh.items → word ≢ slot_word tag i
+abbrev pub MatchesNone : Shape → ℕ → ℕ → Type 0
+MatchesNone sh tag word = (i : ℕ) → i < sh.items → word ≢ slot_word tag i
 
 -- the slot names no item of the key under the key's tag
 abbrev pub IsNotAt : ℕ → Shape → List ℕ → ℕ → ℕ → Type 0

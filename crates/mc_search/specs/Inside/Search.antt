@@ -47,15 +47,15 @@ abbrev pub AreFull : Shape → List ℕ → List Entry → Type 0
 AreFull sh w q = (i : ℕ) → i < length q → IsFull sh w (bucket_at q i)
 
 -- the bucket to which the item in slot j of bucket b can move
-abbrev pub next_of : Shape → List ℕ → ℕ → ℕ → ℕ
-next_of sh w b j = alternate sh b (tag_in (slot sh w (4 * b + j)))
+abbrev pub next_bucket : Shape → List ℕ → ℕ → ℕ → ℕ
+next_bucket sh w b j = alternate sh b (tag_in (slot sh w (4 * b + j)))
 
 -- an entry comes from a slot of an earlier one
 pub record ComesFrom (sh : Shape) (w : List ℕ) (q : List Entry) (i : ℕ) (e : Entry) : Type 0 where
   pub earlier : e.from < i
   pub in_bucket : e.slot < 4
   pub taken : slot sh w (4 * bucket_at q e.from + e.slot) ≢ 0
-  pub leads : e.bucket ≡ next_of sh w (bucket_at q e.from) e.slot
+  pub leads : e.bucket ≡ next_bucket sh w (bucket_at q e.from) e.slot
   pub deeper : e.depth ≡ depth_at q e.from + 1
 
 -- an entry of a bucket of the key
@@ -85,7 +85,7 @@ IsUpTo q m = (k : ℕ) → k < length q → depth_at q k ≤ m
 pub record IsFollowed (sh : Shape) (w : List ℕ) (k t : ℕ) (q : List Entry) : Type 0 where
   pub from_first : IsNear q (first_of sh k) 0
   pub from_second : IsNear q (second_of sh k) 0
-  pub followed : (i j : ℕ) → i < length q → j < 4 → 4 * i + j < t → IsNear q (next_of sh w (bucket_at q i) j) (depth_at q i + 1)
+  pub followed : (i j : ℕ) → i < length q → j < 4 → 4 * i + j < t → IsNear q (next_bucket sh w (bucket_at q i) j) (depth_at q i + 1)
 
 -- the search before the f-th entry
 pub record IsSearching (sh : Shape) (w : List ℕ) (k f : ℕ) (q : List Entry) : Type 0 where

@@ -1,10 +1,10 @@
--- Each recency bit of a reached world is 0 or 1, and each item has one.
+-- Each recency bit of a reached trace is 0 or 1, and each item has one.
 use Rattle.std.proofs.Common.{ℕ, ◌≡◌, List, [], ◌∷◌, length, set, refl, sym, ◌∙◌, subst, inl, inr}
 use Rattle.std.specs.List.{All}
 use Rattle.std.proofs.lemmas.List.{length-replicate, length-set}
 use Rattle.std.proofs.lemmas.List.Elements.{All-replicate, All-set}
 use Rattle.mc_words.specs.declared.shape.Shape.{Shape}
-use Rattle.mc_theory.specs.Worlds.{BitsStay, IsBit, Runs, Steps, World, bits_after, bits_read, first_world}
+use Rattle.mc_theory.specs.Traces.{BitsStay, IsBit, StepsAll, Steps, Trace, bits_after, bits_read, first_trace}
 use Rattle.mc_theory.specs.declared.access.Access.{Access}
 use Rattle.mc_theory.specs.declared.access.Access.TheVariants as access
 use Rattle.mc_theory.specs.declared.act.Act.{Act}
@@ -41,22 +41,22 @@ access_keeps n bits (access.Value i j) all = all
 access_keeps n bits access.Moment all = all
 
 -- each event keeps them
-step_keeps : (V : ℕ) (sh : Shape) (n : ℕ) (w x : World V) (e : Event) → Steps V sh w e x → AreBits n w.bits → AreBits n x.bits
-step_keeps V sh n w x (Write a) s all = subst (λ (y : World V). AreBits n y.bits) (sym s.2) (act_keeps n w.bits a all)
-step_keeps V sh n w x (Begin r k) s all = subst (λ (y : World V). AreBits n y.bits) (sym s.3) all
+step_keeps : (V : ℕ) (sh : Shape) (n : ℕ) (w x : Trace V) (e : Event) → Steps V sh w e x → AreBits n w.bits → AreBits n x.bits
+step_keeps V sh n w x (Write a) s all = subst (λ (y : Trace V). AreBits n y.bits) (sym s.2) (act_keeps n w.bits a all)
+step_keeps V sh n w x (Begin r k) s all = subst (λ (y : Trace V). AreBits n y.bits) (sym s.3) all
 step_keeps V sh n w x (Read r) s all = elim s.5 [
-  | inl over ↦ subst (λ (y : World V). AreBits n y.bits) (sym over.2) (access_keeps n w.bits s.1.access all)
-  | inr more ↦ subst (λ (y : World V). AreBits n y.bits) (sym more.1) (access_keeps n w.bits s.1.access all)
+  | inl over ↦ subst (λ (y : Trace V). AreBits n y.bits) (sym over.2) (access_keeps n w.bits s.1.access all)
+  | inr more ↦ subst (λ (y : Trace V). AreBits n y.bits) (sym more.1) (access_keeps n w.bits s.1.access all)
 ]
 
 -- and so do events one after the other
-run_keeps : (V : ℕ) (sh : Shape) (n : ℕ) (w x : World V) (es : List Event) → Runs V sh w es x → AreBits n w.bits → AreBits n x.bits
-run_keeps V sh n w x [] r all = subst (λ (y : World V). AreBits n y.bits) (sym r) all
+run_keeps : (V : ℕ) (sh : Shape) (n : ℕ) (w x : Trace V) (es : List Event) → StepsAll V sh w es x → AreBits n w.bits → AreBits n x.bits
+run_keeps V sh n w x [] r all = subst (λ (y : Trace V). AreBits n y.bits) (sym r) all
 run_keeps V sh n w x (e ∷ es) r all = run_keeps V sh n r.0 x es r.2 (step_keeps V sh n w r.0 e r.1 all)
 
--- a new world has a bit for each item, and so has every one that is reached
+-- a new trace has a bit for each item, and so has every one that is reached
 pub bits_stay : (V : ℕ) → BitsStay V
 bits_stay V sh w reached =
-    let new : AreBits sh.items (first_world V sh reached.readers).bits = record { many = length-replicate {A = ℕ} sh.items 0; each = All-replicate IsBit sh.items 0 (inl refl) } in
-    let all = run_keeps V sh sh.items (first_world V sh reached.readers) w reached.events reached.runs new in
+    let new : AreBits sh.items (first_trace V sh reached.readers).bits = record { many = length-replicate {A = ℕ} sh.items 0; each = All-replicate IsBit sh.items 0 (inl refl) } in
+    let all = run_keeps V sh sh.items (first_trace V sh reached.readers) w reached.events reached.runs new in
     (all.many, all.each)

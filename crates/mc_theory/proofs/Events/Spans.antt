@@ -13,15 +13,15 @@ use Rattle.mc_theory.proofs.Lists.Fronts.{allowed_take}
 use Rattle.mc_theory.specs.Lists.{IsLawful, Made, front, state_of}
 use Rattle.mc_theory.specs.Plain.{IsBetween, IsPlainlyTrue, acts_in, changes_by, history_of}
 use Rattle.mc_theory.specs.Readings.{Reading}
-use Rattle.mc_theory.specs.Spans.{EndsTellSpans, EventsTellHistories, IsSpanned, WorldsArePlainlyTrue}
+use Rattle.mc_theory.specs.Spans.{EndsTellSpans, EventsTellHistories, IsSpanned, TracesArePlainlyTrue}
 use Rattle.mc_theory.specs.States.{opening}
-use Rattle.mc_theory.specs.Worlds.{Ended, IsTrueEnd, Running, Runs, Steps, World, first_read, first_world, start_of}
+use Rattle.mc_theory.specs.Traces.{Ended, IsTrueEnd, OpenLookup, StepsAll, Steps, Trace, first_read, first_trace, start_of}
 use Rattle.mc_theory.specs.declared.act.Act.{Act}
 use Rattle.mc_theory.specs.declared.act.Deed.TheVariants as deed
 use Rattle.mc_theory.specs.declared.event.Event.{Event}
 use Rattle.mc_theory.specs.declared.event.Event.TheVariants.{Write, Begin, Read}
 use Rattle.mc_words.specs.History.{IsTrueAnswer}
-use Rattle.mc_theory.proofs.Events.ReachedWorlds.{all_idle, first_holds, read_after_set, runs_hold, worlds_are_true}
+use Rattle.mc_theory.proofs.Events.ReachedTraces.{all_idle, first_holds, read_after_set, runs_hold, traces_are_true}
 use Rattle.mc_theory.proofs.Events.ToldHistories.{act_of, history_told}
 
 -- ---- the acts among events
@@ -103,7 +103,7 @@ BeganAt es r begin first (x ∷ xs) =
     (begin < first) × (slice_get es first ≡ Some (Read r)) × (x.front ≡ length (acts_in (take first es))) × ((n : ℕ) → begin < n → n < first → slice_get es n ≡ Some (Read r) → ⊥)
 
 -- the last lookup that the reader began is of this key, and has these readings so far
-record IsOpen (es : List Event) (r : ℕ) (run : Running) : Type 0 where
+record IsOpen (es : List Event) (r : ℕ) (run : OpenLookup) : Type 0 where
   begin : ℕ
   begun : slice_get es begin ≡ Some (Begin r run.key)
   alone : (n k : ℕ) → begin < n → slice_get es n ≡ Some (Begin r k) → ⊥
@@ -142,7 +142,7 @@ began_some es r begin first [] x at = at
 began_some es r begin first (y ∷ ys) x at = at
 
 -- an event of others leaves the reader's lookup open
-open_longer : (es : List Event) (e : Event) (r : ℕ) (run : Running) → ((k : ℕ) → e ≡ Begin r k → ⊥) → (e ≡ Read r → ⊥) → IsOpen es r run → IsOpen (es ++ e ∷ []) r run
+open_longer : (es : List Event) (e : Event) (r : ℕ) (run : OpenLookup) → ((k : ℕ) → e ≡ Begin r k → ⊥) → (e ≡ Read r → ⊥) → IsOpen es r run → IsOpen (es ++ e ∷ []) r run
 open_longer es e r run other still o = record {
   begin = o.begin;
   begun = get_longer es (e ∷ []) o.begin _ o.begun;
@@ -160,7 +160,7 @@ open_new es r k = record {
 }
 
 -- the reader reads
-open_more : (es : List Event) (r events : ℕ) (run : Running) (x : Reading) → events ≡ length es → x.front ≡ length (acts_in es) → IsOpen es r run
+open_more : (es : List Event) (r events : ℕ) (run : OpenLookup) (x : Reading) → events ≡ length es → x.front ≡ length (acts_in es) → IsOpen es r run
     → IsOpen (es ++ Read r ∷ []) r (record { key = run.key; sofar = run.sofar ++ x ∷ []; first = first_read events run })
 open_more es r events run x counted now o =
     let before = slice_get_within es o.begin _ o.begun in record {
@@ -171,7 +171,7 @@ open_more es r events run x counted now o =
     }
 
 -- and ends its lookup
-open_ends : {V : ℕ} (es : List Event) (r events : ℕ) (run : Running) (x : Reading) (reply : Reply V) (stop : ℕ) → events ≡ length es → stop ≡ length (acts_in es) → IsOpen (es ++ Read r ∷ []) r (record { key = run.key; sofar = run.sofar ++ x ∷ []; first = first_read events run })
+open_ends : {V : ℕ} (es : List Event) (r events : ℕ) (run : OpenLookup) (x : Reading) (reply : Reply V) (stop : ℕ) → events ≡ length es → stop ≡ length (acts_in es) → IsOpen (es ++ Read r ∷ []) r (record { key = run.key; sofar = run.sofar ++ x ∷ []; first = first_read events run })
     → IsSpanned (es ++ Read r ∷ []) (record { told = record { reader = r; key = run.key; reply = reply; first = first_read events run; last = events }; read = run.sofar ++ x ∷ []; stop = stop })
 open_ends es r events run x reply stop counted now o =
     let e : Event = Read r in
@@ -212,11 +212,11 @@ span_longer es more e s =
       stop = s.stop ∙ cut e.told.last (omega (arith, made));
     }
 
--- what a world keeps of the events that led to it
-record Traces (V : ℕ) (es : List Event) (w : World V) : Type 0 where
+-- what a trace keeps of the events that led to it
+record Traces (V : ℕ) (es : List Event) (w : Trace V) : Type 0 where
   counted : w.events ≡ length es
   acts : map act_of w.acts ≡ acts_in es
-  running : (r : ℕ) (run : Running) → slice_get w.readers r ≡ Some (Some run) → IsOpen es r run
+  running : (r : ℕ) (run : OpenLookup) → slice_get w.readers r ≡ Some (Some run) → IsOpen es r run
   ended : All (IsSpanned es) w.ended
 
 -- and so those of all lookups that have ended
@@ -224,16 +224,16 @@ ended_longer : {V : ℕ} (es more : List Event) (xs : List (Ended V)) → All (I
 ended_longer es more xs all = All-weaker (IsSpanned es) (IsSpanned (es ++ more)) (λ e s. span_longer es more e s) xs all
 
 -- the lookup that is open is the one that a reader has
-open_as : (es : List Event) (r q : ℕ) (a b : Running) → q ≡ r → Some a ≡ Some b → IsOpen es r a → IsOpen es q b
+open_as : (es : List Event) (r q : ℕ) (a b : OpenLookup) → q ≡ r → Some a ≡ Some b → IsOpen es r a → IsOpen es q b
 open_as es r q a b same e o =
     let is : a ≡ b = cc in
-    subst (λ (y : Running). IsOpen es q y) is (subst (λ n. IsOpen es n a) (sym same) o)
+    subst (λ (y : OpenLookup). IsOpen es q y) is (subst (λ n. IsOpen es n a) (sym same) o)
 
 -- each event keeps it
-step_traces : (V : ℕ) (sh : Shape) (es : List Event) (w x : World V) (e : Event) → Traces V es w → Steps V sh w e x → Traces V (es ++ e ∷ []) x
+step_traces : (V : ℕ) (sh : Shape) (es : List Event) (w x : Trace V) (e : Event) → Traces V es w → Steps V sh w e x → Traces V (es ++ e ∷ []) x
 step_traces V sh es w x (Write a) h s =
     let e : Event = Write a in
-    subst (λ (z : World V). Traces V (es ++ e ∷ []) z) (sym s.2) (record {
+    subst (λ (z : Trace V). Traces V (es ++ e ∷ []) z) (sym s.2) (record {
       counted = omega (arith, h.counted, length_push es e);
       acts = map-append act_of w.acts _ ∙ ap (λ (made : List Act). made ++ a ∷ []) h.acts ∙ sym (acts_in-append es (e ∷ []));
       running = λ r run is. open_longer es e r run (λ k f. absurd (cc (f))) (λ f. absurd (cc (f))) (h.running r run is);
@@ -241,8 +241,8 @@ step_traces V sh es w x (Write a) h s =
     })
 step_traces V sh es w x (Begin r k) h s =
     let e : Event = Begin r k in
-    let new : Running = record { key = k; sofar = []; first = 0 } in
-    subst (λ (z : World V). Traces V (es ++ e ∷ []) z) (sym s.3) (record {
+    let new : OpenLookup = record { key = k; sofar = []; first = 0 } in
+    subst (λ (z : Trace V). Traces V (es ++ e ∷ []) z) (sym s.3) (record {
       counted = omega (arith, h.counted, length_push es e);
       acts = h.acts ∙ sym (append-nil (acts_in es)) ∙ sym (acts_in-append es (e ∷ []));
       running = λ q run is. elim (read_after_set w.readers r q (Some new) (Some run) is) [
@@ -253,17 +253,17 @@ step_traces V sh es w x (Begin r k) h s =
     })
 step_traces V sh es w x (Read r) h s =
     let e : Event = Read r in
-    let run : Running = s.0 in
+    let run : OpenLookup = s.0 in
     let reading : Reading = s.1 in
     let counted : w.events + 1 ≡ length (es ++ e ∷ []) = omega (arith, h.counted, length_push es e) in
     let acts : map act_of w.acts ≡ acts_in (es ++ e ∷ []) = h.acts ∙ sym (append-nil (acts_in es)) ∙ sym (acts_in-append es (e ∷ [])) in
     let many : length w.acts ≡ length (acts_in es) = sym (length-map w.acts act_of) ∙ ap length h.acts in
-    let new : Running = record { key = run.key; sofar = run.sofar ++ reading ∷ []; first = first_read w.events run } in
+    let new : OpenLookup = record { key = run.key; sofar = run.sofar ++ reading ∷ []; first = first_read w.events run } in
     let now : IsOpen (es ++ e ∷ []) r new = open_more es r w.events run reading h.counted (s.3.now ∙ many) (h.running r run s.2) in
-    let older : (q : ℕ) (other : Running) → (q ≡ r → ⊥) → slice_get w.readers q ≡ Some (Some other) → IsOpen (es ++ e ∷ []) q other =
+    let older : (q : ℕ) (other : OpenLookup) → (q ≡ r → ⊥) → slice_get w.readers q ≡ Some (Some other) → IsOpen (es ++ e ∷ []) q other =
     λ q other differs old. open_longer es e q other (λ k f. absurd (cc (f))) (λ f. let same : q ≡ r = cc in absurd (differs same)) (h.running q other old) in
     elim s.5 [
-      | inl over ↦ subst (λ (z : World V). Traces V (es ++ e ∷ []) z) (sym over.2) (record {
+      | inl over ↦ subst (λ (z : Trace V). Traces V (es ++ e ∷ []) z) (sym over.2) (record {
         counted = counted;
         acts = acts;
         running = λ q other is. elim (read_after_set w.readers r q None (Some other) is) [
@@ -272,7 +272,7 @@ step_traces V sh es w x (Read r) h s =
         ];
         ended = All-push (IsSpanned (es ++ e ∷ [])) w.ended _ (ended_longer es (e ∷ []) w.ended h.ended) (open_ends es r w.events run reading over.0 (length w.acts) h.counted many now);
       })
-      | inr more ↦ subst (λ (z : World V). Traces V (es ++ e ∷ []) z) (sym more.1) (record {
+      | inr more ↦ subst (λ (z : Trace V). Traces V (es ++ e ∷ []) z) (sym more.1) (record {
         counted = counted;
         acts = acts;
         running = λ q other is. elim (read_after_set w.readers r q (Some new) (Some other) is) [
@@ -284,14 +284,14 @@ step_traces V sh es w x (Read r) h s =
     ]
 
 -- events one after the other keep it
-run_traces : (V : ℕ) (sh : Shape) (past : List Event) (w : World V) (es : List Event) (x : World V) → Traces V past w → Runs V sh w es x → Traces V (past ++ es) x
-run_traces V sh past w [] x h r = subst (λ (z : World V). Traces V (past ++ []) z) (sym r) (subst (λ (ys : List Event). Traces V ys w) (sym (append-nil past)) h)
+run_traces : (V : ℕ) (sh : Shape) (past : List Event) (w : Trace V) (es : List Event) (x : Trace V) → Traces V past w → StepsAll V sh w es x → Traces V (past ++ es) x
+run_traces V sh past w [] x h r = subst (λ (z : Trace V). Traces V (past ++ []) z) (sym r) (subst (λ (ys : List Event). Traces V ys w) (sym (append-nil past)) h)
 run_traces V sh past w (e ∷ es) x h r =
     subst (λ (ys : List Event). Traces V ys x) (append_assoc past (e ∷ []) es)
     (run_traces V sh (past ++ e ∷ []) r.0 es x (step_traces V sh past w r.0 e h r.1) r.2)
 
--- a new world keeps nothing
-first_traces : (V : ℕ) (sh : Shape) (readers : ℕ) → Traces V [] (first_world V sh readers)
+-- a new trace keeps nothing
+first_traces : (V : ℕ) (sh : Shape) (readers : ℕ) → Traces V [] (first_trace V sh readers)
 first_traces V sh readers = record {
   counted = refl;
   acts = refl;
@@ -299,15 +299,15 @@ first_traces V sh readers = record {
   ended = All-nil (IsSpanned []);
 }
 
--- so every world keeps what led to it from a new one
-world_traces : (V : ℕ) (sh : Shape) (readers : ℕ) (es : List Event) (w : World V) → Runs V sh (first_world V sh readers) es w → Traces V es w
-world_traces V sh readers es w runs = run_traces V sh [] (first_world V sh readers) es w (first_traces V sh readers) runs
+-- so every trace keeps what led to it from a new one
+world_traces : (V : ℕ) (sh : Shape) (readers : ℕ) (es : List Event) (w : Trace V) → StepsAll V sh (first_trace V sh readers) es w → Traces V es w
+world_traces V sh readers es w runs = run_traces V sh [] (first_trace V sh readers) es w (first_traces V sh readers) runs
 
 -- ---- the laws as they are stated
 pub events_tell_histories : (V : ℕ) → EventsTellHistories V
 events_tell_histories V sh readers es w runs =
     let same = (world_traces V sh readers es w runs).acts in
-    let lawful = (runs_hold V sh (first_world V sh readers) es w (first_holds V sh readers) runs).lawful in
+    let lawful = (runs_hold V sh (first_trace V sh readers) es w (first_holds V sh readers) runs).lawful in
     (state_tells V sh w.acts es lawful same, λ n. fronts_tell V sh w.acts es n lawful same)
 
 pub ends_tell_spans : (V : ℕ) → EndsTellSpans V
@@ -319,7 +319,7 @@ unfolding history_of
 history_read V es n r is = ap (λ m. changes_by {V = V} deed.Move 0 [] (acts_in (take m es))) (add-one n) ∙ ap (λ (made : List Act). changes_by {V = V} deed.Move 0 [] made) (acts_in-read es n r is)
 
 -- a true reply, in terms of the events
-plainly_true : (V : ℕ) (sh : Shape) (es : List Event) (w : World V) (e : Ended V) → IsLawful V sh w.acts → map act_of w.acts ≡ acts_in es → IsSpanned es e → IsTrueEnd V sh w e → IsPlainlyTrue es e.told
+plainly_true : (V : ℕ) (sh : Shape) (es : List Event) (w : Trace V) (e : Ended V) → IsLawful V sh w.acts → map act_of w.acts ≡ acts_in es → IsSpanned es e → IsTrueEnd V sh w e → IsPlainlyTrue es e.told
 plainly_true V sh es w e lawful same s t =
     let from : (front V sh w.acts (start_of e.read)).history ≡ history_of V (take e.told.first es) =
     ap (λ f. (front V sh w.acts f).history) s.start ∙ fronts_tell V sh w.acts es e.told.first lawful same in
@@ -333,8 +333,8 @@ plainly_true V sh es w e lawful same s t =
           (subst (λ (h : List (Change V)). IsBetween (length h) (length (front V sh w.acts e.stop).history) e.told.reply) from t.between);
     }
 
-pub worlds_are_plainly_true : (V : ℕ) → WorldsArePlainlyTrue V
-worlds_are_plainly_true V sh readers es w shape runs =
+pub traces_are_plainly_true : (V : ℕ) → TracesArePlainlyTrue V
+traces_are_plainly_true V sh readers es w shape runs =
     let kept = world_traces V sh readers es w runs in
-    let true = worlds_are_true V sh readers es w shape runs in
+    let true = traces_are_true V sh readers es w shape runs in
     λ k d l. plainly_true V sh es w (get_or w.ended k d) true.0 kept.acts (kept.ended k d l) (true.1 k d l)

@@ -7,9 +7,9 @@ use Rattle.mc_words.specs.declared.history.Change.{Change}
 use Rattle.mc_words.specs.declared.history.Change.TheVariants as change
 use Rattle.mc_words.specs.declared.shape.Shape.{Shape}
 use Rattle.mc_theory.specs.Acts.{MayFrom}
-use Rattle.mc_theory.specs.Effects.{after_act, history_after, phase_after, taken_out}
+use Rattle.mc_theory.specs.Effects.{after_act, history_after, phase_after, removal_of}
 use Rattle.mc_theory.specs.Lists.{AreAllowed, Made, after_all}
-use Rattle.mc_theory.specs.Phases.{Phase, Quiet, Filling, Keyed, Placed, Renewing, Removing, Removed, Moving, Moved, Closing, opened}
+use Rattle.mc_theory.specs.Phases.{Phase, Quiet, Filling, Keyed, Placed, Renewing, Removing, Removed, Moving, Moved, Closing, first_phase}
 use Rattle.mc_theory.specs.Plain.{change_by, changes_by}
 use Rattle.mc_theory.specs.States.{State}
 use Rattle.mc_theory.specs.declared.act.Act.{Act}
@@ -33,7 +33,7 @@ IsUnderWay V (Removed q e) d k xs = (d ≡ taking e) × (k ≡ q)
 IsUnderWay V _ d k xs = Unit {0}
 
 -- it is so where the deed begins
-under_way_opened : (V k : ℕ) (d : Deed) → IsUnderWay V (opened k d) d k []
+under_way_opened : (V k : ℕ) (d : Deed) → IsUnderWay V (first_phase k d) d k []
 under_way_opened V k deed.Fill = (refl, refl, refl)
 under_way_opened V k deed.Renew = (refl, refl, refl)
 under_way_opened V k deed.Remove = (refl, refl)
@@ -51,7 +51,7 @@ put_whole {V} k q xs ys key written many =
     ap (λ n. change_by {V = V} deed.Fill n xs) key ∙ ap (λ zs. change_by {V = V} deed.Fill q zs) (written ∙ sym (take_all V ys (omega arith)))
 
 -- and a key is taken out as the phase says
-taken_whole : {V : ℕ} (e : Bool) (d : Deed) (k q : ℕ) (xs : List ℕ) → d ≡ taking e → k ≡ q → change_by {V = V} d k xs ≡ taken_out e q ∷ []
+taken_whole : {V : ℕ} (e : Bool) (d : Deed) (k q : ℕ) (xs : List ℕ) → d ≡ taking e → k ≡ q → change_by {V = V} d k xs ≡ removal_of e q ∷ []
 taken_whole {V} false d k q xs is key = ap (λ y. change_by {V = V} y k xs) is ∙ ap (λ n. change_by {V = V} deed.Remove n xs) key
 taken_whole {V} true d k q xs is key = ap (λ y. change_by {V = V} y k xs) is ∙ ap (λ n. change_by {V = V} deed.Evict n xs) key
 
@@ -89,7 +89,7 @@ goes_on V sh w hand cleared (Renewing q ys) h d k xs Moment more may at =
     record { deed = d; key = k; written = xs; under_way = tt; same = moves_over h (change.Put q (take V ys) ∷ []) (change_by d k xs) (changes_by d k xs more) now }
 goes_on V sh w hand cleared (Removing q e) h d k xs (Slot p x) more may at = record { deed = d; key = k; written = xs; under_way = at; same = refl }
 goes_on V sh w hand cleared (Removed q e) h d k xs Moment more may at =
-    record { deed = d; key = k; written = xs; under_way = tt; same = moves_over h (taken_out e q ∷ []) (change_by d k xs) (changes_by d k xs more) (taken_whole e d k q xs at.0 at.1) }
+    record { deed = d; key = k; written = xs; under_way = tt; same = moves_over h (removal_of e q ∷ []) (change_by d k xs) (changes_by d k xs more) (taken_whole e d k q xs at.0 at.1) }
 goes_on V sh w hand cleared (Moving q) h d k xs (Slot p x) more may at = record { deed = d; key = k; written = xs; under_way = tt; same = refl }
 goes_on V sh w hand cleared (Moved q fresh) h d k xs (Slot p x) more may at = record { deed = d; key = k; written = xs; under_way = tt; same = refl }
 goes_on V sh w hand cleared (Closing q) h d k xs Close more may at = record { deed = d; key = k; written = xs; under_way = tt; same = refl }

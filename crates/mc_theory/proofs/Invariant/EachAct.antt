@@ -6,14 +6,14 @@ use Rattle.mc_theory.proofs.Invariant.RunningDeed.{held-written, absent_on, begi
 use Rattle.mc_theory.proofs.Invariant.PlainParts.{filled_after, length_after, moment_after, versions_after}
 use Rattle.mc_theory.proofs.Invariant.OtherKeys.{step_held, step_same}
 use Rattle.mc_theory.specs.Acts.{MayFrom}
-use Rattle.mc_theory.specs.Effects.{history_after, phase_after, taken_out, words_after}
+use Rattle.mc_theory.specs.Effects.{history_after, phase_after, removal_of, words_after}
 use Rattle.mc_theory.specs.Inner.{DeedFacts}
-use Rattle.mc_theory.specs.Phases.{Closing, Filling, Keyed, Moved, Moving, Phase, Placed, Quiet, Removed, Removing, Renewing, running}
+use Rattle.mc_theory.specs.Phases.{Closing, Filling, Keyed, Moved, Moving, Phase, Placed, Quiet, Removed, Removing, Renewing, deed_key}
 use Rattle.mc_words.proofs.Frames.{agrees_on, begins_on, only_on, same-with_moment, same-with_version}
 use Rattle.mc_words.proofs.Keys.{stripe_of-lt}
 use Rattle.mc_words.proofs.Maps.{held-evict, held-remove}
 use Rattle.mc_words.proofs.Places.{item-with_moment, item-with_slot}
-use Rattle.mc_words.specs.History.{held}
+use Rattle.mc_words.specs.History.{map_value}
 use Rattle.mc_words.specs.Keys.{alternate, tag_of}
 use Rattle.mc_words.specs.Places.{slot, slot_number}
 use Rattle.mc_words.specs.Shapes.{IsShape}
@@ -23,11 +23,11 @@ use Rattle.mc_words.specs.declared.history.Change.{Change}
 use Rattle.mc_words.specs.declared.shape.Shape.{Shape}
 use Rattle.mc_theory.specs.declared.act.Act.TheVariants.{Open, Slot, Item, Moment, Close, Hand, Mark}
 
-taken_out_held : {V : ℕ} (h : List (Change V)) (e : Bool) (k : ℕ) → held (h ++ taken_out e k ∷ []) k ≡ None
+taken_out_held : {V : ℕ} (h : List (Change V)) (e : Bool) (k : ℕ) → map_value (h ++ removal_of e k ∷ []) k ≡ None
 taken_out_held h true k = held-evict h k
 taken_out_held h false k = held-remove h k
 
-pub deed_after : (V : ℕ) (sh : Shape) (w : List ℕ) (hand : ℕ) (cleared : Option ℕ) (h : List (Change V)) (p : Phase) (a : Act) → IsShape sh → Agrees V sh w (running p) h → DeedFacts V sh w h p → MayFrom V sh w hand cleared p a → DeedFacts V sh (words_after V sh w p a) (history_after h p a) (phase_after p a)
+pub deed_after : (V : ℕ) (sh : Shape) (w : List ℕ) (hand : ℕ) (cleared : Option ℕ) (h : List (Change V)) (p : Phase) (a : Act) → IsShape sh → Agrees V sh w (deed_key p) h → DeedFacts V sh w h p → MayFrom V sh w hand cleared p a → DeedFacts V sh (words_after V sh w p a) (history_after h p a) (phase_after p a)
 deed_after V sh w hand cleared h Quiet (Open k u) s g d may =
     open_facts V sh w _ cleared h k u (same-with_version V sh w _ _ k (stripe_of-lt sh k s)) (g.keys k (λ e. cc)) may.0 may.1
 deed_after V sh w hand cleared h Quiet (Hand i) s g d may = tt
@@ -78,10 +78,10 @@ some_or_not None k = inr (λ e. cc)
 some_or_not (Some f) k = elim (cases_eq f k) [ inl e ↦ inl (ap Some e) | inr ne ↦ inr (λ e. ne (cc)) ]
 
 -- the key of the deed that ends here
-closed_keys : (V : ℕ) (sh : Shape) (w : List ℕ) (hand : ℕ) (cleared : Option ℕ) (h : List (Change V)) (k : ℕ) (p : Phase) (a : Act) → IsShape sh → DeedFacts V sh w h p → MayFrom V sh w hand cleared p a → running p ≡ Some k → running (phase_after p a) ≢ Some k → AgreesAt V sh (words_after V sh w p a) k (held (history_after h p a) k)
+closed_keys : (V : ℕ) (sh : Shape) (w : List ℕ) (hand : ℕ) (cleared : Option ℕ) (h : List (Change V)) (k : ℕ) (p : Phase) (a : Act) → IsShape sh → DeedFacts V sh w h p → MayFrom V sh w hand cleared p a → deed_key p ≡ Some k → deed_key (phase_after p a) ≢ Some k → AgreesAt V sh (words_after V sh w p a) k (map_value (history_after h p a) k)
 closed_keys V sh w hand cleared h k (Closing f) Close s d may e ne =
     let is : f ≡ k = cc in
-    agrees_on V sh w _ k (held h k) (same-with_version V sh w _ _ k (stripe_of-lt sh f s)) (subst (λ (y : ℕ). AgreesAt V sh w y (held h y)) is d)
+    agrees_on V sh w _ k (map_value h k) (same-with_version V sh w _ _ k (stripe_of-lt sh f s)) (subst (λ (y : ℕ). AgreesAt V sh w y (map_value h y)) is d)
 closed_keys V sh w hand cleared h k Quiet (Open f u) s d may e ne = absurd (cc)
 closed_keys V sh w hand cleared h k Quiet (Hand i) s d may e ne = absurd (ne e)
 closed_keys V sh w hand cleared h k Quiet (Mark i) s d may e ne = absurd (ne e)
@@ -97,16 +97,16 @@ closed_keys V sh w hand cleared h k (Moving f) (Slot p x) s d may e ne = absurd 
 closed_keys V sh w hand cleared h k (Moved f fresh) (Slot p x) s d may e ne = absurd (ne e)
 closed_keys V sh w hand cleared h k _ _ s d may e ne = absurd may
 
-pub keys_after : (V : ℕ) (sh : Shape) (w : List ℕ) (hand : ℕ) (cleared : Option ℕ) (h : List (Change V)) (p : Phase) (a : Act) → IsShape sh → Agrees V sh w (running p) h → DeedFacts V sh w h p → MayFrom V sh w hand cleared p a → (k : ℕ) → running (phase_after p a) ≢ Some k → AgreesAt V sh (words_after V sh w p a) k (held (history_after h p a) k)
+pub keys_after : (V : ℕ) (sh : Shape) (w : List ℕ) (hand : ℕ) (cleared : Option ℕ) (h : List (Change V)) (p : Phase) (a : Act) → IsShape sh → Agrees V sh w (deed_key p) h → DeedFacts V sh w h p → MayFrom V sh w hand cleared p a → (k : ℕ) → deed_key (phase_after p a) ≢ Some k → AgreesAt V sh (words_after V sh w p a) k (map_value (history_after h p a) k)
 keys_after V sh w hand cleared h p a s g d may k ne =
-    elim (some_or_not (running p) k) [
+    elim (some_or_not (deed_key p) k) [
       | inl e ↦ closed_keys V sh w hand cleared h k p a s d may e ne
       | inr other ↦
           rw (step_held V sh w hand cleared h k p a may other)
-          (agrees_on V sh w (words_after V sh w p a) k (held h k) (step_same V sh w hand cleared h k p a s g.size d may other) (g.keys k other))
+          (agrees_on V sh w (words_after V sh w p a) k (map_value h k) (step_same V sh w hand cleared h k p a s g.size d may other) (g.keys k other))
     ]
 
-pub agrees_after : (V : ℕ) (sh : Shape) (w : List ℕ) (hand : ℕ) (cleared : Option ℕ) (h : List (Change V)) (p : Phase) (a : Act) → IsShape sh → Agrees V sh w (running p) h → DeedFacts V sh w h p → MayFrom V sh w hand cleared p a → Agrees V sh (words_after V sh w p a) (running (phase_after p a)) (history_after h p a)
+pub agrees_after : (V : ℕ) (sh : Shape) (w : List ℕ) (hand : ℕ) (cleared : Option ℕ) (h : List (Change V)) (p : Phase) (a : Act) → IsShape sh → Agrees V sh w (deed_key p) h → DeedFacts V sh w h p → MayFrom V sh w hand cleared p a → Agrees V sh (words_after V sh w p a) (deed_key (phase_after p a)) (history_after h p a)
 agrees_after V sh w hand cleared h p a s g d may = record {
   size = omega (arith, length_after V sh w p a, g.size);
   at_moment = moment_after V sh w hand cleared h p a g.size g.at_moment may;

@@ -5,14 +5,14 @@ use Rattle.std.proofs.lemmas.Bool.{cases_eq, cases_lt}
 use Rattle.std.proofs.lemmas.List.{length-replicate, get_or-replicate, get_or_past}
 use Rattle.mc_theory.proofs.Invariant.EachAct.{agrees_after, deed_after}
 use Rattle.mc_theory.specs.Acts.{IsAllowed, MayFrom}
-use Rattle.mc_theory.specs.Effects.{after_act, history_after, phase_after, taken_out, words_after}
+use Rattle.mc_theory.specs.Effects.{after_act, history_after, phase_after, removal_of, words_after}
 use Rattle.mc_theory.specs.Inner.{DeedFacts, StateHolds}
-use Rattle.mc_theory.specs.Phases.{running, Phase, Placed, Removed, Renewing}
+use Rattle.mc_theory.specs.Phases.{deed_key, Phase, Placed, Removed, Renewing}
 use Rattle.mc_theory.specs.States.{State, opening}
 use Rattle.mc_words.proofs.Count.{keys_fit}
 use Rattle.mc_words.proofs.Frames.{empty_names_none}
 use Rattle.mc_words.proofs.Maps.{held-none, legal-push}
-use Rattle.mc_words.specs.History.{key_count, IsLegal, MayFollow, held, map_from}
+use Rattle.mc_words.specs.History.{key_count, IsLegal, MayFollow, map_value, map_from}
 use Rattle.mc_words.specs.Places.{moment, slot, version, word_count}
 use Rattle.mc_words.specs.Shapes.{IsShape}
 use Rattle.mc_words.specs.Standing.{Agrees, AgreesAt, Stands}
@@ -23,26 +23,26 @@ use Rattle.mc_theory.specs.declared.act.Act.TheVariants.{Open, Slot, Item, Momen
 use Rattle.mc_words.specs.declared.history.Change.TheVariants.{Put}
 
 -- between the moment and the close, all keys agree
-all_agree : (V : ℕ) (sh : Shape) (w : List ℕ) (h : List (Change V)) (f : ℕ) → Agrees V sh w (Some f) h → AgreesAt V sh w f (held h f) → (k : ℕ) → AgreesAt V sh w k (held h k)
+all_agree : (V : ℕ) (sh : Shape) (w : List ℕ) (h : List (Change V)) (f : ℕ) → Agrees V sh w (Some f) h → AgreesAt V sh w f (map_value h f) → (k : ℕ) → AgreesAt V sh w k (map_value h k)
 all_agree V sh w h f g d k =
     elim (cases_eq f k) [
-      | inl e ↦ subst (λ (y : ℕ). AgreesAt V sh w y (held h y)) e d
+      | inl e ↦ subst (λ (y : ℕ). AgreesAt V sh w y (map_value h y)) e d
       | inr ne ↦ g.keys k (λ e. ne (cc))
     ]
 
-taken_may : {V : ℕ} (h : List (Change V)) (e : Bool) (k : ℕ) → IsSome (held h k) → MayFollow {V = V} (map_from [] h) (taken_out e k)
-unfolding held
+taken_may : {V : ℕ} (h : List (Change V)) (e : Bool) (k : ℕ) → IsSome (map_value h k) → MayFollow {V = V} (map_from [] h) (removal_of e k)
+unfolding map_value
 taken_may h true k s = s
 taken_may h false k s = s
 
-legal_more : (V : ℕ) (sh : Shape) (w : List ℕ) (h : List (Change V)) (c : Change V) (f : ℕ) → IsLegal sh.items h → MayFollow (map_from [] h) c → Agrees V sh w (Some f) (h ++ c ∷ []) → AgreesAt V sh w f (held (h ++ c ∷ []) f) → IsLegal sh.items (h ++ c ∷ [])
+legal_more : (V : ℕ) (sh : Shape) (w : List ℕ) (h : List (Change V)) (c : Change V) (f : ℕ) → IsLegal sh.items h → MayFollow (map_from [] h) c → Agrees V sh w (Some f) (h ++ c ∷ []) → AgreesAt V sh w f (map_value (h ++ c ∷ []) f) → IsLegal sh.items (h ++ c ∷ [])
 unfolding IsLegal key_count
 legal_more V sh w h c f l may g d = legal-push sh.items [] h c l may (keys_fit V sh w (h ++ c ∷ []) (all_agree V sh w (h ++ c ∷ []) f g d))
 
-legal_after : (V : ℕ) (sh : Shape) (w : List ℕ) (hand : ℕ) (cleared : Option ℕ) (h : List (Change V)) (p : Phase) (a : Act) → DeedFacts V sh w h p → MayFrom V sh w hand cleared p a → IsLegal sh.items h → Agrees V sh (words_after V sh w p a) (running (phase_after p a)) (history_after h p a) → DeedFacts V sh (words_after V sh w p a) (history_after h p a) (phase_after p a) → IsLegal sh.items (history_after h p a)
+legal_after : (V : ℕ) (sh : Shape) (w : List ℕ) (hand : ℕ) (cleared : Option ℕ) (h : List (Change V)) (p : Phase) (a : Act) → DeedFacts V sh w h p → MayFrom V sh w hand cleared p a → IsLegal sh.items h → Agrees V sh (words_after V sh w p a) (deed_key (phase_after p a)) (history_after h p a) → DeedFacts V sh (words_after V sh w p a) (history_after h p a) (phase_after p a) → IsLegal sh.items (history_after h p a)
 legal_after V sh w hand cleared h (Placed k i xs) Moment d may l g e = legal_more V sh _ h (Put k (take V xs)) k l tt g e
 legal_after V sh w hand cleared h (Renewing k xs) Moment d may l g e = legal_more V sh _ h (Put k (take V xs)) k l tt g e
-legal_after V sh w hand cleared h (Removed k u) Moment d may l g e = legal_more V sh _ h (taken_out u k) k l (taken_may h u k d.1) g e
+legal_after V sh w hand cleared h (Removed k u) Moment d may l g e = legal_more V sh _ h (removal_of u k) k l (taken_may h u k d.1) g e
 legal_after V sh w hand cleared h p (Open k u) d may l g e = l
 legal_after V sh w hand cleared h p (Slot q x) d may l g e = l
 legal_after V sh w hand cleared h p (Item i j x) d may l g e = l

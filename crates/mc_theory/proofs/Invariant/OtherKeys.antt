@@ -3,16 +3,16 @@ use Rattle.std.proofs.Common.{ℕ, ◌≡◌, ◌≢◌, ◌+◌, ◌*◌, ◌<�
 use Rattle.mc_theory.specs.Acts.{MayFrom}
 use Rattle.mc_theory.specs.Effects.{history_after, words_after}
 use Rattle.mc_theory.specs.Inner.{DeedFacts}
-use Rattle.mc_theory.specs.Phases.{Closing, Filling, Keyed, Moved, Moving, Phase, Placed, Quiet, Removed, Removing, Renewing, running}
+use Rattle.mc_theory.specs.Phases.{Closing, Filling, Keyed, Moved, Moving, Phase, Placed, Quiet, Removed, Removing, Renewing, deed_key}
 use Rattle.mc_words.proofs.Frames.{SameFor, empty_names_none, moved_names, one_named, same-with_item, same-with_moment, same-with_slot, same-with_version, slot_word-parts}
 use Rattle.mc_words.proofs.Keys.{stripe_of-lt}
 use Rattle.mc_words.proofs.Maps.{held-other}
 use Rattle.mc_words.proofs.Places.{item-with_item_word, item-with_slot, slot-with_item, slot-with_slot_same}
-use Rattle.mc_words.specs.History.{held}
+use Rattle.mc_words.specs.History.{map_value}
 use Rattle.mc_words.specs.Keys.{slot_word}
 use Rattle.mc_words.specs.Places.{item, slot_number, with_item, with_slot, word_count}
 use Rattle.mc_words.specs.Shapes.{IsShape}
-use Rattle.mc_words.specs.Standing.{IsFree, Names, Stands}
+use Rattle.mc_words.specs.Standing.{IsFree, NamesItem, Stands}
 use Rattle.mc_theory.specs.declared.act.Act.{Act}
 use Rattle.mc_words.specs.declared.history.Change.{Change}
 use Rattle.mc_words.specs.declared.shape.Shape.{Shape}
@@ -26,7 +26,7 @@ same_refl V sh w k = record {
   back = λ q i a. a;
 }
 
-pub names_back-with_item : (V : ℕ) (sh : Shape) (w : List ℕ) (i j x q g : ℕ) → Names sh (with_item V sh w i j x) q g → Names sh w q g
+pub names_back-with_item : (V : ℕ) (sh : Shape) (w : List ℕ) (i j x q g : ℕ) → NamesItem sh (with_item V sh w i j x) q g → NamesItem sh w q g
 names_back-with_item V sh w i j x q g a = moved_names sh (with_item V sh w i j x) w q g (sym (slot-with_item V sh w i j x q a.in_table)) a
 
 pub slot_in : (V : ℕ) (sh : Shape) (w : List ℕ) (q : ℕ) → word_count V sh ≤ length w → q < 4 * sh.buckets → 1 + sh.stripes + q < length w
@@ -47,7 +47,7 @@ cleared_stands V sh w q x k g size l e a = empty_names_none sh (with_slot sh w q
 pub one_stands : (V : ℕ) (sh : Shape) (w : List ℕ) (q k f i g : ℕ) → IsShape sh → Stands V sh w k q i → Stands V sh w f q g → k ≡ f
 one_stands V sh w q k f i g s a b = sym a.key ∙ ap (λ y. item V sh w y 0) (one_named sh w q i g s a.names b.names) ∙ b.key
 
-pub step_same : (V : ℕ) (sh : Shape) (w : List ℕ) (hand : ℕ) (cleared : Option ℕ) (h : List (Change V)) (k : ℕ) (p : Phase) (a : Act) → IsShape sh → word_count V sh ≤ length w → DeedFacts V sh w h p → MayFrom V sh w hand cleared p a → running p ≢ Some k → SameFor V sh w (words_after V sh w p a) k
+pub step_same : (V : ℕ) (sh : Shape) (w : List ℕ) (hand : ℕ) (cleared : Option ℕ) (h : List (Change V)) (k : ℕ) (p : Phase) (a : Act) → IsShape sh → word_count V sh ≤ length w → DeedFacts V sh w h p → MayFrom V sh w hand cleared p a → deed_key p ≢ Some k → SameFor V sh w (words_after V sh w p a) k
 step_same V sh w hand cleared h k Quiet (Open f u) s size d may ne = same-with_version V sh w _ _ k (stripe_of-lt sh f s)
 step_same V sh w hand cleared h k Quiet (Hand i) s size d may ne = same_refl V sh w k
 step_same V sh w hand cleared h k Quiet (Mark i) s size d may ne = same_refl V sh w k
@@ -83,7 +83,7 @@ step_same V sh w hand cleared h k (Moved f fresh) (Slot p x) s size d may ne =
 step_same V sh w hand cleared h k (Closing f) Close s size d may ne = same-with_version V sh w _ _ k (stripe_of-lt sh f s)
 step_same V sh w hand cleared h k _ _ s size d may ne = absurd may
 
-pub step_held : (V : ℕ) (sh : Shape) (w : List ℕ) (hand : ℕ) (cleared : Option ℕ) (h : List (Change V)) (k : ℕ) (p : Phase) (a : Act) → MayFrom V sh w hand cleared p a → running p ≢ Some k → held (history_after h p a) k ≡ held h k
+pub step_held : (V : ℕ) (sh : Shape) (w : List ℕ) (hand : ℕ) (cleared : Option ℕ) (h : List (Change V)) (k : ℕ) (p : Phase) (a : Act) → MayFrom V sh w hand cleared p a → deed_key p ≢ Some k → map_value (history_after h p a) k ≡ map_value h k
 step_held V sh w hand cleared h k (Placed f i xs) Moment may ne = held-other h (Put f (take V xs)) k (λ e. ne (ap Some (sym e)))
 step_held V sh w hand cleared h k (Renewing f xs) Moment may ne = held-other h (Put f (take V xs)) k (λ e. ne (ap Some (sym e)))
 step_held V sh w hand cleared h k (Removed f true) Moment may ne = held-other h (Evict f) k (λ e. ne (ap Some (sym e)))

@@ -7,16 +7,16 @@ use Rattle.mc_words.proofs.Maps.{held-put}
 use Rattle.mc_words.specs.declared.history.Change.TheVariants.{Put}
 use Rattle.mc_theory.proofs.Invariant.OtherKeys.{cleared_stands, names_back-with_item, slot_in, written_stands}
 use Rattle.mc_theory.specs.Acts.{MayOpen}
-use Rattle.mc_theory.specs.Inner.{DeedFacts, IsReady, StandsTwice}
-use Rattle.mc_theory.specs.Phases.{opened}
+use Rattle.mc_theory.specs.Inner.{DeedFacts, IsFillReady, StandsTwice}
+use Rattle.mc_theory.specs.Phases.{first_phase}
 use Rattle.mc_words.proofs.Frames.{SameFor, agrees_on, begins_on, empty_names_none, moved_names}
 use Rattle.mc_words.proofs.Keys.{alternate-alternate, tag_of-lt}
 use Rattle.mc_words.proofs.Places.{item-with_item_other, item-with_item_same, item-with_item_word, item-with_slot, slot-with_item, slot-with_slot_other, slot-with_slot_same}
-use Rattle.mc_words.specs.History.{held}
+use Rattle.mc_words.specs.History.{map_value}
 use Rattle.mc_words.specs.Keys.{IsBucketOf, alternate, first_of, slot_word, tag_of}
 use Rattle.mc_words.specs.Places.{item, payload, slot, slot_number, with_item, with_slot, word_count}
 use Rattle.mc_words.specs.Shapes.{IsShape}
-use Rattle.mc_words.specs.Standing.{AgreesAt, Begins, HasValue, IsAbsent, IsEmpty, IsFree, IsPresent, Names, OnlyAt, Stands}
+use Rattle.mc_words.specs.Standing.{AgreesAt, ItemBegins, HasValue, IsAbsent, IsEmpty, IsFree, IsPresent, NamesItem, OnlyAt, Stands}
 use Rattle.mc_theory.specs.declared.act.Deed.{Deed}
 use Rattle.mc_words.specs.declared.history.Change.{Change}
 use Rattle.mc_words.specs.declared.place.Place.{Place}
@@ -39,7 +39,7 @@ pub absent_on : (V : ℕ) (sh : Shape) (w x : List ℕ) (k : ℕ) → SameFor V 
 absent_on V sh w x k s a = λ q i h. a q i (s.back q i h)
 
 -- ---- a change of the first words that were written: the map then holds them all
-pub held-written : {V : ℕ} (h : List (Change V)) (k : ℕ) (xs : List ℕ) → length xs ≡ payload V → held (h ++ Put k (take V xs) ∷ []) k ≡ Some xs
+pub held-written : {V : ℕ} (h : List (Change V)) (k : ℕ) (xs : List ℕ) → length xs ≡ payload V → map_value (h ++ Put k (take V xs) ∷ []) k ≡ Some xs
 unfolding payload
 held-written {V} h k xs l = held-put h k (take V xs) ∙ ap Some (take_all V xs (omega (arith, l)))
 
@@ -48,26 +48,26 @@ pub bucket_of_number : (p : Place) → p.slot < 4 → slot_number p / 4 ≡ p.bu
 bucket_of_number p l = omega arith
 
 -- ---- open
-pub open_facts : (V : ℕ) (sh : Shape) (w x : List ℕ) (cleared : Option ℕ) (h : List (Change V)) (k : ℕ) (d : Deed) → SameFor V sh w x k → AgreesAt V sh w k (held h k) → k < 2 ^ 64 → MayOpen V sh w cleared k d → DeedFacts V sh x h (opened k d)
-open_facts V sh w x cleared h k deed.Fill s a l may = (l, absent_on V sh w x k s may.0, held_from_absent V sh w k (held h k) a may.0)
+pub open_facts : (V : ℕ) (sh : Shape) (w x : List ℕ) (cleared : Option ℕ) (h : List (Change V)) (k : ℕ) (d : Deed) → SameFor V sh w x k → AgreesAt V sh w k (map_value h k) → k < 2 ^ 64 → MayOpen V sh w cleared k d → DeedFacts V sh x h (first_phase k d)
+open_facts V sh w x cleared h k deed.Fill s a l may = (l, absent_on V sh w x k s may.0, held_from_absent V sh w k (map_value h k) a may.0)
 open_facts V sh w x cleared h k deed.Renew s a l may =
-    let here = held_from_present V sh w k (held h k) a may in
+    let here = held_from_present V sh w k (map_value h k) a may in
     let after = agrees_on V sh w x k (Some here.0) s here.2 in
-    ((after.0, after.1, after.2, λ j b. absurd (omega arith)), omega arith, some_from (held h k) here.0 here.1)
+    ((after.0, after.1, after.2, λ j b. absurd (omega arith)), omega arith, some_from (map_value h k) here.0 here.1)
 open_facts V sh w x cleared h k deed.Remove s a l may =
-    let here = held_from_present V sh w k (held h k) a may in
+    let here = held_from_present V sh w k (map_value h k) a may in
     let after = agrees_on V sh w x k (Some here.0) s here.2 in
-    ((after.0, after.1, after.2), some_from (held h k) here.0 here.1)
+    ((after.0, after.1, after.2), some_from (map_value h k) here.0 here.1)
 open_facts V sh w x cleared h k deed.Evict s a l may =
-    let here = held_from_present V sh w k (held h k) a (may.0, may.1, may.2) in
+    let here = held_from_present V sh w k (map_value h k) a (may.0, may.1, may.2) in
     let after = agrees_on V sh w x k (Some here.0) s here.2 in
-    ((after.0, after.1, after.2), some_from (held h k) here.0 here.1)
+    ((after.0, after.1, after.2), some_from (map_value h k) here.0 here.1)
 open_facts V sh w x cleared h k deed.Move s a l may =
-    let here = held_from_present V sh w k (held h k) a may in
+    let here = held_from_present V sh w k (map_value h k) a may in
     (here.0, here.1, agrees_on V sh w x k (Some here.0) s here.2)
 
 -- ---- a fill
-pub keyed_facts : (V : ℕ) (sh : Shape) (w : List ℕ) (k i : ℕ) → word_count V sh ≤ length w → k < 2 ^ 64 → IsAbsent V sh w k → i < sh.items → IsFree sh w i → IsReady V sh (with_item V sh w i 0 k) k i []
+pub keyed_facts : (V : ℕ) (sh : Shape) (w : List ℕ) (k i : ℕ) → word_count V sh ≤ length w → k < 2 ^ 64 → IsAbsent V sh w k → i < sh.items → IsFree sh w i → IsFillReady V sh (with_item V sh w i 0 k) k i []
 keyed_facts V sh w k i size l none below free = record {
   in_range = l;
   in_items = below;
@@ -75,14 +75,14 @@ keyed_facts V sh w k i size l none below free = record {
   key = item-with_item_same V sh w i 0 k below (omega arith) size;
   absent = λ q g a.
       let back = names_back-with_item V sh w i 0 k q g a.names in
-      let apart : i ≢ g = λ e. free q (subst (λ (y : ℕ). Names sh w q y) (sym e) back) in
+      let apart : i ≢ g = λ e. free q (subst (λ (y : ℕ). NamesItem sh w q y) (sym e) back) in
       none q g (record { names = back; key = sym (item-with_item_other V sh w i 0 k g 0 apart (omega arith) (omega arith)) ∙ a.key });
   fits = omega arith;
   begins = λ j b. absurd (omega arith);
 }
 
 -- the value words so far, after one more
-pub begins_more : (V : ℕ) (sh : Shape) (w : List ℕ) (i x : ℕ) (xs : List ℕ) → word_count V sh ≤ length w → i < sh.items → length xs + 1 ≤ payload V → Begins V sh w i xs → Begins V sh (with_item V sh w i (length xs + 1) x) i (xs ++ x ∷ [])
+pub begins_more : (V : ℕ) (sh : Shape) (w : List ℕ) (i x : ℕ) (xs : List ℕ) → word_count V sh ≤ length w → i < sh.items → length xs + 1 ≤ payload V → ItemBegins V sh w i xs → ItemBegins V sh (with_item V sh w i (length xs + 1) x) i (xs ++ x ∷ [])
 begins_more V sh w i x xs size below l b j h =
     elim (cases_eq j (length xs)) [
       | inl e ↦
@@ -92,7 +92,7 @@ begins_more V sh w i x xs size below l b j h =
           item-with_item_word V sh w i (length xs + 1) x (j + 1) (omega arith) ∙ b j less ∙ sym (get_or_append_left xs (x ∷ []) 0 j less)
     ]
 
-pub ready_more : (V : ℕ) (sh : Shape) (w : List ℕ) (k i x : ℕ) (xs : List ℕ) → word_count V sh ≤ length w → length xs + 1 ≤ payload V → IsReady V sh w k i xs → IsReady V sh (with_item V sh w i (length xs + 1) x) k i (xs ++ x ∷ [])
+pub ready_more : (V : ℕ) (sh : Shape) (w : List ℕ) (k i x : ℕ) (xs : List ℕ) → word_count V sh ≤ length w → length xs + 1 ≤ payload V → IsFillReady V sh w k i xs → IsFillReady V sh (with_item V sh w i (length xs + 1) x) k i (xs ++ x ∷ [])
 ready_more V sh w k i x xs size l r = record {
   in_range = r.in_range;
   in_items = r.in_items;
@@ -100,14 +100,14 @@ ready_more V sh w k i x xs size l r = record {
   key = item-with_item_word V sh w i (length xs + 1) x 0 (omega arith) ∙ r.key;
   absent = λ q g a.
       let back = names_back-with_item V sh w i (length xs + 1) x q g a.names in
-      let apart : i ≢ g = λ e. r.free q (subst (λ (y : ℕ). Names sh w q y) (sym e) back) in
+      let apart : i ≢ g = λ e. r.free q (subst (λ (y : ℕ). NamesItem sh w q y) (sym e) back) in
       r.absent q g (record { names = back; key = sym (item-with_item_other V sh w i (length xs + 1) x g 0 apart l (omega arith)) ∙ a.key });
   fits = omega (arith, length_push xs x);
   begins = begins_more V sh w i x xs size r.in_items l r.begins;
 }
 
 -- a key that stood nowhere, at an item that a slot names now
-pub placed_only : (V : ℕ) (sh : Shape) (w : List ℕ) (k i p x : ℕ) (xs : List ℕ) → IsShape sh → word_count V sh ≤ length w → IsReady V sh w k i xs → IsEmpty sh w p → IsBucketOf sh k (p / 4) → x ≡ slot_word (tag_of sh k) i → OnlyAt V sh (with_slot sh w p x) k p i
+pub placed_only : (V : ℕ) (sh : Shape) (w : List ℕ) (k i p x : ℕ) (xs : List ℕ) → IsShape sh → word_count V sh ≤ length w → IsFillReady V sh w k i xs → IsEmpty sh w p → IsBucketOf sh k (p / 4) → x ≡ slot_word (tag_of sh k) i → OnlyAt V sh (with_slot sh w p x) k p i
 placed_only V sh w k i p x xs s size r empty bucket e =
     let word : slot sh (with_slot sh w p x) p ≡ slot_word (tag_of sh k) i = slot-with_slot_same sh w p x (slot_in V sh w p size empty.0) ∙ e in
     record {

@@ -19,7 +19,7 @@ use Rattle.mc_theory.proofs.Invariant.PlainParts.{length_after}
 
 -- ---- the version changes
 pub state_counted_after : {V : ℕ} (sh : Shape) (s : State V) (a : Act) (bit : ℕ) → IsShape sh → StateHolds sh s → IsAllowed sh s a → StateCounted sh s → StateCounted sh (after_act sh s a bit)
-state_counted_after {V} sh s a bit shape i may c = counted_after V sh s.words s.hand s.cleared s.history s.changes s.phase a shape i.agrees.size may c
+state_counted_after {V} sh s a bit shape i may c = counted_after V sh s.words s.hand s.cleared s.history s.version_steps s.phase a shape i.agrees.size may c
 
 pub counted_all : {V : ℕ} (sh : Shape) (s : State V) (xs : List Made) → IsShape sh → StateHolds sh s → AreAllowed sh s xs → StateCounted sh s → StateCounted sh (after_all sh s xs)
 counted_all sh s [] shape i l c = c

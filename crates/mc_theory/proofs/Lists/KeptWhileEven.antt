@@ -6,14 +6,14 @@ use Rattle.mc_theory.proofs.Invariant.EachState.{holds_after}
 use Rattle.mc_theory.specs.Inner.{StateHolds}
 use Rattle.mc_theory.proofs.Invariant.OtherKeys.{same_refl, step_held, step_same}
 use Rattle.mc_theory.specs.Acts.{IsAllowed, MayFrom}
-use Rattle.mc_theory.specs.Effects.{after_act, bumped, closed, words_after}
+use Rattle.mc_theory.specs.Effects.{after_act, with_bump, with_close, words_after}
 use Rattle.mc_theory.specs.Lists.{AreAllowed, Made, after_all}
-use Rattle.mc_theory.specs.Phases.{Closing, Filling, Keyed, Moved, Moving, Phase, Placed, Quiet, Removed, Removing, Renewing, running}
+use Rattle.mc_theory.specs.Phases.{Closing, Filling, Keyed, Moved, Moving, Phase, Placed, Quiet, Removed, Removing, Renewing, deed_key}
 use Rattle.mc_theory.specs.States.{State}
 use Rattle.mc_words.proofs.Frames.{SameFor, stands_on}
 use Rattle.mc_words.proofs.Keys.{stripe_of-lt}
 use Rattle.mc_words.proofs.Places.{item-with_item_other, item-with_item_same, item-with_moment, item-with_slot, item-with_version, version-with_item, version-with_moment, version-with_slot, version-with_version_other, version-with_version_same}
-use Rattle.mc_words.specs.History.{held}
+use Rattle.mc_words.specs.History.{map_value}
 use Rattle.mc_words.specs.Keys.{stripe_of}
 use Rattle.mc_words.specs.Places.{item, moment, slot_number, version, with_item, word_count}
 use Rattle.mc_words.specs.Shapes.{IsShape}
@@ -24,14 +24,14 @@ use Rattle.mc_words.specs.declared.shape.Shape.{Shape}
 use Rattle.mc_theory.specs.declared.act.Act.TheVariants.{Open, Slot, Item, Moment, Close, Hand, Mark}
 
 -- ---- versions do not fall
-grows_bumped : (sh : Shape) (w : List ℕ) (V k t : ℕ) → word_count V sh ≤ length w → IsShape sh → version w t ≤ version (bumped sh w k) t
+grows_bumped : (sh : Shape) (w : List ℕ) (V k t : ℕ) → word_count V sh ≤ length w → IsShape sh → version w t ≤ version (with_bump sh w k) t
 grows_bumped sh w V k t size s =
     elim (cases_eq t (stripe_of sh k)) [
       | inl e ↦ rw (e, version-with_version_same w (stripe_of sh k) (version w (stripe_of sh k) + 1) (omega (arith, stripe_of-lt sh k s))) (omega arith)
       | inr ne ↦ rw (version-with_version_other w (stripe_of sh k) t (version w (stripe_of sh k) + 1) ne) (omega arith)
     ]
 
-grows_closed : (sh : Shape) (w : List ℕ) (V : ℕ) (o : Option ℕ) (t : ℕ) → word_count V sh ≤ length w → IsShape sh → version w t ≤ version (closed sh w o) t
+grows_closed : (sh : Shape) (w : List ℕ) (V : ℕ) (o : Option ℕ) (t : ℕ) → word_count V sh ≤ length w → IsShape sh → version w t ≤ version (with_close sh w o) t
 grows_closed sh w V None t size s = omega arith
 grows_closed sh w V (Some k) t size s = grows_bumped sh w V k t size s
 
@@ -40,13 +40,13 @@ version_grows V sh w p (Open k u) t s size l = grows_bumped sh w V k t size s
 version_grows V sh w p (Slot q x) t s size l = rw (version-with_slot sh w (slot_number q) x t l) (omega arith)
 version_grows V sh w p (Item i j x) t s size l = rw (version-with_item V sh w i j x t l) (omega arith)
 version_grows V sh w p Moment t s size l = omega (arith, version-with_moment w t (moment w + 1))
-version_grows V sh w p Close t s size l = grows_closed sh w V (running p) t size s
+version_grows V sh w p Close t s size l = grows_closed sh w V (deed_key p) t size s
 version_grows V sh w p (Hand i) t s size l = omega arith
 version_grows V sh w p (Mark i) t s size l = omega arith
 
 -- ---- one act
 -- the key of a running deed has an odd stripe
-pub even_not_running : (V : ℕ) (sh : Shape) (w : List ℕ) (p : Phase) (h : List (Change V)) (k : ℕ) → IsShape sh → Agrees V sh w (running p) h → version w (stripe_of sh k) % 2 ≡ 0 → running p ≢ Some k
+pub even_not_running : (V : ℕ) (sh : Shape) (w : List ℕ) (p : Phase) (h : List (Change V)) (k : ℕ) → IsShape sh → Agrees V sh w (deed_key p) h → version w (stripe_of sh k) % 2 ≡ 0 → deed_key p ≢ Some k
 even_not_running V sh w p h k s g even e =
     let odd : version w (stripe_of sh k) % 2 ≡ odd_at sh (Some k) (stripe_of sh k) = subst (λ (o : Option ℕ). version w (stripe_of sh k) % 2 ≡ odd_at sh o (stripe_of sh k)) e (g.versions (stripe_of sh k) (stripe_of-lt sh k s)) in
     let one : odd_at sh (Some k) (stripe_of sh k) ≡ 1 = rw (eq-eqb (stripe_of sh k) (stripe_of sh k) refl) refl in
@@ -59,7 +59,7 @@ NoNew V sh w x k = (i : ℕ) → item V sh x i 0 ≡ k → item V sh w i 0 ≡ k
 no_new_same : (V : ℕ) (sh : Shape) (w x : List ℕ) (k : ℕ) → ((i : ℕ) → item V sh x i 0 ≡ item V sh w i 0) → NoNew V sh w x k
 no_new_same V sh w x k same i e = sym (same i) ∙ e
 
-step_no_new : (V : ℕ) (sh : Shape) (w : List ℕ) (hand : ℕ) (cleared : Option ℕ) (k : ℕ) (p : Phase) (a : Act) → IsShape sh → word_count V sh ≤ length w → MayFrom V sh w hand cleared p a → running p ≢ Some k → NoNew V sh w (words_after V sh w p a) k
+step_no_new : (V : ℕ) (sh : Shape) (w : List ℕ) (hand : ℕ) (cleared : Option ℕ) (k : ℕ) (p : Phase) (a : Act) → IsShape sh → word_count V sh ≤ length w → MayFrom V sh w hand cleared p a → deed_key p ≢ Some k → NoNew V sh w (words_after V sh w p a) k
 step_no_new V sh w hand cleared k Quiet (Open f u) s size may ne = no_new_same V sh w _ k (λ i. item-with_version V sh w _ _ i 0 (stripe_of-lt sh f s))
 step_no_new V sh w hand cleared k Quiet (Hand i) s size may ne = λ g e. e
 step_no_new V sh w hand cleared k Quiet (Mark i) s size may ne = λ g e. e
@@ -87,7 +87,7 @@ step_no_new V sh w hand cleared k _ _ s size may ne = absurd may
 pub record Kept {V : ℕ} (sh : Shape) (s t : State V) (k : ℕ) : Type 0 where
   pub same : SameFor V sh s.words t.words k
   pub no_new : NoNew V sh s.words t.words k
-  pub told : held t.history k ≡ held s.history k
+  pub told : map_value t.history k ≡ map_value s.history k
 
 kept_refl : {V : ℕ} (sh : Shape) (s : State V) (k : ℕ) → Kept sh s s k
 kept_refl {V} sh s k = record { same = same_refl V sh s.words k; no_new = λ i e. e; told = refl }

@@ -4,7 +4,7 @@ use Rattle.std.specs.Prelude.{All}
 use Rattle.std.proofs.lemmas.List.{length-take-le}
 use Rattle.std.proofs.lemmas.List.Elements.{All-nil, All-push, All-take}
 use Rattle.mc_theory.specs.Acts.{MayFrom}
-use Rattle.mc_theory.specs.Effects.{after_act, history_after, phase_after, taken_out}
+use Rattle.mc_theory.specs.Effects.{after_act, history_after, phase_after, removal_of}
 use Rattle.mc_theory.specs.Laws.{ChangesFit}
 use Rattle.mc_theory.specs.Lists.{AreAllowed, IsLawful, Made, after_all, front}
 use Rattle.mc_theory.specs.Phases.{Closing, Filling, Keyed, Moved, Moving, Phase, Placed, Quiet, Removed, Removing, Renewing}
@@ -34,7 +34,7 @@ put_fits : (V k : ℕ) (xs : List ℕ) → IsWord k → All IsWord xs → length
 unfolding payload
 put_fits V k xs key words fits = (key, length-take-le V xs (omega (arith, fits)), All-take IsWord V xs words)
 
-taken_out_fits : (V k : ℕ) (e : Bool) → IsWord k → IsChange {V = V} (taken_out e k)
+taken_out_fits : (V k : ℕ) (e : Bool) → IsWord k → IsChange {V = V} (removal_of e k)
 taken_out_fits V k true key = key
 taken_out_fits V k false key = key
 
@@ -54,7 +54,7 @@ fits_after V sh w hand cleared h (Placed k i xs) Moment may all fits = (All-push
 fits_after V sh w hand cleared h (Renewing k xs) (Item i j x) may all fits = (all, (fits.0, All-push IsWord xs x fits.1 may.2))
 fits_after V sh w hand cleared h (Renewing k xs) Moment may all fits = (All-push IsChange h (Put k (take V xs)) all (put_fits V k xs fits.0 fits.1 may), tt)
 fits_after V sh w hand cleared h (Removing k e) (Slot q x) may all fits = (all, fits)
-fits_after V sh w hand cleared h (Removed k e) Moment may all fits = (All-push IsChange h (taken_out e k) all (taken_out_fits V k e fits), tt)
+fits_after V sh w hand cleared h (Removed k e) Moment may all fits = (All-push IsChange h (removal_of e k) all (taken_out_fits V k e fits), tt)
 fits_after V sh w hand cleared h (Moving k) (Slot q x) may all fits = (all, tt)
 fits_after V sh w hand cleared h (Moved k fresh) (Slot q x) may all fits = (all, tt)
 fits_after V sh w hand cleared h (Closing k) Close may all fits = (all, tt)

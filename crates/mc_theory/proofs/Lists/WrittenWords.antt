@@ -14,13 +14,13 @@ use Rattle.mc_words.specs.declared.place.Place.{Place}
 use Rattle.mc_words.specs.declared.shape.Shape.{Shape}
 use Rattle.mc_words.specs.declared.history.Change.{Change}
 use Rattle.mc_theory.specs.Acts.{IsAllowed, MayFrom}
-use Rattle.mc_theory.specs.Effects.{after_act, changes_after, closed, words_after}
+use Rattle.mc_theory.specs.Effects.{after_act, version_steps_after, with_close, words_after}
 use Rattle.mc_theory.specs.Inner.{DeedFacts, IsCounted, StateCounted, StateHolds}
 use Rattle.mc_theory.specs.Lists.{AreAllowed, IsLawful, Made, after_all, front, state_of}
-use Rattle.mc_theory.specs.Phases.{Phase, Quiet, Filling, Keyed, Placed, Renewing, Removing, Removed, Moving, Moved, Closing, running}
+use Rattle.mc_theory.specs.Phases.{Phase, Quiet, Filling, Keyed, Placed, Renewing, Removing, Removed, Moving, Moved, Closing, deed_key}
 use Rattle.mc_theory.specs.Readings.{IsWordOf}
 use Rattle.mc_theory.specs.States.{State, opening}
-use Rattle.mc_theory.specs.Writes.{ActsNameTheTable, NamesIn, bump_of, write_of, written, FitsIn, place_read, IsAccess, WritesItsWord, KeepsItsWords, WordsFit, ReadsItsWord}
+use Rattle.mc_theory.specs.Writes.{ActsNameTheTable, NamesIn, bump_of, write_of, with_write, FitsIn, place_read, IsAccess, WritesItsWord, KeepsItsWords, WordsFit, ReadsItsWord}
 use Rattle.mc_theory.specs.declared.access.Access.{Access}
 use Rattle.mc_theory.specs.declared.access.Access.TheVariants as access
 use Rattle.mc_theory.specs.declared.act.Act.{Act}
@@ -30,19 +30,19 @@ use Rattle.mc_theory.proofs.Lists.Fronts.{allowed_take, state_holds}
 use Rattle.mc_theory.proofs.Invariant.EachState.{holds_after, opening_holds}
 
 -- ---- the word
-closed_written : (sh : Shape) (w : List ℕ) (o : Option ℕ) → closed sh w o ≡ written w (bump_of sh w o)
+closed_written : (sh : Shape) (w : List ℕ) (o : Option ℕ) → with_close sh w o ≡ with_write w (bump_of sh w o)
 unfolding with_version
 closed_written sh w None = refl
 closed_written sh w (Some k) = refl
 
 -- what an act leaves is a write of the word that it names
-pub words_written : (V : ℕ) (sh : Shape) (w : List ℕ) (p : Phase) (a : Act) → words_after V sh w p a ≡ written w (write_of V sh w p a)
+pub words_written : (V : ℕ) (sh : Shape) (w : List ℕ) (p : Phase) (a : Act) → words_after V sh w p a ≡ with_write w (write_of V sh w p a)
 unfolding with_version with_moment with_slot with_item
 words_written V sh w p (Open k d) = refl
 words_written V sh w p (Slot q x) = refl
 words_written V sh w p (Item i j x) = refl
 words_written V sh w p Moment = refl
-words_written V sh w p Close = closed_written sh w (running p)
+words_written V sh w p Close = closed_written sh w (deed_key p)
 words_written V sh w p (Hand i) = refl
 words_written V sh w p (Mark i) = refl
 
@@ -63,7 +63,7 @@ item_fits V sh w i j x size a b fits = (omega (arith, row_below (payload V) i j 
 items_small : (sh : Shape) (i : ℕ) → IsShape sh → i < sh.items → i < 2 ^ 32
 items_small sh i s l = omega (arith, s.items.1, s.buckets.1)
 
-pub write_fits : (V : ℕ) (sh : Shape) (w : List ℕ) (hand : ℕ) (cleared : Option ℕ) (h : List (Change V)) (c : ℕ) (p : Phase) (a : Act) → IsShape sh → word_count V sh ≤ length w → moment w ≡ length h → DeedFacts V sh w h p → IsCounted sh w p (length h) c → changes_after c a < 2 ^ 64 → MayFrom V sh w hand cleared p a → FitsIn w (write_of V sh w p a)
+pub write_fits : (V : ℕ) (sh : Shape) (w : List ℕ) (hand : ℕ) (cleared : Option ℕ) (h : List (Change V)) (c : ℕ) (p : Phase) (a : Act) → IsShape sh → word_count V sh ≤ length w → moment w ≡ length h → DeedFacts V sh w h p → IsCounted sh w p (length h) c → version_steps_after c a < 2 ^ 64 → MayFrom V sh w hand cleared p a → FitsIn w (write_of V sh w p a)
 write_fits V sh w hand cleared h c Quiet (Open k u) s size at d n l may = bump_fits V sh w k c s size n.versions l
 write_fits V sh w hand cleared h c Quiet (Hand i) s size at d n l may = tt
 write_fits V sh w hand cleared h c Quiet (Mark i) s size at d n l may = tt
@@ -113,7 +113,7 @@ acts_name_the_table V sh acts a shape l may =
 
 -- ---- the version changes
 -- an act leaves as many, or one more
-changes_le : (c : ℕ) (a : Act) → (c ≤ changes_after c a) × (changes_after c a ≤ c + 1)
+changes_le : (c : ℕ) (a : Act) → (c ≤ version_steps_after c a) × (version_steps_after c a ≤ c + 1)
 changes_le c (Open k d) = (omega arith, omega arith)
 changes_le c (Slot q x) = (omega arith, omega arith)
 changes_le c (Item i j x) = (omega arith, omega arith)
@@ -123,18 +123,18 @@ changes_le c (Hand i) = (omega arith, omega arith)
 changes_le c (Mark i) = (omega arith, omega arith)
 
 -- acts leave no fewer
-changes_rise : {V : ℕ} (sh : Shape) (s : State V) (xs : List Made) → s.changes ≤ (after_all sh s xs).changes
+changes_rise : {V : ℕ} (sh : Shape) (s : State V) (xs : List Made) → s.version_steps ≤ (after_all sh s xs).version_steps
 changes_rise sh s [] = omega arith
 changes_rise {V} sh s (x ∷ xs) =
-    let one : s.changes ≤ changes_after s.changes x.act = (changes_le s.changes x.act).0 in
-    let rest : changes_after s.changes x.act ≤ (after_all sh (after_act sh s x.act x.bit) xs).changes = changes_rise sh (after_act sh s x.act x.bit) xs in
+    let one : s.version_steps ≤ version_steps_after s.version_steps x.act = (changes_le s.version_steps x.act).0 in
+    let rest : version_steps_after s.version_steps x.act ≤ (after_all sh (after_act sh s x.act x.bit) xs).version_steps = changes_rise sh (after_act sh s x.act x.bit) xs in
     omega (arith, one, rest)
 
 pub writes_its_word : (V : ℕ) → WritesItsWord V
 writes_its_word V sh acts m shape l may most =
     let i = state_holds V sh acts shape l in (
       words_written V sh _ _ m.act,
-      write_fits V sh _ _ _ _ _ _ m.act shape i.agrees.size i.agrees.at_moment i.deed (state_counted V sh acts shape l) (omega (arith, most, (changes_le (state_of V sh acts).changes m.act).1)) may,
+      write_fits V sh _ _ _ _ _ _ m.act shape i.agrees.size i.agrees.at_moment i.deed (state_counted V sh acts shape l) (omega (arith, most, (changes_le (state_of V sh acts).version_steps m.act).1)) may,
     )
 
 pub keeps_its_words : (V : ℕ) → KeepsItsWords V
@@ -142,22 +142,22 @@ keeps_its_words V = front_length V
 
 -- ---- the words of every front
 -- a write of a word below 2^64
-fit_written : (w : List ℕ) (o : Option (ℕ × ℕ)) → FitsIn w o → All IsWord w → All IsWord (written w o)
+fit_written : (w : List ℕ) (o : Option (ℕ × ℕ)) → FitsIn w o → All IsWord w → All IsWord (with_write w o)
 fit_written w None fits all = all
 fit_written w (Some at) fits all = All-set IsWord w at.0 at.1 fits.1 all
 
 -- one act keeps each word below 2^64
-fit_after : {V : ℕ} (sh : Shape) (s : State V) (a : Act) (bit : ℕ) → IsShape sh → StateHolds sh s → StateCounted sh s → IsAllowed sh s a → changes_after s.changes a < 2 ^ 64 → All IsWord s.words → All IsWord (after_act sh s a bit).words
+fit_after : {V : ℕ} (sh : Shape) (s : State V) (a : Act) (bit : ℕ) → IsShape sh → StateHolds sh s → StateCounted sh s → IsAllowed sh s a → version_steps_after s.version_steps a < 2 ^ 64 → All IsWord s.words → All IsWord (after_act sh s a bit).words
 fit_after {V} sh s a bit shape i c may few all =
     subst (All IsWord) (sym (words_written V sh s.words s.phase a))
-    (fit_written s.words (write_of V sh s.words s.phase a) (write_fits V sh s.words s.hand s.cleared s.history s.changes s.phase a shape i.agrees.size i.agrees.at_moment i.deed c few may) all)
+    (fit_written s.words (write_of V sh s.words s.phase a) (write_fits V sh s.words s.hand s.cleared s.history s.version_steps s.phase a shape i.agrees.size i.agrees.at_moment i.deed c few may) all)
 
 -- and so do acts one after the other
-fit_all : {V : ℕ} (sh : Shape) (s : State V) (xs : List Made) → IsShape sh → StateHolds sh s → StateCounted sh s → AreAllowed sh s xs → (after_all sh s xs).changes < 2 ^ 64 → All IsWord s.words → All IsWord (after_all sh s xs).words
+fit_all : {V : ℕ} (sh : Shape) (s : State V) (xs : List Made) → IsShape sh → StateHolds sh s → StateCounted sh s → AreAllowed sh s xs → (after_all sh s xs).version_steps < 2 ^ 64 → All IsWord s.words → All IsWord (after_all sh s xs).words
 fit_all sh s [] shape i c l few all = all
 fit_all {V} sh s (x ∷ xs) shape i c l few all =
     let next = after_act sh s x.act x.bit in
-    let up : changes_after s.changes x.act ≤ (after_all sh next xs).changes = changes_rise sh next xs in
+    let up : version_steps_after s.version_steps x.act ≤ (after_all sh next xs).version_steps = changes_rise sh next xs in
     fit_all sh next xs shape (holds_after sh s x.act x.bit shape i l.0) (state_counted_after sh s x.act x.bit shape i l.0 c) l.1 few
     (fit_after sh s x.act x.bit shape i c l.0 (omega (arith, up, few)) all)
 

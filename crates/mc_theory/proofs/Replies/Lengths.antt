@@ -4,7 +4,7 @@ use Rattle.mc_words.specs.Places.{payload}
 use Rattle.mc_words.specs.declared.history.Reply.{Reply}
 use Rattle.mc_words.specs.declared.place.Place.{Place}
 use Rattle.mc_words.specs.declared.shape.Shape.{Shape}
-use Rattle.mc_theory.specs.Lookups.{Scans, ReadsValues, ReadsHit, Tries, IsSpoiled, Marks, IsLookup, slots_for}
+use Rattle.mc_theory.specs.Lookups.{Scans, ReadsValues, ReadsHit, Tries, IsSpoiled, MarksHit, IsLookup, slots_for}
 use Rattle.mc_theory.specs.Readings.{Reading}
 
 -- at most two readings a slot
@@ -47,7 +47,7 @@ spoiled_length V sh k rs spoiled = elim spoiled [
   | inr other ↦ try_length V sh k rs other.0 other.1 other.2 other.3 other.4 other.6
 ]
 
-marks_length : (hit : Option ℕ) (rs : List Reading) → Marks hit rs → length rs ≤ 1
+marks_length : (hit : Option ℕ) (rs : List Reading) → MarksHit hit rs → length rs ≤ 1
 marks_length None rs marks = let none = ap length marks in omega (arith, none)
 marks_length (Some i) rs marks = let one = ap length marks.1 in omega (arith, one)
 

@@ -1,7 +1,7 @@
 -- What the readings of the slots and of the value words say of the first front of their window.
 use Rattle.std.proofs.Common.{ℕ, zero, suc, ◌≡◌, ◌≢◌, ◌+◌, ◌*◌, ◌<◌, ◌≤◌, List, [], ◌∷◌, length, Some, None, get_or, sym, ◌∙◌, ap, subst, inl, inr, arith}
 use Rattle.mc_theory.specs.Lists.{Made, front}
-use Rattle.mc_theory.specs.Lookups.{Meets, ReadsValues, Scans}
+use Rattle.mc_theory.specs.Lookups.{TagMatches, ReadsValues, Scans}
 use Rattle.mc_theory.specs.Readings.{AreRead, IsWordOf, Reading, RiseTo}
 use Rattle.mc_words.proofs.Frames.{slot_word-parts, stands_on}
 use Rattle.mc_words.specs.Keys.{tag_of}
@@ -30,7 +30,7 @@ pub word_at : (V : ℕ) (sh : Shape) (w : List ℕ) (a : Access) (r : Reading) �
 word_at V sh w a r e h = subst (λ (y : Access). IsWordOf V sh w y r.word) e h
 
 -- a hit: the key stands at the item
-pub hit_stands : (V : ℕ) (sh : Shape) (acts : List Made) (k f g : ℕ) (p : Place) (r s : Reading) (i : ℕ) → Window V sh acts k f g → slot_number p < 4 * sh.buckets → tag_of sh k < 256 → f ≤ r.front → r.front ≤ s.front → s.front ≤ g → IsWordOf V sh (front V sh acts r.front).words (Slot p) r.word → IsWordOf V sh (front V sh acts s.front).words (Key i) s.word → Meets sh k r.word i → s.word ≡ k → Stands V sh (front V sh acts f).words k (slot_number p) i
+pub hit_stands : (V : ℕ) (sh : Shape) (acts : List Made) (k f g : ℕ) (p : Place) (r s : Reading) (i : ℕ) → Window V sh acts k f g → slot_number p < 4 * sh.buckets → tag_of sh k < 256 → f ≤ r.front → r.front ≤ s.front → s.front ≤ g → IsWordOf V sh (front V sh acts r.front).words (Slot p) r.word → IsWordOf V sh (front V sh acts s.front).words (Key i) s.word → TagMatches sh k r.word i → s.word ≡ k → Stands V sh (front V sh acts f).words k (slot_number p) i
 hit_stands V sh acts k f g p r s i w table tag a b c slot_is key_is meets e =
     let then : Stands V sh (front V sh acts r.front).words k (slot_number p) i = record {
       names = record { tag = tag_of sh k; in_table = table; in_items = meets.0; is_tag = tag; word = sym slot_is ∙ meets.1 };
@@ -78,7 +78,7 @@ scan_miss V sh acts k f g d e q i (p ∷ ps) rs shape w a b read rise scan st =
     let end : r.front ≤ e = rise_le r.front scan.1 e up.1 in
     let still : Stands V sh (front V sh acts r.front).words k q i = stands_on V sh _ _ k q i (w.kept f r.front (omega arith) (omega (arith, up.0)) (omega arith)).same st in
     let tagged = (tag_from_agree V sh _ k q i _ (w.agrees r.front (omega (arith, up.0)) (omega arith)) still).0 in
-    let meets : slot_number p ≡ q → Meets sh k r.word i = λ h. (st.names.in_items, word ∙ ap (λ y. slot sh (front V sh acts r.front).words y) h ∙ tagged) in
+    let meets : slot_number p ≡ q → TagMatches sh k r.word i = λ h. (st.names.in_items, word ∙ ap (λ y. slot sh (front V sh acts r.front).words y) h ∙ tagged) in
     elim scan.4 [
       | inl x ↦ (λ h. x.0 i (meets h), scan_miss V sh acts k f g r.front e q i ps scan.1 shape w (omega (arith, up.0)) b here.1 up.1 x.1 st)
       | inr y ↦

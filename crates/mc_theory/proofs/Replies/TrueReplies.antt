@@ -11,7 +11,7 @@ use Rattle.mc_theory.specs.Readings.{AreRead, Reading, RiseTo}
 use Rattle.mc_theory.specs.States.{State}
 use Rattle.mc_words.proofs.Frames.{stands_on}
 use Rattle.mc_words.proofs.Keys.{alternate-lt, first_of-lt, tag_of-lt}
-use Rattle.mc_words.specs.History.{IsTrueAnswer, held}
+use Rattle.mc_words.specs.History.{IsTrueAnswer, map_value}
 use Rattle.mc_words.specs.Keys.{first_of, second_of, stripe_of, tag_of}
 use Rattle.mc_words.specs.Places.{item, version}
 use Rattle.mc_words.specs.Shapes.{IsShape}
@@ -54,17 +54,17 @@ abbrev pub told_of : Option ℕ → List ℕ → Option (List ℕ)
 told_of None v = None
 told_of (Some i) v = Some v
 
-hit_told : (V : ℕ) (sh : Shape) (acts : List Made) (k f g d b c e : ℕ) (hit : Option ℕ) (v : List ℕ) (scan values : List Reading) → IsShape sh → Window V sh acts k f g → k < 2 ^ 64 → f ≤ d → b ≤ g → f ≤ c → e ≤ g → f ≤ g → AreRead V sh acts scan → RiseTo d scan b → Scans sh k (slots_for sh k) scan hit → AreRead V sh acts values → RiseTo c values e → ReadsHit V hit values v → held (front V sh acts f).history k ≡ told_of hit v
+hit_told : (V : ℕ) (sh : Shape) (acts : List Made) (k f g d b c e : ℕ) (hit : Option ℕ) (v : List ℕ) (scan values : List Reading) → IsShape sh → Window V sh acts k f g → k < 2 ^ 64 → f ≤ d → b ≤ g → f ≤ c → e ≤ g → f ≤ g → AreRead V sh acts scan → RiseTo d scan b → Scans sh k (slots_for sh k) scan hit → AreRead V sh acts values → RiseTo c values e → ReadsHit V hit values v → map_value (front V sh acts f).history k ≡ told_of hit v
 hit_told V sh acts k f g d b c e None v scan values shape w key_in fd bg fc eg fg scan_read scan_rise scans values_read values_rise reads =
-    held_from_absent V sh (front V sh acts f).words k (held (front V sh acts f).history k) (w.agrees f (omega arith) fg) (λ q i st.
+    held_from_absent V sh (front V sh acts f).words k (map_value (front V sh acts f).history k) (w.agrees f (omega arith) fg) (λ q i st.
     let none = scan_miss V sh acts k f g d b q i (slots_for sh k) scan shape w fd bg scan_read scan_rise scans st in
-    elim (tag_from_agree V sh (front V sh acts f).words k q i (held (front V sh acts f).history k) (w.agrees f (omega arith) fg) st).1 [
+    elim (tag_from_agree V sh (front V sh acts f).words k q i (map_value (front V sh acts f).history k) (w.agrees f (omega arith) fg) st).1 [
       | inl y ↦ none_in q (first_of sh k) (slots_of (second_of sh k)) none y
       | inr y ↦ none_in q (second_of sh k) [] (none_after q (first_of sh k) (slots_of (second_of sh k)) none) y
     ])
 hit_told V sh acts k f g d b c e (Some i) v scan values shape w key_in fd bg fc eg fg scan_read scan_rise scans values_read values_rise reads =
     let at = scan_hit V sh acts k f g d b i (slots_for sh k) scan w (tag_of-lt sh k key_in) (slots_for_in sh k shape) fd bg scan_read scan_rise scans in
-    let here = held_from_present V sh (front V sh acts f).words k (held (front V sh acts f).history k) (w.agrees f (omega arith) fg) (at.0, i, at.1) in
+    let here = held_from_present V sh (front V sh acts f).words k (map_value (front V sh acts f).history k) (w.agrees f (omega arith) fg) (at.0, i, at.1) in
     let is : i ≡ here.2.1 = (here.2.2.once at.0 i at.1).1 in
     let val : HasValue V sh (front V sh acts f).words here.2.1 here.0 = here.2.3 in
     let same : v ≡ here.0 = ext_get_or 0 v here.0 (reads.0 ∙ sym val.0) (λ m l.
@@ -75,7 +75,7 @@ hit_told V sh acts k f g d b c e (Some i) v scan values shape w key_in fd bg fc 
     val.1 m (omega (arith, reads.0, val.0))) in
     here.1 ∙ ap Some (sym same)
 
-answer_true : {V : ℕ} (h : List (Change V)) (k at lo hi : ℕ) (hit : Option ℕ) (v : List ℕ) → at ≤ length h → held (take at h) k ≡ told_of hit v → lo ≤ at → at ≤ hi → IsTrueAnswer h k (reply_of {V = V} hit v at) × IsBetween lo hi (reply_of {V = V} hit v at)
+answer_true : {V : ℕ} (h : List (Change V)) (k at lo hi : ℕ) (hit : Option ℕ) (v : List ℕ) → at ≤ length h → map_value (take at h) k ≡ told_of hit v → lo ≤ at → at ≤ hi → IsTrueAnswer h k (reply_of {V = V} hit v at) × IsBetween lo hi (reply_of {V = V} hit v at)
 answer_true h k at lo hi None v a b c d = ((a, b), (c, d))
 answer_true h k at lo hi (Some i) v a b c d = ((a, b), (c, d))
 
@@ -105,13 +105,13 @@ try_true V sh acts k d e rs hit v x at shape lawful key_in within read rise t =
     let w : Window V sh acts k f g = window V sh acts k f g shape lawful (omega arith) (rw same t.even) (sym last ∙ t.last_word ∙ sym same) in
     let is_at : at ≡ length (front V sh acts m).history = sym t.mid_word ∙ mid ∙ w.at_moment m in
     let told = told_at V sh acts m at is_at (omega arith) in
-    let kept : held (front V sh acts m).history k ≡ held (front V sh acts f).history k = (w.kept f m (omega arith) (omega arith) u).told in
+    let kept : map_value (front V sh acts m).history k ≡ map_value (front V sh acts f).history k = (w.kept f m (omega arith) (omega arith) u).told in
     let low : length (front V sh acts d).history ≤ at = omega (arith, is_at, moments_rise V sh acts d m (omega (arith, rise_all.0))) in
     let high : at ≤ length (front V sh acts e).history = omega (arith, is_at, moments_rise V sh acts m e (omega arith)) in
-    let truth : held (front V sh acts f).history k ≡ told_of hit v = hit_told V sh acts k f g f rise_scan.0 rise_scan.0 rise_values.0 hit v t.scan t.values shape w key_in (omega arith) (omega arith) a (omega arith) (omega arith) read_scan.0 rise_scan.1 t.scans read_values.0 rise_values.1 t.reads in
+    let truth : map_value (front V sh acts f).history k ≡ told_of hit v = hit_told V sh acts k f g f rise_scan.0 rise_scan.0 rise_values.0 hit v t.scan t.values shape w key_in (omega arith) (omega arith) a (omega arith) (omega arith) read_scan.0 rise_scan.1 t.scans read_values.0 rise_values.1 t.reads in
     let size : at ≤ length (state_of V sh acts).history = omega (arith, length-take at (state_of V sh acts).history, ap length told, is_at) in
     answer_true (state_of V sh acts).history k at (length (front V sh acts d).history) (length (front V sh acts e).history) hit v size
-    (ap (λ y. held y k) told ∙ kept ∙ truth) low high
+    (ap (λ y. map_value y k) told ∙ kept ∙ truth) low high
 
 wider : {V : ℕ} (r : Reply V) (a b c d : ℕ) → a ≤ b → c ≤ d → IsBetween b c r → IsBetween a d r
 wider (Found v at) a b c d x y h = (omega arith, omega arith)

@@ -4,7 +4,7 @@ use Rattle.mc_theory.proofs.Lists.Fronts.{front_holds, kept_while_even, versions
 use Rattle.mc_theory.proofs.Lists.KeptWhileEven.{Kept, even_not_running}
 use Rattle.mc_theory.specs.Lists.{IsLawful, Made, front}
 use Rattle.mc_words.proofs.Keys.{stripe_of-lt}
-use Rattle.mc_words.specs.History.{held}
+use Rattle.mc_words.specs.History.{map_value}
 use Rattle.mc_words.specs.Keys.{IsBucketOf, slot_word, stripe_of, tag_of}
 use Rattle.mc_words.specs.Places.{moment, slot, version}
 use Rattle.mc_words.specs.Shapes.{IsShape}
@@ -14,7 +14,7 @@ use Rattle.mc_words.specs.declared.shape.Shape.{Shape}
 -- ---- a window in which nothing of the key changes
 pub record Window (V : ℕ) (sh : Shape) (acts : List Made) (k f g : ℕ) : Type 0 where
   pub kept : (d e : ℕ) → f ≤ d → d ≤ e → e ≤ g → Kept sh (front V sh acts d) (front V sh acts e) k
-  pub agrees : (d : ℕ) → f ≤ d → d ≤ g → AgreesAt V sh (front V sh acts d).words k (held (front V sh acts d).history k)
+  pub agrees : (d : ℕ) → f ≤ d → d ≤ g → AgreesAt V sh (front V sh acts d).words k (map_value (front V sh acts d).history k)
   pub at_moment : (d : ℕ) → moment (front V sh acts d).words ≡ length (front V sh acts d).history
 
 pub window : (V : ℕ) (sh : Shape) (acts : List Made) (k f g : ℕ) → IsShape sh → IsLawful V sh acts → f ≤ g → version (front V sh acts f).words (stripe_of sh k) % 2 ≡ 0 → version (front V sh acts g).words (stripe_of sh k) ≡ version (front V sh acts f).words (stripe_of sh k) → Window V sh acts k f g

@@ -1,7 +1,7 @@
 use Rattle.std.proofs.Common.{◌≡◌, ℕ, ◌+◌, ◌≤◌, ◌++◌, List, Some, None, subst, sym, ◌∙◌, rules, arith, string_bytes}
 use Rattle.mc_words.specs.declared.shape.Shape.{Shape}
 use Rattle.mc_replay.specs.Replay.{ActDoes, ActsDo}
-use Rattle.mc_replay.specs.Inside.Players.{shape_in, most_steps}
+use Rattle.mc_replay.specs.Inside.Players.{shape_of_player, most_steps}
 use Rattle.mc_replay.specs.declared.player.Player.{Player}
 use Rattle.mc_replay.specs.declared.fault.Fault.TheVariants.{NothingToStep}
 use Rattle.mc_replay.proofs.ReaderLines.{fits_more}
@@ -16,7 +16,7 @@ returns-then-not-is_running g c = λ most s room fits.
     let m = so_far.0 in
     let idle = idle_of g.row.V c.acts.player (most + c.acts.counter) m.running m.world so_far.2.fits (sym c.is_running.ensures ∙ c.if-not-is_running.true) in
     let left = left_over c.acts.counter c.args.many c.acts-test.true in
-    (m, subst (λ (n : ℕ). ActsDo (shape_in old) n s (string_bytes c.acts.text) (Some NothingToStep) m) left.1 (acts_stop (shape_in old) c.acts.counter left.0 s m (string_bytes c.acts.text) so_far.1 idle.0), tt)
+    (m, subst (λ (n : ℕ). ActsDo (shape_of_player old) n s (string_bytes c.acts.text) (Some NothingToStep) m) left.1 (acts_stop (shape_of_player old) c.acts.counter left.0 s m (string_bytes c.acts.text) so_far.1 idle.0), tt)
 
 pub act-requires : goal.act-requires
 act-requires g c =
@@ -36,9 +36,9 @@ acts-preserved g c = λ most s room fits.
     let done = c.in_ok-act.ensures.done most c.acts.counter m runs.0 room so_far.2 runs.1 in
     let t = done.0 in
     let act = subst (λ (y : Shape). ActDoes y m runs.0 done.1 t) so_far.3 done.2 in
-    let pushed = acts_push (shape_in old) c.acts.counter s m t runs.0 (string_bytes c.acts.text) done.1 so_far.1 runs.1 act in
-    let all = subst (λ (n : ℕ). ActsDo (shape_in old) n s (string_bytes c.acts.text ++ done.1) None t) (one_more c.acts.counter) pushed in
-    (t, subst (λ (l : List ℕ). ActsDo (shape_in old) (c.acts.counter + 1) s l None t) (sym done.3) all, done.4, done.5 ∙ so_far.3)
+    let pushed = acts_push (shape_of_player old) c.acts.counter s m t runs.0 (string_bytes c.acts.text) done.1 so_far.1 runs.1 act in
+    let all = subst (λ (n : ℕ). ActsDo (shape_of_player old) n s (string_bytes c.acts.text ++ done.1) None t) (one_more c.acts.counter) pushed in
+    (t, subst (λ (l : List ℕ). ActsDo (shape_of_player old) (c.acts.counter + 1) s l None t) (sym done.3) all, done.4, done.5 ∙ so_far.3)
 
 pub returns : goal.returns
 returns g c = λ most s room fits.
@@ -47,4 +47,4 @@ returns g c = λ most s room fits.
     let m = so_far.0 in
     let few : most + c.acts.counter ≤ most + most_steps = omega (arith, so_far.2.past) in
     let all : c.acts.counter ≡ c.args.many = omega (arith, c.acts.auto.counter-end, c.acts-test.false) in
-    (m, subst (λ (n : ℕ). ActsDo (shape_in old) n s (string_bytes c.acts.text) None m) all so_far.1, (so_far.3, fits_more g.row.V c.acts.player (most + c.acts.counter) (most + most_steps) m.running m.world few so_far.2.fits))
+    (m, subst (λ (n : ℕ). ActsDo (shape_of_player old) n s (string_bytes c.acts.text) None m) all so_far.1, (so_far.3, fits_more g.row.V c.acts.player (most + c.acts.counter) (most + most_steps) m.running m.world few so_far.2.fits))

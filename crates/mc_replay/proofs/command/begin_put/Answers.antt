@@ -1,7 +1,7 @@
 use Rattle.std.proofs.Common.{◌≡◌, ℕ, ◌+◌, ◌++◌, List, sym, ap, ◌∙◌, string_bytes}
 use Rattle.mc_plan.specs.Clerks.{PutCall}
 use Rattle.mc_replay.specs.Replay.{BeginDoes}
-use Rattle.mc_replay.specs.Inside.Players.{shape_in, most_steps, FitsStill}
+use Rattle.mc_replay.specs.Inside.Players.{shape_of_player, most_steps, FitsStill}
 use Rattle.mc_replay.specs.Texts.{answer_line}
 use Rattle.mc_replay.specs.declared.player.Player.{Player}
 use Rattle.mc_replay.proofs.CommandLines.{idle_of, still_running, told_as, begin_answered, begin_begun, idle_in, running_in}
@@ -16,7 +16,7 @@ returns-in-Some g c = λ most s room fits.
     let old : Player g.row.V = c.args.player.now in
     let idle = idle_of g.row.V old most s.running s.world fits (sym c.is_running.ensures ∙ c.if-is_running.false) in
     let begins = c.in-Some.ensures most s.world idle.1 in
-    let told = told_as (BeginDoes (shape_in old) s (PutCall c.args.key c.args.value)) (string_bytes c.add_line.new.text) (idle_in s.world) c.add_line.result
+    let told = told_as (BeginDoes (shape_of_player old) s (PutCall c.args.key c.args.value)) (string_bytes c.add_line.new.text) (idle_in s.world) c.add_line.result
     (string_bytes c.add_line.new.text ≡ string_bytes c.args.text.now ++ answer_line c.in-Some.answer) (FitsStill g.row.V old c.begin_put.new.self (most + most_steps) (idle_in s.world)) c.add_line.ensures.err c.add_line.ensures.ok
     (λ is. begin_answered g.row.V old c.begin_put.new.self most (PutCall c.args.key c.args.value) s c.in-Some.answer (string_bytes c.add_line.new.text) idle.0 begins (is ∙ ap (λ (l : List ℕ). l ++ answer_line c.in-Some.answer) c.requires.0)) in
     (idle_in s.world, told.0, told.1)
@@ -27,4 +27,4 @@ returns-in-None g c = λ most s room fits.
     let idle = idle_of g.row.V old most s.running s.world fits (sym c.is_running.ensures ∙ c.if-is_running.false) in
     let begins = c.in-None.ensures most s.world idle.1 in
     let begun = begin_begun g.row.V old c.begin_put.new.self most (PutCall c.args.key c.args.value) s (string_bytes c.args.text.now) idle.0 begins c.requires.0 in
-    (running_in (shape_in old) s (PutCall c.args.key c.args.value), begun.0, begun.1)
+    (running_in (shape_of_player old) s (PutCall c.args.key c.args.value), begun.0, begun.1)

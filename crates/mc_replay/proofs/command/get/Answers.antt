@@ -1,6 +1,6 @@
 use Rattle.std.proofs.Common.{◌≡◌, ℕ, ◌+◌, ◌++◌, List, sym, ap, ◌∙◌, string_bytes}
 use Rattle.mc_replay.specs.Replay.{GetDoes}
-use Rattle.mc_replay.specs.Inside.Players.{shape_in, most_steps, FitsStill}
+use Rattle.mc_replay.specs.Inside.Players.{shape_of_player, most_steps, FitsStill}
 use Rattle.mc_replay.specs.Texts.{reply_line}
 use Rattle.mc_replay.specs.declared.player.Player.{Player}
 use Rattle.mc_replay.proofs.CommandLines.{idle_of, still_running, told_as, get_done, idle_in}
@@ -15,7 +15,7 @@ returns g c = λ most s room fits.
     let old : Player g.row.V = c.args.player.now in
     let idle = idle_of g.row.V old most s.running s.world fits (sym c.is_running.ensures ∙ c.if-is_running.false) in
     let done = c.get-reply.ensures most s.world idle.1 room in
-    let told = told_as (GetDoes (shape_in old) s c.args.key) (string_bytes c.add_line.new.text) (idle_in done.after) c.add_line.result
+    let told = told_as (GetDoes (shape_of_player old) s c.args.key) (string_bytes c.add_line.new.text) (idle_in done.after) c.add_line.result
     (string_bytes c.add_line.new.text ≡ string_bytes c.args.text.now ++ reply_line c.get-reply.result) (FitsStill g.row.V old c.get-reply.new.self (most + most_steps) (idle_in done.after)) c.add_line.ensures.err c.add_line.ensures.ok
     (λ is. get_done g.row.V old c.get-reply.new.self most c.args.key s c.get-reply.result (string_bytes c.add_line.new.text) idle.0 done (is ∙ ap (λ (l : List ℕ). l ++ reply_line c.get-reply.result) c.requires.0)) in
     (idle_in done.after, told.0, told.1)

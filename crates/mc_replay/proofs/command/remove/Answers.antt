@@ -1,7 +1,7 @@
 use Rattle.std.proofs.Common.{◌≡◌, ℕ, ◌+◌, ◌++◌, List, Err, sym, ap, subst, ◌∙◌, rules, string_bytes}
 use Rattle.mc_plan.specs.Clerks.{RemoveCall}
 use Rattle.mc_replay.specs.Replay.{CallDoes}
-use Rattle.mc_replay.specs.Inside.Players.{shape_in, most_steps, DoneAs, FitsStill}
+use Rattle.mc_replay.specs.Inside.Players.{shape_of_player, most_steps, DoneAs, FitsStill}
 use Rattle.mc_replay.specs.Texts.{answer_line}
 use Rattle.mc_replay.specs.declared.fault.Fault.TheVariants.{NoMemory}
 use Rattle.mc_replay.specs.declared.player.Player.{Player}
@@ -17,7 +17,7 @@ returns g c = λ most s room fits.
     let old : Player g.row.V = c.args.player.now in
     let idle = idle_of g.row.V old most s.running s.world fits (sym c.is_running.ensures ∙ c.if-is_running.false) in
     let done = c.in_ok-answer.ensures.made most s.world idle.1 room in
-    let told = told_as (CallDoes (shape_in old) s (RemoveCall c.args.key)) (string_bytes c.add_line.new.text) (idle_in done.after) c.add_line.result
+    let told = told_as (CallDoes (shape_of_player old) s (RemoveCall c.args.key)) (string_bytes c.add_line.new.text) (idle_in done.after) c.add_line.result
     (string_bytes c.add_line.new.text ≡ string_bytes c.args.text.now ++ answer_line c.in_ok-answer.answer) (FitsStill g.row.V old c.remove.new.self (most + most_steps) (idle_in done.after)) c.add_line.ensures.err c.add_line.ensures.ok
     (λ is. call_done g.row.V old c.remove.new.self most (RemoveCall c.args.key) s c.in_ok-answer.answer (string_bytes c.add_line.new.text) idle.0 done (is ∙ ap (λ (l : List ℕ). l ++ answer_line c.in_ok-answer.answer) c.requires.0)) in
     (idle_in done.after, told.0, told.1)
@@ -25,4 +25,4 @@ returns g c = λ most s room fits.
 pub returns-in_err-answer : goal.returns-in_err-answer
 returns-in_err-answer g c = λ most s room fits.
     let none : c.from_residual.result ≡ Err NoMemory = search rules in
-    (s, subst (λ r. DoneAs (CallDoes (shape_in c.args.player.now) s (RemoveCall c.args.key)) (string_bytes c.args.text.now) s r) (sym none) tt, rw none tt)
+    (s, subst (λ r. DoneAs (CallDoes (shape_of_player c.args.player.now) s (RemoveCall c.args.key)) (string_bytes c.args.text.now) s r) (sym none) tt, rw none tt)

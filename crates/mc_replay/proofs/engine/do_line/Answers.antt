@@ -1,7 +1,7 @@
 use Rattle.std.proofs.Common.{◌≡◌, ℕ, ◌+◌, ◌<◌, ◌≤◌, arith, refl, None, sym, subst, rules, Ok, Err, Some, [], string_bytes}
 use Rattle.std.specs.Prelude.{OnOk, ◌^◌}
 use Rattle.mc_script.specs.Commands.{command_in}
-use Rattle.mc_replay.specs.Inside.Players.{shape_in, most_before, FitsStill}
+use Rattle.mc_replay.specs.Inside.Players.{shape_of_player, most_before, FitsStill}
 use Rattle.mc_replay.specs.Inside.Steps.{DoesLine}
 use Rattle.mc_replay.specs.declared.fault.Fault.{Fault}
 use Rattle.mc_replay.specs.declared.player.Player.{Player}
@@ -19,8 +19,8 @@ returns-in-Err-clause-does g c = λ s fits.
     let empty : string_bytes c.clear.new.self ≡ [] = search rules in
     let few : c.args.before < 2 ^ 40 = search rules in
     let says : command_in g.row.V c.args.line.now ≡ Err c.in-Err.fault = search rules in
-    let faulty = line_faulty g.row.V (shape_in c.args.player.now) c.args.before s c.args.line.now (string_bytes c.clear.new.self) c.in-Err.fault c.requires.short few says empty in
-    (s, subst (λ (f : Fault). DoesLine g.row.V (shape_in c.args.player.now) c.args.before s c.args.line.now (string_bytes c.clear.new.self) s (Err f)) (sym c.of_line.ensures) faulty, tt)
+    let faulty = line_faulty g.row.V (shape_of_player c.args.player.now) c.args.before s c.args.line.now (string_bytes c.clear.new.self) c.in-Err.fault c.requires.short few says empty in
+    (s, subst (λ (f : Fault). DoesLine g.row.V (shape_of_player c.args.player.now) c.args.before s c.args.line.now (string_bytes c.clear.new.self) s (Err f)) (sym c.of_line.ensures) faulty, tt)
 
 pub returns-in-Ok-Some-clause-does : goal.returns-in-Ok-Some-clause-does
 returns-in-Ok-Some-clause-does g c = λ s fits.
@@ -30,7 +30,7 @@ returns-in-Ok-Some-clause-does g c = λ s fits.
     let old : Player g.row.V = c.args.player.now in
     let new : Player g.row.V = c.do_command.new.player in (
       did.0,
-      line_does g.row.V (shape_in old) c.args.before s did.0 c.args.line.now (string_bytes c.do_command.new.text) c.in-Ok-Some.command c.do_command.result c.requires.short few says did.1,
+      line_does g.row.V (shape_of_player old) c.args.before s did.0 c.args.line.now (string_bytes c.do_command.new.text) c.in-Ok-Some.command c.do_command.result c.requires.short few says did.1,
       subst (λ (n : ℕ). OnOk c.do_command.result (FitsStill g.row.V old new n did.0)) (one_line_more c.args.before) did.2,
     )
 
@@ -41,6 +41,6 @@ returns-in-Ok-None-clause-does g c = λ s fits.
     let says : command_in g.row.V c.args.line.now ≡ Ok None = search rules in
     let more : most_before c.args.before ≤ most_before (c.args.before + 1) = omega arith in (
       s,
-      line_skipped g.row.V (shape_in c.args.player.now) c.args.before s c.args.line.now (string_bytes c.clear.new.self) c.requires.short few says empty,
+      line_skipped g.row.V (shape_of_player c.args.player.now) c.args.before s c.args.line.now (string_bytes c.clear.new.self) c.requires.short few says empty,
       (refl, fits_more g.row.V c.args.player.now (most_before c.args.before) (most_before (c.args.before + 1)) s.running s.world more fits),
     )

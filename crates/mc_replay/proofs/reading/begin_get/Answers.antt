@@ -2,7 +2,7 @@ use Rattle.std.proofs.Common.{◌≡◌, ℕ, refl, rules, subst, sym, Some, Non
 use Rattle.mc_replay.specs.declared.fault.Fault.TheVariants.{NoSuchReader, StillRunning}
 use Rattle.mc_replay.specs.declared.player.Player.{Player}
 use Rattle.mc_replay.specs.Replay.{LookUpDoes}
-use Rattle.mc_replay.specs.Inside.Players.{shape_in, DoneAs}
+use Rattle.mc_replay.specs.Inside.Players.{shape_of_player, DoneAs}
 use Rattle.mc_replay.proofs.ReaderLines.{SameWriter, at_of, look_up_begins, look_up_runs, no_reader}
 use Rattle.mc_replay.proofs.reading.begin_get.Goals as goal
 
@@ -10,7 +10,7 @@ pub returns-in_err-reader : goal.returns-in_err-reader
 returns-in_err-reader g c = λ most s room fits.
     let past = no_reader g.row.V c.args.player.now most c.args.reader s fits c.in_err-reader.ensures.err.1 in
     let none : c.from_residual.result ≡ Err NoSuchReader = search rules in
-    (s, subst (λ r. DoneAs (LookUpDoes (shape_in c.args.player.now) s c.args.reader c.args.key) [] s r) (sym none) (inr (past, refl, refl, refl)), rw none tt)
+    (s, subst (λ r. DoneAs (LookUpDoes (shape_of_player c.args.player.now) s c.args.reader c.args.key) [] s r) (sym none) (inr (past, refl, refl, refl)), rw none tt)
 
 pub returns-in-Ok : goal.returns-in-Ok
 returns-in-Ok g c =
@@ -21,11 +21,11 @@ returns-in-Ok g c =
     let did = c.in-Ok.ensures.ok s.world at.world in
     let same : SameWriter g.row.V old new = record { shape = c.step.ensures.shape; clerk = refl; readers = refl } in
     let begun = look_up_begins g.row.V old new most c.in_ok-reader.reader c.args.key s did.0 fits c.in_ok-reader.ensures.ok.1 same did.3 did.1 in
-    (begun.0, subst (λ (r : ℕ). LookUpDoes (shape_in old) s r c.args.key [] None begun.0) c.in_ok-reader.ensures.ok.0 begun.1, (c.step.ensures.shape, begun.2))
+    (begun.0, subst (λ (r : ℕ). LookUpDoes (shape_of_player old) s r c.args.key [] None begun.0) c.in_ok-reader.ensures.ok.0 begun.1, (c.step.ensures.shape, begun.2))
 
 pub returns-in-Err-StillRunning : goal.returns-in-Err-StillRunning
 returns-in-Err-StillRunning g c = λ most s room fits.
     let at = at_of g.row.V c.args.player.now most s.running s.world fits in
     let refused = rw c.in-Err-StillRunning.field-0-is at (c.in-Err-StillRunning.ensures.refused s.world at.world) in
     let runs = look_up_runs g.row.V c.args.player.now most c.in_ok-reader.reader c.args.key s fits c.in_ok-reader.ensures.ok.1 refused in
-    (s, subst (λ (r : ℕ). LookUpDoes (shape_in c.args.player.now) s r c.args.key [] (Some StillRunning) s) c.in_ok-reader.ensures.ok.0 runs, tt)
+    (s, subst (λ (r : ℕ). LookUpDoes (shape_of_player c.args.player.now) s r c.args.key [] (Some StillRunning) s) c.in_ok-reader.ensures.ok.0 runs, tt)

@@ -1,7 +1,7 @@
 use Rattle.std.proofs.Common.{◌≡◌, refl, rules, subst, sym, Err, inr, string_bytes}
 use Rattle.mc_replay.specs.declared.fault.Fault.TheVariants.{NoSuchReader}
 use Rattle.mc_replay.specs.Replay.{ReadsDo}
-use Rattle.mc_replay.specs.Inside.Players.{shape_in, DoneAs}
+use Rattle.mc_replay.specs.Inside.Players.{shape_of_player, DoneAs}
 use Rattle.mc_replay.proofs.ReaderLines.{no_reader}
 use Rattle.mc_replay.proofs.reading.reads.Goals as goal
 
@@ -9,4 +9,4 @@ pub returns-in_err-reader : goal.returns-in_err-reader
 returns-in_err-reader g c = λ most s room fits.
     let past = no_reader g.row.V c.args.player.now most c.args.reader s fits c.in_err-reader.ensures.err.1 in
     let none : c.from_residual.result ≡ Err NoSuchReader = search rules in
-    (s, subst (λ r. DoneAs (ReadsDo (shape_in c.args.player.now) s c.args.reader c.args.many) (string_bytes c.args.text.now) s r) (sym none) (inr (past, refl, c.requires.0, refl)), rw none tt)
+    (s, subst (λ r. DoneAs (ReadsDo (shape_of_player c.args.player.now) s c.args.reader c.args.many) (string_bytes c.args.text.now) s r) (sym none) (inr (past, refl, c.requires.0, refl)), rw none tt)

@@ -1,7 +1,7 @@
 use Rattle.std.proofs.Common.{List, subst}
 use Rattle.std.specs.Prelude.{ℕ}
 use Rattle.mc_words.specs.Checks.{shape_of}
-use Rattle.mc_words.specs.History.{held}
+use Rattle.mc_words.specs.History.{map_value}
 use Rattle.mc_words.specs.Places.{slot_number}
 use Rattle.mc_words.specs.Standing.{HasValue}
 use Rattle.mc_theory.proofs.Invariant.RunningDeed.{held_from_absent}
@@ -17,8 +17,8 @@ returns-in-Some-clause-found g c h agrees =
     let sh = shape_of c.args.checked.now in
     let w = g.P.Peek.words c.args.peek.now in
     let value = subst (λ (x : List ℕ). HasValue V sh x c.in-Some.item c.value_at.result) c.find.ensures.same c.value_at.ensures.value in
-    held_value V sh w c.args.key (slot_number c.in-Some.field-0-0) c.in-Some.item c.value_at.result (held h c.args.key) (agrees.keys c.args.key (λ e. cc)) c.in-Some.ensures.found value
+    held_value V sh w c.args.key (slot_number c.in-Some.field-0-0) c.in-Some.item c.value_at.result (map_value h c.args.key) (agrees.keys c.args.key (λ e. cc)) c.in-Some.ensures.found value
 
 pub returns-in-None-clause-none : goal.returns-in-None-clause-none
 returns-in-None-clause-none g c h agrees =
-    held_from_absent g.row.V (shape_of c.args.checked.now) (g.P.Peek.words c.args.peek.now) c.args.key (held h c.args.key) (agrees.keys c.args.key (λ e. cc)) c.in-None.ensures.none
+    held_from_absent g.row.V (shape_of c.args.checked.now) (g.P.Peek.words c.args.peek.now) c.args.key (map_value h c.args.key) (agrees.keys c.args.key (λ e. cc)) c.in-None.ensures.none

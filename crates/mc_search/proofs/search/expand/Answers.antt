@@ -2,7 +2,7 @@ use Rattle.std.proofs.Common.{ℕ, ◌≡◌, ◌≢◌, ◌∙◌, ◌+◌, ◌
 use Rattle.mc_words.specs.Checks.{shape_of}
 use Rattle.mc_words.specs.Places.{slot}
 use Rattle.mc_search.specs.Inside.Readable.{IsFull, IsHoleIn}
-use Rattle.mc_search.specs.Inside.Search.{next_of, IsExpanding, IsSearching}
+use Rattle.mc_search.specs.Inside.Search.{next_bucket, IsExpanding, IsSearching}
 use Rattle.mc_search.proofs.Levels.{taken_at, bucket_read, expanding-added, full-added, full-old, searching-after}
 use Rattle.mc_search.proofs.Shortest.{found_added}
 use Rattle.mc_search.proofs.search.expand.Goals as goal
@@ -14,7 +14,7 @@ taken : (g : Over) (c : After-add g) → slot (shape_of c.args.checked.now) (g.P
 taken g c = taken_at (shape_of c.args.checked.now) (g.P.Peek.words c.args.peek.now) c.args.front c.args.entry c.loop-slot.slot c.args.queue.now.items c.requires.full c.requires.queued c.requires.front c.loop-slot-test.true
 
 -- the bucket is that to which the slot's item can move
-bucket : (g : Over) (c : After-add g) → c.other_bucket-bucket.result ≡ next_of (shape_of c.args.checked.now) (g.P.Peek.words c.args.peek.now) c.args.entry.bucket c.loop-slot.slot
+bucket : (g : Over) (c : After-add g) → c.other_bucket-bucket.result ≡ next_bucket (shape_of c.args.checked.now) (g.P.Peek.words c.args.peek.now) c.args.entry.bucket c.loop-slot.slot
 bucket g c = bucket_read (shape_of c.args.checked.now) (g.P.Peek.words c.args.peek.now) (g.P.Peek.words c.loop-slot.peek) c.args.entry c.loop-slot.slot c.slot_at-word.result c.other_bucket-bucket.result c.loop-slot.invariant.same c.slot_at-word.ensures.value c.other_bucket-bucket.ensures.value
 
 -- the words are the same after the read

@@ -1,7 +1,7 @@
 use Rattle.std.proofs.Common.{ℕ, ◌≡◌, ◌<◌, ◌⊎◌}
 use Rattle.mc_words.specs.Checks.{shape_of}
 use Rattle.mc_words.specs.Places.{slot}
-use Rattle.mc_words.specs.Standing.{Names}
+use Rattle.mc_words.specs.Standing.{NamesItem}
 use Rattle.mc_search.specs.Readable.{HasSlots}
 use Rattle.tests.proofs.table.is_readable.Given as goal
 
@@ -9,5 +9,5 @@ abbrev pub invariant-loop-q : goal.invariant-loop-q
 invariant-loop-q l = record {
   same : l.table.list ≡ l.initial.table.list;
   long : HasSlots (shape_of l.checked) l.initial.table.list;
-  filled : (p : ℕ) → p < l.q → (slot (shape_of l.checked) l.initial.table.list p ≡ 0) ⊎ ((i : ℕ) × Names (shape_of l.checked) l.initial.table.list p i);
+  filled : (p : ℕ) → p < l.q → (slot (shape_of l.checked) l.initial.table.list p ≡ 0) ⊎ ((i : ℕ) × NamesItem (shape_of l.checked) l.initial.table.list p i);
 }

@@ -1,6 +1,6 @@
 use Rattle.std.proofs.Common.{◌+◌, refl, sym, ◌∙◌, ap, Some}
 use Rattle.std.specs.Prelude.{unwrap_or}
-use Rattle.mc_lookup.specs.Machine.{next_of, Takes}
+use Rattle.mc_lookup.specs.Machine.{next_access, Consumes}
 use Rattle.mc_theory.specs.declared.access.Access.{Access}
 use Rattle.mc_core.proofs.PairedLists.{if_some}
 use Rattle.mc_core.proofs.ReaderSteps.{access_ends, access_goes_on, told_is}
@@ -11,7 +11,7 @@ returns-in-Some-clause-stepped g c = λ seen s.
     let old = c.args.self.now in
     let running = c.args.running in
     let next = c.after.new.self in
-    let takes = if_some (next_of running.lookup) c.next_access-access.result (λ (a : Access). Takes {V = g.row.V} running.lookup a c.read-word.result next) c.next_access-access.ensures.next c.after.ensures in
+    let takes = if_some (next_access running.lookup) c.next_access-access.result (λ (a : Access). Consumes {V = g.row.V} running.lookup a c.read-word.result next) c.next_access-access.ensures.next c.after.ensures in
     let events = c.mark_read.ensures.events in
     let first = c.unwrap_or-first.ensures ∙ ap (λ n. unwrap_or running.first n) events in
     access_ends old _ seen c.args.reader running c.next_access-access.result c.read-word.result next c.in-Some.reply _ _ s c.requires.running c.requires.events c.read-word.ensures takes
@@ -23,7 +23,7 @@ returns-in-None-clause-stepped g c = λ seen s.
     let old = c.args.self.now in
     let running = c.args.running in
     let next = c.after.new.self in
-    let takes = if_some (next_of running.lookup) c.next_access-access.result (λ (a : Access). Takes {V = g.row.V} running.lookup a c.read-word.result next) c.next_access-access.ensures.next c.after.ensures in
+    let takes = if_some (next_access running.lookup) c.next_access-access.result (λ (a : Access). Consumes {V = g.row.V} running.lookup a c.read-word.result next) c.next_access-access.ensures.next c.after.ensures in
     let events = c.mark_read.ensures.events in
     let first = c.unwrap_or-first.ensures ∙ ap (λ n. unwrap_or running.first n) events in
     access_goes_on old _ seen c.args.reader running c.next_access-access.result c.read-word.result next _ _ s c.requires.running c.requires.events c.read-word.ensures takes

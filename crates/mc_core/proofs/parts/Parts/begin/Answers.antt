@@ -1,6 +1,6 @@
 use Rattle.std.proofs.Common.{Option, Some, refl, sym, ◌∙◌, ap, arith}
 use Rattle.std.proofs.lemmas.Option.{slice_get_past, slice_get_read}
-use Rattle.mc_core.specs.Seen.{Both, IsRunning}
+use Rattle.mc_core.specs.Seen.{Both, IsOpenLookup}
 use Rattle.mc_core.specs.Inside.Parts.{shape_of_parts}
 use Rattle.mc_core.specs.declared.reader.Reader.{Reader}
 use Rattle.mc_core.proofs.PairedLists.{both_none, none_past, some_of, none_of}
@@ -12,7 +12,7 @@ pub returns-then-at-len-clause-err : goal.returns-then-at-len-clause-err
 returns-then-at-len-clause-err g c = λ seen s.
     let old = c.args.self.now in
     let past = slice_get_past old.readers.items c.args.reader (omega (arith, c.len.ensures, old.readers.ok.0)) in
-    none_past seen.readers c.args.reader (both_none (Both (IsRunning g.row.V (shape_of_parts old))) _ _ (s.shows.readers c.args.reader) past)
+    none_past seen.readers c.args.reader (both_none (Both (IsOpenLookup g.row.V (shape_of_parts old))) _ _ (s.shows.readers c.args.reader) past)
 
 pub returns-then-is_some-clause-err : goal.returns-then-is_some-clause-err
 returns-then-is_some-clause-err g c = λ seen s.

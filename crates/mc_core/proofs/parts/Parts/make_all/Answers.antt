@@ -1,7 +1,7 @@
 use Rattle.std.proofs.Common.{rules, arith, ◌+◌, take, sym, subst, suc, ap, ◌∙◌, ◌≡◌, List}
 use Rattle.std.proofs.Math.Seq.{take-suc}
 use Rattle.std.proofs.lemmas.Option.{slice_get-get_or}
-use Rattle.mc_core.specs.Inside.Parts.{HasMade}
+use Rattle.mc_core.specs.Inside.Parts.{MakesEvents}
 use Rattle.mc_theory.specs.declared.event.Event.{Event}
 use Rattle.mc_core.proofs.EventLists.{made_same, made_then, stops_at}
 use Rattle.mc_core.proofs.parts.Parts.make_all.Goals as goal
@@ -29,7 +29,7 @@ loop-i-preserved g c =
     let more = made_then c.args.self.now c.loop-i.self c.make_one.new.self (take c.loop-i.i events) _ c.args.done.now.items c.loop-i.done.items c.make_one.new.done.items now.made e.made in
     let next : suc c.loop-i.i ≡ c.loop-i.i + 1 = omega arith in
     record {
-      made = subst (λ (es : List Event). HasMade c.args.self.now c.make_one.new.self es c.args.done.now.items c.make_one.new.done.items) (sym (take-suc events c.loop-i.i _ c.loop-i-test.true) ∙ ap (λ n. take n events) next) more;
+      made = subst (λ (es : List Event). MakesEvents c.args.self.now c.make_one.new.self es c.args.done.now.items c.make_one.new.done.items) (sym (take-suc events c.loop-i.i _ c.loop-i-test.true) ∙ ap (λ n. take n events) next) more;
       room = omega (arith, now.room, e.room);
       spare = omega (arith, now.spare, e.spare);
     }

@@ -4,9 +4,9 @@ use Rattle.mc_words.specs.declared.checked.Checked.{Checked}
 use Rattle.mc_core.specs.Inside.Seen.{ReadsIn}
 use Rattle.mc_theory.specs.Acts.{IsAllowed}
 use Rattle.mc_theory.specs.States.{State}
-use Rattle.mc_theory.specs.Worlds.{HasChanges, bit_of, given_of}
+use Rattle.mc_theory.specs.Traces.{HasVersionSteps, bit_of, given_of}
 use Rattle.mc_core.specs.declared.writer.Writer.{Writer}
-use Rattle.mc_core.specs.Inside.Writers.{shape_at, words_at, phase_at, IsMade}
+use Rattle.mc_core.specs.Inside.Writers.{shape_of_writer, words_of_writer, phase_at, IsMade}
 use Rattle.mc_core.proofs.ShownWorld.{holds_of, counted_of, hand_of, reads_in, ok_of, stand_after}
 use Rattle.mc_core.proofs.parts.Parts.write.Goals as goal
 
@@ -23,7 +23,7 @@ bit_of-bit-requires g c =
     let s = c.requires.1 in
     let world = c.args.self.now in
     let w = world.writer in
-    (search rules, reads_in g.row.V (shape_at w) (words_at w) w.hand w.cleared (phase_at w.written w.progress) c.args.act (hand_of world c.requires.0 s) ((c.if-not-allows.ensures {u = tt}).0 refl))
+    (search rules, reads_in g.row.V (shape_of_writer w) (words_of_writer w) w.hand w.cleared (phase_at w.written w.progress) c.args.act (hand_of world c.requires.0 s) ((c.if-not-allows.ensures {u = tt}).0 refl))
 
 pub make-requires : goal.make-requires
 make-requires g c =
@@ -38,7 +38,7 @@ mark-requires g c =
     let world = c.args.self.now in
     let w = world.writer in
     let made = ok_of c.make.result _ (sym c.is_err.ensures.value ∙ c.if-is_err.false) c.make.ensures.ok in
-    let in_items = reads_in g.row.V (shape_at w) (words_at w) w.hand w.cleared (phase_at w.written w.progress) c.args.act (hand_of world c.requires.0 s) ((c.if-not-allows.ensures {u = tt}).0 refl) in
+    let in_items = reads_in g.row.V (shape_of_writer w) (words_of_writer w) w.hand w.cleared (phase_at w.written w.progress) c.args.act (hand_of world c.requires.0 s) ((c.if-not-allows.ensures {u = tt}).0 refl) in
     (search rules, subst (λ (y : Checked). ReadsIn (shape_of y) c.args.act) (sym made.shape) in_items)
 
 pub returns-clause-ok : goal.returns-clause-ok
@@ -48,12 +48,12 @@ returns-clause-ok g c = λ seen s.
     let a = c.args.act in
     let may = (c.if-not-allows.ensures {u = tt}).0 refl in
     let within = (c.if-not-is_within.ensures {u = tt}).0 refl in
-    let has = subst (λ (y : State g.row.V). HasChanges (shape_at w).limit y.changes a) s.shows.state within.1 in
+    let has = subst (λ (y : State g.row.V). HasVersionSteps (shape_of_writer w).limit y.version_steps a) s.shows.state within.1 in
     let first = ok_of c.make.result _ (sym c.is_err.ensures.value ∙ c.if-is_err.false) c.make.ensures.ok in
     let second = subst (λ (n : ℕ). IsMade {V = g.row.V} w c.make.new.self a n) c.bit_of-bit.ensures first in
     let made = subst (λ (y : Writer g.row.V). IsMade {V = g.row.V} w y a (bit_of world.bits.items a)) (sym c.mark.ensures.writer) second in (
       _,
-      (subst (λ (y : State g.row.V). IsAllowed (shape_at w) y a) s.shows.state may, (omega (arith, within.0, s.shows.events), has), refl),
+      (subst (λ (y : State g.row.V). IsAllowed (shape_of_writer w) y a) s.shows.state may, (omega (arith, within.0, s.shows.events), has), refl),
       c.given_by.ensures ∙ ap (λ (n : ℕ). given_of {V = g.row.V} n a) (c.bit_of-bit.ensures ∙ ap (λ y. bit_of y a) s.shows.bits),
       stand_after world _ seen a s may within.1 made c.mark.ensures.bits (ap (λ y. y.items) c.mark.ensures.readers) (ap (λ n. n + 1) c.mark.ensures.events),
     )

@@ -1,9 +1,9 @@
 use Rattle.std.proofs.Common.{ℕ, ◌≡◌, List, length, subst, sym}
 use Rattle.std.specs.Prelude.{All}
-use Rattle.mc_core.specs.Inside.Parts.{shape_of_parts, shown_of}
-use Rattle.mc_core.specs.Seen.{Shown, Shows}
-use Rattle.mc_theory.specs.Worlds.{World, IsBit, IsReached, IsTrueEnd}
-use Rattle.mc_theory.proofs.Events.ReachedWorlds.{worlds_are_true}
+use Rattle.mc_core.specs.Inside.Parts.{shape_of_parts, view_of}
+use Rattle.mc_core.specs.Seen.{WorldView, Shows}
+use Rattle.mc_theory.specs.Traces.{Trace, IsBit, IsReached, IsTrueEnd}
+use Rattle.mc_theory.proofs.Events.ReachedTraces.{traces_are_true}
 use Rattle.mc_core.proofs.PackedBits.{bits_now}
 use Rattle.mc_core.proofs.world.World.reached.Goals as goal
 
@@ -11,18 +11,18 @@ pub returns-clause-events : goal.returns-clause-events
 returns-clause-events g c =
     let is = c.self.invariant in
     let p = c.self.inside.parts in
-    let true = (worlds_are_true g.row.V (shape_of_parts p) is.reached.readers is.reached.events is.seen p.writer.table.checked.sound is.reached.runs).1 in
-    subst (λ (now : Shown g.row.V). (seen : World g.row.V) × IsReached g.row.V now.shape seen × Shows {V = g.row.V} now seen × All (IsTrueEnd g.row.V now.shape seen) seen.ended) c.self.view_is
+    let true = (traces_are_true g.row.V (shape_of_parts p) is.reached.readers is.reached.events is.seen p.writer.table.checked.sound is.reached.runs).1 in
+    subst (λ (now : WorldView g.row.V). (seen : Trace g.row.V) × IsReached g.row.V now.shape seen × Shows {V = g.row.V} now seen × All (IsTrueEnd g.row.V now.shape seen) seen.ended) c.self.view_is
     (is.seen, is.reached, is.stand.shows, true)
 
 pub returns-clause-bits : goal.returns-clause-bits
 returns-clause-bits g c =
     let is = c.self.invariant in
     let p = c.self.inside.parts in
-    subst (λ (now : Shown g.row.V). All IsBit now.bits) c.self.view_is (bits_now g.row.V (shown_of {V = g.row.V} p) is.seen is.stand.shows is.reached).1
+    subst (λ (now : WorldView g.row.V). All IsBit now.bits) c.self.view_is (bits_now g.row.V (view_of {V = g.row.V} p) is.seen is.stand.shows is.reached).1
 
 pub returns-clause-items : goal.returns-clause-items
 returns-clause-items g c =
     let is = c.self.invariant in
     let p = c.self.inside.parts in
-    subst (λ (now : Shown g.row.V). length now.bits ≡ now.shape.items) c.self.view_is (bits_now g.row.V (shown_of {V = g.row.V} p) is.seen is.stand.shows is.reached).0
+    subst (λ (now : WorldView g.row.V). length now.bits ≡ now.shape.items) c.self.view_is (bits_now g.row.V (view_of {V = g.row.V} p) is.seen is.stand.shows is.reached).0

@@ -3,12 +3,12 @@ use Rattle.mc_theory.specs.declared.act.Act.{Act}
 use Rattle.mc_theory.specs.declared.act.Act.TheVariants as act
 use Rattle.mc_theory.specs.declared.event.Event.TheVariants.{Write}
 use Rattle.mc_theory.specs.declared.event.Unlawful.TheVariants as unlawful
-use Rattle.mc_core.specs.Seen.{Shown, Shows, MayAct}
-use Rattle.mc_theory.specs.Worlds.{World, bit_of, given_of, Steps, Gives, Refuses, IsReached, IsTrueEnd}
+use Rattle.mc_core.specs.Seen.{WorldView, Shows, MayAct}
+use Rattle.mc_theory.specs.Traces.{Trace, bit_of, given_of, Steps, EventGives, RefusesEvent, IsReached, IsTrueEnd}
 use Rattle.mc_words.specs.Shapes.{IsShape}
 use Rattle.std.specs.Prelude.{All}
 use Rattle.std.proofs.lemmas.Result.{IfOk-weaker}
-use Rattle.mc_core.specs.Inside.Parts.{shown_of}
+use Rattle.mc_core.specs.Inside.Parts.{view_of}
 use Rattle.std.proofs.Common.{rules, subst}
 use Rattle.mc_core.proofs.WorldSteps.{reached_push, reached_true, reached_after, counted_after, lawful_after, given_after, leads_shown, refused_shown}
 use Rattle.mc_core.proofs.world.World.step.Goals as goal
@@ -21,34 +21,34 @@ invariant_of-self g c = reached_after c.self.inside.parts c.step.new.self c.args
 
 pub returns-clause-ok : goal.returns-clause-ok
 returns-clause-ok g c =
-    subst (λ (old : Shown g.row.V). IfOk c.step.result (λ out. (seen : World g.row.V) → Shows {V = g.row.V} old seen → (next : World g.row.V) × Steps g.row.V old.shape seen c.args.event next × Gives {V = g.row.V} seen c.args.event next out × Shows {V = g.row.V} (shown_of {V = g.row.V} c.step.new.self) next)) c.self.view_is
+    subst (λ (old : WorldView g.row.V). IfOk c.step.result (λ out. (seen : Trace g.row.V) → Shows {V = g.row.V} old seen → (next : Trace g.row.V) × Steps g.row.V old.shape seen c.args.event next × EventGives {V = g.row.V} seen c.args.event next out × Shows {V = g.row.V} (view_of {V = g.row.V} c.step.new.self) next)) c.self.view_is
     (leads_shown c.self.inside.parts c.step.new.self c.args.event c.step.result c.self.invariant c.step.ensures.ok)
 
 pub returns-clause-refused : goal.returns-clause-refused
 returns-clause-refused g c =
-    subst (λ (old : Shown g.row.V). IfErr c.step.result (λ why. (seen : World g.row.V) → Shows {V = g.row.V} old seen → Refuses {V = g.row.V} old.shape seen c.args.event why)) c.self.view_is
+    subst (λ (old : WorldView g.row.V). IfErr c.step.result (λ why. (seen : Trace g.row.V) → Shows {V = g.row.V} old seen → RefusesEvent {V = g.row.V} old.shape seen c.args.event why)) c.self.view_is
     (refused_shown c.self.inside.parts c.step.new.self c.args.event c.step.result c.self.invariant c.step.ensures.err)
 
 pub returns-clause-counted : goal.returns-clause-counted
 returns-clause-counted g c =
-    subst (λ (old : Shown g.row.V). OnOk c.step.result (c.step.new.self.events ≡ old.events + 1)) c.self.view_is
+    subst (λ (old : WorldView g.row.V). OnOk c.step.result (c.step.new.self.events ≡ old.events + 1)) c.self.view_is
     (counted_after c.self.inside.parts c.step.new.self c.args.event c.step.result c.self.invariant c.step.ensures.ok)
 
 pub returns-clause-lawful : goal.returns-clause-lawful
 returns-clause-lawful g c =
-    subst (λ (old : Shown g.row.V). (a : Act) → c.args.event ≡ Write a → MayAct {V = g.row.V} old a → IfErr c.step.result (λ why. (why ≡ unlawful.NoMemory) × (a ≡ act.Moment))) c.self.view_is
+    subst (λ (old : WorldView g.row.V). (a : Act) → c.args.event ≡ Write a → MayAct {V = g.row.V} old a → IfErr c.step.result (λ why. (why ≡ unlawful.NoMemory) × (a ≡ act.Moment))) c.self.view_is
     (lawful_after c.self.inside.parts c.step.new.self c.args.event c.step.result c.self.invariant c.step.ensures.err)
 
 pub returns-clause-given : goal.returns-clause-given
 returns-clause-given g c =
-    subst (λ (old : Shown g.row.V). (a : Act) → c.args.event ≡ Write a → IfOk c.step.result (λ out. out ≡ given_of {V = g.row.V} (bit_of old.bits a) a)) c.self.view_is
+    subst (λ (old : WorldView g.row.V). (a : Act) → c.args.event ≡ Write a → IfOk c.step.result (λ out. out ≡ given_of {V = g.row.V} (bit_of old.bits a) a)) c.self.view_is
     (given_after c.self.inside.parts c.step.new.self c.args.event c.step.result c.self.invariant c.step.ensures.ok)
 
 pub returns-clause-told : goal.returns-clause-told
 returns-clause-told g c =
-    let sound : IsShape (shown_of {V = g.row.V} c.self.inside.parts).shape = c.self.inside.parts.writer.table.checked.sound in
-    subst (λ (old : Shown g.row.V). IfOk c.step.result (λ out. (seen : World g.row.V) → Shows {V = g.row.V} old seen → IsReached g.row.V old.shape seen →
-    (next : World g.row.V) × Steps g.row.V old.shape seen c.args.event next × Gives {V = g.row.V} seen c.args.event next out × Shows {V = g.row.V} (shown_of {V = g.row.V} c.step.new.self) next ×
+    let sound : IsShape (view_of {V = g.row.V} c.self.inside.parts).shape = c.self.inside.parts.writer.table.checked.sound in
+    subst (λ (old : WorldView g.row.V). IfOk c.step.result (λ out. (seen : Trace g.row.V) → Shows {V = g.row.V} old seen → IsReached g.row.V old.shape seen →
+    (next : Trace g.row.V) × Steps g.row.V old.shape seen c.args.event next × EventGives {V = g.row.V} seen c.args.event next out × Shows {V = g.row.V} (view_of {V = g.row.V} c.step.new.self) next ×
     IsReached g.row.V old.shape next × All (IsTrueEnd g.row.V old.shape next) next.ended)) c.self.view_is
     (IfOk-weaker c.step.result _ _ (λ out leads seen shows reached.
     let n = leads seen shows in

@@ -1,6 +1,6 @@
 use Rattle.mc_core.proofs.writer.Writer.count_change.Goals as goal
 use Rattle.std.proofs.Common.{rules}
-use Rattle.mc_core.specs.Inside.Writers.{shape_at, words_at}
+use Rattle.mc_core.specs.Inside.Writers.{shape_of_writer, words_of_writer}
 use Rattle.mc_theory.specs.declared.act.Act.TheVariants as act
 use Rattle.mc_core.proofs.AllowedActs.{may_at}
 use Rattle.mc_core.proofs.DeedChanges.{change_placed, change_renewing, closing_placed, closing_renewing}
@@ -13,5 +13,5 @@ count-requires g c =
 pub count-requires-in-Renewing : goal.count-requires-in-Renewing
 count-requires-in-Renewing g c =
     let w = c.args.self.now in
-    let may = may_at g.row.V (shape_at w) (words_at w) w.hand w.cleared w.written w.progress _ act.Moment c.in-Renewing.is c.requires.may in
+    let may = may_at g.row.V (shape_of_writer w) (words_of_writer w) w.hand w.cleared w.written w.progress _ act.Moment c.in-Renewing.is c.requires.may in
     (search rules, (search rules, (c.requires.moment, (c.requires.used, (change_renewing g.row.V w.written w.progress _ _ c.in-Renewing.is w.whole may, closing_renewing w.written w.progress _ _ c.in-Renewing.is)))))

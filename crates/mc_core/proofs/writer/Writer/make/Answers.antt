@@ -2,15 +2,15 @@ use Rattle.mc_core.proofs.writer.Writer.make.Goals as goal
 use Rattle.std.proofs.Common.{rules, sym, subst, arith}
 use Rattle.mc_words.proofs.Keys.{stripe_of-lt}
 use Rattle.mc_words.specs.Keys.{stripe_of}
-use Rattle.mc_core.specs.Inside.Writers.{shape_at, IsMade}
+use Rattle.mc_core.specs.Inside.Writers.{shape_of_writer, IsMade}
 use Rattle.mc_theory.specs.declared.act.Act.{Act}
 use Rattle.mc_core.proofs.MadeActs.{on_ok}
 
 pub open-requires : goal.open-requires
 open-requires g c =
     let w = c.args.self.now in
-    let low = c.requires.counted.versions (stripe_of (shape_at w) c.in-Open.key) (stripe_of-lt (shape_at w) c.in-Open.key w.table.checked.sound) in
-    (search rules, (c.requires.used, (omega (arith, low, c.requires.changes), omega (arith, c.requires.changes))))
+    let low = c.requires.counted.versions (stripe_of (shape_of_writer w) c.in-Open.key) (stripe_of-lt (shape_of_writer w) c.in-Open.key w.table.checked.sound) in
+    (search rules, (c.requires.used, (omega (arith, low, c.requires.version_steps), omega (arith, c.requires.version_steps))))
 
 pub returns-in-Moment-clause-ok : goal.returns-in-Moment-clause-ok
 returns-in-Moment-clause-ok g c =

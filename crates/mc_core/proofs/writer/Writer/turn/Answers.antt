@@ -1,6 +1,6 @@
 use Rattle.mc_core.proofs.writer.Writer.turn.Goals as goal
 use Rattle.std.proofs.Common.{arith, refl, ◌∙◌, ◌≡◌, ◌≢◌, ◌+◌, ◌%◌, ◌⊎◌, Some, None, inl, inr}
-use Rattle.mc_core.specs.Inside.Writers.{shape_at}
+use Rattle.mc_core.specs.Inside.Writers.{shape_of_writer}
 use Rattle.mc_theory.specs.declared.act.Act.TheVariants as act
 use Rattle.mc_core.specs.declared.progress.Progress.TheVariants as progress
 use Rattle.mc_theory.proofs.Lists.HandTurns.{turn_over, turn_on}
@@ -11,7 +11,7 @@ pub returns : goal.returns
 returns g c =
     let w = c.args.self.now in
     let i = c.args.i in
-    let items = (shape_at w).items in
+    let items = (shape_of_writer w).items in
     let hand : c.if-next-shape.self ≡ (i + 1) % items = elim c.if-next-shape.branch [
       | then-next-shape v ↦ v.self-is ∙ turn_over i items (rw c.shape.ensures at v.if-next-shape.true)
       | else-next-shape v ↦ v.self-is ∙ turn_on i items c.requires.item (rw c.shape.ensures at v.if-next-shape.false)

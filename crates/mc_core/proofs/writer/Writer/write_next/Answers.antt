@@ -2,7 +2,7 @@ use Rattle.mc_core.proofs.writer.Writer.write_next.Goals as goal
 use Rattle.std.proofs.Common.{refl, ap, ◌+◌, arith}
 use Rattle.mc_words.specs.Places.{payload}
 use Rattle.mc_theory.specs.Phases as phases
-use Rattle.mc_core.specs.Inside.Writers.{shape_at, words_at}
+use Rattle.mc_core.specs.Inside.Writers.{shape_of_writer, words_of_writer}
 use Rattle.mc_theory.specs.declared.act.Act.TheVariants as act
 use Rattle.mc_core.specs.declared.progress.Progress.TheVariants as progress
 use Rattle.mc_core.proofs.MadeActs.{made, used_item, written_more}
@@ -18,4 +18,4 @@ returns g c = λ bit.
     let more = c.args.count + 1 in
     made w _ (omega arith) (act.Item c.args.i more c.args.word) bit (progress.Keyed c.args.key c.args.i c.args.count) (progress.Keyed c.args.key c.args.i more) c.requires.running refl e.shape e.words
     (ap (λ xs. phases.Keyed c.args.key c.args.i xs) (written_more g.row.V w.written c.args.count c.args.word w.whole c.requires.more)) refl refl refl refl
-    (rw (e.words, e.used, e.free) (used_item g.row.V (shape_at w) (words_at w) c.args.i more c.args.word w.table.used.items w.table.free c.requires.used))
+    (rw (e.words, e.used, e.free) (used_item g.row.V (shape_of_writer w) (words_of_writer w) c.args.i more c.args.word w.table.used.items w.table.free c.requires.used))

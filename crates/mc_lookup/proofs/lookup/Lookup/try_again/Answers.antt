@@ -1,12 +1,12 @@
 use Rattle.std.proofs.Common.{refl, arith}
 use Rattle.std.proofs.lemmas.Bool.{cond_below}
 use Rattle.mc_lookup.specs.declared.stage.Stage.TheVariants.{First, Over}
-use Rattle.mc_lookup.specs.Machine.{Left}
+use Rattle.mc_lookup.specs.Machine.{IsRemainder}
 use Rattle.mc_lookup.proofs.StageSteps.{both_refl}
 use Rattle.mc_lookup.proofs.lookup.Lookup.try_again.Goals as goal
 
 pub returns-then-self-eq0 : goal.returns-then-self-eq0
-unfolding Left
+unfolding IsRemainder
 returns-then-self-eq0 g c = record {
   shape = refl;
   key = refl;
@@ -16,7 +16,7 @@ returns-then-self-eq0 g c = record {
 }
 
 pub returns-else-self-eq0 : goal.returns-else-self-eq0
-unfolding Left
+unfolding IsRemainder
 returns-else-self-eq0 g c = record {
   shape = refl;
   key = refl;

@@ -26,14 +26,14 @@ returns-then-is_spent-clause-started g c s old same =
     let b = c.args.self.now in
     let call = PutCall c.args.key c.args.value.now in
     let told = answer.Put (Err why.Spent) in
-    let spent : PutIsSpent (shape_of b.checked) (quiet_of s) = omega (arith, c.if-is_spent.ensures.0 refl, c.from.ensures, ap (λ (x : Shape). x.depth) c.shape.ensures, old.changes) in
+    let spent : PutIsSpent (shape_of b.checked) (quiet_of s) = omega (arith, c.if-is_spent.ensures.0 refl, c.from.ensures, ap (λ (x : Shape). x.depth) c.shape.ensures, old.version_steps) in
     let planned : IsPlanned V b [] call s s told = idle_planned V b call s told old (spent, refl) tt in
     (subst (λ (plan : List Act). IsPlanned V b plan call s s told) (sym c.requires.plan) planned, refl)
 
 -- the limit is far enough
 unspent : (g : Over) (c : Else-is_spent g) (s : State g.row.V) → AreBooksOf g.row.V c.args.self.now s → PutIsSpent (shape_of c.args.self.now.checked) (quiet_of s) → ⊥
 unspent g c s old spent =
-    false≢true (c.if-is_spent.ensures.1 (omega (arith, spent, c.from.ensures, ap (λ (x : Shape). x.depth) c.shape.ensures, old.changes)))
+    false≢true (c.if-is_spent.ensures.1 (omega (arith, spent, c.from.ensures, ap (λ (x : Shape). x.depth) c.shape.ensures, old.version_steps)))
 
 pub find-requires-clause-placed : goal.find-requires-clause-placed
 find-requires-clause-placed g c =

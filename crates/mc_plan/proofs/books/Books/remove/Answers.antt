@@ -17,7 +17,7 @@ use Rattle.mc_plan.proofs.books.Books.remove.Given.{Over}
 
 -- the limit is far enough
 unspent : (g : Over) (c : Else-is_spent g) (s : State g.row.V) → AreBooksOf g.row.V c.args.self.now s → RemoveIsSpent (shape_of c.args.self.now.checked) (quiet_of s) → ⊥
-unspent g c s old spent = false≢true (c.if-is_spent.ensures.1 (omega (arith, spent, old.changes)))
+unspent g c s old spent = false≢true (c.if-is_spent.ensures.1 (omega (arith, spent, old.version_steps)))
 
 pub find-requires-clause-placed : goal.find-requires-clause-placed
 find-requires-clause-placed g c =
@@ -35,7 +35,7 @@ returns-in-Some-clause-planned g c s old same =
     let stands = subst (λ (x : List ℕ). Stands V sh x k (slot_number p) i) (c.moment-at.ensures.same ∙ same) c.in-Some.ensures.found in
     let not_spent = unspent g (goal.at.returns-in-Some-clause-planned g c).Else-is_spent s old in
     let planned = removal_planned V b k i at p c.give.new.self s b.checked.sound (omega arith) old c.in-Some.ensures.place.in_bucket stands not_spent (omega (arith, not_spent)) (moment_in V b s (g.P.Peek.words c.args.peek.now) old same at (ap (λ (n : ℕ). n + 1) c.moment-at.ensures.value)) c.give.ensures.kept c.give.ensures.items c.give.ensures.gives in
-    subst (λ (x : List Act). IsPlanned V (record b { free = c.give.new.self; changes = b.changes + 2 }) x (RemoveCall k) s s (answer.Remove (Ok (remove.Removed at)))) (sym (plan_is _ _ _ c.add_remove.ensures.items c.requires.plan)) planned
+    subst (λ (x : List Act). IsPlanned V (record b { free = c.give.new.self; version_steps = b.version_steps + 2 }) x (RemoveCall k) s s (answer.Remove (Ok (remove.Removed at)))) (sym (plan_is _ _ _ c.add_remove.ensures.items c.requires.plan)) planned
 
 pub returns-in-None-clause-planned : goal.returns-in-None-clause-planned
 returns-in-None-clause-planned g c s old same =

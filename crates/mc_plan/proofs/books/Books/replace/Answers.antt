@@ -5,7 +5,7 @@ use Rattle.mc_words.specs.Standing.{Stands}
 use Rattle.mc_theory.specs.States.{State}
 use Rattle.mc_theory.specs.declared.act.Act.{Act}
 use Rattle.mc_theory.specs.declared.act.Act.TheVariants as act
-use Rattle.mc_plan.specs.Clerks.{Call, IsPlanned, IsSweepOf, swept}
+use Rattle.mc_plan.specs.Clerks.{Call, IsPlanned, IsSweepOf, state_after_sweep}
 use Rattle.mc_plan.specs.Inside.Clerks.{IsReplacing}
 use Rattle.mc_plan.specs.declared.answer.Answer.{Answer}
 use Rattle.mc_plan.specs.declared.answer.Answer.TheVariants as answer
@@ -68,7 +68,7 @@ fill-requires g c =
     let taken = subst (λ (w : List ℕ). AreTaken sh w kept) (sym (now ∙ r.4)) (cut_taken sh s.words c.in-Some.place path.places.items path.hole kept c.cut_at-path.result.hole c.cut_at-path.ensures.cut was) in
     let few = cut_few c.in-Some.place path.places.items path.hole kept c.cut_at-path.result.hole c.cut_at-path.ensures.cut in
     let below = (victim_stands V c.args.self.now c.args.plan.now.items c.args.waiting r.0 s r.2 c.args.item r.3).0 in
-    (search rules, (known.width, (rw now (reaches V b s _ known r.4), (subst (λ (w : List ℕ). IsFilled sh w) (sym now) (filled_in V b s _ known r.4), (taken, (omega (arith, few, waits.least.within, b.checked.sound.depth), (below, (omega (arith, c.add_evict.ensures.many, ap length r.3.sweeping.empty), omega (arith, known.changes, known.limit, b.checked.sound.limit)))))))))
+    (search rules, (known.width, (rw now (reaches V b s _ known r.4), (subst (λ (w : List ℕ). IsFilled sh w) (sym now) (filled_in V b s _ known r.4), (taken, (omega (arith, few, waits.least.within, b.checked.sound.depth), (below, (omega (arith, c.add_evict.ensures.many, ap length r.3.sweeping.empty), omega (arith, known.version_steps, known.limit, b.checked.sound.limit)))))))))
 
 pub returns-clause-planned : goal.returns-clause-planned
 returns-clause-planned g c call s rs on same =
@@ -81,7 +81,7 @@ returns-clause-planned g c call s rs on same =
     let p = c.in-Some.place in
     let kept = c.cut_at-path.result.places.items in
     let end = c.cut_at-path.result.hole in
-    let mid = swept V sh s rs in
+    let mid = state_after_sweep V sh s rs in
     let back : s.words ≡ mid.words = sym (swept_still V sh s rs).words in
     let read = c.key_at-evicted.ensures.same ∙ c.moment-at.ensures.same ∙ same in
     let now = c.find.ensures.same ∙ read ∙ back in
@@ -91,17 +91,17 @@ returns-clause-planned g c call s rs on same =
     let stands = subst (λ (w : List ℕ). Stands V sh w e (slot_number p) i) back (subst (λ (j : ℕ). Stands V sh s.words e (slot_number p) j) one found) in
     let keys = subst (λ (w : List ℕ). AreKeys V sh w kept) now c.fill.ensures.keys in
     let at : c.moment-at.result + 2 ≡ moment mid.words + 2 = ap (λ (n : ℕ). n + 2) c.moment-at.ensures.value ∙ ap (λ (w : List ℕ). moment w + 2) (same ∙ back) in
-    let changes : c.fill.new.self.changes + 2 ≡ b.changes + (2 * length kept + 4) = omega (arith, ap (λ (x : Books). x.changes) c.fill.ensures.books) in
-    let planned = replaced_planned V b c.args.plan.now.items waiting call s rs i on e p kept end (c.moment-at.result + 2) (c.fill.new.self.changes + 2) c.fill.ensures.words (omega (arith, c.key_at-evicted.type_inv)) c.in-Some.ensures.place stands c.cut_at-path.ensures.cut keys at changes in
+    let changes : c.fill.new.self.version_steps + 2 ≡ b.version_steps + (2 * length kept + 4) = omega (arith, ap (λ (x : Books). x.version_steps) c.fill.ensures.books) in
+    let planned = replaced_planned V b c.args.plan.now.items waiting call s rs i on e p kept end (c.moment-at.result + 2) (c.fill.new.self.version_steps + 2) c.fill.ensures.words (omega (arith, c.key_at-evicted.type_inv)) c.in-Some.ensures.place stands c.cut_at-path.ensures.cut keys at changes in
     let first : c.add_evict.new.acts.items ≡ evict_acts e p = c.add_evict.ensures.items ∙ ap (λ (xs : List Act). xs ++ evict_acts e p) on.sweeping.empty in
     let acts : c.fill.new.plan.items ≡ replace_acts V sh mid.words waiting.key waiting.value i e p kept end ++ act.Mark i ∷ [] =
     c.fill.ensures.plan ∙ ap (λ (xs : List Act). (xs ++ put_acts V sh (g.P.Peek.words c.find.new.peek) waiting.key waiting.value i kept end) ++ act.Mark i ∷ []) first
     ∙ ap (λ (w : List ℕ). (evict_acts e p ++ put_acts V sh w waiting.key waiting.value i kept end) ++ act.Mark i ∷ []) now in
-    let books : record c.fill.new.self { changes = c.fill.new.self.changes + 2 } ≡ record b { changes = c.fill.new.self.changes + 2 } = ap (λ (x : Books). record x { changes = c.fill.new.self.changes + 2 }) c.fill.ensures.books in
+    let books : record c.fill.new.self { version_steps = c.fill.new.self.version_steps + 2 } ≡ record b { version_steps = c.fill.new.self.version_steps + 2 } = ap (λ (x : Books). record x { version_steps = c.fill.new.self.version_steps + 2 }) c.fill.ensures.books in
     let told : ℕ → Answer = λ n. answer.Put (Ok (put.Stored (c.moment-at.result + 2) n (Some e))) in
     let many : length kept ≡ c.len-moves.result = sym c.len-moves.ensures.value in (
-      subst (λ (n : ℕ). IsPlanned V (record c.fill.new.self { changes = c.fill.new.self.changes + 2 }) c.fill.new.plan.items call s mid (told n)) many
-          (subst (λ (xs : List Act). IsPlanned V (record c.fill.new.self { changes = c.fill.new.self.changes + 2 }) xs call s mid (told (length kept))) (sym acts)
+      subst (λ (n : ℕ). IsPlanned V (record c.fill.new.self { version_steps = c.fill.new.self.version_steps + 2 }) c.fill.new.plan.items call s mid (told n)) many
+          (subst (λ (xs : List Act). IsPlanned V (record c.fill.new.self { version_steps = c.fill.new.self.version_steps + 2 }) xs call s mid (told (length kept))) (sym acts)
           (subst (λ (x : Books). IsPlanned V x (replace_acts V sh mid.words waiting.key waiting.value i e p kept end ++ act.Mark i ∷ []) call s mid (told (length kept))) (sym books) planned.0)),
       subst (λ (n : ℕ). IsSweepOf V sh s rs (told n)) many planned.1,
     )

@@ -64,7 +64,7 @@ fill-requires g c =
     let ps = c.in-Some.path.places.items in
     let taken = subst (λ (x : List ℕ). AreTaken (shape_of b.checked) x ps) (sym (now ∙ same)) (chain_taken (shape_of b.checked) s.words c.args.key ps c.in-Some.path.hole least.chain) in
     let item = free_below b.free c.in-Some-take_least.item old.kept c.in-Some-take_least.ensures.free in
-    (search rules, (old.width, (rw now (reaches V b s w old same), (subst (λ (x : List ℕ). IsFilled (shape_of b.checked) x) (sym now) (filled_in V b s w old same), (taken, (omega (arith, least.within, b.checked.sound.depth), (omega (arith, item, old.items), (omega (arith, ap length c.requires.plan), omega (arith, old.changes, old.limit, b.checked.sound.limit)))))))))
+    (search rules, (old.width, (rw now (reaches V b s w old same), (subst (λ (x : List ℕ). IsFilled (shape_of b.checked) x) (sym now) (filled_in V b s w old same), (taken, (omega (arith, least.within, b.checked.sound.depth), (omega (arith, item, old.items), (omega (arith, ap length c.requires.plan), omega (arith, old.version_steps, old.limit, b.checked.sound.limit)))))))))
 
 pub returns-clause-started : goal.returns-clause-started
 returns-clause-started g c s old same unspent =
@@ -85,13 +85,13 @@ returns-clause-started g c s old same unspent =
     let keys = subst (λ (x : List ℕ). AreKeys V sh x ps) now c.fill.ensures.keys in
     let was = c.in-Some-take_least.ensures.free in
     let item = free_below b.free i old.kept was in
-    let planned : IsPlanned V (record b { free = free; changes = b.changes + steps }) (put_acts V sh s.words k v i ps path.hole ++ act.Mark i ∷ []) (PutCall k v) s s told =
+    let planned : IsPlanned V (record b { free = free; version_steps = b.version_steps + steps }) (put_acts V sh s.words k v i ps path.hole ++ act.Mark i ∷ []) (PutCall k v) s s told =
     stored_planned V b k v i c.args.at path free s b.checked.sound (omega arith) (payload_of V v c.told-value, c.fill.ensures.words) old (absent_in V b s w old same k c.requires.absent) least keys (omega (arith, item, old.items)) unspent (moment_in V b s w old same c.args.at c.requires.at) was c.take_least.ensures.kept c.take_least.ensures.items c.in-Some-take_least.ensures.takes in
     let acts : c.fill.new.plan.items ≡ put_acts V sh s.words k v i ps path.hole ++ act.Mark i ∷ [] = c.fill.ensures.plan ∙ ap (λ (x : List ℕ). (c.args.plan.now.items ++ put_acts V sh x k v i ps path.hole) ++ act.Mark i ∷ []) now ∙ ap (λ (xs : List Act). (xs ++ put_acts V sh s.words k v i ps path.hole) ++ act.Mark i ∷ []) c.requires.plan in
     let many : length ps ≡ c.len.result = sym c.len.ensures.value in (
       subst (λ (n : ℕ). IsPlanned V c.fill.new.self c.fill.new.plan.items (PutCall k v) s s (answer.Put (Ok (put.Stored c.args.at n None)))) many
           (subst (λ (x : List Act). IsPlanned V c.fill.new.self x (PutCall k v) s s told) (sym acts)
           (subst (λ (x : Books). IsPlanned V x (put_acts V sh s.words k v i ps path.hole ++ act.Mark i ∷ []) (PutCall k v) s s told) (sym c.fill.ensures.books)
-          (subst (λ (f : Shape). IsPlanned V (record b { finder = f; free = free; changes = b.changes + steps }) (put_acts V sh s.words k v i ps path.hole ++ act.Mark i ∷ []) (PutCall k v) s s told) (sym c.path.ensures.finder) planned))),
+          (subst (λ (f : Shape). IsPlanned V (record b { finder = f; free = free; version_steps = b.version_steps + steps }) (put_acts V sh s.words k v i ps path.hole ++ act.Mark i ∷ []) (PutCall k v) s s told) (sym c.path.ensures.finder) planned))),
       refl,
     )

@@ -5,7 +5,7 @@ use Rattle.std.specs.Prelude.{slice_get}
 use Rattle.mc_theory.specs.Lists.{Made}
 use Rattle.mc_theory.specs.States.{State}
 use Rattle.mc_theory.specs.declared.act.Act.{Act}
-use Rattle.mc_plan.specs.Clerks.{Call, IsAt, IsOn, acts_left, left_in, next_act, next_in, shape_in}
+use Rattle.mc_plan.specs.Clerks.{Call, IsAtStage, IsOn, acts_left, left_in, next_act, next_in, shape_of_clerk}
 use Rattle.mc_plan.specs.Inside.Clerks.{HasEndedSweep}
 use Rattle.mc_plan.specs.declared.clerk.Stage.{Stage}
 use Rattle.mc_plan.specs.declared.clerk.Stage.TheVariants.{Sweeping}
@@ -29,7 +29,7 @@ ended : (g : Over) (c : Then-is_none g) (call : Call) (s : State g.row.V) (acts 
     → HasEndedSweep g.row.V (record c.args.self.now { stage = Sweeping (record c.in-Sweeping.waiting { sweep = c.after.new.self }) }) call s r.readings
 ended g c call s acts on all r = record {
   begun = on.begun;
-  now = (r.sweeping, over_at c.next.result _ _ (c.next.ensures.round (shape_in c.args.self.now).items s.hand r.readings r.sweeping.has) (c.is_none.ensures ∙ ap not c.if-is_none.true), r.none);
+  now = (r.sweeping, over_at c.next.result _ _ (c.next.ensures.round (shape_of_clerk c.args.self.now).items s.hand r.readings r.sweeping.has) (c.is_none.ensures ∙ ap not c.if-is_none.true), r.none);
 }
 
 pub go_on-requires : goal.go_on-requires
@@ -78,7 +78,7 @@ returns-in-Planned-clause-on g c call s acts a on next words =
     let told = c.in-Planned.field-0 in
     let makes = at_stage V clerk call s acts told on c.in-Planned.is in
     let more = plan_next V clerk.books clerk.plan.items clerk.made call s acts told makes a c.args.word (planned_next g (goal.at.returns-in-Planned-clause-on g c).In-Planned a next) in
-    record { begun = on.begun; now = subst (λ (st : Stage V). IsAt V st clerk.books clerk.plan.items (clerk.made + 1) call s (acts ++ record { act = a; bit = c.args.word } ∷ [])) (sym c.in-Planned.is) more }
+    record { begun = on.begun; now = subst (λ (st : Stage V). IsAtStage V st clerk.books clerk.plan.items (clerk.made + 1) call s (acts ++ record { act = a; bit = c.args.word } ∷ [])) (sym c.in-Planned.is) more }
 
 pub returns-in-Planned-clause-left : goal.returns-in-Planned-clause-left
 unfolding acts_left

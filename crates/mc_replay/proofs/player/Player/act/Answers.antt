@@ -1,10 +1,10 @@
 use Rattle.std.proofs.Common.{◌≡◌, ℕ, ◌+◌, ◌++◌, ◌∷◌, [], refl, subst, sym, ap, ◌∙◌, arith, rules}
 use Rattle.mc_theory.specs.Lists.{Made}
-use Rattle.mc_theory.specs.Worlds.{World, bit_of}
+use Rattle.mc_theory.specs.Traces.{Trace, bit_of}
 use Rattle.mc_theory.specs.declared.event.Stepped.{Stepped}
 use Rattle.mc_plan.specs.Clerks.{IsOn}
 use Rattle.mc_replay.specs.Replay.{WriterMakes}
-use Rattle.mc_replay.specs.Inside.Players.{shape_in, bit_given, with_acts}
+use Rattle.mc_replay.specs.Inside.Players.{shape_of_player, bit_given, with_acts}
 use Rattle.mc_replay.specs.declared.player.Player.{Player}
 use Rattle.mc_replay.proofs.WriterCalls.{may_act, words_after, bit_given_is, made_of, makes_one, call_goes_on, goes_on_as, TellsAs}
 use Rattle.mc_replay.proofs.player.Player.act.Goals as goal
@@ -37,8 +37,8 @@ returns-in-Ok-clause-made g c = λ most p w call room.
     let told : c.bit_in.result ≡ bit_of w.bits a = read ∙ ap (λ b. bit_of b a) call.at.world.bits in
     let words = words_after g.row.V old most p w a c.bit_in.result c.step.new.self call read c.in-Ok.ensures.state in
     let m : Made = made_of w a in
-    let makes : WriterMakes g.row.V (shape_in old) w (m ∷ []) did.0 = makes_one g.row.V (shape_in old) w did.0 a did.1 in
-    let events : did.0.events ≡ w.events + 1 = ap (λ (y : World g.row.V). y.events) did.1.2 in
+    let makes : WriterMakes g.row.V (shape_of_player old) w (m ∷ []) did.0 = makes_one g.row.V (shape_of_player old) w did.0 a did.1 in
+    let events : did.0.events ≡ w.events + 1 = ap (λ (y : Trace g.row.V). y.events) did.1.2 in
     let on : IsOn g.row.V mid.clerk p.call p.from (p.acts ++ m ∷ []) = subst (λ (b : ℕ). IsOn g.row.V mid.clerk p.call p.from (p.acts ++ record { act = a; bit = b } ∷ [])) told (c.after.ensures.on p.call p.from p.acts a call.on (sym c.in-Some.ensures.value) words) in
     let next = call_goes_on g.row.V old mid most p w did.0 m call c.in-Ok.ensures.shape did.3 makes events refl c.after.ensures.shape on c.after.ensures.left in
     let tells : TellsAs g.row.V mid new c.answer.result = record { world = refl; readers = refl; shape = c.answer.ensures.shape; ends = c.answer.ensures.some; some = c.answer.ensures.told; none = c.answer.ensures.none } in

@@ -2,7 +2,7 @@ use Rattle.std.proofs.Common.{arith, refl, ap}
 use Rattle.mc_theory.specs.Lists.{state_of}
 use Rattle.mc_theory.specs.States.{State}
 use Rattle.mc_plan.specs.Clerks.{Call, PutCall}
-use Rattle.mc_replay.specs.Inside.Players.{shape_in}
+use Rattle.mc_replay.specs.Inside.Players.{shape_of_player}
 use Rattle.mc_replay.specs.declared.player.Player.{Player}
 use Rattle.mc_replay.proofs.WriterCalls.{begun, begins_as, TellsAs}
 use Rattle.mc_replay.proofs.player.Player.begin_put.Goals as goal
@@ -13,7 +13,7 @@ returns g c = λ most w idle.
     let mid : Player g.row.V = record { world = c.args.self.now.world; clerk = c.put.new.self; readers = c.args.self.now.readers } in
     let new : Player g.row.V = record { world = c.args.self.now.world; clerk = c.answer.new.self; readers = c.args.self.now.readers } in
     let call : Call = PutCall c.args.key c.args.value in
-    let s : State g.row.V = state_of g.row.V (shape_in old) w.acts in
+    let s : State g.row.V = state_of g.row.V (shape_of_player old) w.acts in
     let on = c.put.ensures.on s idle.knows (ap (λ (y : State g.row.V). y.words) idle.at.world.state) in
     let in_call = begun g.row.V old mid most call w idle refl refl c.put.ensures.shape on (omega (arith, c.put.ensures.left, c.put.new.self.books.checked.sound.items, c.put.new.self.books.checked.sound.buckets)) in
     let tells : TellsAs g.row.V mid new c.answer.result = record { world = refl; readers = refl; shape = c.answer.ensures.shape; ends = c.answer.ensures.some; some = c.answer.ensures.told; none = c.answer.ensures.none } in

@@ -4,7 +4,7 @@ use Rattle.mc_plan.specs.Clerks.{acts_left, next_act}
 use Rattle.mc_plan.specs.declared.answer.Answer.{Answer}
 use Rattle.mc_replay.specs.Inside.Players.{IsInCall, MakesAct, with_acts}
 use Rattle.mc_replay.specs.Replay.{Pending}
-use Rattle.mc_theory.specs.Worlds.{World}
+use Rattle.mc_theory.specs.Traces.{Trace}
 use Rattle.mc_replay.specs.declared.player.Player.{Player}
 use Rattle.mc_replay.proofs.WriterCalls.{makes_nothing, makes_more, makes_last_of, room_left}
 use Rattle.mc_replay.proofs.player.Player.finish.Goals as goal
@@ -40,7 +40,7 @@ pub acts-preserved : goal.acts-preserved
 acts-preserved g c =
     let old : Player g.row.V = c.args.self.now in
     let now : Player g.row.V = c.acts.self in
-    let step = λ (most : ℕ) (p : Pending g.row.V) (w : World g.row.V) (call : IsInCall g.row.V old most p w) (runs : IsSome (next_act old.clerk)) (room : most + acts_left old.clerk < 2 ^ 64 - 1).
+    let step = λ (most : ℕ) (p : Pending g.row.V) (w : Trace g.row.V) (call : IsInCall g.row.V old most p w) (runs : IsSome (next_act old.clerk)) (room : most + acts_left old.clerk < 2 ^ 64 - 1).
     let some = c.acts.invariant.1 most p w call runs room in
     let act = c.in_ok-answer.ensures.made (most + (acts_left old.clerk - acts_left now.clerk)) (with_acts p some.acts) some.after some.call.0 (room_left g.row.V old now most p w some room) in
     makes_more g.row.V old now c.act.new.self most p w some (subst (λ (o : Option Answer). MakesAct g.row.V now c.act.new.self (most + (acts_left old.clerk - acts_left now.clerk)) (with_acts p some.acts) some.after o) c.in_default.is act) in

@@ -1,7 +1,7 @@
 use Rattle.std.proofs.Common.{◌+◌, ◌<◌, [], refl, subst, rules, arith}
 use Rattle.mc_words.specs.declared.shape.Shape.{Shape}
 use Rattle.mc_theory.specs.Lists.{state_of}
-use Rattle.mc_replay.specs.Inside.Players.{shape_in, most_steps}
+use Rattle.mc_replay.specs.Inside.Players.{shape_of_player, most_steps}
 use Rattle.mc_replay.specs.declared.player.Player.{Player}
 use Rattle.mc_replay.proofs.WriterCalls.{agrees_now, looks_found, looks_missed, idle_more, makes_none}
 use Rattle.mc_replay.proofs.player.Player.get.Goals as goal
@@ -10,7 +10,7 @@ pub mark-requires : goal.mark-requires
 mark-requires g c =
     let first = c.requires in
     let stands = c.in-Some.ensures.item.1 in
-    let in_items : c.in-Some.found.0 < (shape_in {V = g.row.V} c.args.self.now).items = subst (λ (y : Shape). c.in-Some.found.0 < y.items) c.checked-checked.ensures stands.names.in_items in
+    let in_items : c.in-Some.found.0 < (shape_of_player {V = g.row.V} c.args.self.now).items = subst (λ (y : Shape). c.in-Some.found.0 < y.items) c.checked-checked.ensures stands.names.in_items in
     (search rules, (first.0, first.1, first.2, first.3, in_items))
 
 pub returns-in-Some : goal.returns-in-Some
@@ -18,7 +18,7 @@ returns-in-Some g c = λ most w idle room.
     let old : Player g.row.V = c.args.self.now in
     let marked = c.mark.ensures most w idle room in
     let agrees = agrees_now g.row.V old most w _ idle c.checked-checked.ensures in
-    let value = c.in-Some.ensures.found (state_of g.row.V (shape_in old) w.acts).history agrees in
+    let value = c.in-Some.ensures.found (state_of g.row.V (shape_of_player old) w.acts).history agrees in
     record {
       acts = _;
       after = marked.after;
@@ -32,12 +32,12 @@ pub returns-in-None : goal.returns-in-None
 returns-in-None g c = λ most w idle room.
     let old : Player g.row.V = c.args.self.now in
     let agrees = agrees_now g.row.V old most w _ idle c.checked-checked.ensures in
-    let absent = c.in-None.ensures.none (state_of g.row.V (shape_in old) w.acts).history agrees in
+    let absent = c.in-None.ensures.none (state_of g.row.V (shape_of_player old) w.acts).history agrees in
     record {
       acts = [];
       after = w;
       looks = looks_missed g.row.V old most c.args.key c.moment-at.result w _ idle c.checked-checked.ensures absent c.moment-at.ensures.value;
-      makes = makes_none g.row.V (shape_in old) w;
+      makes = makes_none g.row.V (shape_of_player old) w;
       shape = refl;
       idle = idle_more g.row.V old most (most + most_steps) w (omega arith) idle;
     }

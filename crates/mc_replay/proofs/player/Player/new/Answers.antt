@@ -3,7 +3,7 @@ use Rattle.std.proofs.lemmas.List.{length-replicate}
 use Rattle.mc_theory.proofs.Lists.Fronts.{state_none}
 use Rattle.mc_theory.specs.Lists.{state_of}
 use Rattle.mc_theory.specs.States.{opening}
-use Rattle.mc_theory.specs.Worlds.{IsReached, first_world}
+use Rattle.mc_theory.specs.Traces.{IsReached, first_trace}
 use Rattle.mc_plan.specs.Clerks.{Knows}
 use Rattle.mc_words.specs.Checks.{shape_of}
 use Rattle.mc_words.specs.declared.shape.Shape.{Shape}
@@ -16,7 +16,7 @@ returns-in-Ok-new-clause-fits g c =
     record {
       at = record {
         world = c.in-Ok.ensures.ok.1;
-        reached = subst (λ (y : Shape). IsReached g.row.V y (first_world g.row.V sh c.args.readers)) (sym c.in-Ok.ensures.ok.0) (record { readers = c.args.readers; events = []; runs = refl });
+        reached = subst (λ (y : Shape). IsReached g.row.V y (first_trace g.row.V sh c.args.readers)) (sym c.in-Ok.ensures.ok.0) (record { readers = c.args.readers; events = []; runs = refl });
         shape = c.in-Ok-new.ensures.shape ∙ sym c.in-Ok.ensures.ok.0;
         readers = length-replicate c.args.readers None;
         events = omega arith;

@@ -2,7 +2,7 @@ use Rattle.std.proofs.Common.{rules, arith}
 use Rattle.std.proofs.lemmas.Result.{IfOk-weaker}
 use Rattle.mc_theory.specs.Lists.{state_of}
 use Rattle.mc_plan.specs.Clerks.{Call, RemoveCall}
-use Rattle.mc_replay.specs.Inside.Players.{shape_in}
+use Rattle.mc_replay.specs.Inside.Players.{shape_of_player}
 use Rattle.mc_replay.specs.Replay.{pending}
 use Rattle.mc_replay.specs.declared.player.Player.{Player}
 use Rattle.mc_replay.proofs.WriterCalls.{whole_at_once, whole_in_time}
@@ -27,6 +27,6 @@ returns-in-None-clause-made g c =
     let mid : Player g.row.V = c.begin_remove.new.self in
     let call : Call = RemoveCall c.args.key in
     let begins = c.in-None.ensures most w idle in
-    let done = made most (pending call (state_of g.row.V (shape_in old) w.acts)) w begins.1.0 (omega (arith, begins.1.0.few, room)) in
+    let done = made most (pending call (state_of g.row.V (shape_of_player old) w.acts)) w begins.1.0 (omega (arith, begins.1.0.few, room)) in
     whole_in_time g.row.V old mid c.finish.new.self most call w a begins.0 begins.1.0.few done)
     c.finish.ensures.made

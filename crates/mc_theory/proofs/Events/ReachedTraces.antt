@@ -1,4 +1,4 @@
--- Every reached world is sound, and every lookup that ended has a true answer.
+-- Every reached trace is sound, and every lookup that ended has a true answer.
 use Rattle.std.proofs.Common.{ℕ, zero, suc, ◌≡◌, ◌+◌, ◌^◌, ◌<◌, ◌≤◌, ◌⊎◌, List, [], ◌∷◌, ◌++◌, length, get_or, replicate, Option, Some, None, refl, ap, sym, subst, inl, inr, arith}
 use Rattle.std.specs.Prelude.{slice_get, slice_set}
 use Rattle.std.specs.List.{All}
@@ -6,10 +6,10 @@ use Rattle.std.proofs.lemmas.List.{length_push}
 use Rattle.std.proofs.lemmas.List.Elements.{All-push, All-weaker}
 use Rattle.mc_theory.specs.Lists.{IsLawful, Made}
 use Rattle.mc_theory.specs.Lookups.{IsLookup}
-use Rattle.mc_theory.specs.Phases.{runs}
+use Rattle.mc_theory.specs.Phases.{close_owed}
 use Rattle.mc_theory.specs.Readings.{AreRead, IsWordOf, Reading, RiseTo}
 use Rattle.mc_theory.specs.States.{State}
-use Rattle.mc_theory.specs.Worlds.{Running, Ended, World, bit_of, ReadsNext, Steps, Runs, start_of, first_world, first_read, IsTrueEnd, WorldsAreTrue}
+use Rattle.mc_theory.specs.Traces.{OpenLookup, Ended, Trace, bit_of, ReadsNext, Steps, StepsAll, start_of, first_trace, first_read, IsTrueEnd, TracesAreTrue}
 use Rattle.mc_theory.specs.declared.event.Event.{Event}
 use Rattle.mc_theory.specs.declared.event.Event.TheVariants.{Write, Begin, Read}
 use Rattle.mc_words.specs.Shapes.{IsShape}
@@ -38,7 +38,7 @@ rise_start : (rs : List Reading) (r : Reading) (e : ℕ) → r.front ≡ e → R
 rise_start [] r e h up = (omega arith, omega arith)
 rise_start (x ∷ xs) r e h up = (omega arith, rise_push x.front xs r e (rise_on x.front xs e r.front up.1 (omega arith)) (omega arith))
 
-sound_more : (V : ℕ) (sh : Shape) (w : World V) (run : Running) (r : Reading) → IsSound V sh w.acts run.key run.sofar (length w.acts) → ReadsNext V sh w run r → IsSound V sh w.acts run.key (run.sofar ++ r ∷ []) (length w.acts)
+sound_more : (V : ℕ) (sh : Shape) (w : Trace V) (run : OpenLookup) (r : Reading) → IsSound V sh w.acts run.key run.sofar (length w.acts) → ReadsNext V sh w run r → IsSound V sh w.acts run.key (run.sofar ++ r ∷ []) (length w.acts)
 sound_more V sh w run r s next = record {
   in_range = s.in_range;
   read = read_push V sh w.acts run.sofar r s.read (subst (λ (y : State V). IsWordOf V sh y.words r.access r.word) (sym (front_all V sh w.acts r.front (omega (arith, next.now)))) next.word, tt);
@@ -54,41 +54,41 @@ read_after_set (y ∷ ys) zero (suc r) o x e = inr ((λ f. cc), e)
 read_after_set (y ∷ ys) (suc i) zero o x e = inr ((λ f. cc), e)
 read_after_set (y ∷ ys) (suc i) (suc r) o x e = elim (read_after_set ys i r o x e) [ inl new ↦ inl (ap suc new.0, new.1) | inr old ↦ inr ((λ f. old.0 (omega arith)), old.1) ]
 
-pub all_idle : (m r : ℕ) (run : Running) → slice_get (replicate {A = Option Running} m None) r ≡ Some (Some run) → ⊥
+pub all_idle : (m r : ℕ) (run : OpenLookup) → slice_get (replicate {A = Option OpenLookup} m None) r ≡ Some (Some run) → ⊥
 all_idle zero r run e = cc
 all_idle (suc m) zero run e = cc
 all_idle (suc m) (suc r) run e = all_idle m r run e
 
--- ---- what holds of a world
+-- ---- what holds of a trace
 abbrev pub EndedWell : (V : ℕ) → Shape → List Made → Ended V → Type 0
 EndedWell V sh acts e = IsSound V sh acts e.told.key e.read e.stop × IsLookup V sh e.told.key sh.tries e.read e.told.reply
 
-pub record WorldHolds (V : ℕ) (sh : Shape) (w : World V) : Type 0 where
+pub record WorldHolds (V : ℕ) (sh : Shape) (w : Trace V) : Type 0 where
   pub lawful : IsLawful V sh w.acts
-  pub running : (r : ℕ) (run : Running) → slice_get w.readers r ≡ Some (Some run) → IsSound V sh w.acts run.key run.sofar (length w.acts)
+  pub running : (r : ℕ) (run : OpenLookup) → slice_get w.readers r ≡ Some (Some run) → IsSound V sh w.acts run.key run.sofar (length w.acts)
   pub ended : All (EndedWell V sh w.acts) w.ended
 
 ended_push : (V : ℕ) (sh : Shape) (acts : List Made) (x : Made) (es : List (Ended V)) → All (EndedWell V sh acts) es → All (EndedWell V sh (acts ++ x ∷ [])) es
 ended_push V sh acts x es all =
     All-weaker (EndedWell V sh acts) (EndedWell V sh (acts ++ x ∷ [])) (λ e a. (sound_push V sh acts x e.told.key e.read e.stop e.stop (omega arith) (omega (arith, a.0.fits)) a.0, a.1)) es all
 
-sound_of : (V : ℕ) (sh : Shape) (acts : List Made) (a b : Running) → Some a ≡ Some b → IsSound V sh acts a.key a.sofar (length acts) → IsSound V sh acts b.key b.sofar (length acts)
+sound_of : (V : ℕ) (sh : Shape) (acts : List Made) (a b : OpenLookup) → Some a ≡ Some b → IsSound V sh acts a.key a.sofar (length acts) → IsSound V sh acts b.key b.sofar (length acts)
 sound_of V sh acts a b e s =
     let is : a ≡ b = cc in
-    subst (λ (y : Running). IsSound V sh acts y.key y.sofar (length acts)) is s
+    subst (λ (y : OpenLookup). IsSound V sh acts y.key y.sofar (length acts)) is s
 
 -- each event keeps it
-pub step_holds : (V : ℕ) (sh : Shape) (w x : World V) (e : Event) → WorldHolds V sh w → Steps V sh w e x → WorldHolds V sh x
+pub step_holds : (V : ℕ) (sh : Shape) (w x : Trace V) (e : Event) → WorldHolds V sh w → Steps V sh w e x → WorldHolds V sh x
 step_holds V sh w x (Write a) h s =
     let y : Made = record { act = a; bit = bit_of w.bits a } in
-    subst (λ (z : World V). WorldHolds V sh z) (sym s.2) (record {
+    subst (λ (z : Trace V). WorldHolds V sh z) (sym s.2) (record {
       lawful = lawful_push V sh w.acts y h.lawful s.0;
       running = λ r run e. sound_push V sh w.acts y run.key run.sofar (length w.acts) (length (w.acts ++ y ∷ [])) (omega (arith, length_push w.acts y)) (omega (arith, length_push w.acts y)) (h.running r run e);
       ended = ended_push V sh w.acts y w.ended h.ended;
     })
 step_holds V sh w x (Begin r k) h s =
-    let new : Running = record { key = k; sofar = []; first = 0 } in
-    subst (λ (z : World V). WorldHolds V sh z) (sym s.3) (record {
+    let new : OpenLookup = record { key = k; sofar = []; first = 0 } in
+    subst (λ (z : Trace V). WorldHolds V sh z) (sym s.3) (record {
       lawful = h.lawful;
       running = λ q run e. elim (read_after_set w.readers r q (Some new) (Some run) e) [
         | inl is ↦ sound_of V sh w.acts new run is.1 (record { in_range = s.1; read = tt; rise = omega arith; fits = omega arith })
@@ -97,11 +97,11 @@ step_holds V sh w x (Begin r k) h s =
       ended = h.ended;
     })
 step_holds V sh w x (Read r) h s =
-    let run : Running = s.0 in
+    let run : OpenLookup = s.0 in
     let reading : Reading = s.1 in
     let sound = sound_more V sh w run reading (h.running r run s.2) s.3 in
     elim s.5 [
-      | inl over ↦ subst (λ (z : World V). WorldHolds V sh z) (sym over.2) (record {
+      | inl over ↦ subst (λ (z : Trace V). WorldHolds V sh z) (sym over.2) (record {
         lawful = h.lawful;
         running = λ q other e. elim (read_after_set w.readers r q None (Some other) e) [
           | inl is ↦ absurd (cc (is.1))
@@ -110,8 +110,8 @@ step_holds V sh w x (Read r) h s =
         ended = All-push (EndedWell V sh w.acts) w.ended _ h.ended (sound, over.1);
       })
       | inr more ↦
-          let new : Running = record { key = run.key; sofar = run.sofar ++ reading ∷ []; first = first_read w.events run } in
-          subst (λ (z : World V). WorldHolds V sh z) (sym more.1) (record {
+          let new : OpenLookup = record { key = run.key; sofar = run.sofar ++ reading ∷ []; first = first_read w.events run } in
+          subst (λ (z : Trace V). WorldHolds V sh z) (sym more.1) (record {
             lawful = h.lawful;
             running = λ q other e. elim (read_after_set w.readers r q (Some new) (Some other) e) [
               | inl is ↦ sound_of V sh w.acts new other is.1 sound
@@ -121,25 +121,25 @@ step_holds V sh w x (Read r) h s =
           })
     ]
 
-pub runs_hold : (V : ℕ) (sh : Shape) (w : World V) (es : List Event) (x : World V) → WorldHolds V sh w → Runs V sh w es x → WorldHolds V sh x
-runs_hold V sh w [] x h r = subst (λ (z : World V). WorldHolds V sh z) (sym r) h
+pub runs_hold : (V : ℕ) (sh : Shape) (w : Trace V) (es : List Event) (x : Trace V) → WorldHolds V sh w → StepsAll V sh w es x → WorldHolds V sh x
+runs_hold V sh w [] x h r = subst (λ (z : Trace V). WorldHolds V sh z) (sym r) h
 runs_hold V sh w (e ∷ es) x h r = runs_hold V sh r.0 es x (step_holds V sh w r.0 e h r.1) r.2
 
-pub first_holds : (V : ℕ) (sh : Shape) (readers : ℕ) → WorldHolds V sh (first_world V sh readers)
+pub first_holds : (V : ℕ) (sh : Shape) (readers : ℕ) → WorldHolds V sh (first_trace V sh readers)
 first_holds V sh readers = record {
   lawful = lawful_none V sh;
   running = λ r run e. absurd (all_idle readers r run e);
   ended = λ k d l. absurd (omega arith);
 }
 
-pub ends_true : (V : ℕ) (sh : Shape) (w : World V) → IsShape sh → WorldHolds V sh w → All (IsTrueEnd V sh w) w.ended
+pub ends_true : (V : ℕ) (sh : Shape) (w : Trace V) → IsShape sh → WorldHolds V sh w → All (IsTrueEnd V sh w) w.ended
 ends_true V sh w shape h = λ k d l.
     let e = get_or w.ended k d in
     let a = h.ended k d l in
     let true = lookup_true V sh w.acts e.told.key sh.tries (start_of e.read) e.stop e.read e.told.reply shape h.lawful a.0.in_range a.0.fits a.0.read a.0.rise a.1 in
     record { looked = a.1; true = true.0; between = true.1 }
 
-pub worlds_are_true : (V : ℕ) → WorldsAreTrue V
-worlds_are_true V sh readers es w shape runs =
-    let h = runs_hold V sh (first_world V sh readers) es w (first_holds V sh readers) runs in
+pub traces_are_true : (V : ℕ) → TracesAreTrue V
+traces_are_true V sh readers es w shape close_owed =
+    let h = runs_hold V sh (first_trace V sh readers) es w (first_holds V sh readers) close_owed in
     (h.lawful, ends_true V sh w shape h)

@@ -1,4 +1,4 @@
--- A world: one writer and some readers, each event one atomic step.
+-- A trace: one writer and some readers, each event one atomic step.
 use Rattle.std.specs.Prelude.{ℕ, ◌≡◌, ◌≢◌, ◌+◌, ◌-◌, ◌^◌, ◌<◌, ◌≤◌, ◌⊎◌, List, [], ◌∷◌, ◌++◌, All, length, map, Option, Some, None, slice_get, slice_set, slice_index, replicate}
 use Rattle.mc_words.specs.History.{IsTrueAnswer}
 use Rattle.mc_words.specs.Shapes.{IsShape}
@@ -22,7 +22,7 @@ use Rattle.mc_theory.specs.declared.event.Unlawful.{Unlawful}
 use Rattle.mc_theory.specs.declared.event.Unlawful.TheVariants as unlawful
 
 -- a lookup that runs: its key, what it has read, and the number of the event that made its first reading
-pub record Running : Type 0 where
+pub record OpenLookup : Type 0 where
   pub key : ℕ
   pub sofar : List Reading
   pub first : ℕ
@@ -34,16 +34,16 @@ pub record Ended (V : ℕ) : Type 0 where
   pub stop : ℕ
 
 -- bits are the recency bits, by item; events counts the events so far
-pub record World (V : ℕ) : Type 0 where
+pub record Trace (V : ℕ) : Type 0 where
   pub acts : List Made
   pub bits : List ℕ
-  pub readers : List (Option Running)
+  pub readers : List (Option OpenLookup)
   pub ended : List (Ended V)
   pub events : ℕ
 
--- a new world
-abbrev pub first_world : (V : ℕ) → Shape → ℕ → World V
-first_world V sh readers = record { acts = []; bits = replicate sh.items 0; readers = replicate readers None; ended = []; events = 0 }
+-- a new trace
+abbrev pub first_trace : (V : ℕ) → Shape → ℕ → Trace V
+first_trace V sh readers = record { acts = []; bits = replicate sh.items 0; readers = replicate readers None; ended = []; events = 0 }
 
 -- what a recency bit may be
 abbrev pub IsBit : ℕ → Type 0
@@ -70,34 +70,34 @@ given_of bit (act.Hand i) = stepped.Word bit
 given_of bit _ = stepped.Nothing
 
 -- the event is lawful, whatever was counted
-abbrev pub IsLawfulNow : {V : ℕ} → Shape → World V → Event → Type 0
+abbrev pub IsLawfulNow : {V : ℕ} → Shape → Trace V → Event → Type 0
 IsLawfulNow {V} sh w (Write a) = IsAllowed sh (state_of V sh w.acts) a
 IsLawfulNow sh w (Begin r k) = (slice_get w.readers r ≡ Some None) × (k < 2 ^ 64)
-IsLawfulNow sh w (Read r) = (run : Running) × (slice_get w.readers r ≡ Some (Some run))
+IsLawfulNow sh w (Read r) = (run : OpenLookup) × (slice_get w.readers r ≡ Some (Some run))
 
 -- after an open two version changes have to be left
-abbrev pub HasChanges : ℕ → ℕ → Act → Type 0
-HasChanges limit changes (act.Open k d) = changes + 2 ≤ limit
-HasChanges limit changes _ = Unit {0}
+abbrev pub HasVersionSteps : ℕ → ℕ → Act → Type 0
+HasVersionSteps limit changes (act.Open k d) = changes + 2 ≤ limit
+HasVersionSteps limit changes _ = Unit {0}
 
 -- the event passes no limit
-abbrev pub IsWithin : {V : ℕ} → Shape → World V → Event → Type 0
-IsWithin {V} sh w (Write a) = (w.events < 2 ^ 64 - 1) × HasChanges sh.limit (state_of V sh w.acts).changes a
+abbrev pub IsWithin : {V : ℕ} → Shape → Trace V → Event → Type 0
+IsWithin {V} sh w (Write a) = (w.events < 2 ^ 64 - 1) × HasVersionSteps sh.limit (state_of V sh w.acts).version_steps a
 IsWithin sh w _ = w.events < 2 ^ 64 - 1
 
 -- why an event is refused
-abbrev pub Refuses : {V : ℕ} → Shape → World V → Event → Unlawful → Type 0
-Refuses {V} sh w (Write a) unlawful.NotLawful = IsAllowed sh (state_of V sh w.acts) a → ⊥
-Refuses sh w (Read r) unlawful.NotLawful = slice_get w.readers r ≡ Some None
-Refuses sh w (Begin r k) unlawful.NoReader = length w.readers ≤ r
-Refuses sh w (Read r) unlawful.NoReader = length w.readers ≤ r
-Refuses sh w (Begin r k) unlawful.StillRunning = (run : Running) × (slice_get w.readers r ≡ Some (Some run))
-Refuses sh w e unlawful.Limit = IsLawfulNow sh w e × (IsWithin sh w e → ⊥)
-Refuses sh w (Write act.Moment) unlawful.NoMemory = IsLawfulNow sh w (Write act.Moment) × IsWithin sh w (Write act.Moment)
-Refuses sh w _ _ = ⊥
+abbrev pub RefusesEvent : {V : ℕ} → Shape → Trace V → Event → Unlawful → Type 0
+RefusesEvent {V} sh w (Write a) unlawful.NotLawful = IsAllowed sh (state_of V sh w.acts) a → ⊥
+RefusesEvent sh w (Read r) unlawful.NotLawful = slice_get w.readers r ≡ Some None
+RefusesEvent sh w (Begin r k) unlawful.NoReader = length w.readers ≤ r
+RefusesEvent sh w (Read r) unlawful.NoReader = length w.readers ≤ r
+RefusesEvent sh w (Begin r k) unlawful.StillRunning = (run : OpenLookup) × (slice_get w.readers r ≡ Some (Some run))
+RefusesEvent sh w e unlawful.Limit = IsLawfulNow sh w e × (IsWithin sh w e → ⊥)
+RefusesEvent sh w (Write act.Moment) unlawful.NoMemory = IsLawfulNow sh w (Write act.Moment) × IsWithin sh w (Write act.Moment)
+RefusesEvent sh w _ _ = ⊥
 
 -- the number of the first reading, where this event makes one
-abbrev pub first_read : ℕ → Running → ℕ
+abbrev pub first_read : ℕ → OpenLookup → ℕ
 first_read events run = first_of run.sofar
   where
     first_of : List Reading → ℕ
@@ -105,7 +105,7 @@ first_read events run = first_of run.sofar
     first_of (r ∷ rs) = run.first
 
 -- the reading is of the words now, and is the one that some lookup has next
-pub record ReadsNext (V : ℕ) (sh : Shape) (w : World V) (run : Running) (r : Reading) : Type 0 where
+pub record ReadsNext (V : ℕ) (sh : Shape) (w : Trace V) (run : OpenLookup) (r : Reading) : Type 0 where
   pub now : r.front ≡ length w.acts
   pub word : IsWordOf V sh (state_of V sh w.acts).words r.access r.word
   pub rest : List Reading
@@ -113,7 +113,7 @@ pub record ReadsNext (V : ℕ) (sh : Shape) (w : World V) (run : Running) (r : R
   pub next : IsLookup V sh run.key sh.tries (run.sofar ++ r ∷ rest) reply
 
 -- the lookup goes on, or ends with a reply
-abbrev pub EndsRead : (V : ℕ) → Shape → World V → ℕ → Running → Reading → World V → Type 0
+abbrev pub EndsRead : (V : ℕ) → Shape → Trace V → ℕ → OpenLookup → Reading → Trace V → Type 0
 EndsRead V sh w r run reading x =
     (reply : Reply V) × IsLookup V sh run.key sh.tries (run.sofar ++ reading ∷ []) reply ×
     (x ≡ record w {
@@ -123,8 +123,8 @@ EndsRead V sh w r run reading x =
       events = w.events + 1;
     })
 
-abbrev pub GoesOn : (V : ℕ) → Shape → World V → ℕ → Running → Reading → World V → Type 0
-GoesOn V sh w r run reading x =
+abbrev pub ContinuesRead : (V : ℕ) → Shape → Trace V → ℕ → OpenLookup → Reading → Trace V → Type 0
+ContinuesRead V sh w r run reading x =
     ((reply : Reply V) → IsLookup V sh run.key sh.tries (run.sofar ++ reading ∷ []) reply → ⊥) ×
     (x ≡ record w {
       bits = bits_read w.bits reading.access;
@@ -132,8 +132,8 @@ GoesOn V sh w r run reading x =
       events = w.events + 1;
     })
 
--- the event leads from one world to the other
-abbrev pub Steps : (V : ℕ) → Shape → World V → Event → World V → Type 0
+-- the event leads from one trace to the other
+abbrev pub Steps : (V : ℕ) → Shape → Trace V → Event → Trace V → Type 0
 Steps V sh w (Write a) x =
     IsAllowed sh (state_of V sh w.acts) a × IsWithin sh w (Write a) ×
     (x ≡ record w { acts = w.acts ++ record { act = a; bit = bit_of w.bits a } ∷ []; bits = bits_after w.bits a; events = w.events + 1 })
@@ -141,40 +141,40 @@ Steps V sh w (Begin r k) x =
     (slice_get w.readers r ≡ Some None) × (k < 2 ^ 64) × IsWithin sh w (Begin r k) ×
     (x ≡ record w { readers = slice_set w.readers r (Some (record { key = k; sofar = []; first = 0 })); events = w.events + 1 })
 Steps V sh w (Read r) x =
-    (run : Running) × (reading : Reading) × (slice_get w.readers r ≡ Some (Some run)) × ReadsNext V sh w run reading × IsWithin sh w (Read r) × (
-    EndsRead V sh w r run reading x ⊎ GoesOn V sh w r run reading x)
+    (run : OpenLookup) × (reading : Reading) × (slice_get w.readers r ≡ Some (Some run)) × ReadsNext V sh w run reading × IsWithin sh w (Read r) × (
+    EndsRead V sh w r run reading x ⊎ ContinuesRead V sh w r run reading x)
 
--- what an event gives that leads from one world to the other: an access the word that it read, and the access that ends a lookup what is then told
-abbrev pub Gives : {V : ℕ} → World V → Event → World V → Stepped V → Type 0
-Gives w (Write a) x out = out ≡ given_of (bit_of w.bits a) a
-Gives w (Begin r k) x out = out ≡ stepped.Nothing
-Gives w (Read r) x (stepped.Word n) = (run : Running) × (was : List Reading) × (reading : Reading) × (slice_get x.readers r ≡ Some (Some run)) × (run.sofar ≡ was ++ reading ∷ []) × (reading.word ≡ n)
-Gives w (Read r) x (stepped.Done done) = (e : Ended _) × (x.ended ≡ w.ended ++ e ∷ []) × (e.told ≡ done)
-Gives w (Read r) x stepped.Nothing = ⊥
+-- what an event gives that leads from one trace to the other: an access the word that it read, and the access that ends a lookup what is then told
+abbrev pub EventGives : {V : ℕ} → Trace V → Event → Trace V → Stepped V → Type 0
+EventGives w (Write a) x out = out ≡ given_of (bit_of w.bits a) a
+EventGives w (Begin r k) x out = out ≡ stepped.Nothing
+EventGives w (Read r) x (stepped.Word n) = (run : OpenLookup) × (was : List Reading) × (reading : Reading) × (slice_get x.readers r ≡ Some (Some run)) × (run.sofar ≡ was ++ reading ∷ []) × (reading.word ≡ n)
+EventGives w (Read r) x (stepped.Done done) = (e : Ended _) × (x.ended ≡ w.ended ++ e ∷ []) × (e.told ≡ done)
+EventGives w (Read r) x stepped.Nothing = ⊥
 
--- the events lead from one world to the other, one after the other
-abbrev pub Runs : (V : ℕ) → Shape → World V → List Event → World V → Type 0
-Runs V sh w [] x = x ≡ w
-Runs V sh w (e ∷ es) x = (mid : World V) × Steps V sh w e mid × Runs V sh mid es x
+-- the events lead from one trace to the other, one after the other
+abbrev pub StepsAll : (V : ℕ) → Shape → Trace V → List Event → Trace V → Type 0
+StepsAll V sh w [] x = x ≡ w
+StepsAll V sh w (e ∷ es) x = (mid : Trace V) × Steps V sh w e mid × StepsAll V sh mid es x
 
 -- where a run stopped, the next event is refused, and not for want of memory
-abbrev pub StopsAt : {V : ℕ} → Shape → World V → List Event → Option (ℕ × Unlawful) → Type 0
+abbrev pub StopsAt : {V : ℕ} → Shape → Trace V → List Event → Option (ℕ × Unlawful) → Type 0
 StopsAt sh w events None = Unit {0}
-StopsAt sh w events (Some stop) = (e : Event) × (slice_get events stop.0 ≡ Some e) × Refuses sh w e stop.1 × (stop.1 ≢ unlawful.NoMemory)
+StopsAt sh w events (Some stop) = (e : Event) × (slice_get events stop.0 ≡ Some e) × RefusesEvent sh w e stop.1 × (stop.1 ≢ unlawful.NoMemory)
 
--- the events lead from one world to the other, up to the first that is refused; done is what the lookups told that ended
-pub record HasRun (V : ℕ) (sh : Shape) (w x : World V) (events : List Event) (done : List (Done V)) (stopped : Option (ℕ × Unlawful)) : Type 0 where
-  pub runs : Runs V sh w (events_made events stopped) x
+-- the events lead from one trace to the other, up to the first that is refused; done is what the lookups told that ended
+pub record HasRun (V : ℕ) (sh : Shape) (w x : Trace V) (events : List Event) (done : List (Done V)) (stopped : Option (ℕ × Unlawful)) : Type 0 where
+  pub runs : StepsAll V sh w (events_made events stopped) x
   pub ended : List (Ended V)
   pub more : x.ended ≡ w.ended ++ ended
   pub told : done ≡ map (λ e. e.told) ended
   pub stops : StopsAt sh x events stopped
 
--- some events lead to the world from a new one
-pub record IsReached (V : ℕ) (sh : Shape) (w : World V) : Type 0 where
+-- some events lead to the trace from a new one
+pub record IsReached (V : ℕ) (sh : Shape) (w : Trace V) : Type 0 where
   pub readers : ℕ
   pub events : List Event
-  pub runs : Runs V sh (first_world V sh readers) events w
+  pub runs : StepsAll V sh (first_trace V sh readers) events w
 
 -- the front of the first reading
 abbrev pub start_of : List Reading → ℕ
@@ -182,17 +182,17 @@ start_of [] = 0
 start_of (r ∷ rs) = r.front
 
 -- the reply is that of the words read, and true at a moment between the first reading and the last
-pub record IsTrueEnd (V : ℕ) (sh : Shape) (w : World V) (e : Ended V) : Type 0 where
+pub record IsTrueEnd (V : ℕ) (sh : Shape) (w : Trace V) (e : Ended V) : Type 0 where
   pub looked : IsLookup V sh e.told.key sh.tries e.read e.told.reply
   pub true : IsTrueAnswer (state_of V sh w.acts).history e.told.key e.told.reply
   pub between : IsBetween (length (front V sh w.acts (start_of e.read)).history) (length (front V sh w.acts e.stop).history) e.told.reply
 
 -- whatever the events are: the writer's acts are lawful, and each lookup that has ended has a true reply
-abbrev pub WorldsAreTrue : ℕ → Type 0
-WorldsAreTrue V =
-    (sh : Shape) (readers : ℕ) (es : List Event) (w : World V) → IsShape sh → Runs V sh (first_world V sh readers) es w →
+abbrev pub TracesAreTrue : ℕ → Type 0
+TracesAreTrue V =
+    (sh : Shape) (readers : ℕ) (es : List Event) (w : Trace V) → IsShape sh → StepsAll V sh (first_trace V sh readers) es w →
     IsLawful V sh w.acts × All (IsTrueEnd V sh w) w.ended
 
 -- whatever the events are: there is a recency bit for each item, and each is 0 or 1
 abbrev pub BitsStay : ℕ → Type 0
-BitsStay V = (sh : Shape) (w : World V) → IsReached V sh w → (length w.bits ≡ sh.items) × All IsBit w.bits
+BitsStay V = (sh : Shape) (w : Trace V) → IsReached V sh w → (length w.bits ≡ sh.items) × All IsBit w.bits
