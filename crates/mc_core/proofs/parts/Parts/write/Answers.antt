@@ -54,3 +54,20 @@ returns-clause-ok g c = λ seen s.
       c.given_by.ensures ∙ ap (λ (n : ℕ). given_of {V = g.row.V} n a) (c.bit_of-bit.ensures ∙ ap (λ y. bit_of y a) s.shows.bits),
       stand_after world _ seen a s may within.1 made c.mark.ensures.bits refl refl,
     )
+
+pub returns-then-not-allows-clause-err : goal.returns-then-not-allows-clause-err
+returns-then-not-allows-clause-err g c = λ seen s.
+    let no = (c.if-not-allows.ensures {u = tt}).1 in
+    ((λ may. let e = no (subst (λ (y : State g.row.V). IsAllowed (shape_of_writer c.args.self.now.writer) y c.args.act) (sym s.shows.state) may) in cc (e)), s)
+
+pub returns-then-not-is_within-clause-err : goal.returns-then-not-is_within-clause-err
+returns-then-not-is_within-clause-err g c = λ seen s.
+    let sh = shape_of_writer c.args.self.now.writer in
+    let may = (c.if-not-allows.ensures {u = tt}).0 refl in
+    let past = (c.if-not-is_within.ensures {u = tt}).1 in (
+      (
+        subst (λ (y : State g.row.V). IsAllowed sh y c.args.act) s.shows.state may,
+        (λ within. let e = past (omega (arith, within.0, s.shows.events), subst (λ (y : State g.row.V). HasVersionSteps sh.limit y.version_steps c.args.act) (sym s.shows.state) within.1) in cc (e)),
+      ),
+      s,
+    )
