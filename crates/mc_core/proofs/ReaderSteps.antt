@@ -31,6 +31,9 @@ use Rattle.mc_core.specs.declared.writer.Writer.{Writer}
 use Rattle.mc_core.proofs.PairedLists.{both_set, both_some, both_none, set_there}
 use Rattle.mc_lookup.proofs.NextAccess.{next_is_determined, can_end}
 use Rattle.mc_lookup.proofs.StageSteps.{at_stage, both_trans}
+use Rattle.mc_theory.specs.Writes.{IsAccess}
+use Rattle.mc_theory.specs.declared.access.Access.TheVariants as access
+use Rattle.mc_core.specs.Inside.Seen.{MarksIn}
 
 -- ---- the end of a lookup
 over_at : {V : ℕ} (l : Lookup V) (st : Stage) (reply : Reply V) → reply_at {V = V} l st ≡ Some reply → IsRemainderAt V (shape_for {V = V} l) l.key l.tries l.version l.value l.reply st [] reply
@@ -202,3 +205,12 @@ begins {V} old new seen r key after s idle range below shape key_is left more fi
       refl,
       stand_read {V = V} old new seen r (Some after) (Some run) (λ bs. bs) seen.ended s writer bits readers events running,
     )
+
+-- a mark among the accesses of a table is one of an item
+pub marks_in : (V : ℕ) (sh : Shape) (a : Access) → IsAccess V sh a → MarksIn sh.items a
+marks_in V sh (access.Mark i) l = l
+marks_in V sh (access.Version t) l = tt
+marks_in V sh (access.Slot p) l = tt
+marks_in V sh (access.Key i) l = tt
+marks_in V sh (access.Value i j) l = tt
+marks_in V sh access.Moment l = tt

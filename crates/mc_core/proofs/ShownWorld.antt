@@ -36,7 +36,7 @@ pub hand_of : {V : ℕ} (parts : Parts V) (seen : traces.Trace V) → StandFor {
 hand_of {V} parts seen s = subst (λ (y : State V). y.hand < (shape_of_parts {V = V} parts).items) (sym s.shows.state) (state_hand V (shape_of_parts {V = V} parts) seen.acts parts.writer.table.checked.sound)
 
 -- an allowed act is on the bit of an item
-pub reads_in : (V : ℕ) (sh : Shape) (w : List ℕ) (hand : ℕ) (cleared : Option ℕ) (p : Phase) (a : Act) → hand < sh.items → MayFrom V sh w hand cleared p a → ReadsIn sh a
+pub reads_in : (V : ℕ) (sh : Shape) (w : List ℕ) (hand : ℕ) (cleared : Option ℕ) (p : Phase) (a : Act) → hand < sh.items → MayFrom V sh w hand cleared p a → ReadsIn sh.items a
 reads_in V sh w hand cleared Quiet (Hand i) l may = omega (arith, may.1, l)
 reads_in V sh w hand cleared Quiet (Mark i) l may = may
 reads_in V sh w hand cleared p (Open k d) l may = tt

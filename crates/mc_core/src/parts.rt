@@ -6,6 +6,7 @@ use crate::reader::Reader;
 use crate::writer::Writer;
 use mc_theory::{Event, Stepped, Unlawful};
 
+mod bits;
 mod lists;
 mod opening;
 mod reads;

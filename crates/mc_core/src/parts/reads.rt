@@ -4,6 +4,7 @@ ghost use Rattle.mc_lookup.specs.Machine.{next_access, shape_for};
 ghost use Rattle.mc_theory.specs.Writes.{IsAccess};
 
 use crate::parts::Parts;
+use crate::parts::bits::mark_read;
 use crate::reader::Reader;
 use mc_lookup::Lookup;
 use mc_theory::{Access, Done, Stepped, Unlawful};
@@ -14,8 +15,6 @@ impl<const V: usize> Parts<V> {
     ghost use Rattle.mc_core.specs.Inside.Parts.{shape_of_parts, view_of, StandFor};
     ghost use Rattle.mc_core.specs.Seen.{state_after};
     ghost use Rattle.mc_theory.specs.Traces as traces;
-    ghost use Rattle.mc_theory.specs.Traces.{bits_read};
-    ghost use Rattle.mc_theory.specs.Writes.{IsAccess};
     ghost use Rattle.mc_theory.specs.declared.event.Event.TheVariants as event;
 
     /// A reader begins a lookup of a key.
@@ -80,7 +79,7 @@ impl<const V: usize> Parts<V> {
         let access = next_access(&lookup);
         let word = self.writer.table.read(access);
         lookup.after(word);
-        self.mark_read(access);
+        mark_read(&mut self.bits, access);
         let last = self.events;
         let first = first.unwrap_or(last);
         self.events += 1;
@@ -103,19 +102,6 @@ impl<const V: usize> Parts<V> {
                 });
                 Stepped::Word(word)
             }
-        }
-    }
-
-    /// Sets the bit of an item, if the access is a mark.
-    fn mark_read(&mut self, access: Access)
-        requires { IsAccess V (shape_of_parts {V = V} self.old) access }
-        ensures bits { self.new.bits.items ≡ bits_read self.old.bits.items access }
-        ensures writer { self.new.writer ≡ self.old.writer }
-        ensures readers { self.new.readers ≡ self.old.readers }
-        ensures events { self.new.events ≡ self.old.events }
-    {
-        if let Access::Mark(i) = access {
-            self.bits[i as usize] = 1;
         }
     }
 }

@@ -1,16 +1,16 @@
 //! The writer of a world makes its acts.
 use crate::parts::Parts;
+use crate::parts::bits::{bit_of, mark};
 use mc_theory::{Act, Stepped, Unlawful, given_by};
 
 impl<const V: usize> Parts<V> {
     ghost use Rattle.std.specs.Prelude.{◌≡◌, ◌+◌, ◌-◌, ◌^◌, ◌<◌, ◌≤◌, ◌↔◌, IfOk, IfErr, OnOk, OnErr, IsTrue};
     ghost use Rattle.mc_theory.specs.Traces as traces;
-    ghost use Rattle.mc_theory.specs.Traces.{HasVersionSteps, bit_of, bits_after};
+    ghost use Rattle.mc_theory.specs.Traces.{HasVersionSteps};
     ghost use Rattle.mc_core.specs.Inside.Writers.{room_of};
     ghost use Rattle.mc_theory.specs.declared.event.Unlawful.TheVariants as unlawful;
     ghost use Rattle.mc_core.specs.Inside.Parts.{shape_of_parts, view_of, StandFor};
     ghost use Rattle.mc_core.specs.Seen.{state_after};
-    ghost use Rattle.mc_core.specs.Inside.Seen.{ReadsIn};
     ghost use Rattle.mc_theory.specs.declared.event.Event.TheVariants as event;
 
     /// Whether the act passes no limit.
@@ -24,43 +24,7 @@ impl<const V: usize> Parts<V> {
         match act {
             Act::Open(_, _) => self.writer.version_steps + 2
                 <= self.writer.table.checked.shape().limit,
-            Act::Slot(_, _)
-            | Act::Item(_, _, _)
-            | Act::Moment
-            | Act::Close
-            | Act::Hand(_)
-            | Act::Mark(_) => true,
-        }
-    }
-
-    /// The bit that the act reads.
-    fn bit_of(&self, act: Act) -> u64
-        requires { ReadsIn (shape_of_parts {V = V} self.now) act }
-        ensures { result ≡ bit_of self.now.bits.items act }
-    {
-        match act {
-            Act::Hand(i) => self.bits[i as usize],
-            Act::Open(_, _)
-            | Act::Slot(_, _)
-            | Act::Item(_, _, _)
-            | Act::Moment
-            | Act::Close
-            | Act::Mark(_) => 0,
-        }
-    }
-
-    /// Sets or clears the bit as the act does.
-    fn mark(&mut self, act: Act)
-        requires { ReadsIn (shape_of_parts {V = V} self.old) act }
-        ensures bits { self.new.bits.items ≡ bits_after self.old.bits.items act }
-        ensures writer { self.new.writer ≡ self.old.writer }
-        ensures readers { self.new.readers ≡ self.old.readers }
-        ensures events { self.new.events ≡ self.old.events }
-    {
-        match act {
-            Act::Hand(i) => self.bits[i as usize] = 0,
-            Act::Mark(i) => self.bits[i as usize] = 1,
-            Act::Open(_, _) | Act::Slot(_, _) | Act::Item(_, _, _) | Act::Moment | Act::Close => {}
+            _ => true,
         }
     }
 
@@ -81,11 +45,11 @@ impl<const V: usize> Parts<V> {
         if !self.is_within(act) {
             return Err(Unlawful::Limit);
         }
-        let bit = self.bit_of(act);
+        let bit = bit_of(&self.bits, act);
         if self.writer.make(act, bit).is_err() {
             return Err(Unlawful::NoMemory);
         }
-        self.mark(act);
+        mark(&mut self.bits, act);
         self.events += 1;
         Ok(given_by(act, bit))
     }

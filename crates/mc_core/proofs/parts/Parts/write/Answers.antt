@@ -23,7 +23,7 @@ bit_of-bit-requires g c =
     let s = c.requires.1 in
     let world = c.args.self.now in
     let w = world.writer in
-    (search rules, reads_in g.row.V (shape_of_writer w) (words_of_writer w) w.hand w.cleared (phase_at w.written w.progress) c.args.act (hand_of world c.requires.0 s) ((c.if-not-allows.ensures {u = tt}).0 refl))
+    subst (λ (n : ℕ). ReadsIn n c.args.act) (sym world.marked) (reads_in g.row.V (shape_of_writer w) (words_of_writer w) w.hand w.cleared (phase_at w.written w.progress) c.args.act (hand_of world c.requires.0 s) ((c.if-not-allows.ensures {u = tt}).0 refl))
 
 pub make-requires : goal.make-requires
 make-requires g c =
@@ -37,9 +37,7 @@ mark-requires g c =
     let s = c.requires.1 in
     let world = c.args.self.now in
     let w = world.writer in
-    let made = ok_of c.make.result _ (sym c.is_err.ensures.value ∙ c.if-is_err.false) c.make.ensures.ok in
-    let in_items = reads_in g.row.V (shape_of_writer w) (words_of_writer w) w.hand w.cleared (phase_at w.written w.progress) c.args.act (hand_of world c.requires.0 s) ((c.if-not-allows.ensures {u = tt}).0 refl) in
-    (search rules, subst (λ (y : Checked). ReadsIn (shape_of y) c.args.act) (sym made.shape) in_items)
+    subst (λ (n : ℕ). ReadsIn n c.args.act) (sym world.marked) (reads_in g.row.V (shape_of_writer w) (words_of_writer w) w.hand w.cleared (phase_at w.written w.progress) c.args.act (hand_of world c.requires.0 s) ((c.if-not-allows.ensures {u = tt}).0 refl))
 
 pub returns-clause-ok : goal.returns-clause-ok
 returns-clause-ok g c = λ seen s.
@@ -50,10 +48,26 @@ returns-clause-ok g c = λ seen s.
     let within = (c.if-not-is_within.ensures {u = tt}).0 refl in
     let has = subst (λ (y : State g.row.V). HasVersionSteps (shape_of_writer w).limit y.version_steps a) s.shows.state within.1 in
     let first = ok_of c.make.result _ (sym c.is_err.ensures.value ∙ c.if-is_err.false) c.make.ensures.ok in
-    let second = subst (λ (n : ℕ). IsMade {V = g.row.V} w c.make.new.self a n) c.bit_of-bit.ensures first in
-    let made = subst (λ (y : Writer g.row.V). IsMade {V = g.row.V} w y a (bit_of world.bits.items a)) (sym c.mark.ensures.writer) second in (
+    let made = subst (λ (n : ℕ). IsMade {V = g.row.V} w c.make.new.self a n) c.bit_of-bit.ensures first in (
       _,
       (subst (λ (y : State g.row.V). IsAllowed (shape_of_writer w) y a) s.shows.state may, (omega (arith, within.0, s.shows.events), has), refl),
       c.given_by.ensures ∙ ap (λ (n : ℕ). given_of {V = g.row.V} n a) (c.bit_of-bit.ensures ∙ ap (λ y. bit_of y a) s.shows.bits),
-      stand_after world _ seen a s may within.1 made c.mark.ensures.bits (ap (λ y. y.items) c.mark.ensures.readers) (ap (λ n. n + 1) c.mark.ensures.events),
+      stand_after world _ seen a s may within.1 made c.mark.ensures.bits refl refl,
+    )
+
+pub returns-then-not-allows-clause-err : goal.returns-then-not-allows-clause-err
+returns-then-not-allows-clause-err g c = λ seen s.
+    let no = (c.if-not-allows.ensures {u = tt}).1 in
+    ((λ may. let e = no (subst (λ (y : State g.row.V). IsAllowed (shape_of_writer c.args.self.now.writer) y c.args.act) (sym s.shows.state) may) in cc (e)), s)
+
+pub returns-then-not-is_within-clause-err : goal.returns-then-not-is_within-clause-err
+returns-then-not-is_within-clause-err g c = λ seen s.
+    let sh = shape_of_writer c.args.self.now.writer in
+    let may = (c.if-not-allows.ensures {u = tt}).0 refl in
+    let past = (c.if-not-is_within.ensures {u = tt}).1 in (
+      (
+        subst (λ (y : State g.row.V). IsAllowed sh y c.args.act) s.shows.state may,
+        (λ within. let e = past (omega (arith, within.0, s.shows.events), subst (λ (y : State g.row.V). HasVersionSteps sh.limit y.version_steps c.args.act) (sym s.shows.state) within.1) in cc (e)),
+      ),
+      s,
     )
