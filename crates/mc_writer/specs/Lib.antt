@@ -1,1 +1,2 @@
 pub mod WriterCalls
+pub mod Inside

@@ -1,0 +1,41 @@
+-- A call of the writer whose acts were all made.
+use Rattle.std.proofs.Common.{ℕ, ◌≡◌, ◌∙◌, List, [], ◌++◌, ap, refl, sym, subst}
+use Rattle.mc_words.specs.declared.shape.Shape.{Shape}
+use Rattle.mc_words.specs.Checks.{shape_of}
+use Rattle.mc_theory.specs.Lists.{Made, state_of}
+use Rattle.mc_theory.specs.declared.act.Act.{Act}
+use Rattle.mc_plan.specs.Clerks.{AreBooksOf, Call, IsPlanned, IsSweepOf}
+use Rattle.mc_plan.specs.Due.{AreDue}
+use Rattle.mc_plan.specs.Making.{as_made}
+use Rattle.mc_plan.specs.declared.answer.Answer.{Answer}
+use Rattle.mc_plan.specs.declared.books.Books.{Books}
+use Rattle.mc_plan.proofs.Calls.DueActs.{all_made, plan_ends, planned_due}
+use Rattle.mc_shared.specs.declared.layout.Layout.{Layout}
+use Rattle.mc_shared.specs.Records.{Opening, WriterRecord}
+use Rattle.mc_shared.specs.Views.{layout_of}
+use Rattle.mc_writer.specs.WriterCalls.{HasCalled, IsRested}
+
+-- without a sweep: the acts of the plan are the call, and the books are those of the state after it
+pub called_now : (V : ℕ) (sh : Shape) (b : Books) (plan : List Act) (call : Call) (told : Answer) (before after : WriterRecord) → before.of.layout ≡ layout_of V (shape_of b.checked) → shape_of b.checked ≡ sh → after.of ≡ before.of → after.acts ≡ before.acts ++ as_made plan
+    → IsSweepOf V sh (state_of V sh before.acts) [] told → IsPlanned V b plan call (state_of V sh before.acts) (state_of V sh before.acts) told → HasCalled V sh call before after told × IsRested V b after
+called_now V sh b plan call told before after layout shape of acts sweeps p =
+    let ends = plan_ends V sh b plan call before.acts [] told shape tt sweeps p in (
+      record { made = as_made plan; of = of; acts = acts; answered = ends.0 },
+      record {
+        layout = ap (λ (o : Opening). o.layout) of ∙ layout;
+        known = subst (λ (x : Shape). AreBooksOf V b (state_of V x after.acts)) (sym shape) (subst (λ (xs : List Made). AreBooksOf V b (state_of V sh xs)) (sym acts) ends.1);
+      },
+    )
+
+-- the same of acts that were due where the call began
+pub made_now : (V : ℕ) (o : Opening) (b : Books) (plan : List Act) (call : Call) (told : Answer) (before mid after : WriterRecord) → before.of ≡ o → o.layout ≡ layout_of V (shape_of b.checked) → mid ≡ before → after.of ≡ mid.of
+    → ((all : List Made) → AreDue V o.layout.shape all mid.acts plan → AreDue V o.layout.shape all after.acts [])
+    → IsSweepOf V o.layout.shape (state_of V o.layout.shape before.acts) [] told → IsPlanned V b plan call (state_of V o.layout.shape before.acts) (state_of V o.layout.shape before.acts) told → HasCalled V o.layout.shape call before after told × IsRested V b after
+made_now V o b plan call told before mid after at layout same of makes sweeps p =
+    let sh = o.layout.shape in
+    let s = state_of V sh before.acts in
+    let all = before.acts ++ as_made plan in
+    let shape : shape_of b.checked ≡ sh = sym (ap (λ (l : Layout). l.shape) layout) in
+    let due : AreDue V sh all before.acts plan = planned_due V sh b plan call s s told before.acts shape refl p in
+    let acts = all_made V sh all after.acts (makes all (subst (λ (w : WriterRecord). AreDue V sh all w.acts plan) (sym same) due)) in
+    called_now V sh b plan call told before after (ap (λ (x : Opening). x.layout) at ∙ layout) shape (of ∙ ap (λ (w : WriterRecord). w.of) same) acts sweeps p

@@ -1,0 +1,11 @@
+use Rattle.std.proofs.Common.{◌∙◌, [], ◌∷◌, arith}
+use Rattle.mc_theory.specs.declared.act.Act.TheVariants as act
+use Rattle.mc_writer.proofs.putting.make_renewal.Goals as goal
+
+pub stamp-requires : goal.stamp-requires
+stamp-requires g c =
+    let d = c.requires.due in
+    (omega arith, (c.renew.ensures.of ∙ c.requires.of, (d.0, [], c.renew.ensures.due d.0 (act.Mark c.args.item ∷ []) d.1)))
+
+pub returns-clause-due : goal.returns-clause-due
+returns-clause-due g c = λ all d. c.stamp.ensures.due all [] (c.renew.ensures.due all (act.Mark c.args.item ∷ []) d)

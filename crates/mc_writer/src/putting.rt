@@ -1,0 +1,173 @@
+//! The writer's put.
+ghost use Rattle.std.specs.Prelude.{◌≡◌, ◌<◌, ◌++◌, [], List};
+ghost use Rattle.mc_words.specs.Places.{IsWidth};
+ghost use Rattle.mc_theory.specs.Lists.{Made, state_of};
+ghost use Rattle.mc_plan.specs.Deciding.{IsDecided, IsInserted, IsLackingKey};
+ghost use Rattle.mc_plan.specs.Decisions.{renewal_acts, storing_acts};
+ghost use Rattle.mc_plan.specs.Due.{AreDue};
+ghost use Rattle.mc_plan.specs.Clerks.{PutCall, Waits};
+ghost use Rattle.mc_plan.specs.declared.answer.Answer.TheVariants as answer;
+ghost use Rattle.mc_shared.specs.Views.{layout_of};
+ghost use Rattle.mc_words.specs.Checks.{shape_of};
+ghost use Rattle.mc_writer.specs.WriterCalls.{HasCalled, IsRested};
+
+use crate::deeds::{fill, make_moves, renew, stamp, take_out};
+use crate::lens::Lens;
+use crate::sweep::{finish, turn_round};
+use mc_plan::{Books, Decision, Insertion, Path, Put, PutError, Storing, Waiting};
+use mc_shared::{Cells, WriterSeat};
+use mc_theory::Deed;
+
+/// Decides a put, as far as one look for the key tells.
+fn decide<const V: usize>(
+    cells: &Cells<V>,
+    seat: &mut WriterSeat,
+    books: &mut Books,
+    key: u64,
+    value: &[u64; V],
+) -> Decision
+    requires of { seat.old.of ≡ cells.now }
+    requires rested { IsRested V books.old seat.old }
+    ensures seat { seat.new ≡ seat.old }
+    ensures decided { IsDecided V books.new key value.now (state_of V cells.now.layout.shape seat.old.acts) result }
+    ensures shape { books.new.checked ≡ books.old.checked }
+{
+    let mut lens = Lens { cells, seat };
+    books.decide::<V, Lens<V>>(&mut lens, key, value)
+}
+
+/// Decides the put of a key that is not there.
+fn decide_insert<const V: usize>(
+    cells: &Cells<V>,
+    seat: &mut WriterSeat,
+    books: &mut Books,
+    key: u64,
+    value: &[u64; V],
+    at: u64,
+) -> Insertion
+    requires of { seat.old.of ≡ cells.now }
+    requires lacks { IsLackingKey V books.old key (state_of V cells.now.layout.shape seat.old.acts) at }
+    ensures seat { seat.new ≡ seat.old }
+    ensures inserted { IsInserted V books.new key value.now (state_of V cells.now.layout.shape seat.old.acts) result }
+    ensures shape { books.new.checked ≡ books.old.checked }
+{
+    let mut lens = Lens { cells, seat };
+    books.insert::<V, Lens<V>>(&mut lens, key, value, at)
+}
+
+/// Makes the acts of a renewal, and the mark of its item.
+fn make_renewal<const V: usize>(
+    cells: &Cells<V>,
+    seat: &mut WriterSeat,
+    key: u64,
+    value: &[u64; V],
+    item: u32,
+)
+    requires width { IsWidth V }
+    requires of { seat.old.of ≡ cells.now }
+    requires due { (all : List Made) × AreDue V cells.now.layout.shape all seat.old.acts (renewal_acts key value.now item) }
+    ensures of { seat.new.of ≡ seat.old.of }
+    ensures due { (all : List Made) → AreDue V cells.now.layout.shape all seat.old.acts (renewal_acts key value.now item) → AreDue V cells.now.layout.shape all seat.new.acts [] }
+{
+    renew(cells, seat, key, value, item);
+    stamp(cells, seat, item);
+}
+
+/// Makes the moves and the fill, and the mark of its item.
+fn make_storing<const V: usize>(
+    cells: &Cells<V>,
+    seat: &mut WriterSeat,
+    key: u64,
+    value: &[u64; V],
+    storing: &Storing,
+)
+    requires width { IsWidth V }
+    requires of { seat.old.of ≡ cells.now }
+    requires item { storing.now.item < cells.now.layout.shape.items }
+    requires due { (all : List Made) × AreDue V cells.now.layout.shape all seat.old.acts (storing_acts cells.now.layout.shape key value.now storing.now) }
+    ensures of { seat.new.of ≡ seat.old.of }
+    ensures due { (all : List Made) → AreDue V cells.now.layout.shape all seat.old.acts (storing_acts cells.now.layout.shape key value.now storing.now) → AreDue V cells.now.layout.shape all seat.new.acts [] }
+{
+    make_moves(cells, seat, storing.moves.as_slice());
+    fill(cells, seat, key, value, storing.item, storing.place);
+    stamp(cells, seat, storing.item);
+}
+
+/// Puts a key that is not there and for which no item is free.
+#[inline(never)]
+fn put_waiting<const V: usize>(
+    cells: &Cells<V>,
+    seat: &mut WriterSeat,
+    books: &mut Books,
+    key: u64,
+    value: &[u64; V],
+    path: Path,
+) -> Result<Put, PutError>
+    requires of { seat.old.of ≡ cells.now }
+    requires layout { cells.now.layout ≡ layout_of V (shape_of books.old.checked) }
+    requires waits { Waits V books.old key (state_of V cells.now.layout.shape seat.old.acts) path }
+    ensures called { HasCalled V cells.now.layout.shape (PutCall key value.now) seat.old seat.new (answer.Put result) }
+    ensures rested { IsRested V books.new seat.new }
+{
+    let mut waiting = Waiting::new(books, key, *value, path);
+    turn_round(cells, seat, books, &mut waiting);
+    let replacement = finish(cells, seat, books, waiting)?;
+    take_out(
+        cells,
+        seat,
+        replacement.evicted,
+        Deed::Evict,
+        replacement.victim,
+    );
+    make_storing(cells, seat, key, value, &replacement.storing);
+    Ok(replacement.storing.told(Some(replacement.evicted)))
+}
+
+/// Puts a key that is not there.
+#[inline(never)]
+fn put_new<const V: usize>(
+    cells: &Cells<V>,
+    seat: &mut WriterSeat,
+    books: &mut Books,
+    key: u64,
+    value: &[u64; V],
+    at: u64,
+) -> Result<Put, PutError>
+    requires of { seat.old.of ≡ cells.now }
+    requires layout { cells.now.layout ≡ layout_of V (shape_of books.old.checked) }
+    requires lacks { IsLackingKey V books.old key (state_of V cells.now.layout.shape seat.old.acts) at }
+    ensures called { HasCalled V cells.now.layout.shape (PutCall key value.now) seat.old seat.new (answer.Put result) }
+    ensures rested { IsRested V books.new seat.new }
+{
+    match decide_insert(cells, seat, books, key, value, at) {
+        Insertion::Refuse(why) => Err(why),
+        Insertion::Store(storing) => {
+            make_storing(cells, seat, key, value, &storing);
+            Ok(storing.told(None))
+        }
+        Insertion::Wait(path) => put_waiting(cells, seat, books, key, value, path),
+    }
+}
+
+/// Puts a key: the acts that are made are a whole call, and the answer is a true one of it.
+pub fn put<const V: usize>(
+    cells: &Cells<V>,
+    seat: &mut WriterSeat,
+    books: &mut Books,
+    key: u64,
+    value: &[u64; V],
+) -> Result<Put, PutError>
+    requires of { seat.old.of ≡ cells.now }
+    requires rested { IsRested V books.old seat.old }
+    ensures called { HasCalled V cells.now.layout.shape (PutCall key value.now) seat.old seat.new (answer.Put result) }
+    ensures rested { IsRested V books.new seat.new }
+{
+    match decide(cells, seat, books, key, value) {
+        Decision::Refuse(why) => Err(why),
+        Decision::Renew { item, at } => {
+            make_renewal(cells, seat, key, value, item);
+            Ok(Put::Renewed { at })
+        }
+        Decision::Insert { at } => put_new(cells, seat, books, key, value, at),
+    }
+}
