@@ -1,1 +1,1 @@
-pub mod Rests
+pub mod SameSeats

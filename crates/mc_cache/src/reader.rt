@@ -12,12 +12,10 @@ ghost use Rattle.mc_cache.specs.Beside.{HasLookedBeside};
 
 use crate::cache::Cache;
 use crate::writer::Writer;
-use mc_plan::Books;
 use mc_reader::get;
-use mc_search::read;
-use mc_shared::{Cells, ReaderSeat, WriterSeat, catch, mark_unless_set};
+use mc_shared::{ReaderSeat, catch, mark_unless_set};
 use mc_words::Reply;
-use mc_writer::Lens;
+use mc_writer::look;
 use std::marker::Model;
 
 /// A reader. Contracts see it as its record: the last front of the writer's acts that it has seen, and what it read and marked.
@@ -32,25 +30,6 @@ impl<const V: usize> Model for Reader<V> {
     ghost Value = { ReaderRecord };
 
     ghost view = { λ r. r.seat };
-}
-
-// What the words hold of a key, while the writer rests: its item and its value.
-fn look_beside<const V: usize>(
-    cells: &Cells<V>,
-    seat: &mut WriterSeat,
-    books: &Books,
-    key: u64,
-) -> Option<(u32, [u64; V])>
-    requires of { seat.old.of ≡ cells.now }
-    requires rested { IsRested V books.now seat.old }
-    ensures found { IfSome result (λ r. map_value (state_of V cells.now.layout.shape seat.old.acts).history key ≡ Some r.1) }
-    ensures item { IfSome result (λ r. (q : ℕ) × Stands V cells.now.layout.shape (state_of V cells.now.layout.shape seat.old.acts).words key q r.0) }
-    ensures none { IfNone result (map_value (state_of V cells.now.layout.shape seat.old.acts).history key ≡ None) }
-    ensures seat { seat.new ≡ seat.old }
-{
-    let checked = cells.checked();
-    let mut lens = Lens { cells, seat };
-    read::<V, Lens<V>>(checked, &mut lens, key)
 }
 
 impl<const V: usize> Reader<V> {
@@ -84,7 +63,7 @@ impl<const V: usize> Reader<V> {
         ensures looked { HasLookedBeside V cache.now.layout.shape key writer.old.acts self.old self.new result }
     {
         catch(&cache.cells, &mut self.seat, &mut writer.seat);
-        let found = look_beside(&cache.cells, &mut writer.seat, &writer.books, key);
+        let found = look(&cache.cells, &mut writer.seat, &writer.books, key);
         let at = writer.seat.moment();
         let reply = match found {
             Some(hit) => {

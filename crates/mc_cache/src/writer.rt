@@ -1,9 +1,15 @@
 //! The writer.
 ghost use Rattle.std.specs.Prelude.{◌≡◌, length};
 ghost use Rattle.mc_theory.specs.Lists.{state_of};
+ghost use Rattle.mc_plan.specs.Clerks.{PutCall, RemoveCall};
+ghost use Rattle.mc_plan.specs.declared.answer.Answer.TheVariants as answer;
+ghost use Rattle.mc_writer.specs.WriterCalls.{HasCalled, HasGot};
 
-use mc_plan::Books;
+use crate::cache::Cache;
+use mc_plan::{Books, Put, PutError, Remove, Spent};
 use mc_shared::WriterSeat;
+use mc_words::Reply;
+use mc_writer::{get, put, remove};
 use std::marker::Model;
 
 /// The one writer of a cache. Contracts see it as its record: the acts that were made.
@@ -25,6 +31,32 @@ impl<const V: usize> Model for Writer<V> {
 }
 
 impl<const V: usize> Writer<V> {
+    /// Puts a key, which then has this value. `Err` where nothing was changed of the map: `Spent` where the limit on version
+    /// changes could be passed, `NoPath` where no path of displacements leads to an empty slot, `AllRecent` where every item
+    /// was used since the hand passed it. A key may be evicted for it (section 4.1 of the paper of Fan, Andersen and Kaminsky).
+    pub fn put(&mut self, cache: &Cache<V>, key: u64, value: [u64; V]) -> Result<Put, PutError>
+        requires of { self.old.of ≡ cache.now }
+        ensures called { HasCalled V cache.now.layout.shape (PutCall key value.entry) self.old self.new (answer.Put result) }
+    {
+        put(&cache.cells, &mut self.seat, &mut self.books, key, &value)
+    }
+
+    /// Takes a key out. `Err(Spent)` where the limit on version changes could be passed: nothing was changed.
+    pub fn remove(&mut self, cache: &Cache<V>, key: u64) -> Result<Remove, Spent>
+        requires of { self.old.of ≡ cache.now }
+        ensures called { HasCalled V cache.now.layout.shape (RemoveCall key) self.old self.new (answer.Remove result) }
+    {
+        remove(&cache.cells, &mut self.seat, &mut self.books, key)
+    }
+
+    /// What the cache holds of the key now, never `Busy`. A hit marks the key's item.
+    pub fn get(&mut self, cache: &Cache<V>, key: u64) -> Reply<V>
+        requires of { self.old.of ≡ cache.now }
+        ensures got { HasGot V cache.now.layout.shape key self.old self.new result }
+    {
+        get(&cache.cells, &mut self.seat, &self.books, key)
+    }
+
     /// The length of the history: how many changes of the map were made.
     pub fn moment(&self) -> u64
         ensures { result ≡ length (state_of V self.now.of.layout.shape self.now.acts).history }

@@ -14,7 +14,7 @@ use Rattle.mc_plan.specs.Plans.{value_acts, move_acts}
 use Rattle.mc_plan.proofs.Calls.DueActs as due
 
 -- it is allowed, and within the limit
-pub due_may : (V : ℕ) (sh : Shape) (all acts : List Made) (a : Act) (due : List Act) → AreDue V sh all acts (a ∷ due) → IsAllowed sh (state_of V sh acts) a × HasVersionSteps sh.limit (state_of V sh acts).changes a
+pub due_may : (V : ℕ) (sh : Shape) (all acts : List Made) (a : Act) (due : List Act) → AreDue V sh all acts (a ∷ due) → IsAllowed sh (state_of V sh acts) a × HasVersionSteps sh.limit (state_of V sh acts).version_steps a
 due_may V sh all acts a rest d = let may = due.due_may V sh all acts a rest d in (may.0, may.1)
 
 -- the others are due after it

@@ -1,2 +1,4 @@
 pub mod Due
 pub mod WholeCalls
+pub mod Rests
+pub mod WaitingPuts

@@ -1,15 +1,17 @@
 -- A call of the writer whose acts were all made.
-use Rattle.std.proofs.Common.{ℕ, ◌≡◌, ◌∙◌, List, [], ◌++◌, ap, refl, sym, subst}
+use Rattle.std.proofs.Common.{ℕ, ◌≡◌, ◌∙◌, List, [], ◌++◌, ap, append_assoc, refl, sym, subst}
 use Rattle.mc_words.specs.declared.shape.Shape.{Shape}
 use Rattle.mc_words.specs.Checks.{shape_of}
 use Rattle.mc_theory.specs.Lists.{Made, state_of}
 use Rattle.mc_theory.specs.declared.act.Act.{Act}
-use Rattle.mc_plan.specs.Clerks.{AreBooksOf, Call, IsPlanned, IsSweepOf}
+use Rattle.mc_search.specs.Sweeps.{Swept, hand_acts}
+use Rattle.mc_plan.specs.Clerks.{AreBooksOf, Call, IsPlanned, IsSweeping, IsSweepOf, state_after_sweep}
+use Rattle.mc_plan.specs.declared.waiting.Waiting.{Waiting}
 use Rattle.mc_plan.specs.Due.{AreDue}
 use Rattle.mc_plan.specs.Making.{as_made}
 use Rattle.mc_plan.specs.declared.answer.Answer.{Answer}
 use Rattle.mc_plan.specs.declared.books.Books.{Books}
-use Rattle.mc_plan.proofs.Calls.DueActs.{all_made, plan_ends, planned_due}
+use Rattle.mc_plan.proofs.Calls.DueActs.{all_made, plan_ends, planned_due, sweep_may}
 use Rattle.mc_shared.specs.declared.layout.Layout.{Layout}
 use Rattle.mc_shared.specs.Records.{Opening, WriterRecord}
 use Rattle.mc_shared.specs.Views.{layout_of}
@@ -39,3 +41,16 @@ made_now V o b plan call told before mid after at layout same of makes sweeps p 
     let due : AreDue V sh all before.acts plan = planned_due V sh b plan call s s told before.acts shape refl p in
     let acts = all_made V sh all after.acts (makes all (subst (λ (w : WriterRecord). AreDue V sh all w.acts plan) (sym same) due)) in
     called_now V sh b plan call told before after (ap (λ (x : Opening). x.layout) at ∙ layout) shape (of ∙ ap (λ (w : WriterRecord). w.of) same) acts sweeps p
+
+-- after a sweep: its readings and the acts of the plan are the call
+pub called_swept : (V : ℕ) (sh : Shape) (b0 b : Books) (waiting : Waiting V) (plan : List Act) (call : Call) (told : Answer) (rs : List Swept) (before after : WriterRecord) → before.of.layout ≡ layout_of V (shape_of b.checked) → shape_of b0.checked ≡ sh → shape_of b.checked ≡ sh → IsSweeping V b0 waiting call (state_of V sh before.acts) rs
+    → after.of ≡ before.of → after.acts ≡ (before.acts ++ hand_acts rs) ++ as_made plan → IsSweepOf V sh (state_of V sh before.acts) rs told → IsPlanned V b plan call (state_of V sh before.acts) (state_after_sweep V sh (state_of V sh before.acts) rs) told → HasCalled V sh call before after told × IsRested V b after
+called_swept V sh b0 b waiting plan call told rs before after layout was shape sweeping of acts sweeps p =
+    let ends = plan_ends V sh b plan call before.acts rs told shape (sweep_may V sh b0 waiting call before.acts rs was sweeping).0 sweeps p in
+    let all : after.acts ≡ before.acts ++ (hand_acts rs ++ as_made plan) = acts ∙ append_assoc before.acts (hand_acts rs) (as_made plan) in (
+      record { made = hand_acts rs ++ as_made plan; of = of; acts = all; answered = ends.0 },
+      record {
+        layout = ap (λ (o : Opening). o.layout) of ∙ layout;
+        known = subst (λ (x : Shape). AreBooksOf V b (state_of V x after.acts)) (sym shape) (subst (λ (xs : List Made). AreBooksOf V b (state_of V sh xs)) (sym all) ends.1);
+      },
+    )

@@ -1,13 +1,19 @@
 -- What a call of the writer makes of its seat and of its books.
-use Rattle.std.specs.Prelude.{◌≡◌, ℕ, List, ◌++◌}
+use Rattle.std.specs.Prelude.{◌≡◌, ℕ, List, [], ◌∷◌, ◌++◌, length, Some, None}
 use Rattle.mc_words.specs.declared.shape.Shape.{Shape}
 use Rattle.mc_words.specs.Checks.{shape_of}
+use Rattle.mc_words.specs.History.{map_value}
+use Rattle.mc_words.specs.Standing.{Stands}
+use Rattle.mc_words.specs.declared.history.Reply.{Reply}
+use Rattle.mc_words.specs.declared.history.Reply.TheVariants.{Found, Absent, Busy}
 use Rattle.mc_theory.specs.Lists.{Made, state_of}
+use Rattle.mc_theory.specs.States.{State}
+use Rattle.mc_theory.specs.declared.act.Act.TheVariants.{Mark}
 use Rattle.mc_plan.specs.Clerks.{AreBooksOf, Answered, Call}
 use Rattle.mc_plan.specs.declared.answer.Answer.{Answer}
 use Rattle.mc_plan.specs.declared.books.Books.{Books}
 use Rattle.mc_shared.specs.Records.{WriterRecord}
-use Rattle.mc_shared.specs.Views.{layout_of}
+use Rattle.mc_shared.specs.Views.{layout_of, with_bit}
 
 -- a whole call was made on the seat, and this is its true answer
 pub record HasCalled (V : ℕ) (sh : Shape) (call : Call) (before after : WriterRecord) (told : Answer) : Type 0 where
@@ -20,3 +26,15 @@ pub record HasCalled (V : ℕ) (sh : Shape) (call : Call) (before after : Writer
 pub record IsRested (V : ℕ) (books : Books) (seat : WriterRecord) : Type 0 where
   pub layout : seat.of.layout ≡ layout_of V (shape_of books.checked)
   pub known : AreBooksOf V books (state_of V (shape_of books.checked) seat.acts)
+
+-- the reply is what the map holds of the key at the end of the history; the last act marks the item of a hit, and a miss makes no act
+abbrev pub RepliesNow : (V : ℕ) → Shape → ℕ → State V → List Made → List Made → Reply V → Type 0
+RepliesNow V sh k s acts acts' (Found v at) =
+    (map_value s.history k ≡ Some v) × (at ≡ length s.history) × ((q : ℕ) × (i : ℕ) × Stands V sh s.words k q i × (acts' ≡ acts ++ with_bit (Mark i) 0 ∷ []))
+RepliesNow V sh k s acts acts' (Absent at) = (map_value s.history k ≡ None) × (at ≡ length s.history) × (acts' ≡ acts)
+RepliesNow V sh k s acts acts' Busy = ⊥
+
+-- a key was looked up by the writer
+pub record HasGot (V : ℕ) (sh : Shape) (k : ℕ) (before after : WriterRecord) (reply : Reply V) : Type 0 where
+  pub of : after.of ≡ before.of
+  pub replies : RepliesNow V sh k (state_of V sh before.acts) before.acts after.acts reply

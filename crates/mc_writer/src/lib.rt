@@ -1,11 +1,18 @@
 //! The calls of a running writer: what the books decide is made act by act, in straight-line code.
+//!
+//! A put or a removal is decided as a value by the books of `mc_plan`, the same that decide for worlds and scripts. Here the
+//! decision runs as deeds on shared words, with no list of acts and no enum between. The contract says that just the acts of
+//! a whole call were made, and that the answer is a true one of it.
 #![tactic(auto)]
 
 mod deeds;
+mod get_call;
 mod lens;
-mod putting;
+mod put_call;
+mod remove_call;
 mod sweep;
 
-pub use deeds::{fill, make_move, make_moves, renew, stamp, take_out};
+pub use get_call::{get, look};
 pub use lens::Lens;
-pub use putting::put;
+pub use put_call::put;
+pub use remove_call::remove;

@@ -1,7 +1,7 @@
 use Rattle.std.proofs.Common.{arith}
 use Rattle.mc_words.specs.Checks.{shape_of}
 use Rattle.mc_theory.specs.Lists.{state_of}
-use Rattle.mc_cache.proofs.Rests.{agrees_in}
+use Rattle.mc_writer.proofs.Rests.{agrees_in}
 use Rattle.mc_cache.proofs.closing.list_beside.Goals as goal
 
 pub entries-requires : goal.entries-requires

@@ -12,9 +12,9 @@ use Rattle.mc_shared.specs.Views.{layout_of}
 use Rattle.mc_writer.specs.WriterCalls.{HasCalled, IsRested}
 use Rattle.mc_writer.proofs.WholeCalls.{made_now}
 use Rattle.mc_shared.specs.declared.layout.Layout.{Layout}
-use Rattle.mc_writer.proofs.putting.put_new.Goals as goal
-use Rattle.mc_writer.proofs.putting.put_new.Goals.{After-told}
-use Rattle.mc_writer.proofs.putting.put_new.Given.{Over}
+use Rattle.mc_writer.proofs.put_call.put_new.Goals as goal
+use Rattle.mc_writer.proofs.put_call.put_new.Goals.{After-told}
+use Rattle.mc_writer.proofs.put_call.put_new.Given.{Over}
 
 -- the moves, the fill and the mark are a whole call
 stored : (g : Over) (c : After-told g) → HasCalled g.row.V c.args.cells.now.layout.shape (PutCall c.args.key c.args.value.now) c.args.seat.now c.make_storing.new.seat (answer.Put (Ok c.told.result)) × IsRested g.row.V c.decide_insert.new.books c.make_storing.new.seat

@@ -1,6 +1,6 @@
 use Rattle.std.proofs.Common.{◌∙◌, [], ◌∷◌, arith}
 use Rattle.mc_theory.specs.declared.act.Act.TheVariants as act
-use Rattle.mc_writer.proofs.putting.make_renewal.Goals as goal
+use Rattle.mc_writer.proofs.put_call.make_renewal.Goals as goal
 
 pub stamp-requires : goal.stamp-requires
 stamp-requires g c =

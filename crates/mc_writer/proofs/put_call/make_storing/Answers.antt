@@ -6,9 +6,9 @@ use Rattle.mc_plan.specs.Decisions.{acts_of_moves, storing_acts}
 use Rattle.mc_plan.specs.declared.decision.Move.{Move}
 use Rattle.mc_plan.specs.Due.{AreDue}
 use Rattle.mc_plan.specs.Plans.{fill_acts}
-use Rattle.mc_writer.proofs.putting.make_storing.Goals as goal
-use Rattle.mc_writer.proofs.putting.make_storing.Goals.{After-make_moves}
-use Rattle.mc_writer.proofs.putting.make_storing.Given.{Over}
+use Rattle.mc_writer.proofs.put_call.make_storing.Goals as goal
+use Rattle.mc_writer.proofs.put_call.make_storing.Goals.{After-make_moves}
+use Rattle.mc_writer.proofs.put_call.make_storing.Given.{Over}
 
 -- the fill and the mark are due after the moves
 moved : (g : Over) (c : After-make_moves g) (all : List Made) → AreDue g.row.V c.args.cells.now.layout.shape all c.args.seat.now.acts (storing_acts c.args.cells.now.layout.shape c.args.key c.args.value.now c.args.storing.now)

@@ -11,9 +11,9 @@ use Rattle.mc_shared.specs.Records.{Opening}
 use Rattle.mc_shared.specs.Views.{layout_of}
 use Rattle.mc_writer.specs.WriterCalls.{HasCalled, IsRested}
 use Rattle.mc_writer.proofs.WholeCalls.{made_now}
-use Rattle.mc_writer.proofs.putting.put.Goals as goal
-use Rattle.mc_writer.proofs.putting.put.Goals.{After-make_renewal}
-use Rattle.mc_writer.proofs.putting.put.Given.{Over}
+use Rattle.mc_writer.proofs.put_call.put.Goals as goal
+use Rattle.mc_writer.proofs.put_call.put.Goals.{After-make_renewal}
+use Rattle.mc_writer.proofs.put_call.put.Given.{Over}
 
 -- a renewal is a whole call
 renewed : (g : Over) (c : After-make_renewal g) → HasCalled g.row.V c.args.cells.now.layout.shape (PutCall c.args.key c.args.value.now) c.args.seat.now c.make_renewal.new.seat (answer.Put (Ok (put.Renewed c.in-Renew.at))) × IsRested g.row.V c.decide.new.books c.make_renewal.new.seat

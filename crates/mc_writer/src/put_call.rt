@@ -3,7 +3,7 @@ ghost use Rattle.std.specs.Prelude.{◌≡◌, ◌<◌, ◌++◌, [], List};
 ghost use Rattle.mc_words.specs.Places.{IsWidth};
 ghost use Rattle.mc_theory.specs.Lists.{Made, state_of};
 ghost use Rattle.mc_plan.specs.Deciding.{IsDecided, IsInserted, IsLackingKey};
-ghost use Rattle.mc_plan.specs.Decisions.{renewal_acts, storing_acts};
+ghost use Rattle.mc_plan.specs.Decisions.{renewal_acts, replacement_acts, storing_acts};
 ghost use Rattle.mc_plan.specs.Due.{AreDue};
 ghost use Rattle.mc_plan.specs.Clerks.{PutCall, Waits};
 ghost use Rattle.mc_plan.specs.declared.answer.Answer.TheVariants as answer;
@@ -14,7 +14,7 @@ ghost use Rattle.mc_writer.specs.WriterCalls.{HasCalled, IsRested};
 use crate::deeds::{fill, make_moves, renew, stamp, take_out};
 use crate::lens::Lens;
 use crate::sweep::{finish, turn_round};
-use mc_plan::{Books, Decision, Insertion, Path, Put, PutError, Storing, Waiting};
+use mc_plan::{Books, Decision, Insertion, Path, Put, PutError, Replacement, Storing, Waiting};
 use mc_shared::{Cells, WriterSeat};
 use mc_theory::Deed;
 
@@ -93,6 +93,31 @@ fn make_storing<const V: usize>(
     stamp(cells, seat, storing.item);
 }
 
+/// Takes another key out, and makes the moves, the fill and the mark of a put in its place.
+fn make_replacement<const V: usize>(
+    cells: &Cells<V>,
+    seat: &mut WriterSeat,
+    key: u64,
+    value: &[u64; V],
+    replacement: &Replacement,
+)
+    requires width { IsWidth V }
+    requires of { seat.old.of ≡ cells.now }
+    requires item { replacement.now.storing.item < cells.now.layout.shape.items }
+    requires due { (all : List Made) × AreDue V cells.now.layout.shape all seat.old.acts (replacement_acts cells.now.layout.shape key value.now replacement.now) }
+    ensures of { seat.new.of ≡ seat.old.of }
+    ensures due { (all : List Made) → AreDue V cells.now.layout.shape all seat.old.acts (replacement_acts cells.now.layout.shape key value.now replacement.now) → AreDue V cells.now.layout.shape all seat.new.acts [] }
+{
+    take_out(
+        cells,
+        seat,
+        replacement.evicted,
+        Deed::Evict,
+        replacement.victim,
+    );
+    make_storing(cells, seat, key, value, &replacement.storing);
+}
+
 /// Puts a key that is not there and for which no item is free.
 #[inline(never)]
 fn put_waiting<const V: usize>(
@@ -111,16 +136,13 @@ fn put_waiting<const V: usize>(
 {
     let mut waiting = Waiting::new(books, key, *value, path);
     turn_round(cells, seat, books, &mut waiting);
-    let replacement = finish(cells, seat, books, waiting)?;
-    take_out(
-        cells,
-        seat,
-        replacement.evicted,
-        Deed::Evict,
-        replacement.victim,
-    );
-    make_storing(cells, seat, key, value, &replacement.storing);
-    Ok(replacement.storing.told(Some(replacement.evicted)))
+    match finish(cells, seat, books, waiting) {
+        Ok(replacement) => {
+            make_replacement(cells, seat, key, value, &replacement);
+            Ok(replacement.storing.told(Some(replacement.evicted)))
+        }
+        Err(why) => Err(why),
+    }
 }
 
 /// Puts a key that is not there.

@@ -1,0 +1,56 @@
+//! The writer's lookup.
+ghost use Rattle.std.specs.Prelude.{ℕ, ◌≡◌, Some, None, IfSome, IfNone};
+ghost use Rattle.mc_theory.specs.Lists.{state_of};
+ghost use Rattle.mc_words.specs.History.{map_value};
+ghost use Rattle.mc_words.specs.Standing.{Stands};
+ghost use Rattle.mc_writer.specs.WriterCalls.{HasGot, IsRested};
+
+use crate::lens::Lens;
+use mc_plan::Books;
+use mc_search::read;
+use mc_shared::{Cells, WriterSeat, set_mark_unless_set};
+use mc_words::Reply;
+
+/// What the words hold of a key, while the writer rests: its item and its value. No act is made.
+pub fn look<const V: usize>(
+    cells: &Cells<V>,
+    seat: &mut WriterSeat,
+    books: &Books,
+    key: u64,
+) -> Option<(u32, [u64; V])>
+    requires of { seat.old.of ≡ cells.now }
+    requires rested { IsRested V books.now seat.old }
+    ensures found { IfSome result (λ r. map_value (state_of V cells.now.layout.shape seat.old.acts).history key ≡ Some r.1) }
+    ensures item { IfSome result (λ r. (q : ℕ) × Stands V cells.now.layout.shape (state_of V cells.now.layout.shape seat.old.acts).words key q r.0) }
+    ensures none { IfNone result (map_value (state_of V cells.now.layout.shape seat.old.acts).history key ≡ None) }
+    ensures seat { seat.new ≡ seat.old }
+{
+    let _books = books;
+    let checked = cells.checked();
+    let mut lens = Lens { cells, seat };
+    read::<V, Lens<V>>(checked, &mut lens, key)
+}
+
+/// What the map holds of the key now, never `Busy`. A hit marks the key's item.
+pub fn get<const V: usize>(
+    cells: &Cells<V>,
+    seat: &mut WriterSeat,
+    books: &Books,
+    key: u64,
+) -> Reply<V>
+    requires of { seat.old.of ≡ cells.now }
+    requires rested { IsRested V books.now seat.old }
+    ensures got { HasGot V cells.now.layout.shape key seat.old seat.new result }
+    ensures rested { IsRested V books.now seat.new }
+{
+    let found = look(cells, seat, books, key);
+    let at = seat.moment();
+    match found {
+        Some(hit) => {
+            let value = hit.1;
+            set_mark_unless_set(cells, seat, hit.0);
+            Reply::Found { value, at }
+        }
+        None => Reply::Absent { at },
+    }
+}
