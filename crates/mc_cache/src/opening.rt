@@ -68,6 +68,7 @@ fn open_checked<const V: usize>(
 
 /// A cache with nothing in it, its writer and so many readers. The first fault of what is asked for is told: `Shape`, then
 /// `Readers` where there are none or more than 1024, then `NoMemory`. Nothing is left of a cache that is not opened.
+/// Condition: a value has from 1 to 8 words.
 pub fn open<const V: usize>(
     alloc: Global,
     shape: Shape,

@@ -1,4 +1,10 @@
 //! The calls of a running writer: what the books decide is made act by act, in straight-line code.
+//!
+//! ```text
+//! let mut books = Books::new(alloc, &checked)?;
+//! let (cells, mut seat, readers) = open::<1>(alloc, &checked, 1)?;
+//! let stored = put(&cells, &mut seat, &mut books, 7, &[70])?;
+//! ```
 #![tactic(auto)]
 
 mod deeds;
