@@ -1,1 +1,2 @@
 pub mod SameSeats
+pub mod NewWriters

@@ -42,6 +42,7 @@ fn list_beside<const V: usize>(
 impl<const V: usize> Cache<V> {
     /// Each key that the cache holds, with its value, in the order of their items. Readers that the caller has dropped
     /// needn't be handed in. `Err` only where the list can't be stored: all is given back as it was.
+    /// Condition: the writer is this cache's.
     pub fn close(
         self,
         alloc: Global,

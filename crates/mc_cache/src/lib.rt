@@ -3,6 +3,16 @@
 //! A `Cache` is lent to all threads; its `Writer` and each `Reader` belong to one thread at a time. What the writer's calls
 //! do is said of its record, the list of acts that were made; a reader's answer is true of the history of the front that it
 //! has seen. Between `open` and `Cache::close` no call takes memory, and none waits.
+//!
+//! ```text
+//! let (cache, mut writer, mut readers) = open::<1>(alloc, shape, 2)?;
+//! let (Some(mut one), Some(mut two)) = (readers.pop(), readers.pop()) else {
+//!     return Err(Fail::new("no readers"));
+//! };
+//! writer.put(&cache, 7, [70])?;
+//! let (hit, miss) = join(rt, || one.get(&cache, 7), || two.get(&cache, 8));
+//! let closed = cache.close(alloc, writer, readers);
+//! ```
 #![tactic(auto)]
 
 mod cache;

@@ -27,12 +27,6 @@ pub enum OpenError {
     NoMemory,
 }
 
-impl From<NoMemory> for OpenError {
-    fn from(_: NoMemory) -> OpenError {
-        OpenError::NoMemory
-    }
-}
-
 // The readers on these seats.
 fn seat_readers<const V: usize>(
     alloc: Global,
@@ -68,6 +62,7 @@ fn open_checked<const V: usize>(
 
 /// A cache with nothing in it, its writer and so many readers. The first fault of what is asked for is told: `Shape`, then
 /// `Readers` where there are none or more than 1024, then `NoMemory`. Nothing is left of a cache that is not opened.
+/// Condition: a value has from 1 to 8 words.
 pub fn open<const V: usize>(
     alloc: Global,
     shape: Shape,
@@ -78,9 +73,15 @@ pub fn open<const V: usize>(
     ensures writer { IfOk result (λ r. r.1 ≡ writer_record r.0 []) }
     ensures readers { IfOk result (λ r. r.2.items ≡ replicate readers (reader_record r.0 [] [])) }
 {
-    let checked = shape.check()?;
+    let checked = match shape.check() {
+        Ok(checked) => checked,
+        Err(why) => return Err(OpenError::Shape(why)),
+    };
     if readers == 0 || readers > 1024 {
         return Err(OpenError::Readers);
     }
-    Ok(open_checked::<V>(alloc, &checked, readers)?)
+    match open_checked::<V>(alloc, &checked, readers) {
+        Ok(opened) => Ok(opened),
+        Err(NoMemory) => Err(OpenError::NoMemory),
+    }
 }

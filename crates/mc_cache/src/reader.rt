@@ -34,7 +34,7 @@ impl<const V: usize> Model for Reader<V> {
 
 impl<const V: usize> Reader<V> {
     /// What the cache holds of the key. `Busy` where each of the shape's tries was spoiled by a change of a key of the same
-    /// stripe. A hit marks the key's item as recently used.
+    /// stripe. A hit marks the key's item as recently used. Condition: the reader is one of this cache.
     pub fn get(&mut self, cache: &Cache<V>, key: u64) -> Reply<V>
         requires of { self.old.of ≡ cache.now }
         ensures looked { HasLooked V cache.now.layout.shape key self.old self.new result }
@@ -45,6 +45,7 @@ impl<const V: usize> Reader<V> {
     }
 
     /// The writer's moment. No later answer of this reader has a lower one.
+    /// Condition: reader and writer are those of this cache.
     pub fn catch_up(&mut self, cache: &Cache<V>, writer: &mut Writer<V>) -> u64
         requires of { (self.old.of ≡ cache.now) × (writer.old.of ≡ cache.now) }
         ensures writer { writer.new ≡ writer.old }
@@ -57,6 +58,7 @@ impl<const V: usize> Reader<V> {
     }
 
     /// What the cache holds of the key at the writer's moment, never `Busy`. A hit marks the key's item.
+    /// Condition: reader and writer are those of this cache.
     pub fn get_beside(&mut self, cache: &Cache<V>, writer: &mut Writer<V>, key: u64) -> Reply<V>
         requires of { (self.old.of ≡ cache.now) × (writer.old.of ≡ cache.now) }
         ensures writer { writer.new ≡ writer.old }

@@ -55,6 +55,7 @@ impl<const V: usize> World<V> {
     ghost use Rattle.mc_core.specs.declared.world.WorldError.TheVariants as error;
 
     /// A new world with so many readers: nothing was written, and no lookup runs.
+    /// Condition: a value has from 1 to 8 words.
     pub fn new(alloc: Global, checked: &Checked, readers: u32) -> Result<World<V>, WorldError>
         requires { IsWidth V }
         ensures ok { IfOk result (λ w. (w.shape ≡ shape_of checked.now) × Shows {V = V} w (traces.first_trace V (shape_of checked.now) readers)) }
@@ -117,6 +118,7 @@ impl<const V: usize> World<V> {
     }
 
     /// A word of the table. The recency words come last: 64 items share one.
+    /// Condition: `n` is below the number of words, `checked().words()`.
     pub fn word(&self, n: usize) -> u64
         requires { n < all_words V self.now.shape }
         ensures words { n < word_count V self.now.shape → result ≡ slice_index self.now.state.words n }

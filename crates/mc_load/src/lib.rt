@@ -2,6 +2,10 @@
 //!
 //! `run_step` reads the words of the command line, replays the script over a table of the shape that they ask for, and
 //! tells a fault on standard error. The replay is a crate of its own, given out here.
+//!
+//! ```text
+//! let status = run_step(alloc, &["mcstep", "--items", "3"], &mut input, &mut output, &mut errors);
+//! ```
 #![tactic(auto)]
 
 mod step;

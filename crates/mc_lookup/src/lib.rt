@@ -3,6 +3,14 @@
 //! A lookup reads the version of the key's stripe, the slots of the key's two buckets, the key word at each tag match,
 //! the value words at a hit, the moment, and the version again; where the versions differ it tries again. Its contract
 //! says what is left to read at each stage, and so that what it reads is a lookup of the theory.
+//!
+//! ```text
+//! let mut lookup = Lookup::<1>::begin(&checked, key);
+//! while let Some(access) = lookup.next() {
+//!     lookup.after(load(access));
+//! }
+//! let reply = lookup.reply();
+//! ```
 #![tactic(auto)]
 
 pub mod laws;

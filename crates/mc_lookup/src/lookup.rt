@@ -49,7 +49,7 @@ impl<const V: usize> Lookup<V> {
     ghost use Rattle.mc_lookup.specs.Machine.{shape_for, stage_of, next_access, reply_now, IsRemainder, Consumes, steps_left};
     ghost use Rattle.mc_theory.specs.declared.access.Access.{Access};
 
-    /// The lookup of a key, with nothing read yet.
+    /// The lookup of a key, with nothing read yet. Condition: a value has from 1 to 8 words.
     pub fn begin(checked: &Checked, key: u64) -> Lookup<V>
         requires { IsWidth V }
         ensures shape { shape_for {V = V} result ≡ shape_of checked.now }
@@ -125,6 +125,7 @@ impl<const V: usize> Lookup<V> {
     }
 
     /// Takes the word that the next access read. Of a mark, which reads nothing, the word isn't looked at.
+    /// Condition: there is a next access.
     pub fn after(&mut self, word: u64)
         requires { IsSome (next_access {V = V} self.old) }
         ensures { IfSome (next_access {V = V} self.old) (λ (a : Access). Consumes {V = V} self.old a word self.new) }

@@ -104,6 +104,7 @@ impl Books {
     }
 
     /// Decides a put, as far as one look for the key tells.
+    /// Condition: the books are those of the table whose words are looked at, between two calls.
     pub fn decide<const V: usize, P: Peek>(
         &mut self,
         peek: &mut P,
@@ -132,6 +133,7 @@ impl Books {
     }
 
     /// Decides the put of a key that is not there: it is refused where no path leads to a hole, and waits where no item is free.
+    /// Condition: `decide` has just answered `Insert` for the key, with this `at`.
     #[inline(never)]
     pub fn insert<const V: usize, P: Peek>(
         &mut self,
@@ -186,6 +188,7 @@ impl Books {
     }
 
     /// Decides the rest of a put whose sweep is over.
+    /// Condition: the put waits by these books, its sweep is over, and the words are those of its beginning.
     #[inline(never)]
     pub fn finish<const V: usize, P: Peek>(
         &mut self,
@@ -205,7 +208,7 @@ impl Books {
         }
     }
 
-    /// Decides a removal.
+    /// Decides a removal. Condition: the books are those of the table whose words are looked at, between two calls.
     pub fn decide_removal<const V: usize, P: Peek>(&mut self, peek: &mut P, key: u64) -> Removal
         requires books { (s : State V) × AreBooksOf V self.old s × (P.words peek.old ≡ s.words) }
         ensures decided { (s : State V) → AreBooksOf V self.old s → P.words peek.old ≡ s.words → IsRemovalDecided V self.new key s result }

@@ -45,7 +45,7 @@ impl<const V: usize> Clerk<V> {
     ghost use Rattle.mc_plan.specs.Inside.Clerks.{HasEndedSweep};
     ghost use Rattle.mc_search.specs.Sweeps.{Swept, hand_acts};
 
-    /// The clerk of a new table.
+    /// The clerk of a new table. Condition: a value has from 1 to 8 words.
     pub fn new(alloc: Global, checked: &Checked) -> Result<Clerk<V>, NoMemory>
         requires width { IsWidth V }
         ensures knows { IfOk result (λ clerk. Knows V clerk (opening V (shape_of checked.now))) }
@@ -60,7 +60,7 @@ impl<const V: usize> Clerk<V> {
         })
     }
 
-    /// Starts a put.
+    /// Starts a put. Condition: no call runs, and the clerk knows the table whose words are looked at.
     pub fn put<P: Peek>(&mut self, peek: &mut P, key: u64, value: [u64; V])
         requires { (s : State V) × Knows V self.old s × (P.words peek.old ≡ s.words) }
         ensures on { (s : State V) → Knows V self.old s → P.words peek.old ≡ s.words → IsOn V self.new (PutCall key value.entry) s [] }
@@ -77,7 +77,7 @@ impl<const V: usize> Clerk<V> {
         };
     }
 
-    /// Starts a removal.
+    /// Starts a removal. Condition: no call runs, and the clerk knows the table whose words are looked at.
     pub fn remove<P: Peek>(&mut self, peek: &mut P, key: u64)
         requires { (s : State V) × Knows V self.old s × (P.words peek.old ≡ s.words) }
         ensures on { (s : State V) → Knows V self.old s → P.words peek.old ≡ s.words → IsOn V self.new (RemoveCall key) s [] }
@@ -121,6 +121,7 @@ impl<const V: usize> Clerk<V> {
     }
 
     /// Goes on after the next act was made. `word` is the bit that it read, where it was one of the hand.
+    /// Condition: there was a next act, and the words are those after it.
     pub fn after<P: Peek>(&mut self, peek: &mut P, word: u64)
         requires { (call : Call) × (s : State V) × (acts : List Made) × (a : Act) × IsOn V self.old call s acts × (next_act self.old ≡ Some a) × (P.words peek.old ≡ (after_all (shape_of_clerk self.old) s (acts ++ record { act = a; bit = word } ∷ [])).words) }
         ensures on { (call : Call) (s : State V) (acts : List Made) (a : Act) → IsOn V self.old call s acts → next_act self.old ≡ Some a → P.words peek.old ≡ (after_all (shape_of_clerk self.old) s (acts ++ record { act = a; bit = word } ∷ [])).words → IsOn V self.new call s (acts ++ record { act = a; bit = word } ∷ []) }

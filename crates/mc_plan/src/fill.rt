@@ -14,6 +14,7 @@ use mc_theory::{Act, Deed};
 use mc_words::{Checked, Place};
 
 /// Adds the acts that put a key, at a free item and in an empty slot of one of its buckets.
+/// Condition: the list has room for them: `V + 5` acts of 64. The item is one of the table.
 pub fn add_fill<const V: usize>(
     checked: &Checked,
     acts: &mut Plan,
@@ -39,6 +40,7 @@ pub fn add_fill<const V: usize>(
 }
 
 /// The acts that put a key, at a free item and in an empty slot of one of its buckets.
+/// Condition: a value has from 1 to 8 words, and the item is one of the table.
 pub fn plan_fill<const V: usize>(
     checked: &Checked,
     key: u64,

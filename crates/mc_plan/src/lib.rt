@@ -3,6 +3,18 @@
 //! A plan is a list of acts, and its contract says what the list makes of every quiet state that has what it needs. A
 //! `Clerk` turns a call into such acts, one at a time, and answers it after the last. The words of the table are read
 //! through `Peek`. The search on which plans stand is a crate of its own, given out here.
+//!
+//! ```text
+//! clerk.put(&mut &world, key, value);
+//! while let Some(act) = clerk.next() {
+//!     let bit = match world.step(Event::Write(act))? {
+//!         Stepped::Word(bit) => bit,
+//!         _ => 0,
+//!     };
+//!     clerk.after(&mut &world, bit);
+//! }
+//! let answer = clerk.answer();
+//! ```
 #![tactic(auto)]
 
 mod answer;

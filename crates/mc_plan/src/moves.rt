@@ -18,7 +18,7 @@ use mc_theory::{Act, Deed, Peek};
 use mc_words::{Checked, Place};
 
 /// Adds the acts that move the key to an empty slot of its other bucket. The new slot is written before the old one
-/// is cleared.
+/// is cleared. Condition: the list has room for them: 4 acts of 64.
 pub fn add_move(acts: &mut Plan, key: u64, word: u64, from: Place, to: Place)
     requires room { array_vec_len acts.old + 4 ≤ 64 }
     ensures items { acts.new.items ≡ acts.old.items ++ move_acts key word from to }
@@ -46,6 +46,7 @@ fn key_in<const V: usize, P: Peek>(checked: &Checked, peek: &mut P, word: u64) -
 
 /// The moves of a path: the item at its last place goes to the hole, the item at the place before it to the place that
 /// became empty, and so on. The first place is empty then.
+/// Condition: the words reach as far as the shape says, each slot is empty or names an item, and the path's places are occupied.
 pub fn path_moves<const V: usize, P: Peek>(
     checked: &Checked,
     peek: &mut P,
@@ -80,7 +81,7 @@ pub fn path_moves<const V: usize, P: Peek>(
     moves
 }
 
-/// Adds the acts of the moves, in their order.
+/// Adds the acts of the moves, in their order. Condition: the list has room for them: 4 acts of 64 a move.
 pub fn push_moves(acts: &mut Plan, moves: &[Move])
     requires room { array_vec_len acts.old + 4 * length moves.now ≤ 64 }
     ensures items { acts.new.items ≡ acts.old.items ++ acts_of_moves moves.now }
@@ -91,7 +92,7 @@ pub fn push_moves(acts: &mut Plan, moves: &[Move])
     }
 }
 
-/// Adds the acts of the moves of the path.
+/// Adds the acts of the moves of the path. Condition: as for `path_moves`, and the list has at most 32 acts.
 pub fn add_moves<const V: usize, P: Peek>(
     checked: &Checked,
     peek: &mut P,
@@ -114,6 +115,7 @@ pub fn add_moves<const V: usize, P: Peek>(
 }
 
 /// The acts that make room where the path begins, by moving the items at its places, the last one first.
+/// Condition: as for `path_moves`, and the path is a chain from some key.
 pub fn plan_moves<const V: usize, P: Peek>(checked: &Checked, peek: &mut P, path: &Path) -> Plan
     requires width { IsWidth V }
     requires words { word_count V (shape_of checked.now) ≤ length (P.words peek.old) }

@@ -14,6 +14,7 @@ use arrayvec::ArrayVec;
 use mc_theory::{Act, Deed};
 
 /// Adds the acts that put a new value of the key that stands at the item.
+/// Condition: the list has room for them: `V + 3` acts of 64.
 pub fn add_renew<const V: usize>(acts: &mut Plan, key: u64, value: &[u64; V], item: u32)
     requires width { IsWidth V }
     requires room { array_vec_len acts.old + V + 3 ≤ 64 }
@@ -27,7 +28,7 @@ pub fn add_renew<const V: usize>(acts: &mut Plan, key: u64, value: &[u64; V], it
     acts.push(Act::Close);
 }
 
-/// The acts that put a new value of the key that stands at the item.
+/// The acts that put a new value of the key that stands at the item. Condition: a value has from 1 to 8 words.
 pub fn plan_renew<const V: usize>(key: u64, value: &[u64; V], item: u32) -> Plan
     requires width { IsWidth V }
     ensures items { result.items ≡ renew_acts key value.now item }

@@ -23,7 +23,7 @@ fn add_take_out(acts: &mut Plan, key: u64, deed: Deed, place: Place)
     acts.push(Act::Close);
 }
 
-/// Adds the acts that take out the key that stands in the slot.
+/// Adds the acts that take out the key that stands in the slot. Condition: the list has room for them: 4 acts of 64.
 pub fn add_remove(acts: &mut Plan, key: u64, place: Place)
     requires room { array_vec_len acts.old + 4 ≤ 64 }
     ensures items { acts.new.items ≡ acts.old.items ++ remove_acts key place }
@@ -33,6 +33,7 @@ pub fn add_remove(acts: &mut Plan, key: u64, place: Place)
 }
 
 /// Adds the acts that take out the key that stands in the slot, to make room for another.
+/// Condition: the list has room for them: 4 acts of 64.
 pub fn add_evict(acts: &mut Plan, key: u64, place: Place)
     requires room { array_vec_len acts.old + 4 ≤ 64 }
     ensures items { acts.new.items ≡ acts.old.items ++ evict_acts key place }

@@ -30,7 +30,7 @@ impl<const V: usize> Waiting<V> {
     ghost use Rattle.mc_plan.specs.declared.books.Books.{Books};
     ghost use Rattle.mc_search.specs.Sweeps.{Swept, IsOver, next_item};
 
-    /// A put whose hand has read nothing yet.
+    /// A put whose hand has read nothing yet. Condition: the key has this path, by these books, and no item is free.
     pub fn new(books: &Books, key: u64, value: [u64; V], path: Path) -> Waiting<V>
         requires waits { (s : State V) × Waits V books.now key s path }
         ensures sweeping { (s : State V) → Waits V books.now key s path → IsSweeping V books.now result (PutCall key value.entry) s [] }
@@ -54,7 +54,7 @@ impl<const V: usize> Waiting<V> {
         self.sweep.next()
     }
 
-    /// Goes on after the bit was read.
+    /// Goes on after the bit was read. Condition: an item was to be read next.
     pub fn after(&mut self, bit: u64)
         requires { (b : Books) × (call : Call) × (s : State V) × (rs : List Swept) × (i : ℕ) × IsSweeping V b self.old call s rs × (next_item self.old.sweep ≡ Some i) }
         ensures swept { (b : Books) (call : Call) (s : State V) (rs : List Swept) (i : ℕ) → IsSweeping V b self.old call s rs → next_item self.old.sweep ≡ Some i → IsSweeping V b self.new call s (rs ++ record { item = i; bit = bit } ∷ []) }

@@ -2,6 +2,14 @@
 //!
 //! The contract says that just a lookup's readings were added to the reader's record, and that its reply is true: it is
 //! what the map held at the front at which this lookup read the moment.
+//!
+//! ```text
+//! match get(&cells, &mut reader, key) {
+//!     Reply::Found { value, at } => ...                  // the map held the value when `at` changes had been made
+//!     Reply::Absent { at } => ...
+//!     Reply::Busy => ...                                 // each try was spoiled
+//! }
+//! ```
 #![tactic(auto)]
 
 mod places;

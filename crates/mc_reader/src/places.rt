@@ -10,7 +10,7 @@ use mc_words::Checked;
 
 /// Where the key's version lies, slot 0 of each of its two buckets, and item 0.
 #[derive(Clone, Copy)]
-pub struct Places {
+pub(crate) struct Places {
     pub version: usize,
     pub first: usize,
     pub second: usize,
@@ -19,7 +19,7 @@ pub struct Places {
 
 impl Places {
     /// The places of a lookup's words in a table of this shape.
-    pub fn of<const V: usize>(checked: &Checked, lookup: &Lookup<V>) -> Places
+    pub(crate) fn of<const V: usize>(checked: &Checked, lookup: &Lookup<V>) -> Places
         requires width { IsWidth V }
         requires shape { shape_for {V = V} lookup.now ≡ shape_of checked.now }
         ensures { ArePlacesOf V (shape_of checked.now) lookup.now.key result }

@@ -109,7 +109,7 @@ fn play_lines<const V: usize, R: BufRead, W: Write>(
     unreachable!()
 }
 
-/// Replays the script that is left to read.
+/// Replays the script that is left to read. Condition: a value has from 1 to 8 words.
 pub fn play<const V: usize, R: BufRead, W: Write>(
     alloc: Global,
     checked: &Checked,
@@ -130,6 +130,7 @@ pub fn play<const V: usize, R: BufRead, W: Write>(
 ///
 /// The readers are numbered from 0, and there are from 1 to 1024 of them. The line of a call by single steps comes after
 /// exactly its last act: once its acts are a whole call, they are the beginning of no other.
+/// Condition: a value has from 1 to 8 words.
 pub fn replay<const V: usize, R: BufRead, W: Write>(
     alloc: Global,
     checked: &Checked,

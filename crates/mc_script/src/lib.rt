@@ -1,6 +1,15 @@
 //! The script of commands that `mcstep` plays: from bytes to lines, from lines to commands, and bytes to a writer.
 //!
 //! What a line is and what it says stand in `specs/`. Nothing here knows of a cache.
+//!
+//! ```text
+//! let mut line = Line::new();
+//! while read_line(&mut input, &mut line)? {
+//!     if let Some(command) = parse::<1>(line.as_slice())? {
+//!         ...
+//!     }
+//! }
+//! ```
 #![tactic(auto)]
 
 mod command;

@@ -77,6 +77,7 @@ impl Finder {
     /// A shortest path for the key, if there is one within the depth of the shape.
     ///
     /// Of several it is the first of a search breadth first, which looks at a bucket's slots in order.
+    /// Condition: the words reach as far as the last slot of the finder's shape, and each slot is empty or names an item.
     pub fn path<P: Peek>(&mut self, peek: &mut P, key: u64) -> Option<Path>
         requires words { HasSlots self.old (P.words peek.old) }
         requires filled { IsFilled self.old (P.words peek.old) }

@@ -53,7 +53,7 @@ impl FreeItems {
         Some(self.fresh - 1)
     }
 
-    /// Gives an item back.
+    /// Gives an item back. Condition: it is one of the items, and isn't free.
     pub fn give(&mut self, item: u32)
         requires kept { IsConsistent self.old }
         requires in_items { item < self.old.items }

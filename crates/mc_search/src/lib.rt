@@ -3,6 +3,13 @@
 //! `find` gives a key's slot and item, and a `Finder` a least path of displacements to an empty slot, breadth first. A
 //! `Sweep` is CLOCK's hand on its way round the items, and `FreeItems` keeps those that no slot names. The words of the
 //! table are read through `Peek`, so the same code serves a list of words, a world and shared words.
+//!
+//! ```text
+//! let mut finder = Finder::new(alloc, &checked)?;
+//! if find::<1, P>(&checked, &mut peek, key).is_none() {
+//!     let path = finder.path(&mut peek, key);            // None: nothing can make room
+//! }
+//! ```
 #![tactic(auto)]
 
 mod bucket;

@@ -11,7 +11,7 @@ use crate::word::word_at;
 use mc_theory::Peek;
 use mc_words::Checked;
 
-/// The length of the history.
+/// The length of the history. Condition: there is a word.
 #[tactic(auto, unfolding(mc_words::specs::Places::moment))]
 pub fn moment<P: Peek>(checked: &Checked, peek: &mut P) -> u64
     requires { 0 < length (P.words peek.old) }
@@ -38,7 +38,7 @@ fn value_at<const V: usize, P: Peek>(checked: &Checked, peek: &mut P, item: u32)
     value
 }
 
-/// The item at which the key stands, and its value.
+/// The item at which the key stands, and its value. Condition: the words agree with some history, and no deed runs.
 pub fn read<const V: usize, P: Peek>(
     checked: &Checked,
     peek: &mut P,

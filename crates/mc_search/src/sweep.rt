@@ -15,6 +15,7 @@ impl Sweep {
     ghost use Rattle.mc_search.specs.Sweeps.{Swept, HasSwept, IsOver, next_item, victim_of};
 
     /// A sweep that begins where the hand stands.
+    /// Condition: the hand stands at one of the items, of which there are fewer than 2^31.
     pub fn start(items: u32, hand: u32) -> Sweep
         requires hand { hand < items }
         requires few { items < 2 ^ 31 }
@@ -39,7 +40,7 @@ impl Sweep {
         Some(self.hand)
     }
 
-    /// Goes on after the bit was read.
+    /// Goes on after the bit was read. Condition: an item was to be read next.
     pub fn after(&mut self, bit: u64)
         requires { (items : ℕ) × (hand : ℕ) × (rs : List Swept) × (i : ℕ) × HasSwept self.old items hand rs × (next_item self.old ≡ Some i) }
         ensures swept { (items hand : ℕ) (rs : List Swept) (i : ℕ) → HasSwept self.old items hand rs → next_item self.old ≡ Some i → HasSwept self.new items hand (rs ++ record { item = i; bit = bit } ∷ []) }

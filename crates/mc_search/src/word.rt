@@ -7,7 +7,7 @@ ghost use Rattle.mc_search.specs.Readable.{HasSlots};
 use mc_theory::Peek;
 use mc_words::{Checked, Place};
 
-/// The word of a slot.
+/// The word of a slot. Condition: the words reach as far as the last slot, and the slot is one of the table.
 #[tactic(auto, unfolding(mc_words::specs::Places::slot))]
 pub fn slot_at<P: Peek>(checked: &Checked, peek: &mut P, place: Place) -> u64
     requires words { HasSlots (shape_of checked.now) (P.words peek.old) }
@@ -20,6 +20,7 @@ pub fn slot_at<P: Peek>(checked: &Checked, peek: &mut P, place: Place) -> u64
 }
 
 /// A word of an item.
+/// Condition: the words reach as far as the shape says, and the item is one of the table and has such a word.
 #[tactic(auto, unfolding(mc_words::specs::Places::item))]
 pub fn word_at<const V: usize, P: Peek>(checked: &Checked, peek: &mut P, i: u32, j: u8) -> u64
     requires width { IsWidth V }
@@ -33,7 +34,7 @@ pub fn word_at<const V: usize, P: Peek>(checked: &Checked, peek: &mut P, i: u32,
     peek.word(checked.item_place::<V>(i, j))
 }
 
-/// The key of an item.
+/// The key of an item. Condition: the words reach as far as the shape says, and the item is one of the table.
 pub fn key_at<const V: usize, P: Peek>(checked: &Checked, peek: &mut P, i: u32) -> u64
     requires width { IsWidth V }
     requires words { word_count V (shape_of checked.now) ≤ length (P.words peek.old) }

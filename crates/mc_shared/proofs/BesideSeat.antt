@@ -23,8 +23,9 @@ use Rattle.mc_theory.proofs.Invariant.EachState.{zeros}
 use Rattle.mc_theory.proofs.Invariant.Limits.{within_after}
 use Rattle.mc_shared.specs.declared.layout.Layout.{Layout}
 use Rattle.mc_shared.specs.Views.{writer_view, acts_of, tally_of, layout_state, with_bit}
-use Rattle.mc_shared.specs.Steps.{SeatView, MayMake, IsPlain}
-use Rattle.mc_shared.specs.SeatFacts.{RunsAt, IsWriter}
+use Rattle.mc_shared.specs.Steps.{SeatView, IsPlain}
+use Rattle.mc_shared.specs.Inside.Seats.{MayMake}
+use Rattle.mc_shared.specs.Inside.Seats.{RunsAt, IsWriter}
 
 -- the words and the phase have this moment, and this place and number of the running deed's version
 abbrev pub Beside : Layout → List ℕ → Phase → ℕ → ℕ → ℕ → Type 0

@@ -34,8 +34,9 @@ use Rattle.mc_shared.specs.declared.layout.Layout.{Layout}
 use Rattle.mc_shared.specs.RecencyTrace.{Trace, trace_swept, trace_marked, new_trace, trace_after, trace_of, marks_in, is_mark_of, total, Coherent}
 use Rattle.mc_shared.specs.Views.{Role, Spent, Writes, Reads, Both, View, view_as, writer_view, reader_view, new_writer_view, spent_view, acts_of, tally_of, front_of, done_of, AreLawful, layout_state, with_bit, IsFrontOf}
 use Rattle.mc_shared.specs.TableRule.{word_after, IsRecord, FitsRole, Fits, AllFit, marks_of, bit_in, Ruled}
-use Rattle.mc_shared.specs.Steps.{SeatView, WritesAt, only, all_but, MayMake, IsOffBits, bit_of, AddsAct, AddsActIfSet, FetchesWord, reading, ReadsOne, ReadsWord, mark_at, AddsMark, with_mark, AddsMarkIfSet, ComparesMoment, new_reader_view, joined_view, writer_part, reader_part}
-use Rattle.mc_shared.specs.SeatFacts.{IsReader}
+use Rattle.mc_shared.specs.Steps.{SeatView, WritesAt, only, all_but, IsOffBits, bit_of, AddsAct, AddsActIfSet, FetchesWord, reading, ReadsOne, ReadsWord, mark_at, AddsMark, with_mark, AddsMarkIfSet, ComparesMoment, new_reader_view, joined_view, writer_part, reader_part}
+use Rattle.mc_shared.specs.Inside.Seats.{MayMake}
+use Rattle.mc_shared.specs.Inside.Seats.{IsReader}
 use Rattle.mc_shared.proofs.WrittenPlaces.{act_names_in, write_low, place_below, word_written}
 use Rattle.mc_shared.proofs.PackedBits.{bit_low, recency_below, Spares, or_here, or_spares, and_here, and_spares, or_same, bit_elsewhere, bit_there, bit_spared}
 use Rattle.mc_shared.proofs.Coherence.{trace-push, coherent_swept, coherent_touched, coherent_marked, marks_in-push, total_set, total_push}

@@ -14,11 +14,14 @@ use Rattle.mc_theory.specs.declared.act.Act.{Act}
 use Rattle.mc_theory.specs.declared.act.Act.TheVariants.{Open, Slot, Item, Moment, Close, Hand, Mark}
 use Rattle.mc_theory.specs.declared.act.Deed.{Deed}
 use Rattle.mc_shared.specs.declared.layout.Layout.{Layout}
-use Rattle.mc_shared.specs.Records.{Opening, WriterRecord, opening_of, writer_record}
+use Rattle.mc_shared.specs.Records.{Opening, WriterRecord, writer_record}
+use Rattle.mc_shared.specs.Inside.Seats.{opening_of}
 use Rattle.mc_shared.specs.Views.{writer_view, acts_of, tally_of, layout_state, with_bit, layout_of}
-use Rattle.mc_shared.specs.Steps.{SeatView, WritesAt, MayMake, IsOffBits, IsPlain, bit_of}
+use Rattle.mc_shared.specs.Steps.{SeatView, WritesAt, IsOffBits, IsPlain, bit_of}
+use Rattle.mc_shared.specs.Inside.Seats.{MayMake}
 use Rattle.mc_shared.specs.TableRule.{word_after}
-use Rattle.mc_shared.specs.SeatFacts.{IsWriter, IsRun}
+use Rattle.mc_shared.specs.SeatFacts.{IsRun}
+use Rattle.mc_shared.specs.Inside.Seats.{IsWriter}
 use Rattle.mc_theory.specs.Writes.{NamesIn}
 use Rattle.mc_shared.proofs.WrittenPlaces.{act_names_in, write_small}
 use Rattle.mc_shared.proofs.BesideSeat.{may_make, close_writes, beside_of, plain_made, opened_made, counted_made, closed_made}

@@ -4,3 +4,4 @@ pub mod TableRule
 pub mod Steps
 pub mod SeatFacts
 pub mod Records
+pub mod Inside

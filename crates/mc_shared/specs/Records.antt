@@ -23,18 +23,8 @@ pub record ReaderRecord : Type 0 where
   pub front : List Made
   pub done : List Reading
 
-abbrev pub opening_of : TableId → Layout → Opening
-opening_of t l = record { table = t; layout = l }
-
 abbrev pub writer_record : Opening → List Made → WriterRecord
 writer_record o acts = record { of = o; acts = acts }
 
 abbrev pub reader_record : Opening → List Made → List Reading → ReaderRecord
 reader_record o front done = record { of = o; front = front; done = done }
-
--- the table has the words of this layout, and no slots
-pub record IsLaid (t : TableId) (l : Layout) : Type 0 where
-  pub words : t.words ≡ all_words l.width l.shape
-  pub slots : t.slots ≡ 0
-  pub shape : IsShape l.shape
-  pub width : IsWidth l.width

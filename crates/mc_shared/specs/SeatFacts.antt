@@ -10,32 +10,6 @@ use Rattle.mc_shared.specs.TableRule.{IsRecord}
 use Rattle.mc_shared.specs.Views.{View, writer_view, reader_view, spent_view, acts_of, tally_of, front_of, done_of, AreLawful, layout_state}
 use Rattle.mc_shared.specs.declared.layout.Layout.{Layout}
 
--- the one view of a badge
-abbrev pub view_of : List View → View
-view_of [] = spent_view
-view_of (v ∷ vs) = v
-
--- ---- what is kept beside the seats
--- what is known of the version of the running deed's key
-abbrev pub RunsAt : Layout → List ℕ → Option ℕ → ℕ → ℕ → Type 0
-RunsAt l w None place count = Unit {0}
-RunsAt l w (Some k) place count = (place ≡ version_place (stripe_of l.shape k)) × (count ≡ version w (stripe_of l.shape k))
-
--- The writer's seat: its acts are lawful and within the limit. Beside it are the place and the number of the running deed's version, and the moment
-pub record IsWriter (me : SeatView) (place count at : ℕ) : Type 0 where
-  pub seat : me ≡ (writer_view me.0.layout (acts_of me.0) (tally_of me.0), [])
-  pub shape : IsShape me.0.layout.shape
-  pub lawful : AreLawful me.0.layout (acts_of me.0)
-  pub within : (layout_state me.0.layout (acts_of me.0)).version_steps + close_owed (layout_state me.0.layout (acts_of me.0)).phase ≤ me.0.layout.shape.limit
-  pub moment_is : at ≡ moment (layout_state me.0.layout (acts_of me.0)).words
-  pub version_is : RunsAt me.0.layout (layout_state me.0.layout (acts_of me.0)).words (deed_key (layout_state me.0.layout (acts_of me.0)).phase) place count
-
--- a reader's badge: its front is lawful, and its record is one of that front
-pub record IsReader (views : List View) : Type 0 where
-  pub seat : views ≡ reader_view (view_of views).layout (front_of (view_of views)) (done_of (view_of views)) ∷ []
-  pub lawful : AreLawful (view_of views).layout (front_of (view_of views))
-  pub recorded : IsRecord (view_of views).layout (front_of (view_of views)) (done_of (view_of views))
-
 -- what is always known of the writer's acts: they are lawful, and the running deed can be closed within the limit
 pub record IsRun (l : Layout) (acts : List Made) : Type 0 where
   pub shape : IsShape l.shape

@@ -35,13 +35,6 @@ WritesAt l acts (Hand i) n x = (n ≡ recency_place l.width l.shape i) × (x ≡
 WritesAt l acts (Mark i) n x = (n ≡ recency_place l.width l.shape i) × (x ≡ only i)
 WritesAt l acts a n x = write_of l.width l.shape (layout_state l acts).words (layout_state l acts).phase a ≡ Some (n, x)
 
--- the act may be made after these, and the versions are still far from 2^64
-pub record MayMake (l : Layout) (acts : List Made) (a : Act) : Type 0 where
-  pub shape : IsShape l.shape
-  pub lawful : AreLawful l acts
-  pub allowed : IsAllowed l.shape (layout_state l acts) a
-  pub few : (layout_state l acts).version_steps ≤ 2 ^ 62
-
 -- the act is none of the hand
 abbrev pub IsStored : Act → Type 0
 IsStored (Hand i) = ⊥

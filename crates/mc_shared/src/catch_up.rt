@@ -3,7 +3,8 @@ ghost use Rattle.std.specs.Prelude.{◌≡◌, []};
 ghost use Rattle.mc_words.specs.Places.{moment};
 ghost use Rattle.mc_shared.specs.Views.{view_as, writer_view, reader_view, acts_of, tally_of, front_of, done_of, layout_state, IsFrontOf};
 ghost use Rattle.mc_shared.specs.TableRule.{word_after, IsRecord};
-ghost use Rattle.mc_shared.specs.Records.{opening_of, reader_record};
+ghost use Rattle.mc_shared.specs.Records.{reader_record};
+ghost use Rattle.mc_shared.specs.Inside.Seats.{opening_of};
 
 use crate::plays::{Compares, Known, Meeting};
 use crate::ruled_words::RuledWords;

@@ -47,6 +47,7 @@ impl<const V: usize> Cells<V> {
 }
 
 /// A table with empty records, and as many readers' seats as are asked for. `Err(NoMemory)` where the words or the seats can't be stored.
+/// Condition: a value has from 1 to 8 words, and there are from 1 to 1024 readers.
 pub fn open<const V: usize>(
     alloc: Global,
     checked: &Checked,
@@ -71,6 +72,7 @@ pub fn open<const V: usize>(
 }
 
 /// The words at the end. Those before the recency words are those after all acts.
+/// Condition: the writer's seat is that of these words.
 pub fn close<const V: usize>(cells: Cells<V>, writer: WriterSeat, readers: Vec<ReaderSeat>) -> Words
     requires { writer.of ≡ cells }
     ensures length { length result ≡ all_words V cells.entry.layout.shape }

@@ -4,6 +4,17 @@
 //! rule says that between any two steps the words are those after the writer's acts, and each reader's record is one of
 //! a front of them. Every load, store, `fetch_and` and `fetch_or` of the running cache is in `writer_steps`,
 //! `reader_steps` and `catch_up`; no call waits, and none but `open` takes memory.
+//!
+//! ```text
+//! let (cells, mut writer, mut readers) = open::<1>(alloc, &checked, 1)?;
+//! begin_deed(&cells, &mut writer, key, Deed::Fill);
+//! write_item(&cells, &mut writer, 0, 0, key);
+//! write_item(&cells, &mut writer, 0, 1, 7);
+//! write_slot(&cells, &mut writer, place, checked.slot_word(checked.tag(key), 0));
+//! count_moment(&cells, &mut writer);
+//! end_deed(&cells, &mut writer);
+//! let at = read(&cells, &mut reader, Access::Moment);    // on a seat out of `readers`, in any thread
+//! ```
 #![tactic(auto)]
 
 mod catch_up;

@@ -4,7 +4,8 @@ ghost use Rattle.mc_words.specs.Places.{all_words, word_count, IsWidth};
 ghost use Rattle.mc_words.specs.Shapes.{IsShape};
 ghost use Rattle.mc_shared.specs.Views.{writer_view};
 ghost use Rattle.mc_shared.specs.TableRule.{word_after};
-ghost use Rattle.mc_shared.specs.Records.{opening_of, writer_record, reader_record};
+ghost use Rattle.mc_shared.specs.Records.{writer_record, reader_record};
+ghost use Rattle.mc_shared.specs.Inside.Seats.{opening_of};
 
 use crate::layout::Layout;
 use crate::plays::{Known, NewReader, Ruling};

@@ -14,6 +14,7 @@ use crate::seats::{ReaderSeat, WriterSeat};
 use mc_theory::Access;
 
 /// One reading: a load of the word of the access.
+/// Condition: the seat is one of these words, and the access is one of the table and no mark.
 pub fn read<const V: usize>(cells: &Cells<V>, reader: &mut ReaderSeat, access: Access) -> u64
     requires of { reader.old.of ≡ cells.now }
     requires access { IsAccess V cells.now.layout.shape access }
@@ -33,6 +34,7 @@ pub fn read<const V: usize>(cells: &Cells<V>, reader: &mut ReaderSeat, access: A
 }
 
 /// The same, for a caller that has worked out the place of the access.
+/// Condition: the place is that of the access, and the seat one of these words.
 pub fn read_at<const V: usize>(
     cells: &Cells<V>,
     reader: &mut ReaderSeat,
@@ -49,6 +51,7 @@ pub fn read_at<const V: usize>(
 }
 
 /// Sets the recency bit of an item: one `fetch_or`.
+/// Condition: the seat is one of these words, and the item one of the table.
 pub fn mark<const V: usize>(cells: &Cells<V>, reader: &mut ReaderSeat, i: u32)
     requires of { reader.old.of ≡ cells.now }
     requires item { i < cells.now.layout.shape.items }
@@ -68,7 +71,7 @@ pub fn mark_unless_set<const V: usize>(cells: &Cells<V>, reader: &mut ReaderSeat
     mark_item_unless_set(&cells.ruled, reader, i, place, cells.checked.recency_bit(i));
 }
 
-/// Shows the reader all acts of the writer, and gives the moment.
+/// Shows the reader all acts of the writer, and gives the moment. Condition: both seats are those of these words.
 pub fn catch<const V: usize>(
     cells: &Cells<V>,
     reader: &mut ReaderSeat,

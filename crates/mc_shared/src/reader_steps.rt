@@ -5,7 +5,8 @@ ghost use Rattle.mc_words.specs.Recency.{recency_bit};
 ghost use Rattle.mc_theory.specs.Writes.{place_read};
 ghost use Rattle.mc_shared.specs.Views.{reader_view, front_of, done_of};
 ghost use Rattle.mc_shared.specs.Steps.{mark_at, ReadsOne};
-ghost use Rattle.mc_shared.specs.Records.{opening_of, reader_record};
+ghost use Rattle.mc_shared.specs.Records.{reader_record};
+ghost use Rattle.mc_shared.specs.Inside.Seats.{opening_of};
 
 use crate::plays::{Known, Marks, MarksIfSet, NamesAccess, NamesItem, Reads};
 use crate::ruled_words::RuledWords;

@@ -12,7 +12,8 @@ pub struct RuledWords {
 }
 
 impl Model for RuledWords {
-    ghost use Rattle.mc_shared.specs.Records.{Opening, IsLaid, opening_of};
+    ghost use Rattle.mc_shared.specs.Records.{Opening};
+    ghost use Rattle.mc_shared.specs.Inside.Seats.{IsLaid, opening_of};
 
     ghost Value = { Opening };
 

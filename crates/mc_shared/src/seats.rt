@@ -17,8 +17,9 @@ pub struct WriterSeat {
 
 impl Model for WriterSeat {
     ghost use Rattle.mc_shared.specs.Views.{acts_of};
-    ghost use Rattle.mc_shared.specs.SeatFacts.{IsWriter};
-    ghost use Rattle.mc_shared.specs.Records.{WriterRecord, writer_record, opening_of};
+    ghost use Rattle.mc_shared.specs.Inside.Seats.{IsWriter};
+    ghost use Rattle.mc_shared.specs.Records.{WriterRecord, writer_record};
+    ghost use Rattle.mc_shared.specs.Inside.Seats.{opening_of};
 
     ghost Value = { WriterRecord };
 
@@ -56,8 +57,9 @@ pub struct ReaderSeat {
 
 impl Model for ReaderSeat {
     ghost use Rattle.mc_shared.specs.Views.{front_of, done_of};
-    ghost use Rattle.mc_shared.specs.SeatFacts.{view_of, IsReader};
-    ghost use Rattle.mc_shared.specs.Records.{ReaderRecord, reader_record, opening_of};
+    ghost use Rattle.mc_shared.specs.Inside.Seats.{view_of, IsReader};
+    ghost use Rattle.mc_shared.specs.Records.{ReaderRecord, reader_record};
+    ghost use Rattle.mc_shared.specs.Inside.Seats.{opening_of};
 
     ghost Value = { ReaderRecord };
 

@@ -22,7 +22,7 @@ impl Model for Words {
 }
 
 impl Words {
-    /// The word at a place.
+    /// The word at a place. Condition: `n` is below the number of words.
     pub fn word(&self, n: usize) -> u64
         requires { n < length self.now }
         ensures { result ≡ slice_index self.now n }

@@ -19,6 +19,7 @@ use mc_theory::{Act, Deed};
 use mc_words::Place;
 
 /// Opens a deed on a key: a load of its version, and a store of one more.
+/// Condition: the seat is that of these words, the act is allowed now, and leaves room for its close within the limit.
 pub fn begin_deed<const V: usize>(cells: &Cells<V>, writer: &mut WriterSeat, key: u64, deed: Deed)
     requires of { writer.old.of ≡ cells.now }
     requires allowed { IsAllowed cells.now.layout.shape (state_of V cells.now.layout.shape writer.old.acts) (Open key deed) }
@@ -30,7 +31,7 @@ pub fn begin_deed<const V: usize>(cells: &Cells<V>, writer: &mut WriterSeat, key
     open_deed(&cells.ruled, writer, key, deed, place);
 }
 
-/// Writes a slot word: one store.
+/// Writes a slot word: one store. Condition: the seat is that of these words, and the act is allowed now.
 pub fn write_slot<const V: usize>(
     cells: &Cells<V>,
     writer: &mut WriterSeat,
@@ -47,6 +48,7 @@ pub fn write_slot<const V: usize>(
 }
 
 /// Writes word `j` of an item, where word 0 is its key: one store.
+/// Condition: the seat is that of these words, and the act is allowed now.
 pub fn write_item<const V: usize>(
     cells: &Cells<V>,
     writer: &mut WriterSeat,
@@ -64,6 +66,7 @@ pub fn write_item<const V: usize>(
 }
 
 /// Counts the change of the deed that runs: one store of the moment.
+/// Condition: the seat is that of these words, and the act is allowed now.
 pub fn count_moment<const V: usize>(cells: &Cells<V>, writer: &mut WriterSeat)
     requires of { writer.old.of ≡ cells.now }
     requires allowed { IsAllowed cells.now.layout.shape (state_of V cells.now.layout.shape writer.old.acts) Moment }
@@ -73,6 +76,7 @@ pub fn count_moment<const V: usize>(cells: &Cells<V>, writer: &mut WriterSeat)
 }
 
 /// Closes the deed that runs: one store of its version.
+/// Condition: the seat is that of these words, and the act is allowed now.
 pub fn end_deed<const V: usize>(cells: &Cells<V>, writer: &mut WriterSeat)
     requires of { writer.old.of ≡ cells.now }
     requires allowed { IsAllowed cells.now.layout.shape (state_of V cells.now.layout.shape writer.old.acts) Close }
@@ -82,6 +86,7 @@ pub fn end_deed<const V: usize>(cells: &Cells<V>, writer: &mut WriterSeat)
 }
 
 /// Sets the recency bit of an item: one `fetch_or`.
+/// Condition: the seat is that of these words, and the act is allowed now.
 pub fn set_mark<const V: usize>(cells: &Cells<V>, writer: &mut WriterSeat, i: u32)
     requires of { writer.old.of ≡ cells.now }
     requires allowed { IsAllowed cells.now.layout.shape (state_of V cells.now.layout.shape writer.old.acts) (Mark i) }
@@ -104,6 +109,7 @@ pub fn set_mark_unless_set<const V: usize>(cells: &Cells<V>, writer: &mut Writer
 }
 
 /// Reads the recency bit of the item at which the hand stands, and clears it: one `fetch_and`.
+/// Condition: the seat is that of these words, and the act is allowed now.
 pub fn turn_hand<const V: usize>(cells: &Cells<V>, writer: &mut WriterSeat, i: u32) -> u64
     requires of { writer.old.of ≡ cells.now }
     requires allowed { IsAllowed cells.now.layout.shape (state_of V cells.now.layout.shape writer.old.acts) (Hand i) }
@@ -115,6 +121,7 @@ pub fn turn_hand<const V: usize>(cells: &Cells<V>, writer: &mut WriterSeat, i: u
 }
 
 /// Makes one act. It gives the bit that the hand read, else 0.
+/// Condition: the seat is that of these words, the act is allowed now, and an opening leaves room for its close within the limit.
 pub fn perform<const V: usize>(cells: &Cells<V>, writer: &mut WriterSeat, act: Act) -> u64
     requires of { writer.old.of ≡ cells.now }
     requires allowed { IsAllowed cells.now.layout.shape (state_of V cells.now.layout.shape writer.old.acts) act }
@@ -135,6 +142,7 @@ pub fn perform<const V: usize>(cells: &Cells<V>, writer: &mut WriterSeat, act: A
 }
 
 /// A load by the writer of a word that only the writer changes. It changes no record.
+/// Condition: the seat is that of these words, and the place lies before the recency words.
 pub fn fetch<const V: usize>(cells: &Cells<V>, writer: &mut WriterSeat, n: usize) -> u64
     requires of { writer.old.of ≡ cells.now }
     requires place { n < word_count V cells.now.layout.shape }

@@ -9,8 +9,10 @@ ghost use Rattle.mc_theory.specs.Writes.{write_of};
 ghost use Rattle.mc_theory.specs.declared.act.Act.TheVariants.{Open, Moment, Close, Hand, Mark};
 ghost use Rattle.mc_shared.specs.Views.{writer_view, acts_of, tally_of, layout_state, with_bit};
 ghost use Rattle.mc_shared.specs.TableRule.{word_after};
-ghost use Rattle.mc_shared.specs.Steps.{WritesAt, MayMake, IsOffBits, IsPlain};
-ghost use Rattle.mc_shared.specs.Records.{opening_of, writer_record};
+ghost use Rattle.mc_shared.specs.Steps.{WritesAt, IsOffBits, IsPlain};
+ghost use Rattle.mc_shared.specs.Inside.Seats.{MayMake};
+ghost use Rattle.mc_shared.specs.Records.{writer_record};
+ghost use Rattle.mc_shared.specs.Inside.Seats.{opening_of};
 
 use crate::plays::{Fetches, Known, Makes, MakesMarkIfSet, NamesAct};
 use crate::ruled_words::RuledWords;

@@ -51,6 +51,7 @@ impl Checked {
     }
 
     /// The other bucket of a key that has this tag and this bucket. The tag alone gives it, without the key.
+    /// Condition: the bucket is one of the table.
     pub fn alt(&self, b: u32, tag: u8) -> u32
         requires { b < (shape_of self.now).buckets }
         ensures bucket { result ≡ alternate (shape_of self.now) b tag }
@@ -69,7 +70,7 @@ impl Checked {
         ((self.shape.mix.mix(key) >> 32) & u64::from(self.shape.stripes - 1)) as u32
     }
 
-    /// The word of a slot that names the item under the tag.
+    /// The word of a slot that names the item under the tag. Condition: the item is one of the table.
     #[tactic(auto, unfolding(crate::specs::Keys::slot_word))]
     pub fn slot_word(&self, tag: u8, i: u32) -> u64
         requires { i < (shape_of self.now).items }
@@ -99,7 +100,7 @@ impl Checked {
         0
     }
 
-    /// Where the version of a stripe lies.
+    /// Where the version of a stripe lies. Condition: the stripe is one of the table.
     pub fn version_place(&self, s: u32) -> usize
         requires { s < (shape_of self.now).stripes }
         ensures { result ≡ version_place s }
@@ -107,7 +108,7 @@ impl Checked {
         1 + s as usize
     }
 
-    /// Where a slot lies.
+    /// Where a slot lies. Condition: the slot is one of the table.
     pub fn slot_place(&self, place: Place) -> usize
         requires { IsPlace (shape_of self.now) place }
         ensures { result ≡ slot_place (shape_of self.now) (slot_number place) }
@@ -124,6 +125,7 @@ impl Checked {
     }
 
     /// Where a word of an item lies: word 0 is the key, words 1 to `V` are the value.
+    /// Condition: the item is one of the table and has such a word, and a value has from 1 to 8 words.
     pub fn item_place<const V: usize>(&self, i: u32, j: u8) -> usize
         requires width { IsWidth V }
         requires item { i < (shape_of self.now).items }
@@ -134,6 +136,7 @@ impl Checked {
     }
 
     /// Where the recency words begin: how many words the moment, the versions, the slots and the items have.
+    /// Condition: a value has from 1 to 8 words.
     pub fn recency_start<const V: usize>(&self) -> usize
         requires { IsWidth V }
         ensures count { result ≡ word_count V (shape_of self.now) }
@@ -143,6 +146,7 @@ impl Checked {
     }
 
     /// Where the word that holds the recency bit of an item lies.
+    /// Condition: the item is one of the table, and a value has from 1 to 8 words.
     #[tactic(auto, unfolding(crate::specs::Recency::recency_word))]
     pub fn recency_place<const V: usize>(&self, i: u32) -> usize
         requires width { IsWidth V }
@@ -161,7 +165,7 @@ impl Checked {
         (i % 64) as u8
     }
 
-    /// How many words a table of this shape has.
+    /// How many words a table of this shape has. Condition: a value has from 1 to 8 words.
     #[tactic(auto, unfolding(crate::specs::Recency::recency_words))]
     pub fn words<const V: usize>(&self) -> usize
         requires { IsWidth V }

@@ -2,6 +2,14 @@
 //!
 //! It also declares what every other crate speaks of: the changes of a history and the replies of a lookup.
 //! The definitions of what the words mean stand in `specs/`.
+//!
+//! ```text
+//! let checked = shape.check()?;
+//! let tag = checked.tag(key);
+//! let word = checked.slot_word(tag, 3);                  // a slot that names item 3
+//! assert_eq!(rt; checked.slot_parts(word), Some((tag, 3)));
+//! let other = checked.alt(checked.first(key), tag);      // the key's other bucket
+//! ```
 #![tactic(auto)]
 
 mod checked;

@@ -61,7 +61,7 @@ fn close<const V: usize>(cells: &Cells<V>, seat: &mut WriterSeat)
     end_deed(cells, seat);
 }
 
-/// Marks an item.
+/// Marks an item. Condition: the mark is the act that is due next.
 pub fn stamp<const V: usize>(cells: &Cells<V>, seat: &mut WriterSeat, i: u32)
     requires of { seat.old.of ≡ cells.now }
     requires due { (all : List Made) × (due : List Act) × AreDue V cells.now.layout.shape all seat.old.acts (act.Mark i ∷ due) }
@@ -84,7 +84,7 @@ fn write_value<const V: usize>(cells: &Cells<V>, seat: &mut WriterSeat, i: u32, 
     }
 }
 
-/// Puts a new value of the key that stands at the item.
+/// Puts a new value of the key that stands at the item. Condition: the acts of the renewal are due next.
 pub fn renew<const V: usize>(
     cells: &Cells<V>,
     seat: &mut WriterSeat,
@@ -105,6 +105,7 @@ pub fn renew<const V: usize>(
 }
 
 /// Puts a key at a free item and in an empty slot of one of its buckets.
+/// Condition: the acts of the fill are due next, and the item is one of the table.
 pub fn fill<const V: usize>(
     cells: &Cells<V>,
     seat: &mut WriterSeat,
@@ -131,6 +132,7 @@ pub fn fill<const V: usize>(
 }
 
 /// Clears the slot of a key: a removal or an eviction.
+/// Condition: the acts of the removal or the eviction are due next.
 pub fn take_out<const V: usize>(
     cells: &Cells<V>,
     seat: &mut WriterSeat,
@@ -149,7 +151,7 @@ pub fn take_out<const V: usize>(
     close(cells, seat);
 }
 
-/// Moves the key with this slot word from one slot to the other.
+/// Moves the key with this slot word from one slot to the other. Condition: the acts of the move are due next.
 pub fn make_move<const V: usize>(
     cells: &Cells<V>,
     seat: &mut WriterSeat,
@@ -169,7 +171,7 @@ pub fn make_move<const V: usize>(
     close(cells, seat);
 }
 
-/// Makes the moves, one after the other.
+/// Makes the moves, one after the other. Condition: their acts are due next.
 pub fn make_moves<const V: usize>(cells: &Cells<V>, seat: &mut WriterSeat, moves: &[Move])
     requires of { seat.old.of ≡ cells.now }
     requires due { (all : List Made) × (due : List Act) × AreDue V cells.now.layout.shape all seat.old.acts (acts_of_moves moves.now ++ due) }

@@ -3,6 +3,12 @@
 //! A put or a removal is decided as a value by the books of `mc_plan`, the same that decide for worlds and scripts. Here the
 //! decision runs as deeds on shared words, with no list of acts and no enum between. The contract says that just the acts of
 //! a whole call were made, and that the answer is a true one of it.
+//!
+//! ```text
+//! let mut books = Books::new(alloc, &checked)?;
+//! let (cells, mut seat, readers) = open::<1>(alloc, &checked, 1)?;
+//! let stored = put(&cells, &mut seat, &mut books, 7, &[70])?;
+//! ```
 #![tactic(auto)]
 
 mod deeds;

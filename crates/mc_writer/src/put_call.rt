@@ -172,6 +172,7 @@ fn put_new<const V: usize>(
 }
 
 /// Puts a key: the acts that are made are a whole call, and the answer is a true one of it.
+/// Condition: the seat is that of these words, and the books are those of the table between two calls.
 pub fn put<const V: usize>(
     cells: &Cells<V>,
     seat: &mut WriterSeat,

@@ -11,7 +11,7 @@ use crate::stage::Stage;
 use mc_words::{Place, Reply};
 
 impl<const V: usize> Lookup<V> {
-    /// The place of one of the eight slots.
+    /// The place of one of the eight slots. Condition: `j` is below 8.
     pub fn place(&self, j: u8) -> Place
         requires { j < 8 }
         ensures { result ≡ lookup_place {V = V} self.now j }
@@ -43,6 +43,7 @@ impl<const V: usize> Lookup<V> {
     }
 
     /// A reading of the version at the start of a try. Whether the try goes on: an odd version spoils it.
+    /// Condition: the lookup is at its first stage.
     pub fn after_first(&mut self, word: u64) -> bool
         requires { stage_of {V = V} self.old ≡ Stage.First }
         ensures takes { Consumes {V = V} self.old (Access.Version self.old.stripe) word self.new }
@@ -60,6 +61,7 @@ impl<const V: usize> Lookup<V> {
     }
 
     /// A reading of one of the eight slots. The item whose key is to be read, where the slot names one under the key's tag.
+    /// Condition: the lookup is at slot `j`.
     pub fn after_slot(&mut self, j: u8, word: u64) -> Option<u32>
         requires { stage_of {V = V} self.old ≡ Stage.Slot j }
         ensures takes { Consumes {V = V} self.old (Access.Slot (lookup_place {V = V} self.old j)) word self.new }
@@ -85,6 +87,7 @@ impl<const V: usize> Lookup<V> {
     }
 
     /// A reading of the key of an item. Whether it is the key that is looked up.
+    /// Condition: the lookup is at the key of that item, and goes on with slot `j`.
     pub fn after_key(&mut self, j: u8, i: u32, word: u64) -> bool
         requires { stage_of {V = V} self.old ≡ Stage.Key j i }
         ensures takes { Consumes {V = V} self.old (Access.Key i) word self.new }
@@ -100,6 +103,7 @@ impl<const V: usize> Lookup<V> {
     }
 
     /// A reading of a word of the value, of which this many were read before.
+    /// Condition: the lookup is at that word of the item.
     pub fn after_value(&mut self, i: u32, count: u8, word: u64)
         requires { stage_of {V = V} self.old ≡ Stage.Value i count }
         ensures takes { Consumes {V = V} self.old (Access.Value i (count + 1)) word self.new }
@@ -113,7 +117,7 @@ impl<const V: usize> Lookup<V> {
         };
     }
 
-    /// A reading of the moment.
+    /// A reading of the moment. Condition: the lookup is at the moment, with this hit or none.
     pub fn after_moment(&mut self, hit: Option<u32>, word: u64)
         requires { stage_of {V = V} self.old ≡ Stage.Moment hit }
         ensures takes { Consumes {V = V} self.old Access.Moment word self.new }
@@ -123,6 +127,7 @@ impl<const V: usize> Lookup<V> {
     }
 
     /// A reading of the version at the end of a try. Whether the try stands: another version than the first spoils it.
+    /// Condition: the lookup is at its last version, with this hit or none and this moment.
     pub fn after_last(&mut self, hit: Option<u32>, at: u64, word: u64) -> bool
         requires { stage_of {V = V} self.old ≡ Stage.Last hit at }
         ensures takes { Consumes {V = V} self.old (Access.Version self.old.stripe) word self.new }
@@ -148,7 +153,7 @@ impl<const V: usize> Lookup<V> {
         true
     }
 
-    /// The mark of the item at which the key was found.
+    /// The mark of the item at which the key was found. Condition: the lookup is at the mark of that item.
     pub fn after_mark(&mut self, i: u32)
         requires { stage_of {V = V} self.old ≡ Stage.Mark i }
         ensures takes { (word : ℕ) → Consumes {V = V} self.old (Access.Mark i) word self.new }

@@ -2,7 +2,7 @@ use Rattle.std.proofs.Common.{ap, sym, ◌∙◌}
 use Rattle.atomic_table.specs.declared.badge.Badge.{Badge}
 use Rattle.mc_shared.specs.Views.{View}
 use Rattle.mc_shared.specs.Steps.{SeatView}
-use Rattle.mc_shared.specs.SeatFacts.{view_of}
+use Rattle.mc_shared.specs.Inside.Seats.{view_of}
 use Rattle.mc_shared.specs.Records.{Opening, ReaderRecord}
 use Rattle.mc_shared.proofs.EachStep.{marked_as}
 use Rattle.mc_shared.proofs.reader_steps.mark_item_unless_set.Goals as goal

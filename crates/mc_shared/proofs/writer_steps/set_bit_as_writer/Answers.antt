@@ -1,7 +1,8 @@
 use Rattle.std.proofs.Common.{◌≡◌, ℕ, ◌*◌, ◌%◌, ◌^◌, ap, refl, sym, ◌∙◌}
 use Rattle.mc_theory.specs.declared.act.Act.TheVariants.{Mark}
 use Rattle.mc_shared.specs.Records.{Opening}
-use Rattle.mc_shared.specs.Steps.{MayMake, only}
+use Rattle.mc_shared.specs.Steps.{only}
+use Rattle.mc_shared.specs.Inside.Seats.{MayMake}
 use Rattle.mc_shared.specs.Views.{acts_of}
 use Rattle.mc_shared.proofs.WrittenPlaces.{place_below}
 use Rattle.mc_shared.proofs.PackedBits.{shifted}

@@ -1,0 +1,57 @@
+-- What is always known of the words and of a seat, and when an act may be made.
+use Rattle.std.specs.Prelude.{◌≡◌, ℕ, ◌+◌, ◌^◌, ◌≤◌, List, [], ◌∷◌, Option, Some, None}
+use Rattle.atomic_table.specs.Seated.{TableId}
+use Rattle.mc_words.specs.Keys.{stripe_of}
+use Rattle.mc_words.specs.Places.{all_words, version_place, moment, version, IsWidth}
+use Rattle.mc_words.specs.Shapes.{IsShape}
+use Rattle.mc_theory.specs.Acts.{IsAllowed}
+use Rattle.mc_theory.specs.Lists.{Made}
+use Rattle.mc_theory.specs.Phases.{deed_key, close_owed}
+use Rattle.mc_theory.specs.declared.act.Act.{Act}
+use Rattle.mc_shared.specs.Records.{Opening}
+use Rattle.mc_shared.specs.Steps.{SeatView}
+use Rattle.mc_shared.specs.TableRule.{IsRecord}
+use Rattle.mc_shared.specs.Views.{View, writer_view, reader_view, spent_view, acts_of, tally_of, front_of, done_of, AreLawful, layout_state}
+use Rattle.mc_shared.specs.declared.layout.Layout.{Layout}
+
+abbrev pub opening_of : TableId → Layout → Opening
+opening_of t l = record { table = t; layout = l }
+
+-- the table has the words of this layout, and no slots
+pub record IsLaid (t : TableId) (l : Layout) : Type 0 where
+  pub words : t.words ≡ all_words l.width l.shape
+  pub slots : t.slots ≡ 0
+  pub shape : IsShape l.shape
+  pub width : IsWidth l.width
+
+-- the one view of a badge
+abbrev pub view_of : List View → View
+view_of [] = spent_view
+view_of (v ∷ vs) = v
+
+-- what is known of the version of the running deed's key
+abbrev pub RunsAt : Layout → List ℕ → Option ℕ → ℕ → ℕ → Type 0
+RunsAt l w None place count = Unit {0}
+RunsAt l w (Some k) place count = (place ≡ version_place (stripe_of l.shape k)) × (count ≡ version w (stripe_of l.shape k))
+
+-- The writer's seat: its acts are lawful and within the limit. Beside it are the place and the number of the running deed's version, and the moment
+pub record IsWriter (me : SeatView) (place count at : ℕ) : Type 0 where
+  pub seat : me ≡ (writer_view me.0.layout (acts_of me.0) (tally_of me.0), [])
+  pub shape : IsShape me.0.layout.shape
+  pub lawful : AreLawful me.0.layout (acts_of me.0)
+  pub within : (layout_state me.0.layout (acts_of me.0)).version_steps + close_owed (layout_state me.0.layout (acts_of me.0)).phase ≤ me.0.layout.shape.limit
+  pub moment_is : at ≡ moment (layout_state me.0.layout (acts_of me.0)).words
+  pub version_is : RunsAt me.0.layout (layout_state me.0.layout (acts_of me.0)).words (deed_key (layout_state me.0.layout (acts_of me.0)).phase) place count
+
+-- a reader's badge: its front is lawful, and its record is one of that front
+pub record IsReader (views : List View) : Type 0 where
+  pub seat : views ≡ reader_view (view_of views).layout (front_of (view_of views)) (done_of (view_of views)) ∷ []
+  pub lawful : AreLawful (view_of views).layout (front_of (view_of views))
+  pub recorded : IsRecord (view_of views).layout (front_of (view_of views)) (done_of (view_of views))
+
+-- the act may be made after these, and the versions are still far from 2^64
+pub record MayMake (l : Layout) (acts : List Made) (a : Act) : Type 0 where
+  pub shape : IsShape l.shape
+  pub lawful : AreLawful l acts
+  pub allowed : IsAllowed l.shape (layout_state l acts) a
+  pub few : (layout_state l acts).version_steps ≤ 2 ^ 62
