@@ -2,12 +2,13 @@
 ghost use Rattle.std.specs.Prelude.{◌≡◌};
 ghost use Rattle.thread_tests.specs.Twins.{IsTwinOf};
 
+use crate::truth::is_true;
 use crate::twin::{make_all, small_shape};
 use mc_core::World;
 use mc_reader::get;
 use mc_shared::{Cells, ReaderSeat, WriterSeat, open};
 use mc_theory::{Act, Deed};
-use mc_words::{Change, Place, Reply};
+use mc_words::{Place, Reply};
 use std::alloc::Global;
 use std::test::Fail;
 use std::thread::{Threads, join};
@@ -94,29 +95,6 @@ fn look_all(cells: &Cells<1>, reader: &mut ReaderSeat, replies: &mut [Reply<1>])
     for i in 0..replies.len() {
         replies[i] = get(cells, reader, key_of(i as u64));
     }
-}
-
-/// What the map holds of the key after these changes.
-fn value_after(changes: &[Change<1>], key: u64) -> Option<[u64; 1]> {
-    let mut value = None;
-    for i in 0..changes.len() {
-        match changes[i] {
-            Change::Put(k, v) if k == key => value = Some(v),
-            Change::Remove(k) | Change::Evict(k) if k == key => value = None,
-            _ => {}
-        }
-    }
-    value
-}
-
-/// Whether the reply is what the map held at its moment.
-fn is_true(changes: &[Change<1>], key: u64, reply: Reply<1>) -> bool {
-    let (held, at) = match reply {
-        Reply::Found { value, at } => (Some(value), at),
-        Reply::Absent { at } => (None, at),
-        Reply::Busy => return true,
-    };
-    at as usize <= changes.len() && value_after(&changes[..at as usize], key) == held
 }
 
 // Whether all answers of a reader beside the writer are true, in a table of so many stripes.

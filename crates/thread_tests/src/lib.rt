@@ -13,4 +13,6 @@ mod put_read_back;
 #[cfg(test)]
 mod sharing;
 #[cfg(test)]
+mod truth;
+#[cfg(test)]
 mod twin;
