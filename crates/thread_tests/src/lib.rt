@@ -1,0 +1,18 @@
+//! Tests of what threads do with shared words: the calls that no contract shows to succeed, and their answers beside
+//! values from elsewhere.
+//!
+//! They stand here alone, and see of each crate what any other crate sees.
+#![tactic(auto)]
+
+#[cfg(test)]
+mod deeds;
+#[cfg(test)]
+mod marks;
+#[cfg(test)]
+mod put_read_back;
+#[cfg(test)]
+mod sharing;
+#[cfg(test)]
+mod truth;
+#[cfg(test)]
+mod twin;
