@@ -1,0 +1,129 @@
+//! Deeds of a writer beside a reader's lookups in another thread. Each answer is what the map held at its moment.
+ghost use Rattle.std.specs.Prelude.{◌≡◌};
+ghost use Rattle.thread_tests.specs.Twins.{IsTwinOf};
+
+use crate::truth::is_true;
+use crate::twin::{make_all, small_shape};
+use mc_core::World;
+use mc_reader::get;
+use mc_shared::{Cells, ReaderSeat, WriterSeat, open};
+use mc_theory::{Act, Deed};
+use mc_words::{Place, Reply};
+use std::alloc::Global;
+use std::test::Fail;
+use std::thread::{Threads, join};
+
+const DEEDS: u64 = 200;
+
+const LOOKUPS: usize = 2000;
+
+/// Key number `n` of eight, whose stripe is `n`, where there are so many.
+fn key_of(n: u64) -> u64 {
+    n % 8 * ((1 << 32) + 1)
+}
+
+// The acts of one deed on a key, with its mark. None where the key is there no more.
+fn make_deed(
+    cells: &Cells<1>,
+    writer: &mut WriterSeat,
+    world: &mut World<1>,
+    n: u64,
+    deed: Deed,
+) -> bool
+    requires of { writer.old.of ≡ cells.now }
+    requires twin { IsTwinOf 1 world.old writer.old }
+    ensures of { writer.new.of ≡ writer.old.of }
+    ensures twin { IsTwinOf 1 world.new writer.new }
+{
+    let key = key_of(n);
+    let item = (n % 8) as u32;
+    let place = Place {
+        bucket: item % 4,
+        slot: (item / 4) as u8,
+    };
+    let open = Act::Open(key, deed);
+    let value = Act::Item(item, 1, n);
+    let mark = Act::Mark(item);
+    match deed {
+        Deed::Fill => {
+            let name = Act::Item(item, 0, key);
+            let slot = Act::Slot(place, u64::from(item) + 1);
+            let acts = [open, name, value, slot, Act::Moment, Act::Close, mark];
+            make_all(cells, writer, world, &acts)
+        }
+        Deed::Renew => {
+            let acts = [open, value, Act::Moment, Act::Close, mark];
+            make_all(cells, writer, world, &acts)
+        }
+        _ => {
+            let acts = [open, Act::Slot(place, 0), Act::Moment, Act::Close];
+            make_all(cells, writer, world, &acts)
+        }
+    }
+}
+
+// Fills, renews and removes the keys in turn. Whether all acts were allowed.
+fn write_deeds(cells: &Cells<1>, writer: &mut WriterSeat, world: &mut World<1>) -> bool
+    requires of { writer.old.of ≡ cells.now }
+    requires twin { IsTwinOf 1 world.old writer.old }
+    ensures of { writer.new.of ≡ writer.old.of }
+    ensures twin { IsTwinOf 1 world.new writer.new }
+{
+    let mut there = [false; 8];
+    for n in 0..DEEDS {
+        let here = (n % 8) as usize;
+        let deed = if !there[here] {
+            Deed::Fill
+        } else if n % 3 == 0 {
+            Deed::Remove
+        } else {
+            Deed::Renew
+        };
+        there[here] = deed != Deed::Remove;
+        if !make_deed(cells, writer, world, n, deed) {
+            return false;
+        }
+    }
+    true
+}
+
+// Looks the keys up in turn, into a list that has room.
+fn look_all(cells: &Cells<1>, reader: &mut ReaderSeat, replies: &mut [Reply<1>])
+    requires of { reader.old.of ≡ cells.now }
+    ensures of { reader.new.of ≡ reader.old.of }
+{
+    for i in 0..replies.len() {
+        replies[i] = get(cells, reader, key_of(i as u64));
+    }
+}
+
+// Whether all answers of a reader beside the writer are true, in a table of so many stripes.
+fn are_answers_true<R: Threads + Sync>(rt: &R, alloc: Global, stripes: u32) -> Result<bool, Fail> {
+    let checked = small_shape(stripes).check()?;
+    let (cells, mut writer, mut readers) = open::<1>(alloc, &checked, 1)?;
+    let mut world = World::<1>::new(alloc, &checked, 1)?;
+    let Some(mut reader) = readers.pop() else {
+        return Err(Fail::new("no reader"));
+    };
+    let mut replies = vec![in alloc; Reply::Busy; LOOKUPS]?;
+    let (made, ()) = join(
+        rt,
+        || write_deeds(&cells, &mut writer, &mut world),
+        || look_all(&cells, &mut reader, replies.as_mut_slice()),
+    );
+    let changes = world.history();
+    let mut right = made && changes.len() as u64 == DEEDS;
+    for i in 0..replies.len() {
+        right = right && is_true(changes, key_of(i as u64), replies[i]);
+    }
+    Ok(right)
+}
+
+#[test]
+fn answers_beside_a_writer_are_true(rt: HostRuntime) -> Result<(), Fail> {
+    for stripes in [1, 64] {
+        let right = are_answers_true(&rt, rt.alloc(), stripes)?;
+        assert!(rt; right, "{stripes} stripes");
+    }
+    Ok(())
+}

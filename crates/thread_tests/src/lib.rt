@@ -1,0 +1,28 @@
+//! Tests of what threads do with shared words: the calls that no contract shows to succeed, and their answers beside
+//! values from elsewhere.
+//!
+//! They stand here alone, and see of each crate what any other crate sees.
+#![tactic(auto)]
+
+#[cfg(test)]
+mod calls;
+#[cfg(test)]
+mod deeds;
+#[cfg(test)]
+mod evictions;
+#[cfg(test)]
+mod journal;
+#[cfg(test)]
+mod late_read;
+#[cfg(test)]
+mod marks;
+#[cfg(test)]
+mod put_read_back;
+#[cfg(test)]
+mod rows;
+#[cfg(test)]
+mod sharing;
+#[cfg(test)]
+mod truth;
+#[cfg(test)]
+mod twin;
