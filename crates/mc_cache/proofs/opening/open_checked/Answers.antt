@@ -6,4 +6,4 @@ use Rattle.mc_cache.proofs.opening.open_checked.Goals as goal
 pub invariant_of-result : goal.invariant_of-result
 invariant_of-result g c =
     rested_new g.row.V (shape_of c.args.checked.now) c.in_ok-books.books c.in_ok-cells.seat c.in_ok-cells.cells c.in_ok-cells.ensures.writer c.in_ok-cells.ensures.cells (ap shape_of c.in_ok-books.ensures.shape)
-        (c.in_ok-books.ensures.books g.row.V c.requires.width)
+    (c.in_ok-books.ensures.books g.row.V c.requires.width)
