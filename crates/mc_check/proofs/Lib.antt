@@ -1,0 +1,3 @@
+pub mod LastChanges
+pub mod SortedMentions
+pub mod WrongCounts

@@ -1,0 +1,50 @@
+//! The last change of a key before a moment.
+ghost use Rattle.std.specs.Prelude.{◌≡◌, ◌≤◌, ◌<◌, length, IfSome};
+ghost use Rattle.mc_check.specs.Inside.Last.{IsLast, key_in, value_after};
+
+use mc_words::Change;
+
+/// The key that is changed.
+pub(crate) fn key_of<const V: usize>(change: &Change<V>) -> u64
+    ensures { result ≡ key_in change.now }
+{
+    match *change {
+        Change::Put(key, _) | Change::Remove(key) | Change::Evict(key) => key,
+    }
+}
+
+/// What the map holds of a key after the last change of the key.
+pub(crate) fn value_of<const V: usize>(
+    history: &[Change<V>],
+    last: Option<usize>,
+) -> Option<[u64; V]>
+    requires { IfSome last (λ i. i < length history.now) }
+    ensures { result ≡ value_after history.now last }
+{
+    match last {
+        None => None,
+        Some(n) => match history[n] {
+            Change::Put(_, value) => Some(value),
+            Change::Remove(_) | Change::Evict(_) => None,
+        },
+    }
+}
+
+/// The last change of the key among the first so many. It is looked for from the moment backwards.
+pub(crate) fn last_change<const V: usize>(
+    history: &[Change<V>],
+    key: u64,
+    moment: usize,
+) -> Option<usize>
+    requires { moment ≤ length history.now }
+    ensures { IsLast history.now key moment result }
+{
+    let mut before = moment;
+    while before > 0 {
+        before -= 1;
+        if key_of(&history[before]) == key {
+            return Some(before);
+        }
+    }
+    None
+}
