@@ -2,6 +2,7 @@
 ghost use Rattle.std.specs.Prelude.{ℕ, ◌≡◌, [], IfOk, MatchResult, replicate};
 ghost use Rattle.mc_words.specs.Checks.{shape_of};
 ghost use Rattle.mc_words.specs.Places.{IsWidth};
+ghost use Rattle.mc_words.specs.Shapes.{IsShape};
 ghost use Rattle.mc_shared.specs.Records.{reader_record, writer_record};
 ghost use Rattle.mc_shared.specs.Views.{layout_of};
 ghost use Rattle.mc_cache.specs.Openings.{HasReaders, RefusesOpening};
@@ -70,6 +71,7 @@ pub fn open<const V: usize>(
 ) -> Result<(Cache<V>, Writer<V>, Vec<Reader<V>>), OpenError>
     requires width { IsWidth V }
     ensures cache { MatchResult result (λ r. r.0.layout ≡ layout_of V shape) (λ e. RefusesOpening shape readers e) }
+    ensures asked { IfOk result (λ r. IsShape shape × HasReaders readers) }
     ensures writer { IfOk result (λ r. r.1 ≡ writer_record r.0 []) }
     ensures readers { IfOk result (λ r. r.2.items ≡ replicate readers (reader_record r.0 [] [])) }
 {

@@ -1,0 +1,17 @@
+//! Why a load doesn't come to its end.
+use mc_cache::OpenError;
+use thiserror::Error;
+
+/// Why there is no report. The first that applies is told: `Keys`, `Open`, `NoMemory`. No worker was started then.
+#[derive(Clone, Copy, Debug, PartialEq, Eq, Error)]
+pub enum LoadError {
+    #[error(transparent)]
+    Open(#[from] OpenError),
+    #[error("no memory")]
+    NoMemory,
+    #[error("keys must be from 1 to 4294967296")]
+    Keys,
+    /// The gate let a call of this worker not through. Of several workers it is the writer, or else the first reader.
+    #[error("gate")]
+    Gate { who: u32, call: u64 },
+}

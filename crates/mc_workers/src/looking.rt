@@ -1,0 +1,67 @@
+//! A reader at work.
+ghost use Rattle.std.specs.Prelude.{ℕ, ◌≡◌, ◌+◌, ◌≤◌, ◌<◌, None, vec_len, vec_capacity};
+
+use crate::draws::Draws;
+use crate::gate::Gate;
+use mc_cache::{Cache, Reader, Reply};
+use mc_check::Record;
+
+/// A reader, what it draws, and what it was told.
+#[derive(Drop)]
+pub(crate) struct Looking<const V: usize> {
+    pub(crate) reader: Reader<V>,
+    pub(crate) number: u32,
+    pub(crate) draws: Draws,
+    pub(crate) records: Vec<Record<V>>,
+    /// The call that the gate let not through.
+    pub(crate) refused: Option<u64>,
+    ghost some_words: { 1 ≤ V },
+    ghost most_words: { V ≤ 8 },
+}
+
+/// The moment of a reply.
+fn moment_of<const V: usize>(reply: &Reply<V>) -> Option<u64> {
+    match *reply {
+        Reply::Found { at, .. } | Reply::Absent { at } => Some(at),
+        Reply::Busy => None,
+    }
+}
+
+impl<const V: usize> Looking<V> {
+    ghost use Rattle.mc_workers.specs.Inside.Workers.{HasEnded, IsLooking, IsReady};
+
+    /// Looks one key up, writes the answer down, and tells its moment.
+    fn look(&mut self, cache: &Cache<V>) -> Option<u64>
+        requires looking { IsLooking V cache.now self.old }
+        requires room { vec_len self.old.records + 1 ≤ vec_capacity self.old.records }
+        ensures looking { IsLooking V cache.now self.new }
+        ensures len { vec_len self.new.records ≡ vec_len self.old.records + 1 }
+        ensures capacity { vec_capacity self.old.records ≤ vec_capacity self.new.records }
+        ensures kept { (self.new.number ≡ self.old.number) × (self.new.refused ≡ self.old.refused) }
+    {
+        let key = self.draws.key();
+        let reply = self.reader.get(cache, key);
+        let at = moment_of(&reply);
+        let reader = self.number;
+        let _ = self.records.push(Record { reader, key, reply });
+        at
+    }
+
+    /// Looks so many keys up, or fewer where the gate lets a call not through.
+    pub(crate) fn run<G: Gate>(&mut self, cache: &Cache<V>, gate: &G, lookups: u32)
+        requires ready { IsReady V cache.now lookups self.old.number self.old }
+        requires number { self.old.number < 1024 }
+        ensures { HasEnded V cache.now lookups self.old.number self.new }
+    {
+        let who = self.number + 1;
+        for n in 0..lookups {
+            let call = u64::from(n) + 1;
+            if !gate.before(who, call) {
+                self.refused = Some(call);
+                return;
+            }
+            let at = self.look(cache);
+            gate.after(who, call, at);
+        }
+    }
+}

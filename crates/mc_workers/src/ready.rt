@@ -1,0 +1,96 @@
+//! A cache is opened and its workers are made ready.
+ghost use Rattle.std.specs.Prelude.{ℕ, ◌≡◌, ◌*◌, ◌≤◌, [], IfOk, MatchResult, replicate, vec_len, vec_capacity};
+ghost use Rattle.mc_words.specs.Places.{IsWidth};
+ghost use Rattle.mc_shared.specs.Records.{Opening, reader_record};
+ghost use Rattle.mc_workers.specs.Loads.{HasKeys, RefusesLoad};
+ghost use Rattle.mc_workers.specs.Inside.Beginnings.{CanBegin};
+ghost use Rattle.mc_workers.specs.Inside.Workers.{AreReady, IsWriting};
+
+use crate::asked::Load;
+use crate::draws::Draws;
+use crate::error::LoadError;
+use crate::looking::Looking;
+use crate::writing::Writing;
+use mc_cache::{Cache, Reader, Writer, open};
+use std::alloc::{AllocError, Global};
+
+/// A cache and the workers over it.
+#[derive(Drop)]
+pub(crate) struct Workers<const V: usize> {
+    pub(crate) cache: Cache<V>,
+    pub(crate) writing: Writing<V>,
+    pub(crate) lookings: Vec<Looking<V>>,
+}
+
+/// The writer, with room for every change that its calls can make.
+fn writing_of<const V: usize>(
+    alloc: Global,
+    load: Load,
+    writer: Writer<V>,
+) -> Result<Writing<V>, AllocError>
+    requires width { IsWidth V }
+    requires keys { 1 ≤ load.keys }
+    requires fresh { writer.acts ≡ [] }
+    ensures writing { IfOk result (λ w. IsWriting V writer.entry.of w) }
+    ensures room { IfOk result (λ w. 2 * load.writes ≤ vec_capacity w.journal) }
+    ensures empty { IfOk result (λ w. vec_len w.journal ≡ 0) }
+{
+    let journal = Vec::with_capacity(alloc, 2 * load.writes as usize)?;
+    let draws = Draws::new(load.seed, 0, load.keys);
+    Ok(Writing {
+        writer,
+        draws,
+        journal,
+    })
+}
+
+/// The readers, each with room for all that it will be told.
+fn lookings_of<const V: usize>(
+    alloc: Global,
+    load: Load,
+    mut readers: Vec<Reader<V>>,
+) -> Result<Vec<Looking<V>>, AllocError>
+    requires width { IsWidth V }
+    requires keys { 1 ≤ load.keys }
+    requires fresh { (o : Opening) × (readers.items ≡ replicate load.readers (reader_record o [] [])) }
+    ensures len { IfOk result (λ ls. vec_len ls ≡ load.readers) }
+    ensures ready { (o : Opening) → readers.entry.items ≡ replicate load.readers (reader_record o [] []) → IfOk result (λ ls. AreReady V o load.lookups ls.items) }
+{
+    let mut lookings = Vec::new(alloc);
+    while let Some(reader) = readers.pop() {
+        let number = lookings.len() as u32;
+        let draws = Draws::new(load.seed, number + 1, load.keys);
+        let records = Vec::with_capacity(alloc, load.lookups as usize)?;
+        lookings.push(Looking {
+            reader,
+            number,
+            draws,
+            records,
+            refused: None,
+        })?;
+    }
+    Ok(lookings)
+}
+
+/// Opens a cache and makes its workers ready.
+pub(crate) fn make_ready<const V: usize>(alloc: Global, load: Load) -> Result<Workers<V>, LoadError>
+    requires width { IsWidth V }
+    requires keys { HasKeys load.keys }
+    ensures { MatchResult result (CanBegin load) (RefusesLoad load) }
+{
+    let (cache, writer, readers) = match open::<V>(alloc, load.shape, load.readers) {
+        Ok(opened) => opened,
+        Err(why) => return Err(LoadError::Open(why)),
+    };
+    let Ok(writing) = writing_of(alloc, load, writer) else {
+        return Err(LoadError::NoMemory);
+    };
+    let Ok(lookings) = lookings_of(alloc, load, readers) else {
+        return Err(LoadError::NoMemory);
+    };
+    Ok(Workers {
+        cache,
+        writing,
+        lookings,
+    })
+}

@@ -1,0 +1,85 @@
+//! What came of a load.
+ghost use Rattle.std.specs.Prelude.{◌≡◌, ◌+◌, ◌^◌, ◌<◌, length};
+
+use mc_cache::Reply;
+use mc_check::Record;
+
+/// What came of a load in which every call was made.
+#[derive(Clone, Copy, Debug, PartialEq, Eq)]
+pub struct Report {
+    /// Of all readers together.
+    pub lookups: u64,
+    pub found: u64,
+    pub absent: u64,
+    pub busy: u64,
+    /// Calls of the writer.
+    pub writes: u64,
+    /// Changes of the map: the length of the history.
+    pub changes: u64,
+    /// Answers that aren't what the map held after the changes that they name.
+    pub wrong: u64,
+}
+
+impl Report {
+    /// Of a writer that has made so many calls and changes, and of no reader.
+    pub(crate) fn none(writes: u64, changes: u64) -> Report
+        ensures counts { (result.lookups ≡ 0) × (result.found + result.absent + result.busy ≡ 0) × (result.wrong ≡ 0) }
+        ensures writer { (result.writes ≡ writes) × (result.changes ≡ changes) }
+    {
+        Report {
+            lookups: 0,
+            found: 0,
+            absent: 0,
+            busy: 0,
+            writes,
+            changes,
+            wrong: 0,
+        }
+    }
+
+    /// Adds the answers of one reader, of which so many are wrong.
+    pub(crate) fn add(&mut self, tally: Tally, wrong: u64)
+        requires many { self.old.lookups + (tally.found + tally.absent + tally.busy) < 2 ^ 64 }
+        requires answers { self.old.found + self.old.absent + self.old.busy ≡ self.old.lookups }
+        requires wrong { self.old.wrong + wrong < 2 ^ 64 }
+        ensures lookups { self.new.lookups ≡ self.old.lookups + (tally.found + tally.absent + tally.busy) }
+        ensures answers { self.new.found + self.new.absent + self.new.busy ≡ self.new.lookups }
+        ensures wrong { self.new.wrong ≡ self.old.wrong + wrong }
+        ensures writer { (self.new.writes ≡ self.old.writes) × (self.new.changes ≡ self.old.changes) }
+    {
+        self.lookups += tally.found + tally.absent + tally.busy;
+        self.found += tally.found;
+        self.absent += tally.absent;
+        self.busy += tally.busy;
+        self.wrong += wrong;
+    }
+}
+
+/// How many answers of each kind there are.
+#[derive(Clone, Copy)]
+pub(crate) struct Tally {
+    pub(crate) found: u64,
+    pub(crate) absent: u64,
+    pub(crate) busy: u64,
+}
+
+impl Tally {
+    /// The answers of one reader.
+    pub(crate) fn of<const V: usize>(records: &[Record<V>]) -> Tally
+        ensures { result.found + result.absent + result.busy ≡ length records.now }
+    {
+        let mut tally = Tally {
+            found: 0,
+            absent: 0,
+            busy: 0,
+        };
+        for n in 0..records.len() {
+            match records[n].reply {
+                Reply::Found { .. } => tally.found += 1,
+                Reply::Absent { .. } => tally.absent += 1,
+                Reply::Busy => tally.busy += 1,
+            }
+        }
+        tally
+    }
+}

@@ -1,0 +1,90 @@
+//! The workers run, each in a thread of its own.
+ghost use Rattle.std.specs.Prelude.{ℕ, ◌≡◌, ◌+◌, ◌*◌, ◌≤◌, ◌<◌, IfNone, IfSome, length, vec_len, vec_capacity};
+ghost use Rattle.mc_shared.specs.Records.{Opening};
+ghost use Rattle.std.specs.Thread.{IsSync};
+ghost use Rattle.mc_workers.specs.Loads.{IsRefused};
+ghost use Rattle.mc_workers.specs.Inside.Workers.{AreReady, AreWhole, HasEnded, HaveEnded, IsReady, IsWriting};
+
+use crate::asked::Load;
+use crate::error::LoadError;
+use crate::gate::Gate;
+use crate::looking::Looking;
+use crate::writing::Writing;
+use mc_cache::Cache;
+use std::thread::{Threads, for_each_mut, join_mut};
+
+/// Runs every reader in a thread of its own.
+fn look_all<const V: usize, R: Threads + Sync, G: Gate>(
+    rt: &R,
+    gate: &G,
+    cache: &Cache<V>,
+    lookups: u32,
+    lookings: &mut [Looking<V>],
+)
+    requires some { 0 < length lookings.old }
+    requires few { length lookings.old ≤ 1024 }
+    requires ready { AreReady V cache.now lookups lookings.old }
+    ensures len { length lookings.new ≡ length lookings.old }
+    ensures ended { HaveEnded V cache.now lookups lookings.new }
+{
+    let threads = lookings.len();
+    let look = |_reader: usize, looking: &mut Looking<V>|
+        requires { IsReady V cache.now lookups looking.now.number looking.now × (looking.now.number < 1024) }
+        ensures { HasEnded V cache.entry.now lookups looking.entry.now.number looking.exit.now }
+    { looking.run(cache, gate, lookups) };
+    for_each_mut(rt, lookings, threads, &look);
+}
+
+/// Runs the writer beside the readers. The writer's call that the gate let not through.
+pub(crate) fn run_all<const V: usize, R: Threads + Sync, G: Gate>(
+    rt: &R,
+    gate: &G,
+    load: Load,
+    cache: &Cache<V>,
+    writing: &mut Writing<V>,
+    lookings: &mut [Looking<V>],
+) -> Option<u64>
+    requires some { 0 < length lookings.old }
+    requires few { length lookings.old ≤ 1024 }
+    requires ready { AreReady V cache.now load.lookups lookings.old }
+    requires writing { IsWriting V cache.now writing.old }
+    requires room { vec_len writing.old.journal + 2 * load.writes ≤ vec_capacity writing.old.journal }
+    ensures len { length lookings.new ≡ length lookings.old }
+    ensures ended { HaveEnded V cache.now load.lookups lookings.new }
+    ensures writing { IsWriting V cache.now writing.new }
+    ensures journal { vec_len writing.new.journal ≤ vec_len writing.old.journal + 2 * load.writes }
+    ensures refused { IfSome result (λ call. (1 ≤ call) × (call ≤ load.writes)) }
+{
+    let (refused, ()) = join_mut(
+        rt,
+        &mut || -> Option<u64>
+            requires { IsWriting V cache.now writing.now × (vec_len writing.now.journal + 2 * load.writes ≤ vec_capacity writing.now.journal) }
+            ensures writing { IsWriting V cache.entry.now writing.exit.now }
+            ensures journal { vec_len writing.exit.now.journal ≤ vec_len writing.entry.now.journal + 2 * load.writes }
+            ensures refused { IfSome result (λ call. (1 ≤ call) × (call ≤ load.writes)) }
+        { writing.run(cache, gate, load.writes) },
+        &mut ||
+            requires { IsSync R.row × (0 < length lookings.now) × (length lookings.now ≤ 1024) × AreReady V cache.now load.lookups lookings.now }
+            ensures { (length lookings.exit.now ≡ length lookings.entry.now) × HaveEnded V cache.entry.now load.lookups lookings.exit.now }
+        { look_all(rt, gate, cache, load.lookups, lookings) },
+    );
+    refused
+}
+
+/// The first reader's call that the gate let not through.
+pub(crate) fn first_refusal<const V: usize>(lookings: &[Looking<V>]) -> Option<LoadError>
+    requires { length lookings.now ≤ 1024 }
+    ensures none { IfNone result (AreWhole lookings.now) }
+    ensures some { (o : Opening) (load : Load) → length lookings.now ≡ load.readers → HaveEnded V o load.lookups lookings.now → IfSome result (IsRefused load) }
+{
+    for n in 0..lookings.len() {
+        match lookings[n].refused {
+            Some(call) => {
+                let who = n as u32 + 1;
+                return Some(LoadError::Gate { who, call });
+            }
+            None => {}
+        }
+    }
+    None
+}
