@@ -19,20 +19,20 @@ fn look_all<const V: usize, R: Threads + Sync, G: Gate>(
     gate: &G,
     cache: &Cache<V>,
     lookups: u32,
-    lookings: &mut [Looking<V>],
+    lookings: &mut Vec<Looking<V>>,
 )
-    requires some { 0 < length lookings.old }
-    requires few { length lookings.old ≤ 1024 }
-    requires ready { AreReady V cache.now lookups lookings.old }
-    ensures len { length lookings.new ≡ length lookings.old }
-    ensures ended { HaveEnded V cache.now lookups lookings.new }
+    requires some { 0 < vec_len lookings.old }
+    requires few { vec_len lookings.old ≤ 1024 }
+    requires ready { AreReady V cache.now lookups lookings.old.items }
+    ensures len { vec_len lookings.new ≡ vec_len lookings.old }
+    ensures ended { HaveEnded V cache.now lookups lookings.new.items }
 {
     let threads = lookings.len();
     let look = |_reader: usize, looking: &mut Looking<V>|
         requires { IsReady V cache.now lookups looking.now.number looking.now × (looking.now.number < 1024) }
         ensures { HasEnded V cache.entry.now lookups looking.entry.now.number looking.exit.now }
     { looking.run(cache, gate, lookups) };
-    for_each_mut(rt, lookings, threads, &look);
+    for_each_mut(rt, lookings.as_mut_slice(), threads, &look);
 }
 
 /// Runs the writer beside the readers. The writer's call that the gate let not through.
@@ -42,15 +42,15 @@ pub(crate) fn run_all<const V: usize, R: Threads + Sync, G: Gate>(
     load: Load,
     cache: &Cache<V>,
     writing: &mut Writing<V>,
-    lookings: &mut [Looking<V>],
+    lookings: &mut Vec<Looking<V>>,
 ) -> Option<u64>
-    requires some { 0 < length lookings.old }
-    requires few { length lookings.old ≤ 1024 }
-    requires ready { AreReady V cache.now load.lookups lookings.old }
+    requires some { 0 < vec_len lookings.old }
+    requires few { vec_len lookings.old ≤ 1024 }
+    requires ready { AreReady V cache.now load.lookups lookings.old.items }
     requires writing { IsWriting V cache.now writing.old }
     requires room { vec_len writing.old.journal + 2 * load.writes ≤ vec_capacity writing.old.journal }
-    ensures len { length lookings.new ≡ length lookings.old }
-    ensures ended { HaveEnded V cache.now load.lookups lookings.new }
+    ensures len { vec_len lookings.new ≡ vec_len lookings.old }
+    ensures ended { HaveEnded V cache.now load.lookups lookings.new.items }
     ensures writing { IsWriting V cache.now writing.new }
     ensures journal { vec_len writing.new.journal ≤ vec_len writing.old.journal + 2 * load.writes }
     ensures refused { IfSome result (λ call. (1 ≤ call) × (call ≤ load.writes)) }
@@ -64,8 +64,8 @@ pub(crate) fn run_all<const V: usize, R: Threads + Sync, G: Gate>(
             ensures refused { IfSome result (λ call. (1 ≤ call) × (call ≤ load.writes)) }
         { writing.run(cache, gate, load.writes) },
         &mut ||
-            requires { IsSync R.row × (0 < length lookings.now) × (length lookings.now ≤ 1024) × AreReady V cache.now load.lookups lookings.now }
-            ensures { (length lookings.exit.now ≡ length lookings.entry.now) × HaveEnded V cache.entry.now load.lookups lookings.exit.now }
+            requires { IsSync R.row × (0 < vec_len lookings.now) × (vec_len lookings.now ≤ 1024) × AreReady V cache.now load.lookups lookings.now.items }
+            ensures { (vec_len lookings.exit.now ≡ vec_len lookings.entry.now) × HaveEnded V cache.entry.now load.lookups lookings.exit.now.items }
         { look_all(rt, gate, cache, load.lookups, lookings) },
     );
     refused

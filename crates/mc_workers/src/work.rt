@@ -32,14 +32,7 @@ fn run_workers<const V: usize, R: Threads + Sync, G: Gate>(
         mut writing,
         mut lookings,
     } = workers;
-    let refused = run_all(
-        rt,
-        gate,
-        load,
-        &cache,
-        &mut writing,
-        lookings.as_mut_slice(),
-    );
+    let refused = run_all(rt, gate, load, &cache, &mut writing, &mut lookings);
     if let Some(call) = refused {
         return Err(LoadError::Gate { who: 0, call });
     }

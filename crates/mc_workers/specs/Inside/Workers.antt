@@ -39,7 +39,7 @@ pub record IsReady (V : ℕ) (o : Opening) (lookups n : ℕ) (l : Looking V) : T
 pub record HasEnded (V : ℕ) (o : Opening) (lookups n : ℕ) (l : Looking V) : Type 0 where
   pub looking : IsLooking V o l
   pub number : l.number ≡ n
-  pub whole : l.refused ≡ None → length l.records.items ≡ lookups
+  pub whole : l.refused ≡ None → vec_len l.records ≡ lookups
   pub refused : IfSome l.refused (λ call. (1 ≤ call) × (call ≤ lookups))
 
 abbrev pub AreReady : (V : ℕ) → Opening → ℕ → List (Looking V) → Type 0
