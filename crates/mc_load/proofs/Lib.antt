@@ -1,2 +1,3 @@
+pub mod LoadRuns
 pub mod ToldLines
 pub mod WholeRuns

@@ -1,3 +1,4 @@
 pub mod ShapeTexts
+pub mod LoadPrograms
 pub mod Programs
 pub mod Inside

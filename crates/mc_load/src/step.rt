@@ -18,10 +18,10 @@ use std::convert::AsStr;
 use std::io::{BufRead, Write};
 
 /// The status where the words of the command line or the shape are refused.
-const REFUSED: u8 = 2;
+pub(crate) const REFUSED: u8 = 2;
 
 /// The status where memory was short or a write failed.
-const FAILED: u8 = 3;
+pub(crate) const FAILED: u8 = 3;
 
 /// Replays the script, and tells where it stopped.
 fn run_script<const V: usize, R: BufRead, W: Write, E: Write>(
@@ -74,7 +74,7 @@ fn run_options<R: BufRead, W: Write, E: Write>(
 }
 
 /// Prints the help or the version that the words ask for, or tells their fault.
-fn tell_fault<W: Write, E: Write>(error: Error, output: &mut W, errors: &mut E) -> u8
+pub(crate) fn tell_fault<W: Write, E: Write>(error: Error, output: &mut W, errors: &mut E) -> u8
     ensures { TellsFault (kind_of error) (stream (W.contents output.old) (W.contents output.new))
         (stream (E.contents errors.old) (E.contents errors.new)) result }
 {

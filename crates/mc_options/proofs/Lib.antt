@@ -1,2 +1,3 @@
 pub mod CommandLines
 pub mod CommandLineRows
+pub mod LoadCommandLines

@@ -1,1 +1,2 @@
+pub mod LoadOptions
 pub mod Options

@@ -14,6 +14,7 @@ use Rattle.clap.specs.declared.builder.value_parser.ValueParser.TheVariants as p
 use Rattle.clap.specs.declared.error.Error.{Error}
 use Rattle.clap.specs.declared.error.kind.ErrorKind.{ErrorKind}
 use Rattle.clap.specs.declared.error.kind.ErrorKind.TheVariants as kind
+use Rattle.mc_words.specs.declared.shape.Shape.{Shape}
 use Rattle.mc_words.specs.declared.mix.Mix.{Mix}
 use Rattle.mc_words.specs.declared.mix.Mix.TheVariants.{Plain, Fmix}
 use Rattle.mc_options.specs.declared.options.Options.{Options}
@@ -74,15 +75,19 @@ number_in least most text =
 abbrev pub mix_in : Text → Option Mix
 mix_in text = if bytes_eq text (codes "fmix") then Some Fmix else if bytes_eq text (codes "plain") then Some Plain else None
 
--- the texts of the options say these values
+-- the texts of the options say this shape
+pub record SaysShape (rows : List Row) (sh : Shape) : Type 0 where
+  pub buckets : option_and_then (number_in 0 4294967295) (first_of (codes "buckets") rows) ≡ Some sh.buckets
+  pub items : option_and_then (number_in 0 4294967295) (first_of (codes "items") rows) ≡ Some sh.items
+  pub stripes : option_and_then (number_in 0 4294967295) (first_of (codes "stripes") rows) ≡ Some sh.stripes
+  pub depth : option_and_then (number_in 0 255) (first_of (codes "depth") rows) ≡ Some sh.depth
+  pub tries : option_and_then (number_in 0 255) (first_of (codes "tries") rows) ≡ Some sh.tries
+  pub limit : option_and_then (number_in 0 18446744073709551615) (first_of (codes "limit") rows) ≡ Some sh.limit
+  pub mix : option_and_then mix_in (first_of (codes "mix") rows) ≡ Some sh.mix
+
+-- and these values
 pub record Says (rows : List Row) (o : Options) : Type 0 where
-  pub buckets : option_and_then (number_in 0 4294967295) (first_of (codes "buckets") rows) ≡ Some o.shape.buckets
-  pub items : option_and_then (number_in 0 4294967295) (first_of (codes "items") rows) ≡ Some o.shape.items
-  pub stripes : option_and_then (number_in 0 4294967295) (first_of (codes "stripes") rows) ≡ Some o.shape.stripes
-  pub depth : option_and_then (number_in 0 255) (first_of (codes "depth") rows) ≡ Some o.shape.depth
-  pub tries : option_and_then (number_in 0 255) (first_of (codes "tries") rows) ≡ Some o.shape.tries
-  pub limit : option_and_then (number_in 0 18446744073709551615) (first_of (codes "limit") rows) ≡ Some o.shape.limit
-  pub mix : option_and_then mix_in (first_of (codes "mix") rows) ≡ Some o.shape.mix
+  pub shape : SaysShape rows o.shape
   pub readers : option_and_then (number_in 0 4294967295) (first_of (codes "readers") rows) ≡ Some o.readers
   pub words : option_and_then (number_in 1 2) (first_of (codes "words") rows) ≡ Some o.words
 

@@ -1,14 +1,13 @@
-//! The command line of `mcstep`, read by `clap`.
-//!
-//! `options_of` gives the options that the words of a command line ask for, or the fault of the words as `clap` tells it.
-//! Its contract says which options those are, by the definition of command lines of `clap`.
+//! The command lines of `mcstep` and `mcload`, read by `clap`.
 //!
 //! ```text
-//! let options = options_of(alloc, &["mcstep", "--items", "3"])?;
-//! let checked = options.shape.check()?;
+//! let options = options_of(alloc, &["mcstep", "--buckets", "8"])?;
+//! let load = load_options_of(alloc, &["mcload", "run", "--readers", "2"])?;
 //! ```
 #![tactic(auto)]
 
+mod load_options;
 mod options;
 
+pub use load_options::{LoadOptions, load_options_of};
 pub use options::{Options, options_of};

@@ -4,7 +4,8 @@ ghost use Rattle.std.specs.List.{list_all};
 ghost use Rattle.std.specs.Char.{is_ascii_digit};
 ghost use Rattle.std.specs.Result.{result_ok};
 ghost use Rattle.clap.specs.Words.{app_of, first_of, found_of, kind_of, rows_of, rule_of};
-ghost use Rattle.mc_options.specs.Options.{AreMixes, MixNames, Reads, Says, bounds, mix_in, mcstep_command, number_in, option, others, program, sizes, with_rules};
+ghost use Rattle.mc_words.specs.declared.shape.Shape.{Shape};
+ghost use Rattle.mc_options.specs.Options.{AreMixes, MixNames, Reads, Says, SaysShape, bounds, mix_in, mcstep_command, number_in, option, others, program, sizes, with_rules};
 
 use clap::builder::ValueParser;
 use clap::error::ErrorKind;
@@ -22,7 +23,7 @@ pub struct Options {
     pub words: u8,
 }
 
-const VERSION: &str = "0.1.0";
+pub(crate) const VERSION: &str = "0.1.0";
 
 /// What the help says of scripts, behind the options.
 const SCRIPTS: &str = "\
@@ -45,13 +46,13 @@ writes
   reader 0 found 7 at 1";
 
 /// The most that a `u32` can be.
-const MOST_SIZE: u64 = 4_294_967_295;
+pub(crate) const MOST_SIZE: u64 = 4_294_967_295;
 
 /// The most that a `u8` can be.
 const MOST_BOUND: u64 = 255;
 
 /// An option with one value.
-fn option<'a>(
+pub(crate) fn option<'a>(
     alloc: Global,
     name: &'a str,
     takes: ValueParser<'a>,
@@ -206,7 +207,7 @@ fn mix_in(text: &str) -> Option<Mix>
 }
 
 /// The number that an option says, or the name of the option if it says none.
-fn number<'a>(matches: &ArgMatches, name: &'a str, least: u64, most: u64) -> Result<u64, &'a str>
+pub(crate) fn number<'a>(matches: &ArgMatches, name: &'a str, least: u64, most: u64) -> Result<u64, &'a str>
     ensures { result_ok result ≡ option_and_then (number_in least most) (first_of name.now (rows_of (found_of matches.now))) }
 {
     match matches.get_str(name) {
@@ -224,9 +225,9 @@ fn mix(matches: &ArgMatches) -> Result<Mix, &'static str>
     }
 }
 
-/// The options that the matches say, or the name of the first that says nothing.
-fn options_in(matches: &ArgMatches) -> Result<Options, &'static str>
-    ensures { MatchResult result (Says (rows_of (found_of matches.now))) (λ name. (o : Options) → Says (rows_of (found_of matches.now)) o → ⊥) }
+/// The shape that the matches say, or the name of the first option that says nothing.
+pub(crate) fn shape_in(matches: &ArgMatches) -> Result<Shape, &'static str>
+    ensures { MatchResult result (SaysShape (rows_of (found_of matches.now))) (λ name. (sh : Shape) → SaysShape (rows_of (found_of matches.now)) sh → ⊥) }
 {
     let buckets = number(matches, "buckets", 0, MOST_SIZE)?;
     let items = number(matches, "items", 0, MOST_SIZE)?;
@@ -235,9 +236,7 @@ fn options_in(matches: &ArgMatches) -> Result<Options, &'static str>
     let tries = number(matches, "tries", 0, MOST_BOUND)?;
     let limit = number(matches, "limit", 0, u64::MAX)?;
     let mix = mix(matches)?;
-    let readers = number(matches, "readers", 0, MOST_SIZE)?;
-    let words = number(matches, "words", 1, 2)?;
-    let shape = Shape {
+    Ok(Shape {
         buckets: buckets as u32,
         items: items as u32,
         stripes: stripes as u32,
@@ -245,7 +244,19 @@ fn options_in(matches: &ArgMatches) -> Result<Options, &'static str>
         tries: tries as u8,
         limit,
         mix,
+    })
+}
+
+/// The options that the matches say, or the name of the first that says nothing.
+fn options_in(matches: &ArgMatches) -> Result<Options, &'static str>
+    ensures { MatchResult result (Says (rows_of (found_of matches.now))) (λ name. (o : Options) → Says (rows_of (found_of matches.now)) o → ⊥) }
+{
+    let shape = match shape_in(matches) {
+        Ok(shape) => shape,
+        Err(name) => return Err(name),
     };
+    let readers = number(matches, "readers", 0, MOST_SIZE)?;
+    let words = number(matches, "words", 1, 2)?;
     Ok(Options {
         shape,
         readers: readers as u32,
@@ -254,7 +265,7 @@ fn options_in(matches: &ArgMatches) -> Result<Options, &'static str>
 }
 
 /// The fault of a number that has more than digits, as a sign. Of all others `clap` has told.
-fn refusal(
+pub(crate) fn refusal(
     alloc: Global,
     command: &mut Command<'_>,
     name: &str,

@@ -1,17 +1,10 @@
-use Rattle.std.proofs.Common.{arith}
+use Rattle.std.proofs.Common.{arith, codes}
 use Rattle.clap.specs.Words.{first_of, found_of, rows_of}
-use Rattle.std.proofs.Common.{codes}
 use Rattle.mc_options.proofs.CommandLines.{number-bounds}
 use Rattle.mc_options.proofs.options.options_in.Goals as goal
 
-pub overflow_cast-shape-4 : goal.overflow_cast-shape-4
-overflow_cast-shape-4 c = omega (arith, (number-bounds 0 255 c.in_ok-depth.depth (first_of (codes "depth") (rows_of (found_of c.args.matches.now))) c.in_ok-depth.ensures).1)
+pub returns-in-Err : goal.returns-in-Err
+returns-in-Err c = λ o says. c.in-Err.ensures o.shape says.shape
 
-pub overflow_cast-shape-5 : goal.overflow_cast-shape-5
-overflow_cast-shape-5 c = omega (arith, (number-bounds 0 255 c.in_ok-tries.tries (first_of (codes "tries") (rows_of (found_of c.args.matches.now))) c.in_ok-tries.ensures).1)
-
-pub overflow_cast-shape-2 : goal.overflow_cast-shape-2
-overflow_cast-shape-2 c = omega (arith, (number-bounds 0 4294967295 c.in_ok-items.items (first_of (codes "items") (rows_of (found_of c.args.matches.now))) c.in_ok-items.ensures).1)
-
-pub overflow_cast-shape-3 : goal.overflow_cast-shape-3
-overflow_cast-shape-3 c = omega (arith, (number-bounds 0 4294967295 c.in_ok-stripes.stripes (first_of (codes "stripes") (rows_of (found_of c.args.matches.now))) c.in_ok-stripes.ensures).1)
+pub overflow_cast-result : goal.overflow_cast-result
+overflow_cast-result c = omega (arith, (number-bounds 0 4294967295 c.in_ok-readers.readers (first_of (codes "readers") (rows_of (found_of c.args.matches.now))) c.in_ok-readers.ensures).1)

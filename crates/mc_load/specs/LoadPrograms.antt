@@ -1,0 +1,71 @@
+-- What the program `mcload` writes and tells, and its exit status.
+use Rattle.std.specs.Prelude.{◌≡◌, ◌≢◌, ◌+◌, ◌==◌, ℕ, ◌⊎◌, ◌++◌, ◌∷◌, List, [], take, codes, if◌then◌else◌}
+use Rattle.std.specs.Fmt.{decimal}
+use Rattle.std.specs.Io.KnownBytes.{Appends}
+use Rattle.clap.specs.declared.error.kind.ErrorKind.{ErrorKind}
+use Rattle.clap.specs.declared.error.kind.ErrorKind.TheVariants as kind
+use Rattle.mc_options.specs.LoadOptions.{GivesLoad, HasLoadFault, SaysNoLoad}
+use Rattle.mc_options.specs.declared.load_options.LoadOptions.{LoadOptions}
+use Rattle.mc_cache.specs.declared.opening.OpenError.TheVariants as opening
+use Rattle.mc_workers.specs.Loads.{RefusesLoad, Reports}
+use Rattle.mc_workers.specs.declared.asked.Load.{Load}
+use Rattle.mc_workers.specs.declared.error.LoadError.{LoadError}
+use Rattle.mc_workers.specs.declared.error.LoadError.TheVariants as error
+use Rattle.mc_workers.specs.declared.report.Report.{Report}
+use Rattle.mc_load.specs.Programs.{IsShort, IsUntouched, Prints, Stream, Tells}
+use Rattle.mc_load.specs.ShapeTexts.{shape_text}
+
+-- whether the answers add up to the lookups
+abbrev pub sum_text : Report → List ℕ
+sum_text r = if r.found + r.absent + r.busy == r.lookups then codes "ok" else codes "bad"
+
+-- the four lines of a report, without the last one's end
+abbrev pub report_text : Report → List ℕ
+report_text r =
+    codes "lookups " ++ decimal r.lookups ++ codes "\nwrites " ++ decimal r.writes ++ codes "\nsum " ++ sum_text r ++ codes "\nwrong " ++ decimal r.wrong
+
+-- what is told of a load that is refused
+abbrev pub load_text : LoadError → List ℕ
+load_text (error.Open (opening.Shape why)) = shape_text why
+load_text (error.Open opening.Readers) = codes "readers must be from 1 to 1024"
+load_text (error.Open opening.NoMemory) = codes "no memory"
+load_text error.NoMemory = codes "no memory"
+load_text error.Keys = codes "keys must be from 1 to 4294967296"
+load_text (error.Gate who call) = codes "gate"
+
+-- what was asked for can't be: 2; it could not be done: 3
+abbrev pub load_status : LoadError → ℕ
+load_status (error.Open (opening.Shape why)) = 2
+load_status (error.Open opening.Readers) = 2
+load_status (error.Open opening.NoMemory) = 3
+load_status error.NoMemory = 3
+load_status error.Keys = 2
+load_status (error.Gate who call) = 3
+
+-- the load that the options ask for
+abbrev pub load_of : LoadOptions → Load
+load_of o = record { shape = o.shape; readers = o.readers; lookups = o.lookups; writes = o.writes; keys = o.keys; seed = o.seed }
+
+-- the lines were written or, where a write failed, a beginning of them
+abbrev pub WritesLines : Stream → List ℕ → ℕ → Type 0
+WritesLines output text status = (((status ≡ 0) × Appends output.old output.new (text ++ 10 ∷ [])) ⊎ ((status ≡ 3) × Tells output text))
+
+-- the load was made, with values of four words, and its report is written
+abbrev pub WritesReport : LoadOptions → Stream → Stream → ℕ → Type 0
+WritesReport o output errors status = (r : Report) × Reports 4 (load_of o) r × WritesLines output (report_text r) status × IsUntouched errors
+
+-- the load is refused
+abbrev pub TellsRefusal : LoadOptions → Stream → Stream → ℕ → Type 0
+TellsRefusal o output errors status =
+    (why : LoadError) × RefusesLoad (load_of o) why × IsUntouched output × Tells errors (codes "refused: " ++ load_text why) × (status ≡ load_status why)
+
+-- the words have a fault that is neither help nor version
+abbrev pub IsLoadFaulty : List (List ℕ) → Type 0
+IsLoadFaulty words = ((k : ErrorKind) × (k ≢ kind.DisplayHelp) × (k ≢ kind.DisplayVersion) × HasLoadFault words k) ⊎ SaysNoLoad words
+
+-- what the words of the command line ask for, and what comes of it
+pub data Loads (words : List (List ℕ)) (output errors : Stream) (status : ℕ) : Type 0 where
+  loads : (o : LoadOptions) → GivesLoad words o → WritesReport o output errors status ⊎ TellsRefusal o output errors status → Loads words output errors status
+  shows : HasLoadFault words kind.DisplayHelp ⊎ HasLoadFault words kind.DisplayVersion → Prints errors status → Loads words output errors status
+  faulty : IsLoadFaulty words → IsUntouched output → status ≡ 2 → Loads words output errors status
+  out_of_memory : IsShort output errors status → Loads words output errors status

@@ -1,0 +1,59 @@
+// What `mcload` writes, and what it tells on standard error.
+ghost use Rattle.std.specs.Prelude.{◌≡◌, ◌+◌, ◌==◌, ◌++◌, Some, codes};
+ghost use Rattle.mc_load.specs.LoadPrograms.{load_text, report_text};
+
+use crate::told::Refusal;
+use mc_workers::{LoadError, OpenError, Report};
+use std::fmt;
+use std::fmt::Display;
+
+/// Whether the answers add up to the lookups.
+fn adds_up(found: u64, absent: u64, busy: u64, lookups: u64) -> bool
+    ensures { result ≡ (found + absent + busy == lookups) }
+{
+    u128::from(found) + u128::from(absent) + u128::from(busy) == u128::from(lookups)
+}
+
+/// The four lines of a report.
+#[derive(Clone, Copy)]
+pub(crate) struct Lines(pub(crate) Report);
+
+impl Display for Lines {
+    ghost output = { λ lines. Some (report_text lines.0) };
+
+    fn fmt<W: fmt::Write>(&self, f: &mut fmt::Formatter<W>) -> fmt::Result {
+        let report = self.0;
+        let sum = if adds_up(report.found, report.absent, report.busy, report.lookups) {
+            "ok"
+        } else {
+            "bad"
+        };
+        write!(
+            f,
+            "lookups {}\nwrites {}\nsum {}\nwrong {}",
+            report.lookups, report.writes, sum, report.wrong
+        )
+    }
+}
+
+/// A load that is refused.
+#[derive(Clone, Copy)]
+pub(crate) struct LoadRefusal(pub(crate) LoadError);
+
+impl Display for LoadRefusal {
+    ghost output = { λ refusal. Some (codes "refused: " ++ load_text refusal.0) };
+
+    fn fmt<W: fmt::Write>(&self, f: &mut fmt::Formatter<W>) -> fmt::Result {
+        match self.0 {
+            LoadError::Open(OpenError::Shape(why)) => write!(f, "{}", Refusal(why)),
+            LoadError::Open(OpenError::Readers) => {
+                write!(f, "refused: readers must be from 1 to 1024")
+            }
+            LoadError::Open(OpenError::NoMemory) | LoadError::NoMemory => {
+                write!(f, "refused: no memory")
+            }
+            LoadError::Keys => write!(f, "refused: keys must be from 1 to 4294967296"),
+            LoadError::Gate { .. } => write!(f, "refused: gate"),
+        }
+    }
+}

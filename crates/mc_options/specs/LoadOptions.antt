@@ -1,0 +1,98 @@
+-- What the words of a command line ask of `mcload`; the first of them is the program's own name, another is `run`.
+use Rattle.std.specs.Prelude.{◌≡◌, ◌≢◌, ◌⊎◌, ◌==◌, ℕ, Bool, true, false, pos, List, [], ◌∷◌, Option, Some, None, Result, map, codes, fold, option_and_then, if◌then◌else◌, MatchResult}
+use Rattle.std.specs.Borrow.{Bor}
+use Rattle.std.specs.Str.{bytes_eq}
+use Rattle.clap.specs.Words.{App, IsAmong, Kinds, Row, Rule, Text, fault_of, first_of, kind_of, matches_of, new_app, new_rule}
+use Rattle.clap.specs.Simple.{on_top}
+use Rattle.clap.specs.declared.builder.value_parser.ValueParser.TheVariants as parser
+use Rattle.clap.specs.declared.error.Error.{Error}
+use Rattle.clap.specs.declared.error.kind.ErrorKind.{ErrorKind}
+use Rattle.clap.specs.declared.error.kind.ErrorKind.TheVariants as kind
+use Rattle.mc_options.specs.Options.{AreMixes, MixNames, SaysShape, number_in, option, with_rules}
+use Rattle.mc_options.specs.declared.load_options.LoadOptions.{LoadOptions}
+
+-- ---- the options
+
+-- the name that the first argument takes, wherever it stands in memory
+abbrev pub AreCommands : MixNames → Type 0
+AreCommands names = map (λ name. name.now) names.now ≡ codes "run" ∷ []
+
+-- the first argument, which has to be there
+abbrev pub command_rule : MixNames → Rule
+command_rule names = record (new_rule (codes "command")) { parser = Some (parser.Names names); required = true }
+
+abbrev pub load_sizes : List Rule
+load_sizes =
+    option (codes "buckets") (parser.Signed (pos 0) (pos 4294967295)) (codes "1024")
+    ∷ option (codes "items") (parser.Signed (pos 0) (pos 4294967295)) (codes "3072")
+    ∷ option (codes "stripes") (parser.Signed (pos 0) (pos 4294967295)) (codes "8192")
+    ∷ []
+
+abbrev pub load_bounds : List Rule
+load_bounds =
+    option (codes "depth") (parser.Signed (pos 0) (pos 255)) (codes "5")
+    ∷ option (codes "tries") (parser.Signed (pos 0) (pos 255)) (codes "8")
+    ∷ option (codes "limit") (parser.Unsigned 0 18446744073709551615) (codes "4611686018427387904")
+    ∷ []
+
+abbrev pub load_counts : MixNames → List Rule
+load_counts mixes =
+    option (codes "mix") (parser.Names mixes) (codes "fmix")
+    ∷ option (codes "readers") (parser.Signed (pos 0) (pos 4294967295)) (codes "3")
+    ∷ option (codes "lookups") (parser.Signed (pos 0) (pos 1048576)) (codes "2000")
+    ∷ []
+
+abbrev pub load_draws : List Rule
+load_draws =
+    option (codes "writes") (parser.Signed (pos 0) (pos 1048576)) (codes "2000")
+    ∷ option (codes "keys") (parser.Unsigned 0 18446744073709551615) (codes "64")
+    ∷ option (codes "seed") (parser.Unsigned 0 18446744073709551615) (codes "1")
+    ∷ []
+
+-- the command `mcload`, which has a version, with its first argument and without its options
+abbrev pub mcload_command : MixNames → App
+mcload_command commands = with_rules (on_top (λ s. record s { has_version = true }) (new_app (codes "mcload"))) (command_rule commands ∷ [])
+
+abbrev pub load_program : MixNames → MixNames → App
+load_program commands mixes = with_rules (with_rules (with_rules (with_rules (mcload_command commands) load_sizes) load_bounds) (load_counts mixes)) load_draws
+
+-- ---- what their texts say
+pub record SaysLoad (rows : List Row) (o : LoadOptions) : Type 0 where
+  pub shape : SaysShape rows o.shape
+  pub readers : option_and_then (number_in 0 4294967295) (first_of (codes "readers") rows) ≡ Some o.readers
+  pub lookups : option_and_then (number_in 0 1048576) (first_of (codes "lookups") rows) ≡ Some o.lookups
+  pub writes : option_and_then (number_in 0 1048576) (first_of (codes "writes") rows) ≡ Some o.writes
+  pub keys : option_and_then (number_in 0 18446744073709551615) (first_of (codes "keys") rows) ≡ Some o.keys
+  pub seed : option_and_then (number_in 0 18446744073709551615) (first_of (codes "seed") rows) ≡ Some o.seed
+
+-- ---- what the words ask for
+
+-- the kinds of the words' first fault; none where they are taken
+unfoldable pub load_faults : MixNames → MixNames → List Text → Kinds
+load_faults commands mixes words = fault_of (load_program commands mixes) words
+
+-- the options with their texts
+unfoldable pub load_texts : MixNames → MixNames → List Text → List Row
+load_texts commands mixes words = matches_of (load_program commands mixes) words
+
+-- the words are taken, and say these options
+abbrev pub GivesLoad : List Text → LoadOptions → Type 0
+GivesLoad words o =
+    (commands : MixNames) × (mixes : MixNames) × AreCommands commands × AreMixes mixes × (load_faults commands mixes words ≡ []) × SaysLoad (load_texts commands mixes words) o
+
+-- the words are taken, but some text doesn't say a value of its option, as a number with a sign
+abbrev pub SaysNoLoad : List Text → Type 0
+SaysNoLoad words =
+    (commands : MixNames) × (mixes : MixNames) × AreCommands commands × AreMixes mixes × (load_faults commands mixes words ≡ []) × ((o : LoadOptions) → SaysLoad (load_texts commands mixes words) o → ⊥)
+
+-- the words have a fault of this kind
+abbrev pub HasLoadFault : List Text → ErrorKind → Type 0
+HasLoadFault words k = (commands : MixNames) × (mixes : MixNames) × AreCommands commands × AreMixes mixes × IsAmong k (load_faults commands mixes words)
+
+-- why no options are read: memory was short, of which no clause can say more, or the words have a fault of this kind
+abbrev pub IsLoadUnread : List Text → ErrorKind → Type 0
+IsLoadUnread words k = (k ≡ kind.OutOfMemory) ⊎ (HasLoadFault words k ⊎ ((k ≡ kind.ValueValidation) × SaysNoLoad words))
+
+-- the options that the words say, or why there are none
+abbrev pub ReadsLoad : List Text → Result LoadOptions Error → Type 0
+ReadsLoad words r = MatchResult r (GivesLoad words) (λ e. IsLoadUnread words (kind_of e))
