@@ -5,11 +5,23 @@
 #![tactic(auto)]
 
 #[cfg(test)]
+mod calls;
+#[cfg(test)]
 mod deeds;
+#[cfg(test)]
+mod evictions;
+#[cfg(test)]
+mod journal;
+#[cfg(test)]
+mod late_read;
+#[cfg(test)]
+mod looker;
 #[cfg(test)]
 mod marks;
 #[cfg(test)]
 mod put_read_back;
+#[cfg(test)]
+mod rows;
 #[cfg(test)]
 mod sharing;
 #[cfg(test)]

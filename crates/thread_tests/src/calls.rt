@@ -1,0 +1,80 @@
+//! One call of a cache, by its writer or by a reader, and what it answers.
+ghost use Rattle.std.specs.Prelude.{◌≡◌};
+
+use mc_cache::{Cache, Put, PutError, Reader, Remove, Reply, Spent, Writer};
+
+/// A call. A look is the reader's, all others are the writer's.
+#[derive(Clone, Copy, Debug, PartialEq, Eq)]
+pub enum Call {
+    Put(u64, u64),
+    Remove(u64),
+    Get(u64),
+    Look(u64),
+    LookBeside(u64),
+    CatchUp,
+}
+
+/// What a call answers.
+#[derive(Clone, Copy, Debug, PartialEq, Eq)]
+pub enum Told {
+    Put(Result<Put, PutError>),
+    Remove(Result<Remove, Spent>),
+    Reply(Reply<1>),
+    Moment(u64),
+}
+
+/// Stored, with no move and no eviction.
+pub const fn stored(at: u64) -> Told {
+    Told::Put(Ok(Put::Stored {
+        at,
+        moves: 0,
+        evicted: None,
+    }))
+}
+
+pub const fn stored_after(at: u64, evicted: u64) -> Told {
+    Told::Put(Ok(Put::Stored {
+        at,
+        moves: 0,
+        evicted: Some(evicted),
+    }))
+}
+
+pub const fn renewed(at: u64) -> Told {
+    Told::Put(Ok(Put::Renewed { at }))
+}
+
+pub const fn refused(why: PutError) -> Told {
+    Told::Put(Err(why))
+}
+
+pub const fn removed(at: u64) -> Told {
+    Told::Remove(Ok(Remove::Removed { at }))
+}
+
+pub const fn not_there(at: u64) -> Told {
+    Told::Remove(Ok(Remove::NotThere { at }))
+}
+
+pub const fn found(value: u64, at: u64) -> Told {
+    Told::Reply(Reply::Found { value: [value], at })
+}
+
+pub const fn absent(at: u64) -> Told {
+    Told::Reply(Reply::Absent { at })
+}
+
+/// Makes a call.
+pub fn make(cache: &Cache<1>, writer: &mut Writer<1>, reader: &mut Reader<1>, call: Call) -> Told
+    requires of { (writer.old.of ≡ cache.now) × (reader.old.of ≡ cache.now) }
+    ensures of { (writer.new.of ≡ writer.old.of) × (reader.new.of ≡ reader.old.of) }
+{
+    match call {
+        Call::Put(key, value) => Told::Put(writer.put(cache, key, [value])),
+        Call::Remove(key) => Told::Remove(writer.remove(cache, key)),
+        Call::Get(key) => Told::Reply(writer.get(cache, key)),
+        Call::Look(key) => Told::Reply(reader.get(cache, key)),
+        Call::LookBeside(key) => Told::Reply(reader.get_beside(cache, writer, key)),
+        Call::CatchUp => Told::Moment(reader.catch_up(cache, writer)),
+    }
+}

@@ -1,0 +1,130 @@
+//! A writer that puts, removes and evicts beside three readers. Each answer of a reader is what the history of the
+//! writer's calls says of the key at the answer's moment.
+ghost use Rattle.std.specs.Prelude.{◌≡◌, All, IfOk};
+
+use crate::journal::Entry;
+use crate::looker::{Looker, key_of};
+use mc_cache::{Cache, Change, Mix, Reader, Shape, Writer, open};
+use std::alloc::{AllocError, Global};
+use std::test::Fail;
+use std::thread;
+use std::thread::{Threads, join};
+
+/// Three items fewer than there are keys.
+const SHAPE: Shape = Shape {
+    buckets: 32,
+    items: 61,
+    stripes: 64,
+    depth: 5,
+    tries: 8,
+    limit: 1 << 62,
+    mix: Mix::Fmix,
+};
+
+const WRITES: usize = 2000;
+
+/// What the writer's call of this number asks for: one in forty-one removes.
+fn asked(n: usize) -> Change<1> {
+    let key = key_of(n, 37);
+    if n % 41 == 40 {
+        Change::Remove(key)
+    } else {
+        Change::Put(key, [n as u64])
+    }
+}
+
+// Makes the calls in turn, and writes down what came of each.
+fn write_all(cache: &Cache<1>, writer: &mut Writer<1>, entries: &mut [Entry])
+    requires { writer.old.of ≡ cache.now }
+    ensures { writer.new.of ≡ writer.old.of }
+{
+    for n in 0..entries.len() {
+        entries[n] = match asked(n) {
+            Change::Put(key, value) => Entry::of_put(writer.put(cache, key, value)),
+            Change::Remove(key) | Change::Evict(key) => {
+                Entry::of_remove(writer.remove(cache, key))
+            }
+        };
+    }
+}
+
+/// The history that the entries tell. `None` where a moment is not its length.
+fn history_of(alloc: Global, entries: &[Entry]) -> Result<Option<Vec<Change<1>>>, AllocError> {
+    let mut history = Vec::new(alloc);
+    for n in 0..entries.len() {
+        if !entries[n].add_to(&mut history, asked(n))? {
+            return Ok(None);
+        }
+    }
+    Ok(Some(history))
+}
+
+// A looker for each reader, with an order of its own.
+fn lookers_of(
+    alloc: Global,
+    cache: &Cache<1>,
+    mut readers: Vec<Reader<1>>,
+) -> Result<Vec<Looker>, AllocError>
+    requires { All (λ r. r.of ≡ cache.now) readers.items }
+    ensures { IfOk result (λ lookers. All (λ l. l.reader.of ≡ cache.now) lookers.items) }
+{
+    let _cache = cache;
+    let mut lookers = Vec::new(alloc);
+    let mut factor = 1u64;
+    while let Some(reader) = readers.pop() {
+        lookers.push(Looker::new(alloc, reader, factor)?)?;
+        factor = factor.wrapping_add(2);
+    }
+    Ok(lookers)
+}
+
+// All readers look keys up, each in its thread.
+fn look_in_threads<R: Threads + Sync>(
+    rt: &R,
+    cache: &Cache<1>,
+    lookers: Vec<Looker>,
+) -> Result<Vec<Looker>, AllocError>
+    requires { All (λ l. l.reader.of ≡ cache.now) lookers.items }
+{
+    thread::map_vec(
+        rt,
+        lookers,
+        &|looker: Looker| -> Looker
+            requires { looker.reader.of ≡ cache.now }
+        { looker.look_all(cache) },
+    )
+}
+
+fn is_eviction(change: &Change<1>) -> bool {
+    matches!(change, Change::Evict(_))
+}
+
+// Whether keys were evicted, and what the writer and three readers told beside each other is true.
+fn are_answers_true<R: Threads + Sync>(rt: &R, alloc: Global) -> Result<bool, Fail> {
+    let (cache, mut writer, readers) = open::<1>(alloc, SHAPE, 3)?;
+    let lookers = lookers_of(alloc, &cache, readers)?;
+    let mut entries = vec![in alloc; Entry::Refused; WRITES]?;
+    let ((), looked) = join(
+        rt,
+        || write_all(&cache, &mut writer, entries.as_mut_slice()),
+        || -> Result<Vec<Looker>, AllocError>
+            requires { All (λ l. l.reader.of ≡ cache) lookers.items }
+        { look_in_threads(rt, &cache, lookers) },
+    );
+    let looked = looked?;
+    let Some(history) = history_of(alloc, entries.as_slice())? else {
+        return Err(Fail::new("a moment of the writer is not the number of its changes"));
+    };
+    let history = history.as_slice();
+    let mut right = looked.len() == 3 && history.iter().any(is_eviction);
+    for looker in looked.as_slice() {
+        right = right && looker.was_told_the_truth(history);
+    }
+    Ok(right)
+}
+
+#[test]
+fn answers_beside_evictions_are_true(rt: HostRuntime) -> Result<(), Fail> {
+    assert!(rt; are_answers_true(&rt, rt.alloc())?);
+    Ok(())
+}

@@ -1,0 +1,82 @@
+//! A reader that looks keys up in an order of its own, and what it was told.
+ghost use Rattle.std.specs.Prelude.{◌≡◌, IfOk};
+
+use crate::truth::is_true;
+use mc_cache::{Cache, Change, Reader, Reply};
+use std::alloc::{AllocError, Global};
+
+const LOOKUPS: usize = 2000;
+
+/// One of 64 keys for each number. Each key comes once in 64 numbers, if the factor is odd.
+pub fn key_of(n: usize, factor: u64) -> u64 {
+    (n as u64).wrapping_mul(factor) % 64
+}
+
+// Looks the keys up in turn, and writes down each answer.
+fn look_all(cache: &Cache<1>, reader: &mut Reader<1>, factor: u64, replies: &mut [Reply<1>])
+    requires { reader.old.of ≡ cache.now }
+    ensures { reader.new.of ≡ reader.old.of }
+{
+    for n in 0..replies.len() {
+        replies[n] = reader.get(cache, key_of(n, factor));
+    }
+}
+
+fn moment_of(reply: Reply<1>) -> Option<u64> {
+    match reply {
+        Reply::Found { at, .. } | Reply::Absent { at } => Some(at),
+        Reply::Busy => None,
+    }
+}
+
+// Whether the answers are true of the history, and their moments don't fall.
+fn are_true(history: &[Change<1>], factor: u64, replies: &[Reply<1>]) -> bool {
+    let mut last = 0;
+    for n in 0..replies.len() {
+        let at = moment_of(replies[n]).unwrap_or(last);
+        if at < last || !is_true(history, key_of(n, factor), replies[n]) {
+            return false;
+        }
+        last = at;
+    }
+    true
+}
+
+#[derive(Drop)]
+pub struct Looker {
+    pub reader: Reader<1>,
+    factor: u64,
+    replies: Vec<Reply<1>>,
+}
+
+impl Looker {
+    /// A looker that has not looked yet, with room for all answers.
+    pub fn new(alloc: Global, reader: Reader<1>, factor: u64) -> Result<Looker, AllocError>
+        ensures { IfOk result (λ l. l.reader ≡ reader) }
+    {
+        let replies = vec![in alloc; Reply::Busy; LOOKUPS]?;
+        Ok(Looker {
+            reader,
+            factor,
+            replies,
+        })
+    }
+
+    /// Looks the keys up in turn.
+    pub fn look_all(mut self, cache: &Cache<1>) -> Looker
+        requires { self.reader.of ≡ cache.now }
+    {
+        look_all(
+            cache,
+            &mut self.reader,
+            self.factor,
+            self.replies.as_mut_slice(),
+        );
+        self
+    }
+
+    /// Whether the answers are true of the history, and their moments don't fall.
+    pub fn was_told_the_truth(&self, history: &[Change<1>]) -> bool {
+        are_true(history, self.factor, self.replies.as_slice())
+    }
+}
