@@ -46,3 +46,6 @@ acts-preserved g c =
     makes_more g.row.V old now c.act.new.self most p w some (subst (λ (o : Option Answer). MakesAct g.row.V now c.act.new.self (most + (acts_left old.clerk - acts_left now.clerk)) (with_acts p some.acts) some.after o) c.in_default.is act) in
     let first = c.requires.call in
     ((step first.0 first.1 first.2 first.3 c.requires.runs first.4).call.1, step)
+
+pub returns-in-Some-clause-refused : goal.returns-in-Some-clause-refused
+returns-in-Some-clause-refused g c = tt

@@ -41,3 +41,24 @@ returns-in-None g c = λ most w idle room.
       shape = refl;
       idle = idle_more g.row.V old most (most + most_steps) w (omega arith) idle;
     }
+
+pub checked-checked-requires : goal.checked-checked-requires
+checked-checked-requires g c = omega (arith, c.requires.2.knows.books.width)
+
+pub moment-at-requires-room-P-Peek : goal.moment-at-requires-room-P-Peek
+moment-at-requires-room-P-Peek g c κs = omega (arith, c.requires.2.knows.books.width)
+
+pub moment-at-requires : goal.moment-at-requires
+moment-at-requires g c = search rules
+
+pub read-requires-room-P-Peek : goal.read-requires-room-P-Peek
+read-requires-room-P-Peek g c κs = omega (arith, c.requires.2.knows.books.width)
+
+pub read-requires : goal.read-requires
+read-requires g c = (
+  omega (arith, c.requires.2.knows.books.width),
+  (
+    c.requires.2.knows.books.width,
+    ((state_of g.row.V (shape_of_player c.args.self.now) c.requires.1.acts).history, agrees_now g.row.V c.args.self.now c.requires.0 c.requires.1 _ c.requires.2 c.checked-checked.ensures),
+  ),
+)

@@ -1,4 +1,4 @@
-use Rattle.std.proofs.Common.{◌≡◌, sym, subst, ap, ◌∙◌, [], None, refl, arith}
+use Rattle.std.proofs.Common.{◌≡◌, sym, subst, ap, ◌∙◌, [], None, refl, arith, rules}
 use Rattle.std.proofs.lemmas.List.{length-replicate}
 use Rattle.mc_theory.proofs.Lists.Fronts.{state_none}
 use Rattle.mc_theory.specs.Lists.{state_of}
@@ -23,3 +23,54 @@ returns-in-Ok-new-clause-fits g c =
       };
       knows = subst (Knows g.row.V c.in-Ok-new.clerk) first c.in-Ok-new.ensures.knows;
     }
+
+pub new-requires : goal.new-requires
+new-requires g c = (omega arith, c.requires)
+
+pub returns-in-Err-Readers-clause-fits : goal.returns-in-Err-Readers-clause-fits
+returns-in-Err-Readers-clause-fits g c = tt
+
+pub returns-in-Err-Readers-clause-shape : goal.returns-in-Err-Readers-clause-shape
+returns-in-Err-Readers-clause-shape g c = tt
+
+pub returns-in-Err-Readers-clause-readers : goal.returns-in-Err-Readers-clause-readers
+returns-in-Err-Readers-clause-readers g c = tt
+
+pub returns-in-Err-Readers-clause-refused : goal.returns-in-Err-Readers-clause-refused
+returns-in-Err-Readers-clause-refused g c = search rules
+
+pub returns-in-Err-NoMemory-clause-fits : goal.returns-in-Err-NoMemory-clause-fits
+returns-in-Err-NoMemory-clause-fits g c = tt
+
+pub returns-in-Err-NoMemory-clause-shape : goal.returns-in-Err-NoMemory-clause-shape
+returns-in-Err-NoMemory-clause-shape g c = tt
+
+pub returns-in-Err-NoMemory-clause-readers : goal.returns-in-Err-NoMemory-clause-readers
+returns-in-Err-NoMemory-clause-readers g c = tt
+
+pub returns-in-Err-NoMemory-clause-refused : goal.returns-in-Err-NoMemory-clause-refused
+returns-in-Err-NoMemory-clause-refused g c = search rules
+
+pub new-requires-2 : goal.new-requires-2
+new-requires-2 g c = (omega arith, c.requires)
+
+pub returns-in-Ok-new-clause-shape : goal.returns-in-Ok-new-clause-shape
+returns-in-Ok-new-clause-shape g c = c.in-Ok.ensures.ok.0
+
+pub returns-in-Ok-new-clause-readers : goal.returns-in-Ok-new-clause-readers
+returns-in-Ok-new-clause-readers g c = search rules
+
+pub returns-in-Ok-new-clause-refused : goal.returns-in-Ok-new-clause-refused
+returns-in-Ok-new-clause-refused g c = tt
+
+pub returns-in-Err-clause-fits : goal.returns-in-Err-clause-fits
+returns-in-Err-clause-fits g c = tt
+
+pub returns-in-Err-clause-shape : goal.returns-in-Err-clause-shape
+returns-in-Err-clause-shape g c = tt
+
+pub returns-in-Err-clause-readers : goal.returns-in-Err-clause-readers
+returns-in-Err-clause-readers g c = tt
+
+pub returns-in-Err-clause-refused : goal.returns-in-Err-clause-refused
+returns-in-Err-clause-refused g c = search rules
