@@ -1,4 +1,4 @@
-use Rattle.std.proofs.Common.{◌≡◌, sym, subst, ap, ◌∙◌, [], None, refl, arith, rules}
+use Rattle.std.proofs.Common.{◌≡◌, sym, subst, ap, ◌∙◌, [], None, refl, arith}
 use Rattle.std.proofs.lemmas.List.{length-replicate}
 use Rattle.mc_theory.proofs.Lists.Fronts.{state_none}
 use Rattle.mc_theory.specs.Lists.{state_of}
@@ -7,6 +7,7 @@ use Rattle.mc_theory.specs.Traces.{IsReached, first_trace}
 use Rattle.mc_plan.specs.Clerks.{Knows}
 use Rattle.mc_words.specs.Checks.{shape_of}
 use Rattle.mc_words.specs.declared.shape.Shape.{Shape}
+use Rattle.mc_replay.proofs.ScriptLines.{no_readers, some_readers}
 use Rattle.mc_replay.proofs.player.Player.new.Goals as goal
 
 pub returns-in-Ok-new-clause-fits : goal.returns-in-Ok-new-clause-fits
@@ -37,7 +38,7 @@ pub returns-in-Err-Readers-clause-readers : goal.returns-in-Err-Readers-clause-r
 returns-in-Err-Readers-clause-readers g c = tt
 
 pub returns-in-Err-Readers-clause-refused : goal.returns-in-Err-Readers-clause-refused
-returns-in-Err-Readers-clause-refused g c = search rules
+returns-in-Err-Readers-clause-refused g c = no_readers c.args.readers c.in-Err-Readers.ensures.readers (cc (c.in-Err-Readers.field-0-is))
 
 pub returns-in-Err-NoMemory-clause-fits : goal.returns-in-Err-NoMemory-clause-fits
 returns-in-Err-NoMemory-clause-fits g c = tt
@@ -49,7 +50,7 @@ pub returns-in-Err-NoMemory-clause-readers : goal.returns-in-Err-NoMemory-clause
 returns-in-Err-NoMemory-clause-readers g c = tt
 
 pub returns-in-Err-NoMemory-clause-refused : goal.returns-in-Err-NoMemory-clause-refused
-returns-in-Err-NoMemory-clause-refused g c = search rules
+returns-in-Err-NoMemory-clause-refused g c = some_readers c.args.readers c.in-Err-NoMemory.ensures.readers (λ readers. absurd (cc (readers, c.in-Err-NoMemory.field-0-is)))
 
 pub new-requires-2 : goal.new-requires-2
 new-requires-2 g c = (omega arith, c.requires)
@@ -58,7 +59,7 @@ pub returns-in-Ok-new-clause-shape : goal.returns-in-Ok-new-clause-shape
 returns-in-Ok-new-clause-shape g c = c.in-Ok.ensures.ok.0
 
 pub returns-in-Ok-new-clause-readers : goal.returns-in-Ok-new-clause-readers
-returns-in-Ok-new-clause-readers g c = search rules
+returns-in-Ok-new-clause-readers g c = some_readers c.args.readers c.in-Ok.ensures.readers (λ readers. absurd (cc (readers)))
 
 pub returns-in-Ok-new-clause-refused : goal.returns-in-Ok-new-clause-refused
 returns-in-Ok-new-clause-refused g c = tt
@@ -73,4 +74,4 @@ pub returns-in-Err-clause-readers : goal.returns-in-Err-clause-readers
 returns-in-Err-clause-readers g c = tt
 
 pub returns-in-Err-clause-refused : goal.returns-in-Err-clause-refused
-returns-in-Err-clause-refused g c = search rules
+returns-in-Err-clause-refused g c = some_readers c.args.readers c.in-Ok.ensures.readers (λ readers. absurd (cc (readers)))
