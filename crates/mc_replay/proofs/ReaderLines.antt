@@ -1,6 +1,7 @@
 -- The events of readers, in the world and for a player.
-use Rattle.std.proofs.Common.{◌≡◌, ℕ, ◌+◌, ◌<◌, ◌≤◌, [], ◌∷◌, ◌++◌, All, Option, Some, None, refl, sym, ap, ◌∙◌, subst, inl, inr, arith, length}
-use Rattle.std.specs.Prelude.{IsSome, slice_get}
+use Rattle.std.proofs.Common.{◌≡◌, ℕ, ◌+◌, ◌<◌, ◌≤◌, List, [], ◌∷◌, ◌++◌, All, Option, Some, None, refl, sym, ap, ◌∙◌, subst, inl, inr, arith, length}
+use Rattle.std.specs.Prelude.{◌^◌, IsSome, slice_get}
+use prog.Memory.{up}
 use Rattle.std.proofs.lemmas.List.{length-set}
 use Rattle.std.proofs.lemmas.List.Elements.{All-drop, All-head}
 use Rattle.std.proofs.Math.Seq.{drop-append_seam}
@@ -24,7 +25,7 @@ use Rattle.mc_plan.specs.declared.clerk.Clerk.{Clerk}
 use Rattle.mc_replay.specs.declared.fault.Fault.TheVariants.{StillRunning}
 use Rattle.mc_replay.specs.declared.player.Player.{Player}
 use Rattle.mc_replay.specs.Replay.{Replay, Pending, AccessDoes, LookUpDoes}
-use Rattle.mc_replay.specs.Inside.Players.{shape_of_player, most_steps, IsAt, FitsCall, Fits, ReadsSoFar}
+use Rattle.mc_replay.specs.Inside.Players.{shape_of_player, most_steps, IsAt, FitsCall, Fits, CanDo, ReadsSoFar}
 use Rattle.mc_replay.specs.Texts.{done_line}
 use Rattle.mc_replay.specs.Inside.Texts.{end_text}
 use Rattle.mc_replay.proofs.FewAccesses.{made_more}
@@ -172,3 +173,10 @@ sound_of V player most w at = subst IsShape at.shape player.clerk.books.checked.
 pub width_of : (V : ℕ) (player : Player V) (most : ℕ) (running : Option (Pending V)) (w : Trace V) → FitsCall V player most running w → IsWidth V
 width_of V player most None w fits = fits.knows.books.width
 width_of V player most (Some p) w fits = on_width V player.clerk p.call p.from p.acts fits.0.on
+
+pub width_can : (V : ℕ) (player : Player V) (text : List ℕ) → CanDo V player text → IsWidth V
+width_can V player text can = width_of V player can.1.0 can.1.1.running can.1.1.world can.1.3
+
+-- a player has room in memory where its world and its clerk have: they lie side by side, and then the number of readers
+pub player_room : (world clerk : ℕ) → world < 2 ^ 32 → clerk < 2 ^ 32 → up 8 (up 4 (up 8 (0 + world) + clerk) + 4) < 2 ^ 63
+player_room world clerk some few = omega arith

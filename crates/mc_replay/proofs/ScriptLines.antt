@@ -1,5 +1,6 @@
 -- The lines of a replay, one after the other.
-use Rattle.std.proofs.Common.{◌≡◌, ℕ, ◌+◌, ◌-◌, ◌^◌, ◌<◌, ◌≤◌, ◌∙◌, true, false, Result, List, [], ◌∷◌, ◌++◌, Option, Some, None, Ok, Err, refl, sym, ap, subst, length, take, arith, inl, inr, take_all, append_assoc, append-nil, length-append}
+use Rattle.std.proofs.Common.{◌≡◌, Bool, ℕ, ◌+◌, ◌-◌, ◌^◌, ◌<◌, ◌≤◌, ◌∙◌, true, false, Result, List, [], ◌∷◌, ◌++◌, Option, Some, None, Ok, Err, OnOk, refl, sym, ap, subst, length, take, arith, inl, inr, take_all, append_assoc, append-nil, length-append}
+use Rattle.std.specs.Prelude.{◌⊎◌, ◌↔◌, ◌≢◌}
 use Rattle.std.proofs.lemmas.Bool.{false≢true}
 use Rattle.std.proofs.KnownBytes.{Appends-trans, Appends-nil, Appends-kept, Keeps-refl}
 use Rattle.std.specs.Io.BufRead.{first_line, drop_through}
@@ -63,6 +64,18 @@ line_skipped V sh before s line text short few says none =
 -- the events of one line more
 pub one_line_more : (before : ℕ) → most_before before + most_steps ≡ most_before (before + 1)
 one_line_more before = omega arith
+
+-- a line that is refused, or not there, isn't played
+pub refused_is_not_played : {A : Type 0} (fault : Fault) → ◌≡◌ {A = Result Bool Fault} (Err fault) (Ok true) → A
+refused_is_not_played fault e = absurd (cc (e))
+
+pub none_is_not_played : {A : Type 0} → ◌≡◌ {A = Result Bool Fault} (Ok false) (Ok true) → A
+none_is_not_played e = absurd (cc (e))
+
+-- what holds in any case, holds where it went well
+pub always_ok : {E : Type 0} (r : Result (Unit {0}) E) (A : Type 0) → A → OnOk r A
+always_ok (Ok u) A x = x
+always_ok (Err e) A x = tt
 
 pub has_room : (before : ℕ) → before < 2 ^ 40 → HasRoom (most_before before)
 has_room before few = omega (arith, few)
@@ -286,3 +299,18 @@ replays_none V sh readers (Some x) old fault refused = (inl (refl, refl), inl (r
     stops_before StillRunning refused = absurd refused
     stops_before NothingToStep refused = absurd refused
     stops_before WriteFailed refused = absurd refused
+
+-- ---- how many readers there may be
+-- the world was refused for its readers
+pub no_readers : {A : Type 0} (readers : ℕ) → (A ↔ ((readers ≡ 0) ⊎ (1024 < readers))) → A → IsReaders readers → ⊥
+no_readers readers is refused many = elim (is.0 refused) [
+  | inl none ↦ omega (arith, many.0, none)
+  | inr more ↦ omega (arith, many.1, more)
+]
+
+-- it was not
+pub some_readers : {A : Type 0} (readers : ℕ) → (A ↔ ((readers ≡ 0) ⊎ (1024 < readers))) → (A → ⊥) → IsReaders readers
+some_readers readers is allowed =
+    let some : readers ≢ 0 = λ none. allowed (is.1 (inl none)) in
+    let few : (1024 < readers) → ⊥ = λ more. allowed (is.1 (inr more)) in
+    (omega (arith, some), omega (arith, few))

@@ -9,10 +9,10 @@ use Rattle.mc_words.specs.declared.history.Reply.TheVariants.{Found, Absent}
 use Rattle.mc_words.specs.declared.shape.Shape.{Shape}
 use Rattle.mc_theory.proofs.Lists.Fronts.{after_all-append, state_push}
 use Rattle.mc_core.proofs.WorldSteps.{reached_append}
-use Rattle.mc_theory.specs.Acts.{IsAllowed}
+use Rattle.mc_theory.specs.Acts.{IsAllowed, MayFrom}
 use Rattle.mc_theory.specs.Effects.{after_act}
 use Rattle.mc_theory.specs.Lists.{Made, after_all, state_of}
-use Rattle.mc_theory.specs.Phases.{Phase, deed_key}
+use Rattle.mc_theory.specs.Phases.{Phase, Quiet, deed_key}
 use Rattle.mc_core.specs.Seen.{WorldView, Shows, MayAct, state_after}
 use Rattle.mc_theory.specs.States.{State}
 use Rattle.mc_theory.specs.Traces.{Trace, IsReached, Steps, StepsAll, HasVersionSteps, bit_of, given_of}
@@ -28,7 +28,7 @@ use Rattle.mc_plan.specs.declared.clerk.Stage.TheVariants.{Idle, Sweeping, Plann
 use Rattle.mc_plan.proofs.Calls.MidCall.{on_runs}
 use Rattle.mc_replay.specs.declared.player.Player.{Player}
 use Rattle.mc_replay.specs.Replay.{Pending, WriterMakes, LooksUp}
-use Rattle.mc_replay.specs.Inside.Players.{shape_of_player, most_steps, IsAt, IsIdle, IsInCall, IsMidCall, BeginsAs, GoesOn, MakesAct, Completes, CallIsWhole, with_acts, bit_given}
+use Rattle.mc_replay.specs.Inside.Players.{shape_of_player, most_steps, IsAt, IsIdle, IsInCall, IsMidCall, BeginsAs, GoesOn, MakesAct, Completes, CallIsWhole, HasRoom, IsMarked, with_acts, bit_given}
 use Rattle.mc_replay.specs.Replay.{pending}
 
 -- ---- acts of the writer in a world
@@ -136,6 +136,33 @@ words_after V player most p w a word new call is state =
     let read : after_act sh player.world.state a (bit_of player.world.bits a) ≡ after_act sh (after_all sh p.from p.acts) a word = ap (λ (b : ℕ). after_act sh player.world.state a b) (sym is) ∙ ap (λ (s : State V). after_act sh s a word) (sym now) in
     let there : new.state ≡ after_all sh p.from (p.acts ++ m ∷ []) = state ∙ read ∙ sym (after_all-append sh p.from p.acts (m ∷ [])) in
     ap (λ (s : State V). s.words) (there ∙ ap (λ (y : Shape). after_all y p.from (p.acts ++ m ∷ [])) (sym call.at.shape))
+
+-- ---- a mark while no call runs
+-- it may be made
+pub may_mark : (V : ℕ) (player : Player V) (most i : ℕ) (w : Trace V) → IsIdle V player most w → HasRoom most → i < (shape_of_player player).items → MayAct {V = V} player.world (Mark i)
+may_mark V player most i w idle room inside =
+    let sh = shape_of_player player in
+    let s : State V = state_of V sh w.acts in
+    let quiet : s.phase ≡ Quiet = idle.knows.books.quiet.quiet in
+    let allowed : IsAllowed sh s (Mark i) = subst (λ (p : Phase). MayFrom V sh s.words s.hand s.cleared p (Mark i)) (sym quiet) inside in
+    (subst (λ (y : State V). IsAllowed sh y (Mark i)) (sym idle.at.world.state) allowed, tt, omega (arith, idle.at.world.events, idle.at.events, room))
+
+-- and it changes nothing else
+pub marked : (V : ℕ) (old new : Player V) (most i : ℕ) (w x : Trace V) → IsIdle V old most w → shape_of_player new ≡ shape_of_player old → new.clerk ≡ old.clerk → new.readers ≡ old.readers → Shows {V = V} new.world x
+    → WriterMakes V (shape_of_player old) w (record { act = Mark i; bit = 0 } ∷ []) x → x.events ≡ w.events + 1 → IsMarked V old new most i w
+marked V old new most i w x idle same clerk many shows makes events =
+    let m : Made = record { act = Mark i; bit = 0 } in
+    let acts : state_of V (shape_of_player old) w.acts ≡ state_of V (shape_of_player old) x.acts = sym (state_push V (shape_of_player old) w.acts m) ∙ ap (state_of V (shape_of_player old)) (sym makes.1) in
+    let now : state_of V (shape_of_player old) w.acts ≡ state_of V (shape_of_player new) x.acts = acts ∙ ap (λ (y : Shape). state_of V y x.acts) (sym same) in
+    record {
+      after = x;
+      makes = makes;
+      shape = same;
+      idle = record {
+        at = at_after_one V old new most w x m idle.at same shows makes events many (ap (λ (y : Clerk V). clerks.shape_of_clerk y) clerk);
+        knows = subst (λ (y : Clerk V). Knows V y (state_of V (shape_of_player new) x.acts)) (sym clerk) (subst (Knows V old.clerk) now idle.knows);
+      };
+    }
 
 -- ---- a clerk's answer
 none_or_some : {A : Type 0} (o : Option A) → (o ≡ None) ⊎ IsSome o

@@ -5,8 +5,6 @@ use Rattle.std.specs.List.{flat_map}
 use Rattle.mc_words.specs.declared.history.Reply.{Reply}
 use Rattle.mc_words.specs.declared.history.Reply.TheVariants.{Found, Absent, Busy}
 use Rattle.mc_theory.specs.declared.event.Done.{Done}
-use Rattle.mc_theory.specs.declared.event.Stepped.{Stepped}
-use Rattle.mc_theory.specs.declared.event.Stepped.TheVariants as stepped
 use Rattle.mc_plan.specs.declared.answer.Answer.{Answer}
 use Rattle.mc_plan.specs.declared.answer.Answer.TheVariants as answer
 use Rattle.mc_plan.specs.declared.answer.Put.{Put}

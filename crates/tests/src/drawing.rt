@@ -4,17 +4,6 @@ use mc_words::{Checked, Mix, Place, Shape};
 use rand_core::Rng;
 use rand_pcg::Lcg64Xsh32;
 
-/// How many worlds are drawn for a seed: the more words they have, the fewer.
-pub(crate) fn worlds_of(seed: u64) -> u32 {
-    if seed % 5 == 0 {
-        12
-    } else if seed % 3 == 2 {
-        48
-    } else {
-        200
-    }
-}
-
 /// Two buckets with few items, or for each fifth seed 32 buckets with more than 64.
 fn drawn_size(a: u32, seed: u64) -> (u32, u32) {
     if seed % 5 == 0 {

@@ -1,11 +1,17 @@
 //! Worlds that make drawn events, lawful or not: what a refused event leaves, and how far the versions come.
-use crate::drawing::{Writer, drawn_shape, worlds_of};
+use crate::drawing::{Writer, drawn_shape};
 use mc_core::World;
 use mc_words::Checked;
 use rand_core::Rng;
 use rand_pcg::Lcg64Xsh32;
 use std::alloc::Global;
 use std::test::Fail;
+
+/// How many worlds are drawn for a seed.
+const WORLDS: u32 = 10;
+
+/// How many events a world is asked to make.
+const EVENTS: u32 = 500;
 
 /// The words of the world, the last ones are its bits, folded into one number, and the length of its history.
 fn seen_of(world: &World<1>) -> (u64, usize) {
@@ -79,10 +85,10 @@ impl Pair {
     }
 }
 
-/// How many of 500 drawn events were lawful; nothing where one did what it may not.
+/// How many of a world's drawn events were lawful; nothing where one did what it may not.
 fn lawful_of(rng: &mut Lcg64Xsh32, pair: &mut Pair) -> Option<u32> {
     let mut lawful: u32 = 0;
-    for _ in 0..500 {
+    for _ in 0..EVENTS {
         if pair.step(rng)? {
             lawful = lawful.saturating_add(1);
         }
@@ -90,11 +96,11 @@ fn lawful_of(rng: &mut Lcg64Xsh32, pair: &mut Pair) -> Option<u32> {
     if pair.is_one() { Some(lawful) } else { None }
 }
 
-/// How many drawn events were lawful, of 500 in each world of the seed; `None` where one changed what it must not.
+/// How many drawn events were lawful in the worlds of the seed; nothing where one changed what it must not.
 fn lawful_in_worlds(alloc: Global, seed: u64) -> Result<Option<u32>, Fail> {
     let mut rng = Lcg64Xsh32::new(seed, 0);
     let mut all: u32 = 0;
-    for _ in 0..worlds_of(seed) {
+    for _ in 0..WORLDS {
         let checked = drawn_shape(&mut rng, seed).check()?;
         let mut pair = Pair::new(alloc, &checked)?;
         let Some(lawful) = lawful_of(&mut rng, &mut pair) else {
@@ -112,7 +118,7 @@ fn refused_events_leave_the_world_as_it_was(rt: HostRuntime) -> Result<(), Fail>
             assert!(rt; false, "seed {seed}");
             return Ok(());
         };
-        let events = worlds_of(seed).saturating_mul(500);
+        let events = WORLDS * EVENTS;
         assert!(rt;
             (events / 4 + 1..events / 10 * 9).contains(&all),
             "seed {seed}: {all} of {events} events were lawful"

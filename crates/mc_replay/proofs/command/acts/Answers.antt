@@ -1,10 +1,10 @@
-use Rattle.std.proofs.Common.{◌≡◌, ℕ, ◌+◌, ◌≤◌, ◌++◌, List, Some, None, subst, sym, ◌∙◌, rules, arith, string_bytes}
+use Rattle.std.proofs.Common.{◌≡◌, ℕ, ◌+◌, ◌≤◌, ◌++◌, List, Some, None, subst, sym, ◌∙◌, arith, string_bytes}
 use Rattle.mc_words.specs.declared.shape.Shape.{Shape}
 use Rattle.mc_replay.specs.Replay.{ActDoes, ActsDo}
 use Rattle.mc_replay.specs.Inside.Players.{shape_of_player, most_steps}
 use Rattle.mc_replay.specs.declared.player.Player.{Player}
 use Rattle.mc_replay.specs.declared.fault.Fault.TheVariants.{NothingToStep}
-use Rattle.mc_replay.proofs.ReaderLines.{fits_more}
+use Rattle.mc_replay.proofs.ReaderLines.{fits_more, player_room, width_can}
 use Rattle.mc_replay.proofs.CommandLines.{idle_of, runs_of, runs_in}
 use Rattle.mc_replay.proofs.StepAfterStep.{acts_push, acts_stop, left_over, one_more}
 use Rattle.mc_replay.proofs.command.acts.Goals as goal
@@ -25,7 +25,7 @@ act-requires g c =
     let m = so_far.0 in
     let runs = runs_of g.row.V c.acts.player (first.0 + c.acts.counter) m.running m.world so_far.2.fits (sym c.is_running.ensures ∙ c.if-not-is_running.false) in
     let call = runs_in g.row.V c.acts.player first.0 c.acts.counter m runs.0 first.2 so_far.2 runs.1 in
-    (search rules, (_, _, _, call.0, call.1))
+    (player_room _ _ (omega (arith, width_can g.row.V c.args.player.now (string_bytes c.args.text.now) c.requires)) (omega (arith, width_can g.row.V c.args.player.now (string_bytes c.args.text.now) c.requires)), (_, _, _, call.0, call.1))
 
 pub acts-preserved : goal.acts-preserved
 acts-preserved g c = λ most s room fits.
@@ -48,3 +48,6 @@ returns g c = λ most s room fits.
     let few : most + c.acts.counter ≤ most + most_steps = omega (arith, so_far.2.past) in
     let all : c.acts.counter ≡ c.args.many = omega (arith, c.acts.auto.counter-end, c.acts-test.false) in
     (m, subst (λ (n : ℕ). ActsDo (shape_of_player old) n s (string_bytes c.acts.text) None m) all so_far.1, (so_far.3, fits_more g.row.V c.acts.player (most + c.acts.counter) (most + most_steps) m.running m.world few so_far.2.fits))
+
+pub is_running-requires : goal.is_running-requires
+is_running-requires g c = player_room _ _ (omega (arith, width_can g.row.V c.args.player.now (string_bytes c.args.text.now) c.requires)) (omega (arith, width_can g.row.V c.args.player.now (string_bytes c.args.text.now) c.requires))

@@ -1,10 +1,11 @@
-use Rattle.std.proofs.Common.{◌≡◌, ℕ, ◌+◌, ◌++◌, List, sym, ap, ◌∙◌, string_bytes}
+use Rattle.std.proofs.Common.{◌≡◌, ℕ, ◌+◌, ◌++◌, List, sym, ap, ◌∙◌, arith, string_bytes}
 use Rattle.mc_plan.specs.Clerks.{RemoveCall}
 use Rattle.mc_replay.specs.Replay.{BeginDoes}
 use Rattle.mc_replay.specs.Inside.Players.{shape_of_player, most_steps, FitsStill}
 use Rattle.mc_replay.specs.Texts.{answer_line}
 use Rattle.mc_replay.specs.declared.player.Player.{Player}
 use Rattle.mc_replay.proofs.CommandLines.{idle_of, still_running, told_as, begin_answered, begin_begun, idle_in, running_in}
+use Rattle.mc_replay.proofs.ReaderLines.{player_room, width_can}
 use Rattle.mc_replay.proofs.command.begin_remove.Goals as goal
 
 pub returns-then-is_running : goal.returns-then-is_running
@@ -28,3 +29,12 @@ returns-in-None g c = λ most s room fits.
     let begins = c.in-None.ensures most s.world idle.1 in
     let begun = begin_begun g.row.V old c.begin_remove.new.self most (RemoveCall c.args.key) s (string_bytes c.args.text.now) idle.0 begins c.requires.0 in
     (running_in (shape_of_player old) s (RemoveCall c.args.key), begun.0, begun.1)
+
+pub is_running-requires : goal.is_running-requires
+is_running-requires g c = player_room _ _ (omega (arith, width_can g.row.V c.args.player.now (string_bytes c.args.text.now) c.requires)) (omega (arith, width_can g.row.V c.args.player.now (string_bytes c.args.text.now) c.requires))
+
+pub begin_remove-requires : goal.begin_remove-requires
+begin_remove-requires g c =
+    let first = c.requires.1 in
+    let idle = idle_of g.row.V c.args.player.now first.0 first.1.running first.1.world first.3 (sym c.is_running.ensures ∙ c.if-is_running.false) in
+    (player_room _ _ (omega (arith, width_can g.row.V c.args.player.now (string_bytes c.args.text.now) c.requires)) (omega (arith, width_can g.row.V c.args.player.now (string_bytes c.args.text.now) c.requires)), (first.0, first.1.world, idle.1))

@@ -1,4 +1,4 @@
-use Rattle.std.proofs.Common.{◌≡◌, ℕ, ◌+◌, ◌++◌, List, Err, sym, ap, subst, ◌∙◌, rules, string_bytes}
+use Rattle.std.proofs.Common.{◌≡◌, ℕ, ◌+◌, ◌++◌, List, Err, sym, ap, subst, ◌∙◌, arith, rules, string_bytes}
 use Rattle.mc_plan.specs.Clerks.{PutCall}
 use Rattle.mc_replay.specs.Replay.{CallDoes}
 use Rattle.mc_replay.specs.Inside.Players.{shape_of_player, most_steps, DoneAs, FitsStill}
@@ -6,6 +6,7 @@ use Rattle.mc_replay.specs.Texts.{answer_line}
 use Rattle.mc_replay.specs.declared.fault.Fault.TheVariants.{NoMemory}
 use Rattle.mc_replay.specs.declared.player.Player.{Player}
 use Rattle.mc_replay.proofs.CommandLines.{idle_of, still_running, told_as, call_done, idle_in}
+use Rattle.mc_replay.proofs.ReaderLines.{player_room, width_can}
 use Rattle.mc_replay.proofs.command.put.Goals as goal
 
 pub returns-then-is_running : goal.returns-then-is_running
@@ -26,3 +27,12 @@ pub returns-in_err-answer : goal.returns-in_err-answer
 returns-in_err-answer g c = λ most s room fits.
     let none : c.from_residual.result ≡ Err NoMemory = search rules in
     (s, subst (λ r. DoneAs (CallDoes (shape_of_player c.args.player.now) s (PutCall c.args.key c.args.value)) (string_bytes c.args.text.now) s r) (sym none) tt, rw none tt)
+
+pub is_running-requires : goal.is_running-requires
+is_running-requires g c = player_room _ _ (omega (arith, width_can g.row.V c.args.player.now (string_bytes c.args.text.now) c.requires)) (omega (arith, width_can g.row.V c.args.player.now (string_bytes c.args.text.now) c.requires))
+
+pub put-requires : goal.put-requires
+put-requires g c =
+    let first = c.requires.1 in
+    let idle = idle_of g.row.V c.args.player.now first.0 first.1.running first.1.world first.3 (sym c.is_running.ensures ∙ c.if-is_running.false) in
+    (player_room _ _ (omega (arith, width_can g.row.V c.args.player.now (string_bytes c.args.text.now) c.requires)) (omega (arith, width_can g.row.V c.args.player.now (string_bytes c.args.text.now) c.requires)), (omega (arith, width_can g.row.V c.args.player.now (string_bytes c.args.text.now) c.requires), (first.0, first.1.world, idle.1, first.2)))

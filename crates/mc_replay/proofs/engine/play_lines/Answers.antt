@@ -1,10 +1,11 @@
-use Rattle.std.proofs.Common.{◌∙◌, arith, rules, refl, ap, subst, Ok, Err}
+use Rattle.std.proofs.Common.{◌∙◌, arith, refl, ap, subst, Ok, Err}
 use Rattle.std.specs.Prelude.{Bool}
 use Rattle.mc_words.specs.declared.shape.Shape.{Shape}
 use Rattle.mc_replay.specs.Replay.{first_replay}
 use Rattle.mc_replay.specs.Inside.Players.{shape_of_player}
 use Rattle.mc_replay.specs.Inside.Steps.{PlaysKnown}
 use Rattle.mc_replay.proofs.ScriptLines.{known_none, known_more, replays_all, replays_part}
+use Rattle.mc_replay.proofs.ReaderLines.{player_room}
 use Rattle.mc_replay.proofs.engine.play_lines.Goals as goal
 
 pub lines-init : goal.lines-init
@@ -16,7 +17,7 @@ lines-init g c = (
 pub play_line-requires : goal.play_line-requires
 play_line-requires g c =
     let so_far = c.lines.invariant.0 c.requires.0 c.requires.1 c.requires.2 in
-    (search rules, (so_far.0, so_far.1))
+    (player_room _ _ (omega (arith, c.requires.2.knows.books.width)) (omega (arith, c.requires.2.knows.books.width)), (so_far.0, so_far.1))
 
 pub lines-preserved : goal.lines-preserved
 lines-preserved g c = (

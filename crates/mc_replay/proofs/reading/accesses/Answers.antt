@@ -9,6 +9,7 @@ use Rattle.mc_replay.specs.Inside.Players.{shape_of_player, most_steps}
 use Rattle.mc_replay.specs.Inside.Texts.{end_text}
 use Rattle.mc_replay.proofs.ReaderLines.{SameWriter, at_of, sound_of, width_of, access_done, reads_more, after_access, fits_more}
 use Rattle.mc_replay.proofs.StepAfterStep.{accesses_push, accesses_stop, left_over, one_more}
+use Rattle.mc_replay.proofs.ReaderLines.{width_can}
 use Rattle.mc_replay.proofs.reading.accesses.Goals as goal
 
 pub accesses-preserved : goal.accesses-preserved
@@ -51,3 +52,9 @@ returns g c = λ most s room fits.
     let m = so_far.0 in
     let all : c.accesses.counter ≡ c.args.many = omega (arith, c.accesses.auto.counter-end, c.accesses-test.false) in
     (m, subst (λ (n : ℕ). AccessesDo (shape_of_player c.args.player.now) n s c.args.reader (string_bytes c.accesses.text) None m) all so_far.1, (c.accesses.invariant.shape, fits_more g.row.V c.accesses.player _ (most + most_steps) m.running m.world (omega (arith, so_far.2.few)) so_far.2.fits))
+
+pub step-requires : goal.step-requires
+step-requires g c = (omega (arith, width_can g.row.V c.args.player.now (string_bytes c.args.text.now) c.requires.can), omega (arith, width_can g.row.V c.args.player.now (string_bytes c.args.text.now) c.requires.can))
+
+pub tell_end-requires : goal.tell_end-requires
+tell_end-requires g c = omega (arith, width_can g.row.V c.args.player.now (string_bytes c.args.text.now) c.requires.can)

@@ -1,9 +1,10 @@
-use Rattle.std.proofs.Common.{◌≡◌, ℕ, refl, rules, subst, sym, Some, None, Err, [], inr}
+use Rattle.std.proofs.Common.{◌≡◌, ℕ, refl, arith, rules, subst, sym, Some, None, Err, [], inr}
 use Rattle.mc_replay.specs.declared.fault.Fault.TheVariants.{NoSuchReader, StillRunning}
 use Rattle.mc_replay.specs.declared.player.Player.{Player}
 use Rattle.mc_replay.specs.Replay.{LookUpDoes}
 use Rattle.mc_replay.specs.Inside.Players.{shape_of_player, DoneAs}
 use Rattle.mc_replay.proofs.ReaderLines.{SameWriter, at_of, look_up_begins, look_up_runs, no_reader}
+use Rattle.mc_replay.proofs.ReaderLines.{player_room, width_can}
 use Rattle.mc_replay.proofs.reading.begin_get.Goals as goal
 
 pub returns-in_err-reader : goal.returns-in_err-reader
@@ -29,3 +30,9 @@ returns-in-Err-StillRunning g c = λ most s room fits.
     let refused = rw c.in-Err-StillRunning.field-0-is at (c.in-Err-StillRunning.ensures.refused s.world at.world) in
     let runs = look_up_runs g.row.V c.args.player.now most c.in_ok-reader.reader c.args.key s fits c.in_ok-reader.ensures.ok.1 refused in
     (s, subst (λ (r : ℕ). LookUpDoes (shape_of_player c.args.player.now) s r c.args.key [] (Some StillRunning) s) c.in_ok-reader.ensures.ok.0 runs, tt)
+
+pub reader_of-requires : goal.reader_of-requires
+reader_of-requires g c = player_room _ _ (omega (arith, width_can g.row.V c.args.player.now [] c.requires)) (omega (arith, width_can g.row.V c.args.player.now [] c.requires))
+
+pub step-requires : goal.step-requires
+step-requires g c = (omega (arith, width_can g.row.V c.args.player.now [] c.requires), omega (arith, width_can g.row.V c.args.player.now [] c.requires))

@@ -1,13 +1,36 @@
-use Rattle.std.proofs.Common.{◌≡◌, ℕ, ◌+◌, ◌++◌, ◌∷◌, [], refl, subst, sym, ap, ◌∙◌, arith, rules}
+use Rattle.std.proofs.Common.{◌≡◌, ℕ, ◌+◌, ◌++◌, ◌∷◌, [], Option, refl, subst, sym, ap, ◌∙◌, arith, rules}
+use Rattle.std.proofs.lemmas.Bool.{false≢true}
+use Rattle.std.specs.Prelude.{IsSome}
 use Rattle.mc_theory.specs.Lists.{Made}
 use Rattle.mc_theory.specs.Traces.{Trace, bit_of}
+use Rattle.mc_theory.specs.declared.act.Act.{Act}
 use Rattle.mc_theory.specs.declared.event.Stepped.{Stepped}
 use Rattle.mc_plan.specs.Clerks.{IsOn}
+use Rattle.mc_plan.proofs.Calls.MidCall.{on_width}
 use Rattle.mc_replay.specs.Replay.{WriterMakes}
 use Rattle.mc_replay.specs.Inside.Players.{shape_of_player, bit_given, with_acts}
 use Rattle.mc_replay.specs.declared.player.Player.{Player}
 use Rattle.mc_replay.proofs.WriterCalls.{may_act, words_after, bit_given_is, made_of, makes_one, call_goes_on, goes_on_as, TellsAs}
 use Rattle.mc_replay.proofs.player.Player.act.Goals as goal
+
+-- a value has few words, so each argument has room
+pub next-requires : goal.next-requires
+next-requires g c = let call = c.requires.call in omega (arith, on_width g.row.V c.args.self.now.clerk call.1.call call.1.from call.1.acts call.3.on)
+
+pub step-requires : goal.step-requires
+step-requires g c =
+    let call = c.requires.call in
+    let width = on_width g.row.V c.args.self.now.clerk call.1.call call.1.from call.1.acts call.3.on in
+    (omega (arith, width), omega (arith, width))
+
+pub bit_in-requires : goal.bit_in-requires
+bit_in-requires g c = let call = c.requires.call in omega (arith, on_width g.row.V c.args.self.now.clerk call.1.call call.1.from call.1.acts call.3.on)
+
+pub after-requires-room-P-Peek : goal.after-requires-room-P-Peek
+after-requires-room-P-Peek g c κs = let call = c.requires.call in omega (arith, on_width g.row.V c.args.self.now.clerk call.1.call call.1.from call.1.acts call.3.on)
+
+pub answer-requires : goal.answer-requires
+answer-requires g c = let call = c.requires.call in omega (arith, on_width g.row.V c.args.self.now.clerk call.1.call call.1.from call.1.acts call.3.on)
 
 pub unreachable-requires : goal.unreachable-requires
 unreachable-requires g c =
@@ -23,7 +46,7 @@ after-requires g c =
     let told : c.bit_in.result ≡ bit_of c.args.self.now.world.bits c.in-Some.act =
     c.bit_in.ensures ∙ ap (λ (y : Stepped g.row.V). bit_given y) (c.in-Ok.ensures.given c.in-Some.act refl) ∙ bit_given_is g.row.V c.args.self.now.world.bits c.in-Some.act in
     let words = words_after g.row.V c.args.self.now call.0 call.1 call.2 c.in-Some.act c.bit_in.result c.step.new.self call.3 told c.in-Ok.ensures.state in
-    (search rules, (call.1.call, call.1.from, call.1.acts, c.in-Some.act, call.3.on, sym c.in-Some.ensures.value, words))
+    (omega (arith, on_width g.row.V c.args.self.now.clerk call.1.call call.1.from call.1.acts call.3.on), (call.1.call, call.1.from, call.1.acts, c.in-Some.act, call.3.on, sym c.in-Some.ensures.value, words))
 
 pub returns-in-Ok-clause-made : goal.returns-in-Ok-clause-made
 returns-in-Ok-clause-made g c = λ most p w call room.
@@ -49,3 +72,18 @@ returns-in-Ok-clause-made g c = λ most p w call room.
       shape = c.in-Ok.ensures.shape;
       goes_on = goes_on_as g.row.V old mid new (most + 1) (with_acts p (m ∷ [])) did.0 c.answer.result next c.in-Ok.ensures.shape c.after.ensures.left tells;
     }
+
+pub returns-in-None-clause-made : goal.returns-in-None-clause-made
+returns-in-None-clause-made g c = λ most p w call room. absurd (false≢true (subst (λ (o : Option Act). IsSome o) (sym c.next.ensures.value ∙ c.in-None.is) c.requires.runs))
+
+pub returns-in-None-clause-refused : goal.returns-in-None-clause-refused
+returns-in-None-clause-refused g c = tt
+
+pub returns-in-Ok-clause-refused : goal.returns-in-Ok-clause-refused
+returns-in-Ok-clause-refused g c = tt
+
+pub returns-in-Err-NoMemory-clause-made : goal.returns-in-Err-NoMemory-clause-made
+returns-in-Err-NoMemory-clause-made g c = tt
+
+pub returns-in-Err-NoMemory-clause-refused : goal.returns-in-Err-NoMemory-clause-refused
+returns-in-Err-NoMemory-clause-refused g c = refl

@@ -18,3 +18,12 @@ returns g c = λ most w idle.
     let in_call = begun g.row.V old mid most call w idle refl refl c.remove.ensures.shape on (omega (arith, c.remove.ensures.left)) in
     let tells : TellsAs g.row.V mid new c.answer.result = record { world = refl; readers = refl; shape = c.answer.ensures.shape; ends = c.answer.ensures.some; some = c.answer.ensures.told; none = c.answer.ensures.none } in
     (refl, begins_as g.row.V old mid new most call w c.answer.result in_call refl tells)
+
+pub remove-requires-room-P-Peek : goal.remove-requires-room-P-Peek
+remove-requires-room-P-Peek g c κs = omega (arith, c.requires.2.knows.books.width)
+
+pub remove-requires : goal.remove-requires
+remove-requires g c = (omega (arith, c.requires.2.knows.books.width), (state_of g.row.V (shape_of_player c.args.self.now) c.requires.1.acts, c.requires.2.knows, ap (λ (y : State g.row.V). y.words) c.requires.2.at.world.state))
+
+pub answer-requires : goal.answer-requires
+answer-requires g c = omega (arith, c.requires.2.knows.books.width)

@@ -1,4 +1,4 @@
-use Rattle.std.proofs.Common.{ℕ, ◌+◌, ◌-◌, ◌<◌, subst, rules}
+use Rattle.std.proofs.Common.{ℕ, ◌+◌, ◌-◌, ◌<◌, subst, arith}
 use Rattle.std.specs.Prelude.{Option, IsSome, ◌^◌}
 use Rattle.mc_plan.specs.Clerks.{acts_left, next_act}
 use Rattle.mc_plan.specs.declared.answer.Answer.{Answer}
@@ -7,6 +7,8 @@ use Rattle.mc_replay.specs.Replay.{Pending}
 use Rattle.mc_theory.specs.Traces.{Trace}
 use Rattle.mc_replay.specs.declared.player.Player.{Player}
 use Rattle.mc_replay.proofs.WriterCalls.{makes_nothing, makes_more, makes_last_of, room_left}
+use Rattle.mc_plan.proofs.Calls.MidCall.{on_width}
+use Rattle.mc_replay.proofs.ReaderLines.{player_room}
 use Rattle.mc_replay.proofs.player.Player.finish.Goals as goal
 
 pub acts-init : goal.acts-init
@@ -16,7 +18,7 @@ pub act-requires : goal.act-requires
 act-requires g c =
     let call = c.requires.call in
     let some = c.acts.invariant.1 call.0 call.1 call.2 call.3 c.requires.runs call.4 in
-    (search rules, (c.acts.invariant.0, (_, _, _, some.call.0, room_left g.row.V c.args.self.now c.acts.self call.0 call.1 call.2 some call.4)))
+    (player_room _ _ (omega (arith, on_width g.row.V c.args.self.now.clerk call.1.call call.1.from call.1.acts call.3.on)) (omega (arith, on_width g.row.V c.args.self.now.clerk call.1.call call.1.from call.1.acts call.3.on)), (c.acts.invariant.0, (_, _, _, some.call.0, room_left g.row.V c.args.self.now c.acts.self call.0 call.1 call.2 some call.4)))
 
 pub returns-in-Some-clause-made : goal.returns-in-Some-clause-made
 returns-in-Some-clause-made g c = λ most p w call room.
@@ -46,3 +48,6 @@ acts-preserved g c =
     makes_more g.row.V old now c.act.new.self most p w some (subst (λ (o : Option Answer). MakesAct g.row.V now c.act.new.self (most + (acts_left old.clerk - acts_left now.clerk)) (with_acts p some.acts) some.after o) c.in_default.is act) in
     let first = c.requires.call in
     ((step first.0 first.1 first.2 first.3 c.requires.runs first.4).call.1, step)
+
+pub returns-in-Some-clause-refused : goal.returns-in-Some-clause-refused
+returns-in-Some-clause-refused g c = tt

@@ -1,9 +1,10 @@
-use Rattle.std.proofs.Common.{◌+◌, ◌<◌, [], refl, subst, rules, arith}
+use Rattle.std.proofs.Common.{◌+◌, ◌<◌, [], refl, subst, arith}
 use Rattle.mc_words.specs.declared.shape.Shape.{Shape}
 use Rattle.mc_theory.specs.Lists.{state_of}
 use Rattle.mc_replay.specs.Inside.Players.{shape_of_player, most_steps}
 use Rattle.mc_replay.specs.declared.player.Player.{Player}
 use Rattle.mc_replay.proofs.WriterCalls.{agrees_now, looks_found, looks_missed, idle_more, makes_none}
+use Rattle.mc_replay.proofs.ReaderLines.{player_room}
 use Rattle.mc_replay.proofs.player.Player.get.Goals as goal
 
 pub mark-requires : goal.mark-requires
@@ -11,7 +12,7 @@ mark-requires g c =
     let first = c.requires in
     let stands = c.in-Some.ensures.item.1 in
     let in_items : c.in-Some.found.0 < (shape_of_player {V = g.row.V} c.args.self.now).items = subst (λ (y : Shape). c.in-Some.found.0 < y.items) c.checked-checked.ensures stands.names.in_items in
-    (search rules, (first.0, first.1, first.2, first.3, in_items))
+    (player_room _ _ (omega (arith, c.requires.2.knows.books.width)) (omega (arith, c.requires.2.knows.books.width)), (first.0, first.1, first.2, first.3, in_items))
 
 pub returns-in-Some : goal.returns-in-Some
 returns-in-Some g c = λ most w idle room.
@@ -41,3 +42,26 @@ returns-in-None g c = λ most w idle room.
       shape = refl;
       idle = idle_more g.row.V old most (most + most_steps) w (omega arith) idle;
     }
+
+pub checked-checked-requires : goal.checked-checked-requires
+checked-checked-requires g c = omega (arith, c.requires.2.knows.books.width)
+
+pub moment-at-requires-room-P-Peek : goal.moment-at-requires-room-P-Peek
+moment-at-requires-room-P-Peek g c κs = omega (arith, c.requires.2.knows.books.width)
+
+pub moment-at-requires : goal.moment-at-requires
+moment-at-requires g c =
+    let agrees = agrees_now g.row.V c.args.self.now c.requires.0 c.requires.1 _ c.requires.2 c.checked-checked.ensures in
+    omega (arith, agrees.size)
+
+pub read-requires-room-P-Peek : goal.read-requires-room-P-Peek
+read-requires-room-P-Peek g c κs = omega (arith, c.requires.2.knows.books.width)
+
+pub read-requires : goal.read-requires
+read-requires g c = (
+  omega (arith, c.requires.2.knows.books.width),
+  (
+    c.requires.2.knows.books.width,
+    ((state_of g.row.V (shape_of_player c.args.self.now) c.requires.1.acts).history, agrees_now g.row.V c.args.self.now c.requires.0 c.requires.1 _ c.requires.2 c.checked-checked.ensures),
+  ),
+)
