@@ -6,7 +6,8 @@ use Rattle.std.proofs.lemmas.List.{get_or_append_left, length-append}
 use Rattle.mc_words.specs.Shapes.{IsShape}
 use Rattle.mc_shared.specs.Records.{Opening}
 use Rattle.mc_cache.specs.Openings.{HasReaders}
-use Rattle.mc_workers.specs.Loads.{HasKeys, IsRefused, RefusesLoad}
+use Rattle.mc_workers.specs.Loads.{HasKeys, RefusesLoad}
+use Rattle.mc_workers.specs.Inside.Refusals.{IsRefused}
 use Rattle.mc_workers.specs.declared.asked.Load.{Load}
 use Rattle.mc_workers.specs.declared.error.LoadError.{LoadError}
 use Rattle.mc_workers.specs.declared.error.LoadError.TheVariants as error

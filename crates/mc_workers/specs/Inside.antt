@@ -1,3 +1,4 @@
 pub mod Beginnings
 pub mod Journals
+pub mod Refusals
 pub mod Workers

@@ -27,11 +27,6 @@ HasKeys keys = (1 ≤ keys) × (keys ≤ 2 ^ 32)
 abbrev pub IsCall : Load → ℕ → ℕ → Type 0
 IsCall load who call = (1 ≤ call) × (((who ≡ 0) × (call ≤ load.writes)) ⊎ ((1 ≤ who) × (who ≤ load.readers) × (call ≤ load.lookups)))
 
--- the gate let such a call not through
-abbrev pub IsRefused : Load → LoadError → Type 0
-IsRefused load (error.Gate who call) = IsCall load who call
-IsRefused load _ = ⊥
-
 -- the first fault of what was asked for; where there is none, memory was refused, or the gate let a call not through
 abbrev pub RefusesLoad : Load → LoadError → Type 0
 RefusesLoad load error.Keys = ¬ HasKeys load.keys

@@ -2,7 +2,7 @@
 ghost use Rattle.std.specs.Prelude.{ℕ, ◌≡◌, ◌+◌, ◌*◌, ◌≤◌, ◌<◌, IfNone, IfSome, length, vec_len, vec_capacity};
 ghost use Rattle.mc_shared.specs.Records.{Opening};
 ghost use Rattle.std.specs.Thread.{IsSync};
-ghost use Rattle.mc_workers.specs.Loads.{IsRefused};
+ghost use Rattle.mc_workers.specs.Inside.Refusals.{IsRefused};
 ghost use Rattle.mc_workers.specs.Inside.Workers.{AreReady, AreWhole, HasEnded, HaveEnded, IsReady, IsWriting};
 
 use crate::asked::Load;
