@@ -5,6 +5,8 @@
 #![tactic(auto)]
 
 #[cfg(test)]
+mod answers_checked;
+#[cfg(test)]
 mod calls;
 #[cfg(test)]
 mod deeds;
@@ -14,6 +16,10 @@ mod evictions;
 mod journal;
 #[cfg(test)]
 mod late_read;
+#[cfg(test)]
+mod load_gate;
+#[cfg(test)]
+mod load_rows;
 #[cfg(test)]
 mod looker;
 #[cfg(test)]
