@@ -4,6 +4,7 @@ use Rattle.std.specs.Borrow.{Bor}
 use Rattle.std.specs.Str.{bytes_eq}
 use Rattle.clap.specs.Words.{App, IsAmong, Kinds, Row, Rule, Text, fault_of, first_of, kind_of, matches_of, new_app, new_rule}
 use Rattle.clap.specs.Simple.{on_top}
+use Rattle.clap.specs.declared.builder.action.ArgAction.TheVariants as action
 use Rattle.clap.specs.declared.builder.value_parser.ValueParser.TheVariants as parser
 use Rattle.clap.specs.declared.error.Error.{Error}
 use Rattle.clap.specs.declared.error.kind.ErrorKind.{ErrorKind}
@@ -49,14 +50,24 @@ load_draws =
     ∷ option (codes "seed") (parser.Unsigned 0 18446744073709551615) (codes "1")
     ∷ []
 
+-- an option without a value
+abbrev pub histogram_rule : Rule
+histogram_rule = record (new_rule (codes "histogram")) { long = Some (codes "histogram"); action = Some action.SetTrue }
+
 -- the command `mcload`, which has a version, with its first argument and without its options
 abbrev pub mcload_command : MixNames → App
 mcload_command commands = with_rules (on_top (λ s. record s { has_version = true }) (new_app (codes "mcload"))) (command_rule commands ∷ [])
 
 abbrev pub load_program : MixNames → MixNames → App
-load_program commands mixes = with_rules (with_rules (with_rules (with_rules (mcload_command commands) load_sizes) load_bounds) (load_counts mixes)) load_draws
+load_program commands mixes = with_rules (with_rules (with_rules (with_rules (with_rules (mcload_command commands) load_sizes) load_bounds) (load_counts mixes)) load_draws) (histogram_rule ∷ [])
 
 -- ---- what their texts say
+
+-- an option without a value is given
+abbrev pub is_given : Option Text → Bool
+is_given None = false
+is_given (Some text) = bytes_eq text (codes "true")
+
 pub record SaysLoad (rows : List Row) (o : LoadOptions) : Type 0 where
   pub shape : SaysShape rows o.shape
   pub readers : option_and_then (number_in 0 4294967295) (first_of (codes "readers") rows) ≡ Some o.readers
@@ -64,6 +75,7 @@ pub record SaysLoad (rows : List Row) (o : LoadOptions) : Type 0 where
   pub writes : option_and_then (number_in 0 1048576) (first_of (codes "writes") rows) ≡ Some o.writes
   pub keys : option_and_then (number_in 0 18446744073709551615) (first_of (codes "keys") rows) ≡ Some o.keys
   pub seed : option_and_then (number_in 0 18446744073709551615) (first_of (codes "seed") rows) ≡ Some o.seed
+  pub histogram : o.histogram ≡ is_given (first_of (codes "histogram") rows)
 
 -- ---- what the words ask for
 

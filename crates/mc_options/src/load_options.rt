@@ -1,12 +1,12 @@
 // The options of `mcload`.
 ghost use Rattle.std.specs.Prelude.{◌≡◌, false, IfOk, MatchResult, map};
-ghost use Rattle.clap.specs.Words.{app_of, found_of, rows_of, rule_of};
+ghost use Rattle.clap.specs.Words.{app_of, first_of, found_of, rows_of, rule_of};
 ghost use Rattle.mc_options.specs.Options.{AreMixes, MixNames, with_rules};
-ghost use Rattle.mc_options.specs.LoadOptions.{AreCommands, ReadsLoad, SaysLoad, command_rule, load_bounds, load_counts, load_draws, load_program, load_sizes, mcload_command};
+ghost use Rattle.mc_options.specs.LoadOptions.{AreCommands, ReadsLoad, SaysLoad, command_rule, histogram_rule, is_given, load_bounds, load_counts, load_draws, load_program, load_sizes, mcload_command};
 
 use crate::options::{MOST_SIZE, VERSION, number, option, refusal, shape_in};
 use clap::builder::ValueParser;
-use clap::{Arg, ArgMatches, Command, Error, value_parser};
+use clap::{Arg, ArgAction, ArgMatches, Command, Error, value_parser};
 use mc_words::Shape;
 use std::alloc::{AllocError, Global};
 use std::convert::AsStr;
@@ -22,6 +22,8 @@ pub struct LoadOptions {
     pub writes: u32,
     pub keys: u64,
     pub seed: u64,
+    /// Whether rates and delays are printed too.
+    pub histogram: bool,
 }
 
 /// The most lookups of a reader, and the most calls of the writer.
@@ -149,6 +151,17 @@ fn with_load_draws<'a>(alloc: Global, command: Command<'a>) -> Result<Command<'a
     command.arg(writes)?.arg(keys)?.arg(seed)
 }
 
+/// The option without a value.
+fn histogram_arg<'a>(alloc: Global) -> Arg<'a>
+    ensures rule { rule_of result ≡ histogram_rule }
+    ensures local { result.global ≡ false }
+{
+    Arg::new(alloc, "histogram")
+        .long("histogram")
+        .action(ArgAction::SetTrue)
+        .help("Also prints calls a second, and how far answers were behind the newest change")
+}
+
 /// The first argument.
 fn command_arg<'a>(alloc: Global) -> Arg<'a>
     ensures rule { (commands : MixNames) × AreCommands commands × (rule_of result ≡ command_rule commands) }
@@ -177,7 +190,18 @@ fn load_command<'a>(alloc: Global) -> Result<Command<'a>, AllocError>
     let sized = with_load_sizes(alloc, load_named(alloc)?)?;
     let bounded = with_load_bounds(alloc, sized)?;
     let counted = with_load_counts(alloc, bounded)?;
-    with_load_draws(alloc, counted)
+    let drawn = with_load_draws(alloc, counted)?;
+    drawn.arg(histogram_arg(alloc))
+}
+
+/// Whether an option without a value is given.
+fn is_given(matches: &ArgMatches, name: &str) -> bool
+    ensures { result ≡ is_given (first_of name.now (rows_of (found_of matches.now))) }
+{
+    match matches.get_str(name) {
+        Some(text) => text == "true",
+        None => false,
+    }
 }
 
 /// The options that the matches say, or the name of the first that says nothing.
@@ -200,6 +224,7 @@ fn load_options_in(matches: &ArgMatches) -> Result<LoadOptions, &'static str>
         writes: writes as u32,
         keys,
         seed,
+        histogram: is_given(matches, "histogram"),
     })
 }
 

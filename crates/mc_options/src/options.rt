@@ -207,7 +207,12 @@ fn mix_in(text: &str) -> Option<Mix>
 }
 
 /// The number that an option says, or the name of the option if it says none.
-pub(crate) fn number<'a>(matches: &ArgMatches, name: &'a str, least: u64, most: u64) -> Result<u64, &'a str>
+pub(crate) fn number<'a>(
+    matches: &ArgMatches,
+    name: &'a str,
+    least: u64,
+    most: u64,
+) -> Result<u64, &'a str>
     ensures { result_ok result ≡ option_and_then (number_in least most) (first_of name.now (rows_of (found_of matches.now))) }
 {
     match matches.get_str(name) {
