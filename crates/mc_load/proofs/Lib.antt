@@ -1,3 +1,4 @@
 pub mod LoadRuns
 pub mod ToldLines
+pub mod WrittenLines
 pub mod WholeRuns

@@ -1,5 +1,5 @@
 -- Runs of the whole program `mcload` whose words give no options.
-use Rattle.std.proofs.Common.{◌≡◌, ℕ, List, subst, inl, inr}
+use Rattle.std.proofs.Common.{ℕ, List, subst, inl, inr}
 use Rattle.clap.specs.declared.error.kind.ErrorKind.{ErrorKind}
 use Rattle.mc_options.specs.LoadOptions.{HasLoadFault, IsLoadUnread}
 use Rattle.mc_load.specs.Programs.{Stream}

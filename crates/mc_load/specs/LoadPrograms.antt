@@ -1,5 +1,5 @@
 -- What the program `mcload` writes and tells, and its exit status.
-use Rattle.std.specs.Prelude.{◌≡◌, ◌≢◌, ◌+◌, ◌==◌, ℕ, ◌⊎◌, ◌++◌, ◌∷◌, List, [], take, codes, if◌then◌else◌}
+use Rattle.std.specs.Prelude.{◌≡◌, ◌≢◌, ◌+◌, ◌==◌, ℕ, ◌⊎◌, ◌++◌, ◌∷◌, Bool, false, List, [], take, codes, if◌then◌else◌}
 use Rattle.std.specs.Fmt.{decimal}
 use Rattle.std.specs.Io.KnownBytes.{Appends}
 use Rattle.clap.specs.declared.error.kind.ErrorKind.{ErrorKind}
@@ -46,18 +46,23 @@ load_status (error.Gate who call) = 3
 abbrev pub load_of : LoadOptions → Load
 load_of o = record { shape = o.shape; readers = o.readers; lookups = o.lookups; writes = o.writes; keys = o.keys; seed = o.seed }
 
--- the lines were written or, where a write failed, a beginning of them
-abbrev pub WritesLines : Stream → List ℕ → ℕ → Type 0
-WritesLines output text status = (((status ≡ 0) × Appends output.old output.new (text ++ 10 ∷ [])) ⊎ ((status ≡ 3) × Tells output text))
+-- the lines were written, and where more is asked for, bytes of which no clause speaks; or, where a write failed, a beginning of all that
+abbrev pub WritesLines : Bool → Stream → List ℕ → ℕ → Type 0
+WritesLines asked output text status =
+    (more : List ℕ) × (asked ≡ false → more ≡ []) × (((status ≡ 0) × Appends output.old output.new (text ++ 10 ∷ more)) ⊎ ((status ≡ 3) × ((n : ℕ) × Appends output.old output.new (take n (text ++ 10 ∷ more)))))
 
 -- the load was made, with values of four words, and its report is written
 abbrev pub WritesReport : LoadOptions → Stream → Stream → ℕ → Type 0
-WritesReport o output errors status = (r : Report) × Reports 4 (load_of o) r × WritesLines output (report_text r) status × IsUntouched errors
+WritesReport o output errors status = (r : Report) × Reports 4 (load_of o) r × WritesLines o.histogram output (report_text r) status × IsUntouched errors
 
 -- the load is refused
 abbrev pub TellsRefusal : LoadOptions → Stream → Stream → ℕ → Type 0
 TellsRefusal o output errors status =
     (why : LoadError) × RefusesLoad (load_of o) why × IsUntouched output × Tells errors (codes "refused: " ++ load_text why) × (status ≡ load_status why)
+
+-- a load with these options
+abbrev pub RunsLoad : LoadOptions → Stream → Stream → ℕ → Type 0
+RunsLoad o output errors status = WritesReport o output errors status ⊎ TellsRefusal o output errors status
 
 -- the words have a fault that is neither help nor version
 abbrev pub IsLoadFaulty : List (List ℕ) → Type 0
@@ -65,7 +70,7 @@ IsLoadFaulty words = ((k : ErrorKind) × (k ≢ kind.DisplayHelp) × (k ≢ kind
 
 -- what the words of the command line ask for, and what comes of it
 pub data Loads (words : List (List ℕ)) (output errors : Stream) (status : ℕ) : Type 0 where
-  loads : (o : LoadOptions) → GivesLoad words o → WritesReport o output errors status ⊎ TellsRefusal o output errors status → Loads words output errors status
+  loads : (o : LoadOptions) → GivesLoad words o → RunsLoad o output errors status → Loads words output errors status
   shows : HasLoadFault words kind.DisplayHelp ⊎ HasLoadFault words kind.DisplayVersion → Prints errors status → Loads words output errors status
   faulty : IsLoadFaulty words → IsUntouched output → status ≡ 2 → Loads words output errors status
   out_of_memory : IsShort output errors status → Loads words output errors status

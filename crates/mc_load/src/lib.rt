@@ -9,6 +9,7 @@
 //! ```
 #![tactic(auto)]
 
+mod histogram;
 mod load_run;
 mod load_told;
 mod step;

@@ -1,26 +1,32 @@
 // The whole program `mcload`, over any streams.
-ghost use Rattle.std.specs.Prelude.{◌≡◌, map};
-ghost use Rattle.mc_load.specs.Programs.{stream};
-ghost use Rattle.mc_load.specs.LoadPrograms.{Loads, WritesLines, load_of, load_status, report_text};
+ghost use Rattle.std.specs.Prelude.{◌≡◌, ◌++◌, codes, false, map, true};
+ghost use Rattle.mc_load.specs.Programs.{Tells, stream};
+ghost use Rattle.mc_load.specs.LoadPrograms.{Loads, RunsLoad, WritesLines, load_of, load_status, load_text, report_text};
+ghost use Rattle.mc_load.specs.Inside.Histograms.{AppendsSome};
 
+use crate::histogram::histogram;
 use crate::load_told::{Lines, LoadRefusal};
 use crate::step::{FAILED, REFUSED, tell_fault};
 use crate::told::tell;
 use mc_options::{LoadOptions, load_options_of};
 use mc_script::send;
-use mc_workers::{Free, Load, LoadError, OpenError, Report, load};
+use mc_workers::{Free, Load, LoadError, Meter, OpenError, Report, load};
 use std::alloc::Global;
 use std::convert::AsStr;
 use std::fmt::{InlineText, Write as _};
 use std::io::Write;
 use std::thread::Threads;
+use std::time::Clock;
+
+/// The most readers of a cache.
+const MOST_READERS: u32 = 1024;
 
 /// The most bytes of a report.
 const ROOM: usize = 128;
 
 /// Writes the lines of a report. 3 where a write failed.
 fn write_report<W: Write>(output: &mut W, report: Report) -> u8
-    ensures { WritesLines (stream (W.contents output.old) (W.contents output.new)) (report_text report) result }
+    ensures { WritesLines false (stream (W.contents output.old) (W.contents output.new)) (report_text report) result }
 {
     let mut lines = InlineText::<ROOM>::new();
     if writeln!(lines, "{}", Lines(report)).is_err() {
@@ -28,6 +34,40 @@ fn write_report<W: Write>(output: &mut W, report: Report) -> u8
     }
     let (_, all) = send(output, lines.as_str().as_bytes());
     if all { 0 } else { FAILED }
+}
+
+/// Writes what the meter shows. 3 where a write failed, or there was no room for the text.
+fn write_histogram<W: Write, C>(
+    alloc: Global,
+    output: &mut W,
+    meter: &Meter<'_, C>,
+    readers: u32,
+) -> u8
+    ensures { AppendsSome (stream (W.contents output.old) (W.contents output.new)) result }
+{
+    let Ok(text) = histogram(alloc, meter, readers) else {
+        return FAILED;
+    };
+    let (_, all) = send(output, text.as_bytes());
+    if all { 0 } else { FAILED }
+}
+
+/// Writes the lines of a report, and then what the meter shows.
+fn write_measured<W: Write, C>(
+    alloc: Global,
+    output: &mut W,
+    report: Report,
+    meter: &Meter<'_, C>,
+    readers: u32,
+) -> u8
+    ensures { WritesLines true (stream (W.contents output.old) (W.contents output.new)) (report_text report) result }
+{
+    let status = write_report(output, report);
+    if status == 0 {
+        write_histogram(alloc, output, meter, readers)
+    } else {
+        status
+    }
 }
 
 /// The exit status of a load that is refused.
@@ -53,6 +93,7 @@ fn load_for(options: LoadOptions) -> Load
         writes,
         keys,
         seed,
+        ..
     } = options;
     Load {
         shape,
@@ -64,11 +105,54 @@ fn load_for(options: LoadOptions) -> Load
     }
 }
 
+/// Tells why there is no report.
+fn refuse<E: Write>(errors: &mut E, why: LoadError) -> u8
+    ensures told { Tells (stream (E.contents errors.old) (E.contents errors.new)) (codes "refused: " ++ load_text why) }
+    ensures status { result ≡ load_status why }
+{
+    tell(errors, LoadRefusal(why));
+    status_of(why)
+}
+
+/// Runs a load and writes its report.
+fn run_plain<R: Threads + Sync, W: Write, E: Write>(
+    rt: &R,
+    alloc: Global,
+    options: LoadOptions,
+    output: &mut W,
+    errors: &mut E,
+) -> u8
+    ensures { RunsLoad options (stream (W.contents output.old) (W.contents output.new)) (stream (E.contents errors.old) (E.contents errors.new)) result }
+{
+    match load::<4, R, Free>(rt, alloc, load_for(options), &Free) {
+        Ok(report) => write_report(output, report),
+        Err(why) => refuse(errors, why),
+    }
+}
+
+/// The same with a meter for a gate, whose figures are written too.
+fn run_measured<R: Threads + Sync + Clock, W: Write, E: Write>(
+    rt: &R,
+    alloc: Global,
+    options: LoadOptions,
+    meter: &Meter<'_, R>,
+    output: &mut W,
+    errors: &mut E,
+) -> u8
+    requires { options.histogram ≡ true }
+    ensures { RunsLoad options (stream (W.contents output.old) (W.contents output.new)) (stream (E.contents errors.old) (E.contents errors.new)) result }
+{
+    match load::<4, R, Meter<'_, R>>(rt, alloc, load_for(options), meter) {
+        Ok(report) => write_measured(alloc, output, report, meter, options.readers),
+        Err(why) => refuse(errors, why),
+    }
+}
+
 /// The whole program `mcload`: the words of the command line, its own name first, and its two streams.
 ///
 /// Answers the exit status: 0 where the report is written; 2 where an option, the shape, the readers or the keys are refused; 3
-/// for want of memory or a failed write. The texts of help and version, and of a fault of the words, are `clap`'s.
-pub fn run_load<S: AsStr, R: Threads + Sync, W: Write, E: Write>(
+/// for want of memory or a failed write. Where there is no memory to measure, `--histogram` adds nothing. The texts of help and version, and of a fault of the words, are `clap`'s.
+pub fn run_load<S: AsStr, R: Threads + Sync + Clock, W: Write, E: Write>(
     rt: &R,
     alloc: Global,
     words: &[S],
@@ -81,11 +165,10 @@ pub fn run_load<S: AsStr, R: Threads + Sync, W: Write, E: Write>(
         Ok(options) => options,
         Err(error) => return tell_fault(error, output, errors),
     };
-    match load::<4, R, Free>(rt, alloc, load_for(options), &Free) {
-        Ok(report) => write_report(output, report),
-        Err(why) => {
-            tell(errors, LoadRefusal(why));
-            status_of(why)
+    if options.histogram {
+        if let Ok(meter) = Meter::new(alloc, rt, options.readers.min(MOST_READERS)) {
+            return run_measured(rt, alloc, options, &meter, output, errors);
         }
     }
+    run_plain(rt, alloc, options, output, errors)
 }

@@ -1,21 +1,27 @@
-use Rattle.std.proofs.Common.{◌∙◌, Some, inl, inr, refl, rules}
+use Rattle.std.proofs.Common.{[], ◌∙◌, Some, inl, inr, refl, rules}
 use Rattle.mc_load.specs.LoadPrograms.{report_text}
 use Rattle.mc_load.specs.Programs.{stream}
 use Rattle.mc_load.proofs.ToldLines.{told, written}
 use Rattle.mc_load.proofs.load_run.write_report.Goals as goal
 
 pub returns-then-all : goal.returns-then-all
-returns-then-all g c =
-    inl (
-      refl,
-      written (report_text c.args.report) c.new-lines.result c.writeln.new.self (stream (g.W.Write.contents c.args.output.now) (g.W.Write.contents c.send-all.new.to)) _ c.send-all.result.0
-          c.new-lines.ensures.text c.new-lines.ensures.intact (search rules) (c.as_bytes.ensures.value ∙ c.as_str.ensures.value) c.send-all.ensures.taken (c.send-all.ensures.all c.if-all.true),
-    )
+returns-then-all g c = (
+  [],
+  (λ same. refl),
+  inl (
+    refl,
+    written (report_text c.args.report) c.new-lines.result c.writeln.new.self (stream (g.W.Write.contents c.args.output.now) (g.W.Write.contents c.send-all.new.to)) _ c.send-all.result.0
+        c.new-lines.ensures.text c.new-lines.ensures.intact (search rules) (c.as_bytes.ensures.value ∙ c.as_str.ensures.value) c.send-all.ensures.taken (c.send-all.ensures.all c.if-all.true),
+  ),
+)
 
 pub returns-else-all : goal.returns-else-all
-returns-else-all g c =
-    inr (
-      refl,
-      told (Some (report_text c.args.report)) c.new-lines.result c.writeln.new.self (stream (g.W.Write.contents c.args.output.now) (g.W.Write.contents c.send-all.new.to)) _ c.send-all.result.0
-          c.new-lines.ensures.text c.new-lines.ensures.intact (search rules) (c.as_bytes.ensures.value ∙ c.as_str.ensures.value) c.send-all.ensures.taken,
-    )
+returns-else-all g c = (
+  [],
+  (λ same. refl),
+  inr (
+    refl,
+    told (Some (report_text c.args.report)) c.new-lines.result c.writeln.new.self (stream (g.W.Write.contents c.args.output.now) (g.W.Write.contents c.send-all.new.to)) _ c.send-all.result.0
+        c.new-lines.ensures.text c.new-lines.ensures.intact (search rules) (c.as_bytes.ensures.value ∙ c.as_str.ensures.value) c.send-all.ensures.taken,
+  ),
+)

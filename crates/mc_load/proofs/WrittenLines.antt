@@ -1,0 +1,36 @@
+-- A report's lines, and what is written behind them.
+use Rattle.std.proofs.Common.{◌≡◌, ℕ, ◌++◌, ◌∷◌, ◌∙◌, Bool, true, false, List, [], Option, Some, None, ap, append_assoc, inl, inr, length, refl, subst, sym}
+use Rattle.std.proofs.Math.Seq.{take-length}
+use Rattle.std.specs.Io.KnownBytes.{Appends}
+use Rattle.mc_load.specs.Inside.Histograms.{AppendsSome}
+use Rattle.mc_load.specs.LoadPrograms.{WritesLines}
+use Rattle.mc_load.specs.Programs.{Stream, stream}
+
+appends_both : (a b c : Option (List ℕ)) (xs ys : List ℕ) → Appends a b xs → Appends b c ys → Appends a c (xs ++ ys)
+appends_both None b c xs ys p q = tt
+appends_both (Some u) None c xs ys p q = absurd p
+appends_both (Some u) (Some v) None xs ys p q = absurd q
+appends_both (Some u) (Some v) (Some w) xs ys p q = q ∙ (ap (λ (z : List ℕ). z ++ ys) p ∙ append_assoc u xs ys)
+
+-- lines that were written, and bytes behind them
+pub lines_more : (a b c : Option (List ℕ)) (text : List ℕ) (status end : ℕ) → WritesLines false (stream a b) text status → status ≡ 0 → AppendsSome (stream b c) end → WritesLines true (stream a c) text end
+lines_more a b c text status end lines zero some =
+    let more = some.0.0 in
+    let empty = lines.1 refl in
+    elim lines.2 [
+      | inl all ↦
+          let first : Appends a b (text ++ 10 ∷ []) = subst (λ (z : List ℕ). Appends a b (text ++ 10 ∷ z)) empty all.1 in
+          let both : Appends a c (text ++ 10 ∷ more) = subst (Appends a c) (append_assoc text (10 ∷ []) more) (appends_both a b c (text ++ 10 ∷ []) more first some.0.1) in (
+            more,
+            (λ e. absurd (cc)),
+            (elim some.1 [
+              | inl z ↦ inl (z, both)
+              | inr t ↦ inr (t, (length (text ++ 10 ∷ more), subst (Appends a c) (sym (take-length (text ++ 10 ∷ more))) both))
+            ]),
+          )
+      | inr part ↦ absurd (cc (part.0, zero))
+    ]
+
+-- lines of which not all were written
+pub lines_only : (s : Stream) (text : List ℕ) (status : ℕ) → WritesLines false s text status → (asked : Bool) → WritesLines asked s text status
+lines_only s text status lines asked = (lines.0, (λ e. lines.1 refl), lines.2)
