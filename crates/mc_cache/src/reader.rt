@@ -64,9 +64,8 @@ impl<const V: usize> Reader<V> {
         ensures writer { writer.new ≡ writer.old }
         ensures looked { HasLookedBeside V cache.now.layout.shape key writer.old.acts self.old self.new result }
     {
-        catch(&cache.cells, &mut self.seat, &mut writer.seat);
+        let at = self.catch_up(cache, writer);
         let found = look(&cache.cells, &mut writer.seat, &writer.books, key);
-        let at = writer.seat.moment();
         let reply = match found {
             Some(hit) => {
                 let value = hit.1;
@@ -75,7 +74,7 @@ impl<const V: usize> Reader<V> {
             }
             None => Reply::Absent { at },
         };
-        catch(&cache.cells, &mut self.seat, &mut writer.seat);
+        self.catch_up(cache, writer);
         reply
     }
 }
