@@ -10,7 +10,7 @@ use Rattle.mc_words.specs.declared.shape.Shape.{Shape}
 use Rattle.mc_theory.specs.Acts.{MayFrom, IsAllowed}
 use Rattle.mc_theory.specs.Effects.{phase_after, version_steps_after, after_act}
 use Rattle.mc_theory.specs.Inner.{StateHolds, StateCounted}
-use Rattle.mc_theory.specs.Phases.{Phase, Quiet, Filling, Keyed, Placed, Renewing, Removing, Removed, Moving, Moved, Closing, close_owed}
+use Rattle.mc_theory.specs.Phases.{Phase, Quiet, close_owed}
 use Rattle.mc_core.specs.Seen.{Both, IsOpenLookup}
 use Rattle.mc_core.specs.Inside.Seen.{ReadsIn}
 use Rattle.mc_core.specs.Inside.Parts.{shape_of_parts, StandFor}
@@ -19,7 +19,6 @@ use Rattle.mc_theory.specs.Traces as traces
 use Rattle.mc_core.specs.Inside.Writers.{state_in, words_of_writer, phase_at, IsMade}
 use Rattle.mc_theory.specs.declared.act.Act.{Act}
 use Rattle.mc_theory.specs.declared.act.Act.TheVariants.{Open, Slot, Item, Moment, Close, Hand, Mark}
-use Rattle.mc_theory.specs.declared.act.Deed.TheVariants as deed
 use Rattle.mc_core.specs.declared.parts.Parts.{Parts}
 use Rattle.mc_core.specs.declared.reader.Reader.{Reader}
 use Rattle.mc_theory.proofs.Lists.Bounds.{state_counted, state_hand}

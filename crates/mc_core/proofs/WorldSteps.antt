@@ -1,5 +1,5 @@
 -- From the parts of a world to the world: it stands as some events leave it.
-use Rattle.std.proofs.Common.{ℕ, ◌≡◌, ◌+◌, List, [], ◌∷◌, ◌++◌, refl, sym, ◌∙◌, ap, subst, inl, inr, arith}
+use Rattle.std.proofs.Common.{ℕ, Bool, true, false, ◌≡◌, ◌+◌, List, [], ◌∷◌, ◌++◌, refl, sym, ◌∙◌, ap, subst, inl, inr, arith}
 use Rattle.std.specs.Prelude.{All, Result, Ok, Err, IfOk, IfErr, OnOk}
 use Rattle.mc_theory.specs.Acts.{IsAllowed}
 use Rattle.mc_theory.specs.Lists.{state_of}
@@ -122,3 +122,13 @@ pub refused_shown : {V : ℕ} (old new : Parts V) (e : Event) (r : Result (Stepp
     IfErr r (λ why. (seen : Trace V) → Shows {V = V} (view_of {V = V} old) seen → RefusesEvent {V = V} (shape_of_parts {V = V} old) seen e why)
 refused_shown {V} old new e (Err why) reached stays = λ seen shows. (stays seen (stand_for {V = V} old seen reached shows)).0
 refused_shown old new e (Ok out) reached stays = stays
+
+-- ---- why an event is refused
+-- whether memory was wanting
+abbrev pub is_wanting : Unlawful → Bool
+is_wanting unlawful.NoMemory = true
+is_wanting why = false
+
+-- it wasn't where the event was refused for another reason
+pub not_wanting : {A : Type 0} (why : Unlawful) → is_wanting why ≡ false → why ≡ unlawful.NoMemory → A
+not_wanting why other is = absurd (cc (other, ap is_wanting is))

@@ -1,5 +1,5 @@
 -- The recency bits as they lie in words.
-use Rattle.std.specs.Prelude.{ℕ, ◌≡◌, ◌≢◌, ◌+◌, ◌*◌, ◌^◌, ◌<◌, ◌≤◌, List, slice_index, min}
+use Rattle.std.specs.Prelude.{ℕ, ◌≡◌, ◌≢◌, ◌^◌, ◌<◌, List, slice_index}
 use Rattle.std.specs.Int.{bit_at}
 use Rattle.mc_words.specs.Places.{recency_place}
 use Rattle.mc_words.specs.Recency.{recency_bit}

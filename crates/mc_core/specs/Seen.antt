@@ -12,7 +12,6 @@ use Rattle.mc_theory.specs.States.{State}
 use Rattle.mc_theory.specs.Traces as traces
 use Rattle.mc_theory.specs.Traces.{HasVersionSteps, bit_of}
 use Rattle.mc_theory.specs.declared.act.Act.{Act}
-use Rattle.mc_theory.specs.declared.act.Act.TheVariants as act
 use Rattle.mc_theory.specs.declared.event.Event.{Event}
 use Rattle.mc_theory.specs.declared.event.Event.TheVariants as event
 use Rattle.mc_core.specs.declared.reader.Reader.{Reader}

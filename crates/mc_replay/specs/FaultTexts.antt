@@ -1,8 +1,10 @@
 -- What is told of a fault, without the line's end.
-use Rattle.std.specs.Prelude.{ℕ, List, ◌==◌, ◌++◌, codes, if◌then◌else◌}
+use Rattle.std.specs.Prelude.{ℕ, Option, Some, None, List, ◌==◌, ◌++◌, codes, if◌then◌else◌}
 use Rattle.std.specs.Fmt.{decimal}
 use Rattle.mc_replay.specs.declared.fault.Fault.{Fault}
 use Rattle.mc_replay.specs.declared.fault.Fault.TheVariants as fault
+use Rattle.mc_replay.specs.Faults.{fault_at}
+use Rattle.mc_replay.specs.declared.fault.ReplayError.{ReplayError}
 use Rattle.mc_replay.specs.declared.fault.Stop.{Stop}
 
 abbrev pub fault_text : Fault → List ℕ
@@ -24,3 +26,11 @@ refusal_text f = fault_text f
 -- where and why a script stopped; at line 0 no line was read
 abbrev pub stop_text : Stop → List ℕ
 stop_text stop = if stop.line == 0 then codes "refused: " ++ refusal_text stop.fault else codes "line " ++ decimal stop.line ++ codes ": " ++ fault_text stop.fault
+
+-- the same, by the number of the fault
+abbrev pub stopped_text : ℕ → Option Fault → List ℕ
+stopped_text line (Some f) = stop_text (record { line = line; fault = f })
+stopped_text line None = codes "line " ++ decimal line
+
+abbrev pub error_text : ReplayError → List ℕ
+error_text error = stopped_text error.line (fault_at error.number)

@@ -1,5 +1,5 @@
 -- The numbers of the faults at which a script stops, and the exit status of each.
-use Rattle.std.specs.Prelude.{ℕ, Result, Ok, Err}
+use Rattle.std.specs.Prelude.{ℕ, ◌==◌, if◌then◌else◌, Option, Some, None, Result, Ok, Err}
 use Rattle.mc_script.specs.declared.command.LineFault.{LineFault}
 use Rattle.mc_script.specs.declared.command.LineFault.TheVariants as said
 use Rattle.mc_replay.specs.declared.fault.Fault.{Fault}
@@ -17,6 +17,10 @@ fault_number NoSuchReader = 6
 fault_number StillRunning = 7
 fault_number NothingToStep = 8
 fault_number WriteFailed = 9
+
+-- the fault of this number, if there is one
+abbrev pub fault_at : ℕ → Option Fault
+fault_at n = if n == 1 then Some ReadFailed else (if n == 2 then Some NoMemory else (if n == 3 then Some TooLong else (if n == 4 then Some NotACommand else (if n == 5 then Some BadNumber else (if n == 6 then Some NoSuchReader else (if n == 7 then Some StillRunning else (if n == 8 then Some NothingToStep else (if n == 9 then Some WriteFailed else (None)))))))))
 
 -- 2 where the script is at fault, 3 where the machine is
 abbrev pub status_of : Fault → ℕ

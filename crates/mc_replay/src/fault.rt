@@ -1,8 +1,9 @@
 ghost use Rattle.std.specs.Prelude.{◌≡◌, Some};
-ghost use Rattle.mc_replay.specs.Faults.{fault_number, status_of, fault_of};
-ghost use Rattle.mc_replay.specs.FaultTexts.{fault_text, refusal_text, stop_text};
+ghost use Rattle.mc_replay.specs.Faults.{fault_at, fault_number, status_of, fault_of};
+ghost use Rattle.mc_replay.specs.FaultTexts.{error_text, fault_text, refusal_text, stop_text};
 
 use mc_script::LineFault;
+use std::error::Error;
 use std::fmt;
 
 /// Why a script stops at a line.
@@ -126,3 +127,40 @@ impl fmt::Display for Stop {
         }
     }
 }
+
+impl ReplayError {
+    /// The fault, if there is one of this number.
+    fn fault(self) -> Option<Fault>
+        ensures { result ≡ fault_at self.number }
+    {
+        match self.number {
+            1 => Some(Fault::ReadFailed),
+            2 => Some(Fault::NoMemory),
+            3 => Some(Fault::TooLong),
+            4 => Some(Fault::NotACommand),
+            5 => Some(Fault::BadNumber),
+            6 => Some(Fault::NoSuchReader),
+            7 => Some(Fault::StillRunning),
+            8 => Some(Fault::NothingToStep),
+            9 => Some(Fault::WriteFailed),
+            _ => None,
+        }
+    }
+}
+
+impl fmt::Display for ReplayError {
+    ghost output = { λ error. Some (error_text error) };
+
+    fn fmt<W: fmt::Write>(&self, f: &mut fmt::Formatter<W>) -> fmt::Result {
+        let line = self.line;
+        match self.fault() {
+            Some(fault) => {
+                let stop = Stop { line, fault };
+                write!(f, "{stop}")
+            }
+            None => write!(f, "line {line}"),
+        }
+    }
+}
+
+impl Error for ReplayError {}

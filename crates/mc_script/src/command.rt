@@ -8,6 +8,7 @@ use crate::number::{entry, numbers};
 use crate::step::{begin, read, write};
 use crate::words::{first_word, is_word};
 use std::str;
+use thiserror::Error;
 
 /// A command of a script whose values have `V` words.
 #[derive(Clone, Copy, Debug, PartialEq, Eq)]
@@ -28,9 +29,11 @@ pub enum Command<const V: usize> {
 }
 
 /// Why a line is no command.
-#[derive(Clone, Copy, Debug, PartialEq, Eq)]
+#[derive(Clone, Copy, Debug, PartialEq, Eq, Error)]
 pub enum LineFault {
+    #[error("not a command")]
     NotACommand,
+    #[error("bad number")]
     BadNumber,
 }
 

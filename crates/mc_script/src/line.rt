@@ -6,6 +6,7 @@ ghost use Rattle.mc_script.specs.Inside.Lines.{GivesByte};
 
 use arrayvec::ArrayVec;
 use std::io::{ErrorKind, Read};
+use thiserror::Error;
 
 /// The most bytes of a line, before its end.
 pub const LONGEST: usize = 4096;
@@ -17,9 +18,11 @@ const ROOM: usize = 4098;
 pub type Line = ArrayVec<u8, 4098>;
 
 /// Why a line could not be read.
-#[derive(Clone, Copy, Debug, PartialEq, Eq)]
+#[derive(Clone, Copy, Debug, PartialEq, Eq, Error)]
 pub enum ReadFault {
+    #[error("read failed")]
     ReadFailed,
+    #[error("too long")]
     TooLong,
 }
 

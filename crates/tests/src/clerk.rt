@@ -203,6 +203,21 @@ fn checked_with(items: u32) -> Result<Checked, ShapeError> {
     shape.check()
 }
 
+/// Puts a key; nothing where an act was not made, or the answer is another one.
+fn put_tells(
+    clerk: &mut Clerk<1>,
+    driver: &mut Driver,
+    key: u64,
+    value: u64,
+    wanted: Answer,
+) -> Option<()>
+    requires { IsBeside clerk.old (shape_of driver.old.checked) driver.old.words.items }
+    ensures beside { IfSome result (λ u. IsBeside clerk.new (shape_of driver.new.checked) driver.new.words.items) }
+{
+    let answer = put(clerk, driver, key, value)?;
+    if answer == wanted { Some(()) } else { None }
+}
+
 /// The clerk of a new table, and its words.
 fn start(alloc: Global, checked: &Checked) -> Result<(Clerk<1>, Driver), NoMemory>
     ensures beside { IfOk result (λ r. IsBeside r.0 (shape_of r.1.checked) r.1.words.items) }
@@ -261,8 +276,7 @@ fn a_key_moves_to_make_room(rt: HostRuntime) -> Result<(), Fail> {
     let checked = checked_with(16)?;
     let (mut clerk, mut driver) = start(rt.alloc(), &checked)?;
     assert!(rt; store_all(&mut clerk, &mut driver, &FULL));
-    let answer = put(&mut clerk, &mut driver, 28, 5).ok_or("an act was not made")?;
-    assert_eq!(rt; answer, stored(9, 1));
+    put_tells(&mut clerk, &mut driver, 28, 5, stored(9, 1)).ok_or("the put of 28")?;
     assert_eq!(rt; look_up(&clerk, &driver, 28), (Some((8, [5])), 9));
     assert_eq!(rt;
         look_up(&clerk, &driver, FULL[0]),
@@ -281,10 +295,15 @@ fn an_item_is_given_back_and_taken_again(rt: HostRuntime) -> Result<(), Fail> {
     assert_eq!(rt; removed, Answer::Remove(Ok(Remove::Removed { at: 3 })));
     let absent = remove(&mut clerk, &mut driver, 0).ok_or("an act was not made")?;
     assert_eq!(rt; absent, Answer::Remove(Ok(Remove::NotThere { at: 3 })));
-    let answer = put(&mut clerk, &mut driver, 2, 5).ok_or("an act was not made")?;
-    assert_eq!(rt; answer, stored(4, 0));
-    let renewed = put(&mut clerk, &mut driver, 2, 9).ok_or("an act was not made")?;
-    assert_eq!(rt; renewed, Answer::Put(Ok(Put::Renewed { at: 5 })));
+    put_tells(&mut clerk, &mut driver, 2, 5, stored(4, 0)).ok_or("the put of 2")?;
+    put_tells(
+        &mut clerk,
+        &mut driver,
+        2,
+        9,
+        Answer::Put(Ok(Put::Renewed { at: 5 })),
+    )
+    .ok_or("the second put of 2")?;
     assert_eq!(rt; look_up(&clerk, &driver, 2), (Some((0, [9])), 5));
     Ok(())
 }
@@ -295,16 +314,20 @@ fn the_first_item_without_a_mark_is_taken(rt: HostRuntime) -> Result<(), Fail> {
     let (mut clerk, mut driver) = start(rt.alloc(), &checked)?;
     assert!(rt; store_all(&mut clerk, &mut driver, &[0, 1, 2]));
     driver.marked = true;
-    let refused = put(&mut clerk, &mut driver, 3, 3).ok_or("an act was not made")?;
-    assert_eq!(rt; refused, Answer::Put(Err(PutError::AllRecent)));
+    put_tells(
+        &mut clerk,
+        &mut driver,
+        3,
+        3,
+        Answer::Put(Err(PutError::AllRecent)),
+    )
+    .ok_or("the put of 3 while each bit is set")?;
     assert_eq!(rt; look_up(&clerk, &driver, 3), (None, 3));
     driver.marked = false;
-    let first = put(&mut clerk, &mut driver, 3, 3).ok_or("an act was not made")?;
-    assert_eq!(rt; first, replaced(5, 0, 0));
+    put_tells(&mut clerk, &mut driver, 3, 3, replaced(5, 0, 0)).ok_or("the put of 3")?;
     assert_eq!(rt; look_up(&clerk, &driver, 0), (None, 5));
     let _ = driver.swap(1, 1);
-    let second = put(&mut clerk, &mut driver, 4, 4).ok_or("an act was not made")?;
-    assert_eq!(rt; second, replaced(7, 0, 2));
+    put_tells(&mut clerk, &mut driver, 4, 4, replaced(7, 0, 2)).ok_or("the put of 4")?;
     assert_eq!(rt; look_up(&clerk, &driver, 4), (Some((2, [4])), 7));
     Ok(())
 }

@@ -1,5 +1,5 @@
 //! Shapes and keys, beside values that come from elsewhere.
-use mc_words::{Mix, Shape, ShapeError};
+use mc_words::{Checked, Mix, Shape, ShapeError};
 use std::alloc::AllocError;
 
 /// A shape of so many buckets and items, with one stripe and no displacements.
@@ -15,29 +15,39 @@ fn shape(buckets: u32, items: u32, mix: Mix) -> Shape {
     }
 }
 
+/// The tag of a key and its two buckets.
+fn parts(checked: &Checked, key: u64) -> (u8, u32, u32) {
+    let tag = checked.tag(key);
+    let first = checked.first(key);
+    (tag, first, checked.alt(first, tag))
+}
+
 #[test]
 fn a_key_has_these_parts(rt: HostRuntime) -> Result<(), ShapeError> {
     // Mixed, key 1 is 0xb456_bcfc_34c2_cb2c.
     let large = shape(1 << 20, 16, Mix::Fmix).check()?;
     assert_eq!(rt; (large.tag(0), large.first(0)), (0, 0));
     assert_eq!(rt; (large.tag(1), large.first(1)), (0xb4, 0x2_cb2c));
-    for (key, mix, tag, first, second) in [
-        (1, Mix::Fmix, 180, 0, 1),
-        (0, Mix::Plain, 0, 0, 1),
-        (72_057_594_037_927_936, Mix::Plain, 1, 0, 3),
-        (18_446_744_073_709_551_615, Mix::Plain, 255, 3, 0),
-        (4_294_967_296, Mix::Plain, 0, 0, 1),
+    let mixed = shape(4, 16, Mix::Fmix).check()?;
+    assert_eq!(rt; parts(&mixed, 1), (180, 0, 1));
+    let plain = shape(4, 16, Mix::Plain).check()?;
+    for (key, wanted) in [
+        (0, (0, 0, 1)),
+        (1 << 56, (1, 0, 3)),
+        (u64::MAX, (255, 3, 0)),
+        (1 << 32, (0, 0, 1)),
     ] {
-        let checked = shape(4, 16, mix).check()?;
-        assert_eq!(rt; checked.tag(key), tag, "the tag of {key}");
-        assert_eq!(rt; checked.first(key), first, "the first bucket of {key}");
-        let alt = checked.alt(checked.first(key), checked.tag(key));
-        assert_eq!(rt; alt, second, "the second bucket of {key}");
-        assert_eq!(rt; checked.stripe(key), 0, "the stripe of {key}");
+        assert_eq!(rt; parts(&plain, key), wanted, "{key}");
+        assert_eq!(rt; plain.stripe(key), 0, "{key}");
     }
-    for (key, mix, stripes, stripe) in [
+    Ok(())
+}
+
+#[test]
+fn a_key_has_this_stripe(rt: HostRuntime) -> Result<(), ShapeError> {
+    for (key, mix, stripes, wanted) in [
         (1, Mix::Fmix, 8192, 7420),
-        (4_294_967_296, Mix::Plain, 2, 1),
+        (1 << 32, Mix::Plain, 2, 1),
         (u64::MAX, Mix::Plain, 1 << 16, (1 << 16) - 1),
     ] {
         let checked = Shape {
@@ -45,11 +55,7 @@ fn a_key_has_these_parts(rt: HostRuntime) -> Result<(), ShapeError> {
             ..shape(4, 16, mix)
         }
         .check()?;
-        assert_eq!(rt;
-            checked.stripe(key),
-            stripe,
-            "the stripe of {key} of {stripes}"
-        );
+        assert_eq!(rt; checked.stripe(key), wanted, "{key} of {stripes}");
     }
     Ok(())
 }

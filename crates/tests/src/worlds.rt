@@ -3,6 +3,7 @@ use mc_core::{
     Act, Change, Deed, Done, Event, Reply, Run, Stepped, Unlawful, World, WorldError, run, run_new,
 };
 use mc_words::{Checked, Mix, Place, Shape, ShapeError};
+use std::alloc::{AllocError, Global};
 use std::test::Fail;
 
 fn checked_of(buckets: u32, items: u32, limit: u64) -> Result<Checked, ShapeError> {
@@ -74,62 +75,89 @@ fn a_list_of_events_is_run_up_to_the_first_refused(rt: HostRuntime) -> Result<()
     Ok(())
 }
 
-/// The acts of a fill of key 0 and of its removal.
-const CHANGES: [Act; 10] = [
-    Act::Open(0, Deed::Fill),
-    Act::Item(0, 0, 0),
-    Act::Item(0, 1, 7),
-    Act::Slot(FIRST, 1),
-    Act::Moment,
-    Act::Close,
-    Act::Open(0, Deed::Remove),
-    Act::Slot(FIRST, 0),
-    Act::Moment,
-    Act::Close,
-];
+/// The acts of a fill of key 0 with 7 and of its removal.
+fn changes() -> [Act; 10] {
+    [
+        Act::Open(0, Deed::Fill),
+        Act::Item(0, 0, 0),
+        Act::Item(0, 1, 7),
+        Act::Slot(FIRST, 1),
+        Act::Moment,
+        Act::Close,
+        Act::Open(0, Deed::Remove),
+        Act::Slot(FIRST, 0),
+        Act::Moment,
+        Act::Close,
+    ]
+}
+
+/// The acts of 1,000 fills and removals.
+fn many_changes(alloc: Global) -> Result<Vec<Event>, AllocError> {
+    let changes = changes();
+    let mut events = Vec::new(alloc);
+    for _ in 0..1000 {
+        for act in &changes {
+            events.push(Event::Write(*act))?;
+        }
+    }
+    Ok(events)
+}
+
+/// So many events of lookups of key 0, each of a begin and 11 accesses.
+fn many_lookups(alloc: Global, many: u32) -> Result<Vec<Event>, AllocError> {
+    let mut events = Vec::new(alloc);
+    for n in 0..many {
+        events.push(if n % 12 == 0 {
+            Event::Begin(0, 0)
+        } else {
+            Event::Read(0)
+        })?;
+    }
+    Ok(events)
+}
+
+/// Whether each of these lookups found no key, and told it of this moment.
+fn are_absent(ended: &[Done<1>], at: u64) -> bool {
+    for done in ended {
+        if done.reply != (Reply::Absent { at }) {
+            return false;
+        }
+    }
+    true
+}
 
 #[test]
 fn a_long_list_of_events_is_run(rt: HostRuntime) -> Result<(), Fail> {
     let alloc = rt.alloc();
     let checked = checked_with(LIMIT)?;
     let mut world: World<1> = World::new(alloc, &checked, 1)?;
-    let mut events = Vec::new(alloc);
-    for _ in 0..1000 {
-        for act in CHANGES {
-            events.push(Event::Write(act))?;
-        }
-    }
-    let made = run(alloc, &mut world, events.as_slice())?;
+    let made = run(alloc, &mut world, many_changes(alloc)?.as_slice())?;
     assert_eq!(rt; made.stopped, None);
     assert_eq!(rt; made.done.len(), 0);
     assert_eq!(rt; world.history().len(), 2000);
-    for n in 0..events.len() {
-        events[n] = if n % 12 == 0 {
-            Event::Begin(0, 0)
-        } else {
-            Event::Read(0)
-        };
-    }
-    let made = run(alloc, &mut world, events.as_slice())?;
+    let made = run(alloc, &mut world, many_lookups(alloc, 10_000)?.as_slice())?;
     assert_eq!(rt; made.stopped, None);
     assert_eq!(rt; made.done.len(), 833);
-    for done in made.done.as_slice() {
-        assert_eq!(rt; done.reply, Reply::Absent { at: 2000 });
-    }
+    assert!(rt; are_absent(made.done.as_slice(), 2000));
     Ok(())
+}
+
+/// Whether the world makes each of these acts, and they read no bit.
+fn makes_all(world: &mut World<1>, acts: &[Act]) -> bool {
+    for act in acts {
+        if world.step(Event::Write(*act)) != Ok(Stepped::Nothing) {
+            return false;
+        }
+    }
+    true
 }
 
 #[test]
 fn a_fill_and_a_lookup(rt: HostRuntime) -> Result<(), Fail> {
     let checked = checked_with(LIMIT)?;
     let mut world: World<1> = World::new(rt.alloc(), &checked, 1)?;
-    for act in &CHANGES[..6] {
-        assert_eq!(rt; world.step(Event::Write(*act)), Ok(Stepped::Nothing));
-    }
-    assert_eq!(rt;
-        world.step(Event::Write(Act::Mark(0))),
-        Ok(Stepped::Nothing)
-    );
+    assert!(rt; makes_all(&mut world, &changes()[..6]));
+    assert!(rt; makes_all(&mut world, &[Act::Mark(0)]));
     assert_eq!(rt; word_at(&world, 0), Some(1));
     assert_eq!(rt; word_at(&world, 1), Some(2));
     assert_eq!(rt; word_at(&world, 50), Some(1));
@@ -188,7 +216,7 @@ fn the_hand_clears_one_bit_of_its_word(rt: HostRuntime) -> Result<(), Fail> {
             bucket: item,
             slot: 0,
         };
-        for act in [
+        let acts = [
             Act::Open(key, Deed::Fill),
             Act::Item(item, 0, key),
             Act::Item(item, 1, value),
@@ -196,9 +224,8 @@ fn the_hand_clears_one_bit_of_its_word(rt: HostRuntime) -> Result<(), Fail> {
             Act::Moment,
             Act::Close,
             Act::Mark(item),
-        ] {
-            assert_eq!(rt; world.step(Event::Write(act)), Ok(Stepped::Nothing));
-        }
+        ];
+        assert!(rt; makes_all(&mut world, &acts));
     }
     assert_eq!(rt; word_at(&world, 22), Some(3));
     let read = world.step(Event::Write(Act::Hand(0)));

@@ -1,10 +1,6 @@
 -- What only private contracts say beside `Packed`.
-use Rattle.std.specs.Prelude.{ℕ, ◌≡◌, ◌≢◌, ◌+◌, ◌*◌, ◌^◌, ◌<◌, ◌≤◌, List, slice_index, min}
+use Rattle.std.specs.Prelude.{ℕ, ◌≡◌, ◌+◌, ◌*◌, ◌^◌, ◌<◌, ◌≤◌, List, slice_index, min}
 use Rattle.std.specs.Int.{bit_at}
-use Rattle.mc_words.specs.Places.{recency_place}
-use Rattle.mc_words.specs.Recency.{recency_bit}
-use Rattle.mc_words.specs.declared.shape.Shape.{Shape}
-use Rattle.mc_core.specs.Packed.{HasBits}
 
 -- the word has 64 of the bits, the first of them at 64 times its number
 pub record IsPacked (bits : List ℕ) (m word : ℕ) : Type 0 where

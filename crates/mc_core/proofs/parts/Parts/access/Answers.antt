@@ -1,4 +1,4 @@
-use Rattle.std.proofs.Common.{ℕ, ◌+◌, refl, sym, ◌∙◌, ap, subst, rules, Some}
+use Rattle.std.proofs.Common.{ℕ, refl, sym, ◌∙◌, ap, subst, rules, arith, Some}
 use Rattle.std.specs.Prelude.{unwrap_or}
 use Rattle.mc_lookup.specs.Machine.{next_access, Consumes}
 use Rattle.mc_words.specs.declared.shape.Shape.{Shape}
@@ -53,3 +53,15 @@ mark_read-requires g c =
     let run = running_of old c.requires.stands.0 c.args.reader c.args.running c.requires.stands.1 c.requires.running in
     let range = subst (λ (sh : Shape). IsAccess g.row.V sh c.next_access-access.result) run.2.shape c.next_access-access.ensures.range in
     subst (λ (n : ℕ). MarksIn n c.next_access-access.result) (sym old.marked) (marks_in g.row.V (shape_of_parts old) c.next_access-access.result range)
+
+pub reply-requires : goal.reply-requires
+reply-requires g c = (omega (arith, c.args.self.now.writer.table.most_words), omega (arith, c.args.self.now.writer.table.most_words))
+
+pub key-key-requires : goal.key-key-requires
+key-key-requires g c = omega (arith, c.args.self.now.writer.table.most_words)
+
+pub returns-in-Some-clause-writer : goal.returns-in-Some-clause-writer
+returns-in-Some-clause-writer g c = refl
+
+pub returns-in-None-clause-writer : goal.returns-in-None-clause-writer
+returns-in-None-clause-writer g c = refl

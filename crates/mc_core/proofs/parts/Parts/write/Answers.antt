@@ -1,13 +1,11 @@
-use Rattle.std.proofs.Common.{ℕ, rules, arith, sym, subst, refl, ap, ◌+◌, ◌∙◌}
-use Rattle.mc_words.specs.Checks.{shape_of}
-use Rattle.mc_words.specs.declared.checked.Checked.{Checked}
+use Rattle.std.proofs.Common.{ℕ, rules, arith, sym, subst, refl, ap, ◌∙◌}
 use Rattle.mc_core.specs.Inside.Seen.{ReadsIn}
 use Rattle.mc_theory.specs.Acts.{IsAllowed}
 use Rattle.mc_theory.specs.States.{State}
 use Rattle.mc_theory.specs.Traces.{HasVersionSteps, bit_of, given_of}
-use Rattle.mc_core.specs.declared.writer.Writer.{Writer}
 use Rattle.mc_core.specs.Inside.Writers.{shape_of_writer, words_of_writer, phase_at, IsMade}
 use Rattle.mc_core.proofs.ShownWorld.{holds_of, counted_of, hand_of, reads_in, ok_of, stand_after}
+use Rattle.mc_core.proofs.WorldSteps.{not_wanting}
 use Rattle.mc_core.proofs.parts.Parts.write.Goals as goal
 
 pub allows-requires : goal.allows-requires
@@ -71,3 +69,60 @@ returns-then-not-is_within-clause-err g c = λ seen s.
       ),
       s,
     )
+
+pub returns-then-not-allows-clause-ok : goal.returns-then-not-allows-clause-ok
+returns-then-not-allows-clause-ok g c = tt
+
+pub returns-then-not-allows-clause-kept : goal.returns-then-not-allows-clause-kept
+returns-then-not-allows-clause-kept g c = refl
+
+pub returns-then-not-allows-clause-shape : goal.returns-then-not-allows-clause-shape
+returns-then-not-allows-clause-shape g c = refl
+
+pub returns-then-not-allows-clause-state : goal.returns-then-not-allows-clause-state
+returns-then-not-allows-clause-state g c = tt
+
+pub returns-then-not-allows-clause-room : goal.returns-then-not-allows-clause-room
+returns-then-not-allows-clause-room g c = tt
+
+pub returns-then-not-allows-clause-full : goal.returns-then-not-allows-clause-full
+returns-then-not-allows-clause-full g c = λ e. not_wanting _ refl e
+
+pub returns-then-not-is_within-clause-ok : goal.returns-then-not-is_within-clause-ok
+returns-then-not-is_within-clause-ok g c = tt
+
+pub returns-then-not-is_within-clause-kept : goal.returns-then-not-is_within-clause-kept
+returns-then-not-is_within-clause-kept g c = refl
+
+pub returns-then-not-is_within-clause-shape : goal.returns-then-not-is_within-clause-shape
+returns-then-not-is_within-clause-shape g c = refl
+
+pub returns-then-not-is_within-clause-state : goal.returns-then-not-is_within-clause-state
+returns-then-not-is_within-clause-state g c = tt
+
+pub returns-then-not-is_within-clause-room : goal.returns-then-not-is_within-clause-room
+returns-then-not-is_within-clause-room g c = tt
+
+pub returns-then-not-is_within-clause-full : goal.returns-then-not-is_within-clause-full
+returns-then-not-is_within-clause-full g c = λ e. not_wanting _ refl e
+
+pub returns-then-is_err-clause-ok : goal.returns-then-is_err-clause-ok
+returns-then-is_err-clause-ok g c = tt
+
+pub returns-then-is_err-clause-state : goal.returns-then-is_err-clause-state
+returns-then-is_err-clause-state g c = tt
+
+pub returns-then-is_err-clause-room : goal.returns-then-is_err-clause-room
+returns-then-is_err-clause-room g c = tt
+
+pub given_by-requires : goal.given_by-requires
+given_by-requires g c = omega (arith, c.args.self.now.writer.table.most_words)
+
+pub returns-clause-err : goal.returns-clause-err
+returns-clause-err g c = tt
+
+pub returns-clause-kept : goal.returns-clause-kept
+returns-clause-kept g c = tt
+
+pub returns-clause-full : goal.returns-clause-full
+returns-clause-full g c = tt

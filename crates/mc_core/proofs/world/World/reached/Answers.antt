@@ -1,4 +1,4 @@
-use Rattle.std.proofs.Common.{ℕ, ◌≡◌, List, length, subst, sym}
+use Rattle.std.proofs.Common.{◌≡◌, length, subst}
 use Rattle.std.specs.Prelude.{All}
 use Rattle.mc_core.specs.Inside.Parts.{shape_of_parts, view_of}
 use Rattle.mc_core.specs.Seen.{WorldView, Shows}

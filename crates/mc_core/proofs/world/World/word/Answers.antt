@@ -1,5 +1,4 @@
-use Rattle.std.proofs.Common.{ℕ, ◌≡◌, ◌-◌, ◌^◌, ◌<◌, ◌≤◌, List, length, subst, ap, sym, ◌∙◌, arith}
-use Rattle.std.specs.Prelude.{All}
+use Rattle.std.proofs.Common.{ℕ, ◌≡◌, ◌-◌, ◌^◌, ◌<◌, ◌≤◌, List, length, subst, ap, arith}
 use Rattle.mc_words.specs.Places.{all_words, word_count}
 use Rattle.mc_words.specs.Recency.{recency_words}
 use Rattle.mc_core.specs.Packed.{HasBits}
