@@ -38,15 +38,15 @@ IsDecided V books k v s (decision.Insert at) = IsLackingKey V books k s at
 abbrev pub IsInserted : (V : ℕ) → Books → ℕ → List ℕ → State V → Insertion → Type 0
 IsInserted V books k v s (insertion.Refuse why) =
     IsPlanned V books [] (PutCall k v) s s (answer.Put (Err why)) × IsSweepOf V (shape_of books.checked) s [] (answer.Put (Err why))
-IsInserted V books k v s (insertion.Store storing) =
-    (storing.item < (shape_of books.checked).items) × IsPlanned V books (storing_acts (shape_of books.checked) k v storing) (PutCall k v) s s (answer.Put (Ok (storing_told storing None)))
+IsInserted V books k v s insertion.Store =
+    (books.decided.item < (shape_of books.checked).items) × IsPlanned V books (storing_acts (shape_of books.checked) k v books.decided) (PutCall k v) s s (answer.Put (Ok (storing_told books.decided None)))
 IsInserted V books k v s (insertion.Wait path) = Waits V books k s path
 
 -- the sweep of a put has these readings, and the item that it found is taken from its key
 pub record IsReplaced (V : ℕ) (books : Books) (waiting : Waiting V) (call : Call) (s : State V) (rs : List Swept) (r : Replacement) : Type 0 where
-  pub in_items : r.storing.item < (shape_of books.checked).items
-  pub planned : IsPlanned V books (replacement_acts (shape_of books.checked) waiting.key waiting.value r) call s (state_after_sweep V (shape_of books.checked) s rs) (answer.Put (Ok (storing_told r.storing (Some r.evicted))))
-  pub sweeps : IsSweepOf V (shape_of books.checked) s rs (answer.Put (Ok (storing_told r.storing (Some r.evicted))))
+  pub in_items : books.decided.item < (shape_of books.checked).items
+  pub planned : IsPlanned V books (replacement_acts (shape_of books.checked) waiting.key waiting.value r books.decided) call s (state_after_sweep V (shape_of books.checked) s rs) (answer.Put (Ok (storing_told books.decided (Some r.evicted))))
+  pub sweeps : IsSweepOf V (shape_of books.checked) s rs (answer.Put (Ok (storing_told books.decided (Some r.evicted))))
 
 -- the put is decided once its sweep is over
 abbrev pub IsFinished : (V : ℕ) → Books → Waiting V → Call → State V → List Swept → Result Replacement PutError → Type 0

@@ -29,8 +29,8 @@ abbrev pub storing_acts : Shape → ℕ → List ℕ → Storing → List Act
 storing_acts sh k v storing = acts_of_moves storing.moves.items ++ (fill_acts sh k v storing.item storing.place ++ Mark storing.item ∷ [])
 
 -- and before that another key is taken out
-abbrev pub replacement_acts : Shape → ℕ → List ℕ → Replacement → List Act
-replacement_acts sh k v r = evict_acts r.evicted r.victim ++ storing_acts sh k v r.storing
+abbrev pub replacement_acts : Shape → ℕ → List ℕ → Replacement → Storing → List Act
+replacement_acts sh k v r storing = evict_acts r.evicted r.victim ++ storing_acts sh k v storing
 
 -- the key is taken out, where there is something to do
 abbrev pub removal_acts : ℕ → Removal → List Act

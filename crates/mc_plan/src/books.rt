@@ -28,6 +28,8 @@ pub struct Books {
     hand: u32,
     /// The version changes, with those of what was decided.
     version_steps: u64,
+    /// How the last key that was new is stored. It is large, so it stays here and is looked at.
+    decided: Storing,
 }
 
 impl Books {
@@ -50,7 +52,15 @@ impl Books {
             free,
             hand: 0,
             version_steps: 0,
+            decided: Storing::none(),
         })
+    }
+
+    /// How the key of the last put is stored. Condition: `insert` has just answered `Store`, or `finish` a replacement.
+    pub fn decided(&self) -> &Storing
+        ensures { result.now ≡ self.now.decided }
+    {
+        &self.decided
     }
 
     /// Whether so many version changes more could pass the limit.
@@ -70,37 +80,28 @@ impl Books {
         Sweep::start(self.checked.shape().items, self.hand)
     }
 
-    /// Gathers what the put of a new key writes, and counts its version changes.
-    fn storing<const V: usize, P: Peek>(
-        &mut self,
-        peek: &mut P,
-        path: &Path,
-        item: u32,
-        at: u64,
-    ) -> Storing
+    /// Writes down how a new key is stored, and counts its version changes.
+    fn store<const V: usize, P: Peek>(&mut self, peek: &mut P, path: &Path, item: u32, at: u64)
         requires width { IsWidth V }
         requires words { word_count V (shape_of self.old.checked) ≤ length (P.words peek.old) }
         requires filled { IsFilled (shape_of self.old.checked) (P.words peek.old) }
         requires taken { AreTaken (shape_of self.old.checked) (P.words peek.old) path.now.places.items }
         requires room { self.old.version_steps < 2 ^ 63 }
-        ensures item { result.item ≡ item }
-        ensures at { result.at ≡ at }
-        ensures place { result.place ≡ first_place path.now.places.items path.now.hole }
-        ensures moves { acts_of_moves result.moves.items ≡ moves_acts V (shape_of self.old.checked) (P.words peek.old) path.now.places.items path.now.hole }
-        ensures many { length result.moves.items ≡ length path.now.places.items }
+        ensures item { self.new.decided.item ≡ item }
+        ensures at { self.new.decided.at ≡ at }
+        ensures place { self.new.decided.place ≡ first_place path.now.places.items path.now.hole }
+        ensures moves { acts_of_moves self.new.decided.moves.items ≡ moves_acts V (shape_of self.old.checked) (P.words peek.old) path.now.places.items path.now.hole }
+        ensures many { length self.new.decided.moves.items ≡ length path.now.places.items }
         ensures keys { AreKeys V (shape_of self.old.checked) (P.words peek.old) path.now.places.items }
-        ensures books { self.new ≡ record self.old { version_steps = self.old.version_steps + (2 * length path.now.places.items + 2) } }
+        ensures books { self.new ≡ record self.old { version_steps = self.old.version_steps + (2 * length path.now.places.items + 2); decided = self.new.decided } }
         ensures same { P.words peek.new ≡ P.words peek.old }
         ensures kept { peek.new ≡ peek.old }
     {
-        let moves = path_moves::<V, P>(&self.checked, peek, path);
-        self.version_steps += 2 * moves.len() as u64 + 2;
-        Storing {
-            item,
-            place: path.first(),
-            moves,
-            at,
-        }
+        path_moves::<V, P>(&self.checked, peek, path, &mut self.decided.moves);
+        self.version_steps += 2 * self.decided.moves.len() as u64 + 2;
+        self.decided.item = item;
+        self.decided.place = path.first();
+        self.decided.at = at;
     }
 
     /// Decides a put, as far as one look for the key tells.
@@ -155,7 +156,8 @@ impl Books {
         let Some(item) = self.free.take_least() else {
             return Insertion::Wait(path);
         };
-        Insertion::Store(self.storing::<V, P>(peek, &path, item, at))
+        self.store::<V, P>(peek, &path, item, at);
+        Insertion::Store
     }
 
     /// Decides how the key at the item is replaced.
@@ -178,13 +180,9 @@ impl Books {
             unreachable!();
         };
         let path = waiting.path.cut_at(victim);
-        let storing = self.storing::<V, P>(peek, &path, item, at);
+        self.store::<V, P>(peek, &path, item, at);
         self.version_steps += 2;
-        Replacement {
-            evicted,
-            victim,
-            storing,
-        }
+        Replacement { evicted, victim }
     }
 
     /// Decides the rest of a put whose sweep is over.

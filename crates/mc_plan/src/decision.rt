@@ -31,8 +31,8 @@ pub enum Decision {
 pub enum Insertion {
     /// It changes nothing.
     Refuse(PutError),
-    /// It makes room, and fills it.
-    Store(Storing),
+    /// It makes room, and fills it: the books say how.
+    Store,
     /// A path leads to a hole, and every item is in use: the hand looks for one.
     Wait(Path),
 }
@@ -46,12 +46,12 @@ pub struct Storing {
     pub at: u64,
 }
 
-/// A put that takes the item of another key: that key is taken out of its slot before anything else.
-#[derive(Drop)]
+/// A put that takes the item of another key: that key is taken out of its slot before anything else. The books say where
+/// the put's key goes.
+#[derive(Clone, Copy, Debug, PartialEq, Eq)]
 pub struct Replacement {
     pub evicted: u64,
     pub victim: Place,
-    pub storing: Storing,
 }
 
 /// What a removal does.
@@ -66,6 +66,16 @@ pub enum Removal {
 }
 
 impl Storing {
+    /// Nothing is decided yet.
+    pub(crate) fn none() -> Storing {
+        Storing {
+            item: 0,
+            place: Place::default(),
+            moves: ArrayVec::new(),
+            at: 0,
+        }
+    }
+
     ghost use Rattle.mc_plan.specs.Decisions.{storing_told};
 
     /// The answer of the put, with the key that was taken out for it.

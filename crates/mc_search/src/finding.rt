@@ -24,6 +24,7 @@ fn named(checked: &Checked, tag: u8, word: u64) -> Option<u32>
 }
 
 /// The slot of the bucket that names an item of the key under the tag, and the item.
+#[inline(always)]
 fn find_in<const V: usize, P: Peek>(
     checked: &Checked,
     peek: &mut P,

@@ -99,14 +99,15 @@ fn make_replacement<const V: usize>(
     seat: &mut WriterSeat,
     key: u64,
     value: &[u64; V],
-    replacement: &Replacement,
+    replacement: Replacement,
+    storing: &Storing,
 )
     requires width { IsWidth V }
     requires of { seat.old.of ≡ cells.now }
-    requires item { replacement.now.storing.item < cells.now.layout.shape.items }
-    requires due { (all : List Made) × AreDue V cells.now.layout.shape all seat.old.acts (replacement_acts cells.now.layout.shape key value.now replacement.now) }
+    requires item { storing.now.item < cells.now.layout.shape.items }
+    requires due { (all : List Made) × AreDue V cells.now.layout.shape all seat.old.acts (replacement_acts cells.now.layout.shape key value.now replacement storing.now) }
     ensures of { seat.new.of ≡ seat.old.of }
-    ensures due { (all : List Made) → AreDue V cells.now.layout.shape all seat.old.acts (replacement_acts cells.now.layout.shape key value.now replacement.now) → AreDue V cells.now.layout.shape all seat.new.acts [] }
+    ensures due { (all : List Made) → AreDue V cells.now.layout.shape all seat.old.acts (replacement_acts cells.now.layout.shape key value.now replacement storing.now) → AreDue V cells.now.layout.shape all seat.new.acts [] }
 {
     take_out(
         cells,
@@ -115,7 +116,7 @@ fn make_replacement<const V: usize>(
         Deed::Evict,
         replacement.victim,
     );
-    make_storing(cells, seat, key, value, &replacement.storing);
+    make_storing(cells, seat, key, value, storing);
 }
 
 /// Puts a key that is not there and for which no item is free.
@@ -138,8 +139,9 @@ fn put_waiting<const V: usize>(
     turn_round(cells, seat, books, &mut waiting);
     match finish(cells, seat, books, waiting) {
         Ok(replacement) => {
-            make_replacement(cells, seat, key, value, &replacement);
-            Ok(replacement.storing.told(Some(replacement.evicted)))
+            let storing = books.decided();
+            make_replacement(cells, seat, key, value, replacement, storing);
+            Ok(storing.told(Some(replacement.evicted)))
         }
         Err(why) => Err(why),
     }
@@ -163,8 +165,9 @@ fn put_new<const V: usize>(
 {
     match decide_insert(cells, seat, books, key, value, at) {
         Insertion::Refuse(why) => Err(why),
-        Insertion::Store(storing) => {
-            make_storing(cells, seat, key, value, &storing);
+        Insertion::Store => {
+            let storing = books.decided();
+            make_storing(cells, seat, key, value, storing);
             Ok(storing.told(None))
         }
         Insertion::Wait(path) => put_waiting(cells, seat, books, key, value, path),

@@ -6,6 +6,7 @@ use Rattle.mc_plan.specs.Clerks.{PutCall, IsPlanned}
 use Rattle.mc_plan.specs.Decisions.{renewal_acts, storing_acts, storing_told}
 use Rattle.mc_plan.specs.declared.answer.Answer.TheVariants as answer
 use Rattle.mc_plan.specs.declared.answer.Put.{Put}
+use Rattle.mc_plan.specs.declared.decision.Storing.{Storing}
 use Rattle.mc_plan.specs.declared.answer.Put.TheVariants as put
 use Rattle.mc_shared.specs.Records.{Opening}
 use Rattle.mc_shared.specs.Views.{layout_of}
@@ -23,12 +24,13 @@ stored g c =
     let sh = c.args.cells.now.layout.shape in
     let b = c.decide_insert.new.books in
     let s = state_of V sh c.args.seat.now.acts in
-    let storing = c.in-Store.storing in
+    let storing = c.decided-storing.result.now in
     let call = PutCall c.args.key c.args.value.now in
     let layout = c.requires.layout ∙ ap (λ (x : Shape). layout_of V x) (ap shape_of (sym c.decide_insert.ensures.shape)) in
     let shape : shape_of b.checked ≡ sh = sym (ap (λ (l : Layout). l.shape) layout) in
     let planned : IsPlanned V b (storing_acts sh c.args.key c.args.value.now storing) call s s (answer.Put (Ok (storing_told storing None))) =
-    subst (λ (x : Shape). IsPlanned V b (storing_acts x c.args.key c.args.value.now storing) call s s (answer.Put (Ok (storing_told storing None)))) shape c.in-Store.ensures.inserted.1 in
+    subst (λ (x : Shape). IsPlanned V b (storing_acts x c.args.key c.args.value.now storing) call s s (answer.Put (Ok (storing_told storing None)))) shape
+    (subst (λ (d : Storing). IsPlanned V b (storing_acts (shape_of b.checked) c.args.key c.args.value.now d) call s s (answer.Put (Ok (storing_told d None)))) (sym c.decided-storing.ensures) c.in-Store.ensures.inserted.1) in
     let done = made_now V c.args.cells.now b (storing_acts sh c.args.key c.args.value.now storing) call (answer.Put (Ok (storing_told storing None))) c.args.seat.now c.decide_insert.new.seat c.make_storing.new.seat c.requires.of layout c.decide_insert.ensures.seat c.make_storing.ensures.of c.make_storing.ensures.due refl planned in
     (subst (λ (told : Put). HasCalled V sh call c.args.seat.now c.make_storing.new.seat (answer.Put (Ok told))) (sym c.told.ensures) done.0, done.1)
 
