@@ -15,9 +15,12 @@ use Rattle.mc_plan.specs.declared.decision.Decision.{Decision}
 use Rattle.mc_plan.specs.declared.decision.Decision.TheVariants as decision
 use Rattle.mc_plan.specs.declared.decision.Insertion.{Insertion}
 use Rattle.mc_plan.specs.declared.decision.Insertion.TheVariants as insertion
+use Rattle.mc_plan.specs.declared.decision.Nearby.{Nearby}
+use Rattle.mc_plan.specs.declared.decision.Nearby.TheVariants as nearby
 use Rattle.mc_plan.specs.declared.decision.Removal.{Removal}
 use Rattle.mc_plan.specs.declared.decision.Replacement.{Replacement}
 use Rattle.mc_plan.specs.declared.waiting.Waiting.{Waiting}
+use Rattle.mc_search.specs.Paths.{direct_path}
 use Rattle.mc_search.specs.Sweeps.{Swept}
 
 -- the key is not there, the limit is far enough for its put, and the put is to have this moment
@@ -41,6 +44,12 @@ IsInserted V books k v s (insertion.Refuse why) =
 IsInserted V books k v s insertion.Store =
     (books.decided.item < (shape_of books.checked).items) × IsPlanned V books (storing_acts (shape_of books.checked) k v books.decided) (PutCall k v) s s (answer.Put (Ok (storing_told books.decided None)))
 IsInserted V books k v s (insertion.Wait path) = Waits V books k s path
+
+-- the same, as far as the key's two buckets tell
+abbrev pub IsNear : (V : ℕ) → Books → ℕ → List ℕ → State V → ℕ → Nearby → Type 0
+IsNear V books k v s at nearby.Store = IsInserted V books k v s insertion.Store
+IsNear V books k v s at (nearby.Wait hole) = Waits V books k s (direct_path hole)
+IsNear V books k v s at nearby.Far = IsLackingKey V books k s at
 
 -- the sweep of a put has these readings, and the item that it found is taken from its key
 pub record IsReplaced (V : ℕ) (books : Books) (waiting : Waiting V) (call : Call) (s : State V) (rs : List Swept) (r : Replacement) : Type 0 where

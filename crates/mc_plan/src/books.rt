@@ -9,13 +9,13 @@ ghost use Rattle.mc_search.specs.Paths.{first_place};
 ghost use Rattle.mc_search.specs.Readable.{IsFilled};
 
 use crate::answer::{PutError, Spent};
-use crate::decision::{Decision, Insertion, Removal, Replacement, Storing};
+use crate::decision::{Decision, Insertion, Nearby, Removal, Replacement, Storing};
 use crate::moves::path_moves;
 use crate::value::have_words;
 use crate::waiting::Waiting;
 use mc_search::{Finder, FreeItems, Path, Sweep, find, key_at, moment};
 use mc_theory::Peek;
-use mc_words::{Checked, NoMemory};
+use mc_words::{Checked, NoMemory, Place};
 use std::alloc::Global;
 
 /// The writer's bookkeeping beside the words: which items are free, where the hand stands, how many version changes were made.
@@ -34,7 +34,7 @@ pub struct Books {
 
 impl Books {
     ghost use Rattle.mc_plan.specs.Clerks.{AreBooksOf, Call, IsSweeping};
-    ghost use Rattle.mc_plan.specs.Deciding.{IsDecided, IsFinished, IsInserted, IsLackingKey, IsRemovalDecided, IsReplaced};
+    ghost use Rattle.mc_plan.specs.Deciding.{IsDecided, IsFinished, IsInserted, IsLackingKey, IsNear, IsRemovalDecided, IsReplaced};
     ghost use Rattle.mc_plan.specs.Decisions.{acts_of_moves};
     ghost use Rattle.mc_plan.specs.Inside.Clerks.{IsReplacing};
     ghost use Rattle.mc_search.specs.Sweeps.{HasSwept, IsOver, Swept};
@@ -104,6 +104,25 @@ impl Books {
         self.decided.at = at;
     }
 
+    /// Writes down that a new key goes to the hole, and counts its version changes.
+    #[inline(always)]
+    fn store_near(&mut self, hole: Place, item: u32, at: u64)
+        requires room { self.old.version_steps < 2 ^ 63 }
+        ensures item { self.new.decided.item ≡ item }
+        ensures at { self.new.decided.at ≡ at }
+        ensures place { self.new.decided.place ≡ hole }
+        ensures moves { self.new.decided.moves.items ≡ [] }
+        ensures books { self.new ≡ record self.old { version_steps = self.old.version_steps + 2; decided = self.new.decided } }
+    {
+        if !self.decided.moves.is_empty() {
+            self.decided.moves.clear();
+        }
+        self.decided.item = item;
+        self.decided.place = hole;
+        self.decided.at = at;
+        self.version_steps += 2;
+    }
+
     /// Decides a put, as far as one look for the key tells.
     /// Condition: the books are those of the table whose words are looked at, between two calls.
     pub fn decide<const V: usize, P: Peek>(
@@ -131,6 +150,33 @@ impl Books {
             }
             None => Decision::Insert { at },
         }
+    }
+
+    /// Decides the put of a key that is not there, where one of its two buckets has a hole.
+    /// Condition: `decide` has just answered `Insert` for the key, with this `at`.
+    #[inline(always)]
+    pub fn insert_near<const V: usize, P: Peek>(
+        &mut self,
+        peek: &mut P,
+        key: u64,
+        value: &[u64; V],
+        at: u64,
+    ) -> Nearby
+        requires books { (s : State V) × IsLackingKey V self.old key s at × (P.words peek.old ≡ s.words) }
+        ensures near { (s : State V) → IsLackingKey V self.old key s at → P.words peek.old ≡ s.words → IsNear V self.new key value.now s at result }
+        ensures shape { self.new.checked ≡ self.old.checked }
+        ensures same { P.words peek.new ≡ P.words peek.old }
+        ensures kept { peek.new ≡ peek.old }
+    {
+        have_words(value);
+        let Some(hole) = self.finder.near(peek, key) else {
+            return Nearby::Far;
+        };
+        let Some(item) = self.free.take_least() else {
+            return Nearby::Wait(hole);
+        };
+        self.store_near(hole, item, at);
+        Nearby::Store
     }
 
     /// Decides the put of a key that is not there: it is refused where no path leads to a hole, and waits where no item is free.

@@ -26,6 +26,17 @@ pub enum Decision {
     Insert { at: u64 },
 }
 
+/// What the put of a key does that is not there, as far as its two buckets tell. It is small, so that most puts pay for no path.
+#[derive(Clone, Copy, Debug, PartialEq, Eq)]
+pub enum Nearby {
+    /// It fills a hole of one of the two: the books say which.
+    Store,
+    /// This is a hole, and every item is in use: the hand looks for one.
+    Wait(Place),
+    /// Both are full: `Books::insert` decides.
+    Far,
+}
+
 /// What the put of a key does that is not there.
 #[derive(Drop)]
 pub enum Insertion {

@@ -2,7 +2,7 @@
 ghost use Rattle.std.specs.Prelude.{◌≡◌, ◌<◌, ◌++◌, [], List};
 ghost use Rattle.mc_words.specs.Places.{IsWidth};
 ghost use Rattle.mc_theory.specs.Lists.{Made, state_of};
-ghost use Rattle.mc_plan.specs.Deciding.{IsDecided, IsInserted, IsLackingKey};
+ghost use Rattle.mc_plan.specs.Deciding.{IsDecided, IsInserted, IsLackingKey, IsNear};
 ghost use Rattle.mc_plan.specs.Decisions.{renewal_acts, replacement_acts, storing_acts};
 ghost use Rattle.mc_plan.specs.Due.{AreDue};
 ghost use Rattle.mc_plan.specs.Clerks.{PutCall, Waits};
@@ -14,7 +14,9 @@ ghost use Rattle.mc_writer.specs.WriterCalls.{HasCalled, IsRested};
 use crate::deeds::{fill, make_moves, renew, stamp, take_out};
 use crate::lens::Lens;
 use crate::sweep::{finish, turn_round};
-use mc_plan::{Books, Decision, Insertion, Path, Put, PutError, Replacement, Storing, Waiting};
+use mc_plan::{
+    Books, Decision, Insertion, Nearby, Path, Put, PutError, Replacement, Storing, Waiting,
+};
 use mc_shared::{Cells, WriterSeat};
 use mc_theory::Deed;
 
@@ -34,6 +36,25 @@ fn decide<const V: usize>(
 {
     let mut lens = Lens { cells, seat };
     books.decide::<V, Lens<V>>(&mut lens, key, value)
+}
+
+/// Decides the put of a key that is not there, as far as its two buckets tell.
+fn decide_near<const V: usize>(
+    cells: &Cells<V>,
+    seat: &mut WriterSeat,
+    books: &mut Books,
+    key: u64,
+    value: &[u64; V],
+    at: u64,
+) -> Nearby
+    requires of { seat.old.of ≡ cells.now }
+    requires lacks { IsLackingKey V books.old key (state_of V cells.now.layout.shape seat.old.acts) at }
+    ensures seat { seat.new ≡ seat.old }
+    ensures near { IsNear V books.new key value.now (state_of V cells.now.layout.shape seat.old.acts) at result }
+    ensures shape { books.new.checked ≡ books.old.checked }
+{
+    let mut lens = Lens { cells, seat };
+    books.insert_near::<V, Lens<V>>(&mut lens, key, value, at)
 }
 
 /// Decides the put of a key that is not there.
@@ -74,6 +95,7 @@ fn make_renewal<const V: usize>(
 }
 
 /// Makes the moves and the fill, and the mark of its item.
+#[inline(always)]
 fn make_storing<const V: usize>(
     cells: &Cells<V>,
     seat: &mut WriterSeat,
@@ -147,9 +169,9 @@ fn put_waiting<const V: usize>(
     }
 }
 
-/// Puts a key that is not there.
+/// Puts a key that is not there and whose two buckets are full.
 #[inline(never)]
-fn put_new<const V: usize>(
+fn put_far<const V: usize>(
     cells: &Cells<V>,
     seat: &mut WriterSeat,
     books: &mut Books,
@@ -171,6 +193,33 @@ fn put_new<const V: usize>(
             Ok(storing.told(None))
         }
         Insertion::Wait(path) => put_waiting(cells, seat, books, key, value, path),
+    }
+}
+
+/// Puts a key that is not there.
+#[inline(never)]
+fn put_new<const V: usize>(
+    cells: &Cells<V>,
+    seat: &mut WriterSeat,
+    books: &mut Books,
+    key: u64,
+    value: &[u64; V],
+    at: u64,
+) -> Result<Put, PutError>
+    requires of { seat.old.of ≡ cells.now }
+    requires layout { cells.now.layout ≡ layout_of V (shape_of books.old.checked) }
+    requires lacks { IsLackingKey V books.old key (state_of V cells.now.layout.shape seat.old.acts) at }
+    ensures called { HasCalled V cells.now.layout.shape (PutCall key value.now) seat.old seat.new (answer.Put result) }
+    ensures rested { IsRested V books.new seat.new }
+{
+    match decide_near(cells, seat, books, key, value, at) {
+        Nearby::Store => {
+            let storing = books.decided();
+            make_storing(cells, seat, key, value, storing);
+            Ok(storing.told(None))
+        }
+        Nearby::Wait(hole) => { put_waiting(cells, seat, books, key, value, Path::direct(hole)) }
+        Nearby::Far => put_far(cells, seat, books, key, value, at),
     }
 }
 
