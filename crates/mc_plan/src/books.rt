@@ -9,7 +9,7 @@ ghost use Rattle.mc_search.specs.Paths.{first_place};
 ghost use Rattle.mc_search.specs.Readable.{IsFilled};
 
 use crate::answer::{PutError, Spent};
-use crate::decision::{Decision, Insertion, Nearby, Removal, Replacement, Storing};
+use crate::decision::{Decision, Exchange, Insertion, Nearby, Removal, Replacement, Storing};
 use crate::moves::path_moves;
 use crate::value::have_words;
 use crate::waiting::Waiting;
@@ -34,7 +34,7 @@ pub struct Books {
 
 impl Books {
     ghost use Rattle.mc_plan.specs.Clerks.{AreBooksOf, Call, IsSweeping};
-    ghost use Rattle.mc_plan.specs.Deciding.{IsDecided, IsFinished, IsInserted, IsLackingKey, IsNear, IsRemovalDecided, IsReplaced};
+    ghost use Rattle.mc_plan.specs.Deciding.{IsDecided, IsExchanged, IsFinished, IsFinishedNear, IsInserted, IsLackingKey, IsNear, IsRemovalDecided, IsReplaced};
     ghost use Rattle.mc_plan.specs.Decisions.{acts_of_moves};
     ghost use Rattle.mc_plan.specs.Inside.Clerks.{IsReplacing};
     ghost use Rattle.mc_search.specs.Sweeps.{HasSwept, IsOver, Swept};
@@ -104,25 +104,6 @@ impl Books {
         self.decided.at = at;
     }
 
-    /// Writes down that a new key goes to the hole, and counts its version changes.
-    #[inline(always)]
-    fn store_near(&mut self, hole: Place, item: u32, at: u64)
-        requires room { self.old.version_steps < 2 ^ 63 }
-        ensures item { self.new.decided.item ≡ item }
-        ensures at { self.new.decided.at ≡ at }
-        ensures place { self.new.decided.place ≡ hole }
-        ensures moves { self.new.decided.moves.items ≡ [] }
-        ensures books { self.new ≡ record self.old { version_steps = self.old.version_steps + 2; decided = self.new.decided } }
-    {
-        if !self.decided.moves.is_empty() {
-            self.decided.moves.clear();
-        }
-        self.decided.item = item;
-        self.decided.place = hole;
-        self.decided.at = at;
-        self.version_steps += 2;
-    }
-
     /// Decides a put, as far as one look for the key tells.
     /// Condition: the books are those of the table whose words are looked at, between two calls.
     pub fn decide<const V: usize, P: Peek>(
@@ -175,8 +156,8 @@ impl Books {
         let Some(item) = self.free.take_least() else {
             return Nearby::Wait(hole);
         };
-        self.store_near(hole, item, at);
-        Nearby::Store
+        self.version_steps += 2;
+        Nearby::Fill { item, place: hole }
     }
 
     /// Decides the put of a key that is not there: it is refused where no path leads to a hole, and waits where no item is free.
@@ -248,6 +229,59 @@ impl Books {
         self.hand = waiting.sweep.hand();
         match waiting.sweep.victim() {
             Some(item) => Ok(self.replace::<V, P>(peek, waiting, item)),
+            None => Err(PutError::AllRecent),
+        }
+    }
+
+    /// Decides how the key at the item is replaced by one that goes to a hole.
+    #[inline(always)]
+    fn exchange<const V: usize, P: Peek>(
+        &mut self,
+        peek: &mut P,
+        waiting: &Waiting<V>,
+        item: u32,
+    ) -> Exchange
+        requires books { (call : Call) × (s : State V) × (rs : List Swept) × IsReplacing V self.old waiting.now call s rs item × (P.words peek.old ≡ s.words) }
+        requires near { waiting.now.path.places.items ≡ [] }
+        ensures exchanged { (call : Call) (s : State V) (rs : List Swept) → IsReplacing V self.old waiting.now call s rs item → P.words peek.old ≡ s.words → IsExchanged V self.new waiting.now call s rs result }
+        ensures shape { self.new.checked ≡ self.old.checked }
+        ensures same { P.words peek.new ≡ P.words peek.old }
+        ensures kept { peek.new ≡ peek.old }
+    {
+        have_words(&waiting.value);
+        let at = moment(&self.checked, peek) + 2;
+        let evicted = key_at::<V, P>(&self.checked, peek, item);
+        let Some((victim, _)) = find::<V, P>(&self.checked, peek, evicted) else {
+            unreachable!();
+        };
+        self.version_steps += 4;
+        Exchange {
+            evicted,
+            victim,
+            item,
+            place: waiting.path.hole,
+            at,
+        }
+    }
+
+    /// Decides the rest of a put whose sweep is over, and for which no key moves.
+    /// Condition: as for `finish`, and the put waits with a path of no places.
+    #[inline(always)]
+    pub fn finish_near<const V: usize, P: Peek>(
+        &mut self,
+        peek: &mut P,
+        waiting: &Waiting<V>,
+    ) -> Result<Exchange, PutError>
+        requires over { (call : Call) × (s : State V) × (rs : List Swept) × IsSweeping V self.old waiting.now call s rs × IsOver (shape_of self.old.checked).items rs × (P.words peek.old ≡ s.words) }
+        requires near { waiting.now.path.places.items ≡ [] }
+        ensures finished { (call : Call) (s : State V) (rs : List Swept) → IsSweeping V self.old waiting.now call s rs → IsOver (shape_of self.old.checked).items rs → P.words peek.old ≡ s.words → IsFinishedNear V self.new waiting.now call s rs result }
+        ensures shape { self.new.checked ≡ self.old.checked }
+        ensures same { P.words peek.new ≡ P.words peek.old }
+        ensures kept { peek.new ≡ peek.old }
+    {
+        self.hand = waiting.sweep.hand();
+        match waiting.sweep.victim() {
+            Some(item) => Ok(self.exchange::<V, P>(peek, waiting, item)),
             None => Err(PutError::AllRecent),
         }
     }

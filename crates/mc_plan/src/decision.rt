@@ -29,8 +29,8 @@ pub enum Decision {
 /// What the put of a key does that is not there, as far as its two buckets tell. It is small, so that most puts pay for no path.
 #[derive(Clone, Copy, Debug, PartialEq, Eq)]
 pub enum Nearby {
-    /// It fills a hole of one of the two: the books say which.
-    Store,
+    /// It fills a hole of one of the two.
+    Fill { item: u32, place: Place },
     /// This is a hole, and every item is in use: the hand looks for one.
     Wait(Place),
     /// Both are full: `Books::insert` decides.
@@ -63,6 +63,16 @@ pub struct Storing {
 pub struct Replacement {
     pub evicted: u64,
     pub victim: Place,
+}
+
+/// A put that takes the item of another key, and for which a hole is at hand: the other key is taken out, and no key moves.
+#[derive(Clone, Copy, Debug, PartialEq, Eq)]
+pub struct Exchange {
+    pub evicted: u64,
+    pub victim: Place,
+    pub item: u32,
+    pub place: Place,
+    pub at: u64,
 }
 
 /// What a removal does.

@@ -37,6 +37,7 @@ impl Model for Finder {
 }
 
 /// A hole in one of the two buckets, the first before the second.
+#[inline(always)]
 fn hole_in_either<P: Peek>(
     checked: &Checked,
     peek: &mut P,
