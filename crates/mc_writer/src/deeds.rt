@@ -85,6 +85,7 @@ fn write_value<const V: usize>(cells: &Cells<V>, seat: &mut WriterSeat, i: u32, 
 }
 
 /// Puts a new value of the key that stands at the item. Condition: the acts of the renewal are due next.
+#[inline(always)]
 pub fn renew<const V: usize>(
     cells: &Cells<V>,
     seat: &mut WriterSeat,
@@ -106,6 +107,7 @@ pub fn renew<const V: usize>(
 
 /// Puts a key at a free item and in an empty slot of one of its buckets.
 /// Condition: the acts of the fill are due next, and the item is one of the table.
+#[inline(always)]
 pub fn fill<const V: usize>(
     cells: &Cells<V>,
     seat: &mut WriterSeat,
@@ -133,6 +135,7 @@ pub fn fill<const V: usize>(
 
 /// Clears the slot of a key: a removal or an eviction.
 /// Condition: the acts of the removal or the eviction are due next.
+#[inline(always)]
 pub fn take_out<const V: usize>(
     cells: &Cells<V>,
     seat: &mut WriterSeat,

@@ -271,7 +271,7 @@ fn put_far<const V: usize>(
 }
 
 /// Puts a key that is not there.
-#[inline(never)]
+#[inline(always)]
 fn put_new<const V: usize>(
     cells: &Cells<V>,
     seat: &mut WriterSeat,
