@@ -37,44 +37,89 @@ pub(crate) struct Options {
 /// The names of the workloads.
 const WORKLOADS: [&str; 6] = ["hit", "miss", "mixed", "fill", "evict", "load"];
 
-fn number<'a>(alloc: Global, name: &'a str, takes: ValueParser<'a>, default: &'a str) -> Arg<'a> {
+/// An option with one value.
+fn option<'a>(
+    alloc: Global,
+    name: &'a str,
+    takes: ValueParser<'a>,
+    default: &'a str,
+    help: &'a str,
+) -> Arg<'a> {
     Arg::new(alloc, name)
         .long(name)
         .value_parser(takes)
         .default_value(default)
+        .help(help)
+}
+
+/// The options of a table.
+fn with_table<'a>(alloc: Global, command: Command<'a>) -> Result<Command<'a>, AllocError> {
+    let count = value_parser!(u32).range(1..=4_000_000);
+    let keys = option(alloc, "keys", count, "1000", "Keys that are drawn");
+    let capacity = option(
+        alloc,
+        "capacity",
+        count,
+        "1000",
+        "Keys for which the table is made, which fill at most 0.96 of it",
+    );
+    command.arg(keys)?.arg(capacity)
+}
+
+/// The options of the threads.
+fn with_threads<'a>(alloc: Global, command: Command<'a>) -> Result<Command<'a>, AllocError> {
+    let readers = option(
+        alloc,
+        "readers",
+        value_parser!(u32).range(0..=64),
+        "1",
+        "Threads that look keys up",
+    );
+    let writers = option(
+        alloc,
+        "writers",
+        value_parser!(u32).range(0..=1),
+        "0",
+        "Threads that put keys",
+    );
+    let every = option(
+        alloc,
+        "write-every",
+        value_parser!(u32).range(1..=1_000_000),
+        "1",
+        "Of so many calls of a writer one is a put, the others look keys up",
+    );
+    command.arg(readers)?.arg(writers)?.arg(every)
 }
 
 fn command<'a>(alloc: Global) -> Result<Command<'a>, AllocError> {
-    Command::new(alloc, "mcbench")
+    let workload = option(
+        alloc,
+        "workload",
+        ValueParser::Names(WORKLOADS.as_slice()),
+        "hit",
+        "Keys that are there (hit, mixed) or not (miss); fresh keys into empty tables, into a full one, or until one is refused",
+    );
+    let seconds = option(
+        alloc,
+        "seconds",
+        value_parser!(f64),
+        "0.3",
+        "How long it is measured",
+    );
+    let seed = option(
+        alloc,
+        "seed",
+        value_parser!(u32),
+        "1",
+        "Which keys are drawn",
+    );
+    let command = Command::new(alloc, "mcbench")
         .about("Measures the cache, and prints one line of JSON")
-        .arg(number(
-            alloc,
-            "workload",
-            ValueParser::Names(WORKLOADS.as_slice()),
-            "hit",
-        ))?
-        .arg(number(alloc, "readers", value_parser!(u32).range(0..=64), "1"))?
-        .arg(number(alloc, "writers", value_parser!(u32).range(0..=1), "0"))?
-        .arg(number(
-            alloc,
-            "keys",
-            value_parser!(u32).range(1..=4_000_000),
-            "1000",
-        ))?
-        .arg(number(
-            alloc,
-            "capacity",
-            value_parser!(u32).range(1..=4_000_000),
-            "1000",
-        ))?
-        .arg(number(alloc, "seconds", value_parser!(f64), "0.3"))?
-        .arg(number(
-            alloc,
-            "write-every",
-            value_parser!(u32).range(1..=1_000_000),
-            "1",
-        ))?
-        .arg(number(alloc, "seed", value_parser!(u32), "1"))
+        .arg(workload)?
+        .arg(seconds)?
+        .arg(seed)?;
+    with_threads(alloc, with_table(alloc, command)?)
 }
 
 fn workload_in(matches: &ArgMatches<'_>) -> Workload {
