@@ -3,7 +3,7 @@
 # hand reads for an eviction, where keys are looked up uniformly and where few keys are looked up most.
 #
 # usage: bench/evictions.sh [PROGRAM]     PROGRAM: the mcstep to measure; none: crates/mcstep/out/mcstep
-. "$(dirname "$0")/common.sh"
+. "$(dirname "$0")/replays.sh"
 rounds=1048576
 
 # Puts so many keys, each once.

@@ -3,7 +3,7 @@
 # which one put in ten moves a key.
 #
 # usage: bench/fresh_puts.sh [PROGRAM]     PROGRAM: the mcstep to measure; none: crates/mcstep/out/mcstep
-. "$(dirname "$0")/common.sh"
+. "$(dirname "$0")/replays.sh"
 rounds=200000
 
 # Sets the options of mcstep for so many buckets.

@@ -2,7 +2,7 @@
 # The load of the table at the first put that finds no path, for each depth, with mixed keys and 65,536 buckets.
 #
 # usage: bench/load_factor.sh [PROGRAM]     PROGRAM: the mcstep to measure; none: crates/mcstep/out/mcstep
-. "$(dirname "$0")/common.sh"
+. "$(dirname "$0")/replays.sh"
 buckets=65536
 slots=$((4 * buckets))
 

@@ -3,7 +3,7 @@
 # table; and that time.
 #
 # usage: bench/whole_calls.sh [PROGRAM]     PROGRAM: the mcstep to measure; none: crates/mcstep/out/mcstep
-. "$(dirname "$0")/common.sh"
+. "$(dirname "$0")/replays.sh"
 calls=1000000
 
 # A put in two of five calls, a removal in one, a lookup in two.

@@ -34,6 +34,7 @@ impl<const V: usize> Writer<V> {
     /// Puts a key, which then has this value. `Err` where nothing was changed of the map: `Spent` where the limit on version
     /// changes could be passed, `NoPath` where no path of displacements leads to an empty slot, `AllRecent` where every item
     /// was used since the hand passed it. A key may be evicted for it (section 4.1 of the paper of Fan, Andersen and Kaminsky).
+    #[inline(always)]
     pub fn put(&mut self, cache: &Cache<V>, key: u64, value: [u64; V]) -> Result<Put, PutError>
         requires of { self.old.of ≡ cache.now }
         ensures called { HasCalled V cache.now.layout.shape (PutCall key value.entry) self.old self.new (answer.Put result) }

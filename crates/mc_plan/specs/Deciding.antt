@@ -6,18 +6,22 @@ use Rattle.mc_words.specs.Places.{moment}
 use Rattle.mc_words.specs.Standing.{IsAbsent}
 use Rattle.mc_theory.specs.States.{State}
 use Rattle.mc_plan.specs.Clerks.{AreBooksOf, Call, IsPlanned, IsSweepOf, PutCall, RemoveCall, Waits, quiet_of, state_after_sweep}
-use Rattle.mc_plan.specs.Decisions.{removal_acts, removal_told, renewal_acts, replacement_acts, storing_acts, storing_told}
+use Rattle.mc_plan.specs.Decisions.{exchange_acts, filling_acts, removal_acts, removal_told, renewal_acts, replacement_acts, storing_acts, storing_told}
 use Rattle.mc_plan.specs.declared.answer.Answer.TheVariants as answer
 use Rattle.mc_plan.specs.declared.answer.Put.TheVariants as put
 use Rattle.mc_plan.specs.declared.answer.PutError.{PutError}
 use Rattle.mc_plan.specs.declared.books.Books.{Books}
 use Rattle.mc_plan.specs.declared.decision.Decision.{Decision}
 use Rattle.mc_plan.specs.declared.decision.Decision.TheVariants as decision
+use Rattle.mc_plan.specs.declared.decision.Exchange.{Exchange}
 use Rattle.mc_plan.specs.declared.decision.Insertion.{Insertion}
 use Rattle.mc_plan.specs.declared.decision.Insertion.TheVariants as insertion
+use Rattle.mc_plan.specs.declared.decision.Nearby.{Nearby}
+use Rattle.mc_plan.specs.declared.decision.Nearby.TheVariants as nearby
 use Rattle.mc_plan.specs.declared.decision.Removal.{Removal}
 use Rattle.mc_plan.specs.declared.decision.Replacement.{Replacement}
 use Rattle.mc_plan.specs.declared.waiting.Waiting.{Waiting}
+use Rattle.mc_search.specs.Paths.{direct_path}
 use Rattle.mc_search.specs.Sweeps.{Swept}
 
 -- the key is not there, the limit is far enough for its put, and the put is to have this moment
@@ -38,20 +42,39 @@ IsDecided V books k v s (decision.Insert at) = IsLackingKey V books k s at
 abbrev pub IsInserted : (V : ℕ) → Books → ℕ → List ℕ → State V → Insertion → Type 0
 IsInserted V books k v s (insertion.Refuse why) =
     IsPlanned V books [] (PutCall k v) s s (answer.Put (Err why)) × IsSweepOf V (shape_of books.checked) s [] (answer.Put (Err why))
-IsInserted V books k v s (insertion.Store storing) =
-    (storing.item < (shape_of books.checked).items) × IsPlanned V books (storing_acts (shape_of books.checked) k v storing) (PutCall k v) s s (answer.Put (Ok (storing_told storing None)))
+IsInserted V books k v s insertion.Store =
+    (books.decided.item < (shape_of books.checked).items) × IsPlanned V books (storing_acts (shape_of books.checked) k v books.decided) (PutCall k v) s s (answer.Put (Ok (storing_told books.decided None)))
 IsInserted V books k v s (insertion.Wait path) = Waits V books k s path
+
+-- the same, as far as the key's two buckets tell
+abbrev pub IsNear : (V : ℕ) → Books → ℕ → List ℕ → State V → ℕ → Nearby → Type 0
+IsNear V books k v s at (nearby.Fill item place) =
+    (item < (shape_of books.checked).items) × IsPlanned V books (filling_acts (shape_of books.checked) k v item place) (PutCall k v) s s (answer.Put (Ok (put.Stored at 0 None)))
+IsNear V books k v s at (nearby.Wait hole) = Waits V books k s (direct_path hole)
+IsNear V books k v s at nearby.Far = IsLackingKey V books k s at
 
 -- the sweep of a put has these readings, and the item that it found is taken from its key
 pub record IsReplaced (V : ℕ) (books : Books) (waiting : Waiting V) (call : Call) (s : State V) (rs : List Swept) (r : Replacement) : Type 0 where
-  pub in_items : r.storing.item < (shape_of books.checked).items
-  pub planned : IsPlanned V books (replacement_acts (shape_of books.checked) waiting.key waiting.value r) call s (state_after_sweep V (shape_of books.checked) s rs) (answer.Put (Ok (storing_told r.storing (Some r.evicted))))
-  pub sweeps : IsSweepOf V (shape_of books.checked) s rs (answer.Put (Ok (storing_told r.storing (Some r.evicted))))
+  pub in_items : books.decided.item < (shape_of books.checked).items
+  pub planned : IsPlanned V books (replacement_acts (shape_of books.checked) waiting.key waiting.value r books.decided) call s (state_after_sweep V (shape_of books.checked) s rs) (answer.Put (Ok (storing_told books.decided (Some r.evicted))))
+  pub sweeps : IsSweepOf V (shape_of books.checked) s rs (answer.Put (Ok (storing_told books.decided (Some r.evicted))))
+
+-- the same, where no key moves
+pub record IsExchanged (V : ℕ) (books : Books) (waiting : Waiting V) (call : Call) (s : State V) (rs : List Swept) (x : Exchange) : Type 0 where
+  pub in_items : x.item < (shape_of books.checked).items
+  pub planned : IsPlanned V books (exchange_acts (shape_of books.checked) waiting.key waiting.value x) call s (state_after_sweep V (shape_of books.checked) s rs) (answer.Put (Ok (put.Stored x.at 0 (Some x.evicted))))
+  pub sweeps : IsSweepOf V (shape_of books.checked) s rs (answer.Put (Ok (put.Stored x.at 0 (Some x.evicted))))
 
 -- the put is decided once its sweep is over
 abbrev pub IsFinished : (V : ℕ) → Books → Waiting V → Call → State V → List Swept → Result Replacement PutError → Type 0
 IsFinished V books waiting call s rs (Ok r) = IsReplaced V books waiting call s rs r
 IsFinished V books waiting call s rs (Err why) =
+    IsPlanned V books [] call s (state_after_sweep V (shape_of books.checked) s rs) (answer.Put (Err why)) × IsSweepOf V (shape_of books.checked) s rs (answer.Put (Err why))
+
+-- the same, where no key moves
+abbrev pub IsFinishedNear : (V : ℕ) → Books → Waiting V → Call → State V → List Swept → Result Exchange PutError → Type 0
+IsFinishedNear V books waiting call s rs (Ok x) = IsExchanged V books waiting call s rs x
+IsFinishedNear V books waiting call s rs (Err why) =
     IsPlanned V books [] call s (state_after_sweep V (shape_of books.checked) s rs) (answer.Put (Err why)) × IsSweepOf V (shape_of books.checked) s rs (answer.Put (Err why))
 
 -- a removal in state s is decided

@@ -1,5 +1,6 @@
 -- What was decided, as the acts that it means and the answer.
 use Rattle.std.specs.Prelude.{ℕ, List, [], ◌∷◌, ◌++◌, length, Option, Result, Ok, Err}
+use Rattle.mc_words.specs.declared.place.Place.{Place}
 use Rattle.mc_words.specs.declared.shape.Shape.{Shape}
 use Rattle.mc_theory.specs.declared.act.Act.{Act}
 use Rattle.mc_theory.specs.declared.act.Act.TheVariants.{Mark}
@@ -8,6 +9,7 @@ use Rattle.mc_plan.specs.declared.answer.Put.TheVariants.{Stored}
 use Rattle.mc_plan.specs.declared.answer.Remove.{Remove}
 use Rattle.mc_plan.specs.declared.answer.Remove.TheVariants.{Removed, NotThere}
 use Rattle.mc_plan.specs.declared.answer.Spent.{Spent}
+use Rattle.mc_plan.specs.declared.decision.Exchange.{Exchange}
 use Rattle.mc_plan.specs.declared.decision.Move.{Move}
 use Rattle.mc_plan.specs.declared.decision.Removal.{Removal}
 use Rattle.mc_plan.specs.declared.decision.Removal.TheVariants.{Refuse, TakeOut, Leave}
@@ -24,13 +26,21 @@ acts_of_moves (m ∷ moves) = move_acts m.key m.word m.from m.to ++ acts_of_move
 abbrev pub renewal_acts : ℕ → List ℕ → ℕ → List Act
 renewal_acts k v i = renew_acts k v i ++ Mark i ∷ []
 
+-- the key goes to the item and the place, which is marked
+abbrev pub filling_acts : Shape → ℕ → List ℕ → ℕ → Place → List Act
+filling_acts sh k v i p = fill_acts sh k v i p ++ Mark i ∷ []
+
 -- the moves make room, and the key goes to the item and the place, which is marked
 abbrev pub storing_acts : Shape → ℕ → List ℕ → Storing → List Act
-storing_acts sh k v storing = acts_of_moves storing.moves.items ++ (fill_acts sh k v storing.item storing.place ++ Mark storing.item ∷ [])
+storing_acts sh k v storing = acts_of_moves storing.moves.items ++ filling_acts sh k v storing.item storing.place
 
 -- and before that another key is taken out
-abbrev pub replacement_acts : Shape → ℕ → List ℕ → Replacement → List Act
-replacement_acts sh k v r = evict_acts r.evicted r.victim ++ storing_acts sh k v r.storing
+abbrev pub replacement_acts : Shape → ℕ → List ℕ → Replacement → Storing → List Act
+replacement_acts sh k v r storing = evict_acts r.evicted r.victim ++ storing_acts sh k v storing
+
+-- another key is taken out, and the key goes to its item and to a place, which is marked
+abbrev pub exchange_acts : Shape → ℕ → List ℕ → Exchange → List Act
+exchange_acts sh k v x = evict_acts x.evicted x.victim ++ filling_acts sh k v x.item x.place
 
 -- the key is taken out, where there is something to do
 abbrev pub removal_acts : ℕ → Removal → List Act

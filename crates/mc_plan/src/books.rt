@@ -9,13 +9,13 @@ ghost use Rattle.mc_search.specs.Paths.{first_place};
 ghost use Rattle.mc_search.specs.Readable.{IsFilled};
 
 use crate::answer::{PutError, Spent};
-use crate::decision::{Decision, Insertion, Removal, Replacement, Storing};
+use crate::decision::{Decision, Exchange, Insertion, Nearby, Removal, Replacement, Storing};
 use crate::moves::path_moves;
 use crate::value::have_words;
 use crate::waiting::Waiting;
 use mc_search::{Finder, FreeItems, Path, Sweep, find, key_at, moment};
 use mc_theory::Peek;
-use mc_words::{Checked, NoMemory};
+use mc_words::{Checked, NoMemory, Place};
 use std::alloc::Global;
 
 /// The writer's bookkeeping beside the words: which items are free, where the hand stands, how many version changes were made.
@@ -28,11 +28,13 @@ pub struct Books {
     hand: u32,
     /// The version changes, with those of what was decided.
     version_steps: u64,
+    /// How the last key that was new is stored. It is large, so it stays here and is looked at.
+    decided: Storing,
 }
 
 impl Books {
     ghost use Rattle.mc_plan.specs.Clerks.{AreBooksOf, Call, IsSweeping};
-    ghost use Rattle.mc_plan.specs.Deciding.{IsDecided, IsFinished, IsInserted, IsLackingKey, IsRemovalDecided, IsReplaced};
+    ghost use Rattle.mc_plan.specs.Deciding.{IsDecided, IsExchanged, IsFinished, IsFinishedNear, IsInserted, IsLackingKey, IsNear, IsRemovalDecided, IsReplaced};
     ghost use Rattle.mc_plan.specs.Decisions.{acts_of_moves};
     ghost use Rattle.mc_plan.specs.Inside.Clerks.{IsReplacing};
     ghost use Rattle.mc_search.specs.Sweeps.{HasSwept, IsOver, Swept};
@@ -50,7 +52,15 @@ impl Books {
             free,
             hand: 0,
             version_steps: 0,
+            decided: Storing::none(),
         })
+    }
+
+    /// How the key of the last put is stored. Condition: `insert` has just answered `Store`, or `finish` a replacement.
+    pub fn decided(&self) -> &Storing
+        ensures { result.now ≡ self.now.decided }
+    {
+        &self.decided
     }
 
     /// Whether so many version changes more could pass the limit.
@@ -70,37 +80,28 @@ impl Books {
         Sweep::start(self.checked.shape().items, self.hand)
     }
 
-    /// Gathers what the put of a new key writes, and counts its version changes.
-    fn storing<const V: usize, P: Peek>(
-        &mut self,
-        peek: &mut P,
-        path: &Path,
-        item: u32,
-        at: u64,
-    ) -> Storing
+    /// Writes down how a new key is stored, and counts its version changes.
+    fn store<const V: usize, P: Peek>(&mut self, peek: &mut P, path: &Path, item: u32, at: u64)
         requires width { IsWidth V }
         requires words { word_count V (shape_of self.old.checked) ≤ length (P.words peek.old) }
         requires filled { IsFilled (shape_of self.old.checked) (P.words peek.old) }
         requires taken { AreTaken (shape_of self.old.checked) (P.words peek.old) path.now.places.items }
         requires room { self.old.version_steps < 2 ^ 63 }
-        ensures item { result.item ≡ item }
-        ensures at { result.at ≡ at }
-        ensures place { result.place ≡ first_place path.now.places.items path.now.hole }
-        ensures moves { acts_of_moves result.moves.items ≡ moves_acts V (shape_of self.old.checked) (P.words peek.old) path.now.places.items path.now.hole }
-        ensures many { length result.moves.items ≡ length path.now.places.items }
+        ensures item { self.new.decided.item ≡ item }
+        ensures at { self.new.decided.at ≡ at }
+        ensures place { self.new.decided.place ≡ first_place path.now.places.items path.now.hole }
+        ensures moves { acts_of_moves self.new.decided.moves.items ≡ moves_acts V (shape_of self.old.checked) (P.words peek.old) path.now.places.items path.now.hole }
+        ensures many { length self.new.decided.moves.items ≡ length path.now.places.items }
         ensures keys { AreKeys V (shape_of self.old.checked) (P.words peek.old) path.now.places.items }
-        ensures books { self.new ≡ record self.old { version_steps = self.old.version_steps + (2 * length path.now.places.items + 2) } }
+        ensures books { self.new ≡ record self.old { version_steps = self.old.version_steps + (2 * length path.now.places.items + 2); decided = self.new.decided } }
         ensures same { P.words peek.new ≡ P.words peek.old }
         ensures kept { peek.new ≡ peek.old }
     {
-        let moves = path_moves::<V, P>(&self.checked, peek, path);
-        self.version_steps += 2 * moves.len() as u64 + 2;
-        Storing {
-            item,
-            place: path.first(),
-            moves,
-            at,
-        }
+        path_moves::<V, P>(&self.checked, peek, path, &mut self.decided.moves);
+        self.version_steps += 2 * self.decided.moves.len() as u64 + 2;
+        self.decided.item = item;
+        self.decided.place = path.first();
+        self.decided.at = at;
     }
 
     /// Decides a put, as far as one look for the key tells.
@@ -132,6 +133,33 @@ impl Books {
         }
     }
 
+    /// Decides the put of a key that is not there, where one of its two buckets has a hole.
+    /// Condition: `decide` has just answered `Insert` for the key, with this `at`.
+    #[inline(always)]
+    pub fn insert_near<const V: usize, P: Peek>(
+        &mut self,
+        peek: &mut P,
+        key: u64,
+        value: &[u64; V],
+        at: u64,
+    ) -> Nearby
+        requires books { (s : State V) × IsLackingKey V self.old key s at × (P.words peek.old ≡ s.words) }
+        ensures near { (s : State V) → IsLackingKey V self.old key s at → P.words peek.old ≡ s.words → IsNear V self.new key value.now s at result }
+        ensures shape { self.new.checked ≡ self.old.checked }
+        ensures same { P.words peek.new ≡ P.words peek.old }
+        ensures kept { peek.new ≡ peek.old }
+    {
+        have_words(value);
+        let Some(hole) = self.finder.near(peek, key) else {
+            return Nearby::Far;
+        };
+        let Some(item) = self.free.take_least() else {
+            return Nearby::Wait(hole);
+        };
+        self.version_steps += 2;
+        Nearby::Fill { item, place: hole }
+    }
+
     /// Decides the put of a key that is not there: it is refused where no path leads to a hole, and waits where no item is free.
     /// Condition: `decide` has just answered `Insert` for the key, with this `at`.
     #[inline(never)]
@@ -155,7 +183,8 @@ impl Books {
         let Some(item) = self.free.take_least() else {
             return Insertion::Wait(path);
         };
-        Insertion::Store(self.storing::<V, P>(peek, &path, item, at))
+        self.store::<V, P>(peek, &path, item, at);
+        Insertion::Store
     }
 
     /// Decides how the key at the item is replaced.
@@ -178,13 +207,9 @@ impl Books {
             unreachable!();
         };
         let path = waiting.path.cut_at(victim);
-        let storing = self.storing::<V, P>(peek, &path, item, at);
+        self.store::<V, P>(peek, &path, item, at);
         self.version_steps += 2;
-        Replacement {
-            evicted,
-            victim,
-            storing,
-        }
+        Replacement { evicted, victim }
     }
 
     /// Decides the rest of a put whose sweep is over.
@@ -204,6 +229,59 @@ impl Books {
         self.hand = waiting.sweep.hand();
         match waiting.sweep.victim() {
             Some(item) => Ok(self.replace::<V, P>(peek, waiting, item)),
+            None => Err(PutError::AllRecent),
+        }
+    }
+
+    /// Decides how the key at the item is replaced by one that goes to a hole.
+    #[inline(always)]
+    fn exchange<const V: usize, P: Peek>(
+        &mut self,
+        peek: &mut P,
+        waiting: &Waiting<V>,
+        item: u32,
+    ) -> Exchange
+        requires books { (call : Call) × (s : State V) × (rs : List Swept) × IsReplacing V self.old waiting.now call s rs item × (P.words peek.old ≡ s.words) }
+        requires near { waiting.now.path.places.items ≡ [] }
+        ensures exchanged { (call : Call) (s : State V) (rs : List Swept) → IsReplacing V self.old waiting.now call s rs item → P.words peek.old ≡ s.words → IsExchanged V self.new waiting.now call s rs result }
+        ensures shape { self.new.checked ≡ self.old.checked }
+        ensures same { P.words peek.new ≡ P.words peek.old }
+        ensures kept { peek.new ≡ peek.old }
+    {
+        have_words(&waiting.value);
+        let at = moment(&self.checked, peek) + 2;
+        let evicted = key_at::<V, P>(&self.checked, peek, item);
+        let Some((victim, _)) = find::<V, P>(&self.checked, peek, evicted) else {
+            unreachable!();
+        };
+        self.version_steps += 4;
+        Exchange {
+            evicted,
+            victim,
+            item,
+            place: waiting.path.hole,
+            at,
+        }
+    }
+
+    /// Decides the rest of a put whose sweep is over, and for which no key moves.
+    /// Condition: as for `finish`, and the put waits with a path of no places.
+    #[inline(always)]
+    pub fn finish_near<const V: usize, P: Peek>(
+        &mut self,
+        peek: &mut P,
+        waiting: &Waiting<V>,
+    ) -> Result<Exchange, PutError>
+        requires over { (call : Call) × (s : State V) × (rs : List Swept) × IsSweeping V self.old waiting.now call s rs × IsOver (shape_of self.old.checked).items rs × (P.words peek.old ≡ s.words) }
+        requires near { waiting.now.path.places.items ≡ [] }
+        ensures finished { (call : Call) (s : State V) (rs : List Swept) → IsSweeping V self.old waiting.now call s rs → IsOver (shape_of self.old.checked).items rs → P.words peek.old ≡ s.words → IsFinishedNear V self.new waiting.now call s rs result }
+        ensures shape { self.new.checked ≡ self.old.checked }
+        ensures same { P.words peek.new ≡ P.words peek.old }
+        ensures kept { peek.new ≡ peek.old }
+    {
+        self.hand = waiting.sweep.hand();
+        match waiting.sweep.victim() {
+            Some(item) => Ok(self.exchange::<V, P>(peek, waiting, item)),
             None => Err(PutError::AllRecent),
         }
     }

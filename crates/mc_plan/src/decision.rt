@@ -26,13 +26,24 @@ pub enum Decision {
     Insert { at: u64 },
 }
 
+/// What the put of a key does that is not there, as far as its two buckets tell. It is small, so that most puts pay for no path.
+#[derive(Clone, Copy, Debug, PartialEq, Eq)]
+pub enum Nearby {
+    /// It fills a hole of one of the two.
+    Fill { item: u32, place: Place },
+    /// This is a hole, and every item is in use: the hand looks for one.
+    Wait(Place),
+    /// Both are full: `Books::insert` decides.
+    Far,
+}
+
 /// What the put of a key does that is not there.
 #[derive(Drop)]
 pub enum Insertion {
     /// It changes nothing.
     Refuse(PutError),
-    /// It makes room, and fills it.
-    Store(Storing),
+    /// It makes room, and fills it: the books say how.
+    Store,
     /// A path leads to a hole, and every item is in use: the hand looks for one.
     Wait(Path),
 }
@@ -46,12 +57,22 @@ pub struct Storing {
     pub at: u64,
 }
 
-/// A put that takes the item of another key: that key is taken out of its slot before anything else.
-#[derive(Drop)]
+/// A put that takes the item of another key: that key is taken out of its slot before anything else. The books say where
+/// the put's key goes.
+#[derive(Clone, Copy, Debug, PartialEq, Eq)]
 pub struct Replacement {
     pub evicted: u64,
     pub victim: Place,
-    pub storing: Storing,
+}
+
+/// A put that takes the item of another key, and for which a hole is at hand: the other key is taken out, and no key moves.
+#[derive(Clone, Copy, Debug, PartialEq, Eq)]
+pub struct Exchange {
+    pub evicted: u64,
+    pub victim: Place,
+    pub item: u32,
+    pub place: Place,
+    pub at: u64,
 }
 
 /// What a removal does.
@@ -66,6 +87,16 @@ pub enum Removal {
 }
 
 impl Storing {
+    /// Nothing is decided yet.
+    pub(crate) fn none() -> Storing {
+        Storing {
+            item: 0,
+            place: Place::default(),
+            moves: ArrayVec::new(),
+            at: 0,
+        }
+    }
+
     ghost use Rattle.mc_plan.specs.Decisions.{storing_told};
 
     /// The answer of the put, with the key that was taken out for it.

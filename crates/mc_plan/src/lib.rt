@@ -34,7 +34,7 @@ pub use answer::{Answer, Put, PutError, Remove, Spent};
 use arrayvec::ArrayVec;
 pub use books::Books;
 pub use clerk::Clerk;
-pub use decision::{Decision, Insertion, Move, Removal, Replacement, Storing};
+pub use decision::{Decision, Exchange, Insertion, Move, Nearby, Removal, Replacement, Storing};
 pub use fill::{add_fill, plan_fill};
 pub use mc_search::{Finder, NoMemory, Path, Peek, Sweep, find, moment, read};
 use mc_theory::Act;

@@ -59,16 +59,17 @@ fn add_replacement<const V: usize>(
     acts: &mut Plan,
     key: u64,
     value: &[u64; V],
-    replacement: &Replacement,
+    replacement: Replacement,
+    storing: &Storing,
 )
     requires width { IsWidth V }
     requires none { acts.old.items ≡ [] }
-    requires item { replacement.now.storing.item < (shape_of checked.now).items }
-    ensures items { acts.new.items ≡ replacement_acts (shape_of checked.now) key value.now replacement.now }
+    requires item { storing.now.item < (shape_of checked.now).items }
+    ensures items { acts.new.items ≡ replacement_acts (shape_of checked.now) key value.now replacement storing.now }
     ensures fits { array_vec_len acts.new ≤ 64 }
 {
     add_evict(acts, replacement.evicted, replacement.victim);
-    add_storing(checked, acts, key, value, &replacement.storing);
+    add_storing(checked, acts, key, value, storing);
 }
 
 /// Adds the acts of a removal that finds its key.
@@ -101,8 +102,9 @@ fn start_insert<const V: usize, P: Peek>(
 {
     match books.insert::<V, P>(peek, key, value, at) {
         Insertion::Refuse(why) => Start::Planned(Err(why)),
-        Insertion::Store(storing) => {
-            add_storing(&books.checked, plan, key, value, &storing);
+        Insertion::Store => {
+            let storing = books.decided();
+            add_storing(&books.checked, plan, key, value, storing);
             Start::Planned(Ok(storing.told(None)))
         }
         Insertion::Wait(path) => Start::Waits(path),
@@ -153,8 +155,9 @@ pub(crate) fn finish_put<const V: usize, P: Peek>(
     let key = waiting.key;
     let value = waiting.value;
     let replacement = books.finish::<V, P>(peek, waiting)?;
-    add_replacement(&books.checked, plan, key, &value, &replacement);
-    Ok(replacement.storing.told(Some(replacement.evicted)))
+    let storing = books.decided();
+    add_replacement(&books.checked, plan, key, &value, replacement, storing);
+    Ok(storing.told(Some(replacement.evicted)))
 }
 
 /// Lists the acts of a removal.

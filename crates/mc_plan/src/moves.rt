@@ -44,25 +44,26 @@ fn key_in<const V: usize, P: Peek>(checked: &Checked, peek: &mut P, word: u64) -
     key_at::<V, P>(checked, peek, item as u32)
 }
 
-/// The moves of a path: the item at its last place goes to the hole, the item at the place before it to the place that
+/// Lists the moves of a path, in place of those that were listed: the item at its last place goes to the hole, the item at the place before it to the place that
 /// became empty, and so on. The first place is empty then.
 /// Condition: the words reach as far as the shape says, each slot is empty or names an item, and the path's places are occupied.
 pub fn path_moves<const V: usize, P: Peek>(
     checked: &Checked,
     peek: &mut P,
     path: &Path,
-) -> ArrayVec<Move, 8>
+    moves: &mut ArrayVec<Move, 8>,
+)
     requires width { IsWidth V }
     requires words { word_count V (shape_of checked.now) ≤ length (P.words peek.old) }
     requires filled { IsFilled (shape_of checked.now) (P.words peek.old) }
     requires taken { AreTaken (shape_of checked.now) (P.words peek.old) path.now.places.items }
-    ensures moves { acts_of_moves result.items ≡ moves_acts V (shape_of checked.now) (P.words peek.old) path.now.places.items path.now.hole }
-    ensures many { length result.items ≡ length path.now.places.items }
+    ensures moves { acts_of_moves moves.new.items ≡ moves_acts V (shape_of checked.now) (P.words peek.old) path.now.places.items path.now.hole }
+    ensures many { length moves.new.items ≡ length path.now.places.items }
     ensures keys { AreKeys V (shape_of checked.now) (P.words peek.old) path.now.places.items }
     ensures same { P.words peek.new ≡ P.words peek.old }
     ensures kept { peek.new ≡ peek.old }
 {
-    let mut moves = ArrayVec::new();
+    moves.clear();
     let mut to = path.hole;
     let mut n = path.places.len();
     while n > 0 {
@@ -78,7 +79,6 @@ pub fn path_moves<const V: usize, P: Peek>(
         });
         to = from;
     }
-    moves
 }
 
 /// Adds the acts of the moves, in their order. Condition: the list has room for them: 4 acts of 64 a move.
@@ -110,7 +110,8 @@ pub fn add_moves<const V: usize, P: Peek>(
     ensures same { P.words peek.new ≡ P.words peek.old }
     ensures kept { peek.new ≡ peek.old }
 {
-    let moves = path_moves::<V, P>(checked, peek, path);
+    let mut moves = ArrayVec::new();
+    path_moves::<V, P>(checked, peek, path, &mut moves);
     push_moves(acts, moves.as_slice());
 }
 

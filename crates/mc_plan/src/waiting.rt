@@ -35,6 +35,7 @@ impl<const V: usize> Waiting<V> {
         requires waits { (s : State V) × Waits V books.now key s path }
         ensures sweeping { (s : State V) → Waits V books.now key s path → IsSweeping V books.now result (PutCall key value.entry) s [] }
         ensures key { result.key ≡ key }
+        ensures path { result.path ≡ path }
         ensures value { result.value ≡ value.entry }
         ensures left { result.sweep.left ≡ 2 * (shape_of books.now.checked).items }
     {
@@ -59,6 +60,7 @@ impl<const V: usize> Waiting<V> {
         requires { (b : Books) × (call : Call) × (s : State V) × (rs : List Swept) × (i : ℕ) × IsSweeping V b self.old call s rs × (next_item self.old.sweep ≡ Some i) }
         ensures swept { (b : Books) (call : Call) (s : State V) (rs : List Swept) (i : ℕ) → IsSweeping V b self.old call s rs → next_item self.old.sweep ≡ Some i → IsSweeping V b self.new call s (rs ++ record { item = i; bit = bit } ∷ []) }
         ensures key { self.new.key ≡ self.old.key }
+        ensures path { self.new.path ≡ self.old.path }
         ensures value { self.new.value ≡ self.old.value }
         ensures left { self.new.sweep.left < self.old.sweep.left }
     {

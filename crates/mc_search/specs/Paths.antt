@@ -11,6 +11,10 @@ pub record IsLeastPath (sh : Shape) (w : List ℕ) (k : ℕ) (p : Path) : Type 0
   pub within : length p.places.items ≤ sh.depth
   pub least : (places : List Place) (hole : Place) → IsChain sh w k places hole → length p.places.items ≤ length places
 
+-- the path that moves nothing
+abbrev pub direct_path : Place → Path
+direct_path hole = record { places = record { items = [] }; hole = hole }
+
 -- the places before the victim, and the victim's as the hole; or all of them, where the victim is none of the places
 abbrev pub IsCut : Place → List Place → Place → List Place → Place → Type 0
 IsCut victim places hole kept end =

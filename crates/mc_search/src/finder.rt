@@ -1,7 +1,7 @@
 ghost use Rattle.std.specs.Prelude.{◌≡◌, ◌⊎◌, ◌<◌, IfOk, IfSome, IfNone};
 ghost use Rattle.mc_words.specs.Chains.{NoChain};
 ghost use Rattle.mc_words.specs.Checks.{shape_of};
-ghost use Rattle.mc_search.specs.Paths.{IsLeastPath};
+ghost use Rattle.mc_search.specs.Paths.{IsLeastPath, direct_path};
 ghost use Rattle.mc_search.specs.Readable.{HasSlots, IsFilled};
 ghost use Rattle.mc_search.specs.Inside.Readable.{IsFull, IsHoleIn};
 
@@ -37,6 +37,7 @@ impl Model for Finder {
 }
 
 /// A hole in one of the two buckets, the first before the second.
+#[inline(always)]
 fn hole_in_either<P: Peek>(
     checked: &Checked,
     peek: &mut P,
@@ -72,6 +73,20 @@ impl Finder {
             queue,
             seen,
         })
+    }
+
+    /// A hole in one of the key's two buckets, of which the path moves nothing.
+    /// Condition: the words reach as far as the last slot of the finder's shape.
+    #[inline(always)]
+    pub fn near<P: Peek>(&self, peek: &mut P, key: u64) -> Option<Place>
+        requires words { HasSlots self.now (P.words peek.old) }
+        ensures found { IfSome result (λ hole. IsLeastPath self.now (P.words peek.old) key (direct_path hole)) }
+        ensures words { P.words peek.new ≡ P.words peek.old }
+        ensures kept { peek.new ≡ peek.old }
+    {
+        let first = self.checked.first(key);
+        let second = self.checked.alt(first, self.checked.tag(key));
+        hole_in_either(&self.checked, peek, first, second)
     }
 
     /// A shortest path for the key, if there is one within the depth of the shape.

@@ -24,6 +24,7 @@ fn named(checked: &Checked, tag: u8, word: u64) -> Option<u32>
 }
 
 /// The slot of the bucket that names an item of the key under the tag, and the item.
+#[inline(always)]
 fn find_in<const V: usize, P: Peek>(
     checked: &Checked,
     peek: &mut P,
@@ -58,6 +59,7 @@ fn find_in<const V: usize, P: Peek>(
 ///
 /// It looks at the slots of the key's two buckets, and reads an item's key only where the slot's word names the key's tag.
 /// Condition: the words reach as far as the shape says, and wherever the key stands it does so under its tag, in one of its buckets.
+#[inline(always)]
 pub fn find<const V: usize, P: Peek>(
     checked: &Checked,
     peek: &mut P,

@@ -31,7 +31,17 @@ fn index_of(places: &[Place], place: Place) -> Option<usize>
 }
 
 impl Path {
-    ghost use Rattle.mc_search.specs.Paths.{IsCut};
+    ghost use Rattle.mc_search.specs.Paths.{IsCut, direct_path};
+
+    /// The path that moves nothing: the key goes to the hole.
+    pub fn direct(hole: Place) -> Path
+        ensures { result ≡ direct_path hole }
+    {
+        Path {
+            places: ArrayVec::new(),
+            hole,
+        }
+    }
 
     /// Where the key goes.
     pub fn first(&self) -> Place

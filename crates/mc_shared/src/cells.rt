@@ -1,7 +1,7 @@
 //! The shared words of a table whose values have `V` words: they are opened, and closed.
-ghost use Rattle.std.specs.Prelude.{◌≡◌, ◌<◌, ◌≤◌, ℕ, [], IfOk, length, replicate, slice_index};
+ghost use Rattle.std.specs.Prelude.{◌≡◌, ◌^◌, ◌<◌, ◌≤◌, ℕ, [], IfOk, length, replicate, slice_index};
 ghost use Rattle.mc_words.specs.Checks.{shape_of};
-ghost use Rattle.mc_words.specs.Places.{IsWidth, all_words, word_count};
+ghost use Rattle.mc_words.specs.Places.{IsWidth, all_words, item_place, word_count};
 ghost use Rattle.mc_theory.specs.Lists.{state_of};
 ghost use Rattle.mc_shared.specs.Views.{layout_of};
 ghost use Rattle.mc_shared.specs.Records.{writer_record, reader_record};
@@ -43,6 +43,14 @@ impl<const V: usize> Cells<V> {
         ensures width { IsWidth V }
     {
         &self.checked
+    }
+
+    /// Where the items begin.
+    pub fn items_start(&self) -> usize
+        ensures value { result ≡ item_place V self.now.layout.shape 0 0 }
+        ensures small { result < 2 ^ 40 }
+    {
+        self.checked.item_place::<V>(0, 0)
     }
 }
 

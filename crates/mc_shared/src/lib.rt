@@ -38,5 +38,5 @@ pub use seats::{ReaderSeat, WriterSeat};
 pub use words::Words;
 pub use writer_calls::{
     begin_deed, count_moment, end_deed, fetch, perform, set_mark, set_mark_unless_set, turn_hand,
-    write_item, write_slot,
+    write_item, write_item_from, write_slot,
 };

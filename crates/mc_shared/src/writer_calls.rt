@@ -1,6 +1,6 @@
 //! The writer's steps on shared words: one call an act, and a load that changes no record.
-ghost use Rattle.std.specs.Prelude.{◌≡◌, ◌<◌, [], ◌∷◌, ◌++◌, slice_index};
-ghost use Rattle.mc_words.specs.Places.{word_count};
+ghost use Rattle.std.specs.Prelude.{◌≡◌, ◌^◌, ◌<◌, [], ◌∷◌, ◌++◌, slice_index};
+ghost use Rattle.mc_words.specs.Places.{IsWidth, item_place, word_count};
 ghost use Rattle.mc_theory.specs.Acts.{IsAllowed};
 ghost use Rattle.mc_theory.specs.Lists.{state_of};
 ghost use Rattle.mc_theory.specs.Traces.{HasVersionSteps};
@@ -62,6 +62,26 @@ pub fn write_item<const V: usize>(
 {
     writer.known();
     let at = cells.checked.item_place::<V>(i, j);
+    write_word(&cells.ruled, writer, Act::Item(i, j, word), at, word);
+}
+
+/// The same, for a caller that has worked out where the items begin.
+#[inline(always)]
+pub fn write_item_from<const V: usize>(
+    cells: &Cells<V>,
+    writer: &mut WriterSeat,
+    items: usize,
+    i: u32,
+    j: u8,
+    word: u64,
+)
+    requires width { IsWidth V }
+    requires of { writer.old.of ≡ cells.now }
+    requires items { (items ≡ item_place V cells.now.layout.shape 0 0) × (items < 2 ^ 40) }
+    requires allowed { IsAllowed cells.now.layout.shape (state_of V cells.now.layout.shape writer.old.acts) (Item i j word) }
+    ensures acts { writer.new ≡ writer_record writer.old.of (writer.old.acts ++ with_bit (Item i j word) 0 ∷ []) }
+{
+    let at = items + i as usize * (V + 1) + usize::from(j);
     write_word(&cells.ruled, writer, Act::Item(i, j, word), at, word);
 }
 

@@ -1,6 +1,6 @@
 //! The writer's deeds, step by step.
-ghost use Rattle.std.specs.Prelude.{◌≡◌, ◌<◌, List, [], ◌∷◌, ◌++◌};
-ghost use Rattle.mc_words.specs.Places.{IsWidth};
+ghost use Rattle.std.specs.Prelude.{◌≡◌, ◌^◌, ◌<◌, List, [], ◌∷◌, ◌++◌};
+ghost use Rattle.mc_words.specs.Places.{IsWidth, item_place};
 ghost use Rattle.mc_theory.specs.Lists.{Made};
 ghost use Rattle.mc_theory.specs.declared.act.Act.{Act};
 ghost use Rattle.mc_theory.specs.declared.act.Act.TheVariants as act;
@@ -10,7 +10,7 @@ ghost use Rattle.mc_plan.specs.Due.{AreDue};
 
 use mc_plan::Move;
 use mc_shared::{
-    Cells, WriterSeat, begin_deed, count_moment, end_deed, set_mark_unless_set, write_item,
+    Cells, WriterSeat, begin_deed, count_moment, end_deed, set_mark_unless_set, write_item_from,
     write_slot,
 };
 use mc_theory::Deed;
@@ -25,13 +25,23 @@ fn open<const V: usize>(cells: &Cells<V>, seat: &mut WriterSeat, key: u64, deed:
     begin_deed(cells, seat, key, deed);
 }
 
-fn word<const V: usize>(cells: &Cells<V>, seat: &mut WriterSeat, i: u32, j: u8, word: u64)
+// Writes word `j` of an item. The items begin at this place.
+fn word<const V: usize>(
+    cells: &Cells<V>,
+    seat: &mut WriterSeat,
+    items: usize,
+    i: u32,
+    j: u8,
+    word: u64,
+)
+    requires width { IsWidth V }
     requires of { seat.old.of ≡ cells.now }
+    requires items { (items ≡ item_place V cells.now.layout.shape 0 0) × (items < 2 ^ 40) }
     requires due { (all : List Made) × (due : List Act) × AreDue V cells.now.layout.shape all seat.old.acts (act.Item i j word ∷ due) }
     ensures of { seat.new.of ≡ seat.old.of }
     ensures due { (all : List Made) (due : List Act) → AreDue V cells.now.layout.shape all seat.old.acts (act.Item i j word ∷ due) → AreDue V cells.now.layout.shape all seat.new.acts due }
 {
-    write_item(cells, seat, i, j, word);
+    write_item_from(cells, seat, items, i, j, word);
 }
 
 fn slot<const V: usize>(cells: &Cells<V>, seat: &mut WriterSeat, place: Place, word: u64)
@@ -72,19 +82,27 @@ pub fn stamp<const V: usize>(cells: &Cells<V>, seat: &mut WriterSeat, i: u32)
 }
 
 // Writes the words of a value.
-fn write_value<const V: usize>(cells: &Cells<V>, seat: &mut WriterSeat, i: u32, value: &[u64; V])
+fn write_value<const V: usize>(
+    cells: &Cells<V>,
+    seat: &mut WriterSeat,
+    items: usize,
+    i: u32,
+    value: &[u64; V],
+)
     requires width { IsWidth V }
     requires of { seat.old.of ≡ cells.now }
+    requires items { (items ≡ item_place V cells.now.layout.shape 0 0) × (items < 2 ^ 40) }
     requires due { (all : List Made) × (due : List Act) × AreDue V cells.now.layout.shape all seat.old.acts (value_acts i 1 value.now ++ due) }
     ensures of { seat.new.of ≡ seat.old.of }
     ensures due { (all : List Made) (due : List Act) → AreDue V cells.now.layout.shape all seat.old.acts (value_acts i 1 value.now ++ due) → AreDue V cells.now.layout.shape all seat.new.acts due }
 {
     for j in 0..V {
-        word(cells, seat, i, j as u8 + 1, value[j]);
+        word(cells, seat, items, i, j as u8 + 1, value[j]);
     }
 }
 
 /// Puts a new value of the key that stands at the item. Condition: the acts of the renewal are due next.
+#[inline(always)]
 pub fn renew<const V: usize>(
     cells: &Cells<V>,
     seat: &mut WriterSeat,
@@ -98,14 +116,16 @@ pub fn renew<const V: usize>(
     ensures of { seat.new.of ≡ seat.old.of }
     ensures due { (all : List Made) (due : List Act) → AreDue V cells.now.layout.shape all seat.old.acts (renew_acts key value.now i ++ due) → AreDue V cells.now.layout.shape all seat.new.acts due }
 {
+    let items = cells.items_start();
     open(cells, seat, key, Deed::Renew);
-    write_value(cells, seat, i, value);
+    write_value(cells, seat, items, i, value);
     count(cells, seat);
     close(cells, seat);
 }
 
 /// Puts a key at a free item and in an empty slot of one of its buckets.
 /// Condition: the acts of the fill are due next, and the item is one of the table.
+#[inline(always)]
 pub fn fill<const V: usize>(
     cells: &Cells<V>,
     seat: &mut WriterSeat,
@@ -123,9 +143,10 @@ pub fn fill<const V: usize>(
 {
     let checked = cells.checked();
     let named = checked.slot_word(checked.tag(key), i);
+    let items = cells.items_start();
     open(cells, seat, key, Deed::Fill);
-    word(cells, seat, i, 0, key);
-    write_value(cells, seat, i, value);
+    word(cells, seat, items, i, 0, key);
+    write_value(cells, seat, items, i, value);
     slot(cells, seat, place, named);
     count(cells, seat);
     close(cells, seat);
@@ -133,6 +154,7 @@ pub fn fill<const V: usize>(
 
 /// Clears the slot of a key: a removal or an eviction.
 /// Condition: the acts of the removal or the eviction are due next.
+#[inline(always)]
 pub fn take_out<const V: usize>(
     cells: &Cells<V>,
     seat: &mut WriterSeat,

@@ -21,6 +21,7 @@ use Rattle.mc_plan.specs.declared.answer.Answer.{Answer}
 use Rattle.mc_plan.specs.declared.answer.Answer.TheVariants as answer
 use Rattle.mc_plan.specs.declared.answer.Put.TheVariants as put
 use Rattle.mc_plan.specs.declared.answer.Remove.TheVariants as remove
+use Rattle.mc_plan.specs.declared.decision.Storing.{Storing}
 use Rattle.mc_plan.specs.declared.books.Books.{Books}
 use Rattle.mc_search.specs.declared.free.FreeItems.{FreeItems}
 use Rattle.mc_search.specs.declared.path.Path.{Path}
@@ -235,6 +236,27 @@ stored_planned V b k v i at path free s shape key value old absent least keys in
 -- ---- a call that changes nothing
 pub idle_planned : (V : ℕ) (b : Books) (call : Call) (s : State V) (told : Answer) → AreBooksOf V b s → Means (shape_of b.checked) call told s s → Marks V (shape_of b.checked) s.words call told [] → IsPlanned V b [] call s s told
 idle_planned V b call s told old means marks = record { allowed = tt; means = means; marks = marks; ends = old }
+
+-- books that say something else of the last new key
+pub decided_planned : (V : ℕ) (b : Books) (plan : List Act) (call : Call) (s m : State V) (told : Answer) (d : Storing) → IsPlanned V b plan call s m told → IsPlanned V (record b { decided = d }) plan call s m told
+decided_planned V b plan call s m told d p = record {
+  allowed = p.allowed;
+  means = p.means;
+  marks = p.marks;
+  ends = record {
+    width = p.ends.width;
+    quiet = p.ends.quiet;
+    hand = p.ends.hand;
+    stands = p.ends.stands;
+    version_steps = p.ends.version_steps;
+    limit = p.ends.limit;
+    finder = p.ends.finder;
+    kept = p.ends.kept;
+    items = p.ends.items;
+    free = p.ends.free;
+    named = p.ends.named;
+  };
+}
 
 -- books with another list of the same free items
 pub books_still : (V : ℕ) (b : Books) (s : State V) (free : FreeItems) → AreBooksOf V b s → IsConsistent free → free.items ≡ b.free.items → ((j : ℕ) → IsFreeIn b.free j → ⊥) → ((j : ℕ) → IsFreeIn free j → ⊥) → AreBooksOf V (record b { free = free }) s

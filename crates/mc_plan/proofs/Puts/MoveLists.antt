@@ -40,7 +40,7 @@ stored_acts V sh w k v ps hole storing moves place =
     ∙ ap (λ (acts : List Act). acts ++ (fill_acts sh k v storing.item storing.place ++ Mark storing.item ∷ [])) (sym moves)
 
 -- and those that take another key's item for it
-pub replaced_acts : (V : ℕ) (sh : Shape) (w : List ℕ) (k : ℕ) (v : List ℕ) (ps : List Place) (hole : Place) (r : Replacement) → acts_of_moves r.storing.moves.items ≡ moves_acts V sh w ps hole → r.storing.place ≡ first_place ps hole
-    → replace_acts V sh w k v r.storing.item r.evicted r.victim ps hole ++ Mark r.storing.item ∷ [] ≡ replacement_acts sh k v r
-replaced_acts V sh w k v ps hole r moves place =
-    ap (λ (acts : List Act). evict_acts r.evicted r.victim ++ acts) (stored_acts V sh w k v ps hole r.storing moves place)
+pub replaced_acts : (V : ℕ) (sh : Shape) (w : List ℕ) (k : ℕ) (v : List ℕ) (ps : List Place) (hole : Place) (r : Replacement) (storing : Storing) → acts_of_moves storing.moves.items ≡ moves_acts V sh w ps hole → storing.place ≡ first_place ps hole
+    → replace_acts V sh w k v storing.item r.evicted r.victim ps hole ++ Mark storing.item ∷ [] ≡ replacement_acts sh k v r storing
+replaced_acts V sh w k v ps hole r storing moves place =
+    ap (λ (acts : List Act). evict_acts r.evicted r.victim ++ acts) (stored_acts V sh w k v ps hole storing moves place)

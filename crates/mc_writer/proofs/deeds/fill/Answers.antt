@@ -10,14 +10,14 @@ use Rattle.mc_writer.proofs.deeds.fill.Goals as goal
 pub word-requires : goal.word-requires
 word-requires g c =
     let d1 = c.open.ensures.due c.requires.due.0 _ c.requires.due.2 in
-    (omega arith, (c.open.ensures.of ∙ c.requires.of, (c.requires.due.0, _, d1)))
+    (omega arith, (c.requires.width, (c.open.ensures.of ∙ c.requires.of, ((c.items_start-items.ensures.value, c.items_start-items.ensures.small), (c.requires.due.0, _, d1)))))
 
 pub write_value-requires : goal.write_value-requires
 write_value-requires g c =
     let d1 = c.open.ensures.due c.requires.due.0 _ c.requires.due.2 in
     let d2 = c.word.ensures.due c.requires.due.0 _ d1 in
     let e2 = due_apart g.row.V c.args.cells.now.layout.shape c.requires.due.0 c.word.new.seat.acts (value_acts c.args.i 1 c.args.value.now) (act.Slot c.args.place (slot_word (tag_of c.args.cells.now.layout.shape c.args.key) c.args.i) ∷ act.Moment ∷ act.Close ∷ []) c.requires.due.1 d2 in
-    (omega arith, (omega (arith, c.requires.width), (c.requires.width, (c.word.ensures.of ∙ (c.open.ensures.of ∙ c.requires.of), (c.requires.due.0, _, e2)))))
+    (omega arith, (omega (arith, c.requires.width), (c.requires.width, (c.word.ensures.of ∙ (c.open.ensures.of ∙ c.requires.of), ((c.items_start-items.ensures.value, c.items_start-items.ensures.small), (c.requires.due.0, _, e2))))))
 
 pub slot-requires : goal.slot-requires
 slot-requires g c =

@@ -9,7 +9,7 @@ pub write_value-requires : goal.write_value-requires
 write_value-requires g c =
     let d1 = c.open.ensures.due c.requires.due.0 _ c.requires.due.2 in
     let e1 = due_apart g.row.V c.args.cells.now.layout.shape c.requires.due.0 c.open.new.seat.acts (value_acts c.args.i 1 c.args.value.now) (act.Moment ∷ act.Close ∷ []) c.requires.due.1 d1 in
-    (omega arith, (omega (arith, c.requires.width), (c.requires.width, (c.open.ensures.of ∙ c.requires.of, (c.requires.due.0, _, e1)))))
+    (omega arith, (omega (arith, c.requires.width), (c.requires.width, (c.open.ensures.of ∙ c.requires.of, ((c.items_start-items.ensures.value, c.items_start-items.ensures.small), (c.requires.due.0, _, e1))))))
 
 pub count-requires : goal.count-requires
 count-requires g c =

@@ -9,7 +9,7 @@ word-requires g c =
     let v = c.args.value.now in
     let j = c.loop-j.j in
     let d = c.loop-j.invariant.due a.0 a.1 a.2 in
-    (omega arith, (c.loop-j.invariant.of ∙ c.requires.of, (a.0, _, value_due g.row.V c.args.cells.now.layout.shape a.0 c.loop-j.seat.acts c.args.i j _ v a.1 (omega arith) refl d)))
+    (omega arith, (c.requires.width, (c.loop-j.invariant.of ∙ c.requires.of, (c.requires.items, (a.0, _, value_due g.row.V c.args.cells.now.layout.shape a.0 c.loop-j.seat.acts c.args.i j _ v a.1 (omega arith) refl d)))))
 
 pub loop-j-preserved : goal.loop-j-preserved
 loop-j-preserved g c = record {

@@ -5,5 +5,5 @@ use Rattle.mc_writer.proofs.put_call.make_replacement.Goals as goal
 pub make_storing-requires : goal.make_storing-requires
 make_storing-requires g c =
     let all = c.requires.due.0 in
-    let due = c.take_out.ensures.due all (storing_acts c.args.cells.now.layout.shape c.args.key c.args.value.now c.args.replacement.now.storing) c.requires.due.1 in
+    let due = c.take_out.ensures.due all (storing_acts c.args.cells.now.layout.shape c.args.key c.args.value.now c.args.storing.now) c.requires.due.1 in
     (omega arith, (omega (arith, c.requires.width.most), (c.requires.width, (c.take_out.ensures.of ∙ c.requires.of, (c.requires.item, (all, due))))))

@@ -3,11 +3,12 @@ use Rattle.mc_words.specs.Checks.{shape_of}
 use Rattle.mc_words.specs.declared.shape.Shape.{Shape}
 use Rattle.mc_theory.specs.Lists.{Made, state_of}
 use Rattle.mc_theory.specs.declared.act.Act.{Act}
-use Rattle.mc_plan.specs.Clerks.{IsPlanned, PutCall, state_after_sweep}
+use Rattle.mc_plan.specs.Clerks.{IsPlanned, IsSweepOf, PutCall, state_after_sweep}
 use Rattle.mc_plan.specs.Decisions.{replacement_acts, storing_told}
 use Rattle.mc_plan.specs.Making.{as_made}
 use Rattle.mc_plan.specs.declared.answer.Answer.TheVariants as answer
 use Rattle.mc_plan.specs.declared.answer.Put.{Put}
+use Rattle.mc_plan.specs.declared.decision.Storing.{Storing}
 use Rattle.mc_writer.specs.WriterCalls.{HasCalled, IsRested}
 use Rattle.mc_writer.proofs.WaitingPuts.{due_made_all, none_made, plan_due, shape_now, unturned, words_still}
 use Rattle.mc_writer.proofs.put_call.put_waiting.Goals as goal
@@ -71,14 +72,17 @@ make_replacement-requires g c =
     let over = c.turn_round.ensures.over (PutCall key value) s t.readings t.sweeping in
     let words = words_still V sh c.args.books.now c.turn_round.new.waiting key value before c.turn_round.new.seat t in
     let r = c.in-Ok.replacement in
+    let d = c.decided-storing.result.now in
     let f = c.in-Ok.ensures.finished (PutCall key value) s t.readings t.sweeping over words in
     let b = c.finish.new.books in
     let shape = shape_now V o c.args.books.now b c.turn_round.new.waiting key value before c.turn_round.new.seat c.finish.new.seat c.requires.layout c.requires.of t c.finish.ensures.seat c.finish.ensures.shape in
     let same : ◌≡◌ {A = Shape × ℕ × List ℕ} (shape_of b.checked, c.turn_round.new.waiting.key, c.turn_round.new.waiting.value) (sh, key, value) = λ i. (shape i, (c.turn_round.ensures.key ∙ c.new-waiting.ensures.key) i, (c.turn_round.ensures.value ∙ c.new-waiting.ensures.value) i) in
-    let told = answer.Put (Ok (storing_told r.storing (Some r.evicted))) in
-    let planned = subst (λ (y : Shape × ℕ × List ℕ). IsPlanned V b (replacement_acts y.0 y.1 y.2 r) (PutCall key value) s (state_after_sweep V (shape_of b.checked) s t.readings) told) same f.planned in
-    let due = plan_due V o c.args.books.now b c.turn_round.new.waiting key value before c.turn_round.new.seat c.finish.new.seat c.requires.layout c.requires.of t c.finish.ensures.seat c.finish.ensures.shape (replacement_acts sh key value r) told planned in
-    (omega arith, (omega (arith, c.requires.waits.known.width.most), (c.requires.waits.known.width, (ap (λ w. w.of) c.finish.ensures.seat ∙ (c.turn_round.ensures.of ∙ c.requires.of), (subst (λ (z : Shape). r.storing.item < z.items) shape f.in_items, (_, due))))))
+    let told = answer.Put (Ok (storing_told d (Some r.evicted))) in
+    let plans : IsPlanned V b (replacement_acts (shape_of b.checked) c.turn_round.new.waiting.key c.turn_round.new.waiting.value r d) (PutCall key value) s (state_after_sweep V (shape_of b.checked) s t.readings) told =
+    subst (λ (x : Storing). IsPlanned V b (replacement_acts (shape_of b.checked) c.turn_round.new.waiting.key c.turn_round.new.waiting.value r x) (PutCall key value) s (state_after_sweep V (shape_of b.checked) s t.readings) (answer.Put (Ok (storing_told x (Some r.evicted))))) (sym c.decided-storing.ensures) f.planned in
+    let planned = subst (λ (y : Shape × ℕ × List ℕ). IsPlanned V b (replacement_acts y.0 y.1 y.2 r d) (PutCall key value) s (state_after_sweep V (shape_of b.checked) s t.readings) told) same plans in
+    let due = plan_due V o c.args.books.now b c.turn_round.new.waiting key value before c.turn_round.new.seat c.finish.new.seat c.requires.layout c.requires.of t c.finish.ensures.seat c.finish.ensures.shape (replacement_acts sh key value r d) told planned in
+    (omega arith, (omega (arith, c.requires.waits.known.width.most), (c.requires.waits.known.width, (ap (λ w. w.of) c.finish.ensures.seat ∙ (c.turn_round.ensures.of ∙ c.requires.of), (subst (λ (x : Storing). x.item < sh.items) (sym c.decided-storing.ensures) (subst (λ (z : Shape). b.decided.item < z.items) shape f.in_items), (_, due))))))
 
 -- the call is over
 replaced : (g : Over) (c : After-told g) → HasCalled g.row.V c.args.cells.now.layout.shape (PutCall c.args.key c.args.value.now) c.args.seat.now c.make_replacement.new.seat (answer.Put (Ok c.told.result)) × IsRested g.row.V c.finish.new.books c.make_replacement.new.seat
@@ -94,13 +98,17 @@ replaced g c =
     let over = c.turn_round.ensures.over (PutCall key value) s t.readings t.sweeping in
     let words = words_still V sh c.args.books.now c.turn_round.new.waiting key value before c.turn_round.new.seat t in
     let r = c.in-Ok.replacement in
+    let d = c.decided-storing.result.now in
     let f = c.in-Ok.ensures.finished (PutCall key value) s t.readings t.sweeping over words in
     let b = c.finish.new.books in
     let shape = shape_now V o c.args.books.now b c.turn_round.new.waiting key value before c.turn_round.new.seat c.finish.new.seat c.requires.layout c.requires.of t c.finish.ensures.seat c.finish.ensures.shape in
     let same : ◌≡◌ {A = Shape × ℕ × List ℕ} (shape_of b.checked, c.turn_round.new.waiting.key, c.turn_round.new.waiting.value) (sh, key, value) = λ i. (shape i, (c.turn_round.ensures.key ∙ c.new-waiting.ensures.key) i, (c.turn_round.ensures.value ∙ c.new-waiting.ensures.value) i) in
-    let told = answer.Put (Ok (storing_told r.storing (Some r.evicted))) in
-    let planned = subst (λ (y : Shape × ℕ × List ℕ). IsPlanned V b (replacement_acts y.0 y.1 y.2 r) (PutCall key value) s (state_after_sweep V (shape_of b.checked) s t.readings) told) same f.planned in
-    let done = due_made_all V o c.args.books.now b c.turn_round.new.waiting key value before c.turn_round.new.seat c.finish.new.seat c.requires.layout c.requires.of t c.finish.ensures.seat c.finish.ensures.shape (replacement_acts sh key value r) told c.make_replacement.new.seat planned f.sweeps c.make_replacement.ensures.of c.make_replacement.ensures.due in
+    let told = answer.Put (Ok (storing_told d (Some r.evicted))) in
+    let plans : IsPlanned V b (replacement_acts (shape_of b.checked) c.turn_round.new.waiting.key c.turn_round.new.waiting.value r d) (PutCall key value) s (state_after_sweep V (shape_of b.checked) s t.readings) told =
+    subst (λ (x : Storing). IsPlanned V b (replacement_acts (shape_of b.checked) c.turn_round.new.waiting.key c.turn_round.new.waiting.value r x) (PutCall key value) s (state_after_sweep V (shape_of b.checked) s t.readings) (answer.Put (Ok (storing_told x (Some r.evicted))))) (sym c.decided-storing.ensures) f.planned in
+    let planned = subst (λ (y : Shape × ℕ × List ℕ). IsPlanned V b (replacement_acts y.0 y.1 y.2 r d) (PutCall key value) s (state_after_sweep V (shape_of b.checked) s t.readings) told) same plans in
+    let done = due_made_all V o c.args.books.now b c.turn_round.new.waiting key value before c.turn_round.new.seat c.finish.new.seat c.requires.layout c.requires.of t c.finish.ensures.seat c.finish.ensures.shape (replacement_acts sh key value r d) told c.make_replacement.new.seat planned
+    (subst (λ (x : Storing). IsSweepOf V (shape_of b.checked) s t.readings (answer.Put (Ok (storing_told x (Some r.evicted))))) (sym c.decided-storing.ensures) f.sweeps) c.make_replacement.ensures.of c.make_replacement.ensures.due in
     (subst (λ (x : Put). HasCalled V sh (PutCall key value) before c.make_replacement.new.seat (answer.Put (Ok x))) (sym c.told.ensures) done.0, done.1)
 
 pub returns-in-Ok-clause-called : goal.returns-in-Ok-clause-called

@@ -9,6 +9,7 @@ invariant-loop-i g l = record {
   of : l.seat.of ≡ l.fn.seat.of;
   turned : (call : Call) (before : WriterRecord) → HasTurned g.row.V l.fn.cells.layout.shape l.fn.books l.fn.waiting call before l.fn.seat → HasTurned g.row.V l.fn.cells.layout.shape l.fn.books l.waiting call before l.seat;
   key : l.waiting.key ≡ l.fn.waiting.key;
+  path : l.waiting.path ≡ l.fn.waiting.path;
   value : l.waiting.value ≡ l.fn.waiting.value;
 }
 

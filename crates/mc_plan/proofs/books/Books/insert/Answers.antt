@@ -17,7 +17,7 @@ use Rattle.mc_search.specs.Readable.{IsFilled}
 use Rattle.mc_search.proofs.TakenItems.{free_below}
 use Rattle.mc_plan.proofs.Puts.MoveLists.{stored_acts}
 use Rattle.mc_plan.proofs.Puts.PathSteps.{chain_taken}
-use Rattle.mc_plan.proofs.Calls.AfterPlan.{idle_planned, books_still, path_refused, stored_planned, filled_in, none_in, least_in}
+use Rattle.mc_plan.proofs.Calls.AfterPlan.{decided_planned, idle_planned, books_still, path_refused, stored_planned, filled_in, none_in, least_in}
 use Rattle.mc_plan.proofs.books.Books.insert.Goals as goal
 
 pub returns-in_default-clause-inserted : goal.returns-in_default-clause-inserted
@@ -49,13 +49,13 @@ returns-in_default-take_least-clause-inserted g c s lacks same =
     } in
     subst (λ (f : Shape). Waits V (record b { finder = f; free = free }) k s c.in-Some.path) (sym c.path.ensures.finder) waits
 
-pub storing-requires-clause-filled : goal.storing-requires-clause-filled
-storing-requires-clause-filled g c =
+pub store-requires-clause-filled : goal.store-requires-clause-filled
+store-requires-clause-filled g c =
     let r = c.requires.books in
     subst (λ (x : List ℕ). IsFilled (shape_of c.args.self.now.checked) x) (sym c.path.ensures.words) (filled_in g.row.V c.args.self.now r.0 _ r.1.known r.2)
 
-pub storing-requires-clause-taken : goal.storing-requires-clause-taken
-storing-requires-clause-taken g c =
+pub store-requires-clause-taken : goal.store-requires-clause-taken
+store-requires-clause-taken g c =
     let b = c.args.self.now in
     let r = c.requires.books in
     let path = c.in-Some.path in
@@ -76,25 +76,27 @@ returns-clause-inserted g c s lacks same =
     let free = c.take_least.new.self in
     let steps = 2 * length ps + 2 in
     let now = c.path.ensures.words ∙ same in
-    let storing = c.storing.result in
+    let storing = c.store.new.self.decided in
     let told = answer.Put (Ok (storing_told storing None)) in
     let least = least_in V b s (g.P.Peek.words c.args.peek.now) old same k path c.in-Some.ensures.found in
-    let keys = subst (λ (x : List ℕ). AreKeys V sh x ps) now c.storing.ensures.keys in
+    let keys = subst (λ (x : List ℕ). AreKeys V sh x ps) now c.store.ensures.keys in
     let was = c.in-Some-take_least.ensures.free in
     let item = free_below b.free i old.kept was in
     let below : i < sh.items = omega (arith, item, old.items) in
     let planned : IsPlanned V (record b { free = free; version_steps = b.version_steps + steps }) (put_acts V sh s.words k v i ps path.hole ++ act.Mark i ∷ []) (PutCall k v) s s (answer.Put (Ok (put.Stored c.args.at (length ps) None))) =
     stored_planned V b k v i c.args.at path free s b.checked.sound (omega arith) (c.told-value, c.have_words.ensures.words) old lacks.absent least keys below lacks.unspent lacks.next was c.take_least.ensures.kept c.take_least.ensures.items c.in-Some-take_least.ensures.takes in
     let at_item : (put_acts V sh s.words k v i ps path.hole ++ act.Mark i ∷ []) ≡ (put_acts V sh s.words k v storing.item ps path.hole ++ act.Mark storing.item ∷ []) =
-    ap (λ (j : ℕ). put_acts V sh s.words k v j ps path.hole ++ act.Mark j ∷ []) (sym c.storing.ensures.item) in
-    let moved = c.storing.ensures.moves ∙ ap (λ (x : List ℕ). moves_acts V sh x ps path.hole) now in
-    let acts = at_item ∙ stored_acts V sh s.words k v ps path.hole storing moved c.storing.ensures.place in
+    ap (λ (j : ℕ). put_acts V sh s.words k v j ps path.hole ++ act.Mark j ∷ []) (sym c.store.ensures.item) in
+    let moved = c.store.ensures.moves ∙ ap (λ (x : List ℕ). moves_acts V sh x ps path.hole) now in
+    let acts = at_item ∙ stored_acts V sh s.words k v ps path.hole storing moved c.store.ensures.place in
     let tells : put.Stored c.args.at (length ps) None ≡ storing_told storing None =
-    ap (λ (n : ℕ). put.Stored n (length ps) None) (sym c.storing.ensures.at) ∙ ap (λ (n : ℕ). put.Stored storing.at n None) (sym c.storing.ensures.many) in
-    let all : IsPlanned V (record b { free = free; version_steps = b.version_steps + steps }) (storing_acts sh k v storing) (PutCall k v) s s told =
+    ap (λ (n : ℕ). put.Stored n (length ps) None) (sym c.store.ensures.at) ∙ ap (λ (n : ℕ). put.Stored storing.at n None) (sym c.store.ensures.many) in
+    let listed : IsPlanned V (record b { free = free; version_steps = b.version_steps + steps }) (storing_acts sh k v storing) (PutCall k v) s s told =
     subst (λ (x : Put). IsPlanned V (record b { free = free; version_steps = b.version_steps + steps }) (storing_acts sh k v storing) (PutCall k v) s s (answer.Put (Ok x))) tells
-    (subst (λ (x : List Act). IsPlanned V (record b { free = free; version_steps = b.version_steps + steps }) x (PutCall k v) s s (answer.Put (Ok (put.Stored c.args.at (length ps) None)))) acts planned) in (
-      subst (λ (x : Books). storing.item < (shape_of x.checked).items) (sym c.storing.ensures.books) (subst (λ (j : ℕ). j < sh.items) (sym c.storing.ensures.item) below),
-      subst (λ (x : Books). IsPlanned V x (storing_acts (shape_of x.checked) k v storing) (PutCall k v) s s told) (sym c.storing.ensures.books)
-          (subst (λ (f : Shape). IsPlanned V (record b { finder = f; free = free; version_steps = b.version_steps + steps }) (storing_acts sh k v storing) (PutCall k v) s s told) (sym c.path.ensures.finder) all),
+    (subst (λ (x : List Act). IsPlanned V (record b { free = free; version_steps = b.version_steps + steps }) x (PutCall k v) s s (answer.Put (Ok (put.Stored c.args.at (length ps) None)))) acts planned) in
+    let all : IsPlanned V (record b { free = free; version_steps = b.version_steps + steps; decided = storing }) (storing_acts sh k v storing) (PutCall k v) s s told =
+    decided_planned V (record b { free = free; version_steps = b.version_steps + steps }) (storing_acts sh k v storing) (PutCall k v) s s told storing listed in (
+      subst (λ (x : Books). storing.item < (shape_of x.checked).items) (sym c.store.ensures.books) (subst (λ (j : ℕ). j < sh.items) (sym c.store.ensures.item) below),
+      subst (λ (x : Books). IsPlanned V x (storing_acts (shape_of x.checked) k v storing) (PutCall k v) s s told) (sym c.store.ensures.books)
+          (subst (λ (f : Shape). IsPlanned V (record b { finder = f; free = free; version_steps = b.version_steps + steps; decided = storing }) (storing_acts sh k v storing) (PutCall k v) s s told) (sym c.path.ensures.finder) all),
     )

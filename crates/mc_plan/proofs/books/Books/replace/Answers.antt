@@ -18,7 +18,7 @@ use Rattle.mc_plan.specs.Moves.{AreKeys, AreTaken}
 use Rattle.mc_plan.specs.Plans.{moves_acts}
 use Rattle.mc_search.specs.Readable.{IsFilled}
 use Rattle.mc_plan.specs.Replacing.{replace_acts}
-use Rattle.mc_plan.proofs.Calls.AfterPlan.{filled_in, placed_in}
+use Rattle.mc_plan.proofs.Calls.AfterPlan.{decided_planned, filled_in, placed_in}
 use Rattle.mc_plan.proofs.Puts.MoveLists.{replaced_acts}
 use Rattle.mc_plan.proofs.Puts.PathSteps.{chain_taken, cut_taken}
 use Rattle.mc_plan.proofs.Calls.SweptStates.{swept_still}
@@ -55,16 +55,16 @@ unreachable-requires g c =
     let now = c.key_at-evicted.ensures.same ∙ c.moment-at.ensures.same ∙ r.4 in
     c.in_default.ensures.none there.0 c.args.item (subst (λ (w : List ℕ). Stands g.row.V sh w c.key_at-evicted.result there.0 c.args.item) (sym now) there.1)
 
-pub storing-storing-requires-clause-filled : goal.storing-storing-requires-clause-filled
-storing-storing-requires-clause-filled g c =
+pub store-requires-clause-filled : goal.store-requires-clause-filled
+store-requires-clause-filled g c =
     let V = g.row.V in
     let r = c.requires.books in
     let b : Books = record c.args.self.now { hand = r.3.before } in
     let now = c.find.ensures.same ∙ c.key_at-evicted.ensures.same ∙ c.moment-at.ensures.same in
     subst (λ (w : List ℕ). IsFilled (shape_of b.checked) w) (sym now) (filled_in V b r.1 _ r.3.sweeping.waits.known r.4)
 
-pub storing-storing-requires-clause-taken : goal.storing-storing-requires-clause-taken
-storing-storing-requires-clause-taken g c =
+pub store-requires-clause-taken : goal.store-requires-clause-taken
+store-requires-clause-taken g c =
     let r = c.requires.books in
     let sh = shape_of c.args.self.now.checked in
     let path = c.args.waiting.path in
@@ -86,7 +86,7 @@ returns-clause-replaced g c call s rs on same =
     let p = c.in-Some.victim in
     let kept = c.cut_at-path.result.places.items in
     let end = c.cut_at-path.result.hole in
-    let storing = c.storing-storing.result in
+    let storing = c.store.new.self.decided in
     let mid = state_after_sweep V sh s rs in
     let back : s.words ≡ mid.words = sym (swept_still V sh s rs).words in
     let read = c.key_at-evicted.ensures.same ∙ c.moment-at.ensures.same ∙ same in
@@ -95,23 +95,24 @@ returns-clause-replaced g c call s rs on same =
     let found = subst (λ (w : List ℕ). Stands V sh w e (slot_number p) c.in-Some.field-0-1) read c.in-Some.ensures.found in
     let one = one_item V sh s e there.0 i (slot_number p) c.in-Some.field-0-1 on.sweeping.waits.known.quiet there.1 found in
     let stands = subst (λ (w : List ℕ). Stands V sh w e (slot_number p) i) back (subst (λ (j : ℕ). Stands V sh s.words e (slot_number p) j) one found) in
-    let keys = subst (λ (w : List ℕ). AreKeys V sh w kept) now c.storing-storing.ensures.keys in
+    let keys = subst (λ (w : List ℕ). AreKeys V sh w kept) now c.store.ensures.keys in
     let at : c.moment-at.result + 2 ≡ moment mid.words + 2 = ap (λ (n : ℕ). n + 2) c.moment-at.ensures.value ∙ ap (λ (w : List ℕ). moment w + 2) (same ∙ back) in
-    let books = c.storing-storing.ensures.books in
-    let changes : c.storing-storing.new.self.version_steps + 2 ≡ b.version_steps + (2 * length kept + 4) = omega (arith, ap (λ (x : Books). x.version_steps) books) in
-    let after : Books = record c.storing-storing.new.self { version_steps = c.storing-storing.new.self.version_steps + 2 } in
-    let same_books : after ≡ record b { version_steps = c.storing-storing.new.self.version_steps + 2 } = ap (λ (x : Books). record x { version_steps = c.storing-storing.new.self.version_steps + 2 }) books in
-    let planned = replaced_planned V b waiting call s rs i on e p kept end (c.moment-at.result + 2) (c.storing-storing.new.self.version_steps + 2) c.have_words.ensures.words (omega (arith, c.key_at-evicted.type_inv)) c.in-Some.ensures.place stands c.cut_at-path.ensures.cut keys at changes in
-    let r : Replacement = record { evicted = e; victim = p; storing = storing } in
-    let moved = c.storing-storing.ensures.moves ∙ ap (λ (w : List ℕ). moves_acts V sh w kept end) now in
-    let acts = ap (λ (j : ℕ). replace_acts V sh mid.words k v j e p kept end ++ act.Mark j ∷ []) (sym c.storing-storing.ensures.item) ∙ replaced_acts V sh mid.words k v kept end r moved c.storing-storing.ensures.place in
+    let books = c.store.ensures.books in
+    let changes : c.store.new.self.version_steps + 2 ≡ b.version_steps + (2 * length kept + 4) = omega (arith, ap (λ (x : Books). x.version_steps) books) in
+    let after : Books = record c.store.new.self { version_steps = c.store.new.self.version_steps + 2 } in
+    let same_books : after ≡ record b { version_steps = c.store.new.self.version_steps + 2; decided = storing } = ap (λ (x : Books). record x { version_steps = c.store.new.self.version_steps + 2 }) books in
+    let planned = replaced_planned V b waiting call s rs i on e p kept end (c.moment-at.result + 2) (c.store.new.self.version_steps + 2) c.have_words.ensures.words (omega (arith, c.key_at-evicted.type_inv)) c.in-Some.ensures.place stands c.cut_at-path.ensures.cut keys at changes in
+    let r : Replacement = record { evicted = e; victim = p } in
+    let moved = c.store.ensures.moves ∙ ap (λ (w : List ℕ). moves_acts V sh w kept end) now in
+    let acts = ap (λ (j : ℕ). replace_acts V sh mid.words k v j e p kept end ++ act.Mark j ∷ []) (sym c.store.ensures.item) ∙ replaced_acts V sh mid.words k v kept end r storing moved c.store.ensures.place in
     let tells : put.Stored (c.moment-at.result + 2) (length kept) (Some e) ≡ storing_told storing (Some e) =
-    ap (λ (n : ℕ). put.Stored n (length kept) (Some e)) (sym c.storing-storing.ensures.at) ∙ ap (λ (n : ℕ). put.Stored storing.at n (Some e)) (sym c.storing-storing.ensures.many) in
-    let done : IsPlanned V (record b { version_steps = c.storing-storing.new.self.version_steps + 2 }) (replacement_acts sh k v r) call s mid (answer.Put (Ok (storing_told storing (Some e)))) =
-    subst (λ (x : Put). IsPlanned V (record b { version_steps = c.storing-storing.new.self.version_steps + 2 }) (replacement_acts sh k v r) call s mid (answer.Put (Ok x))) tells
-    (subst (λ (x : List Act). IsPlanned V (record b { version_steps = c.storing-storing.new.self.version_steps + 2 }) x call s mid (answer.Put (Ok (put.Stored (c.moment-at.result + 2) (length kept) (Some e))))) acts planned.0) in
-    let all : IsReplaced V (record b { version_steps = c.storing-storing.new.self.version_steps + 2 }) waiting call s rs r = record {
-      in_items = rw c.storing-storing.ensures.item (victim_stands V b waiting call s rs i on).0;
+    ap (λ (n : ℕ). put.Stored n (length kept) (Some e)) (sym c.store.ensures.at) ∙ ap (λ (n : ℕ). put.Stored storing.at n (Some e)) (sym c.store.ensures.many) in
+    let listed : IsPlanned V (record b { version_steps = c.store.new.self.version_steps + 2 }) (replacement_acts sh k v r storing) call s mid (answer.Put (Ok (storing_told storing (Some e)))) =
+    subst (λ (x : Put). IsPlanned V (record b { version_steps = c.store.new.self.version_steps + 2 }) (replacement_acts sh k v r storing) call s mid (answer.Put (Ok x))) tells
+    (subst (λ (x : List Act). IsPlanned V (record b { version_steps = c.store.new.self.version_steps + 2 }) x call s mid (answer.Put (Ok (put.Stored (c.moment-at.result + 2) (length kept) (Some e))))) acts planned.0) in
+    let done = decided_planned V (record b { version_steps = c.store.new.self.version_steps + 2 }) (replacement_acts sh k v r storing) call s mid (answer.Put (Ok (storing_told storing (Some e)))) storing listed in
+    let all : IsReplaced V (record b { version_steps = c.store.new.self.version_steps + 2; decided = storing }) waiting call s rs r = record {
+      in_items = rw c.store.ensures.item (victim_stands V b waiting call s rs i on).0;
       planned = done;
       sweeps = subst (λ (x : Put). IsSweepOf V sh s rs (answer.Put (Ok x))) tells planned.1;
     } in

@@ -1,0 +1,221 @@
+// What each contestant in C++ is put through: the protocol of `twin/src/protocol.rs`, in C++.
+//
+// A contestant is a class with: a constructor that takes how many keys there will be; `get` (whether the key is there, and
+// its value); `put` (false where it is refused); `slots` (where keys can stand, or 0); `enter`, `tick` and `leave`, which each
+// thread calls at its beginning, now and then, and at its end.
+#pragma once
+#include <array>
+#include <atomic>
+#include <chrono>
+#include <cstdint>
+#include <cstdio>
+#include <cstdlib>
+#include <memory>
+#include <string>
+#include <thread>
+#include <time.h>
+#include <vector>
+
+typedef std::array<uint64_t, 4> Value;
+
+// The finalizer of MurmurHash3, by which the table hashes.
+static inline uint64_t mix(uint64_t key) {
+    key = (key ^ (key >> 33)) * 0xff51afd7ed558ccdull;
+    key = (key ^ (key >> 33)) * 0xc4ceb9fe1a85ec53ull;
+    return key ^ (key >> 33);
+}
+
+struct Mixed {
+    size_t operator()(uint64_t key) const { return mix(key); }
+};
+
+static inline uint64_t scatter(uint64_t bits) {
+    bits = (bits ^ (bits >> 30)) * 0xbf58476d1ce4e5b9ull;
+    bits = (bits ^ (bits >> 27)) * 0x94d049bb133111ebull;
+    return bits ^ (bits >> 31);
+}
+
+// Different numbers have different keys.
+static inline uint64_t key_of(uint64_t number) { return scatter(number + 0x51ed270b); }
+
+// Draws numbers by splitmix64.
+struct Draw {
+    uint64_t state;
+    explicit Draw(uint64_t seed) : state((seed * 0x9e3779b97f4a7c15ull) ^ 0x1234567) {}
+    uint64_t below(uint64_t most) {
+        state += 0x9e3779b97f4a7c15ull;
+        return ((scatter(state) >> 32) * most) >> 32;
+    }
+};
+
+struct Options {
+    std::string workload = "hit";
+    uint64_t readers = 1, writers = 0, keys = 1000, capacity = 1000, write_every = 1, seed = 1;
+    double seconds = 0.3;
+
+    Options(int count, char **words) {
+        for (int n = 1; n + 1 < count; n += 2) {
+            std::string name = words[n];
+            if (name == "--workload") workload = words[n + 1];
+            else if (name == "--seconds") seconds = atof(words[n + 1]);
+            else number(name) = strtoull(words[n + 1], nullptr, 10);
+        }
+    }
+
+    uint64_t &number(const std::string &name) {
+        if (name == "--readers") return readers;
+        if (name == "--writers") return writers;
+        if (name == "--keys") return keys;
+        if (name == "--capacity") return capacity;
+        if (name == "--write-every") return write_every;
+        if (name == "--seed") return seed;
+        fprintf(stderr, "no option %s\n", name.c_str());
+        exit(2);
+    }
+
+    bool alone() const { return readers + writers == 1; }
+    uint64_t fresh() const { return (seed % 256) << 32; }
+};
+
+static inline double seconds_of(clockid_t clock) {
+    struct timespec time;
+    clock_gettime(clock, &time);
+    return time.tv_sec + time.tv_nsec * 1e-9;
+}
+
+// The processor time of the thread, or the time on the clock.
+static inline double now(bool alone) { return seconds_of(alone ? CLOCK_THREAD_CPUTIME_ID : CLOCK_MONOTONIC); }
+
+// The bytes of the program that lie in memory.
+static inline double resident() {
+    long whole = 0, pages = 0;
+    FILE *account = fopen("/proc/self/statm", "r");
+    if (!account || fscanf(account, "%ld %ld", &whole, &pages) != 2) abort();
+    fclose(account);
+    return 4096.0 * pages;
+}
+
+struct alignas(128) Tally {
+    uint64_t lookups = 0, hits = 0, torn = 0, writes = 0, refused = 0;
+    double seconds = 0;
+
+    template <class C> void look(C &map, uint64_t key) {
+        Value value;
+        lookups++;
+        if (!map.get(key, value)) return;
+        hits++;
+        torn += value[0] != value[1] || value[0] != value[2] || value[0] != value[3];
+    }
+
+    template <class C> void put(C &map, uint64_t key, uint64_t word) {
+        writes++;
+        refused += !map.put(key, Value{word, word, word, word});
+    }
+};
+
+// One thread's work: a reader's, or a writer's that puts once in so many calls.
+template <class C> Tally work(C &map, const Options &options, uint64_t seed, bool puts, std::atomic<int> &waiting, std::atomic<bool> &over) {
+    uint64_t first = options.workload == "miss" ? 1ull << 40 : 0, left = options.write_every;
+    Draw draw(options.seed * 1000 + seed);
+    Tally tally;
+    map.enter();
+    waiting--;
+    while (waiting) __builtin_ia32_pause();
+    double began = now(options.alone());
+    while (!over) {
+        for (uint64_t n = 0; n < 64; n++) {
+            uint64_t key = key_of(first + draw.below(options.keys));
+            if (puts && --left == 0) {
+                left = options.write_every;
+                tally.put(map, key, n);
+            } else {
+                tally.look(map, key);
+            }
+        }
+        map.tick();
+    }
+    tally.seconds = now(options.alone()) - began;
+    map.leave();
+    return tally;
+}
+
+// Readers and writers over keys that were put before.
+template <class C> void beside(const Options &options) {
+    double before = resident();
+    auto map = std::make_unique<C>(options.capacity);
+    Tally filled;
+    map->enter();
+    for (uint64_t n = 0; n < options.keys; n++) filled.put(*map, key_of(n), 0);
+    double bytes = resident() - before;
+    for (uint64_t n = 0; n < options.keys; n++) filled.look(*map, key_of(n));
+    map->leave();
+    uint64_t threads = options.readers + options.writers;
+    std::atomic<int> waiting(threads);
+    std::atomic<bool> over(false);
+    std::vector<Tally> tallies(threads);
+    std::vector<std::thread> workers;
+    for (uint64_t n = 0; n < threads; n++)
+        workers.emplace_back([&, n] { tallies[n] = work(*map, options, n, n >= options.readers, waiting, over); });
+    std::this_thread::sleep_for(std::chrono::duration<double>(options.seconds));
+    over = true;
+    for (auto &worker : workers) worker.join();
+    double lookups_s = 0, writes_s = 0, nanos = 0, lookups = 0;
+    uint64_t torn = 0, refused = filled.refused;
+    for (uint64_t n = 0; n < threads; n++) {
+        Tally &tally = tallies[n];
+        lookups_s += tally.lookups / tally.seconds;
+        writes_s += tally.writes / tally.seconds;
+        torn += tally.torn;
+        refused += tally.refused;
+        if (n < options.readers) nanos += tally.seconds * 1e9, lookups += tally.lookups;
+    }
+    printf("{\"ns_lookup\":%.2f,\"lookups_s\":%.0f,\"writes_s\":%.0f,\"torn\":%lu,\"refused\":%lu,\"bytes_key\":%.1f}\n",
+        lookups ? nanos / lookups : 0, lookups_s, writes_s, torn, refused, bytes / options.keys);
+    fflush(stdout);
+    _Exit(0);
+}
+
+static inline void report(double writes, uint64_t refused, double seconds, double bytes, double load) {
+    printf("{\"writes_s\":%.0f,\"refused\":%lu,\"bytes_key\":%.1f,\"load_factor\":%.5f}\n", writes / seconds, refused, bytes, load);
+}
+
+// Fresh keys into new maps, up to their capacity.
+template <class C> void fill(const Options &options) {
+    uint64_t first = options.fresh();
+    double spent = 0, bytes = 0;
+    Tally tally;
+    while (spent < options.seconds) {
+        double before = resident();
+        auto map = std::make_unique<C>(options.capacity);
+        map->enter();
+        double began = now(true);
+        for (uint64_t n = 0; n < options.capacity; n++) {
+            tally.put(*map, key_of(first + n), n);
+            if (n % 64 == 0) map->tick();
+        }
+        spent += now(true) - began;
+        if (bytes == 0) bytes = resident() - before;
+        first += options.capacity;
+        map->leave();
+    }
+    report(tally.writes, tally.refused, spent, bytes / options.capacity, 0);
+}
+
+// Fresh keys until one is refused.
+template <class C> void load(const Options &options) {
+    C map(options.capacity);
+    uint64_t many = 0, slots = map.slots();
+    map.enter();
+    double began = now(true);
+    while (many < slots && map.put(key_of(options.fresh() + many), Value{1, 1, 1, 1})) many++;
+    report(many, 0, now(true) - began, 0, double(many) / slots);
+    map.leave();
+}
+
+template <class C> int contest(int count, char **words) {
+    Options options(count, words);
+    if (options.workload == "fill") fill<C>(options);
+    else if (options.workload == "load") load<C>(options);
+    else beside<C>(options);
+    return 0;
+}

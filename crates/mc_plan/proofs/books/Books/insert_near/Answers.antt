@@ -1,0 +1,51 @@
+use Rattle.std.proofs.Common.{ℕ, List, refl, ◌∷◌, ◌++◌, [], None, Ok, ◌≡◌, ◌+◌, ◌<◌, ◌∙◌, ap, arith, length, sym, subst}
+use Rattle.mc_words.specs.Checks.{shape_of}
+use Rattle.mc_theory.specs.declared.act.Act.{Act}
+use Rattle.mc_theory.specs.declared.act.Act.TheVariants as act
+use Rattle.mc_plan.specs.Clerks.{PutCall, IsPlanned, Waits}
+use Rattle.mc_plan.specs.Decisions.{acts_of_moves, storing_acts, storing_told}
+use Rattle.mc_plan.specs.declared.answer.Answer.TheVariants as answer
+use Rattle.mc_plan.specs.declared.answer.Put.{Put}
+use Rattle.mc_plan.specs.declared.answer.Put.TheVariants as put
+use Rattle.mc_plan.specs.declared.books.Books.{Books}
+use Rattle.mc_plan.specs.declared.decision.Move.{Move}
+use Rattle.mc_plan.specs.Puts.{put_acts}
+use Rattle.mc_search.specs.Paths.{direct_path}
+use Rattle.mc_search.proofs.TakenItems.{free_below}
+use Rattle.mc_plan.proofs.Puts.MoveLists.{stored_acts}
+use Rattle.mc_plan.proofs.Calls.AfterPlan.{books_still, stored_planned, least_in}
+use Rattle.mc_plan.proofs.books.Books.insert_near.Goals as goal
+
+pub returns-in_default-take_least-clause-near : goal.returns-in_default-take_least-clause-near
+returns-in_default-take_least-clause-near g c s lacks same =
+    let V = g.row.V in
+    let b = c.args.self.now in
+    let k = c.args.key in
+    let free = c.take_least.new.self in
+    let path = direct_path c.in-Some.hole in
+    let still = books_still V b s free lacks.known c.take_least.ensures.kept c.take_least.ensures.items c.in_default-take_least.ensures.none c.in_default-take_least.ensures.same in
+    let waits : Waits V (record b { free = free }) k s path = record {
+      known = still;
+      unspent = lacks.unspent;
+      absent = lacks.absent;
+      least = least_in V b s (g.P.Peek.words c.args.peek.now) lacks.known same k path c.in-Some.ensures.found;
+      none = c.in_default-take_least.ensures.same;
+    } in
+    waits
+
+pub returns-clause-near : goal.returns-clause-near
+returns-clause-near g c s lacks same =
+    let V = g.row.V in
+    let b = c.args.self.now in
+    let sh = shape_of b.checked in
+    let k = c.args.key in
+    let v = c.args.value.now in
+    let old = lacks.known in
+    let i = c.in-Some-take_least.item in
+    let path = direct_path c.in-Some.hole in
+    let free = c.take_least.new.self in
+    let least = least_in V b s (g.P.Peek.words c.args.peek.now) old same k path c.in-Some.ensures.found in
+    let was = c.in-Some-take_least.ensures.free in
+    let item = free_below b.free i old.kept was in
+    let below : i < sh.items = omega (arith, item, old.items) in
+    (below, stored_planned V b k v i c.args.at path free s b.checked.sound (omega arith) (c.told-value, c.have_words.ensures.words) old lacks.absent least tt below lacks.unspent lacks.next was c.take_least.ensures.kept c.take_least.ensures.items c.in-Some-take_least.ensures.takes)

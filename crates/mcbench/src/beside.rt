@@ -1,0 +1,142 @@
+//! Readers and a writer, each in a thread of its own.
+ghost use Rattle.std.specs.Prelude.{◌≡◌, All, IfOk};
+
+use crate::lookups::{Task, look_on};
+use crate::memory::resident;
+use crate::options::{Options, Workload};
+use crate::report::{Quotient, Report};
+use crate::tally::Tally;
+use crate::writes::{get_all, put_all, write_on};
+use mc_cache::{Cache, Reader, Writer, open};
+use std::alloc::{AllocError, Global};
+use std::rt::Files;
+use std::thread::{Threads, join};
+use std::time::{Clock, CpuClock};
+use std::{io, thread};
+
+/// A reader, and what it is to do.
+#[derive(Drop)]
+struct Job {
+    reader: Reader<4>,
+    task: Task,
+}
+
+/// What the threads do.
+fn task_of(options: &Options, number: u64) -> Task {
+    Task {
+        first: if options.workload == Workload::Absent {
+            1 << 40
+        } else {
+            0
+        },
+        keys: options.keys,
+        seed: u64::from(options.seed) * 1000 ^ number,
+        time: options.time,
+        alone: options.readers == 0 || options.readers == 1 && options.writers == 0,
+    }
+}
+
+// A job for each reader of the cache.
+fn jobs_of(
+    alloc: Global,
+    cache: &Cache<4>,
+    mut readers: Vec<Reader<4>>,
+    options: &Options,
+) -> Result<Vec<Job>, AllocError>
+    requires { All (λ r. r.of ≡ cache.now) readers.items }
+    ensures { IfOk result (λ jobs. All (λ job. job.reader.of ≡ cache.now) jobs.items) }
+{
+    let _cache = cache;
+    let mut jobs = Vec::new(alloc);
+    let mut number = 0u64;
+    while let Some(reader) = readers.pop() {
+        let task = task_of(options, number);
+        jobs.push(Job { reader, task })?;
+        number = number.wrapping_add(1);
+    }
+    Ok(jobs)
+}
+
+// All readers look keys up.
+fn look_in_threads<R: Threads + Sync + Clock + CpuClock>(
+    rt: &R,
+    alloc: Global,
+    cache: &Cache<4>,
+    readers: Vec<Reader<4>>,
+    options: &Options,
+) -> io::Result<Tally>
+    requires { All (λ r. r.of ≡ cache.now) readers.items }
+{
+    let jobs = jobs_of(alloc, cache, readers, options)?;
+    let tallies = thread::map_vec(
+        rt,
+        jobs,
+        &|job: Job| -> io::Result<Tally>
+            requires { job.reader.of ≡ cache.now }
+        { look_on(rt, cache, job.reader, job.task) },
+    )?;
+    let mut sum = Tally::default();
+    for tally in tallies {
+        sum = sum.and(tally?);
+    }
+    Ok(sum)
+}
+
+// The readers look keys up and the writer puts them, each in its thread.
+fn work<R: Threads + Sync + Clock + CpuClock>(
+    rt: &R,
+    alloc: Global,
+    cache: &Cache<4>,
+    writer: &mut Writer<4>,
+    readers: Vec<Reader<4>>,
+    options: &Options,
+) -> io::Result<(Tally, Tally)>
+    requires writer { writer.old.of ≡ cache.now }
+    requires readers { All (λ r. r.of ≡ cache.now) readers.items }
+{
+    let task = task_of(options, 500);
+    let every = options.write_every;
+    if options.writers == 0 {
+        let looked = look_in_threads(rt, alloc, cache, readers, options)?;
+        return Ok((looked, Tally::default()));
+    }
+    if options.readers == 0 {
+        let written = write_on(rt, cache, writer, task, every)?;
+        return Ok((Tally::default(), written));
+    }
+    let (looked, written) = join(
+        rt,
+        || -> io::Result<Tally>
+            requires { All (λ r. r.of ≡ cache.now) readers.items }
+        { look_in_threads(rt, alloc, cache, readers, options) },
+        || write_on(rt, cache, writer, task, every),
+    );
+    Ok((looked?, written?))
+}
+
+/// Measures lookups and puts of keys that the cache holds, or lookups of keys that it doesn't hold.
+pub(crate) fn measure<R: Threads + Sync + Files + AllocGlobal + Clock + CpuClock>(
+    rt: &R,
+    alloc: Global,
+    options: &Options,
+) -> io::Result<Report> {
+    let before = resident(rt)?;
+    let Ok((cache, mut writer, readers)) = open::<4>(alloc, options.shape(), options.readers.max(1))
+    else {
+        return Err(io::Error::other("the cache can't be opened"));
+    };
+    let filled = put_all(&cache, &mut writer, 0, options.keys);
+    let bytes = resident(rt)?.saturating_sub(before);
+    get_all(&cache, &mut writer, options.keys);
+    let (looked, mut written) = work(rt, alloc, &cache, &mut writer, readers, options)?;
+    written.refused = written.refused.wrapping_add(filled.refused);
+    Ok(Report {
+        looked,
+        written,
+        bytes_key: Quotient {
+            top: bytes,
+            bottom: u64::from(options.keys),
+        },
+        ..Report::default()
+    })
+}

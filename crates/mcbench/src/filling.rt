@@ -1,0 +1,140 @@
+//! Fresh keys, put into caches by one thread.
+ghost use Rattle.std.specs.Prelude.{◌≡◌, IfOk};
+
+use crate::memory::resident;
+use crate::options::{Options, Workload};
+use crate::report::{Quotient, Report};
+use crate::stopwatch::Stopwatch;
+use crate::tally::Tally;
+use crate::writes::{put_all, put_until_refused};
+use mc_cache::{Cache, Writer, open};
+use std::alloc::Global;
+use std::io;
+use std::rt::Files;
+use std::time::{Clock, CpuClock, Duration};
+
+/// A new cache, without readers.
+pub(crate) fn open_for(alloc: Global, options: &Options) -> io::Result<(Cache<4>, Writer<4>)>
+    ensures { IfOk result (λ r. r.1.of ≡ r.0) }
+{
+    match open::<4>(alloc, options.shape(), 1) {
+        Ok((cache, writer, _)) => Ok((cache, writer)),
+        Err(_) => Err(io::Error::other("the cache can't be opened")),
+    }
+}
+
+// The memory that came, by so many keys.
+fn bytes_a_key(before: u64, after: u64, keys: u32) -> Quotient {
+    Quotient {
+        top: after.saturating_sub(before),
+        bottom: u64::from(keys),
+    }
+}
+
+// Opens a cache and fills it. What was done, how long it took, and the memory by keys.
+fn fill_one<R: Files + AllocGlobal + Clock + CpuClock>(
+    rt: &R,
+    alloc: Global,
+    options: &Options,
+    first: u64,
+) -> io::Result<(Tally, Duration, Quotient)> {
+    let before = resident(rt)?;
+    let (cache, mut writer) = open_for(alloc, options)?;
+    let watch = Stopwatch::start(rt, true)?;
+    let puts = put_all(&cache, &mut writer, first, options.capacity);
+    let took = watch.elapsed(rt)?;
+    let bytes = bytes_a_key(before, resident(rt)?, options.capacity);
+    Ok((puts, took, bytes))
+}
+
+// Fills caches until the time is over.
+fn fill<R: Files + AllocGlobal + Clock + CpuClock>(
+    rt: &R,
+    alloc: Global,
+    options: &Options,
+) -> io::Result<Report> {
+    let mut first = options.fresh();
+    let (mut written, mut spent, bytes_key) = fill_one(rt, alloc, options, first)?;
+    for _ in 0..u64::MAX {
+        if spent >= options.time {
+            break;
+        }
+        first = first.wrapping_add(u64::from(options.capacity));
+        let (puts, took, _) = fill_one(rt, alloc, options, first)?;
+        written = written.and(puts);
+        spent = spent.saturating_add(took);
+    }
+    Ok(Report {
+        written: written.over(spent),
+        bytes_key,
+        ..Report::default()
+    })
+}
+
+// Puts fresh keys into a full cache until the time is over.
+fn evict_on<R: Clock + CpuClock>(
+    rt: &R,
+    cache: &Cache<4>,
+    writer: &mut Writer<4>,
+    mut first: u64,
+    time: Duration,
+) -> io::Result<Tally>
+    requires { writer.old.of ≡ cache.now }
+{
+    let mut written = Tally::default();
+    let watch = Stopwatch::start(rt, true)?;
+    for _ in 0..u64::MAX {
+        let spent = watch.elapsed(rt)?;
+        if spent >= time {
+            return Ok(written.over(spent));
+        }
+        written = written.and(put_all(cache, writer, first, 1000));
+        first = first.wrapping_add(1000);
+    }
+    Ok(written)
+}
+
+// Fills a cache, puts as many keys again so that the hand has gone round, and measures the evictions that follow.
+fn evict<R: Clock + CpuClock>(rt: &R, alloc: Global, options: &Options) -> io::Result<Report> {
+    let (cache, mut writer) = open_for(alloc, options)?;
+    let capacity = options.capacity;
+    let first = options.fresh();
+    put_all(&cache, &mut writer, first, capacity);
+    let first = first.wrapping_add(u64::from(capacity));
+    put_all(&cache, &mut writer, first, capacity);
+    let first = first.wrapping_add(u64::from(capacity));
+    Ok(Report {
+        written: evict_on(rt, &cache, &mut writer, first, options.time)?,
+        ..Report::default()
+    })
+}
+
+// Puts fresh keys until one is refused.
+fn load<R: Clock + CpuClock>(rt: &R, alloc: Global, options: &Options) -> io::Result<Report> {
+    let slots = options.shape().items;
+    let (cache, mut writer) = open_for(alloc, options)?;
+    let watch = Stopwatch::start(rt, true)?;
+    let written = put_until_refused(&cache, &mut writer, options.fresh(), slots);
+    let spent = watch.elapsed(rt)?;
+    Ok(Report {
+        written: written.over(spent),
+        load_factor: Quotient {
+            top: written.writes,
+            bottom: u64::from(slots),
+        },
+        ..Report::default()
+    })
+}
+
+/// Measures puts of fresh keys.
+pub(crate) fn measure<R: Files + AllocGlobal + Clock + CpuClock>(
+    rt: &R,
+    alloc: Global,
+    options: &Options,
+) -> io::Result<Report> {
+    match options.workload {
+        Workload::Fill => fill(rt, alloc, options),
+        Workload::Evict => evict(rt, alloc, options),
+        _ => load(rt, alloc, options),
+    }
+}
