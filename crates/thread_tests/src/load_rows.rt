@@ -3,9 +3,10 @@ use mc_load::run_load;
 use std::alloc::Global;
 use std::test::Fail;
 use std::thread::Threads;
+use std::time::Clock;
 
 /// Whether the program writes and tells these texts, and ends with this status.
-fn tells<R: Threads + Sync>(
+fn tells<R: Threads + Sync + Clock>(
     rt: &R,
     alloc: Global,
     words: &[&str],
