@@ -2,7 +2,8 @@
 //!
 //! `run_step` reads the words of the command line, replays the script over a table of the shape that they ask for, and
 //! tells a fault on standard error. The replay is a crate of its own, given out here.
-//! `run_load` runs one writer and several readers in threads, and writes whether their answers were right; so is `load`.
+//! `run_load` runs one writer and several readers in threads, and writes whether their answers were right. The load is a
+//! crate of its own too.
 //!
 //! ```text
 //! let status = run_step(alloc, &["mcstep", "--items", "3"], &mut input, &mut output, &mut errors);

@@ -27,7 +27,7 @@ HasKeys keys = (1 ≤ keys) × (keys ≤ 2 ^ 32)
 abbrev pub IsCall : Load → ℕ → ℕ → Type 0
 IsCall load who call = (1 ≤ call) × (((who ≡ 0) × (call ≤ load.writes)) ⊎ ((1 ≤ who) × (who ≤ load.readers) × (call ≤ load.lookups)))
 
--- the first fault of what was asked for; where there is none, memory was refused, or the gate let a call not through
+-- the first fault of what was asked for; where there is none, memory was refused, or the gate refused a call
 abbrev pub RefusesLoad : Load → LoadError → Type 0
 RefusesLoad load error.Keys = ¬ HasKeys load.keys
 RefusesLoad load (error.Open why) = HasKeys load.keys × RefusesOpening load.shape load.readers why

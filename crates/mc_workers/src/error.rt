@@ -11,7 +11,7 @@ pub enum LoadError {
     NoMemory,
     #[error("keys must be from 1 to 4294967296")]
     Keys,
-    /// The gate let a call of this worker not through. Of several workers it is the writer, or else the first reader.
+    /// The gate refused a call of this worker. Of several workers it is the writer, or else the first reader.
     #[error("gate")]
     Gate { who: u32, call: u64 },
 }

@@ -13,7 +13,7 @@ pub(crate) struct Looking<const V: usize> {
     pub(crate) number: u32,
     pub(crate) draws: Draws,
     pub(crate) records: Vec<Record<V>>,
-    /// The call that the gate let not through.
+    /// The call that the gate refused.
     pub(crate) refused: Option<u64>,
     ghost some_words: { 1 ≤ V },
     ghost most_words: { V ≤ 8 },
@@ -47,7 +47,7 @@ impl<const V: usize> Looking<V> {
         at
     }
 
-    /// Looks so many keys up, or fewer where the gate lets a call not through.
+    /// Looks so many keys up, or fewer where the gate refuses a call.
     pub(crate) fn run<G: Gate>(&mut self, cache: &Cache<V>, gate: &G, lookups: u32)
         requires ready { IsReady V cache.now lookups self.old.number self.old }
         requires number { self.old.number < 1024 }

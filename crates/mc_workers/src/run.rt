@@ -35,7 +35,7 @@ fn look_all<const V: usize, R: Threads + Sync, G: Gate>(
     for_each_mut(rt, lookings.as_mut_slice(), threads, &look);
 }
 
-/// Runs the writer beside the readers. The writer's call that the gate let not through.
+/// Runs the writer beside the readers. The writer's call that the gate refused.
 pub(crate) fn run_all<const V: usize, R: Threads + Sync, G: Gate>(
     rt: &R,
     gate: &G,
@@ -71,7 +71,7 @@ pub(crate) fn run_all<const V: usize, R: Threads + Sync, G: Gate>(
     refused
 }
 
-/// The first reader's call that the gate let not through.
+/// The first reader's call that the gate refused.
 pub(crate) fn first_refusal<const V: usize>(lookings: &[Looking<V>]) -> Option<LoadError>
     requires { length lookings.now ≤ 1024 }
     ensures none { IfNone result (AreWhole lookings.now) }

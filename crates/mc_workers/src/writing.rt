@@ -59,7 +59,7 @@ impl<const V: usize> Writing<V> {
         }
     }
 
-    /// Makes so many calls, up to one that the gate lets not through: which that is. Each value's words are the call's number.
+    /// Makes so many calls, up to one that the gate refuses: which that is. Each value's words are the call's number.
     pub(crate) fn run<G: Gate>(&mut self, cache: &Cache<V>, gate: &G, calls: u32) -> Option<u64>
         requires writing { IsWriting V cache.now self.old }
         requires room { vec_len self.old.journal + 2 * calls ≤ vec_capacity self.old.journal }

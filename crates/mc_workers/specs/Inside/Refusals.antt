@@ -4,7 +4,7 @@ use Rattle.mc_workers.specs.declared.asked.Load.{Load}
 use Rattle.mc_workers.specs.declared.error.LoadError.{LoadError}
 use Rattle.mc_workers.specs.declared.error.LoadError.TheVariants as error
 
--- the gate let such a call not through
+-- the gate refused such a call
 abbrev pub IsRefused : Load → LoadError → Type 0
 IsRefused load (error.Gate who call) = IsCall load who call
 IsRefused load _ = ⊥

@@ -35,7 +35,7 @@ pub record IsReady (V : ℕ) (o : Opening) (lookups n : ℕ) (l : Looking V) : T
   pub empty : vec_len l.records ≡ 0
   pub room : lookups ≤ vec_capacity l.records
 
--- reader n has made all its lookups, or the gate let one not through
+-- reader n has made all its lookups, or the gate refused one
 pub record HasEnded (V : ℕ) (o : Opening) (lookups n : ℕ) (l : Looking V) : Type 0 where
   pub looking : IsLooking V o l
   pub number : l.number ≡ n
