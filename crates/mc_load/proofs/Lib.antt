@@ -1,4 +1,2 @@
 pub mod LoadRuns
-pub mod ToldLines
 pub mod WrittenLines
-pub mod WholeRuns

@@ -1,4 +1,2 @@
-pub mod ShapeTexts
 pub mod LoadPrograms
-pub mod Programs
 pub mod Inside

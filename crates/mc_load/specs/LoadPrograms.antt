@@ -12,8 +12,8 @@ use Rattle.mc_workers.specs.declared.asked.Load.{Load}
 use Rattle.mc_workers.specs.declared.error.LoadError.{LoadError}
 use Rattle.mc_workers.specs.declared.error.LoadError.TheVariants as error
 use Rattle.mc_workers.specs.declared.report.Report.{Report}
-use Rattle.mc_load.specs.Programs.{IsShort, IsUntouched, Prints, Stream, Tells}
-use Rattle.mc_load.specs.ShapeTexts.{shape_text}
+use Rattle.mc_step.specs.Streams.{IsShort, IsUntouched, Prints, Stream, Tells}
+use Rattle.mc_step.specs.ShapeTexts.{shape_text}
 
 -- whether the answers add up to the lookups
 abbrev pub sum_text : Report → List ℕ

@@ -1,4 +1,4 @@
-// What `mcload` prints of how its workers fared.
+//! What `mcload` prints of how its workers fared.
 use mc_workers::{Figures, Meter};
 use std::alloc::Global;
 use std::fmt;

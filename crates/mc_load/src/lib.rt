@@ -1,22 +1,18 @@
-//! The bodies of the programs `mcstep` and `mcload`, over any streams.
+//! The body of the program `mcload`, over any streams, and what the programs run.
 //!
-//! `run_step` reads the words of the command line, replays the script over a table of the shape that they ask for, and
-//! tells a fault on standard error. The replay is a crate of its own, given out here.
-//! `run_load` runs one writer and several readers in threads, and writes whether their answers were right. The load is a
-//! crate of its own too.
+//! `run_load` runs one writer and several readers in threads, and writes whether their answers were right. The load, the
+//! replay of scripts and the body of `mcstep` are crates of their own, given out here.
 //!
 //! ```text
-//! let status = run_step(alloc, &["mcstep", "--items", "3"], &mut input, &mut output, &mut errors);
+//! let status = run_load(rt, alloc, &["mcload", "run", "--keys", "64"], &mut output, &mut errors);
 //! ```
 #![tactic(auto)]
 
 mod histogram;
 mod load_run;
 mod load_told;
-mod step;
-mod told;
 
 pub use load_run::run_load;
 pub use mc_replay::{ReplayError, replay};
+pub use mc_step::run_step;
 pub use mc_workers::{Free, Gate, Load, LoadError, Record, Report, check, load};
-pub use step::run_step;

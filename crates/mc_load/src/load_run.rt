@@ -1,15 +1,14 @@
-// The whole program `mcload`, over any streams.
+//! The whole program `mcload`, over any streams.
 ghost use Rattle.std.specs.Prelude.{◌≡◌, ◌++◌, codes, false, map, true};
-ghost use Rattle.mc_load.specs.Programs.{Tells, stream};
+ghost use Rattle.mc_step.specs.Streams.{Tells, stream};
 ghost use Rattle.mc_load.specs.LoadPrograms.{Loads, RunsLoad, WritesLines, load_of, load_status, load_text, report_text};
 ghost use Rattle.mc_load.specs.Inside.Histograms.{AppendsSome};
 
 use crate::histogram::histogram;
 use crate::load_told::{Lines, LoadRefusal};
-use crate::step::{FAILED, REFUSED, tell_fault};
-use crate::told::tell;
 use mc_options::{LoadOptions, load_options_of};
 use mc_script::send;
+use mc_step::{tell, tell_fault};
 use mc_workers::{Free, Load, LoadError, Meter, OpenError, Report, load};
 use std::alloc::Global;
 use std::convert::AsStr;
@@ -17,6 +16,12 @@ use std::fmt::{InlineText, Write as _};
 use std::io::Write;
 use std::thread::Threads;
 use std::time::Clock;
+
+/// The exit status where the words of the command line, the shape, the readers or the keys are refused.
+const REFUSED: u8 = 2;
+
+/// The exit status where memory was short or a write failed.
+const FAILED: u8 = 3;
 
 /// The most readers of a cache.
 const MOST_READERS: u32 = 1024;
@@ -148,7 +153,7 @@ fn run_measured<R: Threads + Sync + Clock, W: Write, E: Write>(
     }
 }
 
-/// The whole program `mcload`: the words of the command line, its own name first, and its two streams.
+///! The whole program `mcload`: the words of the command line, its own name first, and its two streams.
 ///
 /// Answers the exit status: 0 where the report is written; 2 where an option, the shape, the readers or the keys are refused; 3
 /// for want of memory or a failed write. Where there is no memory to measure, `--histogram` adds nothing. The texts of help and version, and of a fault of the words, are `clap`'s.

@@ -1,8 +1,8 @@
-// What `mcload` writes, and what it tells on standard error.
+//! What `mcload` writes, and what it tells on standard error.
 ghost use Rattle.std.specs.Prelude.{◌≡◌, ◌+◌, ◌==◌, ◌++◌, Some, codes};
 ghost use Rattle.mc_load.specs.LoadPrograms.{load_text, report_text};
 
-use crate::told::Refusal;
+use mc_step::Refusal;
 use mc_workers::{LoadError, OpenError, Report};
 use std::fmt;
 use std::fmt::Display;

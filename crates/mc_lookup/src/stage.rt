@@ -1,5 +1,5 @@
 /// Where a lookup stands: what it reads next.
-#[derive(Clone, Copy, Debug, PartialEq, Eq)]
+#[derive(Clone, Copy)]
 pub enum Stage {
     /// The version, at the start of a try.
     First,

@@ -1,4 +1,4 @@
-// The options of `mcstep`.
+//! The options of `mcstep`.
 ghost use Rattle.std.specs.Prelude.{◌≡◌, false, IfOk, MatchResult, codes, map, option_and_then};
 ghost use Rattle.std.specs.List.{list_all};
 ghost use Rattle.std.specs.Char.{is_ascii_digit};

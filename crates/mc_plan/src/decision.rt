@@ -7,7 +7,7 @@ use mc_search::Path;
 use mc_words::Place;
 
 /// A key's way from one slot to an empty one. `word` is what its slot holds.
-#[derive(Clone, Copy, Debug, Default, PartialEq, Eq)]
+#[derive(Clone, Copy, Default)]
 pub struct Move {
     pub key: u64,
     pub word: u64,
@@ -16,7 +16,7 @@ pub struct Move {
 }
 
 /// What a put does, as far as one look for the key tells. It is small, so that a renewal pays for no path.
-#[derive(Clone, Copy, Debug, PartialEq, Eq)]
+#[derive(Clone, Copy)]
 pub enum Decision {
     /// It changes nothing.
     Refuse(PutError),
@@ -27,7 +27,7 @@ pub enum Decision {
 }
 
 /// What the put of a key does that is not there, as far as its two buckets tell. It is small, so that most puts pay for no path.
-#[derive(Clone, Copy, Debug, PartialEq, Eq)]
+#[derive(Clone, Copy)]
 pub enum Nearby {
     /// It fills a hole of one of the two.
     Fill { item: u32, place: Place },
@@ -59,14 +59,14 @@ pub struct Storing {
 
 /// A put that takes the item of another key: that key is taken out of its slot before anything else. The books say where
 /// the put's key goes.
-#[derive(Clone, Copy, Debug, PartialEq, Eq)]
+#[derive(Clone, Copy)]
 pub struct Replacement {
     pub evicted: u64,
     pub victim: Place,
 }
 
 /// A put that takes the item of another key, and for which a hole is at hand: the other key is taken out, and no key moves.
-#[derive(Clone, Copy, Debug, PartialEq, Eq)]
+#[derive(Clone, Copy)]
 pub struct Exchange {
     pub evicted: u64,
     pub victim: Place,
@@ -76,7 +76,7 @@ pub struct Exchange {
 }
 
 /// What a removal does.
-#[derive(Clone, Copy, Debug, PartialEq, Eq)]
+#[derive(Clone, Copy)]
 pub enum Removal {
     /// It changes nothing.
     Refuse(Spent),

@@ -1,7 +1,7 @@
 //! Replays a script of cache calls from standard input.
 #![tactic(auto)]
 
-use mc_load::run_step;
+use mc_step::run_step;
 use std::io::BufReader;
 use std::process::ExitCode;
 use std::{env, io};

@@ -1,5 +1,5 @@
 //! Command lines that are refused before a line is read, and those that ask for help or the version.
-use mc_load::run_step;
+use mc_step::run_step;
 use std::alloc::{AllocError, Global};
 
 /// Options that are refused, and behind a bar how the text begins that tells it: without one, as a fault of the command line.

@@ -1,6 +1,6 @@
 //! Scripts that a generator draws, beside a plain map.
 use crate::plain::{ALL_RECENT, Asked, Plain};
-use mc_load::{ReplayError, replay};
+use mc_replay::{ReplayError, replay};
 use mc_words::{Checked, Mix, Shape};
 use rand_core::Rng;
 use rand_pcg::Lcg64Xsh32;

@@ -2,7 +2,8 @@
 ghost use Rattle.std.specs.Prelude.{◌≡◌, IfOk};
 ghost use Rattle.mc_words.specs.Checks.{shape_of};
 
-use mc_load::{ReplayError, replay, run_step};
+use mc_replay::{ReplayError, replay};
+use mc_step::run_step;
 use mc_words::{Checked, Mix, Shape, ShapeError};
 use std::io;
 use std::io::{BufReader, Error, ErrorKind, Read, Write};

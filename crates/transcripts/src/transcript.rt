@@ -1,6 +1,6 @@
 //! A script with its answers.
 use crate::escape::add_line;
-use mc_load::run_step;
+use mc_step::run_step;
 use std::alloc::{AllocError, Global};
 use std::str;
 

@@ -1,7 +1,7 @@
 -- What is written behind a report.
 use Rattle.std.specs.Prelude.{◌≡◌, ◌⊎◌, ℕ, List}
 use Rattle.std.specs.Io.KnownBytes.{Appends}
-use Rattle.mc_load.specs.Programs.{Stream}
+use Rattle.mc_step.specs.Streams.{Stream}
 
 -- some bytes were written
 abbrev pub AppendsSome : Stream → ℕ → Type 0

@@ -1,6 +1,5 @@
 -- What the program `mcstep` reads, writes and tells, and its exit status.
-use Rattle.std.specs.Prelude.{◌≡◌, ℕ, ◌⊎◌, ◌++◌, ◌∷◌, List, [], take, codes, Option, Result, Ok, Err}
-use Rattle.std.specs.Io.KnownBytes.{Keeps, Appends}
+use Rattle.std.specs.Prelude.{◌≡◌, ℕ, ◌⊎◌, ◌++◌, List, codes, Result, Ok, Err}
 use Rattle.mc_words.specs.declared.shape.Shape.{Shape}
 use Rattle.mc_words.specs.declared.shape.ShapeError.{ShapeError}
 use Rattle.mc_words.specs.Shapes.{IsShape, RefusesShape}
@@ -10,23 +9,8 @@ use Rattle.mc_replay.specs.Faults.{exit_of}
 use Rattle.mc_options.specs.Options.{GivesOptions, AsksHelp, AsksVersion, IsFaulty}
 use Rattle.mc_replay.specs.Scripts.{ReplaysKnown}
 use Rattle.mc_replay.specs.FaultTexts.{stop_text}
-use Rattle.mc_load.specs.ShapeTexts.{shape_text}
-
--- the bytes that a reader has left, or that a writer holds, where they are known: before a run and after it
-pub record Stream : Type 0 where
-  pub old : Option (List ℕ)
-  pub new : Option (List ℕ)
-
-abbrev pub stream : Option (List ℕ) → Option (List ℕ) → Stream
-stream old new = record { old = old; new = new }
-
--- nothing was read of it, or written to it
-abbrev pub IsUntouched : Stream → Type 0
-IsUntouched s = Keeps s.old s.new
-
--- a line was written or, where a write failed, a beginning of it
-abbrev pub Tells : Stream → List ℕ → Type 0
-Tells errors text = (n : ℕ) × Appends errors.old errors.new (take n (text ++ 10 ∷ []))
+use Rattle.mc_step.specs.ShapeTexts.{shape_text}
+use Rattle.mc_step.specs.Streams.{Stream, IsUntouched, Tells, Prints, IsShort}
 
 -- what is told of the end of a replay
 abbrev pub TellsEnd : Stream → Result (Unit {0}) Stop → Type 0
@@ -46,14 +30,6 @@ IsRefused sh input output errors status =
 abbrev pub RunsOptions : Options → Stream → Stream → Stream → ℕ → Type 0
 RunsOptions o input output errors status =
     (IsShape o.shape × Ends o.words o.shape o.readers input output errors status) ⊎ IsRefused o.shape input output errors status
-
--- the help or the version is printed; of its text no clause speaks
-abbrev pub Prints : Stream → ℕ → Type 0
-Prints errors status = IsUntouched errors × ((status ≡ 0) ⊎ (status ≡ 3))
-
--- memory was short, and nothing is replayed
-abbrev pub IsShort : Stream → Stream → ℕ → Type 0
-IsShort output errors status = IsUntouched output × Tells errors (codes "refused: no memory") × (status ≡ 3)
 
 -- what the words of the command line ask for, and what comes of it
 pub data Runs (words : List (List ℕ)) (input output errors : Stream) (status : ℕ) : Type 0 where

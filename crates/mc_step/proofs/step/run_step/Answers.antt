@@ -2,10 +2,10 @@ use Rattle.std.proofs.Common.{codes, map, sym}
 use Rattle.std.proofs.KnownBytes.{Keeps-refl}
 use Rattle.clap.specs.Words.{first_of, kind_of}
 use Rattle.mc_options.specs.Options.{texts_of}
-use Rattle.mc_load.specs.Programs.Runs.{runs}
+use Rattle.mc_step.specs.Programs.Runs.{runs}
 use Rattle.mc_options.proofs.CommandLines.{number-bounds}
-use Rattle.mc_load.proofs.WholeRuns.{runs_fault}
-use Rattle.mc_load.proofs.step.run_step.Goals as goal
+use Rattle.mc_step.proofs.WholeRuns.{runs_fault}
+use Rattle.mc_step.proofs.step.run_step.Goals as goal
 
 pub run_options-requires : goal.run_options-requires
 run_options-requires g c =

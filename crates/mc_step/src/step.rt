@@ -1,27 +1,17 @@
-// The whole program `mcstep`, over any streams.
+//! The whole program `mcstep`, over any streams.
 ghost use Rattle.std.specs.Prelude.{◌≤◌, map};
-ghost use Rattle.clap.specs.Words.{kind_of};
-ghost use Rattle.clap.specs.declared.error.kind.ErrorKind.TheVariants as kind;
 ghost use Rattle.mc_words.specs.Checks.{shape_of};
 ghost use Rattle.mc_words.specs.Places.{IsWidth};
-ghost use Rattle.mc_load.specs.Programs.{stream, Ends, RunsOptions, Runs};
-ghost use Rattle.mc_load.specs.Inside.Programs.{TellsFault};
+ghost use Rattle.mc_step.specs.Streams.{stream};
+ghost use Rattle.mc_step.specs.Programs.{Ends, RunsOptions, Runs};
 
-use crate::told::{Refusal, Short, tell};
-use clap::Error;
-use clap::error::ErrorKind;
+use crate::told::{REFUSED, Refusal, tell, tell_fault};
 use mc_options::{Options, options_of};
 use mc_replay::play;
 use mc_words::Checked;
 use std::alloc::Global;
 use std::convert::AsStr;
 use std::io::{BufRead, Write};
-
-/// The status where the words of the command line or the shape are refused.
-pub(crate) const REFUSED: u8 = 2;
-
-/// The status where memory was short or a write failed.
-pub(crate) const FAILED: u8 = 3;
 
 /// Replays the script, and tells where it stopped.
 fn run_script<const V: usize, R: BufRead, W: Write, E: Write>(
@@ -68,27 +58,6 @@ fn run_options<R: BufRead, W: Write, E: Write>(
         }
         Err(error) => {
             tell(errors, Refusal(error));
-            REFUSED
-        }
-    }
-}
-
-/// Prints the help or the version that the words ask for, or tells their fault.
-pub(crate) fn tell_fault<W: Write, E: Write>(error: Error, output: &mut W, errors: &mut E) -> u8
-    ensures { TellsFault (kind_of error) (stream (W.contents output.old) (W.contents output.new))
-        (stream (E.contents errors.old) (E.contents errors.new)) result }
-{
-    match error.kind() {
-        ErrorKind::OutOfMemory => {
-            tell(errors, Short);
-            FAILED
-        }
-        ErrorKind::DisplayHelp | ErrorKind::DisplayVersion => match write!(output, "{error}") {
-            Ok(()) => 0,
-            Err(_) => FAILED,
-        },
-        _ => {
-            let _ = write!(errors, "{error}");
             REFUSED
         }
     }

@@ -1,20 +1,29 @@
-// The lines that are told on standard error.
+//! What the programs tell on standard error.
 ghost use Rattle.std.specs.Prelude.{◌++◌, IfSome, Some, codes};
-ghost use Rattle.mc_load.specs.Programs.{stream, Tells};
-ghost use Rattle.mc_load.specs.ShapeTexts.{shape_text};
+ghost use Rattle.clap.specs.Words.{kind_of};
+ghost use Rattle.mc_step.specs.Streams.{stream, Tells, TellsFault};
+ghost use Rattle.mc_step.specs.ShapeTexts.{shape_text};
 
+use clap::Error;
+use clap::error::ErrorKind;
 use mc_script::send;
 use mc_words::ShapeError;
 use std::fmt;
 use std::fmt::{Display, InlineText, Write as _};
 use std::io::Write;
 
+/// The exit status where the words of the command line or the shape are refused.
+pub(crate) const REFUSED: u8 = 2;
+
+/// The exit status where memory was short or a write failed.
+const FAILED: u8 = 3;
+
 /// The most bytes of a line.
 const ROOM: usize = 96;
 
-/// A shape that is refused.
+/// A shape that is refused, as it is told: `refused: ` and the bounds of the field at fault.
 #[derive(Clone, Copy)]
-pub(crate) struct Refusal(pub(crate) ShapeError);
+pub struct Refusal(pub ShapeError);
 
 impl Display for Refusal {
     ghost output = { λ refusal. Some (codes "refused: " ++ shape_text refusal.0) };
@@ -43,7 +52,7 @@ impl Display for Refusal {
 
 /// Memory was short before any line was read.
 #[derive(Clone, Copy)]
-pub(crate) struct Short;
+struct Short;
 
 impl Display for Short {
     ghost output = { λ short. Some (codes "refused: no memory") };
@@ -53,12 +62,34 @@ impl Display for Short {
     }
 }
 
-/// Tells a line, without taking memory. What a failed write leaves out is passed over.
-pub(crate) fn tell<E: Write, D: Display + Drop>(errors: &mut E, what: D)
+/// Tells a line, without taking memory. What a failed write leaves out is passed over, and so is a text of more than 95 bytes.
+pub fn tell<E: Write, D: Display + Drop>(errors: &mut E, what: D)
     ensures { IfSome (D.output what) (Tells (stream (E.contents errors.old) (E.contents errors.new))) }
 {
     let mut line = InlineText::<ROOM>::new();
     if writeln!(line, "{what}").is_ok() {
         let _ = send(errors, line.as_str().as_bytes());
+    }
+}
+
+/// Prints the help or the version that the words ask for, or tells their fault. Answers the exit status: 0 after help and version,
+/// 2 after a fault of the words, 3 where memory was short or a write failed.
+pub fn tell_fault<W: Write, E: Write>(error: Error, output: &mut W, errors: &mut E) -> u8
+    ensures { TellsFault (kind_of error) (stream (W.contents output.old) (W.contents output.new))
+        (stream (E.contents errors.old) (E.contents errors.new)) result }
+{
+    match error.kind() {
+        ErrorKind::OutOfMemory => {
+            tell(errors, Short);
+            FAILED
+        }
+        ErrorKind::DisplayHelp | ErrorKind::DisplayVersion => match write!(output, "{error}") {
+            Ok(()) => 0,
+            Err(_) => FAILED,
+        },
+        _ => {
+            let _ = write!(errors, "{error}");
+            REFUSED
+        }
     }
 }

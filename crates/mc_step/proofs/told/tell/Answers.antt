@@ -1,7 +1,7 @@
 use Rattle.std.proofs.Common.{◌∙◌, rules}
-use Rattle.mc_load.specs.Programs.{stream}
-use Rattle.mc_load.proofs.ToldLines.{told}
-use Rattle.mc_load.proofs.told.tell.Goals as goal
+use Rattle.mc_step.specs.Streams.{stream}
+use Rattle.mc_step.proofs.ToldLines.{told}
+use Rattle.mc_step.proofs.told.tell.Goals as goal
 
 pub returns-then-is_ok : goal.returns-then-is_ok
 returns-then-is_ok g c =

@@ -1,6 +1,6 @@
 use Rattle.std.proofs.Common.{◌≡◌, arith}
-use Rattle.mc_load.proofs.WholeRuns.{runs_accepted}
-use Rattle.mc_load.proofs.step.run_options.Goals as goal
+use Rattle.mc_step.proofs.WholeRuns.{runs_accepted}
+use Rattle.mc_step.proofs.step.run_options.Goals as goal
 
 pub returns-else-options-eq1 : goal.returns-else-options-eq1
 returns-else-options-eq1 g c =

@@ -7,9 +7,9 @@ use Rattle.mc_words.specs.Checks.{shape_of}
 use Rattle.mc_words.specs.Shapes.{IsShape}
 use Rattle.mc_options.specs.declared.options.Options.{Options}
 use Rattle.mc_options.specs.Options.{HasFault, IsUnread}
-use Rattle.mc_load.specs.Programs.{Stream, Ends, IsUntouched, RunsOptions, Runs}
-use Rattle.mc_load.specs.Inside.Programs.{TellsFault}
-use Rattle.mc_load.specs.Programs.Runs.{prints, refuses, is_short}
+use Rattle.mc_step.specs.Streams.{Stream, IsUntouched, TellsFault}
+use Rattle.mc_step.specs.Programs.{Ends, RunsOptions, Runs}
+use Rattle.mc_step.specs.Programs.Runs.{prints, refuses, is_short}
 
 -- a replay over the shape that was checked
 pub runs_accepted : (o : Options) (V : ℕ) (c : Checked) (input output errors : Stream) (status : ℕ) → (shape_of c ≡ o.shape) × IsShape o.shape → V ≡ o.words → Ends V (shape_of c) o.readers input output errors status

@@ -1,0 +1,2 @@
+pub mod ToldLines
+pub mod WholeRuns

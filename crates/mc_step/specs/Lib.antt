@@ -1,0 +1,3 @@
+pub mod ShapeTexts
+pub mod Streams
+pub mod Programs
