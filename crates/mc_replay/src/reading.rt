@@ -1,4 +1,4 @@
-// The lines of readers.
+//! The lines of readers.
 ghost use Rattle.std.specs.Prelude.{◌≡◌, ◌<◌, ◌≤◌, ◌++◌, [], Err, OnOk, OnErr, IfOk, IfErr, string_bytes};
 ghost use Rattle.mc_replay.specs.Replay.{AccessesDo, LookUpDoes, ReadsDo};
 ghost use Rattle.mc_replay.specs.Inside.Players.{CanDo, DoesBy};
