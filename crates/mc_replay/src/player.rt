@@ -26,8 +26,6 @@ pub(crate) enum Call<const V: usize> {
 pub(crate) struct Player<const V: usize> {
     pub(crate) world: World<V>,
     clerk: Clerk<V>,
-    /// How many readers there are.
-    pub(crate) readers: u32,
 }
 
 /// The bit that the hand read; other acts read none.
@@ -55,11 +53,7 @@ impl<const V: usize> Player<V> {
             Err(WorldError::NoMemory) => return Err(Fault::NoMemory),
         };
         match Clerk::new(alloc, checked) {
-            Ok(clerk) => Ok(Player {
-                world,
-                clerk,
-                readers,
-            }),
+            Ok(clerk) => Ok(Player { world, clerk }),
             Err(_) => Err(Fault::NoMemory),
         }
     }

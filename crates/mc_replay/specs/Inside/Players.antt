@@ -48,7 +48,7 @@ pub record IsAt (V : ℕ) (player : Player V) (most : ℕ) (w : Trace V) : Type 
   pub world : Shows {V = V} player.world w
   pub reached : IsReached V (shape_of_player player) w
   pub shape : clerks.shape_of_clerk player.clerk ≡ shape_of_player player
-  pub readers : length w.readers ≡ player.readers
+  pub readers : length w.readers ≡ length player.world.readers
   pub events : w.events ≤ most
 
 -- no call of the writer runs
