@@ -15,7 +15,7 @@ use Rattle.mc_replay.specs.declared.fault.Fault.{Fault}
 use Rattle.mc_replay.specs.declared.fault.Fault.TheVariants.{ReadFailed, NoMemory, TooLong, NotACommand, BadNumber, NoSuchReader, StillRunning, NothingToStep, WriteFailed}
 use Rattle.mc_replay.specs.declared.player.Player.{Player}
 use Rattle.mc_replay.specs.Replay.{Replay, Pending, IsUnanswered, WriterMakes, WhereIdle, CallDoes, BeginDoes, GetDoes, ActDoes}
-use Rattle.mc_replay.specs.Inside.Players.{shape_of_player, most_steps, HasRoom, IsIdle, IsMidCall, FitsCall, Fits, FitsStill, with_acts, Begins, MakesAct, CallIsWhole, Looks, DoneAs, ActsSoFar}
+use Rattle.mc_replay.specs.Inside.Players.{shape_of_player, most_steps, HasRoom, IsIdle, IsMidCall, FitsCall, Fits, FitsStill, with_acts, Begins, MakesAct, CallIsWhole, Looks, DoneAs, CanDo, ActsSoFar}
 use Rattle.mc_replay.specs.Replay.{pending}
 use Rattle.mc_replay.specs.Texts.{answer_line, reply_line}
 use Rattle.mc_plan.proofs.Calls.CanEnd.{can_end}
@@ -36,6 +36,12 @@ idle_of V player most (Some p) w fits none = absurd (false≢true (sym none ∙ 
 pub runs_of : (V : ℕ) (player : Player V) (most : ℕ) (running : Option (Pending V)) (w : Trace V) → FitsCall V player most running w → is_some (next_act player.clerk) ≡ true → (p : Pending V) × (running ≡ Some p) × IsMidCall V player most p w
 runs_of V player most None w fits some = absurd (false≢true (sym (knows_no_act V player.clerk _ fits.knows) ∙ some))
 runs_of V player most (Some p) w fits some = (p, refl, fits)
+
+-- no call runs, and there is room for the events of one
+pub idle_can : (V : ℕ) (player : Player V) (text : List ℕ) → CanDo V player text → is_some (next_act player.clerk) ≡ false → (most : ℕ) × (w : Trace V) × IsIdle V player most w × HasRoom most
+idle_can V player text can none =
+    let idle = idle_of V player can.1.0 can.1.1.running can.1.1.world can.1.3 none in
+    (can.1.0, can.1.1.world, idle.1, can.1.2)
 
 -- a line that is refused while a call runs
 pub still_running : (V : ℕ) (player : Player V) (most : ℕ) (s : Replay V) (text : List ℕ) (P : Type 0) → Fits V player most s → is_some (next_act player.clerk) ≡ true → text ≡ [] → WhereIdle s text (Some StillRunning) s P

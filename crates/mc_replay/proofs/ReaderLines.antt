@@ -1,5 +1,5 @@
 -- The events of readers, in the world and for a player.
-use Rattle.std.proofs.Common.{◌≡◌, ℕ, ◌+◌, ◌<◌, ◌≤◌, List, [], ◌∷◌, ◌++◌, All, Option, Some, None, refl, sym, ap, ◌∙◌, subst, inl, inr, arith, length}
+use Rattle.std.proofs.Common.{◌≡◌, ℕ, zero, suc, ◌+◌, ◌<◌, ◌≤◌, List, [], ◌∷◌, ◌++◌, All, Option, Some, None, refl, sym, ap, ◌∙◌, subst, inl, inr, arith, length}
 use Rattle.std.specs.Prelude.{◌^◌, IsSome, slice_get}
 use prog.Memory.{up}
 use Rattle.std.proofs.lemmas.List.{length-set}
@@ -11,7 +11,7 @@ use Rattle.mc_words.specs.declared.shape.Shape.{Shape}
 use Rattle.mc_core.proofs.PairedLists.{set_there}
 use Rattle.mc_core.proofs.WorldSteps.{reached_push}
 use Rattle.mc_theory.specs.Lists.{after_all, state_of}
-use Rattle.mc_core.specs.Seen.{Shows}
+use Rattle.mc_core.specs.Seen.{WorldView, Shows, Both, IsOpenLookup}
 use Rattle.mc_theory.specs.Traces.{Trace, OpenLookup, Ended, IsReached, IsTrueEnd, Steps, EventGives, RefusesEvent}
 use Rattle.mc_theory.specs.declared.event.Done.{Done}
 use Rattle.mc_theory.specs.declared.event.Event.TheVariants as event
@@ -61,18 +61,27 @@ read_keeps V sh w x r steps = elim steps.5 [
 pub record SameWriter (V : ℕ) (old new : Player V) : Type 0 where
   pub shape : shape_of_player new ≡ shape_of_player old
   pub clerk : new.clerk ≡ old.clerk
-  pub readers : new.readers ≡ old.readers
 
 pub at_of : (V : ℕ) (player : Player V) (most : ℕ) (running : Option (Pending V)) (w : Trace V) → FitsCall V player most running w → IsAt V player most w
 at_of V player most None w fits = fits.at
 at_of V player most (Some p) w fits = fits.0.at
+
+-- a world has as many readers as the trace that it shows
+pub readers_of : (V : ℕ) (world : WorldView V) (w : Trace V) → Shows {V = V} world w → length w.readers ≡ length world.readers
+readers_of V world w shows = both_length (Both (IsOpenLookup V world.shape)) world.readers w.readers shows.readers
+  where
+    both_length : {A B : Type 0} (R : A → B → Type 0) (xs : List A) (ys : List B) → ((r : ℕ) → Both R (slice_get xs r) (slice_get ys r)) → length ys ≡ length xs
+    both_length R [] [] all = refl
+    both_length R (x ∷ xs) (y ∷ ys) all = ap suc (both_length R xs ys (λ r. all (suc r)))
+    both_length R [] (y ∷ ys) all = absurd (all zero)
+    both_length R (x ∷ xs) [] all = absurd (all zero)
 
 at_after : (V : ℕ) (old new : Player V) (most more : ℕ) (w x : Trace V) → IsAt V old most w → SameWriter V old new → Shows {V = V} new.world x → IsReached V (shape_of_player old) x → KeepsWriter V w x → most + 1 ≤ more → IsAt V new more x
 at_after V old new most more w x at same shows reached keeps le = record {
   world = shows;
   reached = subst (λ (y : Shape). IsReached V y x) (sym same.shape) reached;
   shape = ap (λ (y : Clerk V). clerks.shape_of_clerk y) same.clerk ∙ at.shape ∙ sym same.shape;
-  readers = keeps.readers ∙ at.readers ∙ sym same.readers;
+  readers = readers_of V new.world x shows;
   events = omega (arith, keeps.events, at.events, le);
 }
 
@@ -108,7 +117,7 @@ fits_more V player most more running w le fits = go running fits
     go (Some p) fits = (record { at = wider fits.0.at; on = fits.0.on; now = fits.0.now; few = fits.0.few }, fits.1)
 
 -- ---- a lookup begins
-pub look_up_begins : (V : ℕ) (old new : Player V) (most r k : ℕ) (s : Replay V) (x : Trace V) → Fits V old most s → r < old.readers → SameWriter V old new → Shows {V = V} new.world x → Steps V (shape_of_player old) s.world (event.Begin r k) x
+pub look_up_begins : (V : ℕ) (old new : Player V) (most r k : ℕ) (s : Replay V) (x : Trace V) → Fits V old most s → r < length old.world.readers → SameWriter V old new → Shows {V = V} new.world x → Steps V (shape_of_player old) s.world (event.Begin r k) x
     → (t : Replay V) × LookUpDoes (shape_of_player old) s r k [] None t × Fits V new (most + most_steps) t
 look_up_begins V old new most r k s x fits there same shows steps =
     let at = at_of V old most s.running s.world fits in (
@@ -117,16 +126,20 @@ look_up_begins V old new most r k s x fits there same shows steps =
       fits_after V old new most (most + most_steps) s.running s.world x fits same shows (reached_push V (shape_of_player old) s.world x (event.Begin r k) at.reached steps) (begin_keeps V (shape_of_player old) s.world x r k steps) (omega arith),
     )
 
-pub look_up_runs : (V : ℕ) (old : Player V) (most r k : ℕ) (s : Replay V) → Fits V old most s → r < old.readers → RefusesEvent (shape_of_player old) s.world (event.Begin r k) unlawful.StillRunning → LookUpDoes (shape_of_player old) s r k [] (Some StillRunning) s
+pub look_up_runs : (V : ℕ) (old : Player V) (most r k : ℕ) (s : Replay V) → Fits V old most s → r < length old.world.readers → RefusesEvent (shape_of_player old) s.world (event.Begin r k) unlawful.StillRunning → LookUpDoes (shape_of_player old) s r k [] (Some StillRunning) s
 look_up_runs V old most r k s fits there refused =
     let at = at_of V old most s.running s.world fits in
     inl (omega (arith, there, at.readers), (refl, inr (refl, refused, refl)))
 
-pub no_reader : (V : ℕ) (old : Player V) (most r : ℕ) (s : Replay V) → Fits V old most s → old.readers ≤ r → length s.world.readers ≤ r
+pub no_reader : (V : ℕ) (old : Player V) (most r : ℕ) (s : Replay V) → Fits V old most s → length old.world.readers ≤ r → length s.world.readers ≤ r
 no_reader V old most r s fits past =
     let at = at_of V old most s.running s.world fits in omega (arith, past, at.readers)
 
 -- ---- an access
+-- it leaves as many readers as there were
+pub readers_after : (V : ℕ) (sh : Shape) (old new : WorldView V) (w x : Trace V) (r : ℕ) → Shows {V = V} old w → Shows {V = V} new x → Steps V sh w (event.Read r) x → length new.readers ≡ length old.readers
+readers_after V sh old new w x r before after steps = sym (readers_of V new x after) ∙ (read_keeps V sh w x r steps).readers ∙ readers_of V old w before
+
 -- the world after an access, in the replay
 pub after_access : {V : ℕ} → Replay V → Trace V → Replay V
 after_access s x = record { world = x; running = s.running }
@@ -177,6 +190,6 @@ width_of V player most (Some p) w fits = on_width V player.clerk p.call p.from p
 pub width_can : (V : ℕ) (player : Player V) (text : List ℕ) → CanDo V player text → IsWidth V
 width_can V player text can = width_of V player can.1.0 can.1.1.running can.1.1.world can.1.3
 
--- a player has room in memory where its world and its clerk have: they lie side by side, and then the number of readers
-pub player_room : (world clerk : ℕ) → world < 2 ^ 32 → clerk < 2 ^ 32 → up 8 (up 4 (up 8 (0 + world) + clerk) + 4) < 2 ^ 63
+-- a player has room in memory where its world and its clerk have: they lie side by side
+pub player_room : (world clerk : ℕ) → world < 2 ^ 32 → clerk < 2 ^ 32 → up 8 (up 8 (0 + world) + clerk) < 2 ^ 63
 player_room world clerk some few = omega arith

@@ -30,6 +30,7 @@ use Rattle.mc_replay.specs.declared.player.Player.{Player}
 use Rattle.mc_replay.specs.Replay.{Pending, WriterMakes, LooksUp}
 use Rattle.mc_replay.specs.Inside.Players.{shape_of_player, most_steps, IsAt, IsIdle, IsInCall, IsMidCall, BeginsAs, GoesOn, MakesAct, Completes, CallIsWhole, HasRoom, IsMarked, with_acts, bit_given}
 use Rattle.mc_replay.specs.Replay.{pending}
+use Rattle.mc_replay.proofs.ReaderLines.{readers_of}
 
 -- ---- acts of the writer in a world
 -- no act is made
@@ -69,30 +70,22 @@ pub state_after_one : (V : ℕ) (sh : Shape) (from : State V) (acts : List Made)
 state_after_one V sh from acts w x m now more =
     after_all-append sh from acts (m ∷ []) ∙ ap (λ (s : State V). after_act sh s m.act m.bit) now ∙ sym (state_push V sh w.acts m) ∙ ap (state_of V sh) (sym more)
 
--- the writer's acts change no reader
-makes_readers : (V : ℕ) (sh : Shape) (w x : Trace V) (acts : List Made) → WriterMakes V sh w acts x → x.readers ≡ w.readers
-makes_readers V sh w x acts makes = runs_readers w acts makes.0
-  where
-    runs_readers : (w : Trace V) (acts : List Made) → StepsAll V sh w (map (λ (m : Made). event.Write m.act) acts) x → x.readers ≡ w.readers
-    runs_readers w [] runs = ap (λ (y : Trace V). y.readers) runs
-    runs_readers w (m ∷ acts) runs = runs_readers runs.0 acts runs.2 ∙ ap (λ (y : Trace V). y.readers) runs.1.2
-
 -- the player shows the world after one act
 at_after_one : (V : ℕ) (old new : Player V) (most : ℕ) (w x : Trace V) (m : Made) → IsAt V old most w → shape_of_player new ≡ shape_of_player old → Shows {V = V} new.world x → WriterMakes V (shape_of_player old) w (m ∷ []) x → x.events ≡ w.events + 1
-    → new.readers ≡ old.readers → clerks.shape_of_clerk new.clerk ≡ clerks.shape_of_clerk old.clerk → IsAt V new (most + 1) x
-at_after_one V old new most w x m at same shows makes events many clerk = record {
+    → clerks.shape_of_clerk new.clerk ≡ clerks.shape_of_clerk old.clerk → IsAt V new (most + 1) x
+at_after_one V old new most w x m at same shows makes events clerk = record {
   world = shows;
   reached = subst (λ (y : Shape). IsReached V y x) (sym same) (reached_append V (shape_of_player old) w x (event.Write m.act ∷ []) at.reached makes.0);
   shape = clerk ∙ at.shape ∙ sym same;
-  readers = ap length (makes_readers V (shape_of_player old) w x (m ∷ []) makes) ∙ at.readers ∙ sym many;
+  readers = readers_of V new.world x shows;
   events = omega (arith, events, at.events);
 }
 
 -- the call goes on after one act
 pub call_goes_on : (V : ℕ) (old new : Player V) (most : ℕ) (p : Pending V) (w x : Trace V) (m : Made) → IsInCall V old most p w → shape_of_player new ≡ shape_of_player old → Shows {V = V} new.world x → WriterMakes V (shape_of_player old) w (m ∷ []) x → x.events ≡ w.events + 1
-    → new.readers ≡ old.readers → clerks.shape_of_clerk new.clerk ≡ clerks.shape_of_clerk old.clerk → IsOn V new.clerk p.call p.from (p.acts ++ m ∷ []) → acts_left new.clerk < acts_left old.clerk → IsInCall V new (most + 1) (with_acts p (m ∷ [])) x
-call_goes_on V old new most p w x m call same shows makes events many clerk on fewer = record {
-  at = at_after_one V old new most w x m call.at same shows makes events many clerk;
+    → clerks.shape_of_clerk new.clerk ≡ clerks.shape_of_clerk old.clerk → IsOn V new.clerk p.call p.from (p.acts ++ m ∷ []) → acts_left new.clerk < acts_left old.clerk → IsInCall V new (most + 1) (with_acts p (m ∷ [])) x
+call_goes_on V old new most p w x m call same shows makes events clerk on fewer = record {
+  at = at_after_one V old new most w x m call.at same shows makes events clerk;
   on = on;
   now = subst (λ (sh : Shape). after_all sh p.from (p.acts ++ m ∷ []) ≡ state_of V sh x.acts) (sym same) (state_after_one V (shape_of_player old) p.from p.acts w x m call.now makes.1);
   few = omega (arith, fewer, call.few);
@@ -100,15 +93,15 @@ call_goes_on V old new most p w x m call same shows makes events many clerk on f
 
 -- the call was answered
 pub call_is_over : (V : ℕ) (old new : Player V) (most : ℕ) (p : Pending V) (w : Trace V) → IsInCall V old most p w → new.world ≡ old.world
-    → new.readers ≡ old.readers → clerks.shape_of_clerk new.clerk ≡ clerks.shape_of_clerk old.clerk → Knows V new.clerk (after_all (clerks.shape_of_clerk old.clerk) p.from p.acts) → IsIdle V new most w
-call_is_over V old new most p w call world many clerk knows =
+    → clerks.shape_of_clerk new.clerk ≡ clerks.shape_of_clerk old.clerk → Knows V new.clerk (after_all (clerks.shape_of_clerk old.clerk) p.from p.acts) → IsIdle V new most w
+call_is_over V old new most p w call world clerk knows =
     let same : shape_of_player new ≡ shape_of_player old = ap (λ (y : WorldView V). y.shape) world in
     record {
       at = record {
         world = subst (λ (y : WorldView V). Shows {V = V} y w) (sym world) call.at.world;
         reached = subst (λ (y : Shape). IsReached V y w) (sym same) call.at.reached;
         shape = clerk ∙ call.at.shape ∙ sym same;
-        readers = call.at.readers ∙ sym many;
+        readers = call.at.readers ∙ ap (λ (y : WorldView V). length y.readers) (sym world);
         events = call.at.events;
       };
       knows = subst (Knows V new.clerk) (ap (λ (y : Shape). after_all y p.from p.acts) call.at.shape ∙ call.now ∙ ap (λ (y : Shape). state_of V y w.acts) (sym same)) knows;
@@ -148,9 +141,9 @@ may_mark V player most i w idle room inside =
     (subst (λ (y : State V). IsAllowed sh y (Mark i)) (sym idle.at.world.state) allowed, tt, omega (arith, idle.at.world.events, idle.at.events, room))
 
 -- and it changes nothing else
-pub marked : (V : ℕ) (old new : Player V) (most i : ℕ) (w x : Trace V) → IsIdle V old most w → shape_of_player new ≡ shape_of_player old → new.clerk ≡ old.clerk → new.readers ≡ old.readers → Shows {V = V} new.world x
+pub marked : (V : ℕ) (old new : Player V) (most i : ℕ) (w x : Trace V) → IsIdle V old most w → shape_of_player new ≡ shape_of_player old → new.clerk ≡ old.clerk → Shows {V = V} new.world x
     → WriterMakes V (shape_of_player old) w (record { act = Mark i; bit = 0 } ∷ []) x → x.events ≡ w.events + 1 → IsMarked V old new most i w
-marked V old new most i w x idle same clerk many shows makes events =
+marked V old new most i w x idle same clerk shows makes events =
     let m : Made = record { act = Mark i; bit = 0 } in
     let acts : state_of V (shape_of_player old) w.acts ≡ state_of V (shape_of_player old) x.acts = sym (state_push V (shape_of_player old) w.acts m) ∙ ap (state_of V (shape_of_player old)) (sym makes.1) in
     let now : state_of V (shape_of_player old) w.acts ≡ state_of V (shape_of_player new) x.acts = acts ∙ ap (λ (y : Shape). state_of V y x.acts) (sym same) in
@@ -159,7 +152,7 @@ marked V old new most i w x idle same clerk many shows makes events =
       makes = makes;
       shape = same;
       idle = record {
-        at = at_after_one V old new most w x m idle.at same shows makes events many (ap (λ (y : Clerk V). clerks.shape_of_clerk y) clerk);
+        at = at_after_one V old new most w x m idle.at same shows makes events (ap (λ (y : Clerk V). clerks.shape_of_clerk y) clerk);
         knows = subst (λ (y : Clerk V). Knows V y (state_of V (shape_of_player new) x.acts)) (sym clerk) (subst (Knows V old.clerk) now idle.knows);
       };
     }
@@ -179,59 +172,57 @@ acts_to_make V clerk call s acts on ends = elim (none_or_some (next_act clerk)) 
 -- what the clerk's answer says
 pub record TellsAs (V : ℕ) (mid new : Player V) (told : Option Answer) : Type 0 where
   pub world : new.world ≡ mid.world
-  pub readers : new.readers ≡ mid.readers
   pub shape : clerks.shape_of_clerk new.clerk ≡ clerks.shape_of_clerk mid.clerk
   pub ends : IsSome told ↔ (clerks.HasCall {V = V} mid.clerk × (next_act mid.clerk ≡ None))
   pub some : IfSome told (λ a. (call : Call) (s : State V) (acts : List Made) → IsOn V mid.clerk call s acts → Answered V (clerks.shape_of_clerk mid.clerk) call s acts a × Knows V new.clerk (after_all (clerks.shape_of_clerk mid.clerk) s acts))
   pub none : IfNone told (new.clerk ≡ mid.clerk)
 
 -- a player that is the same but for its clerk, which is the same too
-same_call : (V : ℕ) (mid new : Player V) (most : ℕ) (p : Pending V) (w : Trace V) → new.world ≡ mid.world → new.readers ≡ mid.readers → new.clerk ≡ mid.clerk → IsInCall V mid most p w → IsInCall V new most p w
-same_call V mid new most p w world readers clerk call =
-    subst (λ (y : Player V). IsInCall V y most p w) (player_is mid new world readers clerk) call
+same_call : (V : ℕ) (mid new : Player V) (most : ℕ) (p : Pending V) (w : Trace V) → new.world ≡ mid.world → new.clerk ≡ mid.clerk → IsInCall V mid most p w → IsInCall V new most p w
+same_call V mid new most p w world clerk call =
+    subst (λ (y : Player V). IsInCall V y most p w) (player_is mid new world clerk) call
   where
-    of_parts : WorldView V → Clerk V → ℕ → Player V
-    of_parts world clerk readers = record { world = world; clerk = clerk; readers = readers }
+    of_parts : WorldView V → Clerk V → Player V
+    of_parts world clerk = record { world = world; clerk = clerk }
 
-    player_is : (mid new : Player V) → new.world ≡ mid.world → new.readers ≡ mid.readers → new.clerk ≡ mid.clerk → mid ≡ new
-    player_is mid new world readers clerk =
-        ap (λ (y : WorldView V). of_parts y mid.clerk mid.readers) (sym world) ∙ ap (λ (y : Clerk V). of_parts new.world y mid.readers) (sym clerk) ∙ ap (λ (y : ℕ). of_parts new.world new.clerk y) (sym readers)
+    player_is : (mid new : Player V) → new.world ≡ mid.world → new.clerk ≡ mid.clerk → mid ≡ new
+    player_is mid new world clerk = ap (λ (y : WorldView V). of_parts y mid.clerk) (sym world) ∙ ap (of_parts new.world) (sym clerk)
 
 -- after an act the call goes on, or is answered
 pub goes_on_as : (V : ℕ) (old mid new : Player V) (most : ℕ) (p : Pending V) (w : Trace V) (told : Option Answer) → IsInCall V mid most p w → shape_of_player mid ≡ shape_of_player old → acts_left mid.clerk < acts_left old.clerk → TellsAs V mid new told → GoesOn V old new most p w told
 goes_on_as V old mid new most p w None call same fewer tells =
     let on = call.on in
     let more = acts_to_make V mid.clerk p.call p.from p.acts on tells.ends in (
-      (same_call V mid new most p w tells.world tells.readers tells.none call, subst (λ (c : Clerk V). IsSome (next_act c)) (sym tells.none) more),
+      (same_call V mid new most p w tells.world tells.none call, subst (λ (c : Clerk V). IsSome (next_act c)) (sym tells.none) more),
       subst (λ (c : Clerk V). acts_left c < acts_left old.clerk) (sym tells.none) fewer,
     )
 goes_on_as V old mid new most p w (Some a) call same fewer tells =
     let said = tells.some p.call p.from p.acts call.on in
-    (subst (λ (y : Shape). Answered V y p.call p.from p.acts a) (call.at.shape ∙ same) said.0, call_is_over V mid new most p w call tells.world tells.readers tells.shape said.1)
+    (subst (λ (y : Shape). Answered V y p.call p.from p.acts a) (call.at.shape ∙ same) said.0, call_is_over V mid new most p w call tells.world tells.shape said.1)
 
 -- a call begins, or is answered at once
 pub begins_as : (V : ℕ) (old mid new : Player V) (most : ℕ) (call : Call) (w : Trace V) (told : Option Answer) → IsInCall V mid most (pending call (state_of V (shape_of_player old) w.acts)) w → shape_of_player mid ≡ shape_of_player old → TellsAs V mid new told → BeginsAs V (shape_of_player old) new most call w told
 begins_as V old mid new most call w None in_call same tells =
     let p = pending call (state_of V (shape_of_player old) w.acts) in
     let more = acts_to_make V mid.clerk p.call p.from p.acts in_call.on tells.ends in
-    (same_call V mid new most p w tells.world tells.readers tells.none in_call, subst (λ (c : Clerk V). IsSome (next_act c)) (sym tells.none) more)
+    (same_call V mid new most p w tells.world tells.none in_call, subst (λ (c : Clerk V). IsSome (next_act c)) (sym tells.none) more)
 begins_as V old mid new most call w (Some a) in_call same tells =
     let p = pending call (state_of V (shape_of_player old) w.acts) in
     let said = tells.some p.call p.from p.acts in_call.on in
-    (subst (λ (y : Shape). Answered V y p.call p.from p.acts a) (in_call.at.shape ∙ same) said.0, call_is_over V mid new most p w in_call tells.world tells.readers tells.shape said.1)
+    (subst (λ (y : Shape). Answered V y p.call p.from p.acts a) (in_call.at.shape ∙ same) said.0, call_is_over V mid new most p w in_call tells.world tells.shape said.1)
 
 -- ---- a whole call
 -- a call that was begun has an answer to tell, or acts to make
-pub begun : (V : ℕ) (old mid : Player V) (most : ℕ) (call : Call) (w : Trace V) → IsIdle V old most w → mid.world ≡ old.world → mid.readers ≡ old.readers → clerks.shape_of_clerk mid.clerk ≡ clerks.shape_of_clerk old.clerk
+pub begun : (V : ℕ) (old mid : Player V) (most : ℕ) (call : Call) (w : Trace V) → IsIdle V old most w → mid.world ≡ old.world → clerks.shape_of_clerk mid.clerk ≡ clerks.shape_of_clerk old.clerk
     → IsOn V mid.clerk call (state_of V (shape_of_player old) w.acts) [] → acts_left mid.clerk ≤ 2 ^ 23 + 64 → IsInCall V mid most (pending call (state_of V (shape_of_player old) w.acts)) w
-begun V old mid most call w idle world readers clerk on few =
+begun V old mid most call w idle world clerk on few =
     let same : shape_of_player mid ≡ shape_of_player old = ap (λ (y : WorldView V). y.shape) world in
     record {
       at = record {
         world = subst (λ (y : WorldView V). Shows {V = V} y w) (sym world) idle.at.world;
         reached = subst (λ (y : Shape). IsReached V y w) (sym same) idle.at.reached;
         shape = clerk ∙ idle.at.shape ∙ sym same;
-        readers = idle.at.readers ∙ sym readers;
+        readers = idle.at.readers ∙ ap (λ (y : WorldView V). length y.readers) (sym world);
         events = idle.at.events;
       };
       on = on;

@@ -1,93 +1,55 @@
-// What a command does, and the lines of its answers.
-ghost use Rattle.std.specs.Prelude.{◌≡◌, OnOk, OnErr, Err, string_bytes};
-ghost use Rattle.mc_plan.specs.Clerks.{PutCall, RemoveCall};
+//! What a command does, and the lines of its answers.
+ghost use Rattle.std.specs.Prelude.{◌≡◌, OnOk, OnErr, Err, false, is_some, string_bytes};
+ghost use Rattle.mc_plan.specs.Clerks.{next_act};
 ghost use Rattle.mc_replay.specs.Replay.{ActsDo, BeginDoes, CallDoes, Does, GetDoes};
-ghost use Rattle.mc_replay.specs.Inside.Players.{ActsOnce, CanAct, CanDo, DoesBy};
+ghost use Rattle.mc_replay.specs.Inside.Players.{ActsOnce, CanAct, CanDo, DoesBy, call_of};
 ghost use Rattle.mc_replay.specs.declared.fault.Fault.TheVariants.{NoMemory};
 
 use crate::fault::Fault;
 use crate::lines::{AnswerLine, ReplyLine};
-use crate::player::Player;
+use crate::player::{Call, Player};
 use crate::reading::{begin_get, reads};
 use crate::text::add_line;
 use mc_script::Command;
 
-/// A whole `put`.
-fn put<const V: usize>(
+/// A whole call.
+fn whole<const V: usize>(
     player: &mut Player<V>,
     text: &mut String,
-    key: u64,
-    value: [u64; V],
+    call: Call<V>,
 ) -> Result<(), Fault>
-    requires { CanDo V player.old (string_bytes text.old) }
-    ensures { DoesBy V player.old player.new (string_bytes text.new) result (λ sh s. CallDoes sh s (PutCall key value.entry)) }
+    requires can { CanDo V player.old (string_bytes text.old) }
+    requires idle { is_some (next_act player.old.clerk) ≡ false }
+    ensures { DoesBy V player.old player.new (string_bytes text.new) result (λ sh s. CallDoes sh s (call_of call.entry)) }
 {
-    if player.is_running() {
-        return Err(Fault::StillRunning);
-    }
-    let answer = player.put(key, value)?;
+    let answer = player.whole(call)?;
     add_line(text, &AnswerLine(answer))
 }
 
-/// A whole `remove`.
-fn remove<const V: usize>(player: &mut Player<V>, text: &mut String, key: u64) -> Result<(), Fault>
-    requires { CanDo V player.old (string_bytes text.old) }
-    ensures { DoesBy V player.old player.new (string_bytes text.new) result (λ sh s. CallDoes sh s (RemoveCall key)) }
+/// Begins a call, which is answered at once where it needs no act.
+fn begin<const V: usize>(
+    player: &mut Player<V>,
+    text: &mut String,
+    call: Call<V>,
+) -> Result<(), Fault>
+    requires can { CanDo V player.old (string_bytes text.old) }
+    requires idle { is_some (next_act player.old.clerk) ≡ false }
+    ensures { DoesBy V player.old player.new (string_bytes text.new) result (λ sh s. BeginDoes sh s (call_of call.entry)) }
 {
-    if player.is_running() {
-        return Err(Fault::StillRunning);
+    match player.begin(call) {
+        Some(answer) => add_line(text, &AnswerLine(answer)),
+        None => Ok(()),
     }
-    let answer = player.remove(key)?;
-    add_line(text, &AnswerLine(answer))
 }
 
 /// A whole lookup by the writer.
 fn get<const V: usize>(player: &mut Player<V>, text: &mut String, key: u64) -> Result<(), Fault>
-    requires { CanDo V player.old (string_bytes text.old) }
+    requires can { CanDo V player.old (string_bytes text.old) }
+    requires idle { is_some (next_act player.old.clerk) ≡ false }
     ensures { DoesBy V player.old player.new (string_bytes text.new) result (λ sh s. GetDoes sh s key) }
 {
-    if player.is_running() {
-        return Err(Fault::StillRunning);
-    }
     let reply = player.get(key);
     add_line(text, &ReplyLine(reply))
-}
-
-/// Begins a `put`, which is answered at once where it needs no act.
-fn begin_put<const V: usize>(
-    player: &mut Player<V>,
-    text: &mut String,
-    key: u64,
-    value: [u64; V],
-) -> Result<(), Fault>
-    requires { CanDo V player.old (string_bytes text.old) }
-    ensures { DoesBy V player.old player.new (string_bytes text.new) result (λ sh s. BeginDoes sh s (PutCall key value.entry)) }
-{
-    if player.is_running() {
-        return Err(Fault::StillRunning);
-    }
-    match player.begin_put(key, value) {
-        Some(answer) => add_line(text, &AnswerLine(answer)),
-        None => Ok(()),
-    }
-}
-
-/// Begins a `remove`, which is answered at once where it needs no act.
-fn begin_remove<const V: usize>(
-    player: &mut Player<V>,
-    text: &mut String,
-    key: u64,
-) -> Result<(), Fault>
-    requires { CanDo V player.old (string_bytes text.old) }
-    ensures { DoesBy V player.old player.new (string_bytes text.new) result (λ sh s. BeginDoes sh s (RemoveCall key)) }
-{
-    if player.is_running() {
-        return Err(Fault::StillRunning);
-    }
-    match player.begin_remove(key) {
-        Some(answer) => add_line(text, &AnswerLine(answer)),
-        None => Ok(()),
-    }
 }
 
 /// Makes an act of the writer's call, and tells the call's answer after its last one.
@@ -125,14 +87,15 @@ pub(crate) fn do_command<const V: usize>(
     requires { CanDo V player.old (string_bytes text.old) }
     ensures { DoesBy V player.old player.new (string_bytes text.new) result (λ sh s. Does sh s command.entry) }
 {
-    match command {
-        Command::Put(key, value) => put(player, text, key, value),
-        Command::Remove(key) => remove(player, text, key),
-        Command::Get(key) => get(player, text, key),
-        Command::BeginPut(key, value) => begin_put(player, text, key, value),
-        Command::BeginRemove(key) => begin_remove(player, text, key),
-        Command::Write(many) => acts(player, text, many),
-        Command::BeginGet(reader, key) => begin_get(player, reader, key),
-        Command::Read(reader, many) => reads(player, text, reader, many),
+    match (command, player.is_running()) {
+        (Command::Write(many), _) => acts(player, text, many),
+        (Command::BeginGet(reader, key), _) => begin_get(player, reader, key),
+        (Command::Read(reader, many), _) => reads(player, text, reader, many),
+        (_, true) => Err(Fault::StillRunning),
+        (Command::Put(key, value), false) => whole(player, text, Call::Put(key, value)),
+        (Command::Remove(key), false) => whole(player, text, Call::Remove(key)),
+        (Command::Get(key), false) => get(player, text, key),
+        (Command::BeginPut(key, value), false) => begin(player, text, Call::Put(key, value)),
+        (Command::BeginRemove(key), false) => begin(player, text, Call::Remove(key)),
     }
 }

@@ -1,4 +1,4 @@
-// A script from a reader, and the lines of its answers to a writer.
+//! A script from a reader, and the lines of its answers to a writer.
 ghost use Rattle.std.specs.Prelude.{◌≡◌, ℕ, ◌≤◌, ◌<◌, ◌+◌, ◌^◌, true, length, Result, Ok, OnOk, string_bytes};
 ghost use Rattle.mc_words.specs.Checks.{shape_of};
 ghost use Rattle.mc_words.specs.Places.{IsWidth};

@@ -1,3 +1,4 @@
+//! Why a script stops, and at which line.
 ghost use Rattle.std.specs.Prelude.{◌≡◌, Some};
 ghost use Rattle.mc_replay.specs.Faults.{fault_at, fault_number, status_of, fault_of};
 ghost use Rattle.mc_replay.specs.FaultTexts.{error_text, fault_text, refusal_text, stop_text};

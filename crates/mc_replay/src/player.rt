@@ -3,10 +3,10 @@ ghost use Rattle.std.specs.Prelude.{◌≡◌, ◌+◌, ◌^◌, ◌-◌, ◌<�
 ghost use Rattle.mc_words.specs.Checks.{shape_of};
 ghost use Rattle.mc_words.specs.Places.{IsWidth};
 ghost use Rattle.mc_theory.specs.Traces as traces;
-ghost use Rattle.mc_plan.specs.Clerks.{PutCall, RemoveCall, next_act, acts_left};
+ghost use Rattle.mc_plan.specs.Clerks.{next_act, acts_left};
 ghost use Rattle.mc_replay.specs.Replay.{Pending, first_replay};
 ghost use Rattle.mc_replay.specs.Scripts.{IsReaders};
-ghost use Rattle.mc_replay.specs.Inside.Players.{Begins, Completes, Fits, HasRoom, IsIdle, IsInCall, MakesAct, CallIsWhole, IsMarked, Looks, shape_of_player, bit_given, IsRefusedAs};
+ghost use Rattle.mc_replay.specs.Inside.Players.{Begins, Completes, Fits, HasRoom, IsIdle, IsInCall, MakesAct, CallIsWhole, IsMarked, Looks, shape_of_player, bit_given, call_of, IsRefusedAs};
 ghost use Rattle.mc_replay.specs.declared.fault.Fault.TheVariants.{NoMemory};
 
 use crate::fault::Fault;
@@ -15,12 +15,17 @@ use mc_plan::{Answer, Clerk, moment, read};
 use mc_words::Checked;
 use std::alloc::Global;
 
+/// A call of the writer that changes the table.
+#[derive(Clone, Copy)]
+pub(crate) enum Call<const V: usize> {
+    Put(u64, [u64; V]),
+    Remove(u64),
+}
+
 #[derive(Drop)]
 pub(crate) struct Player<const V: usize> {
     pub(crate) world: World<V>,
     clerk: Clerk<V>,
-    /// How many readers there are.
-    pub(crate) readers: u32,
 }
 
 /// The bit that the hand read; other acts read none.
@@ -48,11 +53,7 @@ impl<const V: usize> Player<V> {
             Err(WorldError::NoMemory) => return Err(Fault::NoMemory),
         };
         match Clerk::new(alloc, checked) {
-            Ok(clerk) => Ok(Player {
-                world,
-                clerk,
-                readers,
-            }),
+            Ok(clerk) => Ok(Player { world, clerk }),
             Err(_) => Err(Fault::NoMemory),
         }
     }
@@ -100,43 +101,25 @@ impl<const V: usize> Player<V> {
         }
     }
 
-    /// Begins a `put`; the answer, where it needs no act.
-    pub(crate) fn begin_put(&mut self, key: u64, value: [u64; V]) -> Option<Answer>
+    /// Begins a call; the answer, where it needs no act.
+    pub(crate) fn begin(&mut self, call: Call<V>) -> Option<Answer>
         requires { (most : ℕ) × (w : traces.Trace V) × IsIdle V self.old most w }
-        ensures { (most : ℕ) (w : traces.Trace V) → IsIdle V self.old most w → Begins V self.old self.new most (PutCall key value.entry) w result }
+        ensures { (most : ℕ) (w : traces.Trace V) → IsIdle V self.old most w → Begins V self.old self.new most (call_of call.entry) w result }
     {
-        self.clerk.put(&mut &self.world, key, value);
-        self.clerk.answer()
-    }
-
-    /// Begins a `remove`; the answer, where it needs no act.
-    pub(crate) fn begin_remove(&mut self, key: u64) -> Option<Answer>
-        requires { (most : ℕ) × (w : traces.Trace V) × IsIdle V self.old most w }
-        ensures { (most : ℕ) (w : traces.Trace V) → IsIdle V self.old most w → Begins V self.old self.new most (RemoveCall key) w result }
-    {
-        self.clerk.remove(&mut &self.world, key);
-        self.clerk.answer()
-    }
-
-    /// A whole `put`.
-    pub(crate) fn put(&mut self, key: u64, value: [u64; V]) -> Result<Answer, Fault>
-        requires { (most : ℕ) × (w : traces.Trace V) × IsIdle V self.old most w × HasRoom most }
-        ensures made { IfOk result (λ a. (most : ℕ) (w : traces.Trace V) → IsIdle V self.old most w → HasRoom most → CallIsWhole V self.old self.new most (PutCall key value.entry) w a) }
-        ensures refused { OnErr result (result ≡ Err NoMemory) }
-    {
-        match self.begin_put(key, value) {
-            Some(answer) => Ok(answer),
-            None => self.finish(),
+        match call {
+            Call::Put(key, value) => self.clerk.put(&mut &self.world, key, value),
+            Call::Remove(key) => self.clerk.remove(&mut &self.world, key),
         }
+        self.clerk.answer()
     }
 
-    /// A whole `remove`.
-    pub(crate) fn remove(&mut self, key: u64) -> Result<Answer, Fault>
+    /// A whole call.
+    pub(crate) fn whole(&mut self, call: Call<V>) -> Result<Answer, Fault>
         requires { (most : ℕ) × (w : traces.Trace V) × IsIdle V self.old most w × HasRoom most }
-        ensures made { IfOk result (λ a. (most : ℕ) (w : traces.Trace V) → IsIdle V self.old most w → HasRoom most → CallIsWhole V self.old self.new most (RemoveCall key) w a) }
+        ensures made { IfOk result (λ a. (most : ℕ) (w : traces.Trace V) → IsIdle V self.old most w → HasRoom most → CallIsWhole V self.old self.new most (call_of call.entry) w a) }
         ensures refused { OnErr result (result ≡ Err NoMemory) }
     {
-        match self.begin_remove(key) {
+        match self.begin(call) {
             Some(answer) => Ok(answer),
             None => self.finish(),
         }

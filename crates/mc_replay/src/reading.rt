@@ -1,5 +1,5 @@
-// The lines of readers.
-ghost use Rattle.std.specs.Prelude.{◌≡◌, ◌<◌, ◌≤◌, ◌++◌, [], Err, OnOk, OnErr, IfOk, IfErr, string_bytes};
+//! The lines of readers.
+ghost use Rattle.std.specs.Prelude.{◌≡◌, ◌<◌, ◌≤◌, ◌++◌, [], Err, OnOk, OnErr, IfOk, IfErr, length, string_bytes};
 ghost use Rattle.mc_replay.specs.Replay.{AccessesDo, LookUpDoes, ReadsDo};
 ghost use Rattle.mc_replay.specs.Inside.Players.{CanDo, DoesBy};
 ghost use Rattle.mc_replay.specs.declared.fault.Fault.TheVariants.{NoMemory, NoSuchReader};
@@ -13,10 +13,10 @@ use mc_core::{Event, Stepped, Unlawful};
 
 /// The reader of this number.
 fn reader_of<const V: usize>(player: &Player<V>, reader: u64) -> Result<u32, Fault>
-    ensures ok { IfOk result (λ r. (r ≡ reader) × (r < player.now.readers)) }
-    ensures err { IfErr result (λ fault. (fault ≡ NoSuchReader) × (player.now.readers ≤ reader)) }
+    ensures ok { IfOk result (λ r. (r ≡ reader) × (r < length player.now.world.readers)) }
+    ensures err { IfErr result (λ fault. (fault ≡ NoSuchReader) × (length player.now.world.readers ≤ reader)) }
 {
-    if reader < u64::from(player.readers) {
+    if reader < u64::from(player.world.readers()) {
         Ok(reader as u32)
     } else {
         Err(Fault::NoSuchReader)
@@ -59,7 +59,7 @@ fn accesses<const V: usize>(
     many: u64,
 ) -> Result<(), Fault>
     requires can { CanDo V player.old (string_bytes text.old) }
-    requires reader { reader < player.old.readers }
+    requires reader { reader < length player.old.world.readers }
     ensures { DoesBy V player.old player.new (string_bytes text.new) result (λ sh s. AccessesDo sh many s reader) }
 {
     'accesses: for _ in 0..many {

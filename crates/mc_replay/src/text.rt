@@ -1,3 +1,4 @@
+//! A text that grows line by line.
 ghost use Rattle.std.specs.Prelude.{◌≡◌, ◌++◌, ◌∷◌, [], IfSome, OnOk, OnErr, Err, string_bytes};
 ghost use Rattle.mc_replay.specs.declared.fault.Fault.TheVariants.{NoMemory};
 

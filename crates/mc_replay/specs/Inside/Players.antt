@@ -14,6 +14,8 @@ use Rattle.mc_plan.specs.Clerks.{Call, Answered, Knows, IsOn, next_act, acts_lef
 use Rattle.mc_plan.specs.declared.answer.Answer.{Answer}
 use Rattle.mc_replay.specs.declared.fault.Fault.{Fault}
 use Rattle.mc_replay.specs.declared.fault.Fault.TheVariants.{ReadFailed, NoMemory, NoSuchReader, WriteFailed}
+use Rattle.mc_replay.specs.declared.player.Call as asked
+use Rattle.mc_replay.specs.declared.player.Call.TheVariants as asked_as
 use Rattle.mc_replay.specs.declared.player.Player.{Player}
 use Rattle.mc_replay.specs.Replay.{Replay, Pending, pending, WriterMakes, LooksUp, ActDoes}
 use Rattle.mc_replay.specs.Scripts.{IsReaders}
@@ -46,7 +48,7 @@ pub record IsAt (V : ℕ) (player : Player V) (most : ℕ) (w : Trace V) : Type 
   pub world : Shows {V = V} player.world w
   pub reached : IsReached V (shape_of_player player) w
   pub shape : clerks.shape_of_clerk player.clerk ≡ shape_of_player player
-  pub readers : length w.readers ≡ player.readers
+  pub readers : length w.readers ≡ length player.world.readers
   pub events : w.events ≤ most
 
 -- no call of the writer runs
@@ -76,6 +78,11 @@ Fits V player most s = FitsCall V player most s.running s.world
 -- some acts more of the call
 abbrev pub with_acts : {V : ℕ} → Pending V → List Made → Pending V
 with_acts p acts = record { call = p.call; from = p.from; acts = p.acts ++ acts }
+
+-- the call that is asked for, as a clerk's definitions name it
+abbrev pub call_of : {V : ℕ} → asked.Call V → Call
+call_of (asked_as.Put k v) = clerks.PutCall k v
+call_of (asked_as.Remove k) = clerks.RemoveCall k
 
 -- a call began, or is answered where it needs no act
 abbrev pub BeginsAs : (V : ℕ) → Shape → Player V → ℕ → Call → Trace V → Option Answer → Type 0

@@ -5,33 +5,52 @@ use Rattle.mc_script.specs.declared.command.Command.TheVariants.{BeginGet}
 use Rattle.mc_replay.specs.Inside.Players.{DoesBy}
 use Rattle.mc_replay.specs.Replay.{Does}
 use Rattle.mc_replay.specs.declared.player.Player.{Player}
+use Rattle.mc_replay.proofs.CommandLines.{still_running}
 use Rattle.mc_replay.proofs.command.do_command.Goals as goal
 
 -- The calls are not named, so that a body that makes another one is refused for what that one does.
-pub returns-in-Put : goal.returns-in-Put
-returns-in-Put g c = rw c.in-Put.is (search rules)
+pub returns-in-Put-false : goal.returns-in-Put-false
+returns-in-Put-false g c = rw c.in-Put-false.is-0 (search rules)
 
-pub returns-in-Remove : goal.returns-in-Remove
-returns-in-Remove g c = rw c.in-Remove.is (search rules)
+pub returns-in-Remove-false : goal.returns-in-Remove-false
+returns-in-Remove-false g c = rw c.in-Remove-false.is-0 (search rules)
 
-pub returns-in-Get : goal.returns-in-Get
-returns-in-Get g c = rw c.in-Get.is (search rules)
+pub returns-in-Get-false : goal.returns-in-Get-false
+returns-in-Get-false g c = rw c.in-Get-false.is-0 (search rules)
 
-pub returns-in-BeginPut : goal.returns-in-BeginPut
-returns-in-BeginPut g c = rw c.in-BeginPut.is (search rules)
+pub returns-in-BeginPut-false : goal.returns-in-BeginPut-false
+returns-in-BeginPut-false g c = rw c.in-BeginPut-false.is-0 (search rules)
 
-pub returns-in-BeginRemove : goal.returns-in-BeginRemove
-returns-in-BeginRemove g c = rw c.in-BeginRemove.is (search rules)
+pub returns-in-BeginRemove-false : goal.returns-in-BeginRemove-false
+returns-in-BeginRemove-false g c = rw c.in-BeginRemove-false.is-0 (search rules)
 
-pub returns-in-Write : goal.returns-in-Write
-returns-in-Write g c = rw c.in-Write.is (search rules)
+pub returns-in-Read-default : goal.returns-in-Read-default
+returns-in-Read-default g c = rw c.in-Read-default.is-0 (search rules)
 
-pub returns-in-Read : goal.returns-in-Read
-returns-in-Read g c = rw c.in-Read.is (search rules)
-
-pub returns-in-BeginGet : goal.returns-in-BeginGet
-returns-in-BeginGet g c =
+pub returns-in-BeginGet-default : goal.returns-in-BeginGet-default
+returns-in-BeginGet-default g c =
     let old : Player g.row.V = c.args.player.now in
     let new : Player g.row.V = c.begin_get.new.player in
-    subst (λ (x : Command g.row.V). DoesBy g.row.V old new (string_bytes c.args.text.now) c.begin_get.result (λ sh s. Does sh s x)) (sym c.in-BeginGet.is)
-    (subst (λ (t : List ℕ). DoesBy g.row.V old new t c.begin_get.result (λ sh s. Does sh s (BeginGet c.in-BeginGet.reader c.in-BeginGet.key))) (sym c.requires.0) c.begin_get.ensures)
+    subst (λ (x : Command g.row.V). DoesBy g.row.V old new (string_bytes c.args.text.now) c.begin_get.result (λ sh s. Does sh s x)) (sym c.in-BeginGet-default.is-0)
+    (subst (λ (t : List ℕ). DoesBy g.row.V old new t c.begin_get.result (λ sh s. Does sh s (BeginGet c.in-BeginGet-default.reader c.in-BeginGet-default.key))) (sym c.requires.0) c.begin_get.ensures)
+
+-- a call runs: each of the five commands that start one, or look up, is refused
+pub returns-in_default-true : goal.returns-in_default-true
+returns-in_default-true g c = λ most s room fits.
+    (s, rw c.in_default-true.is-0 (still_running g.row.V c.args.player.now most s (string_bytes c.args.text.now) _ fits (sym c.in_default-true.ensures) c.requires.0), tt)
+
+pub returns-in_default-true-2 : goal.returns-in_default-true-2
+returns-in_default-true-2 g c = λ most s room fits.
+    (s, rw c.in_default-true.is-0 (still_running g.row.V c.args.player.now most s (string_bytes c.args.text.now) _ fits (sym c.in_default-true.ensures) c.requires.0), tt)
+
+pub returns-in_default-true-3 : goal.returns-in_default-true-3
+returns-in_default-true-3 g c = λ most s room fits.
+    (s, rw c.in_default-true.is-0 (still_running g.row.V c.args.player.now most s (string_bytes c.args.text.now) _ fits (sym c.in_default-true.ensures) c.requires.0), tt)
+
+pub returns-in_default-true-4 : goal.returns-in_default-true-4
+returns-in_default-true-4 g c = λ most s room fits.
+    (s, rw c.in_default-true.is-0 (still_running g.row.V c.args.player.now most s (string_bytes c.args.text.now) _ fits (sym c.in_default-true.ensures) c.requires.0), tt)
+
+pub returns-in_default-true-5 : goal.returns-in_default-true-5
+returns-in_default-true-5 g c = λ most s room fits.
+    (s, rw c.in_default-true.is-0 (still_running g.row.V c.args.player.now most s (string_bytes c.args.text.now) _ fits (sym c.in_default-true.ensures) c.requires.0), tt)

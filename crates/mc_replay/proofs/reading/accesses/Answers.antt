@@ -7,7 +7,7 @@ use Rattle.mc_replay.specs.declared.fault.Fault.TheVariants.{NothingToStep}
 use Rattle.mc_replay.specs.Replay.{AccessesDo}
 use Rattle.mc_replay.specs.Inside.Players.{shape_of_player, most_steps}
 use Rattle.mc_replay.specs.Inside.Texts.{end_text}
-use Rattle.mc_replay.proofs.ReaderLines.{SameWriter, at_of, sound_of, width_of, access_done, reads_more, after_access, fits_more}
+use Rattle.mc_replay.proofs.ReaderLines.{SameWriter, at_of, sound_of, width_of, access_done, readers_after, reads_more, after_access, fits_more}
 use Rattle.mc_replay.proofs.StepAfterStep.{accesses_push, accesses_stop, left_over, one_more}
 use Rattle.mc_replay.proofs.ReaderLines.{width_can}
 use Rattle.mc_replay.proofs.reading.accesses.Goals as goal
@@ -16,11 +16,15 @@ pub accesses-preserved : goal.accesses-preserved
 accesses-preserved g c =
     let old : Player g.row.V = c.args.player.now in
     let mid : Player g.row.V = c.accesses.player in
-    let new : Player g.row.V = record { world = c.step.new.self; clerk = c.accesses.player.clerk; readers = c.accesses.player.readers } in
-    let same : SameWriter g.row.V mid new = record { shape = c.step.ensures.shape; clerk = refl; readers = refl } in
+    let new : Player g.row.V = record { world = c.step.new.self; clerk = c.accesses.player.clerk } in
+    let same : SameWriter g.row.V mid new = record { shape = c.step.ensures.shape; clerk = refl } in
+    let first = c.requires.can.1 in
+    let some = c.accesses.invariant.made first.0 first.1 first.2 first.3 in
+    let here = at_of g.row.V mid _ some.0.running some.0.world some.2.fits in
+    let next = c.in-Ok.ensures.ok some.0.world here.world in
     record {
       shape = c.step.ensures.shape ∙ c.accesses.invariant.shape;
-      readers = c.accesses.invariant.readers;
+      readers = readers_after g.row.V (shape_of_player mid) mid.world new.world some.0.world next.0 c.args.reader here.world next.3 next.1 ∙ c.accesses.invariant.readers;
       made = λ most s room fits.
           let so_far = c.accesses.invariant.made most s room fits in
           let m = so_far.0 in

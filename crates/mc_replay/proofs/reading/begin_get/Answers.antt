@@ -16,11 +16,11 @@ returns-in_err-reader g c = λ most s room fits.
 pub returns-in-Ok : goal.returns-in-Ok
 returns-in-Ok g c =
     let old : Player g.row.V = c.args.player.now in
-    let new : Player g.row.V = record { world = c.step.new.self; clerk = c.args.player.now.clerk; readers = c.args.player.now.readers } in
+    let new : Player g.row.V = record { world = c.step.new.self; clerk = c.args.player.now.clerk } in
     λ most s room fits.
     let at = at_of g.row.V old most s.running s.world fits in
     let did = c.in-Ok.ensures.ok s.world at.world in
-    let same : SameWriter g.row.V old new = record { shape = c.step.ensures.shape; clerk = refl; readers = refl } in
+    let same : SameWriter g.row.V old new = record { shape = c.step.ensures.shape; clerk = refl } in
     let begun = look_up_begins g.row.V old new most c.in_ok-reader.reader c.args.key s did.0 fits c.in_ok-reader.ensures.ok.1 same did.3 did.1 in
     (begun.0, subst (λ (r : ℕ). LookUpDoes (shape_of_player old) s r c.args.key [] None begun.0) c.in_ok-reader.ensures.ok.0 begun.1, (c.step.ensures.shape, begun.2))
 

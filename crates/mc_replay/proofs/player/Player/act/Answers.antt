@@ -51,8 +51,8 @@ after-requires g c =
 pub returns-in-Ok-clause-made : goal.returns-in-Ok-clause-made
 returns-in-Ok-clause-made g c = λ most p w call room.
     let old : Player g.row.V = c.args.self.now in
-    let mid : Player g.row.V = record { world = c.step.new.self; clerk = c.after.new.self; readers = c.args.self.now.readers } in
-    let new : Player g.row.V = record { world = c.step.new.self; clerk = c.answer.new.self; readers = c.args.self.now.readers } in
+    let mid : Player g.row.V = record { world = c.step.new.self; clerk = c.after.new.self } in
+    let new : Player g.row.V = record { world = c.step.new.self; clerk = c.answer.new.self } in
     let a = c.in-Some.act in
     let did = c.in-Ok.ensures.ok w call.at.world in
     let read : c.bit_in.result ≡ bit_of old.world.bits a =
@@ -63,8 +63,8 @@ returns-in-Ok-clause-made g c = λ most p w call room.
     let makes : WriterMakes g.row.V (shape_of_player old) w (m ∷ []) did.0 = makes_one g.row.V (shape_of_player old) w did.0 a did.1 in
     let events : did.0.events ≡ w.events + 1 = ap (λ (y : Trace g.row.V). y.events) did.1.2 in
     let on : IsOn g.row.V mid.clerk p.call p.from (p.acts ++ m ∷ []) = subst (λ (b : ℕ). IsOn g.row.V mid.clerk p.call p.from (p.acts ++ record { act = a; bit = b } ∷ [])) told (c.after.ensures.on p.call p.from p.acts a call.on (sym c.in-Some.ensures.value) words) in
-    let next = call_goes_on g.row.V old mid most p w did.0 m call c.in-Ok.ensures.shape did.3 makes events refl c.after.ensures.shape on c.after.ensures.left in
-    let tells : TellsAs g.row.V mid new c.answer.result = record { world = refl; readers = refl; shape = c.answer.ensures.shape; ends = c.answer.ensures.some; some = c.answer.ensures.told; none = c.answer.ensures.none } in
+    let next = call_goes_on g.row.V old mid most p w did.0 m call c.in-Ok.ensures.shape did.3 makes events c.after.ensures.shape on c.after.ensures.left in
+    let tells : TellsAs g.row.V mid new c.answer.result = record { world = refl; shape = c.answer.ensures.shape; ends = c.answer.ensures.some; some = c.answer.ensures.told; none = c.answer.ensures.none } in
     record {
       made = m;
       after = did.0;

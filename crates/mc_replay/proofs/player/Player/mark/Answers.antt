@@ -17,8 +17,8 @@ unreachable-requires g c =
 pub returns : goal.returns
 returns g c = λ most w idle room.
     let old : Player g.row.V = c.args.self.now in
-    let new : Player g.row.V = record { world = c.step.new.self; clerk = c.args.self.now.clerk; readers = c.args.self.now.readers } in
+    let new : Player g.row.V = record { world = c.step.new.self; clerk = c.args.self.now.clerk } in
     let did = c.in-Ok.ensures.ok w idle.at.world in
     let makes = makes_one g.row.V (shape_of_player old) w did.0 (Mark c.args.item) did.1 in
     let events : did.0.events ≡ w.events + 1 = ap (λ (y : Trace g.row.V). y.events) did.1.2 in
-    marked g.row.V old new most c.args.item w did.0 idle c.in-Ok.ensures.shape refl refl did.3 makes events
+    marked g.row.V old new most c.args.item w did.0 idle c.in-Ok.ensures.shape refl did.3 makes events

@@ -1,5 +1,4 @@
-use Rattle.std.proofs.Common.{◌≡◌, sym, subst, ap, ◌∙◌, [], None, refl, arith}
-use Rattle.std.proofs.lemmas.List.{length-replicate}
+use Rattle.std.proofs.Common.{◌≡◌, sym, subst, ap, ◌∙◌, [], refl, arith}
 use Rattle.mc_theory.proofs.Lists.Fronts.{state_none}
 use Rattle.mc_theory.specs.Lists.{state_of}
 use Rattle.mc_theory.specs.States.{opening}
@@ -7,6 +6,7 @@ use Rattle.mc_theory.specs.Traces.{IsReached, first_trace}
 use Rattle.mc_plan.specs.Clerks.{Knows}
 use Rattle.mc_words.specs.Checks.{shape_of}
 use Rattle.mc_words.specs.declared.shape.Shape.{Shape}
+use Rattle.mc_replay.proofs.ReaderLines.{readers_of}
 use Rattle.mc_replay.proofs.ScriptLines.{no_readers, some_readers}
 use Rattle.mc_replay.proofs.player.Player.new.Goals as goal
 
@@ -19,7 +19,7 @@ returns-in-Ok-new-clause-fits g c =
         world = c.in-Ok.ensures.ok.1;
         reached = subst (λ (y : Shape). IsReached g.row.V y (first_trace g.row.V sh c.args.readers)) (sym c.in-Ok.ensures.ok.0) (record { readers = c.args.readers; events = []; runs = refl });
         shape = c.in-Ok-new.ensures.shape ∙ sym c.in-Ok.ensures.ok.0;
-        readers = length-replicate c.args.readers None;
+        readers = readers_of g.row.V c.in-Ok.world _ c.in-Ok.ensures.ok.1;
         events = omega arith;
       };
       knows = subst (Knows g.row.V c.in-Ok-new.clerk) first c.in-Ok-new.ensures.knows;
