@@ -1,12 +1,14 @@
 -- A world makes a list of events.
-use Rattle.std.proofs.Common.{ℕ, ◌≡◌, ◌≢◌, List, [], ◌∷◌, ◌++◌, map, Option, Some, None, refl, sym, ◌∙◌, ap, subst, inl, inr}
+use Rattle.std.proofs.Common.{ℕ, ◌≡◌, ◌≤◌, List, [], ◌∷◌, ◌++◌, map, Option, Some, None, refl, sym, ◌∙◌, ap, subst, inl, inr, arith}
 use Rattle.std.specs.Prelude.{slice_get}
 use Rattle.std.proofs.lemmas.List.{append-nil, append_assoc, map-append}
 use Rattle.mc_words.specs.declared.shape.Shape.{Shape}
-use Rattle.mc_core.specs.Inside.Parts.{shape_of_parts, view_of, StandFor, AreReached, MakesEvents}
+use Rattle.mc_core.specs.Inside.Parts.{shape_of_parts, view_of, StandFor, AreReached, MakesEvent, RefusesEvent, MakesEvents}
+use Rattle.mc_core.specs.Inside.Writers.{room_of}
 use Rattle.mc_core.specs.Seen.{WorldView, Shows}
 use Rattle.mc_theory.specs.Plain.{events_made}
-use Rattle.mc_theory.specs.Traces.{Trace, OpenLookup, Ended, given_of, bit_of, Steps, EventGives, RefusesEvent, StepsAll, IsReached, StopsAt, HasRun, first_trace}
+use Rattle.mc_theory.specs.Traces as traces
+use Rattle.mc_theory.specs.Traces.{Trace, OpenLookup, Ended, given_of, bit_of, Steps, EventGives, StepsAll, IsReached, StopsAt, HasRun, first_trace}
 use Rattle.mc_theory.specs.declared.act.Act.{Act}
 use Rattle.mc_theory.specs.declared.act.Act.TheVariants as act
 use Rattle.mc_theory.specs.declared.event.Done.{Done}
@@ -15,10 +17,9 @@ use Rattle.mc_theory.specs.declared.event.Event.TheVariants.{Write, Begin, Read}
 use Rattle.mc_theory.specs.declared.event.Stepped.{Stepped}
 use Rattle.mc_theory.specs.declared.event.Stepped.TheVariants as stepped
 use Rattle.mc_theory.specs.declared.event.Unlawful.{Unlawful}
-use Rattle.mc_theory.specs.declared.event.Unlawful.TheVariants as unlawful
 use Rattle.mc_core.specs.declared.parts.Parts.{Parts}
 use Rattle.mc_core.proofs.PairedLists.{set_there}
-use Rattle.mc_core.proofs.WorldSteps.{Leads, runs_append, stand_for}
+use Rattle.mc_core.proofs.WorldSteps.{runs_append, stand_for}
 
 -- what an event told
 abbrev pub done_of : {V : ℕ} → Stepped V → List (Done V)
@@ -58,11 +59,11 @@ event_tells V sh w x (Read r) (stepped.Word n) s gives =
     ended_not run e = cc (e)
 
 -- an event that was made
-pub made_one : {V : ℕ} (old new : Parts V) (e : Event) (out : Stepped V) (before after : List (Done V)) → shape_of_parts {V = V} new ≡ shape_of_parts {V = V} old → Leads {V = V} old new e out → after ≡ before ++ done_of {V = V} out → MakesEvents {V = V} old new (e ∷ []) before after
-made_one {V} old new e out before after same leads told = record {
-  shape = same;
+pub made_one : {V : ℕ} (old new : Parts V) (e : Event) (out : Stepped V) (before after : List (Done V)) → MakesEvent {V = V} old new e out → after ≡ before ++ done_of {V = V} out → MakesEvents {V = V} old new (e ∷ []) before after
+made_one {V} old new e out before after made told = record {
+  shape = made.shape;
   made = λ seen s.
-      let next = leads seen s in
+      let next = made.leads seen s in
       let more = event_tells V (shape_of_parts {V = V} old) seen next.0 e out next.1 next.2 in
       (next.0, (next.0, next.1, refl), next.3, (more.0, more.1, told ∙ ap (λ ys. before ++ ys) more.2));
 }
@@ -87,25 +88,22 @@ made_then {V} old mid new es ds before between after first second = record {
       );
 }
 
-abbrev pub Refused : {V : ℕ} → Parts V → Parts V → Event → Unlawful → Type 0
-Refused {V} old new e why = (seen : Trace V) → StandFor {V = V} old seen → RefusesEvent {V = V} (shape_of_parts {V = V} old) seen e why × StandFor {V = V} new seen
-
 -- an event refused
-pub made_same : {V : ℕ} (old mid new : Parts V) (es : List Event) (e : Event) (why : Unlawful) (before after now : List (Done V)) → MakesEvents {V = V} old mid es before after → view_of {V = V} new ≡ view_of {V = V} mid → Refused {V = V} mid new e why → now ≡ after → MakesEvents {V = V} old new es before now
-made_same {V} old mid new es e why before after now so_far same refused silent = record {
-  shape = ap (λ (s : WorldView V). s.shape) same ∙ so_far.shape;
+pub made_same : {V : ℕ} (old mid new : Parts V) (es : List Event) (e : Event) (why : Unlawful) (before after now : List (Done V)) → MakesEvents {V = V} old mid es before after → RefusesEvent {V = V} mid new e why → now ≡ after → MakesEvents {V = V} old new es before now
+made_same {V} old mid new es e why before after now so_far refused silent = record {
+  shape = ap (λ (s : WorldView V). s.shape) refused.kept ∙ so_far.shape;
   made = λ seen s.
       let made = so_far.made seen s in
-      (made.0, made.1, (refused made.0 made.2).1, (made.3.0, made.3.1, silent ∙ made.3.2));
+      (made.0, made.1, refused.stays made.0 made.2, (made.3.0, made.3.1, silent ∙ made.3.2));
 }
 
--- where a list of events stops
-pub stops_at : {V : ℕ} (old new : Parts V) (es : List Event) (i : ℕ) (e : Event) (why : Unlawful) (known : Trace V) → StandFor {V = V} old known → slice_get es i ≡ Some e → view_of {V = V} new ≡ view_of {V = V} old → Refused {V = V} old new e why → why ≢ unlawful.NoMemory →
+-- where a list of events stops, if there was room
+pub stops_at : {V : ℕ} (old new : Parts V) (es : List Event) (i : ℕ) (e : Event) (why : Unlawful) (known : Trace V) → StandFor {V = V} old known → slice_get es i ≡ Some e → RefusesEvent {V = V} old new e why → 1 ≤ room_of {V = V} old.writer →
     (seen : Trace V) → StandFor {V = V} new seen → StopsAt {V = V} (shape_of_parts {V = V} new) seen es (Some (i, why))
-stops_at {V} old new es i e why known stands at same refused lawful = λ seen s.
-    let before : StandFor {V = V} old seen = record { shows = subst (λ (shown : WorldView V). Shows {V = V} shown seen) same s.shows; used = stands.used; within = stands.within } in
-    let shape = ap (λ (shown : WorldView V). shown.shape) same in
-    (e, at, subst (λ (sh : Shape). RefusesEvent {V = V} sh seen e why) (sym shape) (refused seen before).0, lawful)
+stops_at {V} old new es i e why known stands at refused room = λ seen s.
+    let before : StandFor {V = V} old seen = record { shows = subst (λ (shown : WorldView V). Shows {V = V} shown seen) refused.kept s.shows; used = stands.used; within = stands.within } in
+    let shape = ap (λ (shown : WorldView V). shown.shape) refused.kept in
+    (e, at, subst (λ (sh : Shape). traces.RefusesEvent {V = V} sh seen e why) (sym shape) (refused.refused seen before), λ wanting. let none = refused.full wanting in absurd (omega arith))
 
 -- the parts stand as one more list of events leaves them
 pub reached_made : {V : ℕ} (old new : Parts V) (es : List Event) (before after : List (Done V)) → AreReached {V = V} old → MakesEvents {V = V} old new es before after → AreReached {V = V} new

@@ -1,6 +1,6 @@
 -- What follows of a world in memory from the trace of events that it shows.
-use Rattle.std.proofs.Common.{ℕ, ◌≡◌, ◌+◌, ◌<◌, ◌≤◌, List, [], ◌∷◌, ◌++◌, Option, sym, ◌∙◌, ap, subst, arith}
-use Rattle.std.specs.Prelude.{Result, Ok, Err, OnOk, false, slice_get}
+use Rattle.std.proofs.Common.{ℕ, true, ◌≡◌, ◌+◌, ◌-◌, ◌^◌, ◌<◌, ◌≤◌, List, [], ◌∷◌, ◌++◌, Option, sym, ◌∙◌, ap, subst, arith}
+use Rattle.std.specs.Prelude.{Result, Ok, Err, OnOk, OnErr, false, slice_get}
 use Rattle.std.specs.Result.{is_err}
 use Rattle.std.proofs.lemmas.Bool.{false≢true}
 use Rattle.mc_words.specs.Checks.{shape_of}
@@ -11,16 +11,19 @@ use Rattle.mc_theory.specs.Acts.{MayFrom, IsAllowed}
 use Rattle.mc_theory.specs.Effects.{phase_after, version_steps_after, after_act}
 use Rattle.mc_theory.specs.Inner.{StateHolds, StateCounted}
 use Rattle.mc_theory.specs.Phases.{Phase, Quiet, close_owed}
-use Rattle.mc_core.specs.Seen.{Both, IsOpenLookup}
+use Rattle.mc_core.specs.Seen.{WorldView, Both, IsOpenLookup, Shows}
 use Rattle.mc_core.specs.Inside.Seen.{ReadsIn}
-use Rattle.mc_core.specs.Inside.Parts.{shape_of_parts, StandFor}
+use Rattle.mc_core.specs.Inside.Parts.{shape_of_parts, view_of, StandFor, RefusesEvent}
 use Rattle.mc_theory.specs.States.{State}
 use Rattle.mc_theory.specs.Traces as traces
-use Rattle.mc_core.specs.Inside.Writers.{state_in, words_of_writer, phase_at, IsMade}
+use Rattle.mc_core.specs.Inside.Writers.{state_in, words_of_writer, phase_at, room_of, UsedWell, IsMade, KeepsWriter}
 use Rattle.mc_theory.specs.declared.act.Act.{Act}
 use Rattle.mc_theory.specs.declared.act.Act.TheVariants.{Open, Slot, Item, Moment, Close, Hand, Mark}
+use Rattle.mc_theory.specs.declared.event.Event.TheVariants.{Write}
+use Rattle.mc_theory.specs.declared.event.Unlawful.TheVariants as unlawful
 use Rattle.mc_core.specs.declared.parts.Parts.{Parts}
 use Rattle.mc_core.specs.declared.reader.Reader.{Reader}
+use Rattle.mc_core.specs.declared.table.Table.{Table}
 use Rattle.mc_theory.proofs.Lists.Bounds.{state_counted, state_hand}
 use Rattle.mc_theory.proofs.Lists.Fronts.{state_holds, state_push, lawful_push}
 use Rattle.mc_theory.proofs.Invariant.Limits.{within_after}
@@ -78,3 +81,27 @@ stand_after {V} old new seen a s may has made bits readers events =
       used = made.used;
       within = subst (λ (y : Shape). new.writer.version_steps + close_owed (phase_at new.writer.written new.writer.progress) ≤ y.limit) (sym same) (omega (arith, close, changes, ap close_owed phase));
     }
+
+-- ---- an act for which memory was wanting
+pub err_of : {A E : Type 0} (r : Result A E) (P : Type 0) → is_err r ≡ true → OnErr r P → P
+err_of (Err x) P e h = h
+err_of (Ok x) P e h = absurd (false≢true e)
+
+stand_kept : {V : ℕ} (old new : Parts V) (seen : traces.Trace V) → StandFor {V = V} old seen → KeepsWriter {V = V} old.writer new.writer → view_of {V = V} new ≡ view_of {V = V} old → StandFor {V = V} new seen
+stand_kept {V} old new seen s kept same = record {
+  shows = subst (λ (v : WorldView V). Shows {V = V} v seen) (sym same) s.shows;
+  used = subst (λ (t : Table V). UsedWell {V = V} t) (sym kept.table) s.used;
+  within = omega (arith, s.within, ap (λ (y : State V). y.version_steps) kept.state, ap (λ (y : State V). close_owed y.phase) kept.state, ap (λ (v : WorldView V). v.shape.limit) same);
+}
+
+pub memory_wanting : {V : ℕ} (old new : Parts V) (a : Act) → a ≡ Moment → IsAllowed (shape_of_parts {V = V} old) (state_in {V = V} old.writer) a → old.events < 2 ^ 64 - 1 → KeepsWriter {V = V} old.writer new.writer → view_of {V = V} new ≡ view_of {V = V} old → room_of {V = V} old.writer ≡ 0 →
+    RefusesEvent {V = V} old new (Write a) unlawful.NoMemory
+memory_wanting {V} old new a is may within kept same none = record {
+  kept = same;
+  full = λ wanting. none;
+  refused = λ seen s.
+      let sh = shape_of_parts {V = V} old in
+      let allowed = subst (λ (b : Act). IsAllowed sh (state_of V sh seen.acts) b) is (subst (λ (y : State V). IsAllowed sh y a) s.shows.state may) in
+      subst (λ (b : Act). traces.RefusesEvent {V = V} sh seen (Write b) unlawful.NoMemory) (sym is) (allowed, (omega (arith, within, s.shows.events), tt));
+  stays = λ seen s. stand_kept old new seen s kept same;
+}

@@ -10,9 +10,10 @@ use Rattle.mc_theory.specs.declared.event.Event.TheVariants.{Write, Begin, Read}
 use Rattle.mc_theory.specs.declared.event.Unlawful.TheVariants as unlawful
 use Rattle.mc_words.specs.Shapes.{IsShape}
 use Rattle.mc_words.specs.declared.shape.Shape.{Shape}
-use Rattle.mc_core.specs.Inside.Parts.{shape_of_parts, view_of, StandFor, AreReached}
-use Rattle.mc_core.specs.Seen.{Shows, MayAct}
-use Rattle.mc_theory.specs.Traces.{Trace, IsWithin, HasVersionSteps, bit_of, given_of, Steps, EventGives, RefusesEvent, StepsAll, IsReached, IsTrueEnd, first_trace}
+use Rattle.mc_core.specs.Inside.Parts.{shape_of_parts, view_of, StandFor, AreReached, MakesEvent, RefusesEvent}
+use Rattle.mc_core.specs.Seen.{WorldView, Shows, MayAct}
+use Rattle.mc_theory.specs.Traces as traces
+use Rattle.mc_theory.specs.Traces.{Trace, IsWithin, HasVersionSteps, bit_of, given_of, Steps, EventGives, StepsAll, IsReached, IsTrueEnd, first_trace}
 use Rattle.mc_theory.specs.declared.event.Event.{Event}
 use Rattle.mc_theory.specs.declared.event.Stepped.{Stepped}
 use Rattle.mc_theory.specs.declared.event.Unlawful.{Unlawful}
@@ -39,27 +40,26 @@ reached_true V sh x sound r = (traces_are_true V sh r.readers r.events x sound r
 pub reached_push : (V : ℕ) (sh : Shape) (x y : Trace V) (e : Event) → IsReached V sh x → Steps V sh x e y → IsReached V sh y
 reached_push V sh x y e r s = record { readers = r.readers; events = r.events ++ e ∷ []; runs = runs_push V sh (first_trace V sh r.readers) r.events x y e r.runs s }
 
--- what a step promises of every trace of events
-abbrev pub Leads : {V : ℕ} → Parts V → Parts V → Event → Stepped V → Type 0
-Leads {V} old new e out = (seen : Trace V) → StandFor {V = V} old seen → (next : Trace V) × Steps V (shape_of_parts {V = V} old) seen e next × EventGives {V = V} seen e next out × StandFor {V = V} new next
-
-abbrev pub Stays : {V : ℕ} → Parts V → Parts V → Event → Unlawful → Type 0
-Stays {V} old new e why = (seen : Trace V) → StandFor {V = V} old seen → RefusesEvent {V = V} (shape_of_parts {V = V} old) seen e why × StandFor {V = V} new seen
-
-pub reached_after : {V : ℕ} (old new : Parts V) (e : Event) (r : Result (Stepped V) Unlawful) → AreReached {V = V} old → shape_of_parts {V = V} new ≡ shape_of_parts {V = V} old → IfOk r (λ out. Leads {V = V} old new e out) → IfErr r (λ why. Stays {V = V} old new e why) → AreReached {V = V} new
-reached_after {V} old new e (Ok out) reached shape leads stays =
-    let next = leads reached.seen reached.stand in
+-- what a step makes of parts that are reached
+pub reached_after : {V : ℕ} (old new : Parts V) (e : Event) (r : Result (Stepped V) Unlawful) → AreReached {V = V} old → IfOk r (λ out. MakesEvent {V = V} old new e out) → IfErr r (λ why. RefusesEvent {V = V} old new e why) → AreReached {V = V} new
+reached_after {V} old new e (Ok out) reached made refused =
+    let next = made.leads reached.seen reached.stand in
     record {
       seen = next.0;
       stand = next.3;
-      reached = subst (λ (sh : Shape). IsReached V sh next.0) (sym shape) (reached_push V (shape_of_parts {V = V} old) reached.seen next.0 e reached.reached next.1);
+      reached = subst (λ (sh : Shape). IsReached V sh next.0) (sym made.shape) (reached_push V (shape_of_parts {V = V} old) reached.seen next.0 e reached.reached next.1);
     }
-reached_after {V} old new e (Err why) reached shape leads stays =
+reached_after {V} old new e (Err why) reached made refused =
     record {
       seen = reached.seen;
-      stand = (stays reached.seen reached.stand).1;
-      reached = subst (λ (sh : Shape). IsReached V sh reached.seen) (sym shape) reached.reached;
+      stand = refused.stays reached.seen reached.stand;
+      reached = subst (λ (sh : Shape). IsReached V sh reached.seen) (sym (ap (λ (s : WorldView V). s.shape) refused.kept)) reached.reached;
     }
+
+-- the shape stays
+pub shape_after : {V : ℕ} (old new : Parts V) (e : Event) (r : Result (Stepped V) Unlawful) → IfOk r (λ out. MakesEvent {V = V} old new e out) → IfErr r (λ why. RefusesEvent {V = V} old new e why) → shape_of_parts {V = V} new ≡ shape_of_parts {V = V} old
+shape_after old new e (Ok out) made refused = made.shape
+shape_after {V} old new e (Err why) made refused = ap (λ (s : WorldView V). s.shape) refused.kept
 
 -- every event is counted
 steps_count : (V : ℕ) (sh : Shape) (w x : Trace V) (e : Event) → Steps V sh w e x → x.events ≡ w.events + 1
@@ -70,14 +70,14 @@ steps_count V sh w x (Read r) s = elim s.5 [
   | inr more ↦ ap (λ (y : Trace V). y.events) more.1
 ]
 
-pub counted_after : {V : ℕ} (old new : Parts V) (e : Event) (r : Result (Stepped V) Unlawful) → AreReached {V = V} old → IfOk r (λ out. Leads {V = V} old new e out) → OnOk r (new.events ≡ old.events + 1)
-counted_after {V} old new e (Ok out) reached leads =
-    let next = leads reached.seen reached.stand in
+pub counted_after : {V : ℕ} (old new : Parts V) (e : Event) (r : Result (Stepped V) Unlawful) → AreReached {V = V} old → IfOk r (λ out. MakesEvent {V = V} old new e out) → OnOk r (new.events ≡ old.events + 1)
+counted_after {V} old new e (Ok out) reached made =
+    let next = made.leads reached.seen reached.stand in
     next.3.shows.events ∙ steps_count V (shape_of_parts {V = V} old) reached.seen next.0 e next.1 ∙ ap (λ n. n + 1) (sym reached.stand.shows.events)
-counted_after old new e (Err why) reached leads = leads
+counted_after old new e (Err why) reached made = made
 
 -- an act that is allowed and passes no limit is refused for want of memory alone, and only where it counts a change
-refused_act : (V : ℕ) (sh : Shape) (w : Trace V) (a : Act) (why : Unlawful) → RefusesEvent {V = V} sh w (Write a) why → IsAllowed sh (state_of V sh w.acts) a → IsWithin {V = V} sh w (Write a) → (why ≡ unlawful.NoMemory) × (a ≡ act.Moment)
+refused_act : (V : ℕ) (sh : Shape) (w : Trace V) (a : Act) (why : Unlawful) → traces.RefusesEvent {V = V} sh w (Write a) why → IsAllowed sh (state_of V sh w.acts) a → IsWithin {V = V} sh w (Write a) → (why ≡ unlawful.NoMemory) × (a ≡ act.Moment)
 refused_act V sh w a unlawful.NotLawful h may within = absurd (h may)
 refused_act V sh w a unlawful.Limit h may within = absurd (h.1 within)
 refused_act V sh w act.Moment unlawful.NoMemory h may within = (refl, refl)
@@ -90,38 +90,38 @@ refused_act V sh w (act.Mark i) unlawful.NoMemory h may within = absurd h
 refused_act V sh w a unlawful.NoReader h may within = absurd h
 refused_act V sh w a unlawful.StillRunning h may within = absurd h
 
-pub lawful_after : {V : ℕ} (old new : Parts V) (e : Event) (r : Result (Stepped V) Unlawful) → AreReached {V = V} old → IfErr r (λ why. Stays {V = V} old new e why) → (a : Act) → e ≡ Write a → MayAct {V = V} (view_of {V = V} old) a → IfErr r (λ why. (why ≡ unlawful.NoMemory) × (a ≡ act.Moment))
-lawful_after old new e (Ok out) reached stays a is may = stays
-lawful_after {V} old new e (Err why) reached stays a is may =
+pub lawful_after : {V : ℕ} (old new : Parts V) (e : Event) (r : Result (Stepped V) Unlawful) → AreReached {V = V} old → IfErr r (λ why. RefusesEvent {V = V} old new e why) → (a : Act) → e ≡ Write a → MayAct {V = V} (view_of {V = V} old) a → IfErr r (λ why. (why ≡ unlawful.NoMemory) × (a ≡ act.Moment))
+lawful_after old new e (Ok out) reached refused a is may = refused
+lawful_after {V} old new e (Err why) reached refused a is may =
     let sh = shape_of_parts {V = V} old in
     let shows = reached.stand.shows in
-    let refused = subst (λ (d : Event). RefusesEvent {V = V} sh reached.seen d why) is (stays reached.seen reached.stand).0 in
+    let why_not = subst (λ (d : Event). traces.RefusesEvent {V = V} sh reached.seen d why) is (refused.refused reached.seen reached.stand) in
     let allowed = subst (λ (s : State V). IsAllowed sh s a) shows.state may.0 in
     let has = subst (λ (s : State V). HasVersionSteps sh.limit s.version_steps a) shows.state may.1 in
-    refused_act V sh reached.seen a why refused allowed (omega (arith, may.2, shows.events), has)
+    refused_act V sh reached.seen a why why_not allowed (omega (arith, may.2, shows.events), has)
 
 -- and gives the bit that the hand read
-pub given_after : {V : ℕ} (old new : Parts V) (e : Event) (r : Result (Stepped V) Unlawful) → AreReached {V = V} old → IfOk r (λ out. Leads {V = V} old new e out) → (a : Act) → e ≡ Write a → IfOk r (λ out. out ≡ given_of {V = V} (bit_of old.bits.items a) a)
-given_after {V} old new e (Ok out) reached leads a is =
-    let next = leads reached.seen reached.stand in
+pub given_after : {V : ℕ} (old new : Parts V) (e : Event) (r : Result (Stepped V) Unlawful) → AreReached {V = V} old → IfOk r (λ out. MakesEvent {V = V} old new e out) → (a : Act) → e ≡ Write a → IfOk r (λ out. out ≡ given_of {V = V} (bit_of old.bits.items a) a)
+given_after {V} old new e (Ok out) reached made a is =
+    let next = made.leads reached.seen reached.stand in
     let gives = subst (λ (d : Event). EventGives {V = V} reached.seen d next.0 out) is next.2 in
     gives ∙ ap (λ (bits : List ℕ). given_of {V = V} (bit_of bits a) a) (sym reached.stand.shows.bits)
-given_after old new e (Err why) reached leads a is = leads
+given_after old new e (Err why) reached made a is = made
 
 -- what the parts show is enough, where they are reached
 pub stand_for : {V : ℕ} (p : Parts V) (seen : Trace V) → AreReached {V = V} p → Shows {V = V} (view_of {V = V} p) seen → StandFor {V = V} p seen
 stand_for {V} p seen reached shows = record { shows = shows; used = reached.stand.used; within = reached.stand.within }
 
 -- and so of every trace of events that is shown
-pub leads_shown : {V : ℕ} (old new : Parts V) (e : Event) (r : Result (Stepped V) Unlawful) → AreReached {V = V} old → IfOk r (λ out. Leads {V = V} old new e out) →
+pub leads_shown : {V : ℕ} (old new : Parts V) (e : Event) (r : Result (Stepped V) Unlawful) → AreReached {V = V} old → IfOk r (λ out. MakesEvent {V = V} old new e out) →
     IfOk r (λ out. (seen : Trace V) → Shows {V = V} (view_of {V = V} old) seen → (next : Trace V) × Steps V (shape_of_parts {V = V} old) seen e next × EventGives {V = V} seen e next out × Shows {V = V} (view_of {V = V} new) next)
-leads_shown {V} old new e (Ok out) reached leads = λ seen shows. let next = leads seen (stand_for {V = V} old seen reached shows) in (next.0, next.1, next.2, next.3.shows)
-leads_shown old new e (Err why) reached leads = leads
+leads_shown {V} old new e (Ok out) reached made = λ seen shows. let next = made.leads seen (stand_for {V = V} old seen reached shows) in (next.0, next.1, next.2, next.3.shows)
+leads_shown old new e (Err why) reached made = made
 
-pub refused_shown : {V : ℕ} (old new : Parts V) (e : Event) (r : Result (Stepped V) Unlawful) → AreReached {V = V} old → IfErr r (λ why. Stays {V = V} old new e why) →
-    IfErr r (λ why. (seen : Trace V) → Shows {V = V} (view_of {V = V} old) seen → RefusesEvent {V = V} (shape_of_parts {V = V} old) seen e why)
-refused_shown {V} old new e (Err why) reached stays = λ seen shows. (stays seen (stand_for {V = V} old seen reached shows)).0
-refused_shown old new e (Ok out) reached stays = stays
+pub refused_shown : {V : ℕ} (old new : Parts V) (e : Event) (r : Result (Stepped V) Unlawful) → AreReached {V = V} old → IfErr r (λ why. RefusesEvent {V = V} old new e why) →
+    IfErr r (λ why. (seen : Trace V) → Shows {V = V} (view_of {V = V} old) seen → traces.RefusesEvent {V = V} (shape_of_parts {V = V} old) seen e why)
+refused_shown {V} old new e (Err why) reached refused = λ seen shows. refused.refused seen (stand_for {V = V} old seen reached shows)
+refused_shown old new e (Ok out) reached refused = refused
 
 -- ---- why an event is refused
 -- whether memory was wanting

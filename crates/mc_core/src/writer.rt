@@ -65,12 +65,12 @@ impl<const V: usize> Writer<V> {
             Progress::Quiet => self.may_when_quiet(act),
             Progress::Filling(key) => self.may_key(key, act),
             Progress::Keyed(key, item, count) => self.may_fill(key, item, count, act),
-            Progress::Placed(_, _) | Progress::Removed(_, _) => is_moment(act),
+            Progress::Placed(_, _) | Progress::Removed(_, _) => act == Act::Moment,
             Progress::Renewing(key, count) => self.may_renew(key, count, act),
             Progress::Removing(key, evicts) => self.may_clear(key, evicts, act),
             Progress::Moving(key) => self.may_move(key, act),
             Progress::Moved(key, fresh) => self.may_leave(key, fresh, act),
-            Progress::Closing(_) => is_close(act),
+            Progress::Closing(_) => act == Act::Close,
         }
     }
 
@@ -96,35 +96,5 @@ impl<const V: usize> Writer<V> {
             Act::Mark(_) => {}
         }
         Ok(())
-    }
-}
-
-/// Whether the act counts a change.
-fn is_moment(act: Act) -> bool
-    ensures { IsTrue result ↔ (act ≡ Act.Moment) }
-{
-    match act {
-        Act::Moment => true,
-        Act::Open(_, _)
-        | Act::Slot(_, _)
-        | Act::Item(_, _, _)
-        | Act::Close
-        | Act::Hand(_)
-        | Act::Mark(_) => false,
-    }
-}
-
-/// Whether the act ends its deed.
-fn is_close(act: Act) -> bool
-    ensures { IsTrue result ↔ (act ≡ Act.Close) }
-{
-    match act {
-        Act::Close => true,
-        Act::Open(_, _)
-        | Act::Slot(_, _)
-        | Act::Item(_, _, _)
-        | Act::Moment
-        | Act::Hand(_)
-        | Act::Mark(_) => false,
     }
 }

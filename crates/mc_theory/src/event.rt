@@ -59,11 +59,6 @@ pub fn given_by<const V: usize>(act: Act, bit: u64) -> Stepped<V>
 {
     match act {
         Act::Hand(_) => Stepped::Word(bit),
-        Act::Open(_, _)
-        | Act::Slot(_, _)
-        | Act::Item(_, _, _)
-        | Act::Moment
-        | Act::Close
-        | Act::Mark(_) => Stepped::Nothing,
+        _ => Stepped::Nothing,
     }
 }

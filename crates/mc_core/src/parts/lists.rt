@@ -6,13 +6,12 @@ use mc_theory::{Done, Event, Stepped, Unlawful};
 use std::alloc::{AllocError, Global};
 
 impl<const V: usize> Parts<V> {
-    ghost use Rattle.std.specs.Prelude.{◌≡◌, ◌≢◌, ◌+◌, ◌<◌, ◌≤◌, ◌∷◌, [], length, IfOk, IfErr, OnOk, OnErr, vec_len, vec_capacity};
-    ghost use Rattle.mc_core.specs.Inside.Parts.{shape_of_parts, view_of, StandFor, MakesEvents};
+    ghost use Rattle.std.specs.Prelude.{◌≡◌, ◌+◌, ◌<◌, ◌≤◌, ◌∷◌, [], length, IfOk, IfErr, OnOk, OnErr, vec_len, vec_capacity};
+    ghost use Rattle.mc_core.specs.Inside.Parts.{shape_of_parts, view_of, StandFor, MakesEvents, RefusesEvent};
     ghost use Rattle.mc_theory.specs.Traces as traces;
     ghost use Rattle.mc_theory.specs.Plain.{events_made};
     ghost use Rattle.mc_theory.specs.Traces.{StopsAt};
     ghost use Rattle.mc_core.specs.Inside.Writers.{room_of};
-    ghost use Rattle.mc_theory.specs.declared.event.Unlawful.TheVariants as unlawful;
 
     /// Makes the events up to the first that is refused: what the lookups told that ended, and where it stopped.
     pub(crate) fn run(
@@ -64,9 +63,7 @@ impl<const V: usize> Parts<V> {
         ensures made { OnOk result (MakesEvents {V = V} self.old self.new (event ∷ []) done.old.items done.new.items) }
         ensures room { OnOk result (room_of {V = V} self.old.writer ≤ room_of {V = V} self.new.writer + 1) }
         ensures spare { OnOk result (vec_len done.new + vec_capacity done.old ≤ vec_len done.old + vec_capacity done.new + 1) }
-        ensures refused { IfErr result (λ why. (seen : traces.Trace V) → StandFor {V = V} self.old seen → traces.RefusesEvent {V = V} (shape_of_parts {V = V} self.old) seen event why × StandFor {V = V} self.new seen) }
-        ensures lawful { IfErr result (λ why. why ≢ unlawful.NoMemory) }
-        ensures kept { OnErr result (view_of {V = V} self.new ≡ view_of {V = V} self.old) }
+        ensures refused { IfErr result (λ why. RefusesEvent {V = V} self.old self.new event why) }
         ensures silent { OnErr result (done.new.items ≡ done.old.items) }
     {
         match self.step(event) {

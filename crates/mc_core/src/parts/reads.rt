@@ -10,21 +10,16 @@ use mc_lookup::Lookup;
 use mc_theory::{Access, Done, Stepped, Unlawful};
 
 impl<const V: usize> Parts<V> {
-    ghost use Rattle.mc_theory.specs.declared.event.Unlawful.TheVariants as unlawful;
-    ghost use Rattle.std.specs.Prelude.{◌≡◌, ◌≢◌, ◌+◌, ◌-◌, ◌^◌, ◌<◌, Some, None, IfOk, IfErr, OnOk, OnErr, IsSome, length, slice_get, slice_set, unwrap_or};
-    ghost use Rattle.mc_core.specs.Inside.Parts.{shape_of_parts, view_of, StandFor};
-    ghost use Rattle.mc_core.specs.Seen.{state_after};
+    ghost use Rattle.std.specs.Prelude.{◌≡◌, ◌-◌, ◌^◌, ◌<◌, Some, IfOk, IfErr, slice_get};
+    ghost use Rattle.mc_core.specs.Inside.Parts.{StandFor, MakesEvent, RefusesEvent};
     ghost use Rattle.mc_theory.specs.Traces as traces;
     ghost use Rattle.mc_theory.specs.declared.event.Event.TheVariants as event;
 
     /// A reader begins a lookup of a key.
     pub(crate) fn begin(&mut self, reader: u32, key: u64) -> Result<Stepped<V>, Unlawful>
         requires { (seen : traces.Trace V) × StandFor {V = V} self.old seen }
-        ensures ok { IfOk result (λ out. (seen : traces.Trace V) → StandFor {V = V} self.old seen → (next : traces.Trace V) × traces.Steps V (shape_of_parts {V = V} self.old) seen (event.Begin reader key) next × traces.EventGives {V = V} seen (event.Begin reader key) next out × StandFor {V = V} self.new next) }
-        ensures err { IfErr result (λ why. (seen : traces.Trace V) → StandFor {V = V} self.old seen → traces.RefusesEvent {V = V} (shape_of_parts {V = V} self.old) seen (event.Begin reader key) why) }
-        ensures kept { OnErr result (self.new ≡ self.old) }
-        ensures full { IfErr result (λ why. why ≢ unlawful.NoMemory) }
-        ensures writer { self.new.writer ≡ self.old.writer }
+        ensures made { IfOk result (λ out. MakesEvent {V = V} self.old self.new (event.Begin reader key) out) }
+        ensures refused { IfErr result (λ why. RefusesEvent {V = V} self.old self.new (event.Begin reader key) why) }
     {
         let at = reader as usize;
         if at >= self.readers.len() {
@@ -48,11 +43,8 @@ impl<const V: usize> Parts<V> {
     /// A reader makes its next access.
     pub(crate) fn read(&mut self, reader: u32) -> Result<Stepped<V>, Unlawful>
         requires { (seen : traces.Trace V) × StandFor {V = V} self.old seen }
-        ensures ok { IfOk result (λ out. (seen : traces.Trace V) → StandFor {V = V} self.old seen → (next : traces.Trace V) × traces.Steps V (shape_of_parts {V = V} self.old) seen (event.Read reader) next × traces.EventGives {V = V} seen (event.Read reader) next out × StandFor {V = V} self.new next) }
-        ensures err { IfErr result (λ why. (seen : traces.Trace V) → StandFor {V = V} self.old seen → traces.RefusesEvent {V = V} (shape_of_parts {V = V} self.old) seen (event.Read reader) why) }
-        ensures kept { OnErr result (self.new ≡ self.old) }
-        ensures full { IfErr result (λ why. why ≢ unlawful.NoMemory) }
-        ensures writer { self.new.writer ≡ self.old.writer }
+        ensures made { IfOk result (λ out. MakesEvent {V = V} self.old self.new (event.Read reader) out) }
+        ensures refused { IfErr result (λ why. RefusesEvent {V = V} self.old self.new (event.Read reader) why) }
     {
         let at = reader as usize;
         if at >= self.readers.len() {
@@ -72,8 +64,7 @@ impl<const V: usize> Parts<V> {
         requires running { slice_get self.old.readers.items reader ≡ Some (Some running) }
         requires events { self.old.events < 2 ^ 64 - 1 }
         requires stands { (seen : traces.Trace V) × StandFor {V = V} self.old seen }
-        ensures stepped { (seen : traces.Trace V) → StandFor {V = V} self.old seen → (next : traces.Trace V) × traces.Steps V (shape_of_parts {V = V} self.old) seen (event.Read reader) next × traces.EventGives {V = V} seen (event.Read reader) next result × StandFor {V = V} self.new next }
-        ensures writer { self.new.writer ≡ self.old.writer }
+        ensures { MakesEvent {V = V} self.old self.new (event.Read reader) result }
     {
         let Reader { mut lookup, first } = running;
         let access = next_access(&lookup);

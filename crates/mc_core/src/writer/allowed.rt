@@ -19,10 +19,8 @@ impl<const V: usize> Writer<V> {
         requires { StandsWell V (shape_of_writer {V = V} self.now) (words_of_writer {V = V} self.now) key }
         ensures { MatchOption result (IsAbsent V (shape_of_writer {V = V} self.now) (words_of_writer {V = V} self.now) key) (λ i. (q : ℕ) × Stands V (shape_of_writer {V = V} self.now) (words_of_writer {V = V} self.now) key q i) }
     {
-        match self.table.find(key) {
-            Some((_, i)) => Some(i),
-            None => None,
-        }
+        let (_, i) = self.table.find(key)?;
+        Some(i)
     }
 
     /// Whether the key stands in the table.
@@ -30,10 +28,7 @@ impl<const V: usize> Writer<V> {
         requires { StandsWell V (shape_of_writer {V = V} self.now) (words_of_writer {V = V} self.now) key }
         ensures { IsTrue result ↔ IsPresent V (shape_of_writer {V = V} self.now) (words_of_writer {V = V} self.now) key }
     {
-        match self.item_of(key) {
-            Some(_) => true,
-            None => false,
-        }
+        self.item_of(key).is_some()
     }
 
     /// Whether some item is free.
@@ -44,25 +39,13 @@ impl<const V: usize> Writer<V> {
         self.table.free > 0
     }
 
-    /// Whether the hand found the bit of the item clear.
-    fn cleared_is(&self, i: u32) -> bool
-        ensures { IsTrue result ↔ (self.now.cleared ≡ Some i) }
-    {
-        match self.cleared {
-            Some(cleared) => cleared == i,
-            None => false,
-        }
-    }
-
     /// Whether the key stands at the item whose bit the hand found clear.
     fn is_cleared(&self, key: u64) -> bool
         requires { StandsWell V (shape_of_writer {V = V} self.now) (words_of_writer {V = V} self.now) key }
         ensures { IsTrue result ↔ MayOpen V (shape_of_writer {V = V} self.now) (words_of_writer {V = V} self.now) self.now.cleared key Deed.Evict }
     {
-        match self.item_of(key) {
-            Some(i) => self.cleared_is(i),
-            None => false,
-        }
+        let item = self.item_of(key);
+        item.is_some() && item == self.cleared
     }
 
     /// Whether the key stands nowhere, and some item is free for it.
@@ -71,10 +54,7 @@ impl<const V: usize> Writer<V> {
         requires well { StandsWell V (shape_of_writer {V = V} self.now) (words_of_writer {V = V} self.now) key }
         ensures { IsTrue result ↔ MayOpen V (shape_of_writer {V = V} self.now) (words_of_writer {V = V} self.now) self.now.cleared key Deed.Fill }
     {
-        match self.item_of(key) {
-            Some(_) => false,
-            None => self.has_free(),
-        }
+        !self.is_present(key) && self.has_free()
     }
 
     /// Whether the deed may be opened on the key.
@@ -105,12 +85,7 @@ impl<const V: usize> Writer<V> {
     {
         match act {
             Act::Item(i, j, word) => self.is_free(i) && j == 0 && word == key,
-            Act::Open(_, _)
-            | Act::Slot(_, _)
-            | Act::Moment
-            | Act::Close
-            | Act::Hand(_)
-            | Act::Mark(_) => false,
+            _ => false,
         }
     }
 
@@ -124,7 +99,7 @@ impl<const V: usize> Writer<V> {
             Act::Open(key, deed) => self.may_open(key, deed),
             Act::Hand(i) => !self.has_free() && i == self.hand,
             Act::Mark(i) => i < self.table.checked.shape().items,
-            Act::Slot(_, _) | Act::Item(_, _, _) | Act::Moment | Act::Close => false,
+            _ => false,
         }
     }
 
@@ -155,13 +130,7 @@ impl<const V: usize> Writer<V> {
     fn stands(&self, key: u64, place: Place) -> bool
         ensures { IsTrue result ↔ ((i : ℕ) × StandsAt V (shape_of_writer {V = V} self.now) (words_of_writer {V = V} self.now) key place i) }
     {
-        if !self.is_place(place) {
-            return false;
-        }
-        match self.table.stands(place, key) {
-            Some(_) => true,
-            None => false,
-        }
+        self.is_place(place) && self.table.stands(place, key).is_some()
     }
 
     /// While a removal or an eviction was opened: the key's slot is cleared.
@@ -170,12 +139,7 @@ impl<const V: usize> Writer<V> {
     {
         match act {
             Act::Slot(place, word) => word == 0 && self.stands(key, place),
-            Act::Open(_, _)
-            | Act::Item(_, _, _)
-            | Act::Moment
-            | Act::Close
-            | Act::Hand(_)
-            | Act::Mark(_) => false,
+            _ => false,
         }
     }
 
@@ -186,12 +150,7 @@ impl<const V: usize> Writer<V> {
     {
         match act {
             Act::Slot(place, word) => word == 0 && place != fresh && self.stands(key, place),
-            Act::Open(_, _)
-            | Act::Item(_, _, _)
-            | Act::Moment
-            | Act::Close
-            | Act::Hand(_)
-            | Act::Mark(_) => false,
+            _ => false,
         }
     }
 
@@ -204,7 +163,7 @@ impl<const V: usize> Writer<V> {
         match act {
             Act::Item(i, j, _) => self.is_next_word(count, j) && self.is_item_of(key, i),
             Act::Moment => self.is_whole(count),
-            Act::Open(_, _) | Act::Slot(_, _) | Act::Close | Act::Hand(_) | Act::Mark(_) => false,
+            _ => false,
         }
     }
 
@@ -229,10 +188,7 @@ impl<const V: usize> Writer<V> {
         requires { StandsWell V (shape_of_writer {V = V} self.now) (words_of_writer {V = V} self.now) key }
         ensures { IsTrue result ↔ ((q : ℕ) × Stands V (shape_of_writer {V = V} self.now) (words_of_writer {V = V} self.now) key q i) }
     {
-        match self.item_of(key) {
-            Some(at) => at == i,
-            None => false,
-        }
+        self.item_of(key) == Some(i)
     }
 
     /// While a fill runs: the next word of its item, or its slot after the last.
@@ -245,7 +201,7 @@ impl<const V: usize> Writer<V> {
             Act::Item(i, j, _) => i == item && self.is_next_word(count, j),
             Act::Slot(place, word) => self.is_whole(count)
                 && self.may_place(key, item, place, word),
-            Act::Open(_, _) | Act::Moment | Act::Close | Act::Hand(_) | Act::Mark(_) => false,
+            _ => false,
         }
     }
 
@@ -268,12 +224,7 @@ impl<const V: usize> Writer<V> {
     {
         match act {
             Act::Slot(place, word) => self.is_empty(place) && self.is_other(key, place, word),
-            Act::Open(_, _)
-            | Act::Item(_, _, _)
-            | Act::Moment
-            | Act::Close
-            | Act::Hand(_)
-            | Act::Mark(_) => false,
+            _ => false,
         }
     }
 

@@ -10,27 +10,39 @@ use Rattle.mc_core.proofs.PairedLists.{if_some}
 use Rattle.mc_core.proofs.ReaderSteps.{access_ends, access_goes_on, marks_in, running_of, told_is}
 use Rattle.mc_core.proofs.parts.Parts.access.Goals as goal
 
-pub returns-in-Some-clause-stepped : goal.returns-in-Some-clause-stepped
-returns-in-Some-clause-stepped g c = λ seen s.
+pub returns-in-Some : goal.returns-in-Some
+returns-in-Some g c =
     let old = c.args.self.now in
     let running = c.args.running in
     let next = c.after.new.self in
     let takes = if_some (next_access running.lookup) c.next_access-access.result (λ (a : Access). Consumes {V = g.row.V} running.lookup a c.read-word.result next) c.next_access-access.ensures.next c.after.ensures in
     let first = c.unwrap_or-first.ensures in
-    access_ends old _ seen c.args.reader running c.next_access-access.result c.read-word.result next c.in-Some.reply _ _ s c.requires.running c.requires.events c.read-word.ensures takes
-    (sym c.reply.ensures.reply ∙ c.in-Some.is) (told_is c.args.reader c.key-key.result next.key c.in-Some.reply c.unwrap_or-first.result (unwrap_or running.first old.events) old.events old.events c.key-key.ensures first refl)
-    refl c.mark_read.ensures.bits refl refl refl
+    record {
+      shape = refl;
+      state = refl;
+      room = omega arith;
+      leads = λ seen s.
+          access_ends old _ seen c.args.reader running c.next_access-access.result c.read-word.result next c.in-Some.reply _ _ s c.requires.running c.requires.events c.read-word.ensures takes
+          (sym c.reply.ensures.reply ∙ c.in-Some.is) (told_is c.args.reader c.key-key.result next.key c.in-Some.reply c.unwrap_or-first.result (unwrap_or running.first old.events) old.events old.events c.key-key.ensures first refl)
+          refl c.mark_read.ensures.bits refl refl refl;
+    }
 
-pub returns-in-None-clause-stepped : goal.returns-in-None-clause-stepped
-returns-in-None-clause-stepped g c = λ seen s.
+pub returns-in-None : goal.returns-in-None
+returns-in-None g c =
     let old = c.args.self.now in
     let running = c.args.running in
     let next = c.after.new.self in
     let takes = if_some (next_access running.lookup) c.next_access-access.result (λ (a : Access). Consumes {V = g.row.V} running.lookup a c.read-word.result next) c.next_access-access.ensures.next c.after.ensures in
     let first = c.unwrap_or-first.ensures in
-    access_goes_on old _ seen c.args.reader running c.next_access-access.result c.read-word.result next _ _ s c.requires.running c.requires.events c.read-word.ensures takes
-    (sym c.reply.ensures.reply ∙ c.in-None.is) refl (ap (λ n. Some n) first)
-    refl c.mark_read.ensures.bits refl refl refl
+    record {
+      shape = refl;
+      state = refl;
+      room = omega arith;
+      leads = λ seen s.
+          access_goes_on old _ seen c.args.reader running c.next_access-access.result c.read-word.result next _ _ s c.requires.running c.requires.events c.read-word.ensures takes
+          (sym c.reply.ensures.reply ∙ c.in-None.is) refl (ap (λ n. Some n) first)
+          refl c.mark_read.ensures.bits refl refl refl;
+    }
 
 pub next_access-access-requires : goal.next_access-access-requires
 next_access-access-requires g c =
@@ -59,9 +71,3 @@ reply-requires g c = (omega (arith, c.args.self.now.writer.table.most_words), om
 
 pub key-key-requires : goal.key-key-requires
 key-key-requires g c = omega (arith, c.args.self.now.writer.table.most_words)
-
-pub returns-in-Some-clause-writer : goal.returns-in-Some-clause-writer
-returns-in-Some-clause-writer g c = refl
-
-pub returns-in-None-clause-writer : goal.returns-in-None-clause-writer
-returns-in-None-clause-writer g c = refl

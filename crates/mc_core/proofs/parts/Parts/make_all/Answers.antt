@@ -13,13 +13,13 @@ make_one-requires g c =
 
 pub returns-in-Err-clause-made : goal.returns-in-Err-clause-made
 returns-in-Err-clause-made g c =
-    made_same c.args.self.now c.loop-i.self c.make_one.new.self _ _ c.in-Err.why c.args.done.now.items c.loop-i.done.items c.make_one.new.done.items c.loop-i.invariant.made (c.in-Err.ensures {u = tt}).kept (c.in-Err.ensures {u = tt}).refused (c.in-Err.ensures {u = tt}).silent
+    made_same c.args.self.now c.loop-i.self c.make_one.new.self _ _ c.in-Err.why c.args.done.now.items c.loop-i.done.items c.make_one.new.done.items c.loop-i.invariant.made (c.in-Err.ensures {u = tt}).refused (c.in-Err.ensures {u = tt}).silent
 
 pub returns-in-Err-clause-stops : goal.returns-in-Err-clause-stops
 returns-in-Err-clause-stops g c =
     let now = c.loop-i.invariant.made.made c.requires.stands.0 c.requires.stands.1 in
     let e = c.in-Err.ensures {u = tt} in
-    stops_at c.loop-i.self c.make_one.new.self c.args.events.now c.loop-i.i _ c.in-Err.why now.0 now.2 (slice_get-get_or c.args.events.now c.loop-i.i _ c.loop-i-test.true) e.kept e.refused e.lawful
+    stops_at c.loop-i.self c.make_one.new.self c.args.events.now c.loop-i.i _ c.in-Err.why now.0 now.2 (slice_get-get_or c.args.events.now c.loop-i.i _ c.loop-i-test.true) e.refused (omega (arith, c.loop-i.invariant.room))
 
 pub loop-i-preserved : goal.loop-i-preserved
 loop-i-preserved g c =

@@ -9,18 +9,18 @@ returns-in-Ok-Done-clause-made g c =
     let old = c.args.self.now in
     let before = c.args.done.now.items in
     let told = ap (λ (out : Stepped g.row.V). before ++ done_of {V = g.row.V} out) (sym c.in-Ok-Done.field-0-is) in
-    made_one old c.step.new.self c.args.event _ before c.keep.new.done.items (c.in-Ok-Done.ensures {u = tt}).shape (c.in-Ok-Done.ensures {u = tt}).ok (c.keep.ensures.items ∙ told)
+    made_one old c.step.new.self c.args.event _ before c.keep.new.done.items (c.in-Ok-Done.ensures {u = tt}).made (c.keep.ensures.items ∙ told)
 
 pub returns-in-Ok-Nothing-clause-made : goal.returns-in-Ok-Nothing-clause-made
 returns-in-Ok-Nothing-clause-made g c =
     let old = c.args.self.now in
     let before = c.args.done.now.items in
     let told = ap (λ (out : Stepped g.row.V). before ++ done_of {V = g.row.V} out) (sym c.in-Ok-Nothing.field-0-is) in
-    made_one old c.step.new.self c.args.event _ before before (c.in-Ok-Nothing.ensures {u = tt}).shape (c.in-Ok-Nothing.ensures {u = tt}).ok (sym (append-nil before) ∙ told)
+    made_one old c.step.new.self c.args.event _ before before (c.in-Ok-Nothing.ensures {u = tt}).made (sym (append-nil before) ∙ told)
 
 pub returns-in-Ok-Word-clause-made : goal.returns-in-Ok-Word-clause-made
 returns-in-Ok-Word-clause-made g c =
     let old = c.args.self.now in
     let before = c.args.done.now.items in
     let told = ap (λ (out : Stepped g.row.V). before ++ done_of {V = g.row.V} out) (sym c.in-Ok-Word.field-0-is) in
-    made_one old c.step.new.self c.args.event _ before before (c.in-Ok-Word.ensures {u = tt}).shape (c.in-Ok-Word.ensures {u = tt}).ok (sym (append-nil before) ∙ told)
+    made_one old c.step.new.self c.args.event _ before before (c.in-Ok-Word.ensures {u = tt}).made (sym (append-nil before) ∙ told)

@@ -8,24 +8,38 @@ use Rattle.mc_core.proofs.ReaderSteps.{idle_of, running_of}
 use Rattle.mc_core.proofs.WorldSteps.{not_wanting}
 use Rattle.mc_core.proofs.parts.Parts.read.Goals as goal
 
-pub returns-then-at-len-clause-err : goal.returns-then-at-len-clause-err
-returns-then-at-len-clause-err g c = λ seen s.
+pub returns-then-at-len-clause-refused : goal.returns-then-at-len-clause-refused
+returns-then-at-len-clause-refused g c =
     let old = c.args.self.now in
     let past = slice_get_past old.readers.items c.args.reader (omega (arith, c.len.ensures, old.readers.ok.0)) in
-    none_past seen.readers c.args.reader (both_none (Both (IsOpenLookup g.row.V (shape_of_parts old))) _ _ (s.shows.readers c.args.reader) past)
+    record {
+      kept = refl;
+      full = λ is. not_wanting _ refl is;
+      refused = λ seen s. none_past seen.readers c.args.reader (both_none (Both (IsOpenLookup g.row.V (shape_of_parts old))) _ _ (s.shows.readers c.args.reader) past);
+      stays = λ seen s. s;
+    }
 
-pub returns-in_default-clause-err : goal.returns-in_default-clause-err
-returns-in_default-clause-err g c = λ seen s.
+pub returns-in_default-clause-refused : goal.returns-in_default-clause-refused
+returns-in_default-clause-refused g c =
     let old = c.args.self.now in
     let at = slice_get_read old.readers.items c.len.result c.args.reader c.index.result.now (omega (arith, c.len.ensures, old.readers.ok.0)) (omega arith) c.index.ensures in
-    idle_of old seen c.args.reader s (at ∙ ap (λ (o : Option (Reader g.row.V)). Some o) c.in_default.is)
+    record {
+      kept = refl;
+      full = λ is. not_wanting _ refl is;
+      refused = λ seen s. idle_of old seen c.args.reader s (at ∙ ap (λ (o : Option (Reader g.row.V)). Some o) c.in_default.is);
+      stays = λ seen s. s;
+    }
 
-pub returns-then-self-clause-err : goal.returns-then-self-clause-err
-returns-then-self-clause-err g c = λ seen s.
+pub returns-then-self-clause-refused : goal.returns-then-self-clause-refused
+returns-then-self-clause-refused g c =
     let old = c.args.self.now in
     let at = slice_get_read old.readers.items c.len.result c.args.reader c.index.result.now (omega (arith, c.len.ensures, old.readers.ok.0)) (omega arith) c.index.ensures in
-    let run = running_of old seen c.args.reader c.in-Some.running s (at ∙ ap (λ (o : Option (Reader g.row.V)). Some o) c.in-Some.is) in
-    ((run.0, run.1), λ below. omega (arith, below, s.shows.events))
+    record {
+      kept = refl;
+      full = λ is. not_wanting _ refl is;
+      refused = λ seen s. let run = running_of old seen c.args.reader c.in-Some.running s (at ∙ ap (λ (o : Option (Reader g.row.V)). Some o) c.in-Some.is) in ((run.0, run.1), λ below. omega (arith, below, s.shows.events));
+      stays = λ seen s. s;
+    }
 
 pub access-requires : goal.access-requires
 access-requires g c =
@@ -33,53 +47,17 @@ access-requires g c =
     let at = slice_get_read old.readers.items c.len.result c.args.reader c.index.result.now (omega (arith, c.len.ensures, old.readers.ok.0)) (omega arith) c.index.ensures in
     (search rules, (search rules, (search rules, (at ∙ ap (λ (o : Option (Reader g.row.V)). Some o) c.in-Some.is, (omega arith, c.requires)))))
 
-pub returns-then-at-len-clause-ok : goal.returns-then-at-len-clause-ok
-returns-then-at-len-clause-ok g c = tt
+pub returns-then-at-len-clause-made : goal.returns-then-at-len-clause-made
+returns-then-at-len-clause-made g c = tt
 
-pub returns-then-at-len-clause-kept : goal.returns-then-at-len-clause-kept
-returns-then-at-len-clause-kept g c = refl
+pub returns-in_default-clause-made : goal.returns-in_default-clause-made
+returns-in_default-clause-made g c = tt
 
-pub returns-then-at-len-clause-full : goal.returns-then-at-len-clause-full
-returns-then-at-len-clause-full g c = λ e. not_wanting _ refl e
+pub returns-then-self-clause-made : goal.returns-then-self-clause-made
+returns-then-self-clause-made g c = tt
 
-pub returns-then-at-len-clause-writer : goal.returns-then-at-len-clause-writer
-returns-then-at-len-clause-writer g c = refl
+pub returns-clause-made : goal.returns-clause-made
+returns-clause-made g c = c.access.ensures
 
-pub returns-in_default-clause-ok : goal.returns-in_default-clause-ok
-returns-in_default-clause-ok g c = tt
-
-pub returns-in_default-clause-kept : goal.returns-in_default-clause-kept
-returns-in_default-clause-kept g c = refl
-
-pub returns-in_default-clause-full : goal.returns-in_default-clause-full
-returns-in_default-clause-full g c = λ e. not_wanting _ refl e
-
-pub returns-in_default-clause-writer : goal.returns-in_default-clause-writer
-returns-in_default-clause-writer g c = refl
-
-pub returns-then-self-clause-ok : goal.returns-then-self-clause-ok
-returns-then-self-clause-ok g c = tt
-
-pub returns-then-self-clause-kept : goal.returns-then-self-clause-kept
-returns-then-self-clause-kept g c = refl
-
-pub returns-then-self-clause-full : goal.returns-then-self-clause-full
-returns-then-self-clause-full g c = λ e. not_wanting _ refl e
-
-pub returns-then-self-clause-writer : goal.returns-then-self-clause-writer
-returns-then-self-clause-writer g c = refl
-
-pub returns-clause-ok : goal.returns-clause-ok
-returns-clause-ok g c = c.access.ensures.stepped
-
-pub returns-clause-err : goal.returns-clause-err
-returns-clause-err g c = tt
-
-pub returns-clause-kept : goal.returns-clause-kept
-returns-clause-kept g c = tt
-
-pub returns-clause-full : goal.returns-clause-full
-returns-clause-full g c = tt
-
-pub returns-clause-writer : goal.returns-clause-writer
-returns-clause-writer g c = c.access.ensures.writer
+pub returns-clause-refused : goal.returns-clause-refused
+returns-clause-refused g c = tt

@@ -1,13 +1,13 @@
-use Rattle.mc_core.proofs.writer.Writer.is_cleared.Goals as goal
-use Rattle.std.proofs.Common.{ap, ◌∙◌, Some}
+use Rattle.std.proofs.Common.{sym, ◌∙◌}
 use Rattle.std.proofs.lemmas.Bool.{false≢true}
+use Rattle.mc_core.specs.Inside.Writers.{shape_of_writer, words_of_writer}
+use Rattle.mc_core.proofs.AllowedActs.{found_any, found_that}
+use Rattle.mc_core.proofs.writer.Writer.is_cleared.Goals as goal
 
-pub returns-in-Some : goal.returns-in-Some
-returns-in-Some g c =
-    let at = c.in-Some.ensures {u = tt} in (
-      λ h. (at.0, c.in-Some.i, at.1, c.cleared_is.ensures.0 h),
-      λ may. c.cleared_is.ensures.1 (may.3 ∙ ap Some (c.requires.once may.0 may.1 at.0 c.in-Some.i may.2 at.1).1),
-    )
+pub returns-then-is_some : goal.returns-then-is_some
+returns-then-is_some g c = found_that g.row.V (shape_of_writer c.args.self.now) (words_of_writer c.args.self.now) c.args.key c.item_of-item.result c.args.self.now.cleared c.eq.result c.requires c.item_of-item.ensures (c.if-is_some.ensures {u = tt}) c.eq.ensures
 
-pub returns-in-None : goal.returns-in-None
-returns-in-None g c = (λ h. absurd (false≢true h), λ may. absurd (c.in-None.ensures {u = tt} may.0 may.1 may.2))
+pub returns-else-is_some : goal.returns-else-is_some
+returns-else-is_some g c =
+    let any = found_any g.row.V (shape_of_writer c.args.self.now) (words_of_writer c.args.self.now) c.args.key c.item_of-item.result c.is_some.result c.item_of-item.ensures c.is_some.ensures in
+    (λ h. absurd (false≢true (sym c.if-is_some.false ∙ h)), λ may. any.1 (may.0, may.1, may.2))

@@ -1,7 +1,7 @@
+use Rattle.std.proofs.Common.{refl}
 use Rattle.mc_core.proofs.writer.Writer.is_fillable.Goals as goal
-use Rattle.std.proofs.lemmas.Bool.{false≢true}
 
-pub returns-in-Some : goal.returns-in-Some
-returns-in-Some g c =
-    let at = c.in-Some.ensures {u = tt} in
-    (λ h. absurd (false≢true h), λ may. absurd (may.0 at.0 _ at.1))
+pub returns-else-not-is_present : goal.returns-else-not-is_present
+returns-else-not-is_present g c =
+    let here = (c.if-not-is_present.ensures {u = tt}).0 refl in
+    (λ h. absurd (cc (h)), λ may. absurd (may.0 here.0 here.1 here.2))

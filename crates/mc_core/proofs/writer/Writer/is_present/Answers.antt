@@ -1,5 +1,6 @@
+use Rattle.mc_core.specs.Inside.Writers.{shape_of_writer, words_of_writer}
+use Rattle.mc_core.proofs.AllowedActs.{found_any}
 use Rattle.mc_core.proofs.writer.Writer.is_present.Goals as goal
-use Rattle.std.proofs.lemmas.Bool.{false≢true}
 
-pub returns-in-None : goal.returns-in-None
-returns-in-None g c = (λ h. absurd (false≢true h), λ here. absurd (c.in-None.ensures {u = tt} here.0 here.1 here.2))
+pub returns : goal.returns
+returns g c = found_any g.row.V (shape_of_writer c.args.self.now) (words_of_writer c.args.self.now) c.args.key c.item_of.result c.is_some.result c.item_of.ensures c.is_some.ensures
