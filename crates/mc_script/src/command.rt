@@ -1,7 +1,8 @@
-// What a line says.
+//! What a line says.
 ghost use Rattle.std.specs.Prelude.{◌≡◌};
 ghost use Rattle.std.specs.Str.{is_utf8};
-ghost use Rattle.mc_script.specs.Commands.{command_in, command_of};
+ghost use Rattle.mc_script.specs.Commands.{command_in};
+ghost use Rattle.mc_script.specs.Inside.Commands.{form_in};
 ghost use Rattle.mc_script.specs.Words.{words_of};
 
 use crate::number::{entry, numbers};
@@ -47,9 +48,9 @@ fn is_text(line: &[u8]) -> bool
 }
 
 /// What a line's first word and those that follow it say.
-#[tactic(auto, unfolding(crate::specs::Commands::command_of))]
+#[tactic(auto, unfolding(crate::specs::Inside::Commands::form_in))]
 fn form<const V: usize>(name: &[u8], words: &[u8]) -> Result<Command<V>, LineFault>
-    ensures { result ≡ command_of V name.now (words_of words.now) }
+    ensures { result ≡ form_in V name.now (words_of words.now) }
 {
     if is_word(name, b"put") {
         let (key, value) = entry(words)?;
