@@ -5,3 +5,4 @@ pub mod Lines
 pub mod LineWords
 pub mod Digits
 pub mod NumberLists
+pub mod Forms

@@ -7,8 +7,8 @@ use Rattle.std.proofs.lemmas.Bool.{cases_eq}
 use Rattle.std.proofs.lemmas.List.Folds.{list_all-append}
 use Rattle.mc_script.specs.declared.command.LineFault.{LineFault}
 use Rattle.mc_script.specs.declared.command.LineFault.TheVariants.{NotACommand, BadNumber}
-use Rattle.mc_script.specs.Numbers.{is_number, numbers_in}
-use Rattle.mc_script.specs.Inside.Numbers.{number_of}
+use Rattle.mc_script.specs.Numbers.{is_number}
+use Rattle.mc_script.specs.Inside.Numbers.{number_of, numbers_in}
 
 -- After i of the words: whether they are numbers, and then their values.
 pub record Counted (whole rest : List (List ℕ)) (i : ℕ) (are_good : Bool) (found : List ℕ) : Type 0 where
@@ -80,12 +80,12 @@ counted_length : {whole rest : List (List ℕ)} {i : ℕ} {are_good : Bool} {fou
 counted_length {rest = rest} so_far = ap length so_far.first ∙ length-append so_far.done rest ∙ omega (arith, so_far.count)
 
 -- another count is told first
-other_count : (n : ℕ) (words : List (List ℕ)) → (length words ≡ n → ⊥) → numbers_in n words ≡ Err NotACommand
+pub other_count : (n : ℕ) (words : List (List ℕ)) → (length words ≡ n → ⊥) → numbers_in n words ≡ Err NotACommand
 unfolding numbers_in
 other_count n words other = ap (λ t. cond t (cond (list_all is_number words) (Ok (map (digits_value 10) words)) (Err BadNumber)) (Err NotACommand)) (ne_eqb (length words) n other)
 
 -- with the right count it is told whether all are numbers
-same_count : (n : ℕ) (words : List (List ℕ)) (t : Bool) → length words ≡ n → list_all is_number words ≡ t
+pub same_count : (n : ℕ) (words : List (List ℕ)) (t : Bool) → length words ≡ n → list_all is_number words ≡ t
     → numbers_in n words ≡ cond t (Ok (map (digits_value 10) words)) (Err BadNumber)
 unfolding numbers_in
 same_count n words t same good =

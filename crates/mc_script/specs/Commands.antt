@@ -1,92 +1,79 @@
--- What a line says.
-use Rattle.std.specs.Prelude.{ℕ, ◌+◌, ◌==◌, List, [], ◌∷◌, drop, slice_index, Option, Some, None, Result, Ok, Err, codes, if◌then◌else◌}
+-- What a line says: the forms of commands, and how words are read by them.
+use Rattle.std.specs.Prelude.{ℕ, ◌==◌, ◌&&◌, not, Bool, true, List, [], ◌∷◌, drop, replicate, slice_index, Option, Some, None, Result, Ok, Err, codes, find, filter_map, zip, if◌then◌else◌}
+use Rattle.std.specs.Cmp.Lexicographic.{pointwise}
 use Rattle.std.specs.Str.{bytes_eq, is_utf8}
+use Rattle.std.specs.Str.Parse.{digits_value}
 use Rattle.mc_script.specs.declared.command.LineFault.{LineFault}
 use Rattle.mc_script.specs.declared.command.LineFault.TheVariants.{NotACommand, BadNumber}
 use Rattle.mc_script.specs.declared.command.Command.{Command}
 use Rattle.mc_script.specs.declared.command.Command.TheVariants.{Put, Remove, Get, BeginPut, BeginRemove, Write, BeginGet, Read}
 use Rattle.mc_script.specs.Words.{words_of}
-use Rattle.mc_script.specs.Numbers.{numbers_in}
+use Rattle.mc_script.specs.Numbers.{is_number}
 
--- the command that is made of a line's numbers
-abbrev pub command_from : {v : ℕ} → (List ℕ → Command v) → Result (List ℕ) LineFault → Result (Command v) LineFault
-command_from command (Ok numbers) = Ok (command numbers)
-command_from command (Err fault) = Err fault
+-- A part of a form: a fixed word, a number, or a count of steps, which is a number that isn't 0.
+pub data Part : Type 0 where
+  Fixed : List ℕ → Part
+  Number : Part
+  Steps : Part
 
--- the form that fits: the second, where the first has other fixed words or another number of words
-abbrev pub otherwise : {v : ℕ} → Result (Command v) LineFault → Result (Command v) LineFault → Result (Command v) LineFault
-otherwise (Err NotACommand) second = second
-otherwise first second = first
+-- A form has its parts, and the command that its numbers make. v is the number of a value's words.
+pub record Form (v : ℕ) : Type 0 where
+  pub parts : List Part
+  pub command : List ℕ → Command v
 
--- the number at j is one of steps, of which there is at least one
-abbrev pub stepping : ℕ → Result (List ℕ) LineFault → Result (List ℕ) LineFault
-stepping j (Ok numbers) = if slice_index numbers j == 0 then Err BadNumber else Ok numbers
-stepping j (Err fault) = Err fault
+abbrev pub form : {v : ℕ} → List Part → (List ℕ → Command v) → Form v
+form parts command = record { parts = parts; command = command }
 
-abbrev pub put_of : (v : ℕ) → List ℕ → Command v
-put_of v numbers = Put (slice_index numbers 0) (drop 1 numbers)
+abbrev pub first : List ℕ → ℕ
+first numbers = slice_index numbers 0
 
-abbrev pub remove_of : (v : ℕ) → List ℕ → Command v
-remove_of v numbers = Remove (slice_index numbers 0)
+abbrev pub second : List ℕ → ℕ
+second numbers = slice_index numbers 1
 
-abbrev pub get_of : (v : ℕ) → List ℕ → Command v
-get_of v numbers = Get (slice_index numbers 0)
+-- The forms of commands.
+abbrev pub forms : (v : ℕ) → List (Form v)
+forms v =
+    form (Fixed (codes "put") ∷ Number ∷ replicate v Number) (λ numbers. Put (first numbers) (drop 1 numbers))
+    ∷ form (Fixed (codes "remove") ∷ Number ∷ []) (λ numbers. Remove (first numbers))
+    ∷ form (Fixed (codes "get") ∷ Number ∷ []) (λ numbers. Get (first numbers))
+    ∷ form (Fixed (codes "begin") ∷ Fixed (codes "put") ∷ Number ∷ replicate v Number) (λ numbers. BeginPut (first numbers) (drop 1 numbers))
+    ∷ form (Fixed (codes "begin") ∷ Fixed (codes "remove") ∷ Number ∷ []) (λ numbers. BeginRemove (first numbers))
+    ∷ form (Fixed (codes "w") ∷ []) (λ numbers. Write 1)
+    ∷ form (Fixed (codes "w") ∷ Steps ∷ []) (λ numbers. Write (first numbers))
+    ∷ form (Fixed (codes "begin") ∷ Number ∷ Fixed (codes "get") ∷ Number ∷ []) (λ numbers. BeginGet (first numbers) (second numbers))
+    ∷ form (Fixed (codes "r") ∷ Number ∷ []) (λ numbers. Read (first numbers) 1)
+    ∷ form (Fixed (codes "r") ∷ Number ∷ Steps ∷ []) (λ numbers. Read (first numbers) (second numbers))
+    ∷ []
 
--- `put`, a key and the words of its value, after `begin`
-abbrev pub begin_put_in : (v : ℕ) → List ℕ → List (List ℕ) → Result (Command v) LineFault
-begin_put_in v first words =
-    if bytes_eq first (codes "put") then command_from (λ numbers. BeginPut (slice_index numbers 0) (drop 1 numbers)) (numbers_in (v + 1) words)
-    else Err NotACommand
+-- a fixed word stands only for itself, any word for a number
+abbrev pub may_stand : Part → List ℕ → Bool
+may_stand (Fixed name) word = bytes_eq word name
+may_stand Number word = true
+may_stand Steps word = true
 
--- `remove` and a key, after `begin`
-abbrev pub begin_remove_in : (v : ℕ) → List ℕ → List (List ℕ) → Result (Command v) LineFault
-begin_remove_in v first words =
-    if bytes_eq first (codes "remove") then command_from (λ numbers. BeginRemove (slice_index numbers 0)) (numbers_in 1 words)
-    else Err NotACommand
+-- a word for a number is one, and a count of steps isn't 0
+abbrev pub is_good : Part → List ℕ → Bool
+is_good (Fixed name) word = true
+is_good Number word = is_number word
+is_good Steps word = is_number word && not (digits_value 10 word == 0)
 
--- a reader, `get` and a key, after `begin`
-abbrev pub begin_get_in : (v : ℕ) → List ℕ → List (List ℕ) → Result (Command v) LineFault
-begin_get_in v first [] = Err NotACommand
-begin_get_in v first (second ∷ words) =
-    if bytes_eq second (codes "get") then command_from (λ numbers. BeginGet (slice_index numbers 0) (slice_index numbers 1)) (numbers_in 2 (first ∷ words))
-    else Err NotACommand
+abbrev pub value_of : Part → List ℕ → Option ℕ
+value_of (Fixed name) word = None
+value_of Number word = Some (digits_value 10 word)
+value_of Steps word = Some (digits_value 10 word)
 
-abbrev pub begin_in : (v : ℕ) → List (List ℕ) → Result (Command v) LineFault
-begin_in v [] = Err NotACommand
-begin_in v (first ∷ words) = otherwise (begin_put_in v first words) (otherwise (begin_remove_in v first words) (begin_get_in v first words))
+-- the numbers among the words, in their order
+abbrev pub values : List Part → List (List ℕ) → List ℕ
+values parts words = filter_map (λ placed. value_of placed.0 placed.1) (zip parts words)
 
--- one act of the writer
-abbrev pub write_one_in : (v : ℕ) → List (List ℕ) → Result (Command v) LineFault
-write_one_in v words = command_from (λ numbers. Write 1) (numbers_in 0 words)
+-- what words say by the form that they have, if they have one
+abbrev pub read_by : {v : ℕ} → List (List ℕ) → Option (Form v) → Result (Command v) LineFault
+read_by words None = Err NotACommand
+read_by words (Some form) = if pointwise is_good form.parts words then Ok (form.command (values form.parts words)) else Err BadNumber
 
--- a number of its acts
-abbrev pub write_many_in : (v : ℕ) → List (List ℕ) → Result (Command v) LineFault
-write_many_in v words = command_from (λ numbers. Write (slice_index numbers 0)) (stepping 0 (numbers_in 1 words))
-
-abbrev pub write_in : (v : ℕ) → List (List ℕ) → Result (Command v) LineFault
-write_in v words = otherwise (write_one_in v words) (write_many_in v words)
-
--- a reader, for one access
-abbrev pub read_one_in : (v : ℕ) → List (List ℕ) → Result (Command v) LineFault
-read_one_in v words = command_from (λ numbers. Read (slice_index numbers 0) 1) (numbers_in 1 words)
-
--- a reader, and a number of its accesses
-abbrev pub read_many_in : (v : ℕ) → List (List ℕ) → Result (Command v) LineFault
-read_many_in v words = command_from (λ numbers. Read (slice_index numbers 0) (slice_index numbers 1)) (stepping 1 (numbers_in 2 words))
-
-abbrev pub read_in : (v : ℕ) → List (List ℕ) → Result (Command v) LineFault
-read_in v words = otherwise (read_one_in v words) (read_many_in v words)
-
--- The forms of a line, by its first word. v is the number of a value's words.
-unfoldable pub command_of : (v : ℕ) → List ℕ → List (List ℕ) → Result (Command v) LineFault
-command_of v name words =
-    if bytes_eq name (codes "put") then command_from (put_of v) (numbers_in (v + 1) words)
-    else if bytes_eq name (codes "remove") then command_from (remove_of v) (numbers_in 1 words)
-    else if bytes_eq name (codes "get") then command_from (get_of v) (numbers_in 1 words)
-    else if bytes_eq name (codes "begin") then begin_in v words
-    else if bytes_eq name (codes "w") then write_in v words
-    else if bytes_eq name (codes "r") then read_in v words
-    else Err NotACommand
+-- Words have the first form that has as many parts, and the same fixed words in their places.
+unfoldable pub command_of : (v : ℕ) → List (List ℕ) → Result (Command v) LineFault
+command_of v words = read_by words (find (λ form. pointwise may_stand form.parts words) (forms v))
 
 abbrev pub said : {v : ℕ} → Result (Command v) LineFault → Result (Option (Command v)) LineFault
 said (Ok command) = Ok (Some command)
@@ -95,9 +82,9 @@ said (Err fault) = Err fault
 -- A line without words says nothing, nor does a comment, whatever its bytes. Any other line is text.
 unfoldable pub command_by : (v : ℕ) → List ℕ → List (List ℕ) → Result (Option (Command v)) LineFault
 command_by v line [] = Ok None
-command_by v line (name ∷ words) =
-    if slice_index name 0 == 35 then Ok None
-    else if is_utf8 line then said (command_of v name words)
+command_by v line (word ∷ words) =
+    if slice_index word 0 == 35 then Ok None
+    else if is_utf8 line then said (command_of v (word ∷ words))
     else Err NotACommand
 
 abbrev pub command_in : (v : ℕ) → List ℕ → Result (Option (Command v)) LineFault

@@ -1,3 +1,4 @@
+pub mod Commands
 pub mod Lines
 pub mod Numbers
 pub mod Words

@@ -1,7 +1,7 @@
 -- The lines of a script's bytes, and what reading one of them gives.
 use Rattle.std.specs.Prelude.{◌≡◌, ◌≢◌, ℕ, zero, suc, ◌<◌, ◌≤◌, ◌==◌, ◌&&◌, ◌||◌, not, Bool, true, false, All, List, [], ◌∷◌, length, slice_index, take, drop, nat_lt, Option, Some, None, Result, Ok, Err, if◌then◌else◌, ⊤}
 use Rattle.std.specs.Io.BufRead.{first_line, drop_through}
-use Rattle.std.specs.Io.KnownBytes.{Consumes, Keeps, IsAtEnd}
+use Rattle.std.specs.Io.KnownBytes.{Consumes}
 use Rattle.mc_script.specs.declared.line.ReadFault.{ReadFault}
 use Rattle.mc_script.specs.declared.line.ReadFault.TheVariants.{ReadFailed, TooLong}
 

@@ -1,7 +1,6 @@
 -- The words of a line, parted by spaces and tabs.
-use Rattle.std.specs.Prelude.{◌≡◌, ℕ, zero, suc, ◌<◌, ◌==◌, ◌||◌, not, Bool, List, [], ◌∷◌, length, drop, Option, Some, None, if◌then◌else◌}
+use Rattle.std.specs.Prelude.{ℕ, zero, suc, ◌==◌, ◌||◌, not, Bool, List, [], ◌∷◌, length, drop, if◌then◌else◌}
 use Rattle.std.specs.List.{take_while, prefix_len}
-use Rattle.std.specs.Borrow.{Bor}
 
 -- a space or a tab
 abbrev pub is_blank : ℕ → Bool

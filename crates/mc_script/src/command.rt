@@ -1,7 +1,8 @@
-// What a line says.
+//! What a line says.
 ghost use Rattle.std.specs.Prelude.{◌≡◌};
 ghost use Rattle.std.specs.Str.{is_utf8};
-ghost use Rattle.mc_script.specs.Commands.{command_in, command_of};
+ghost use Rattle.mc_script.specs.Commands.{command_in};
+ghost use Rattle.mc_script.specs.Inside.Commands.{form_in};
 ghost use Rattle.mc_script.specs.Words.{words_of};
 
 use crate::number::{entry, numbers};
@@ -11,7 +12,7 @@ use std::str;
 use thiserror::Error;
 
 /// A command of a script whose values have `V` words.
-#[derive(Clone, Copy, Debug, PartialEq, Eq)]
+#[derive(Clone, Copy, PartialEq, Eq)]
 pub enum Command<const V: usize> {
     Put(u64, [u64; V]),
     Remove(u64),
@@ -47,9 +48,9 @@ fn is_text(line: &[u8]) -> bool
 }
 
 /// What a line's first word and those that follow it say.
-#[tactic(auto, unfolding(crate::specs::Commands::command_of))]
+#[tactic(auto, unfolding(crate::specs::Inside::Commands::form_in))]
 fn form<const V: usize>(name: &[u8], words: &[u8]) -> Result<Command<V>, LineFault>
-    ensures { result ≡ command_of V name.now (words_of words.now) }
+    ensures { result ≡ form_in V name.now (words_of words.now) }
 {
     if is_word(name, b"put") {
         let (key, value) = entry(words)?;

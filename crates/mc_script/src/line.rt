@@ -1,4 +1,4 @@
-// Lines of a reader, one byte at a time, in a buffer of fixed size.
+//! Lines of a reader, one byte at a time, in a buffer of fixed size.
 ghost use Rattle.std.specs.Prelude.{◌≡◌, ◌≤◌, true, length, Ok};
 ghost use Rattle.std.specs.Io.BufRead.{strip_last};
 ghost use Rattle.mc_script.specs.Lines.{GivesLine, is_over};

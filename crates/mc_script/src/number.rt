@@ -1,10 +1,9 @@
-// The numbers of a line.
+//! The numbers of a line.
 ghost use Rattle.std.specs.Prelude.{◌≡◌, ◌<◌, ◌^◌, ◌+◌, ◌∷◌, true, cond, nat_lt, length};
 ghost use Rattle.std.specs.List.{list_all};
 ghost use Rattle.std.specs.Char.{is_ascii_digit};
 ghost use Rattle.std.specs.Str.Parse.{digits_value};
-ghost use Rattle.mc_script.specs.Numbers.{numbers_in};
-ghost use Rattle.mc_script.specs.Inside.Numbers.{number_of, join_numbers};
+ghost use Rattle.mc_script.specs.Inside.Numbers.{numbers_in, number_of, join_numbers};
 ghost use Rattle.mc_script.specs.Words.{words_of};
 
 use crate::command::LineFault;

@@ -1,4 +1,4 @@
-// Bytes to a writer, by a loop over its `write`.
+//! Bytes to a writer, by a loop over its `write`.
 ghost use Rattle.std.specs.Prelude.{◌≡◌, ◌<◌, true, false, length, take};
 ghost use Rattle.std.specs.Io.KnownBytes.{Appends};
 

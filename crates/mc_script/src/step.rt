@@ -1,7 +1,7 @@
-// The lines of single steps.
+//! The lines of single steps.
 ghost use Rattle.std.specs.Prelude.{◌≡◌, ◌<◌};
-ghost use Rattle.mc_script.specs.Commands.{begin_in, begin_put_in, begin_remove_in, begin_get_in, write_in, write_one_in, write_many_in, read_in, read_one_in, read_many_in, otherwise, stepping};
-ghost use Rattle.mc_script.specs.Numbers.{numbers_in};
+ghost use Rattle.mc_script.specs.Inside.Commands.{begin_in, begin_put_in, begin_remove_in, begin_get_in, write_in, write_one_in, write_many_in, read_in, read_one_in, read_many_in, otherwise, stepping};
+ghost use Rattle.mc_script.specs.Inside.Numbers.{numbers_in};
 ghost use Rattle.mc_script.specs.Words.{words_of};
 
 use crate::command::{Command, LineFault};

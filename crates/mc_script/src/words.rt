@@ -1,4 +1,4 @@
-// The words of a line, one after the other.
+//! The words of a line, one after the other.
 ghost use Rattle.std.specs.Prelude.{◌≡◌, position};
 ghost use Rattle.std.specs.List.{prefix_len};
 ghost use Rattle.std.specs.Str.{bytes_eq};

@@ -100,7 +100,7 @@ fn a_failed_read_is_told_unless_the_line_is_too_long(rt: HostRuntime) -> Result<
 
 #[test]
 fn a_line_says_its_command(rt: HostRuntime) {
-    let cases: [(&[u8], Result<Option<Command<2>>, LineFault>); 11] = [
+    let cases: [(&[u8], Result<Option<Command<2>>, LineFault>); 19] = [
         (b"\t # get 0", Ok(None)),
         (b"\t get \t\t 7 \t", Ok(Some(Command::Get(7)))),
         (b"remove 007", Ok(Some(Command::Remove(7)))),
@@ -111,7 +111,15 @@ fn a_line_says_its_command(rt: HostRuntime) {
         (b"w", Ok(Some(Command::Write(1)))),
         (b"r 2 12", Ok(Some(Command::Read(2, 12)))),
         (b"r 2 0", Err(LineFault::BadNumber)),
+        (b"w 12", Ok(Some(Command::Write(12)))),
+        (b"w 0", Err(LineFault::BadNumber)),
+        (b"r 2", Ok(Some(Command::Read(2, 1)))),
+        (b"begin remove get 5", Err(LineFault::BadNumber)),
+        (b"begin put get 5", Err(LineFault::BadNumber)),
+        (b"begin put 1 2", Err(LineFault::NotACommand)),
+        (b"begin", Err(LineFault::NotACommand)),
         (b"put 1 2", Err(LineFault::NotACommand)),
+        (b"get \xff", Err(LineFault::NotACommand)),
     ];
     for (line, want) in cases {
         assert!(rt; parse::<2>(line) == want, "{line:?}");

@@ -1,10 +1,8 @@
 -- What only private contracts say beside `Lines`.
-use Rattle.std.specs.Prelude.{◌≡◌, ◌≢◌, ℕ, zero, suc, ◌<◌, ◌≤◌, ◌==◌, ◌&&◌, ◌||◌, not, Bool, true, false, All, List, [], ◌∷◌, length, slice_index, take, drop, nat_lt, Option, Some, None, Result, Ok, Err, if◌then◌else◌, ⊤}
-use Rattle.std.specs.Io.BufRead.{first_line, drop_through}
+use Rattle.std.specs.Prelude.{ℕ, List, [], ◌∷◌, Option, Some, None, Result, Ok, Err}
 use Rattle.std.specs.Io.KnownBytes.{Consumes, Keeps, IsAtEnd}
 use Rattle.mc_script.specs.declared.line.ReadFault.{ReadFault}
 use Rattle.mc_script.specs.declared.line.ReadFault.TheVariants.{ReadFailed, TooLong}
-use Rattle.mc_script.specs.Lines.{lines_within, lines_of, after_lines, is_over, length_over, IsUnfinished, GivesLine}
 
 -- what reading one byte takes
 abbrev pub GivesByte : Option (List ℕ) → Option (List ℕ) → Result (Option ℕ) ReadFault → Type 0

@@ -1,8 +1,7 @@
 -- What only private contracts say beside `Words`.
-use Rattle.std.specs.Prelude.{◌≡◌, ℕ, zero, suc, ◌<◌, ◌==◌, ◌||◌, not, Bool, List, [], ◌∷◌, length, drop, Option, Some, None, if◌then◌else◌}
-use Rattle.std.specs.List.{take_while, prefix_len}
+use Rattle.std.specs.Prelude.{◌≡◌, ℕ, ◌<◌, List, [], ◌∷◌, length, Option, Some, None}
 use Rattle.std.specs.Borrow.{Bor}
-use Rattle.mc_script.specs.Words.{is_blank, is_inner, words_within, words_of}
+use Rattle.mc_script.specs.Words.{words_of}
 
 -- the first word and the bytes after it
 abbrev pub FirstWord : List ℕ → Option (Bor (List ℕ) × Bor (List ℕ)) → Type 0
