@@ -1,8 +1,8 @@
 -- The acts of each plan, in their order.
-use Rattle.std.specs.Prelude.{ℕ, ◌+◌, ◌-◌, ◌%◌, ◌^◌, List, [], ◌∷◌, ◌++◌}
+use Rattle.std.specs.Prelude.{ℕ, ◌+◌, List, [], ◌∷◌, ◌++◌}
 use Rattle.mc_words.specs.declared.place.Place.{Place}
 use Rattle.mc_words.specs.declared.shape.Shape.{Shape}
-use Rattle.mc_words.specs.Keys.{tag_of, slot_word}
+use Rattle.mc_words.specs.Keys.{tag_of, slot_word, item_in}
 use Rattle.mc_words.specs.Places.{slot_number, slot, item}
 use Rattle.mc_search.specs.Paths.{first_place}
 use Rattle.mc_theory.specs.declared.act.Act.{Act}
@@ -38,10 +38,6 @@ evict_acts k p = take_out_acts k deed.Evict p
 -- the key with this slot word goes from one slot to the other
 abbrev pub move_acts : ℕ → ℕ → Place → Place → List Act
 move_acts k word from to = Open k deed.Move ∷ Slot to word ∷ Slot from 0 ∷ Close ∷ []
-
--- the item in the word of a slot that is not empty
-unfoldable pub item_in : ℕ → ℕ
-item_in word = (word - 1) % 2 ^ 32
 
 -- the key of the item that the slot names
 abbrev pub key_named : ℕ → Shape → List ℕ → Place → ℕ

@@ -3,12 +3,12 @@ ghost use Rattle.std.specs.Prelude.{ℕ, ◌≡◌, ◌+◌, ◌*◌, ◌≤◌,
 ghost use Rattle.arrayvec.specs.ArrayVec.{array_vec_len};
 ghost use Rattle.mc_words.specs.Chains.{IsChain};
 ghost use Rattle.mc_words.specs.Checks.{shape_of};
+ghost use Rattle.mc_words.specs.Keys.{item_in, NamesSome};
 ghost use Rattle.mc_words.specs.Places.{IsWidth, item, word_count};
 ghost use Rattle.mc_plan.specs.Decisions.{acts_of_moves};
 ghost use Rattle.mc_plan.specs.Moves.{AreTaken, AreKeys, MakesRoom};
-ghost use Rattle.mc_plan.specs.Plans.{item_in, move_acts, moves_acts};
+ghost use Rattle.mc_plan.specs.Plans.{move_acts, moves_acts};
 ghost use Rattle.mc_search.specs.Readable.{IsFilled};
-ghost use Rattle.mc_search.specs.Inside.Readable.{NamesSome};
 
 use crate::Plan;
 use crate::decision::Move;
@@ -31,7 +31,6 @@ pub fn add_move(acts: &mut Plan, key: u64, word: u64, from: Place, to: Place)
 }
 
 /// The key of the item that a slot's word names.
-#[tactic(auto, unfolding(crate::specs::Plans::item_in))]
 fn key_in<const V: usize, P: Peek>(checked: &Checked, peek: &mut P, word: u64) -> u64
     requires width { IsWidth V }
     requires words { word_count V (shape_of checked.now) ≤ length (P.words peek.old) }
@@ -40,8 +39,7 @@ fn key_in<const V: usize, P: Peek>(checked: &Checked, peek: &mut P, word: u64) -
     ensures same { P.words peek.new ≡ P.words peek.old }
     ensures kept { peek.new ≡ peek.old }
 {
-    let item = (word - 1) % (1 << 32);
-    key_at::<V, P>(checked, peek, item as u32)
+    key_at::<V, P>(checked, peek, checked.item_in(word))
 }
 
 /// Lists the moves of a path, in place of those that were listed: the item at its last place goes to the hole, the item at the place before it to the place that

@@ -7,8 +7,8 @@ use Rattle.std.proofs.lemmas.List.{map-append}
 use Rattle.std.proofs.lemmas.List.Elements.{Contains-append_right}
 use Rattle.mc_words.specs.declared.place.Place.{Place}
 use Rattle.mc_words.specs.declared.shape.Shape.{Shape}
-use Rattle.mc_words.specs.Chains.{IsOccupied, Leads, IsChain, tag_in, beyond}
-use Rattle.mc_words.specs.Keys.{alternate, first_of, second_of}
+use Rattle.mc_words.specs.Chains.{IsOccupied, Leads, IsChain, beyond}
+use Rattle.mc_words.specs.Keys.{alternate, first_of, second_of, tag_in}
 use Rattle.mc_words.specs.Places.{IsPlace, slot_number, slot}
 use Rattle.mc_search.specs.Kept.{SetsSlot}
 use Rattle.mc_search.specs.Paths.{IsCut}

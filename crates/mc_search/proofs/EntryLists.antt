@@ -1,13 +1,13 @@
 -- Lists of entries, one item after the other.
 use Rattle.std.proofs.Common.{ℕ, zero, suc, ◌≡◌, ◌≢◌, ◌+◌, ◌<◌, Bool, true, eqb, eq-eqb, ne_eqb, List, [], ◌∷◌, ◌++◌, length, get_or, Option, Some, None, refl, ap, sym, ◌∙◌, subst, arith}
-use Rattle.std.specs.Prelude.{AllPairs, IfNone, if◌then◌else◌}
+use Rattle.std.specs.Prelude.{IfNone, if◌then◌else◌}
 use Rattle.std.specs.Map.{lookup}
 use Rattle.std.proofs.lemmas.List.Quantifiers.{all_pairs_push}
 use mathlib.Core.Logic.{dite}
 use native.Mathlib.Decide.{ℕ_discrete}
 use Rattle.mc_words.specs.History.{map_value}
 use Rattle.mc_words.specs.Places.{item}
-use Rattle.mc_words.specs.Standing.{Agrees, AgreesAt, Stands, OnlyAt}
+use Rattle.mc_words.specs.Standing.{Agrees, AgreesAt, Stands}
 use Rattle.mc_words.specs.declared.history.Change.{Change}
 use Rattle.mc_words.specs.declared.shape.Shape.{Shape}
 use Rattle.mc_search.specs.Entries.{AreEntriesOf}

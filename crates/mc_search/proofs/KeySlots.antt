@@ -1,7 +1,7 @@
 -- Where a key does not stand, slot by slot, and that a key stands in its buckets alone.
-use Rattle.std.proofs.Common.{ℕ, ◌≡◌, ◌≢◌, ◌+◌, ◌*◌, ◌/◌, ◌%◌, ◌<◌, inl, inr, List, Option, Some, None, sym, ◌∙◌, ap, subst, arith}
+use Rattle.std.proofs.Common.{ℕ, ◌≡◌, ◌≢◌, ◌+◌, ◌*◌, ◌/◌, ◌%◌, ◌^◌, ◌<◌, inl, inr, List, Option, Some, None, sym, ◌∙◌, ap, subst, arith}
 use Rattle.mc_words.specs.declared.shape.Shape.{Shape}
-use Rattle.mc_words.specs.Keys.{tag_of, slot_word, first_of, second_of, IsBucketOf}
+use Rattle.mc_words.specs.Keys.{tag_of, slot_word, first_of, second_of, IsBucketOf, MatchesTag}
 use Rattle.mc_words.specs.Places.{slot, item}
 use Rattle.mc_words.specs.Shapes.{IsShape}
 use Rattle.std.proofs.lemmas.Grind.{same_number_lists}
@@ -9,22 +9,37 @@ use Rattle.mc_words.specs.Standing.{Stands, HasValue, IsAbsent, AgreesAt, Agrees
 use Rattle.mc_words.specs.History.{map_value}
 use Rattle.mc_words.specs.declared.history.Change.{Change}
 use Rattle.mc_words.proofs.Frames.{slot_word-parts}
+use Rattle.mc_words.proofs.Keys.{tag_of-lt}
 use Rattle.mc_search.specs.Readable.{IsPlaced}
-use Rattle.mc_search.specs.Inside.Readable.{MatchesNone, IsNotAt, IsNotAmong}
+use Rattle.mc_search.specs.Inside.Readable.{IsNotAt, IsNotAmong}
 
--- a slot whose word names no item under the tag
-pub not_at-none : (V : ℕ) (sh : Shape) (w v : List ℕ) (k q word tag : ℕ) → v ≡ w → word ≡ slot sh v q → tag ≡ tag_of sh k → MatchesNone sh tag word → IsNotAt V sh w k q
-not_at-none V sh w v k q word tag same read is none i l e =
-    absurd (none i l (read ∙ ap (λ (y : List ℕ). slot sh y q) same ∙ e ∙ ap (λ t. slot_word t i) (sym is)))
+-- a slot whose word names no item under the key's tag
+pub not_at-none : (V : ℕ) (sh : Shape) (w v : List ℕ) (k q word : ℕ) → v ≡ w → word ≡ slot sh v q → MatchesTag sh (tag_of sh k) word None → IsNotAt V sh w k q
+not_at-none V sh w v k q word same read none i l e = absurd (none i l (read ∙ ap (λ (y : List ℕ). slot sh y q) same ∙ e))
 
 -- a slot whose word names an item of another key
-pub not_at-other : (V : ℕ) (sh : Shape) (w v u : List ℕ) (k q word tag g stored : ℕ) → IsShape sh → v ≡ w → word ≡ slot sh v q → tag ≡ tag_of sh k → g < sh.items → word ≡ slot_word tag g → u ≡ v → stored ≡ item V sh u g 0 → stored ≢ k → IsNotAt V sh w k q
-not_at-other V sh w v u k q word tag g stored s same read is lg names again key ne i l e at =
-    let both : slot_word (tag_of sh k) i ≡ slot_word tag g = sym e ∙ sym (read ∙ ap (λ (y : List ℕ). slot sh y q) same) ∙ names in
+pub not_at-other : (V : ℕ) (sh : Shape) (w v u : List ℕ) (k q word g stored : ℕ) → IsShape sh → v ≡ w → word ≡ slot sh v q → MatchesTag sh (tag_of sh k) word (Some g) → u ≡ v → stored ≡ item V sh u g 0 → stored ≢ k → IsNotAt V sh w k q
+not_at-other V sh w v u k q word g stored s same read names again key ne i l e at =
+    let tag = tag_of sh k in
+    let both : slot_word tag i ≡ slot_word tag g = sym e ∙ sym (read ∙ ap (λ (y : List ℕ). slot sh y q) same) ∙ names.1 in
     let items = s.items.1 in
     let buckets = s.buckets.1 in
-    let one : i ≡ g = (slot_word-parts (tag_of sh k) tag i g (omega arith) (omega arith) both).1 in
+    let below = names.0 in
+    let one : i ≡ g = (slot_word-parts tag tag i g (omega arith) (omega arith) both).1 in
     ne (key ∙ ap (λ (y : List ℕ). item V sh y g 0) (again ∙ same) ∙ ap (λ y. item V sh w y 0) (sym one) ∙ at)
+
+-- a slot whose word names an item of the key
+pub stands_at : (V : ℕ) (sh : Shape) (w v u : List ℕ) (k q word g stored : ℕ) → k < 2 ^ 64 → q < 4 * sh.buckets → v ≡ w → word ≡ slot sh v q → MatchesTag sh (tag_of sh k) word (Some g) → u ≡ v → stored ≡ item V sh u g 0 → stored ≡ k → Stands V sh w k q g
+stands_at V sh w v u k q word g stored fits below same read names again key is = record {
+  names = record {
+    tag = tag_of sh k;
+    in_table = below;
+    in_items = names.0;
+    is_tag = tag_of-lt sh k fits;
+    word = sym (read ∙ ap (λ (y : List ℕ). slot sh y q) same) ∙ names.1;
+  };
+  key = sym (key ∙ ap (λ (y : List ℕ). item V sh y g 0) (again ∙ same)) ∙ is;
+}
 
 -- a key that stands under its tag in its buckets alone, and not there, stands nowhere
 pub absent_from-buckets : (V : ℕ) (sh : Shape) (w : List ℕ) (k : ℕ) → IsPlaced V sh w k → IsNotAmong V sh w k (first_of sh k) 4 → IsNotAmong V sh w k (second_of sh k) 4 → IsAbsent V sh w k

@@ -1,5 +1,4 @@
 pub mod KeySlots
-pub mod SlotWords
 pub mod QueueEntries
 pub mod Levels
 pub mod Shortest

@@ -1,10 +1,8 @@
 -- What a search needs of the words that it reads.
-use Rattle.std.specs.Prelude.{ℕ, ◌≡◌, ◌≢◌, ◌+◌, ◌*◌, ◌/◌, ◌<◌, ◌≤◌, ◌⊎◌, List, length}
-use Rattle.mc_words.specs.declared.place.Place.{Place}
+use Rattle.std.specs.Prelude.{ℕ, ◌≡◌, ◌*◌, ◌/◌, ◌<◌, ◌≤◌, ◌⊎◌, List, length}
 use Rattle.mc_words.specs.declared.shape.Shape.{Shape}
-use Rattle.mc_words.specs.Chains.{IsHole}
-use Rattle.mc_words.specs.Keys.{tag_of, slot_word, IsBucketOf, NamesUnder}
-use Rattle.mc_words.specs.Places.{slot_place, slot, item}
+use Rattle.mc_words.specs.Keys.{tag_of, slot_word, IsBucketOf}
+use Rattle.mc_words.specs.Places.{slot_place, slot}
 use Rattle.mc_words.specs.Standing.{NamesItem, Stands}
 
 -- the words reach as far as the last slot

@@ -1,25 +1,22 @@
 ghost use Rattle.std.specs.Prelude.{ℕ, ◌≡◌, ◌≢◌, ◌+◌, ◌*◌, ◌<◌, IfSome, MatchOption};
-ghost use Rattle.mc_words.specs.Chains.{tag_in};
 ghost use Rattle.mc_words.specs.Checks.{shape_of};
-ghost use Rattle.mc_words.specs.Keys.{alternate};
+ghost use Rattle.mc_words.specs.Keys.{alternate, tag_in, NamesSome};
 ghost use Rattle.mc_words.specs.Places.{slot};
 ghost use Rattle.mc_search.specs.Readable.{HasSlots};
-ghost use Rattle.mc_search.specs.Inside.Readable.{NamesSome, IsFull, IsHoleIn};
+ghost use Rattle.mc_search.specs.Inside.Readable.{IsFull, IsHoleIn};
 
 use crate::word::slot_at;
 use mc_theory::Peek;
 use mc_words::{Checked, Place};
 
 /// The other bucket of the item that a slot's word names.
-#[tactic(auto, unfolding(mc_words::specs::Chains::tag_in))]
 pub(crate) fn other_bucket(checked: &Checked, bucket: u32, word: u64) -> u32
     requires in_table { bucket < (shape_of checked.now).buckets }
     requires named { NamesSome (shape_of checked.now) word }
     ensures value { result ≡ alternate (shape_of checked.now) bucket (tag_in word) }
     ensures in_table { result < (shape_of checked.now).buckets }
 {
-    let tag = (word - 1) >> 32;
-    checked.alt(bucket, tag as u8)
+    checked.alt(bucket, checked.tag_in(word))
 }
 
 /// The least empty slot of the bucket.

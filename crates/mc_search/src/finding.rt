@@ -1,40 +1,27 @@
-ghost use Rattle.std.specs.Prelude.{◌≡◌, ◌<◌, ◌≤◌, length, IfSome, IfNone, MatchOption};
+ghost use Rattle.std.specs.Prelude.{◌≡◌, ◌<◌, ◌≤◌, length, IfSome, IfNone};
 ghost use Rattle.mc_words.specs.Checks.{shape_of};
 ghost use Rattle.mc_words.specs.Keys.{tag_of, slot_word};
 ghost use Rattle.mc_words.specs.Places.{IsPlace, IsWidth, slot_number, word_count};
 ghost use Rattle.mc_words.specs.Standing.{Stands, IsAbsent};
 ghost use Rattle.mc_search.specs.Readable.{IsPlaced};
-ghost use Rattle.mc_search.specs.Inside.Readable.{MatchesNone, IsNotAmong};
+ghost use Rattle.mc_search.specs.Inside.Readable.{IsNotAmong};
 
 use crate::word::{key_at, slot_at};
 use mc_theory::Peek;
 use mc_words::{Checked, Place};
 
-/// The item that a slot's word names under the tag: one subtraction and one comparison.
-#[tactic(auto, unfolding(mc_words::specs::Keys::slot_word))]
-fn named(checked: &Checked, tag: u8, word: u64) -> Option<u32>
-    ensures { MatchOption result (MatchesNone (shape_of checked.now) tag word) (λ i. (i < (shape_of checked.now).items) × (word ≡ slot_word tag i)) }
-{
-    let item = word.wrapping_sub(checked.slot_word(tag, 0));
-    if item < u64::from(checked.shape().items) {
-        Some(item as u32)
-    } else {
-        None
-    }
-}
-
-/// The slot of the bucket that names an item of the key under the tag, and the item.
+/// The slot of the bucket that names an item of the key under the key's tag, and the item.
 #[inline(always)]
 fn find_in<const V: usize, P: Peek>(
     checked: &Checked,
     peek: &mut P,
     key: u64,
-    tag: u8,
+    base: u64,
     bucket: u32,
 ) -> Option<(Place, u32)>
     requires width { IsWidth V }
     requires words { word_count V (shape_of checked.now) ≤ length (P.words peek.old) }
-    requires tag { tag ≡ tag_of (shape_of checked.now) key }
+    requires base { base ≡ slot_word (tag_of (shape_of checked.now) key) 0 }
     requires in_table { bucket < (shape_of checked.now).buckets }
     ensures found { IfSome result (λ r. Stands V (shape_of checked.now) (P.words peek.old) key (slot_number r.0) r.1) }
     ensures place { IfSome result (λ r. IsPlace (shape_of checked.now) r.0) }
@@ -45,7 +32,7 @@ fn find_in<const V: usize, P: Peek>(
     for slot in 0..4 {
         let place = Place { bucket, slot };
         let word = slot_at(checked, peek, place);
-        if let Some(item) = named(checked, tag, word) {
+        if let Some(item) = checked.tag_match(base, word) {
             let stored = key_at::<V, P>(checked, peek, item);
             if stored == key {
                 return Some((place, item));
@@ -75,10 +62,11 @@ pub fn find<const V: usize, P: Peek>(
     ensures kept { peek.new ≡ peek.old }
 {
     let tag = checked.tag(key);
+    let base = checked.slot_word(tag, 0);
     let first = checked.first(key);
-    if let Some(found) = find_in::<V, P>(checked, peek, key, tag, first) {
+    if let Some(found) = find_in::<V, P>(checked, peek, key, base, first) {
         return Some(found);
     }
     let second = checked.alt(first, tag);
-    find_in::<V, P>(checked, peek, key, tag, second)
+    find_in::<V, P>(checked, peek, key, base, second)
 }

@@ -1,5 +1,6 @@
 pub mod Places
 pub mod Keys
+pub mod SlotWords
 pub mod Maps
 pub mod Payload
 pub mod Frames

@@ -1,9 +1,9 @@
 -- Chains of displacements: which keys could move on to make room for one more.
-use Rattle.std.specs.Prelude.{ℕ, ◌≡◌, ◌≢◌, ◌-◌, ◌/◌, ◌^◌, ◌≤◌, ◌<◌, ◌⊎◌, ◌==◌, List, [], ◌∷◌, length, map}
+use Rattle.std.specs.Prelude.{ℕ, ◌≡◌, ◌≢◌, ◌≤◌, ◌<◌, ◌⊎◌, ◌==◌, List, [], ◌∷◌, length, map}
 use Rattle.std.specs.List.{IsDistinct}
 use Rattle.mc_words.specs.declared.place.Place.{Place}
 use Rattle.mc_words.specs.declared.shape.Shape.{Shape}
-use Rattle.mc_words.specs.Keys.{first_of, second_of, alternate}
+use Rattle.mc_words.specs.Keys.{first_of, second_of, alternate, tag_in}
 use Rattle.mc_words.specs.Places.{IsPlace, slot_number, slot}
 
 abbrev pub IsHole : Shape → List ℕ → Place → Type 0
@@ -11,10 +11,6 @@ IsHole sh w p = IsPlace sh p × (slot sh w (slot_number p) ≡ 0)
 
 abbrev pub IsOccupied : Shape → List ℕ → Place → Type 0
 IsOccupied sh w p = IsPlace sh p × (slot sh w (slot_number p) ≢ 0)
-
--- the tag in the word of a slot that is not empty
-unfoldable pub tag_in : ℕ → ℕ
-tag_in word = (word - 1) / 2 ^ 32
 
 -- the bucket to which the item named at the place can move
 abbrev pub beyond : Shape → List ℕ → Place → ℕ

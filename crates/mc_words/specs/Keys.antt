@@ -1,5 +1,5 @@
 -- The parts of a key, and the word of a slot.
-use Rattle.std.specs.Prelude.{ℕ, ◌≡◌, ◌+◌, ◌*◌, ◌/◌, ◌%◌, ◌^◌, ◌<◌, ◌⊎◌, bit_xor}
+use Rattle.std.specs.Prelude.{ℕ, ◌≡◌, ◌≢◌, ◌+◌, ◌-◌, ◌*◌, ◌/◌, ◌%◌, ◌^◌, ◌<◌, ◌⊎◌, Option, Some, None, bit_xor}
 use Rattle.mc_words.specs.declared.mix.Mix.{Mix}
 use Rattle.mc_words.specs.declared.mix.Mix.TheVariants.{Plain, Fmix}
 use Rattle.mc_words.specs.declared.shape.Shape.{Shape}
@@ -45,3 +45,20 @@ slot_word tag i = tag * 2 ^ 32 + i + 1
 -- the word names this item, under some tag
 abbrev pub NamesUnder : Shape → ℕ → ℕ → ℕ → Type 0
 NamesUnder sh word tag i = (tag < 256) × (i < sh.items) × (word ≡ slot_word tag i)
+
+-- the word names an item
+abbrev pub NamesSome : Shape → ℕ → Type 0
+NamesSome sh word = (tag : ℕ) × (i : ℕ) × NamesUnder sh word tag i
+
+-- the tag in the word of a slot that is not empty
+unfoldable pub tag_in : ℕ → ℕ
+tag_in word = (word - 1) / 2 ^ 32
+
+-- the item in it
+unfoldable pub item_in : ℕ → ℕ
+item_in word = (word - 1) % 2 ^ 32
+
+-- the item that the word names under the tag, or that it names none
+abbrev pub MatchesTag : Shape → ℕ → ℕ → Option ℕ → Type 0
+MatchesTag sh tag word None = (i : ℕ) → i < sh.items → word ≢ slot_word tag i
+MatchesTag sh tag word (Some i) = (i < sh.items) × (word ≡ slot_word tag i)

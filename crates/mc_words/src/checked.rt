@@ -1,5 +1,5 @@
-ghost use Rattle.mc_words.specs.Keys.{tag_of, first_of, offset_of, alternate, stripe_of, slot_word};
-ghost use Rattle.std.specs.Prelude.{◌≡◌, ◌≢◌, ◌+◌, ◌*◌, ◌^◌, ◌<◌, ◌≤◌};
+ghost use Rattle.mc_words.specs.Keys.{tag_of, first_of, offset_of, alternate, stripe_of, slot_word, tag_in, item_in, NamesSome, MatchesTag};
+ghost use Rattle.std.specs.Prelude.{ℕ, ◌≡◌, ◌≢◌, ◌+◌, ◌*◌, ◌^◌, ◌<◌, ◌≤◌};
 ghost use Rattle.mc_words.specs.Places.{slot_number, IsPlace, IsWidth, payload, word_count, all_words, version_place, slot_place, item_place, recency_place, PlacesApart};
 ghost use Rattle.mc_words.specs.Recency.{recency_bit};
 ghost use Rattle.mc_words.specs.Shapes.{IsShape};
@@ -91,6 +91,41 @@ impl Checked {
         } else {
             None
         }
+    }
+
+    /// The item that a slot's word names under the tag whose word of item 0 is `base`: one subtraction and one comparison.
+    #[inline(always)]
+    #[tactic(auto, unfolding(crate::specs::Keys::slot_word))]
+    pub fn tag_match(&self, base: u64, word: u64) -> Option<u32>
+        ensures { (tag : ℕ) → base ≡ slot_word tag 0 → MatchesTag (shape_of self.now) tag word result }
+    {
+        let item = word.wrapping_sub(base);
+        if item < u64::from(self.shape.items) {
+            Some(item as u32)
+        } else {
+            None
+        }
+    }
+
+    /// The tag in a slot's word. Condition: the word names an item of the table.
+    #[inline(always)]
+    #[tactic(auto, unfolding(crate::specs::Keys::tag_in))]
+    pub fn tag_in(&self, word: u64) -> u8
+        requires { NamesSome (shape_of self.now) word }
+        ensures { result ≡ tag_in word }
+    {
+        ((word - 1) >> 32) as u8
+    }
+
+    /// The item in a slot's word. Condition: the word names an item of the table.
+    #[inline(always)]
+    #[tactic(auto, unfolding(crate::specs::Keys::item_in))]
+    pub fn item_in(&self, word: u64) -> u32
+        requires { NamesSome (shape_of self.now) word }
+        ensures item { result ≡ item_in word }
+        ensures range { result < (shape_of self.now).items }
+    {
+        ((word - 1) % (1 << 32)) as u32
     }
 
     /// Where the moment lies.

@@ -1,8 +1,8 @@
 //! One method a stage of a lookup. A caller that knows the stage may call it in place of `after`.
 ghost use Rattle.std.specs.Prelude.{◌≡◌, ◌+◌, ◌<◌, ℕ, MatchOption, MatchBool, Some, None};
-ghost use Rattle.mc_lookup.specs.Machine.{stage_of, lookup_place, slots_from, values_from, stage_after_try, IsRestart, Consumes};
+ghost use Rattle.mc_words.specs.Keys.{tag_of, MatchesTag};
+ghost use Rattle.mc_lookup.specs.Machine.{shape_for, stage_of, lookup_place, slots_from, values_from, stage_after_try, IsRestart, Consumes};
 ghost use Rattle.mc_lookup.specs.Inside.Machine.{Restarts};
-ghost use Rattle.mc_lookup.specs.Inside.TagMatch.{IsTagMatch};
 ghost use Rattle.mc_theory.specs.declared.access.Access.{Access};
 ghost use Rattle.mc_lookup.specs.declared.stage.Stage.{Stage};
 
@@ -30,16 +30,10 @@ impl<const V: usize> Lookup<V> {
     }
 
     /// The item that the word of a slot names under the key's tag.
-    #[tactic(auto, unfolding(mc_words::specs::Keys::slot_word))]
     fn met(&self, word: u64) -> Option<u32>
-        ensures { IsTagMatch {V = V} self.now word result }
+        ensures { MatchesTag (shape_for {V = V} self.now) (tag_of (shape_for {V = V} self.now) self.now.key) word result }
     {
-        let item = word.wrapping_sub(self.base);
-        if item < u64::from(self.checked.shape().items) {
-            Some(item as u32)
-        } else {
-            None
-        }
+        self.checked.tag_match(self.base, word)
     }
 
     /// A reading of the version at the start of a try. Whether the try goes on: an odd version spoils it.

@@ -5,17 +5,18 @@ use Rattle.std.specs.List.{IsDistinct, AllByRecursion}
 use Rattle.std.proofs.lemmas.Bool.{cases_eq, eqb-false}
 use Rattle.mc_words.specs.declared.place.Place.{Place}
 use Rattle.mc_words.specs.declared.shape.Shape.{Shape}
-use Rattle.mc_words.specs.Chains.{IsHole, IsOccupied, Leads, IsChain, tag_in, beyond}
+use Rattle.mc_words.specs.Chains.{IsHole, IsOccupied, Leads, IsChain, beyond}
 use Rattle.mc_words.specs.History.{map_value}
-use Rattle.mc_words.specs.Keys.{tag_of, slot_word, alternate, first_of, second_of, IsBucketOf}
+use Rattle.mc_words.specs.Keys.{tag_of, slot_word, alternate, first_of, second_of, IsBucketOf, tag_in, item_in}
 use Rattle.mc_words.specs.Places.{slot_number, slot, item}
 use Rattle.mc_words.specs.Shapes.{IsShape}
 use Rattle.mc_words.specs.Standing.{NamesItem, Stands, Agrees, AgreesAt, IsAbsent, IsFree}
+use Rattle.mc_words.proofs.SlotWords.{tag_in-word, item_in-word}
 use Rattle.mc_words.proofs.Frames.{moved_names, empty_names_none}
 use Rattle.mc_theory.specs.States.{State}
 use Rattle.mc_plan.specs.Making.{state_after_acts, IsQuiet, Makes}
 use Rattle.mc_plan.specs.Moves.{CanMove, MovesSlot, AreKeys, HasRoomFor, MovesMakeRoom}
-use Rattle.mc_plan.specs.Plans.{item_in, key_named, move_acts, moves_acts}
+use Rattle.mc_plan.specs.Plans.{key_named, move_acts, moves_acts}
 use Rattle.mc_search.specs.Paths.{first_place}
 use Rattle.mc_plan.proofs.Deeds.Moves.{moves}
 use Rattle.mc_plan.proofs.Deeds.QuietStates.{agrees_quiet, makes_from_walk}
@@ -61,14 +62,6 @@ distinct_parts p ps hole d =
     (off_from_distinct p.bucket ps hole (λ e. differs hole.bucket p.bucket d.0.0 (sym e)) d.1.0, (d.0.1, d.1.1))
 
 -- ---- the item at a place
-tag_in-word : (tag i : ℕ) → i < 2 ^ 32 → tag_in (slot_word tag i) ≡ tag
-unfolding tag_in slot_word
-tag_in-word tag i l = omega arith
-
-item_in-word : (tag i : ℕ) → i < 2 ^ 32 → item_in (slot_word tag i) ≡ i
-unfolding item_in slot_word
-item_in-word tag i l = omega arith
-
 items_small : (sh : Shape) (i : ℕ) → IsShape sh → i < sh.items → i < 2 ^ 32
 items_small sh i s l =
     let items = s.items.1 in

@@ -1,27 +1,15 @@
 -- One move of a path after another.
-use Rattle.std.proofs.Common.{ℕ, zero, suc, ◌≡◌, ◌+◌, ◌-◌, ◌*◌, ◌%◌, ◌^◌, ◌<◌, ◌≤◌, inl, inr, List, [], ◌∷◌, ◌++◌, refl, sym, subst, drop, get_or, length, arith, append_assoc, add-one, drop-cons}
+use Rattle.std.proofs.Common.{ℕ, zero, suc, ◌≡◌, ◌+◌, ◌*◌, ◌^◌, ◌<◌, inl, inr, List, [], ◌∷◌, ◌++◌, refl, sym, subst, drop, get_or, length, arith, append_assoc, add-one, drop-cons}
 use Rattle.mc_words.specs.declared.place.Place.{Place}
 use Rattle.mc_words.specs.declared.shape.Shape.{Shape}
 use Rattle.mc_words.specs.Chains.{IsOccupied, Leads, IsChain, beyond}
-use Rattle.mc_words.specs.Keys.{slot_word}
+use Rattle.mc_words.specs.Keys.{NamesSome}
 use Rattle.mc_words.specs.Places.{slot_number, slot}
-use Rattle.mc_words.specs.Shapes.{IsShape}
 use Rattle.mc_theory.specs.declared.act.Act.{Act}
 use Rattle.mc_plan.specs.Moves.{AreTaken, AreKeys}
 use Rattle.mc_search.specs.Paths.{IsCut, first_place}
 use Rattle.mc_plan.specs.Plans.{key_named, move_acts, moves_acts}
 use Rattle.mc_search.specs.Readable.{IsFilled}
-use Rattle.mc_search.specs.Inside.Readable.{NamesSome}
-
--- the item in a word that names one
-pub item_in-named : (sh : Shape) (word : ℕ) → IsShape sh → NamesSome sh word → (1 ≤ word) × ((word - 1) % 2 ^ 32 < sh.items)
-unfolding slot_word
-item_in-named sh word s n =
-    let is : word ≡ n.0 * 2 ^ 32 + n.1 + 1 = n.2.2 in
-    let item = n.2.1 in
-    let items = s.items.1 in
-    let buckets = s.buckets.1 in
-    (omega arith, omega arith)
 
 leads_taken : (sh : Shape) (w : List ℕ) (b : ℕ) (ps : List Place) (hole : Place) → Leads sh w b ps hole → AreTaken sh w ps
 leads_taken sh w b [] hole leads = tt

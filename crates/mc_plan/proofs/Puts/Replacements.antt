@@ -1,6 +1,7 @@
 -- A put that first takes out another key.
 use Rattle.std.proofs.Common.{ℕ, ◌≡◌, ◌+◌, ◌*◌, ◌<◌, ◌∙◌, List, [], ◌∷◌, ◌++◌, ap, refl, sym, subst, length, arith, inl, inr}
 use Rattle.std.proofs.lemmas.Bool.{cases_eq}
+use Rattle.mc_words.specs.Keys.{item_in}
 use Rattle.mc_words.specs.declared.history.Change.TheVariants.{Put, Evict}
 use Rattle.mc_words.specs.declared.place.Place.{Place}
 use Rattle.mc_words.specs.declared.shape.Shape.{Shape}
@@ -14,7 +15,7 @@ use Rattle.mc_theory.specs.declared.act.Act.{Act}
 use Rattle.mc_plan.specs.Making.{Makes, state_after_acts}
 use Rattle.mc_search.specs.Kept.{SetsSlot, KeepsItems, KeepsNamed}
 use Rattle.mc_plan.specs.Moves.{AreTaken, AreKeys}
-use Rattle.mc_plan.specs.Plans.{item_in, key_named, evict_acts, moves_acts, fill_acts}
+use Rattle.mc_plan.specs.Plans.{key_named, evict_acts, moves_acts, fill_acts}
 use Rattle.mc_search.specs.Paths.{first_place}
 use Rattle.mc_plan.specs.Puts.{CanPut, TakesItem, put_acts}
 use Rattle.mc_plan.specs.Replacing.{CanReplace, EvictionsMakeRoom}

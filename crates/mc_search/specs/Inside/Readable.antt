@@ -1,16 +1,10 @@
 -- What only private contracts say beside `Readable`.
-use Rattle.std.specs.Prelude.{ℕ, ◌≡◌, ◌≢◌, ◌+◌, ◌*◌, ◌/◌, ◌<◌, ◌≤◌, ◌⊎◌, List, length}
+use Rattle.std.specs.Prelude.{ℕ, ◌≡◌, ◌≢◌, ◌+◌, ◌*◌, ◌<◌, List}
 use Rattle.mc_words.specs.declared.place.Place.{Place}
 use Rattle.mc_words.specs.declared.shape.Shape.{Shape}
 use Rattle.mc_words.specs.Chains.{IsHole}
-use Rattle.mc_words.specs.Keys.{tag_of, slot_word, IsBucketOf, NamesUnder}
-use Rattle.mc_words.specs.Places.{slot_place, slot, item}
-use Rattle.mc_words.specs.Standing.{NamesItem, Stands}
-use Rattle.mc_search.specs.Readable.{HasSlots, IsFilled, IsPlacedAt, IsPlaced}
-
--- the word names no item under the tag
-abbrev pub MatchesNone : Shape → ℕ → ℕ → Type 0
-MatchesNone sh tag word = (i : ℕ) → i < sh.items → word ≢ slot_word tag i
+use Rattle.mc_words.specs.Keys.{tag_of, slot_word}
+use Rattle.mc_words.specs.Places.{slot, item}
 
 -- the slot names no item of the key under the key's tag
 abbrev pub IsNotAt : ℕ → Shape → List ℕ → ℕ → ℕ → Type 0
@@ -19,10 +13,6 @@ IsNotAt V sh w k q = (i : ℕ) → i < sh.items → slot sh w q ≡ slot_word (t
 -- none of the bucket's first n slots does
 abbrev pub IsNotAmong : ℕ → Shape → List ℕ → ℕ → ℕ → ℕ → Type 0
 IsNotAmong V sh w k b n = (j : ℕ) → j < n → IsNotAt V sh w k (4 * b + j)
-
--- the word names an item
-abbrev pub NamesSome : Shape → ℕ → Type 0
-NamesSome sh word = (tag : ℕ) × (i : ℕ) × NamesUnder sh word tag i
 
 -- no slot of the bucket is empty
 abbrev pub IsFull : Shape → List ℕ → ℕ → Type 0

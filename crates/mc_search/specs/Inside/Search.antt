@@ -3,8 +3,8 @@ use Rattle.std.specs.Prelude.{ℕ, ◌≡◌, ◌≢◌, ◌+◌, ◌*◌, ◌�
 use Rattle.std.proofs.Common.{get_or}
 use Rattle.mc_words.specs.declared.place.Place.{Place}
 use Rattle.mc_words.specs.declared.shape.Shape.{Shape}
-use Rattle.mc_words.specs.Chains.{IsHole, IsOccupied, IsChain, tag_in, beyond}
-use Rattle.mc_words.specs.Keys.{alternate, first_of, second_of, IsBucketOf}
+use Rattle.mc_words.specs.Chains.{IsHole, IsOccupied, IsChain, beyond}
+use Rattle.mc_words.specs.Keys.{alternate, first_of, second_of, IsBucketOf, tag_in}
 use Rattle.mc_words.specs.Places.{slot}
 use Rattle.mc_search.specs.declared.queue.Entry.{Entry}
 use Rattle.mc_search.specs.Inside.Readable.{IsFull}

@@ -3,10 +3,11 @@ use Rattle.std.proofs.Common.{ℕ, ◌≡◌, ◌*◌, ◌^◌, ◌<◌, ◌≤�
 use Rattle.std.specs.Prelude.{slice_index}
 use Rattle.std.specs.List.{All}
 use Rattle.std.proofs.lemmas.List.Elements.{All-set, All-replicate}
+use Rattle.mc_words.proofs.SlotWords.{slot_word-fits}
 use Rattle.mc_words.proofs.Keys.{stripe_of-lt, tag_of-lt}
 use Rattle.mc_words.proofs.Places.{row_below}
 use Rattle.mc_words.specs.History.{IsWord}
-use Rattle.mc_words.specs.Keys.{stripe_of, slot_word}
+use Rattle.mc_words.specs.Keys.{stripe_of}
 use Rattle.mc_words.specs.Places.{IsPlace, payload, slot_number, version, moment, slot, item, with_moment, with_version, with_slot, with_item, item_place, slot_place, version_place, word_count}
 use Rattle.mc_words.specs.Shapes.{IsShape}
 use Rattle.mc_words.specs.Standing.{Stands}
@@ -47,10 +48,6 @@ words_written V sh w p (Hand i) = refl
 words_written V sh w p (Mark i) = refl
 
 -- ---- its place, and that it is below 2^64
-pub slot_word-fits : (t i : ℕ) → t < 256 → i < 2 ^ 32 → slot_word t i < 2 ^ 64
-unfolding slot_word
-slot_word-fits t i a b = omega arith
-
 bump_fits : (V : ℕ) (sh : Shape) (w : List ℕ) (k c : ℕ) → IsShape sh → word_count V sh ≤ length w → ((t : ℕ) → t < sh.stripes → version w t ≤ c) → c + 1 < 2 ^ 64 → FitsIn w (bump_of sh w (Some k))
 bump_fits V sh w k c s size v l = let below = stripe_of-lt sh k s in (omega arith, omega (arith, v (stripe_of sh k) below))
 

@@ -1,9 +1,10 @@
 use Rattle.std.proofs.Common.{◌≡◌, ◌+◌, ◌-◌, ◌<◌, ◌∙◌, ◌++◌, [], List, ap, arith, drop, get_or, length}
+use Rattle.mc_words.specs.Keys.{item_in}
 use Rattle.mc_words.specs.declared.place.Place.{Place}
 use Rattle.mc_words.specs.Places.{slot, item, slot_number}
 use Rattle.mc_plan.specs.declared.decision.Move.{Move}
 use Rattle.mc_plan.specs.Decisions.{acts_of_moves}
-use Rattle.mc_plan.specs.Plans.{item_in, move_acts}
+use Rattle.mc_plan.specs.Plans.{move_acts}
 use Rattle.mc_plan.proofs.Puts.MoveLists.{moves_push}
 use Rattle.mc_plan.proofs.Puts.PathSteps.{IsMadeFrom, occupied_at, named_at, path_from, made_more}
 use Rattle.mc_plan.proofs.moves.path_moves.Goals as goal

@@ -1,4 +1,4 @@
-use Rattle.std.proofs.Common.{ℕ, ◌≡◌, List, None, sym, subst}
+use Rattle.std.proofs.Common.{ℕ, List, None, sym, subst}
 use Rattle.mc_words.specs.Checks.{shape_of}
 use Rattle.mc_words.specs.Standing.{Agrees, Stands}
 use Rattle.mc_search.proofs.EntryLists.{if_none_any, stood_elsewhere, unstood}

@@ -18,6 +18,6 @@ returns-clause-takes g c =
           (omega (arith, below))
       | in-None w ↦
           takes_at l _ (stage.Slot j) (slots_from (j + 1)) (access.Slot (lookup_place l j)) c.args.word c.requires (w.self-is ∙ w.before_slot-self.ensures) refl refl
-          (λ f rs reply. left_other g.row.V (shape_for l) l.key l.tries l.version l.value l.reply l.first l.second j c.args.word f rs reply l.first_is l.second_is below (λ i m. w.in-None.ensures {u = tt} i m))
+          (λ f rs reply. left_other g.row.V (shape_for l) l.key l.tries l.version l.value l.reply l.first l.second j c.args.word f rs reply l.first_is l.second_is below (λ i m. w.in-None.ensures {u = tt} i m.0 m.1))
           (omega (arith, below, steps_slots g.row.V l.tries (j + 1) (omega (arith, below))))
     ]

@@ -6,7 +6,6 @@ use Rattle.mc_theory.specs.States.{State}
 use Rattle.mc_plan.specs.Clerks.{Call, state_after_sweep}
 use Rattle.mc_search.specs.Paths.{IsCut}
 use Rattle.mc_plan.specs.Inside.Clerks.{IsReplacing}
-use Rattle.mc_plan.specs.declared.books.Books.{Books}
 use Rattle.mc_plan.proofs.Calls.AfterPlan.{placed_in}
 use Rattle.mc_plan.proofs.Calls.SweptStates.{swept_still}
 use Rattle.mc_plan.proofs.Calls.AfterSweep.{one_item, victim_stands, replaced_planned}

@@ -1,18 +1,8 @@
-use Rattle.std.proofs.Common.{ℕ, List, refl, ◌∷◌, ◌++◌, [], None, Ok, ◌≡◌, ◌+◌, ◌<◌, ◌∙◌, ap, arith, length, sym, subst}
+use Rattle.std.proofs.Common.{◌<◌, arith}
 use Rattle.mc_words.specs.Checks.{shape_of}
-use Rattle.mc_theory.specs.declared.act.Act.{Act}
-use Rattle.mc_theory.specs.declared.act.Act.TheVariants as act
-use Rattle.mc_plan.specs.Clerks.{PutCall, IsPlanned, Waits}
-use Rattle.mc_plan.specs.Decisions.{acts_of_moves, storing_acts, storing_told}
-use Rattle.mc_plan.specs.declared.answer.Answer.TheVariants as answer
-use Rattle.mc_plan.specs.declared.answer.Put.{Put}
-use Rattle.mc_plan.specs.declared.answer.Put.TheVariants as put
-use Rattle.mc_plan.specs.declared.books.Books.{Books}
-use Rattle.mc_plan.specs.declared.decision.Move.{Move}
-use Rattle.mc_plan.specs.Puts.{put_acts}
+use Rattle.mc_plan.specs.Clerks.{Waits}
 use Rattle.mc_search.specs.Paths.{direct_path}
 use Rattle.mc_search.proofs.TakenItems.{free_below}
-use Rattle.mc_plan.proofs.Puts.MoveLists.{stored_acts}
 use Rattle.mc_plan.proofs.Calls.AfterPlan.{books_still, stored_planned, least_in}
 use Rattle.mc_plan.proofs.books.Books.insert_near.Goals as goal
 

@@ -1,6 +1,4 @@
-use Rattle.std.proofs.Common.{◌≡◌, arith, sym, subst}
-use Rattle.mc_words.specs.Shapes.{IsPower}
-use Rattle.mc_words.proofs.Powers.{is_power-pow}
+use Rattle.std.proofs.Common.{arith}
 use Rattle.mc_words.proofs.shape.Shape.check.Goals as goal
 
 pub invariant_of-result : goal.invariant_of-result
