@@ -1,5 +1,7 @@
 use Rattle.std.proofs.Common.{ℕ, refl, sym, ◌∙◌, ap, subst, rules, arith, Some}
 use Rattle.std.specs.Prelude.{unwrap_or}
+use Rattle.std.proofs.lemmas.List.{length-set}
+use Rattle.std.proofs.lemmas.Option.{slice_get_within}
 use Rattle.mc_lookup.specs.Machine.{next_access, Consumes}
 use Rattle.mc_words.specs.declared.shape.Shape.{Shape}
 use Rattle.mc_core.specs.Inside.Parts.{shape_of_parts}
@@ -71,3 +73,26 @@ reply-requires g c = (omega (arith, c.args.self.now.writer.table.most_words), om
 
 pub key-key-requires : goal.key-key-requires
 key-key-requires g c = omega (arith, c.args.self.now.writer.table.most_words)
+
+pub overflow_add-self : goal.overflow_add-self
+overflow_add-self g c = omega (arith, c.requires.events)
+
+pub index_mut-requires : goal.index_mut-requires
+index_mut-requires g c =
+    let old = c.args.self.now in
+    omega (arith, slice_get_within old.readers.items c.args.reader (Some c.args.running) c.requires.running, old.readers.ok.0)
+
+pub index_mut-requires-in-None : goal.index_mut-requires-in-None
+index_mut-requires-in-None g c =
+    let old = c.args.self.now in
+    omega (arith, slice_get_within old.readers.items c.args.reader (Some c.args.running) c.requires.running, old.readers.ok.0)
+
+pub invariant_of-self : goal.invariant_of-self
+invariant_of-self g c =
+    let old = c.args.self.now in
+    record { marked = c.mark_read.ensures.many ∙ old.marked; countable = rw length-set old.countable }
+
+pub invariant_of-self-in-None : goal.invariant_of-self-in-None
+invariant_of-self-in-None g c =
+    let old = c.args.self.now in
+    record { marked = c.mark_read.ensures.many ∙ old.marked; countable = rw length-set old.countable }

@@ -7,6 +7,7 @@ use Rattle.mc_theory.specs.Acts.{IsAllowed}
 use Rattle.mc_theory.specs.States.{State}
 use Rattle.mc_theory.specs.Traces.{HasVersionSteps, bit_of, given_of}
 use Rattle.mc_core.specs.Inside.Writers.{shape_of_writer, words_of_writer, phase_at, IsMade}
+use Rattle.mc_core.specs.declared.table.Table.{Table}
 use Rattle.mc_core.proofs.ShownWorld.{holds_of, counted_of, hand_of, reads_in, ok_of, err_of, stand_after, memory_wanting}
 use Rattle.mc_core.proofs.WorldSteps.{not_wanting}
 use Rattle.mc_core.proofs.parts.Parts.write.Goals as goal
@@ -112,3 +113,18 @@ returns-clause-refused g c = tt
 
 pub given_by-requires : goal.given_by-requires
 given_by-requires g c = omega (arith, c.args.self.now.writer.table.most_words)
+
+pub overflow_add-self : goal.overflow_add-self
+overflow_add-self g c = let within = (c.if-not-is_within.ensures {u = tt}).0 refl in omega (arith, within.0)
+
+pub invariant_of-self : goal.invariant_of-self
+invariant_of-self g c =
+    let world = c.args.self.now in
+    let err = err_of c.make.result _ (sym c.is_err.ensures.value ∙ c.if-is_err.true) c.make.ensures.err in
+    record { marked = world.marked ∙ ap (λ (t : Table g.row.V). (shape_of_table t).items) (sym err.0.table); countable = world.countable }
+
+pub invariant_of-self-2 : goal.invariant_of-self-2
+invariant_of-self-2 g c =
+    let world = c.args.self.now in
+    let made = ok_of c.make.result _ (sym c.is_err.ensures.value ∙ c.if-is_err.false) c.make.ensures.ok in
+    record { marked = c.mark.ensures.many ∙ world.marked ∙ ap (λ (y : Checked). (shape_of y).items) (sym made.shape); countable = world.countable }

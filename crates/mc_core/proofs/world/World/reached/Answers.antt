@@ -1,4 +1,5 @@
-use Rattle.std.proofs.Common.{◌≡◌, length, subst}
+use Rattle.std.proofs.Common.{◌≡◌, ◌+◌, ◌≤◌, length, subst, arith}
+use Rattle.mc_words.specs.Shapes.{IsShape}
 use Rattle.std.specs.Prelude.{All}
 use Rattle.mc_core.specs.Inside.Parts.{shape_of_parts, view_of}
 use Rattle.mc_core.specs.Seen.{WorldView, Shows}
@@ -26,3 +27,9 @@ returns-clause-items g c =
     let is = c.self.invariant in
     let p = c.self.inside.parts in
     subst (λ (now : WorldView g.row.V). length now.bits ≡ now.shape.items) c.self.view_is (bits_now g.row.V (view_of {V = g.row.V} p) is.seen is.stand.shows is.reached).0
+
+pub returns-clause-shape : goal.returns-clause-shape
+returns-clause-shape g c = subst (λ (now : WorldView g.row.V). IsShape now.shape) c.self.view_is c.self.inside.parts.writer.table.checked.sound
+
+pub returns-clause-limit : goal.returns-clause-limit
+returns-clause-limit g c = subst (λ (now : WorldView g.row.V). now.state.version_steps ≤ now.shape.limit) c.self.view_is (omega (arith, c.self.invariant.stand.within))
