@@ -23,7 +23,8 @@ use Rattle.mc_theory.proofs.Invariant.EachState.{zeros}
 use Rattle.mc_theory.proofs.Invariant.Limits.{within_after}
 use Rattle.mc_shared.specs.declared.layout.Layout.{Layout}
 use Rattle.mc_shared.specs.Views.{writer_view, acts_of, tally_of, layout_state, with_bit}
-use Rattle.mc_shared.specs.Steps.{SeatView, IsPlain}
+use Rattle.mc_shared.specs.Steps.{SeatView}
+use Rattle.mc_shared.specs.Inside.Steps.{IsPlain}
 use Rattle.mc_shared.specs.Inside.Seats.{MayMake}
 use Rattle.mc_shared.specs.Inside.Seats.{RunsAt, IsWriter}
 

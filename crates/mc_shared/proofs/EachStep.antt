@@ -1,5 +1,5 @@
 -- Each step keeps the rule of the table.
-use Rattle.std.proofs.Common.{◌≡◌, Bool, ℕ, zero, suc, ◌+◌, ◌<◌, ◌≤◌, ◌≢◌, eqb, eq-eqb, ne_eqb, List, [], ◌∷◌, ◌++◌, length, get_or, set, refl, ap, sym, ◌∙◌, subst, ⊎_elim, arith, length-set, length-append, get_or-set_other, get_or-set_same, Some}
+use Rattle.std.proofs.Common.{◌≡◌, Bool, ℕ, zero, suc, ◌+◌, ◌<◌, ◌≢◌, eqb, eq-eqb, ne_eqb, List, [], ◌∷◌, ◌++◌, length, get_or, set, refl, ap, sym, ◌∙◌, subst, ⊎_elim, arith, length-set, length-append, get_or-set_other, get_or-set_same, Some}
 use Rattle.std.specs.Prelude.{replicate, if◌then◌else◌}
 use Rattle.std.proofs.lemmas.List.{length-replicate}
 use mathlib.Core.Logic.{dite}
@@ -25,22 +25,23 @@ use Rattle.mc_theory.specs.Writes.{place_read}
 use Rattle.mc_theory.specs.declared.access.Access.{Access}
 use Rattle.mc_theory.specs.declared.access.Access.TheVariants as access
 use Rattle.mc_theory.specs.declared.act.Act.{Act}
-use Rattle.mc_theory.specs.declared.act.Act.TheVariants.{Open, Slot, Item, Moment, Close, Hand, Mark}
+use Rattle.mc_theory.specs.declared.act.Act.TheVariants.{Hand, Mark}
 use Rattle.mc_theory.proofs.Lists.Bounds.{state_length}
 use Rattle.mc_theory.proofs.Lists.Fronts.{lawful_none, lawful_push, state_none}
 use Rattle.mc_theory.proofs.Invariant.EachState.{zeros}
 use Rattle.mc_theory.proofs.Lists.WrittenWords.{reads_its_word}
 use Rattle.mc_shared.specs.declared.layout.Layout.{Layout}
-use Rattle.mc_shared.specs.RecencyTrace.{Trace, trace_swept, trace_marked, new_trace, trace_after, trace_of, marks_in, is_mark_of, total, Coherent}
-use Rattle.mc_shared.specs.Views.{Role, Spent, Writes, Reads, Both, View, view_as, writer_view, reader_view, new_writer_view, spent_view, acts_of, tally_of, front_of, done_of, AreLawful, layout_state, with_bit, IsFrontOf}
+use Rattle.mc_shared.specs.RecencyTrace.{Trace, new_trace, trace_after, trace_of, marks_in, is_mark_of, total, Coherent}
+use Rattle.mc_shared.specs.Views.{Role, Spent, Writes, Reads, Both, View, view_as, writer_view, reader_view, new_writer_view, spent_view, acts_of, tally_of, front_of, done_of, layout_state, with_bit, IsFrontOf}
 use Rattle.mc_shared.specs.TableRule.{word_after, IsRecord, FitsRole, Fits, AllFit, marks_of, bit_in, Ruled}
-use Rattle.mc_shared.specs.Steps.{SeatView, WritesAt, only, all_but, IsOffBits, bit_of, AddsAct, AddsActIfSet, FetchesWord, reading, ReadsOne, ReadsWord, mark_at, AddsMark, with_mark, AddsMarkIfSet, ComparesMoment, new_reader_view, joined_view, writer_part, reader_part}
+use Rattle.mc_shared.specs.Steps.{SeatView, bit_of, AddsAct, AddsActIfSet, FetchesWord, reading, ReadsWord, mark_at, AddsMark, AddsMarkIfSet, ComparesMoment, new_reader_view, joined_view, writer_part, reader_part}
+use Rattle.mc_shared.specs.Inside.Steps.{WritesAt, only, all_but}
 use Rattle.mc_shared.specs.Inside.Seats.{MayMake}
-use Rattle.mc_shared.specs.Inside.Seats.{IsReader}
-use Rattle.mc_shared.proofs.WrittenPlaces.{act_names_in, write_low, place_below, word_written}
-use Rattle.mc_shared.proofs.PackedBits.{bit_low, recency_below, Spares, or_here, or_spares, and_here, and_spares, or_same, bit_elsewhere, bit_there, bit_spared}
-use Rattle.mc_shared.proofs.Coherence.{trace-push, coherent_swept, coherent_touched, coherent_marked, marks_in-push, total_set, total_push}
+use Rattle.mc_shared.proofs.WrittenPlaces.{act_names_in, place_below, word_written}
+use Rattle.mc_shared.proofs.PackedBits.{bit_low, recency_below, or_here, or_spares, and_spares, or_same, bit_there, bit_spared}
+use Rattle.mc_shared.proofs.Coherence.{trace-push, coherent_marked, marks_in-push, total_set, total_push}
 use Rattle.mc_shared.proofs.ReaderRecords.{front_self, front_none, front_push, record_none, record_longer, record_read, record_mark}
+use Rattle.mc_shared.proofs.RecencySteps.{StepBits, StepPast, spared_past, hand_bits, touch_bits, sum_at, sum_here}
 
 pub fits_set : (l : Layout) (log : List Made) (sums : List ℕ) (at id : ℕ) (views : List View) (w : View) → ((j : ℕ) (u : View) → j ≢ id → get_elem? views j ≡ some u → Fits l log sums at j u) → Fits l log sums at id w → AllFit l log sums at (set views id w)
 fits_set l log sums at id views w others mine j u e =
@@ -59,92 +60,6 @@ grows l own log sums m n at j ne (Both acts tally front done) f = absurd (ne f.1
 -- a view with as many marks in the place of another
 same_marks : (i id : ℕ) (views : List View) (v w : View) → get_elem? views id ≡ some v → marks_in i (done_of w) ≡ marks_in i (done_of v) → marks_of i (set views id w) ≡ marks_of i views
 same_marks i id views v w at e = let t = total_set (λ (u : View). marks_in i (done_of u)) views id v w at in omega arith
-
--- ---- what an act owes of the recency bits, where the word at its place becomes f of what it was
-abbrev pub StepBits : Layout → Act → ℕ → (ℕ → ℕ) → (ℕ → ℕ) → Type 0
-StepBits l a n f g =
-    (t : Trace) (words : List ℕ) → n < length words → (k many : ℕ) → Coherent t many (bit_in l words k)
-    → Coherent (trace_after k t a (bit_of a (g (get_or words n 0))) many) many (bit_in l (set words n (f (get_or words n 0))) k)
-
--- bits past the last item stay
-abbrev pub StepPast : Layout → ℕ → (ℕ → ℕ) → Type 0
-StepPast l n f = (words : List ℕ) → n < length words → (k : ℕ) → l.shape.items ≤ k → bit_in l (set words n (f (get_or words n 0))) k ≡ bit_in l words k
-
--- a step at a word that is no recency word
-low_bits : (l : Layout) (a : Act) (n x : ℕ) (g : ℕ → ℕ) → ((t : Trace) (k bit many : ℕ) → trace_after k t a bit many ≡ t) → n < word_count l.width l.shape → StepBits l a n (λ _. x) g
-low_bits l a n x g quiet low t words long k many c =
-    subst (λ (y : Trace × ℕ). Coherent y.0 many y.1) (λ i. (sym (quiet t k (bit_of a (g (get_or words n 0))) many) i, sym (bit_elsewhere l words n x k (λ e. omega (arith, e))) i)) c
-
-low_past : (l : Layout) (n x : ℕ) → n < word_count l.width l.shape → StepPast l n (λ _. x)
-low_past l n x low words long k past = bit_elsewhere l words n x k (λ e. omega (arith, e))
-
-pub store_bits : (l : Layout) (acts : List Made) (a : Act) (n x : ℕ) (g : ℕ → ℕ) → IsOffBits a → MayMake l acts a → WritesAt l acts a n x → StepBits l a n (λ _. x) g
-store_bits l acts (Open key d) n x g st may w = low_bits l (Open key d) n x g (λ t k bit many. refl) (write_low l acts (Open key d) n x may w)
-store_bits l acts (Slot p y) n x g st may w = low_bits l (Slot p y) n x g (λ t k bit many. refl) (write_low l acts (Slot p y) n x may w)
-store_bits l acts (Item i j y) n x g st may w = low_bits l (Item i j y) n x g (λ t k bit many. refl) (write_low l acts (Item i j y) n x may w)
-store_bits l acts Moment n x g st may w = low_bits l Moment n x g (λ t k bit many. refl) (write_low l acts Moment n x may w)
-store_bits l acts Close n x g st may w = low_bits l Close n x g (λ t k bit many. refl) (write_low l acts Close n x may w)
-store_bits l acts (Hand i) n x g st may w = absurd st
-store_bits l acts (Mark i) n x g st may w = absurd st
-
-pub store_past : (l : Layout) (acts : List Made) (a : Act) (n x : ℕ) → IsOffBits a → MayMake l acts a → WritesAt l acts a n x → StepPast l n (λ _. x)
-store_past l acts (Open key d) n x st may w = low_past l n x (write_low l acts (Open key d) n x may w)
-store_past l acts (Slot p y) n x st may w = low_past l n x (write_low l acts (Slot p y) n x may w)
-store_past l acts (Item i j y) n x st may w = low_past l n x (write_low l acts (Item i j y) n x may w)
-store_past l acts Moment n x st may w = low_past l n x (write_low l acts Moment n x may w)
-store_past l acts Close n x st may w = low_past l n x (write_low l acts Close n x may w)
-store_past l acts (Hand i) n x st may w = absurd st
-store_past l acts (Mark i) n x st may w = absurd st
-
--- a step on the bit of an item leaves the bits past the last one
-pub spared_past : (l : Layout) (i : ℕ) (f : ℕ → ℕ) → i < l.shape.items → Spares (recency_bit i) f → StepPast l (recency_place l.width l.shape i) f
-spared_past l i f within spares words long k past = bit_spared l words i k f spares (λ e. omega (arith, e)) long
-
--- the hand clears the bit of its item
-pub hand_bits : (l : Layout) (i : ℕ) → StepBits l (Hand i) (recency_place l.width l.shape i) (λ w. bit_and w (all_but i)) (λ w. w)
-hand_bits l i t words long k many c =
-    let n : ℕ = recency_place l.width l.shape i in
-    let w : ℕ = get_or words n 0 in
-    let f : ℕ → ℕ = λ w. bit_and w (all_but i) in
-    let told : ℕ = bit_at w (recency_bit i) in
-    dite (ℕ_discrete i k)
-    (λ same. subst (λ (j : ℕ). Coherent t many (bit_in l words j) → Coherent (trace_after j t (Hand i) told many) many (bit_in l (set words n (f w)) j)) same
-    (λ h. subst (λ (y : Bool × ℕ). Coherent (if y.0 then trace_swept t told many else t) many y.1)
-    (λ z. (sym (eq-eqb i i refl) z, sym (bit_there l words i (f w) long ∙ and_here (recency_bit i) w (bit_low i)) z))
-    (coherent_swept t many told h)) c)
-    (λ ne. subst (λ (y : Bool × ℕ). Coherent (if y.0 then trace_swept t told many else t) many y.1)
-    (λ z. (sym (ne_eqb i k ne) z, sym (bit_spared l words i k f (and_spares (recency_bit i) (bit_low i)) ne long) z)) c)
-
--- the writer's mark sets it
-pub touch_bits : (l : Layout) (i : ℕ) → StepBits l (Mark i) (recency_place l.width l.shape i) (λ w. bit_or w (only i)) (λ w. w)
-touch_bits l i t words long k many c =
-    let n : ℕ = recency_place l.width l.shape i in
-    let w : ℕ = get_or words n 0 in
-    let f : ℕ → ℕ = λ w. bit_or w (only i) in
-    dite (ℕ_discrete i k)
-    (λ same. subst (λ (j : ℕ). Coherent t many (bit_in l words j) → Coherent (trace_after j t (Mark i) 0 many) many (bit_in l (set words n (f w)) j)) same
-    (λ h. subst (λ (y : Bool × ℕ). Coherent (if y.0 then trace_marked t else t) many y.1)
-    (λ z. (sym (eq-eqb i i refl) z, sym (bit_there l words i (f w) long ∙ or_here (recency_bit i) w (bit_low i)) z))
-    (coherent_touched t many (bit_at w (recency_bit i)) h)) c)
-    (λ ne. subst (λ (y : Bool × ℕ). Coherent (if y.0 then trace_marked t else t) many y.1)
-    (λ z. (sym (ne_eqb i k ne) z, sym (bit_spared l words i k f (or_spares (recency_bit i) (bit_low i)) ne long) z)) c)
-
--- how many marks of its item the hand meets
-abbrev pub sum_at : Act → List View → ℕ
-sum_at (Hand i) views = marks_of i views
-sum_at _ views = 0
-
--- what the tally has for another item says nothing of this one
-sum_here : (k : ℕ) (t : Trace) (a : Act) (bit : ℕ) (views : List View) → trace_after k t a bit (sum_at a views) ≡ trace_after k t a bit (marks_of k views)
-sum_here k t (Open key d) bit views = refl
-sum_here k t (Slot p y) bit views = refl
-sum_here k t (Item i j y) bit views = refl
-sum_here k t Moment bit views = refl
-sum_here k t Close bit views = refl
-sum_here k t (Mark i) bit views = refl
-sum_here k t (Hand i) bit views = dite (ℕ_discrete i k)
-    (λ (e : i ≡ k). ap (λ (j : ℕ). if eqb i k then trace_swept t bit (marks_of j views) else t) e)
-    (λ ne. subst (λ (b : Bool). (if b then trace_swept t bit (marks_of i views) else t) ≡ (if b then trace_swept t bit (marks_of k views) else t)) (sym (ne_eqb i k ne)) refl)
 
 -- ---- a new table
 opening_zero : (V : ℕ) (sh : Shape) (n : ℕ) → get_or (states.opening V sh).words n 0 ≡ 0
@@ -460,42 +375,3 @@ module _ (key l : Layout) (key-is : key ≡ l) (id : ℕ) where
   pub joins_as : (other : ℕ) (v w : View) → v ≡ writer_view l (acts_of v) (tally_of v) → w ≡ reader_view l (front_of w) (done_of w) → Joins (Ruled key) id v other w (joined_view v w) spent_view
   joins_as other v w is is' = subst (λ (k : Layout). Joins (Ruled k) id v other w (joined_view v w) spent_view) (sym key-is)
       (subst (λ (x : View × View). Joins (Ruled l) id x.0 other x.1 (joined_view x.0 x.1) spent_view) (λ i. (sym is i, sym is' i)) (joins_reader l id other (acts_of v) (tally_of v) (front_of w) (done_of w)))
-
--- what the writer's seat is once a reader was joined to it
-pub met_is : (l : Layout) (me me' : SeatView) (w : View) → me ≡ (writer_view l (acts_of me.0) (tally_of me.0), []) → me' ≡ (joined_view me.0 w, me.1) → me' ≡ (view_as l (Both (acts_of me'.0) (tally_of me'.0) (front_of me'.0) (done_of me'.0)), [])
-met_is l me me' w is now' =
-    let layout : me.0.layout ≡ l = ap (λ (m : SeatView). m.0.layout) is in
-    let empty : me.1 ≡ [] = ap (λ (m : SeatView). m.1) is in
-    subst (λ (x : SeatView). x ≡ (view_as l (Both (acts_of x.0) (tally_of x.0) (front_of x.0) (done_of x.0)), [])) (sym now') (λ i. (view_as (layout i) (Both (acts_of me.0) (tally_of me.0) (front_of w) (done_of w)), empty i))
-
--- what a mark leaves
-pub marked_is : (l : Layout) (me mid me' : SeatView) (i j : ℕ) → i ≡ j → mid ≡ me → me ≡ (reader_view l (front_of me.0) (done_of me.0), []) → me' ≡ with_mark i mid → me' ≡ (reader_view l (front_of me.0) (done_of me.0 ++ mark_at j (front_of me.0) ∷ []), [])
-marked_is l me mid me' i j same still is e = e ∙ (ap (with_mark i) still ∙ (λ z. (reader_view (ap (λ (m : SeatView). m.0.layout) is z) (front_of me.0) (done_of me.0 ++ mark_at (same z) (front_of me.0) ∷ []), ap (λ (m : SeatView). m.1) is z)))
-
--- what is known of a reader's badge after a mark
-pub marked_as : (l : Layout) (views views' : List View) (v v' : View) (i : ℕ) → IsReader views → views ≡ v ∷ [] → v.layout ≡ l → v' ≡ reader_view l (front_of v) (done_of v ++ mark_at i (front_of v) ∷ []) → views' ≡ v' ∷ [] → IsReader views'
-marked_as l views views' v v' i mine is layout now' is' =
-    let h : IsReader (v ∷ []) = subst IsReader is mine in
-    let lawful : AreLawful l (front_of v) = subst (λ (z : Layout). AreLawful z (front_of v)) layout h.lawful in
-    let r : IsRecord l (front_of v) (done_of v) = subst (λ (z : Layout). IsRecord z (front_of v) (done_of v)) layout h.recorded in
-    subst IsReader (sym is') (subst (λ (x : View). IsReader (x ∷ [])) (sym now') (record { seat = refl; lawful = lawful; recorded = record_mark l (front_of v) (done_of v) i r }))
-
-pub index_at : (xs : List ℕ) (i x : ℕ) → get_elem? xs i ≡ some x → x ≡ get_or xs i 0
-index_at [] i x e = absurd (some-ne-none x (sym e))
-index_at (y ∷ ys) zero x e = sym (some-injective _ _ e)
-index_at (y ∷ ys) (suc i) x e = index_at ys i x e
-
--- a new reader's badge
-pub new_reader : (l : Layout) (views : List View) (v : View) → views ≡ v ∷ [] → v ≡ reader_view l [] [] → IsReader views
-new_reader l views v is new = subst IsReader (sym (is ∙ ap (λ (x : View). x ∷ []) new)) (record { seat = refl; lawful = lawful_none l.width l.shape; recorded = record_none l [] })
-
--- how many words a table of the layout has
-abbrev pub all_of : Layout → ℕ
-all_of l = all_words l.width l.shape
-
--- what a reading leaves
-pub read_seat : (l : Layout) (me me' : SeatView) → me ≡ (reader_view l (front_of me.0) (done_of me.0), []) → me' ≡ (reader_view me.0.layout (front_of me'.0) (done_of me'.0), me.1) → me' ≡ (reader_view l (front_of me'.0) (done_of me'.0), [])
-read_seat l me me' is e = e ∙ (λ i. (reader_view (ap (λ (m : SeatView). m.0.layout) is i) (front_of me'.0) (done_of me'.0), ap (λ (m : SeatView). m.1) is i))
-
-pub read_one : (l : Layout) (me me' : SeatView) (a b : Access) (x : ℕ) → a ≡ b → me ≡ (reader_view l (front_of me.0) (done_of me.0), []) → ReadsOne me.0.layout (front_of me.0) (done_of me.0) a x (front_of me'.0) (done_of me'.0) → ReadsOne l (front_of me.0) (done_of me.0) b x (front_of me'.0) (done_of me'.0)
-read_one l me me' a b x same is r = subst (λ (y : Layout × Access). ReadsOne y.0 (front_of me.0) (done_of me.0) y.1 x (front_of me'.0) (done_of me'.0)) (λ i. (ap (λ (m : SeatView). m.0.layout) is i, same i)) r

@@ -17,7 +17,8 @@ use Rattle.mc_shared.specs.declared.layout.Layout.{Layout}
 use Rattle.mc_shared.specs.Records.{Opening, WriterRecord, writer_record}
 use Rattle.mc_shared.specs.Inside.Seats.{opening_of}
 use Rattle.mc_shared.specs.Views.{writer_view, acts_of, tally_of, layout_state, with_bit, layout_of}
-use Rattle.mc_shared.specs.Steps.{SeatView, WritesAt, IsOffBits, IsPlain, bit_of}
+use Rattle.mc_shared.specs.Steps.{SeatView, bit_of}
+use Rattle.mc_shared.specs.Inside.Steps.{WritesAt, IsOffBits, IsPlain}
 use Rattle.mc_shared.specs.Inside.Seats.{MayMake}
 use Rattle.mc_shared.specs.TableRule.{word_after}
 use Rattle.mc_shared.specs.SeatFacts.{IsRun}

@@ -13,7 +13,7 @@ use Rattle.mc_theory.proofs.Lists.Fronts.{state_push}
 use Rattle.mc_theory.proofs.Lists.WrittenWords.{writes_its_word, acts_name_the_table}
 use Rattle.mc_shared.specs.declared.layout.Layout.{Layout}
 use Rattle.mc_shared.specs.Views.{layout_state, with_bit}
-use Rattle.mc_shared.specs.Steps.{WritesAt}
+use Rattle.mc_shared.specs.Inside.Steps.{WritesAt}
 use Rattle.mc_shared.specs.Inside.Seats.{MayMake}
 use Rattle.mc_shared.proofs.PackedBits.{recency_below}
 

@@ -1,8 +1,6 @@
 -- What a clause sees of a table and of its seats.
-use Rattle.std.specs.Prelude.{◌≡◌, List}
+use Rattle.std.specs.Prelude.{List}
 use Rattle.atomic_table.specs.Seated.{TableId}
-use Rattle.mc_words.specs.Places.{all_words, IsWidth}
-use Rattle.mc_words.specs.Shapes.{IsShape}
 use Rattle.mc_theory.specs.Lists.{Made}
 use Rattle.mc_theory.specs.Readings.{Reading}
 use Rattle.mc_shared.specs.declared.layout.Layout.{Layout}

@@ -1,20 +1,17 @@
 -- What each step on a seat tells: what is written where, and what the seat's view is after it.
-use Rattle.std.specs.Prelude.{◌≡◌, ℕ, ◌-◌, ◌^◌, ◌≤◌, List, [], ◌∷◌, ◌++◌, length, Some}
+use Rattle.std.specs.Prelude.{◌≡◌, ℕ, List, [], ◌∷◌, ◌++◌, length, Some}
 use Rattle.std.specs.Int.{bit_at}
 use Rattle.atomic_table.specs.Table.{Me, Step}
-use Rattle.mc_words.specs.Places.{recency_place}
 use Rattle.mc_words.specs.Recency.{recency_bit}
-use Rattle.mc_words.specs.Shapes.{IsShape}
-use Rattle.mc_theory.specs.Acts.{IsAllowed}
 use Rattle.mc_theory.specs.Lists.{Made}
 use Rattle.mc_theory.specs.Readings.{Reading}
-use Rattle.mc_theory.specs.Writes.{write_of, place_read}
+use Rattle.mc_theory.specs.Writes.{place_read}
 use Rattle.mc_theory.specs.declared.access.Access.{Access}
 use Rattle.mc_theory.specs.declared.access.Access.TheVariants as access
 use Rattle.mc_theory.specs.declared.act.Act.{Act}
-use Rattle.mc_theory.specs.declared.act.Act.TheVariants.{Slot, Item, Hand, Mark}
+use Rattle.mc_theory.specs.declared.act.Act.TheVariants.{Hand, Mark}
 use Rattle.mc_shared.specs.TableRule.{word_after, IsRecord}
-use Rattle.mc_shared.specs.Views.{Both, View, view_as, writer_view, reader_view, acts_of, tally_of, front_of, done_of, AreLawful, layout_state, with_bit, IsFrontOf}
+use Rattle.mc_shared.specs.Views.{Both, View, view_as, writer_view, reader_view, acts_of, tally_of, front_of, done_of, AreLawful, with_bit, IsFrontOf}
 use Rattle.mc_shared.specs.declared.layout.Layout.{Layout}
 
 -- a seat's view, and the slots that it holds: none
@@ -22,37 +19,10 @@ abbrev pub SeatView : Type 0
 SeatView = Me (Unit {0}) View
 
 -- ---- the writer's steps
--- a word with the bit of the item alone, and one with all bits but that
-abbrev pub only : ℕ → ℕ
-only i = 2 ^ recency_bit i
-
-abbrev pub all_but : ℕ → ℕ
-all_but i = 2 ^ 64 - 1 - only i
-
--- the word at which an act is made, and what it writes there: of a recency word, which bits are kept by an `and`, or set by an `or`
-abbrev pub WritesAt : Layout → List Made → Act → ℕ → ℕ → Type 0
-WritesAt l acts (Hand i) n x = (n ≡ recency_place l.width l.shape i) × (x ≡ all_but i)
-WritesAt l acts (Mark i) n x = (n ≡ recency_place l.width l.shape i) × (x ≡ only i)
-WritesAt l acts a n x = write_of l.width l.shape (layout_state l acts).words (layout_state l acts).phase a ≡ Some (n, x)
-
 -- the act is none of the hand
 abbrev pub IsStored : Act → Type 0
 IsStored (Hand i) = ⊥
 IsStored _ = Unit {0}
-
--- the act is on no recency bit
-abbrev pub IsOffBits : Act → Type 0
-IsOffBits (Hand i) = ⊥
-IsOffBits (Mark i) = ⊥
-IsOffBits _ = Unit {0}
-
--- the act changes neither the moment nor a version
-abbrev pub IsPlain : Act → Type 0
-IsPlain (Slot p x) = Unit {0}
-IsPlain (Item i j x) = Unit {0}
-IsPlain (Hand i) = Unit {0}
-IsPlain (Mark i) = Unit {0}
-IsPlain _ = ⊥
 
 -- the bit that an act read: only the hand reads one
 abbrev pub bit_of : Act → ℕ → ℕ

@@ -35,7 +35,7 @@ fn catch_on_seats(
 
 /// Shows the reader all acts of the writer, and gives the moment.
 #[tactic(auto, unfolding(mc_words::specs::Places::moment))]
-pub fn catch_up(ruled: &RuledWords, reader: &mut ReaderSeat, writer: &mut WriterSeat) -> u64
+pub(crate) fn catch_up(ruled: &RuledWords, reader: &mut ReaderSeat, writer: &mut WriterSeat) -> u64
     requires of { (reader.old.of ≡ ruled.now) × (writer.old.of ≡ ruled.now) }
     ensures writer { writer.new ≡ writer.old }
     ensures reader { reader.new ≡ reader_record reader.old.of writer.old.acts reader.old.done }

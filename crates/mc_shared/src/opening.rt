@@ -67,7 +67,7 @@ fn lay(
 }
 
 /// A table with empty records, and as many readers' seats as are asked for.
-pub fn open_words(
+pub(crate) fn open_words(
     alloc: Global,
     layout: Layout,
     words: usize,
@@ -91,7 +91,7 @@ pub fn open_words(
 }
 
 /// The words at the end, those of recency left aside.
-pub fn close_words(ruled: RuledWords, writer: WriterSeat, readers: Vec<ReaderSeat>) -> Words
+pub(crate) fn close_words(ruled: RuledWords, writer: WriterSeat, readers: Vec<ReaderSeat>) -> Words
     requires { writer.of ≡ ruled }
     ensures length { length result ≡ all_words ruled.layout.width ruled.layout.shape }
     ensures words { (n : ℕ) → n < word_count ruled.layout.width ruled.layout.shape → slice_index result n ≡ word_after ruled.layout writer.acts n }

@@ -37,7 +37,12 @@ fn load_as_reader<J: NamesAccess>(
 }
 
 /// A reading of the place of an access.
-pub fn read_word(ruled: &RuledWords, reader: &mut ReaderSeat, access: Access, place: usize) -> u64
+pub(crate) fn read_word(
+    ruled: &RuledWords,
+    reader: &mut ReaderSeat,
+    access: Access,
+    place: usize,
+) -> u64
     requires of { reader.old.of ≡ ruled.now }
     requires place { place_read ruled.now.layout.width ruled.now.layout.shape access ≡ Some place }
     requires range { place < word_count ruled.now.layout.width ruled.now.layout.shape }
@@ -97,7 +102,13 @@ fn notice_as_reader<J: NamesItem>(
 }
 
 /// Marks an item, whose recency bit is this one of the word at this place.
-pub fn mark_item(ruled: &RuledWords, reader: &mut ReaderSeat, item: u32, place: usize, bit: u8)
+pub(crate) fn mark_item(
+    ruled: &RuledWords,
+    reader: &mut ReaderSeat,
+    item: u32,
+    place: usize,
+    bit: u8,
+)
     requires of { reader.old.of ≡ ruled.now }
     requires item { item < ruled.now.layout.shape.items }
     requires place { place ≡ recency_place ruled.now.layout.width ruled.now.layout.shape item }
@@ -110,7 +121,7 @@ pub fn mark_item(ruled: &RuledWords, reader: &mut ReaderSeat, item: u32, place: 
 }
 
 /// The same, with nothing written where the bit is set already.
-pub fn mark_item_unless_set(
+pub(crate) fn mark_item_unless_set(
     ruled: &RuledWords,
     reader: &mut ReaderSeat,
     item: u32,

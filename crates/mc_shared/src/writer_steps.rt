@@ -9,7 +9,7 @@ ghost use Rattle.mc_theory.specs.Writes.{write_of};
 ghost use Rattle.mc_theory.specs.declared.act.Act.TheVariants.{Open, Moment, Close, Hand, Mark};
 ghost use Rattle.mc_shared.specs.Views.{writer_view, acts_of, tally_of, layout_state, with_bit};
 ghost use Rattle.mc_shared.specs.TableRule.{word_after};
-ghost use Rattle.mc_shared.specs.Steps.{WritesAt, IsOffBits, IsPlain};
+ghost use Rattle.mc_shared.specs.Inside.Steps.{WritesAt, IsOffBits, IsPlain};
 ghost use Rattle.mc_shared.specs.Inside.Seats.{MayMake};
 ghost use Rattle.mc_shared.specs.Records.{writer_record};
 ghost use Rattle.mc_shared.specs.Inside.Seats.{opening_of};
@@ -33,7 +33,7 @@ fn load_as_writer(ruled: &RuledWords, seat: &mut Seat<(), Known>, place: usize) 
 }
 
 /// A load by the writer, which changes no record.
-pub fn fetch_word(ruled: &RuledWords, writer: &mut WriterSeat, place: usize) -> u64
+pub(crate) fn fetch_word(ruled: &RuledWords, writer: &mut WriterSeat, place: usize) -> u64
     requires of { writer.old.of ≡ ruled.now }
     requires place { place < word_count ruled.now.layout.width ruled.now.layout.shape }
     ensures writer { writer.new ≡ writer.old }
@@ -136,7 +136,13 @@ fn notice_as_writer<J: NamesAct>(
 }
 
 /// An act that writes this word at this place, and changes neither the moment nor a version.
-pub fn write_word(ruled: &RuledWords, writer: &mut WriterSeat, act: Act, place: usize, word: u64)
+pub(crate) fn write_word(
+    ruled: &RuledWords,
+    writer: &mut WriterSeat,
+    act: Act,
+    place: usize,
+    word: u64,
+)
     requires of { writer.old.of ≡ ruled.now }
     requires plain { IsPlain act × IsOffBits act }
     requires allowed { IsAllowed ruled.now.layout.shape (layout_state ruled.now.layout writer.old.acts) act }
@@ -147,7 +153,13 @@ pub fn write_word(ruled: &RuledWords, writer: &mut WriterSeat, act: Act, place: 
 }
 
 /// Opens a deed. The key's version lies at this place.
-pub fn open_deed(ruled: &RuledWords, writer: &mut WriterSeat, key: u64, deed: Deed, place: usize)
+pub(crate) fn open_deed(
+    ruled: &RuledWords,
+    writer: &mut WriterSeat,
+    key: u64,
+    deed: Deed,
+    place: usize,
+)
     requires of { writer.old.of ≡ ruled.now }
     requires allowed { IsAllowed ruled.now.layout.shape (layout_state ruled.now.layout writer.old.acts) (Open key deed) }
     requires limit { HasVersionSteps ruled.now.layout.shape.limit (layout_state ruled.now.layout writer.old.acts).version_steps (Open key deed) }
@@ -161,7 +173,7 @@ pub fn open_deed(ruled: &RuledWords, writer: &mut WriterSeat, key: u64, deed: De
 }
 
 /// Counts the change of the deed.
-pub fn count_change(ruled: &RuledWords, writer: &mut WriterSeat)
+pub(crate) fn count_change(ruled: &RuledWords, writer: &mut WriterSeat)
     requires of { writer.old.of ≡ ruled.now }
     requires allowed { IsAllowed ruled.now.layout.shape (layout_state ruled.now.layout writer.old.acts) Moment }
     ensures { writer.new ≡ writer_record writer.old.of (writer.old.acts ++ with_bit Moment 0 ∷ []) }
@@ -172,7 +184,7 @@ pub fn count_change(ruled: &RuledWords, writer: &mut WriterSeat)
 }
 
 /// Closes the deed that runs.
-pub fn close_deed(ruled: &RuledWords, writer: &mut WriterSeat)
+pub(crate) fn close_deed(ruled: &RuledWords, writer: &mut WriterSeat)
     requires of { writer.old.of ≡ ruled.now }
     requires allowed { IsAllowed ruled.now.layout.shape (layout_state ruled.now.layout writer.old.acts) Close }
     ensures { writer.new ≡ writer_record writer.old.of (writer.old.acts ++ with_bit Close 0 ∷ []) }
@@ -182,7 +194,7 @@ pub fn close_deed(ruled: &RuledWords, writer: &mut WriterSeat)
 }
 
 /// Reads the bit of the item at which the hand stands, and clears it.
-pub fn sweep_word(
+pub(crate) fn sweep_word(
     ruled: &RuledWords,
     writer: &mut WriterSeat,
     item: u32,
@@ -199,7 +211,13 @@ pub fn sweep_word(
 }
 
 /// Sets the bit of an item.
-pub fn mark_word(ruled: &RuledWords, writer: &mut WriterSeat, item: u32, place: usize, bit: u8)
+pub(crate) fn mark_word(
+    ruled: &RuledWords,
+    writer: &mut WriterSeat,
+    item: u32,
+    place: usize,
+    bit: u8,
+)
     requires of { writer.old.of ≡ ruled.now }
     requires allowed { IsAllowed ruled.now.layout.shape (layout_state ruled.now.layout writer.old.acts) (Mark item) }
     requires place { place ≡ recency_place ruled.now.layout.width ruled.now.layout.shape item }
@@ -210,7 +228,7 @@ pub fn mark_word(ruled: &RuledWords, writer: &mut WriterSeat, item: u32, place: 
 }
 
 /// The same, with nothing written where the bit is set already.
-pub fn mark_unless_word_set(
+pub(crate) fn mark_unless_word_set(
     ruled: &RuledWords,
     writer: &mut WriterSeat,
     item: u32,

@@ -1,7 +1,8 @@
 use Rattle.std.proofs.Common.{◌≡◌, ap, sym, ◌∙◌, arith, Some}
 use Rattle.mc_theory.specs.Writes.{place_read}
 use Rattle.mc_shared.specs.Records.{Opening}
-use Rattle.mc_shared.proofs.EachStep.{reads_as, all_of, read_seat, read_one}
+use Rattle.mc_shared.proofs.EachStep.{reads_as}
+use Rattle.mc_shared.proofs.SeatViews.{all_of, read_seat, read_one}
 use Rattle.mc_shared.proofs.reader_steps.load_as_reader.Goals as goal
 
 pub load-requires : goal.load-requires

@@ -4,7 +4,7 @@ use Rattle.mc_shared.specs.Views.{View}
 use Rattle.mc_shared.specs.Steps.{SeatView}
 use Rattle.mc_shared.specs.Inside.Seats.{view_of}
 use Rattle.mc_shared.specs.Records.{Opening, ReaderRecord}
-use Rattle.mc_shared.proofs.EachStep.{marked_as}
+use Rattle.mc_shared.proofs.SeatViews.{marked_as}
 use Rattle.mc_shared.proofs.reader_steps.mark_item_unless_set.Goals as goal
 
 pub invariant_of-reader : goal.invariant_of-reader

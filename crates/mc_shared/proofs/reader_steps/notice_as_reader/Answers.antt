@@ -9,7 +9,8 @@ use Rattle.mc_shared.specs.Records.{Opening}
 use Rattle.mc_shared.specs.Steps.{SeatView, mark_at}
 use Rattle.mc_shared.proofs.PackedBits.{recency_below, bit_is}
 use Rattle.mc_shared.specs.Views.{reader_view, front_of, done_of}
-use Rattle.mc_shared.proofs.EachStep.{marked_is, notices_as, all_of}
+use Rattle.mc_shared.proofs.EachStep.{notices_as}
+use Rattle.mc_shared.proofs.SeatViews.{marked_is, all_of}
 use Rattle.mc_shared.proofs.reader_steps.notice_as_reader.Goals as goal
 
 pub load-found-requires : goal.load-found-requires

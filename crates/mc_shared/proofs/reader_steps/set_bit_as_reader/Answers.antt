@@ -4,9 +4,10 @@ use Rattle.atomic_table.specs.Table.{step}
 use Rattle.mc_words.specs.Places.{recency_place}
 use Rattle.mc_words.specs.Recency.{recency_bit}
 use Rattle.mc_shared.specs.Records.{Opening}
-use Rattle.mc_shared.specs.Steps.{only}
+use Rattle.mc_shared.specs.Inside.Steps.{only}
 use Rattle.mc_shared.proofs.PackedBits.{recency_below, shifted}
-use Rattle.mc_shared.proofs.EachStep.{marks_as, marked_is, all_of}
+use Rattle.mc_shared.proofs.EachStep.{marks_as}
+use Rattle.mc_shared.proofs.SeatViews.{marked_is, all_of}
 use Rattle.mc_shared.proofs.reader_steps.set_bit_as_reader.Goals as goal
 
 pub fetch_or-requires : goal.fetch_or-requires

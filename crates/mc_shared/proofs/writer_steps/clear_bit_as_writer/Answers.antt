@@ -3,12 +3,13 @@ use Rattle.std.specs.Int.{bit_at}
 use Rattle.std.proofs.lemmas.Nat.Bits.{shr_and_one}
 use Rattle.mc_theory.specs.declared.act.Act.TheVariants.{Hand}
 use Rattle.mc_shared.specs.Records.{Opening}
-use Rattle.mc_shared.specs.Steps.{all_but}
+use Rattle.mc_shared.specs.Inside.Steps.{all_but}
 use Rattle.mc_shared.specs.Inside.Seats.{MayMake}
 use Rattle.mc_shared.specs.Views.{acts_of}
 use Rattle.mc_shared.proofs.WrittenPlaces.{place_below}
 use Rattle.mc_shared.proofs.PackedBits.{shifted}
-use Rattle.mc_shared.proofs.EachStep.{hands_as, all_of}
+use Rattle.mc_shared.proofs.EachStep.{hands_as}
+use Rattle.mc_shared.proofs.SeatViews.{all_of}
 use Rattle.mc_shared.proofs.SeatSteps.{take_is}
 use Rattle.mc_shared.proofs.writer_steps.clear_bit_as_writer.Goals as goal
 

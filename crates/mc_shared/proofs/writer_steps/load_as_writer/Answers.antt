@@ -1,6 +1,7 @@
 use Rattle.std.proofs.Common.{ap, sym, ◌∙◌, arith}
 use Rattle.mc_shared.specs.Records.{Opening}
-use Rattle.mc_shared.proofs.EachStep.{looks_as, all_of}
+use Rattle.mc_shared.proofs.EachStep.{looks_as}
+use Rattle.mc_shared.proofs.SeatViews.{all_of}
 use Rattle.mc_shared.proofs.writer_steps.load_as_writer.Goals as goal
 
 pub load-requires : goal.load-requires

@@ -7,12 +7,14 @@ use Rattle.mc_theory.specs.declared.act.Act.{Act}
 use Rattle.mc_theory.specs.declared.act.Act.TheVariants.{Mark}
 use Rattle.mc_words.specs.Recency.{recency_bit}
 use Rattle.mc_shared.specs.Records.{Opening}
-use Rattle.mc_shared.specs.Steps.{SeatView, mark_bit, only}
+use Rattle.mc_shared.specs.Steps.{SeatView, mark_bit}
+use Rattle.mc_shared.specs.Inside.Steps.{only}
 use Rattle.mc_shared.specs.Inside.Seats.{MayMake}
 use Rattle.mc_shared.specs.Views.{writer_view, acts_of, tally_of, with_bit}
 use Rattle.mc_shared.proofs.PackedBits.{bit_is}
 use Rattle.mc_shared.proofs.WrittenPlaces.{place_below}
-use Rattle.mc_shared.proofs.EachStep.{remarks_as, all_of}
+use Rattle.mc_shared.proofs.EachStep.{remarks_as}
+use Rattle.mc_shared.proofs.SeatViews.{all_of}
 use Rattle.mc_shared.proofs.SeatSteps.{touch_is}
 use Rattle.mc_shared.proofs.writer_steps.notice_as_writer.Goals as goal
 

@@ -1,6 +1,7 @@
 use Rattle.std.proofs.Common.{arith, ◌+◌, [], ◌∷◌, ◌++◌, sym, ◌∙◌, subst}
 use Rattle.mc_theory.specs.declared.act.Act.TheVariants.{Open}
-use Rattle.mc_shared.specs.Steps.{SeatView, WritesAt}
+use Rattle.mc_shared.specs.Steps.{SeatView}
+use Rattle.mc_shared.specs.Inside.Steps.{WritesAt}
 use Rattle.mc_shared.specs.Views.{writer_view, acts_of, tally_of, with_bit}
 use Rattle.mc_shared.proofs.SeatSteps.{open_below, open_fits, open_at, after_open}
 use Rattle.mc_shared.proofs.writer_steps.open_deed.Goals as goal

@@ -1,12 +1,13 @@
 use Rattle.std.proofs.Common.{◌≡◌, ℕ, ◌*◌, ◌%◌, ◌^◌, ap, refl, sym, ◌∙◌}
 use Rattle.mc_theory.specs.declared.act.Act.TheVariants.{Mark}
 use Rattle.mc_shared.specs.Records.{Opening}
-use Rattle.mc_shared.specs.Steps.{only}
+use Rattle.mc_shared.specs.Inside.Steps.{only}
 use Rattle.mc_shared.specs.Inside.Seats.{MayMake}
 use Rattle.mc_shared.specs.Views.{acts_of}
 use Rattle.mc_shared.proofs.WrittenPlaces.{place_below}
 use Rattle.mc_shared.proofs.PackedBits.{shifted}
-use Rattle.mc_shared.proofs.EachStep.{touches_as, all_of}
+use Rattle.mc_shared.proofs.EachStep.{touches_as}
+use Rattle.mc_shared.proofs.SeatViews.{all_of}
 use Rattle.mc_shared.proofs.SeatSteps.{touch_is}
 use Rattle.mc_shared.proofs.writer_steps.set_bit_as_writer.Goals as goal
 

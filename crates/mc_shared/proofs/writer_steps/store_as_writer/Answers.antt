@@ -3,11 +3,13 @@ use mathlib.Core.Option.{none}
 use Rattle.atomic_table.specs.Table.{step}
 use Rattle.mc_theory.specs.declared.act.Act.{Act}
 use Rattle.mc_shared.specs.Records.{Opening}
-use Rattle.mc_shared.specs.Steps.{WritesAt, IsOffBits}
+use Rattle.mc_shared.specs.Inside.Steps.{WritesAt, IsOffBits}
 use Rattle.mc_shared.specs.Inside.Seats.{MayMake}
 use Rattle.mc_shared.specs.Views.{acts_of}
 use Rattle.mc_shared.proofs.WrittenPlaces.{place_below}
-use Rattle.mc_shared.proofs.EachStep.{makes_as, store_bits, store_past, all_of}
+use Rattle.mc_shared.proofs.EachStep.{makes_as}
+use Rattle.mc_shared.proofs.RecencySteps.{store_bits, store_past}
+use Rattle.mc_shared.proofs.SeatViews.{all_of}
 use Rattle.mc_shared.proofs.SeatSteps.{put_is}
 use Rattle.mc_shared.proofs.writer_steps.store_as_writer.Goals as goal
 

@@ -1,6 +1,6 @@
 use Rattle.std.proofs.Common.{List, ℕ, ap, ◌∙◌, get_or}
 use Rattle.std.specs.Slots.{slots_items}
-use Rattle.mc_shared.proofs.EachStep.{index_at}
+use Rattle.mc_shared.proofs.SeatViews.{index_at}
 use Rattle.mc_shared.proofs.words.Words.word.Goals as goal
 
 pub returns : goal.returns
