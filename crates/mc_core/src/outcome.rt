@@ -1,3 +1,4 @@
+//! What a list of events did.
 use mc_theory::{Done, Unlawful};
 
 /// What a list of events did.

@@ -1,3 +1,4 @@
+//! What the writer of a world has done of the deed that runs.
 use mc_words::Place;
 
 /// What the writer has done of a deed. The words that it wrote after a key stand beside it.

@@ -1,3 +1,4 @@
+//! The lookup that a reader of a world runs.
 use mc_lookup::Lookup;
 
 /// The lookup that a reader runs.

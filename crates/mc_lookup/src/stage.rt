@@ -1,3 +1,4 @@
+//! The stages of a lookup.
 /// Where a lookup stands: what it reads next.
 #[derive(Clone, Copy)]
 pub enum Stage {

@@ -1,4 +1,4 @@
-// The options of `mcload`.
+//! The options of `mcload`.
 ghost use Rattle.std.specs.Prelude.{◌≡◌, false, IfOk, MatchResult, map};
 ghost use Rattle.clap.specs.Words.{app_of, first_of, found_of, rows_of, rule_of};
 ghost use Rattle.mc_options.specs.Options.{AreMixes, MixNames, with_rules};

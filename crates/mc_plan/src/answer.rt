@@ -1,3 +1,4 @@
+//! The answers of the writer's calls.
 use thiserror::Error;
 
 /// What a `put` did. `at` is the moment of its change.

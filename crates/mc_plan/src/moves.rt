@@ -1,4 +1,4 @@
-// The acts of a move, and the moves of a whole path.
+//! The acts of a move, and the moves of a whole path.
 ghost use Rattle.std.specs.Prelude.{ℕ, ◌≡◌, ◌+◌, ◌*◌, ◌≤◌, ◌++◌, length};
 ghost use Rattle.arrayvec.specs.ArrayVec.{array_vec_len};
 ghost use Rattle.mc_words.specs.Chains.{IsChain};

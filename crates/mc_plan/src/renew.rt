@@ -1,4 +1,4 @@
-// The acts of a renewal.
+//! The acts of a renewal.
 ghost use Rattle.std.specs.Prelude.{◌≡◌, ◌+◌, ◌≤◌, ◌++◌, All};
 ghost use Rattle.arrayvec.specs.ArrayVec.{array_vec_len};
 ghost use Rattle.mc_words.specs.declared.shape.Shape.{Shape};

@@ -1,4 +1,4 @@
-// The acts of a removal and of an eviction.
+//! The acts of a removal and of an eviction.
 ghost use Rattle.std.specs.Prelude.{ℕ, ◌≡◌, ◌+◌, ◌≤◌, ◌++◌};
 ghost use Rattle.arrayvec.specs.ArrayVec.{array_vec_len};
 ghost use Rattle.mc_words.specs.declared.shape.Shape.{Shape};

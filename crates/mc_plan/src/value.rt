@@ -1,4 +1,4 @@
-// The words of a value, and their writes into an item.
+//! The words of a value, and their writes into an item.
 ghost use Rattle.std.specs.Prelude.{◌≡◌, ◌+◌, ◌≤◌, ◌++◌, All, length};
 ghost use Rattle.arrayvec.specs.ArrayVec.{array_vec_len};
 ghost use Rattle.mc_words.specs.History.{IsWord};

@@ -1,3 +1,4 @@
+//! The slots of a bucket: which is empty, and where the key of one may go.
 ghost use Rattle.std.specs.Prelude.{ℕ, ◌≡◌, ◌≢◌, ◌+◌, ◌*◌, ◌<◌, IfSome, MatchOption};
 ghost use Rattle.mc_words.specs.Checks.{shape_of};
 ghost use Rattle.mc_words.specs.Keys.{alternate, tag_in, NamesSome};

@@ -1,3 +1,4 @@
+//! A finder of least paths, and what it keeps between two searches.
 ghost use Rattle.std.specs.Prelude.{◌≡◌, ◌⊎◌, ◌<◌, IfOk, IfSome, IfNone};
 ghost use Rattle.mc_words.specs.Chains.{NoChain};
 ghost use Rattle.mc_words.specs.Checks.{shape_of};

@@ -1,4 +1,4 @@
-// All that a quiet table holds.
+//! All that a quiet table holds.
 ghost use Rattle.std.specs.Prelude.{ℕ, ◌≡◌, ◌<◌, List, Some, IfOk, IfSome, IfNone};
 ghost use Rattle.mc_words.specs.declared.history.Change.{Change};
 ghost use Rattle.mc_words.specs.Checks.{shape_of};

@@ -1,3 +1,4 @@
+//! A displacement path, and how it is cut.
 ghost use Rattle.std.specs.Prelude.{ℕ, ◌≡◌, ◌<◌, Some, Contains, IfNone, IfSome, List, slice_get, take};
 ghost use Rattle.mc_words.specs.declared.shape.Shape.{Shape};
 ghost use Rattle.mc_words.specs.Chains.{IsChain};

@@ -1,3 +1,4 @@
+//! The queue of a search, and the buckets that it has seen.
 ghost use Rattle.std.specs.Prelude.{ℕ, ◌≡◌, ◌<◌, ◌≤◌, List, [], length, vec_capacity};
 ghost use Rattle.mc_words.specs.declared.shape.Shape.{Shape};
 ghost use Rattle.mc_words.specs.Keys.{first_of, second_of};

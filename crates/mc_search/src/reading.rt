@@ -1,4 +1,4 @@
-// What the words of a quiet table say.
+//! What the words of a quiet table say.
 ghost use Rattle.std.specs.Prelude.{ℕ, ◌≡◌, ◌<◌, ◌≤◌, List, Some, None, length, IfSome, IfNone};
 ghost use Rattle.mc_words.specs.declared.history.Change.{Change};
 ghost use Rattle.mc_words.specs.Checks.{shape_of};

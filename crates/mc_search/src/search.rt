@@ -1,3 +1,4 @@
+//! The search for a least path, breadth first.
 ghost use Rattle.std.specs.Prelude.{ℕ, ◌≡◌, ◌+◌, ◌-◌, ◌^◌, ◌<◌, ◌≤◌, List, length, vec_capacity, Bool, IfSome, IfNone};
 ghost use Rattle.mc_words.specs.declared.place.Place.{Place};
 ghost use Rattle.mc_words.specs.declared.shape.Shape.{Shape};

@@ -1,3 +1,4 @@
+//! A reader's access: one atomic step of a lookup.
 use mc_words::Place;
 
 /// One atomic step of a reader.

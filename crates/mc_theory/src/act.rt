@@ -1,3 +1,4 @@
+//! The writer's acts, each one atomic step, and the deeds that they make.
 use mc_words::Place;
 
 /// What the writer does while the version of its key's stripe is odd.

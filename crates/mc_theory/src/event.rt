@@ -1,3 +1,4 @@
+//! Events of one writer and its readers, what each gives, and why one is refused.
 ghost use Rattle.std.specs.Prelude.{◌≡◌};
 ghost use Rattle.mc_theory.specs.Traces.{given_of};
 

@@ -1,3 +1,4 @@
+//! A shape that was checked: the parts of a key, the format of a slot word, the places of words.
 ghost use Rattle.mc_words.specs.Keys.{tag_of, first_of, offset_of, alternate, stripe_of, slot_word, tag_in, item_in, NamesSome, MatchesTag};
 ghost use Rattle.std.specs.Prelude.{ℕ, ◌≡◌, ◌≢◌, ◌+◌, ◌*◌, ◌^◌, ◌<◌, ◌≤◌};
 ghost use Rattle.mc_words.specs.Places.{slot_number, IsPlace, IsWidth, payload, word_count, all_words, version_place, slot_place, item_place, recency_place, PlacesApart};

@@ -1,3 +1,4 @@
+//! Changes of the map, and replies.
 /// One change of the map. The list of all changes since opening is the history, and its length is the moment.
 #[derive(Clone, Copy, Debug, PartialEq, Eq)]
 pub enum Change<const V: usize> {

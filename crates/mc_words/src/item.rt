@@ -1,3 +1,4 @@
+//! How many words an item keeps behind its key.
 ghost use Rattle.std.specs.Prelude.{◌≡◌, ◌≤◌};
 ghost use Rattle.mc_words.specs.Places.{IsWidth, payload, most_payload};
 

@@ -1,3 +1,4 @@
+//! How keys are mixed.
 ghost use Rattle.std.specs.Prelude.{◌≡◌, ◌/◌, ◌^◌};
 ghost use Rattle.mc_words.specs.Keys.{xor_shift, mixed_key};
 

@@ -1,3 +1,4 @@
+//! What a call answers that ran out of memory.
 use std::alloc::AllocError;
 use thiserror::Error;
 

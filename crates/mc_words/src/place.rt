@@ -1,3 +1,4 @@
+//! The place of a slot.
 /// A slot of the table: one of the four of a bucket.
 #[derive(Clone, Copy, Debug, Default, PartialEq, Eq)]
 pub struct Place {

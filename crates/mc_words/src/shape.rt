@@ -1,3 +1,4 @@
+//! The shape of a table, and its refusals.
 ghost use Rattle.std.specs.Prelude.{◌≡◌, ◌↔◌, ◌<◌, ◌^◌, MatchResult, IsTrue};
 ghost use Rattle.mc_words.specs.Shapes.{IsPower};
 

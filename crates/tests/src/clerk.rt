@@ -1,3 +1,4 @@
+//! Clerks over plain lists of words.
 ghost use Rattle.std.specs.Prelude.{◌≡◌, ◌+◌, ◌<◌, IfOk, IfSome, IsTrue, Some, slice_set, length};
 ghost use Rattle.mc_words.specs.Checks.{shape_of};
 ghost use Rattle.mc_theory.specs.Effects.{with_bump, words_after};

@@ -1,3 +1,4 @@
+//! Where keys stand, on tables of plain words.
 ghost use Rattle.std.specs.Prelude.{◌≡◌, ◌<◌, ◌≤◌, IsTrue, length};
 ghost use Rattle.mc_words.specs.Checks.{shape_of};
 ghost use Rattle.mc_words.specs.Places.{IsPlace, slot_number, item, word_count};

@@ -1,3 +1,4 @@
+//! The hand's way round, and how a path is cut.
 ghost use Rattle.std.specs.Prelude.{◌<◌, ◌^◌};
 
 use arrayvec::ArrayVec;

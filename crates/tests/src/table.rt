@@ -1,3 +1,4 @@
+//! Tables of plain words.
 ghost use Rattle.std.specs.Prelude.{◌≡◌, IsTrue};
 ghost use Rattle.mc_words.specs.Checks.{shape_of};
 ghost use Rattle.mc_words.specs.Places.{IsPlace, slot_number, slot};
