@@ -24,7 +24,7 @@ Tells errors text = (n : ℕ) × Appends errors.old errors.new (take n (text ++ 
 abbrev pub Prints : Stream → ℕ → Type 0
 Prints errors status = IsUntouched errors × ((status ≡ 0) ⊎ (status ≡ 3))
 
--- memory was short, and nothing is replayed
+-- memory was short, and nothing is written but that line
 abbrev pub IsShort : Stream → Stream → ℕ → Type 0
 IsShort output errors status = IsUntouched output × Tells errors (codes "refused: no memory") × (status ≡ 3)
 
