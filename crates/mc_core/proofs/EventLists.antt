@@ -3,7 +3,7 @@ use Rattle.std.proofs.Common.{ℕ, ◌≡◌, ◌≤◌, List, [], ◌∷◌, �
 use Rattle.std.specs.Prelude.{slice_get}
 use Rattle.std.proofs.lemmas.List.{append-nil, append_assoc, map-append}
 use Rattle.mc_words.specs.declared.shape.Shape.{Shape}
-use Rattle.mc_core.specs.Inside.Parts.{shape_of_parts, view_of, StandFor, AreReached, MakesEvent, RefusesEvent, MakesEvents}
+use Rattle.mc_core.specs.Inside.Parts.{shape_of_parts, view_of, StandFor, AreReached, MakesEvent, PartsRefuse, MakesEvents}
 use Rattle.mc_core.specs.Inside.Writers.{room_of}
 use Rattle.mc_core.specs.Seen.{WorldView, Shows}
 use Rattle.mc_theory.specs.Plain.{events_made}
@@ -89,7 +89,7 @@ made_then {V} old mid new es ds before between after first second = record {
 }
 
 -- an event refused
-pub made_same : {V : ℕ} (old mid new : Parts V) (es : List Event) (e : Event) (why : Unlawful) (before after now : List (Done V)) → MakesEvents {V = V} old mid es before after → RefusesEvent {V = V} mid new e why → now ≡ after → MakesEvents {V = V} old new es before now
+pub made_same : {V : ℕ} (old mid new : Parts V) (es : List Event) (e : Event) (why : Unlawful) (before after now : List (Done V)) → MakesEvents {V = V} old mid es before after → PartsRefuse {V = V} mid new e why → now ≡ after → MakesEvents {V = V} old new es before now
 made_same {V} old mid new es e why before after now so_far refused silent = record {
   shape = ap (λ (s : WorldView V). s.shape) refused.kept ∙ so_far.shape;
   made = λ seen s.
@@ -98,7 +98,7 @@ made_same {V} old mid new es e why before after now so_far refused silent = reco
 }
 
 -- where a list of events stops, if there was room
-pub stops_at : {V : ℕ} (old new : Parts V) (es : List Event) (i : ℕ) (e : Event) (why : Unlawful) (known : Trace V) → StandFor {V = V} old known → slice_get es i ≡ Some e → RefusesEvent {V = V} old new e why → 1 ≤ room_of {V = V} old.writer →
+pub stops_at : {V : ℕ} (old new : Parts V) (es : List Event) (i : ℕ) (e : Event) (why : Unlawful) (known : Trace V) → StandFor {V = V} old known → slice_get es i ≡ Some e → PartsRefuse {V = V} old new e why → 1 ≤ room_of {V = V} old.writer →
     (seen : Trace V) → StandFor {V = V} new seen → StopsAt {V = V} (shape_of_parts {V = V} new) seen es (Some (i, why))
 stops_at {V} old new es i e why known stands at refused room = λ seen s.
     let before : StandFor {V = V} old seen = record { shows = subst (λ (shown : WorldView V). Shows {V = V} shown seen) refused.kept s.shows; used = stands.used; within = stands.within } in

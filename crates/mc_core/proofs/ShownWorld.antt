@@ -13,7 +13,7 @@ use Rattle.mc_theory.specs.Inner.{StateHolds, StateCounted}
 use Rattle.mc_theory.specs.Phases.{Phase, Quiet, close_owed}
 use Rattle.mc_core.specs.Seen.{WorldView, Both, IsOpenLookup, Shows}
 use Rattle.mc_core.specs.Inside.Seen.{ReadsIn}
-use Rattle.mc_core.specs.Inside.Parts.{shape_of_parts, view_of, StandFor, RefusesEvent}
+use Rattle.mc_core.specs.Inside.Parts.{shape_of_parts, view_of, StandFor, PartsRefuse}
 use Rattle.mc_theory.specs.States.{State}
 use Rattle.mc_theory.specs.Traces as traces
 use Rattle.mc_core.specs.Inside.Writers.{state_in, words_of_writer, phase_at, room_of, UsedWell, IsMade, KeepsWriter}
@@ -95,7 +95,7 @@ stand_kept {V} old new seen s kept same = record {
 }
 
 pub memory_wanting : {V : ℕ} (old new : Parts V) (a : Act) → a ≡ Moment → IsAllowed (shape_of_parts {V = V} old) (state_in {V = V} old.writer) a → old.events < 2 ^ 64 - 1 → KeepsWriter {V = V} old.writer new.writer → view_of {V = V} new ≡ view_of {V = V} old → room_of {V = V} old.writer ≡ 0 →
-    RefusesEvent {V = V} old new (Write a) unlawful.NoMemory
+    PartsRefuse {V = V} old new (Write a) unlawful.NoMemory
 memory_wanting {V} old new a is may within kept same none = record {
   kept = same;
   full = λ wanting. none;

@@ -10,7 +10,7 @@ use Rattle.mc_theory.specs.declared.event.Event.TheVariants.{Write, Begin, Read}
 use Rattle.mc_theory.specs.declared.event.Unlawful.TheVariants as unlawful
 use Rattle.mc_words.specs.Shapes.{IsShape}
 use Rattle.mc_words.specs.declared.shape.Shape.{Shape}
-use Rattle.mc_core.specs.Inside.Parts.{shape_of_parts, view_of, StandFor, AreReached, MakesEvent, RefusesEvent}
+use Rattle.mc_core.specs.Inside.Parts.{shape_of_parts, view_of, StandFor, AreReached, MakesEvent, PartsRefuse}
 use Rattle.mc_core.specs.Seen.{WorldView, Shows, MayAct}
 use Rattle.mc_theory.specs.Traces as traces
 use Rattle.mc_theory.specs.Traces.{Trace, IsWithin, HasVersionSteps, bit_of, given_of, Steps, EventGives, StepsAll, IsReached, IsTrueEnd, first_trace}
@@ -41,7 +41,7 @@ pub reached_push : (V : ℕ) (sh : Shape) (x y : Trace V) (e : Event) → IsReac
 reached_push V sh x y e r s = record { readers = r.readers; events = r.events ++ e ∷ []; runs = runs_push V sh (first_trace V sh r.readers) r.events x y e r.runs s }
 
 -- what a step makes of parts that are reached
-pub reached_after : {V : ℕ} (old new : Parts V) (e : Event) (r : Result (Stepped V) Unlawful) → AreReached {V = V} old → IfOk r (λ out. MakesEvent {V = V} old new e out) → IfErr r (λ why. RefusesEvent {V = V} old new e why) → AreReached {V = V} new
+pub reached_after : {V : ℕ} (old new : Parts V) (e : Event) (r : Result (Stepped V) Unlawful) → AreReached {V = V} old → IfOk r (λ out. MakesEvent {V = V} old new e out) → IfErr r (λ why. PartsRefuse {V = V} old new e why) → AreReached {V = V} new
 reached_after {V} old new e (Ok out) reached made refused =
     let next = made.leads reached.seen reached.stand in
     record {
@@ -57,7 +57,7 @@ reached_after {V} old new e (Err why) reached made refused =
     }
 
 -- the shape stays
-pub shape_after : {V : ℕ} (old new : Parts V) (e : Event) (r : Result (Stepped V) Unlawful) → IfOk r (λ out. MakesEvent {V = V} old new e out) → IfErr r (λ why. RefusesEvent {V = V} old new e why) → shape_of_parts {V = V} new ≡ shape_of_parts {V = V} old
+pub shape_after : {V : ℕ} (old new : Parts V) (e : Event) (r : Result (Stepped V) Unlawful) → IfOk r (λ out. MakesEvent {V = V} old new e out) → IfErr r (λ why. PartsRefuse {V = V} old new e why) → shape_of_parts {V = V} new ≡ shape_of_parts {V = V} old
 shape_after old new e (Ok out) made refused = made.shape
 shape_after {V} old new e (Err why) made refused = ap (λ (s : WorldView V). s.shape) refused.kept
 
@@ -90,7 +90,7 @@ refused_act V sh w (act.Mark i) unlawful.NoMemory h may within = absurd h
 refused_act V sh w a unlawful.NoReader h may within = absurd h
 refused_act V sh w a unlawful.StillRunning h may within = absurd h
 
-pub lawful_after : {V : ℕ} (old new : Parts V) (e : Event) (r : Result (Stepped V) Unlawful) → AreReached {V = V} old → IfErr r (λ why. RefusesEvent {V = V} old new e why) → (a : Act) → e ≡ Write a → MayAct {V = V} (view_of {V = V} old) a → IfErr r (λ why. (why ≡ unlawful.NoMemory) × (a ≡ act.Moment))
+pub lawful_after : {V : ℕ} (old new : Parts V) (e : Event) (r : Result (Stepped V) Unlawful) → AreReached {V = V} old → IfErr r (λ why. PartsRefuse {V = V} old new e why) → (a : Act) → e ≡ Write a → MayAct {V = V} (view_of {V = V} old) a → IfErr r (λ why. (why ≡ unlawful.NoMemory) × (a ≡ act.Moment))
 lawful_after old new e (Ok out) reached refused a is may = refused
 lawful_after {V} old new e (Err why) reached refused a is may =
     let sh = shape_of_parts {V = V} old in
@@ -118,7 +118,7 @@ pub leads_shown : {V : ℕ} (old new : Parts V) (e : Event) (r : Result (Stepped
 leads_shown {V} old new e (Ok out) reached made = λ seen shows. let next = made.leads seen (stand_for {V = V} old seen reached shows) in (next.0, next.1, next.2, next.3.shows)
 leads_shown old new e (Err why) reached made = made
 
-pub refused_shown : {V : ℕ} (old new : Parts V) (e : Event) (r : Result (Stepped V) Unlawful) → AreReached {V = V} old → IfErr r (λ why. RefusesEvent {V = V} old new e why) →
+pub refused_shown : {V : ℕ} (old new : Parts V) (e : Event) (r : Result (Stepped V) Unlawful) → AreReached {V = V} old → IfErr r (λ why. PartsRefuse {V = V} old new e why) →
     IfErr r (λ why. (seen : Trace V) → Shows {V = V} (view_of {V = V} old) seen → traces.RefusesEvent {V = V} (shape_of_parts {V = V} old) seen e why)
 refused_shown {V} old new e (Err why) reached refused = λ seen shows. refused.refused seen (stand_for {V = V} old seen reached shows)
 refused_shown old new e (Ok out) reached refused = refused

@@ -27,13 +27,13 @@ pub(crate) struct Parts<const V: usize> {
 impl<const V: usize> Parts<V> {
     ghost use Rattle.std.specs.Prelude.{IfOk, IfErr};
     ghost use Rattle.mc_theory.specs.Traces as traces;
-    ghost use Rattle.mc_core.specs.Inside.Parts.{StandFor, MakesEvent, RefusesEvent};
+    ghost use Rattle.mc_core.specs.Inside.Parts.{StandFor, MakesEvent, PartsRefuse};
 
     /// Makes the event, if it is lawful.
     pub(crate) fn step(&mut self, event: Event) -> Result<Stepped<V>, Unlawful>
         requires { (seen : traces.Trace V) × StandFor {V = V} self.old seen }
         ensures made { IfOk result (λ out. MakesEvent {V = V} self.old self.new event out) }
-        ensures refused { IfErr result (λ why. RefusesEvent {V = V} self.old self.new event why) }
+        ensures refused { IfErr result (λ why. PartsRefuse {V = V} self.old self.new event why) }
     {
         match event {
             Event::Write(act) => self.write(act),

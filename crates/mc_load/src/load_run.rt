@@ -8,7 +8,7 @@ use crate::histogram::histogram;
 use crate::load_told::{Lines, LoadRefusal};
 use mc_options::{LoadOptions, load_options_of};
 use mc_script::send;
-use mc_step::{tell, tell_fault};
+use mc_step::{FAILED, REFUSED, tell, tell_fault};
 use mc_workers::{Free, Load, LoadError, Meter, OpenError, Report, load};
 use std::alloc::Global;
 use std::convert::AsStr;
@@ -16,12 +16,6 @@ use std::fmt::{InlineText, Write as _};
 use std::io::Write;
 use std::thread::Threads;
 use std::time::Clock;
-
-/// The exit status where the words of the command line, the shape, the readers or the keys are refused.
-const REFUSED: u8 = 2;
-
-/// The exit status where memory was short or a write failed.
-const FAILED: u8 = 3;
 
 /// The most readers of a cache.
 const MOST_READERS: u32 = 1024;

@@ -12,4 +12,4 @@ mod step;
 mod told;
 
 pub use step::run_step;
-pub use told::{Refusal, tell, tell_fault};
+pub use told::{FAILED, REFUSED, Refusal, tell, tell_fault};

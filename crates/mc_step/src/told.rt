@@ -12,11 +12,11 @@ use std::fmt;
 use std::fmt::{Display, InlineText, Write as _};
 use std::io::Write;
 
-/// The exit status where the words of the command line or the shape are refused.
-pub(crate) const REFUSED: u8 = 2;
+/// The exit status where the words of the command line, the shape, the readers or the keys are refused.
+pub const REFUSED: u8 = 2;
 
 /// The exit status where memory was short or a write failed.
-const FAILED: u8 = 3;
+pub const FAILED: u8 = 3;
 
 /// The most bytes of a line.
 const ROOM: usize = 96;

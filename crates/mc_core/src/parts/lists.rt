@@ -7,7 +7,7 @@ use std::alloc::{AllocError, Global};
 
 impl<const V: usize> Parts<V> {
     ghost use Rattle.std.specs.Prelude.{◌≡◌, ◌+◌, ◌<◌, ◌≤◌, ◌∷◌, [], length, IfOk, IfErr, OnOk, OnErr, vec_len, vec_capacity};
-    ghost use Rattle.mc_core.specs.Inside.Parts.{shape_of_parts, view_of, StandFor, MakesEvents, RefusesEvent};
+    ghost use Rattle.mc_core.specs.Inside.Parts.{shape_of_parts, view_of, StandFor, MakesEvents, PartsRefuse};
     ghost use Rattle.mc_theory.specs.Traces as traces;
     ghost use Rattle.mc_theory.specs.Plain.{events_made};
     ghost use Rattle.mc_theory.specs.Traces.{StopsAt};
@@ -63,7 +63,7 @@ impl<const V: usize> Parts<V> {
         ensures made { OnOk result (MakesEvents {V = V} self.old self.new (event ∷ []) done.old.items done.new.items) }
         ensures room { OnOk result (room_of {V = V} self.old.writer ≤ room_of {V = V} self.new.writer + 1) }
         ensures spare { OnOk result (vec_len done.new + vec_capacity done.old ≤ vec_len done.old + vec_capacity done.new + 1) }
-        ensures refused { IfErr result (λ why. RefusesEvent {V = V} self.old self.new event why) }
+        ensures refused { IfErr result (λ why. PartsRefuse {V = V} self.old self.new event why) }
         ensures silent { OnErr result (done.new.items ≡ done.old.items) }
     {
         match self.step(event) {

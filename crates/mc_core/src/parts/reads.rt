@@ -11,7 +11,7 @@ use mc_theory::{Access, Done, Stepped, Unlawful};
 
 impl<const V: usize> Parts<V> {
     ghost use Rattle.std.specs.Prelude.{◌≡◌, ◌-◌, ◌^◌, ◌<◌, Some, IfOk, IfErr, slice_get};
-    ghost use Rattle.mc_core.specs.Inside.Parts.{StandFor, MakesEvent, RefusesEvent};
+    ghost use Rattle.mc_core.specs.Inside.Parts.{StandFor, MakesEvent, PartsRefuse};
     ghost use Rattle.mc_theory.specs.Traces as traces;
     ghost use Rattle.mc_theory.specs.declared.event.Event.TheVariants as event;
 
@@ -19,7 +19,7 @@ impl<const V: usize> Parts<V> {
     pub(crate) fn begin(&mut self, reader: u32, key: u64) -> Result<Stepped<V>, Unlawful>
         requires { (seen : traces.Trace V) × StandFor {V = V} self.old seen }
         ensures made { IfOk result (λ out. MakesEvent {V = V} self.old self.new (event.Begin reader key) out) }
-        ensures refused { IfErr result (λ why. RefusesEvent {V = V} self.old self.new (event.Begin reader key) why) }
+        ensures refused { IfErr result (λ why. PartsRefuse {V = V} self.old self.new (event.Begin reader key) why) }
     {
         let at = reader as usize;
         if at >= self.readers.len() {
@@ -44,7 +44,7 @@ impl<const V: usize> Parts<V> {
     pub(crate) fn read(&mut self, reader: u32) -> Result<Stepped<V>, Unlawful>
         requires { (seen : traces.Trace V) × StandFor {V = V} self.old seen }
         ensures made { IfOk result (λ out. MakesEvent {V = V} self.old self.new (event.Read reader) out) }
-        ensures refused { IfErr result (λ why. RefusesEvent {V = V} self.old self.new (event.Read reader) why) }
+        ensures refused { IfErr result (λ why. PartsRefuse {V = V} self.old self.new (event.Read reader) why) }
     {
         let at = reader as usize;
         if at >= self.readers.len() {

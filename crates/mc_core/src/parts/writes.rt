@@ -7,7 +7,7 @@ impl<const V: usize> Parts<V> {
     ghost use Rattle.std.specs.Prelude.{◌≡◌, ◌+◌, ◌-◌, ◌^◌, ◌<◌, ◌≤◌, ◌↔◌, IfOk, IfErr, IsTrue};
     ghost use Rattle.mc_theory.specs.Traces as traces;
     ghost use Rattle.mc_theory.specs.Traces.{HasVersionSteps};
-    ghost use Rattle.mc_core.specs.Inside.Parts.{shape_of_parts, StandFor, MakesEvent, RefusesEvent};
+    ghost use Rattle.mc_core.specs.Inside.Parts.{shape_of_parts, StandFor, MakesEvent, PartsRefuse};
     ghost use Rattle.mc_theory.specs.declared.event.Event.TheVariants as event;
 
     /// Whether the act passes no limit.
@@ -29,7 +29,7 @@ impl<const V: usize> Parts<V> {
     pub(crate) fn write(&mut self, act: Act) -> Result<Stepped<V>, Unlawful>
         requires { (seen : traces.Trace V) × StandFor {V = V} self.old seen }
         ensures made { IfOk result (λ out. MakesEvent {V = V} self.old self.new (event.Write act) out) }
-        ensures refused { IfErr result (λ why. RefusesEvent {V = V} self.old self.new (event.Write act) why) }
+        ensures refused { IfErr result (λ why. PartsRefuse {V = V} self.old self.new (event.Write act) why) }
     {
         if !self.writer.allows(act) {
             return Err(Unlawful::NotLawful);
