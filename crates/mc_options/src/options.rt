@@ -272,11 +272,12 @@ fn options_in(matches: &ArgMatches) -> Result<Options, &'static str>
 pub(crate) fn refusal(
     alloc: Global,
     command: &mut Command<'_>,
+    matches: &ArgMatches,
     name: &str,
-    text: &str,
 ) -> Result<Error, AllocError>
     ensures { IfOk result (λ e. kind_of e ≡ ErrorKind.ValueValidation) }
 {
+    let text = matches.get_str(name).unwrap_or("");
     let message = format!(in alloc; "invalid value '{text}' for '--{name} <{name}>': digits only")?;
     command.error(ErrorKind::ValueValidation, message.as_str())
 }
@@ -292,9 +293,6 @@ pub fn options_of<S: AsStr>(alloc: Global, words: &[S]) -> Result<Options, Error
     };
     match options_in(&matches) {
         Ok(options) => Ok(options),
-        Err(name) => {
-            let text = matches.get_str(name).unwrap_or("");
-            Err(refusal(alloc, &mut command, name, text)?)
-        }
+        Err(name) => Err(refusal(alloc, &mut command, &matches, name)?),
     }
 }
