@@ -214,6 +214,6 @@ pub fn load_options_of<S: AsStr>(alloc: Global, words: &[S]) -> Result<LoadOptio
     };
     match load_options_in(&matches) {
         Ok(options) => Ok(options),
-        Err(name) => Err(refusal(alloc, &mut command, &matches, name)?),
+        Err(name) => Err(refusal(alloc, &mut command, &matches, name)),
     }
 }

@@ -1,5 +1,5 @@
 //! The options of `mcstep`.
-ghost use Rattle.std.specs.Prelude.{◌≡◌, false, IfOk, MatchResult, codes, map, option_and_then};
+ghost use Rattle.std.specs.Prelude.{◌≡◌, ◌⊎◌, false, IfOk, MatchResult, codes, map, option_and_then};
 ghost use Rattle.std.specs.List.{list_all};
 ghost use Rattle.std.specs.Char.{is_ascii_digit};
 ghost use Rattle.std.specs.Result.{result_ok};
@@ -268,18 +268,33 @@ fn options_in(matches: &ArgMatches) -> Result<Options, &'static str>
     })
 }
 
-/// The fault of a number that has more than digits, as a sign. Of all others `clap` has told.
+/// The fault of a number that has more than digits, as a sign.
+fn digits_only(
+    alloc: Global,
+    command: &mut Command<'_>,
+    name: &str,
+    text: &str,
+) -> Result<Error, AllocError>
+    ensures { IfOk result (λ e. kind_of e ≡ ErrorKind.ValueValidation) }
+{
+    let message = format!(in alloc; "invalid value '{text}' for '--{name} <{name}>': digits only")?;
+    command.error(ErrorKind::ValueValidation, message.as_str())
+}
+
+/// Why what an option says is refused: `clap` has told of all faults but those of digits.
 pub(crate) fn refusal(
     alloc: Global,
     command: &mut Command<'_>,
     matches: &ArgMatches,
     name: &str,
-) -> Result<Error, AllocError>
-    ensures { IfOk result (λ e. kind_of e ≡ ErrorKind.ValueValidation) }
+) -> Error
+    ensures { (kind_of result ≡ ErrorKind.OutOfMemory) ⊎ (kind_of result ≡ ErrorKind.ValueValidation) }
 {
     let text = matches.get_str(name).unwrap_or("");
-    let message = format!(in alloc; "invalid value '{text}' for '--{name} <{name}>': digits only")?;
-    command.error(ErrorKind::ValueValidation, message.as_str())
+    match digits_only(alloc, command, name, text) {
+        Ok(error) => error,
+        Err(short) => Error::from(short),
+    }
 }
 
 /// The options of the words, the program's own name first.
@@ -293,6 +308,6 @@ pub fn options_of<S: AsStr>(alloc: Global, words: &[S]) -> Result<Options, Error
     };
     match options_in(&matches) {
         Ok(options) => Ok(options),
-        Err(name) => Err(refusal(alloc, &mut command, &matches, name)?),
+        Err(name) => Err(refusal(alloc, &mut command, &matches, name)),
     }
 }
