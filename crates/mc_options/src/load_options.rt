@@ -1,10 +1,11 @@
 //! The options of `mcload`.
 ghost use Rattle.std.specs.Prelude.{◌≡◌, false, IfOk, MatchResult, map};
 ghost use Rattle.clap.specs.Words.{app_of, first_of, found_of, rows_of, rule_of};
-ghost use Rattle.mc_options.specs.Options.{AreMixes, MixNames, with_rules};
-ghost use Rattle.mc_options.specs.LoadOptions.{AreCommands, ReadsLoad, SaysLoad, command_rule, histogram_rule, is_given, load_bounds, load_counts, load_draws, load_program, load_sizes, mcload_command};
+ghost use Rattle.mc_options.specs.Inside.OptionRows.{load_rules, row_rule};
+ghost use Rattle.mc_options.specs.Options.{AreMixes, MixNames};
+ghost use Rattle.mc_options.specs.LoadOptions.{AreCommands, ReadsLoad, SaysLoad, command_rule, histogram_rule, is_given, load_program, mcload_command};
 
-use crate::options::{MOST_SIZE, VERSION, number, option, refusal, shape_in};
+use crate::options::{MOST_SIZE, OptionRow, VERSION, number, refusal, shape_in, with_options};
 use clap::builder::ValueParser;
 use clap::{Arg, ArgAction, ArgMatches, Command, Error, value_parser};
 use mc_words::Shape;
@@ -42,113 +43,89 @@ writes
   sum ok
   wrong 0";
 
-fn with_load_sizes<'a>(alloc: Global, command: Command<'a>) -> Result<Command<'a>, AllocError>
-    ensures { IfOk result (λ c. app_of c ≡ with_rules (app_of command.entry) load_sizes) }
+/// The options of `mcload` that have values, in the order of its help.
+fn load_rows<'a>() -> [OptionRow<'a>; 12]
+    ensures { (mixes : MixNames) × AreMixes mixes × (map row_rule result ≡ load_rules mixes) }
 {
-    let buckets = option(
-        alloc,
-        "buckets",
-        value_parser!(u32),
-        "1024",
-        "Buckets of four slots, a power of two from 2 to 1048576",
-    );
-    let items = option(
-        alloc,
-        "items",
-        value_parser!(u32),
-        "3072",
-        "The most keys, from 1 to four times the buckets",
-    );
-    let stripes = option(
-        alloc,
-        "stripes",
-        value_parser!(u32),
-        "8192",
-        "Version counters, a power of two from 1 to 65536",
-    );
-    command.arg(buckets)?.arg(items)?.arg(stripes)
-}
-
-fn with_load_bounds<'a>(alloc: Global, command: Command<'a>) -> Result<Command<'a>, AllocError>
-    ensures { IfOk result (λ c. app_of c ≡ with_rules (app_of command.entry) load_bounds) }
-{
-    let depth = option(
-        alloc,
-        "depth",
-        value_parser!(u8),
-        "5",
-        "The most keys that a put moves, from 0 to 8",
-    );
-    let tries = option(
-        alloc,
-        "tries",
-        value_parser!(u8),
-        "8",
-        "Tries of a lookup, from 1 to 64",
-    );
-    let limit = option(
-        alloc,
-        "limit",
-        value_parser!(u64),
-        "4611686018427387904",
-        "The most changes of key versions, from 0 to 2^62",
-    );
-    command.arg(depth)?.arg(tries)?.arg(limit)
-}
-
-fn with_load_counts<'a>(alloc: Global, command: Command<'a>) -> Result<Command<'a>, AllocError>
-    ensures { IfOk result (λ c. (mixes : MixNames) × AreMixes mixes × (app_of c ≡ with_rules (app_of command.entry) (load_counts mixes))) }
-{
+    let size = value_parser!(u32);
+    let byte = value_parser!(u8);
+    let word = value_parser!(u64);
+    let calls = ValueParser::Signed(0, 1_048_576);
     let names = ["plain", "fmix"].as_slice();
-    let mix = option(
-        alloc,
-        "mix",
-        ValueParser::Names(names),
-        "fmix",
-        "How keys are mixed: not at all, or by MurmurHash3's finalizer",
-    );
-    let readers = option(
-        alloc,
-        "readers",
-        value_parser!(u32),
-        "3",
-        "Readers, from 1 to 1024",
-    );
-    let lookups = option(
-        alloc,
-        "lookups",
-        value_parser!(u32).range(0..=1_048_576),
-        "2000",
-        "Lookups of each reader, from 0 to 1048576",
-    );
-    command.arg(mix)?.arg(readers)?.arg(lookups)
-}
-
-fn with_load_draws<'a>(alloc: Global, command: Command<'a>) -> Result<Command<'a>, AllocError>
-    ensures { IfOk result (λ c. app_of c ≡ with_rules (app_of command.entry) load_draws) }
-{
-    let writes = option(
-        alloc,
-        "writes",
-        value_parser!(u32).range(0..=1_048_576),
-        "2000",
-        "Calls of the writer, from 0 to 1048576",
-    );
-    let keys = option(
-        alloc,
-        "keys",
-        value_parser!(u64),
-        "64",
-        "Keys are drawn from 0 up to this number, which is from 1 to 4294967296",
-    );
-    let seed = option(
-        alloc,
-        "seed",
-        value_parser!(u64),
-        "1",
-        "The seed of all that is drawn",
-    );
-    command.arg(writes)?.arg(keys)?.arg(seed)
+    [
+        OptionRow {
+            name: "buckets",
+            takes: size,
+            default: "1024",
+            help: "Buckets of four slots, a power of two from 2 to 1048576",
+        },
+        OptionRow {
+            name: "items",
+            takes: size,
+            default: "3072",
+            help: "The most keys, from 1 to four times the buckets",
+        },
+        OptionRow {
+            name: "stripes",
+            takes: size,
+            default: "8192",
+            help: "Version counters, a power of two from 1 to 65536",
+        },
+        OptionRow {
+            name: "depth",
+            takes: byte,
+            default: "5",
+            help: "The most keys that a put moves, from 0 to 8",
+        },
+        OptionRow {
+            name: "tries",
+            takes: byte,
+            default: "8",
+            help: "Tries of a lookup, from 1 to 64",
+        },
+        OptionRow {
+            name: "limit",
+            takes: word,
+            default: "4611686018427387904",
+            help: "The most changes of key versions, from 0 to 2^62",
+        },
+        OptionRow {
+            name: "mix",
+            takes: ValueParser::Names(names),
+            default: "fmix",
+            help: "How keys are mixed: not at all, or by MurmurHash3's finalizer",
+        },
+        OptionRow {
+            name: "readers",
+            takes: size,
+            default: "3",
+            help: "Readers, from 1 to 1024",
+        },
+        OptionRow {
+            name: "lookups",
+            takes: calls,
+            default: "2000",
+            help: "Lookups of each reader, from 0 to 1048576",
+        },
+        OptionRow {
+            name: "writes",
+            takes: calls,
+            default: "2000",
+            help: "Calls of the writer, from 0 to 1048576",
+        },
+        OptionRow {
+            name: "keys",
+            takes: word,
+            default: "64",
+            help: "Keys are drawn from 0 up to this number, which is from 1 to 4294967296",
+        },
+        OptionRow {
+            name: "seed",
+            takes: word,
+            default: "1",
+            help: "The seed of all that is drawn",
+        },
+    ]
 }
 
 /// The option without a value.
@@ -187,11 +164,9 @@ fn load_named<'a>(alloc: Global) -> Result<Command<'a>, AllocError>
 fn load_command<'a>(alloc: Global) -> Result<Command<'a>, AllocError>
     ensures { IfOk result (λ c. (commands : MixNames) × (mixes : MixNames) × AreCommands commands × AreMixes mixes × (app_of c ≡ load_program commands mixes)) }
 {
-    let sized = with_load_sizes(alloc, load_named(alloc)?)?;
-    let bounded = with_load_bounds(alloc, sized)?;
-    let counted = with_load_counts(alloc, bounded)?;
-    let drawn = with_load_draws(alloc, counted)?;
-    drawn.arg(histogram_arg(alloc))
+    let rows = load_rows();
+    let command = with_options(alloc, load_named(alloc)?, rows.as_slice())?;
+    command.arg(histogram_arg(alloc))
 }
 
 /// Whether an option without a value is given.
@@ -239,9 +214,6 @@ pub fn load_options_of<S: AsStr>(alloc: Global, words: &[S]) -> Result<LoadOptio
     };
     match load_options_in(&matches) {
         Ok(options) => Ok(options),
-        Err(name) => {
-            let text = matches.get_str(name).unwrap_or("");
-            Err(refusal(alloc, &mut command, name, text)?)
-        }
+        Err(name) => Err(refusal(alloc, &mut command, &matches, name)),
     }
 }

@@ -1,11 +1,12 @@
 //! The options of `mcstep`.
-ghost use Rattle.std.specs.Prelude.{◌≡◌, false, IfOk, MatchResult, codes, map, option_and_then};
+ghost use Rattle.std.specs.Prelude.{◌≡◌, ◌⊎◌, false, IfOk, MatchResult, codes, map, option_and_then};
 ghost use Rattle.std.specs.List.{list_all};
 ghost use Rattle.std.specs.Char.{is_ascii_digit};
 ghost use Rattle.std.specs.Result.{result_ok};
 ghost use Rattle.clap.specs.Words.{app_of, first_of, found_of, kind_of, rows_of, rule_of};
 ghost use Rattle.mc_words.specs.declared.shape.Shape.{Shape};
-ghost use Rattle.mc_options.specs.Options.{AreMixes, MixNames, Reads, Says, SaysShape, bounds, mix_in, mcstep_command, number_in, option, others, program, sizes, with_rules};
+ghost use Rattle.mc_options.specs.Inside.OptionRows.{program_rules, row_rule};
+ghost use Rattle.mc_options.specs.Options.{AreMixes, MixNames, Reads, Says, SaysShape, mix_in, mcstep_command, number_in, program, with_rules};
 
 use clap::builder::ValueParser;
 use clap::error::ErrorKind;
@@ -52,103 +53,102 @@ pub(crate) const MOST_SIZE: u64 = 4_294_967_295;
 const MOST_BOUND: u64 = 255;
 
 /// An option with one value.
-pub(crate) fn option<'a>(
-    alloc: Global,
-    name: &'a str,
-    takes: ValueParser<'a>,
-    default: &'a str,
-    help: &'a str,
-) -> Arg<'a>
-    ensures rule { rule_of result ≡ option name.entry.now takes.entry default.entry.now }
+#[derive(Clone, Copy)]
+pub(crate) struct OptionRow<'a> {
+    pub(crate) name: &'a str,
+    pub(crate) takes: ValueParser<'a>,
+    pub(crate) default: &'a str,
+    pub(crate) help: &'a str,
+}
+
+fn option<'a>(alloc: Global, row: &OptionRow<'a>) -> Arg<'a>
+    ensures rule { rule_of result ≡ row_rule row.now }
     ensures local { result.global ≡ false }
 {
-    Arg::new(alloc, name)
-        .long(name)
-        .value_parser(takes)
-        .default_value(default)
-        .help(help)
+    Arg::new(alloc, row.name)
+        .long(row.name)
+        .value_parser(row.takes)
+        .default_value(row.default)
+        .help(row.help)
 }
 
-fn with_sizes<'a>(alloc: Global, command: Command<'a>) -> Result<Command<'a>, AllocError>
-    ensures { IfOk result (λ c. app_of c ≡ with_rules (app_of command.entry) sizes) }
+/// The command with these options after its own.
+pub(crate) fn with_options<'a>(
+    alloc: Global,
+    mut command: Command<'a>,
+    rows: &[OptionRow<'a>],
+) -> Result<Command<'a>, AllocError>
+    ensures { IfOk result (λ c. app_of c ≡ with_rules (app_of command.entry) (map row_rule rows.now)) }
 {
-    let buckets = option(
-        alloc,
-        "buckets",
-        value_parser!(u32),
-        "4",
-        "Buckets of four slots, a power of two from 2 to 1048576",
-    );
-    let items = option(
-        alloc,
-        "items",
-        value_parser!(u32),
-        "16",
-        "The most keys, from 1 to four times the buckets",
-    );
-    let stripes = option(
-        alloc,
-        "stripes",
-        value_parser!(u32),
-        "1",
-        "Version counters, a power of two from 1 to 65536",
-    );
-    command.arg(buckets)?.arg(items)?.arg(stripes)
+    'rows: for row in rows {
+        command = command.arg(option(alloc, row))?;
+    }
+    Ok(command)
 }
 
-fn with_bounds<'a>(alloc: Global, command: Command<'a>) -> Result<Command<'a>, AllocError>
-    ensures { IfOk result (λ c. app_of c ≡ with_rules (app_of command.entry) bounds) }
+/// The options of `mcstep`, in the order of its help.
+fn option_rows<'a>() -> [OptionRow<'a>; 9]
+    ensures { (mixes : MixNames) × AreMixes mixes × (map row_rule result ≡ program_rules mixes) }
 {
-    let depth = option(
-        alloc,
-        "depth",
-        value_parser!(u8),
-        "2",
-        "The most keys that a put moves, from 0 to 8",
-    );
-    let tries = option(
-        alloc,
-        "tries",
-        value_parser!(u8),
-        "2",
-        "Tries of a lookup, from 1 to 64",
-    );
-    let limit = option(
-        alloc,
-        "limit",
-        value_parser!(u64),
-        "4611686018427387904",
-        "The most changes of key versions in a script, from 0 to 2^62",
-    );
-    command.arg(depth)?.arg(tries)?.arg(limit)
-}
-
-fn with_others<'a>(alloc: Global, command: Command<'a>) -> Result<Command<'a>, AllocError>
-    ensures { IfOk result (λ c. (mixes : MixNames) × AreMixes mixes × (app_of c ≡ with_rules (app_of command.entry) (others mixes))) }
-{
+    let size = value_parser!(u32);
+    let byte = value_parser!(u8);
     let names = ["plain", "fmix"].as_slice();
-    let mix = option(
-        alloc,
-        "mix",
-        ValueParser::Names(names),
-        "plain",
-        "How keys are mixed: not at all, or by MurmurHash3's finalizer",
-    );
-    let readers = option(
-        alloc,
-        "readers",
-        value_parser!(u32),
-        "2",
-        "Readers, from 1 to 1024",
-    );
-    let words = option(
-        alloc,
-        "words",
-        value_parser!(u8).range(1..=2),
-        "1",
-        "Words of a value, 1 or 2",
-    );
-    command.arg(mix)?.arg(readers)?.arg(words)
+    [
+        OptionRow {
+            name: "buckets",
+            takes: size,
+            default: "4",
+            help: "Buckets of four slots, a power of two from 2 to 1048576",
+        },
+        OptionRow {
+            name: "items",
+            takes: size,
+            default: "16",
+            help: "The most keys, from 1 to four times the buckets",
+        },
+        OptionRow {
+            name: "stripes",
+            takes: size,
+            default: "1",
+            help: "Version counters, a power of two from 1 to 65536",
+        },
+        OptionRow {
+            name: "depth",
+            takes: byte,
+            default: "2",
+            help: "The most keys that a put moves, from 0 to 8",
+        },
+        OptionRow {
+            name: "tries",
+            takes: byte,
+            default: "2",
+            help: "Tries of a lookup, from 1 to 64",
+        },
+        OptionRow {
+            name: "limit",
+            takes: value_parser!(u64),
+            default: "4611686018427387904",
+            help: "The most changes of key versions in a script, from 0 to 2^62",
+        },
+        OptionRow {
+            name: "mix",
+            takes: ValueParser::Names(names),
+            default: "plain",
+            help: "How keys are mixed: not at all, or by MurmurHash3's finalizer",
+        },
+        OptionRow {
+            name: "readers",
+            takes: size,
+            default: "2",
+            help: "Readers, from 1 to 1024",
+        },
+        OptionRow {
+            name: "words",
+            takes: ValueParser::Signed(1, 2),
+            default: "1",
+            help: "Words of a value, 1 or 2",
+        },
+    ]
 }
 
 /// The command without its options.
@@ -164,9 +164,8 @@ fn named<'a>(alloc: Global) -> Command<'a>
 fn command<'a>(alloc: Global) -> Result<Command<'a>, AllocError>
     ensures { IfOk result (λ c. (mixes : MixNames) × AreMixes mixes × (app_of c ≡ program mixes)) }
 {
-    let sized = with_sizes(alloc, named(alloc))?;
-    let bounded = with_bounds(alloc, sized)?;
-    with_others(alloc, bounded)
+    let rows = option_rows();
+    with_options(alloc, named(alloc), rows.as_slice())
 }
 
 fn are_digits(text: &str) -> bool
@@ -269,8 +268,8 @@ fn options_in(matches: &ArgMatches) -> Result<Options, &'static str>
     })
 }
 
-/// The fault of a number that has more than digits, as a sign. Of all others `clap` has told.
-pub(crate) fn refusal(
+/// The fault of a number that has more than digits, as a sign.
+fn digits_only(
     alloc: Global,
     command: &mut Command<'_>,
     name: &str,
@@ -280,6 +279,22 @@ pub(crate) fn refusal(
 {
     let message = format!(in alloc; "invalid value '{text}' for '--{name} <{name}>': digits only")?;
     command.error(ErrorKind::ValueValidation, message.as_str())
+}
+
+/// Why what an option says is refused: `clap` has told of all faults but those of digits.
+pub(crate) fn refusal(
+    alloc: Global,
+    command: &mut Command<'_>,
+    matches: &ArgMatches,
+    name: &str,
+) -> Error
+    ensures { (kind_of result ≡ ErrorKind.OutOfMemory) ⊎ (kind_of result ≡ ErrorKind.ValueValidation) }
+{
+    let text = matches.get_str(name).unwrap_or("");
+    match digits_only(alloc, command, name, text) {
+        Ok(error) => error,
+        Err(short) => Error::from(short),
+    }
 }
 
 /// The options of the words, the program's own name first.
@@ -293,9 +308,6 @@ pub fn options_of<S: AsStr>(alloc: Global, words: &[S]) -> Result<Options, Error
     };
     match options_in(&matches) {
         Ok(options) => Ok(options),
-        Err(name) => {
-            let text = matches.get_str(name).unwrap_or("");
-            Err(refusal(alloc, &mut command, name, text)?)
-        }
+        Err(name) => Err(refusal(alloc, &mut command, &matches, name)),
     }
 }

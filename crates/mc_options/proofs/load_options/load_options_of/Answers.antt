@@ -27,4 +27,4 @@ returns g c =
     let words = map g.S.AsStr.text c.args.words.now in
     let taken = load_fails_by {T = ArgMatches} (app_of c.in_ok-command.command) names.0 names.1 words (Ok c.in-Ok.matches) names.4 c.in-Ok.ensures.kinds in
     let found = load_finds (app_of c.in_ok-command.command) names.0 names.1 words c.in-Ok.matches names.4 c.in-Ok.ensures.ok.2 in
-    inr (inr (c.in_ok-refusal-in-Err-load_options_in.ensures, (names.0, names.1, names.2, names.3, taken, subst (λ (rows : List Row). (o : LoadOptions) → SaysLoad rows o → ⊥) found c.in-Err-load_options_in.ensures)))
+    elim c.refusal.ensures [ inl short ↦ inl short | inr refused ↦ inr (inr (refused, (names.0, names.1, names.2, names.3, taken, subst (λ (rows : List Row). (o : LoadOptions) → SaysLoad rows o → ⊥) found c.in-Err-load_options_in.ensures))) ]

@@ -1,11 +1,11 @@
-use Rattle.std.proofs.Common.{◌∙◌, ap}
+use Rattle.std.proofs.Common.{◌∙◌, ap, ap₂, map}
 use Rattle.std.proofs.lemmas.Result.{IfOk-weaker}
-use Rattle.clap.specs.Words.{App}
-use Rattle.mc_options.specs.Options.{bounds, others, sizes, with_rules}
+use Rattle.mc_options.specs.Options.{with_rules}
+use Rattle.mc_options.specs.Inside.OptionRows.{row_rule}
 use Rattle.mc_options.proofs.options.command.Goals as goal
 
 pub returns : goal.returns
 returns c =
-    let sized = c.in_ok-sized.ensures ∙ ap (λ (a : App). with_rules a sizes) c.named.ensures in
-    let bounded = c.in_ok-bounded.ensures ∙ ap (λ (a : App). with_rules a bounds) sized in
-    IfOk-weaker c.with_others.result _ _ (λ r added. (added.0, added.1, added.2 ∙ ap (λ (a : App). with_rules a (others added.0)) bounded)) c.with_others.ensures
+    let mixes = c.option_rows-rows.ensures in
+    let rows = ap (map row_rule) c.as_slice.ensures ∙ mixes.2 in
+    IfOk-weaker c.with_options.result _ _ (λ r added. (mixes.0, mixes.1, added ∙ ap₂ with_rules c.named.ensures rows)) c.with_options.ensures

@@ -27,4 +27,4 @@ returns g c =
     let words = map g.S.AsStr.text c.args.words.now in
     let taken = fails_by {T = ArgMatches} (app_of c.in_ok-command.command) mixes.0 words (Ok c.in-Ok.matches) mixes.2 c.in-Ok.ensures.kinds in
     let found = finds (app_of c.in_ok-command.command) mixes.0 words c.in-Ok.matches mixes.2 c.in-Ok.ensures.ok.2 in
-    inr (inr (c.in_ok-refusal-in-Err-options_in.ensures, (mixes.0, mixes.1, taken, subst (λ (rows : List Row). (o : Options) → Says rows o → ⊥) found c.in-Err-options_in.ensures)))
+    elim c.refusal.ensures [ inl short ↦ inl short | inr refused ↦ inr (inr (refused, (mixes.0, mixes.1, taken, subst (λ (rows : List Row). (o : Options) → Says rows o → ⊥) found c.in-Err-options_in.ensures))) ]
