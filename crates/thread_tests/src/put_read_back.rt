@@ -26,17 +26,21 @@ fn the_acts_of_a_put_are_read_back(rt: HostRuntime) -> Result<(), Fail> {
     let Some(mut reader) = readers.pop() else {
         return Err(Fail::new("no reader"));
     };
-    assert!(rt; make_all(&cells, &mut writer, &mut world, &ACTS));
-    assert_eq!(rt; read(&cells, &mut reader, Access::Version(0)), 2);
-    assert_eq!(rt; read(&cells, &mut reader, Access::Slot(PLACE)), 1);
-    assert_eq!(rt; read(&cells, &mut reader, Access::Key(0)), 0);
-    assert_eq!(rt; read(&cells, &mut reader, Access::Value(0, 1)), 7);
-    assert_eq!(rt; read(&cells, &mut reader, Access::Moment), 1);
-    assert_eq!(rt; read(&cells, &mut reader, Access::Version(0)), 2);
-    assert_eq!(rt; catch(&cells, &mut reader, &mut writer), 1);
+    let made = make_all(&cells, &mut writer, &mut world, &ACTS);
+    let told = [
+        read(&cells, &mut reader, Access::Version(0)),
+        read(&cells, &mut reader, Access::Slot(PLACE)),
+        read(&cells, &mut reader, Access::Key(0)),
+        read(&cells, &mut reader, Access::Value(0, 1)),
+        read(&cells, &mut reader, Access::Moment),
+        read(&cells, &mut reader, Access::Version(0)),
+        catch(&cells, &mut reader, &mut writer),
+    ];
     readers.push(reader)?;
     let words = close(cells, writer, readers);
-    assert_eq!(rt; words.word(0), 1);
-    assert_eq!(rt; words.word(1), 2);
+    let left = [words.word(0), words.word(1)];
+    assert!(rt; made);
+    assert_eq!(rt; told, [2, 1, 0, 7, 1, 2, 1]);
+    assert_eq!(rt; left, [1, 2]);
     Ok(())
 }
