@@ -64,7 +64,7 @@ const FIRST_EIGHT: [u64; 8] = [0, 4, 8, 12, 16, 20, 24, 28];
 
 /// As many items as slots, and keys as they are.
 fn small() -> Shape {
-    shape(16, MOST, Mix::Plain)
+    with_items(16)
 }
 
 fn with_items(items: u32) -> Shape {
@@ -106,6 +106,19 @@ fn a_key_without_a_path_is_refused(rt: HostRuntime) -> Result<(), Fail> {
     Ok(())
 }
 
+// Three items, of which this call uses the first that would be evicted next.
+fn first_wrong_with(alloc: Global, get: Call) -> Result<Option<(usize, Told)>, Fail> {
+    let rows = [
+        (Call::Put(0, 0), stored(1)),
+        (Call::Put(1, 1), stored(2)),
+        (Call::Put(2, 2), stored(3)),
+        (Call::Put(3, 3), stored_after(5, 0)),
+        (get, found(1, 5)),
+        (Call::Put(4, 4), stored_after(7, 2)),
+    ];
+    first_wrong(alloc, with_items(3), &rows)
+}
+
 #[test]
 fn the_hand_evicts_what_was_not_used(rt: HostRuntime) -> Result<(), Fail> {
     let alloc = rt.alloc();
@@ -116,16 +129,11 @@ fn the_hand_evicts_what_was_not_used(rt: HostRuntime) -> Result<(), Fail> {
         (Call::Get(0), absent(4)),
     ];
     assert_eq!(rt; first_wrong(alloc, with_items(2), &rows)?, None);
-    for get in [Call::Get(1), Call::Look(1), Call::LookBeside(1)] {
-        let rows = [
-            (Call::Put(0, 0), stored(1)),
-            (Call::Put(1, 1), stored(2)),
-            (Call::Put(2, 2), stored(3)),
-            (Call::Put(3, 3), stored_after(5, 0)),
-            (get, found(1, 5)),
-            (Call::Put(4, 4), stored_after(7, 2)),
-        ];
-        assert_eq!(rt; first_wrong(alloc, with_items(3), &rows)?, None, "{get:?}");
+    let gets = [Call::Get(1), Call::Look(1), Call::LookBeside(1)];
+    for n in 0..gets.len() {
+        let get = gets[n];
+        let wrong = first_wrong_with(alloc, get)?;
+        assert_eq!(rt; wrong, None, "{get:?}");
     }
     Ok(())
 }
