@@ -24,10 +24,9 @@ struct Job {
 /// What the threads do.
 fn task_of(options: &Options, number: u64) -> Task {
     Task {
-        first: if options.workload == Workload::Absent {
-            1 << 40
-        } else {
-            0
+        first: match options.workload {
+            Workload::Absent => 1 << 40,
+            _ => 0,
         },
         keys: options.keys,
         seed: u64::from(options.seed) * 1000 ^ number,

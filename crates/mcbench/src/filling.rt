@@ -17,10 +17,10 @@ use std::time::{Clock, CpuClock, Duration};
 pub(crate) fn open_for(alloc: Global, options: &Options) -> io::Result<(Cache<4>, Writer<4>)>
     ensures { IfOk result (λ r. r.1.of ≡ r.0) }
 {
-    match open::<4>(alloc, options.shape(), 1) {
-        Ok((cache, writer, _)) => Ok((cache, writer)),
-        Err(_) => Err(io::Error::other("the cache can't be opened")),
-    }
+    let Ok((cache, writer, _readers)) = open::<4>(alloc, options.shape(), 1) else {
+        return Err(io::Error::other("the cache can't be opened"));
+    };
+    Ok((cache, writer))
 }
 
 // The memory that came, by so many keys.
@@ -29,6 +29,24 @@ fn bytes_a_key(before: u64, after: u64, keys: u32) -> Quotient {
         top: after.saturating_sub(before),
         bottom: u64::from(keys),
     }
+}
+
+// Fills an open cache, before which so many bytes were in memory. What was done, how long it took, and the memory by keys.
+fn fill_open<R: Files + AllocGlobal + Clock + CpuClock>(
+    rt: &R,
+    cache: &Cache<4>,
+    writer: &mut Writer<4>,
+    first: u64,
+    keys: u32,
+    before: u64,
+) -> io::Result<(Tally, Duration, Quotient)>
+    requires { writer.old.of ≡ cache.now }
+{
+    let watch = Stopwatch::start(rt, true)?;
+    let puts = put_all(cache, writer, first, keys);
+    let took = watch.elapsed(rt)?;
+    let bytes = bytes_a_key(before, resident(rt)?, keys);
+    Ok((puts, took, bytes))
 }
 
 // Opens a cache and fills it. What was done, how long it took, and the memory by keys.
@@ -40,11 +58,7 @@ fn fill_one<R: Files + AllocGlobal + Clock + CpuClock>(
 ) -> io::Result<(Tally, Duration, Quotient)> {
     let before = resident(rt)?;
     let (cache, mut writer) = open_for(alloc, options)?;
-    let watch = Stopwatch::start(rt, true)?;
-    let puts = put_all(&cache, &mut writer, first, options.capacity);
-    let took = watch.elapsed(rt)?;
-    let bytes = bytes_a_key(before, resident(rt)?, options.capacity);
-    Ok((puts, took, bytes))
+    fill_open(rt, &cache, &mut writer, first, options.capacity, before)
 }
 
 // Fills caches until the time is over.

@@ -1,13 +1,13 @@
 //! What the command line asks for.
 use clap::builder::ValueParser;
-use clap::{Arg, ArgMatches, Command, Error, value_parser};
+use clap::{Arg, ArgMatches, Command, Error};
 use mc_cache::{Mix, Shape};
 use std::alloc::{AllocError, Global};
 use std::convert::AsStr;
 use std::time::Duration;
 
 /// What is measured.
-#[derive(Clone, Copy, PartialEq, Eq)]
+#[derive(Clone, Copy)]
 pub(crate) enum Workload {
     /// Threads look up, or put, keys that the cache holds.
     Present,
@@ -38,88 +38,82 @@ pub(crate) struct Options {
 const WORKLOADS: [&str; 6] = ["hit", "miss", "mixed", "fill", "evict", "load"];
 
 /// An option with one value.
-fn option<'a>(
-    alloc: Global,
-    name: &'a str,
-    takes: ValueParser<'a>,
-    default: &'a str,
-    help: &'a str,
-) -> Arg<'a> {
-    Arg::new(alloc, name)
-        .long(name)
-        .value_parser(takes)
-        .default_value(default)
-        .help(help)
+struct Row {
+    name: &'static str,
+    takes: ValueParser<'static>,
+    default: &'static str,
+    help: &'static str,
 }
 
-/// The options of a table.
-fn with_table<'a>(alloc: Global, command: Command<'a>) -> Result<Command<'a>, AllocError> {
-    let count = value_parser!(u32).range(1..=4_000_000);
-    let keys = option(alloc, "keys", count, "1000", "Keys that are drawn");
-    let capacity = option(
-        alloc,
-        "capacity",
-        count,
-        "1000",
-        "Keys for which the table is made, which fill at most 0.96 of it",
-    );
-    command.arg(keys)?.arg(capacity)
-}
+/// The options, in the order of the help.
+const ROWS: [Row; 8] = [
+    Row {
+        name: "workload",
+        takes: ValueParser::Names(&WORKLOADS),
+        default: "hit",
+        help: "Keys that are there (hit, mixed) or not (miss); fresh keys into empty tables, into a full one, or until one is refused",
+    },
+    Row {
+        name: "seconds",
+        takes: ValueParser::Float,
+        default: "0.3",
+        help: "How long it is measured",
+    },
+    Row {
+        name: "seed",
+        takes: ValueParser::Signed(0, 4_294_967_295),
+        default: "1",
+        help: "Which keys are drawn",
+    },
+    Row {
+        name: "keys",
+        takes: ValueParser::Signed(1, 4_000_000),
+        default: "1000",
+        help: "Keys that are drawn",
+    },
+    Row {
+        name: "capacity",
+        takes: ValueParser::Signed(1, 4_000_000),
+        default: "1000",
+        help: "Keys for which the table is made, which fill at most 0.96 of it",
+    },
+    Row {
+        name: "readers",
+        takes: ValueParser::Signed(0, 64),
+        default: "1",
+        help: "Threads that look keys up",
+    },
+    Row {
+        name: "writers",
+        takes: ValueParser::Signed(0, 1),
+        default: "0",
+        help: "Threads that put keys",
+    },
+    Row {
+        name: "write-every",
+        takes: ValueParser::Signed(1, 1_000_000),
+        default: "1",
+        help: "Of so many calls of a writer one is a put, the others look keys up",
+    },
+];
 
-/// The options of the threads.
-fn with_threads<'a>(alloc: Global, command: Command<'a>) -> Result<Command<'a>, AllocError> {
-    let readers = option(
-        alloc,
-        "readers",
-        value_parser!(u32).range(0..=64),
-        "1",
-        "Threads that look keys up",
-    );
-    let writers = option(
-        alloc,
-        "writers",
-        value_parser!(u32).range(0..=1),
-        "0",
-        "Threads that put keys",
-    );
-    let every = option(
-        alloc,
-        "write-every",
-        value_parser!(u32).range(1..=1_000_000),
-        "1",
-        "Of so many calls of a writer one is a put, the others look keys up",
-    );
-    command.arg(readers)?.arg(writers)?.arg(every)
+/// The option of a row.
+fn option<'a>(alloc: Global, row: &Row) -> Arg<'a> {
+    Arg::new(alloc, row.name)
+        .long(row.name)
+        .value_parser(row.takes)
+        .default_value(row.default)
+        .help(row.help)
 }
 
 fn command<'a>(alloc: Global) -> Result<Command<'a>, AllocError> {
-    let workload = option(
-        alloc,
-        "workload",
-        ValueParser::Names(WORKLOADS.as_slice()),
-        "hit",
-        "Keys that are there (hit, mixed) or not (miss); fresh keys into empty tables, into a full one, or until one is refused",
+    let mut command = Command::new(alloc, "mcbench").about(
+        "Measures the cache, and prints one line of JSON",
     );
-    let seconds = option(
-        alloc,
-        "seconds",
-        value_parser!(f64),
-        "0.3",
-        "How long it is measured",
-    );
-    let seed = option(
-        alloc,
-        "seed",
-        value_parser!(u32),
-        "1",
-        "Which keys are drawn",
-    );
-    let command = Command::new(alloc, "mcbench")
-        .about("Measures the cache, and prints one line of JSON")
-        .arg(workload)?
-        .arg(seconds)?
-        .arg(seed)?;
-    with_threads(alloc, with_table(alloc, command)?)
+    for row in &ROWS {
+        command = command.arg(option(alloc, row))?;
+    }
+    Ok(command)
 }
 
 fn workload_in(matches: &ArgMatches<'_>) -> Workload {
@@ -172,10 +166,9 @@ impl Options {
     /// The table: as many items as keys, but as many as slots where it is to be filled until a put is refused.
     pub(crate) fn shape(&self) -> Shape {
         let buckets = buckets_for(self.capacity);
-        let items = if self.workload == Workload::Load {
-            buckets.saturating_mul(4)
-        } else {
-            self.capacity
+        let items = match self.workload {
+            Workload::Load => buckets.saturating_mul(4),
+            _ => self.capacity,
         };
         Shape {
             buckets,

@@ -28,9 +28,9 @@ fn look_until_found(
     requires { reader.old.of ≡ cache.now }
     ensures { reader.new.of ≡ reader.old.of }
 {
-    if reader.get(cache, 0) != (Reply::Absent { at: 0 }) {
+    let Reply::Absent { at: 0 } = reader.get(cache, 0) else {
         return None;
-    }
+    };
     missed.store(true, Ordering::SeqCst);
     for _turn in 0..TURNS {
         let reply = reader.get(cache, 0);

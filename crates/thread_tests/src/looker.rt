@@ -42,6 +42,11 @@ fn are_true(history: &[Change<1>], factor: u64, replies: &[Reply<1>]) -> bool {
     true
 }
 
+// Room for all answers.
+fn unanswered(alloc: Global) -> Result<Vec<Reply<1>>, AllocError> {
+    vec![in alloc; Reply::Busy; LOOKUPS]
+}
+
 #[derive(Drop)]
 pub struct Looker {
     pub reader: Reader<1>,
@@ -54,7 +59,7 @@ impl Looker {
     pub fn new(alloc: Global, reader: Reader<1>, factor: u64) -> Result<Looker, AllocError>
         ensures { IfOk result (λ l. l.reader ≡ reader) }
     {
-        let replies = vec![in alloc; Reply::Busy; LOOKUPS]?;
+        let replies = unanswered(alloc)?;
         Ok(Looker {
             reader,
             factor,

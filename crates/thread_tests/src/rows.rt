@@ -8,16 +8,21 @@ use mc_cache::{Cache, Mix, PutError, Reader, Shape, Writer, open};
 use std::alloc::Global;
 use std::test::Fail;
 
-/// Four buckets, sixteen items, one stripe, chains of at most two, and keys as they are.
-const SMALL: Shape = Shape {
-    buckets: 4,
-    items: 16,
-    stripes: 1,
-    depth: 2,
-    tries: 2,
-    limit: 1 << 62,
-    mix: Mix::Plain,
-};
+/// The most changes of key versions.
+const MOST: u64 = 1 << 62;
+
+/// Four buckets, one stripe, and chains of at most two.
+fn shape(items: u32, limit: u64, mix: Mix) -> Shape {
+    Shape {
+        buckets: 4,
+        items,
+        stripes: 1,
+        depth: 2,
+        tries: 2,
+        limit,
+        mix,
+    }
+}
 
 /// A key whose first bucket is 0 and whose second is another than that of the keys below it.
 const FAR: u64 = 1 << 56;
@@ -57,19 +62,24 @@ fn first_wrong(
 
 const FIRST_EIGHT: [u64; 8] = [0, 4, 8, 12, 16, 20, 24, 28];
 
+/// As many items as slots, and keys as they are.
+fn small() -> Shape {
+    with_items(16)
+}
+
 fn with_items(items: u32) -> Shape {
-    Shape { items, ..SMALL }
+    shape(items, MOST, Mix::Plain)
 }
 
 fn with_limit(limit: u64) -> Shape {
-    Shape { limit, ..SMALL }
+    shape(16, limit, Mix::Plain)
 }
 
 #[test]
 fn one_key_is_put_renewed_and_removed(rt: HostRuntime) -> Result<(), Fail> {
     let alloc = rt.alloc();
     let rows = [(Call::Get(0), absent(0))];
-    assert_eq!(rt; first_wrong(alloc, SMALL, &rows)?, None);
+    assert_eq!(rt; first_wrong(alloc, small(), &rows)?, None);
     let rows = [
         (Call::Put(0, 7), stored(1)),
         (Call::Get(0), found(7, 1)),
@@ -78,9 +88,9 @@ fn one_key_is_put_renewed_and_removed(rt: HostRuntime) -> Result<(), Fail> {
         (Call::Remove(0), removed(3)),
         (Call::Get(0), absent(3)),
     ];
-    assert_eq!(rt; first_wrong(alloc, SMALL, &rows)?, None);
+    assert_eq!(rt; first_wrong(alloc, small(), &rows)?, None);
     let rows = [(Call::Remove(5), not_there(0)), (Call::Get(5), absent(0))];
-    assert_eq!(rt; first_wrong(alloc, SMALL, &rows)?, None);
+    assert_eq!(rt; first_wrong(alloc, small(), &rows)?, None);
     Ok(())
 }
 
@@ -92,8 +102,21 @@ fn a_key_without_a_path_is_refused(rt: HostRuntime) -> Result<(), Fail> {
         rows[n] = (Call::Put(key, key), stored(n as u64 + 1));
     }
     rows[8] = (Call::Put(32, 32), refused(PutError::NoPath));
-    assert_eq!(rt; first_wrong(rt.alloc(), SMALL, &rows)?, None);
+    assert_eq!(rt; first_wrong(rt.alloc(), small(), &rows)?, None);
     Ok(())
+}
+
+// Three items, of which this call uses the first that would be evicted next.
+fn first_wrong_with(alloc: Global, get: Call) -> Result<Option<(usize, Told)>, Fail> {
+    let rows = [
+        (Call::Put(0, 0), stored(1)),
+        (Call::Put(1, 1), stored(2)),
+        (Call::Put(2, 2), stored(3)),
+        (Call::Put(3, 3), stored_after(5, 0)),
+        (get, found(1, 5)),
+        (Call::Put(4, 4), stored_after(7, 2)),
+    ];
+    first_wrong(alloc, with_items(3), &rows)
 }
 
 #[test]
@@ -106,16 +129,11 @@ fn the_hand_evicts_what_was_not_used(rt: HostRuntime) -> Result<(), Fail> {
         (Call::Get(0), absent(4)),
     ];
     assert_eq!(rt; first_wrong(alloc, with_items(2), &rows)?, None);
-    for get in [Call::Get(1), Call::Look(1), Call::LookBeside(1)] {
-        let rows = [
-            (Call::Put(0, 0), stored(1)),
-            (Call::Put(1, 1), stored(2)),
-            (Call::Put(2, 2), stored(3)),
-            (Call::Put(3, 3), stored_after(5, 0)),
-            (get, found(1, 5)),
-            (Call::Put(4, 4), stored_after(7, 2)),
-        ];
-        assert_eq!(rt; first_wrong(alloc, with_items(3), &rows)?, None, "{get:?}");
+    let gets = [Call::Get(1), Call::Look(1), Call::LookBeside(1)];
+    for n in 0..gets.len() {
+        let get = gets[n];
+        let wrong = first_wrong_with(alloc, get)?;
+        assert_eq!(rt; wrong, None, "{get:?}");
     }
     Ok(())
 }
@@ -150,16 +168,13 @@ fn a_call_that_could_pass_the_limit_is_refused(rt: HostRuntime) -> Result<(), Fa
 
 #[test]
 fn keys_are_mixed(rt: HostRuntime) -> Result<(), Fail> {
-    let shape = Shape {
-        mix: Mix::Fmix,
-        ..SMALL
-    };
+    let mixed = shape(16, MOST, Mix::Fmix);
     let rows = [
         (Call::Put(1, 5), stored(1)),
         (Call::Get(1), found(5, 1)),
         (Call::Get(0), absent(1)),
     ];
-    assert_eq!(rt; first_wrong(rt.alloc(), shape, &rows)?, None);
+    assert_eq!(rt; first_wrong(rt.alloc(), mixed, &rows)?, None);
     Ok(())
 }
 
@@ -178,7 +193,7 @@ fn a_reader_catches_up_and_looks_beside_the_writer(rt: HostRuntime) -> Result<()
         (Call::LookBeside(0), absent(3)),
         (Call::CatchUp, Told::Moment(3)),
     ];
-    assert_eq!(rt; first_wrong(rt.alloc(), SMALL, &rows)?, None);
+    assert_eq!(rt; first_wrong(rt.alloc(), small(), &rows)?, None);
     Ok(())
 }
 
