@@ -46,10 +46,11 @@ pub(crate) fn put_until_refused(
 {
     let mut tally = Tally::default();
     for n in 0..u64::from(most) {
-        let Ok(put) = writer.put(cache, key_of(first.wrapping_add(n)), [n; 4]) else {
+        let stored = writer.put(cache, key_of(first.wrapping_add(n)), [n; 4]);
+        if stored.is_err() {
             break;
-        };
-        tally.count_put(Ok(put));
+        }
+        tally.count_put(stored);
     }
     tally
 }

@@ -129,9 +129,7 @@ fn the_hand_evicts_what_was_not_used(rt: HostRuntime) -> Result<(), Fail> {
         (Call::Get(0), absent(4)),
     ];
     assert_eq!(rt; first_wrong(alloc, with_items(2), &rows)?, None);
-    let gets = [Call::Get(1), Call::Look(1), Call::LookBeside(1)];
-    for n in 0..gets.len() {
-        let get = gets[n];
+    for get in [Call::Get(1), Call::Look(1), Call::LookBeside(1)] {
         let wrong = first_wrong_with(alloc, get)?;
         assert_eq!(rt; wrong, None, "{get:?}");
     }
