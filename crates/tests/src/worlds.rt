@@ -118,6 +118,18 @@ fn many_lookups(alloc: Global, many: u32) -> Result<Vec<Event>, AllocError> {
     Ok(events)
 }
 
+/// Makes 1,000 fills and removals.
+fn make_changes(alloc: Global, world: &mut World<1>) -> Result<Run<1>, Fail> {
+    let events = thousand_times(alloc, &changes())?;
+    Ok(run(alloc, world, events.as_slice())?)
+}
+
+/// Makes 10,000 events of lookups.
+fn make_lookups(alloc: Global, world: &mut World<1>) -> Result<Run<1>, Fail> {
+    let events = many_lookups(alloc, 10_000)?;
+    Ok(run(alloc, world, events.as_slice())?)
+}
+
 /// Whether each of these lookups found no key, and told it of this moment.
 fn are_absent(ended: &[Done<1>], at: u64) -> bool {
     for done in ended {
@@ -132,15 +144,11 @@ fn are_absent(ended: &[Done<1>], at: u64) -> bool {
 fn a_long_list_of_events_is_run(rt: HostRuntime) -> Result<(), Fail> {
     let alloc = rt.alloc();
     let mut world = new_world(alloc, 4, 16, 1)?;
-    let made = run(
-        alloc,
-        &mut world,
-        thousand_times(alloc, &changes())?.as_slice(),
-    )?;
+    let made = make_changes(alloc, &mut world)?;
     assert!(rt; made.stopped == None);
     assert!(rt; made.done.is_empty());
     assert!(rt; world.history().len() == 2000);
-    let made = run(alloc, &mut world, many_lookups(alloc, 10_000)?.as_slice())?;
+    let made = make_lookups(alloc, &mut world)?;
     assert!(rt; made.stopped == None);
     assert!(rt; made.done.len() == 833);
     assert!(rt; are_absent(made.done.as_slice(), 2000));
