@@ -7,9 +7,10 @@ ghost use Rattle.mc_theory.specs.States.{opening};
 ghost use Rattle.mc_theory.specs.declared.act.Act.TheVariants.{Close, Moment};
 ghost use Rattle.tests.specs.Drivers.{key_after, IsBeside, IsMaking};
 
+use crate::shapes::checked;
 use mc_core::Act;
 use mc_plan::{Answer, Clerk, NoMemory, Peek, Put, PutError, Remove, moment, read};
-use mc_words::{Checked, Mix, Shape, ShapeError, payload_words};
+use mc_words::{Checked, payload_words};
 use std::alloc::{AllocError, Global};
 use std::mem;
 use std::test::Fail;
@@ -191,32 +192,32 @@ fn remove(clerk: &mut Clerk<1>, driver: &mut Driver, key: u64) -> Option<Answer>
     run(clerk, driver)
 }
 
-fn checked_with(items: u32) -> Result<Checked, ShapeError> {
-    let shape = Shape {
-        buckets: 4,
-        items,
-        stripes: 1,
-        depth: 2,
-        tries: 2,
-        limit: 1 << 62,
-        mix: Mix::Plain,
-    };
-    shape.check()
-}
-
-/// Puts a key; nothing where an act was not made, or the answer is another one.
+/// Puts a key, and tells whether each act was made, and the answer is this one.
 fn put_tells(
     clerk: &mut Clerk<1>,
     driver: &mut Driver,
     key: u64,
     value: u64,
     wanted: Answer,
-) -> Option<()>
+) -> bool
     requires { IsBeside clerk.old (shape_of driver.old.checked) driver.old.words.items }
-    ensures beside { IfSome result (λ u. IsBeside clerk.new (shape_of driver.new.checked) driver.new.words.items) }
+    ensures beside { IsTrue result → IsBeside clerk.new (shape_of driver.new.checked) driver.new.words.items }
 {
-    let answer = put(clerk, driver, key, value)?;
-    if answer == wanted { Some(()) } else { None }
+    let Some(answer) = put(clerk, driver, key, value) else {
+        return false;
+    };
+    answer == wanted
+}
+
+/// Removes a key, and tells whether each act was made, and the answer is this one.
+fn remove_tells(clerk: &mut Clerk<1>, driver: &mut Driver, key: u64, wanted: Remove) -> bool
+    requires { IsBeside clerk.old (shape_of driver.old.checked) driver.old.words.items }
+    ensures beside { IsTrue result → IsBeside clerk.new (shape_of driver.new.checked) driver.new.words.items }
+{
+    let Some(answer) = remove(clerk, driver, key) else {
+        return false;
+    };
+    answer == Answer::Remove(Ok(wanted))
 }
 
 /// The clerk of a new table, and its words.
@@ -261,6 +262,19 @@ fn look_up(clerk: &Clerk<1>, driver: &Driver, key: u64) -> (Option<(u32, [u64; 1
     (entry, moment(&driver.checked, &mut look))
 }
 
+/// Whether the words say this of the key, and the history is so long.
+fn shows(
+    clerk: &Clerk<1>,
+    driver: &Driver,
+    key: u64,
+    entry: Option<(u32, [u64; 1])>,
+    at: u64,
+) -> bool
+    requires { IsBeside clerk.now (shape_of driver.now.checked) driver.now.words.items }
+{
+    look_up(clerk, driver, key) == (entry, at)
+}
+
 /// Eight keys of the buckets 0 and 1, the first of them under tag 1, so that it can go to bucket 3.
 const FULL: [u64; 8] = [72057594037927936, 0, 4, 8, 12, 16, 20, 24];
 
@@ -274,61 +288,44 @@ fn replaced(at: u64, moves: u8, key: u64) -> Answer {
 
 #[test]
 fn a_key_moves_to_make_room(rt: HostRuntime) -> Result<(), Fail> {
-    let checked = checked_with(16)?;
+    let checked = checked(4, 16, 2)?;
     let (mut clerk, mut driver) = start(rt.alloc(), &checked)?;
     assert!(rt; store_all(&mut clerk, &mut driver, &FULL));
-    put_tells(&mut clerk, &mut driver, 28, 5, stored(9, 1)).ok_or("the put of 28")?;
-    assert_eq!(rt; look_up(&clerk, &driver, 28), (Some((8, [5])), 9));
-    assert_eq!(rt;
-        look_up(&clerk, &driver, FULL[0]),
-        (Some((0, [FULL[0]])), 9)
-    );
-    assert_eq!(rt; look_up(&clerk, &driver, 32), (None, 9));
+    assert!(rt; put_tells(&mut clerk, &mut driver, 28, 5, stored(9, 1)));
+    assert!(rt; shows(&clerk, &driver, 28, Some((8, [5])), 9));
+    assert!(rt; shows(&clerk, &driver, FULL[0], Some((0, [FULL[0]])), 9));
+    assert!(rt; shows(&clerk, &driver, 32, None, 9));
     Ok(())
 }
 
 #[test]
 fn an_item_is_given_back_and_taken_again(rt: HostRuntime) -> Result<(), Fail> {
-    let checked = checked_with(2)?;
+    let checked = checked(4, 2, 2)?;
     let (mut clerk, mut driver) = start(rt.alloc(), &checked)?;
     assert!(rt; store_all(&mut clerk, &mut driver, &[0, 1]));
-    let removed = remove(&mut clerk, &mut driver, 0).ok_or("an act was not made")?;
-    assert_eq!(rt; removed, Answer::Remove(Ok(Remove::Removed { at: 3 })));
-    let absent = remove(&mut clerk, &mut driver, 0).ok_or("an act was not made")?;
-    assert_eq!(rt; absent, Answer::Remove(Ok(Remove::NotThere { at: 3 })));
-    put_tells(&mut clerk, &mut driver, 2, 5, stored(4, 0)).ok_or("the put of 2")?;
-    put_tells(
-        &mut clerk,
-        &mut driver,
-        2,
-        9,
-        Answer::Put(Ok(Put::Renewed { at: 5 })),
-    )
-    .ok_or("the second put of 2")?;
-    assert_eq!(rt; look_up(&clerk, &driver, 2), (Some((0, [9])), 5));
+    assert!(rt; remove_tells(&mut clerk, &mut driver, 0, Remove::Removed { at: 3 }));
+    assert!(rt; remove_tells(&mut clerk, &mut driver, 0, Remove::NotThere { at: 3 }));
+    assert!(rt; put_tells(&mut clerk, &mut driver, 2, 5, stored(4, 0)));
+    let renewed = Answer::Put(Ok(Put::Renewed { at: 5 }));
+    assert!(rt; put_tells(&mut clerk, &mut driver, 2, 9, renewed));
+    assert!(rt; shows(&clerk, &driver, 2, Some((0, [9])), 5));
     Ok(())
 }
 
 #[test]
 fn the_first_item_without_a_mark_is_taken(rt: HostRuntime) -> Result<(), Fail> {
-    let checked = checked_with(3)?;
+    let checked = checked(4, 3, 2)?;
     let (mut clerk, mut driver) = start(rt.alloc(), &checked)?;
     assert!(rt; store_all(&mut clerk, &mut driver, &[0, 1, 2]));
     driver.marked = true;
-    put_tells(
-        &mut clerk,
-        &mut driver,
-        3,
-        3,
-        Answer::Put(Err(PutError::AllRecent)),
-    )
-    .ok_or("the put of 3 while each bit is set")?;
-    assert_eq!(rt; look_up(&clerk, &driver, 3), (None, 3));
+    let refused = Answer::Put(Err(PutError::AllRecent));
+    assert!(rt; put_tells(&mut clerk, &mut driver, 3, 3, refused));
+    assert!(rt; shows(&clerk, &driver, 3, None, 3));
     driver.marked = false;
-    put_tells(&mut clerk, &mut driver, 3, 3, replaced(5, 0, 0)).ok_or("the put of 3")?;
-    assert_eq!(rt; look_up(&clerk, &driver, 0), (None, 5));
+    assert!(rt; put_tells(&mut clerk, &mut driver, 3, 3, replaced(5, 0, 0)));
+    assert!(rt; shows(&clerk, &driver, 0, None, 5));
     let _ = driver.swap(1, 1);
-    put_tells(&mut clerk, &mut driver, 4, 4, replaced(7, 0, 2)).ok_or("the put of 4")?;
-    assert_eq!(rt; look_up(&clerk, &driver, 4), (Some((2, [4])), 7));
+    assert!(rt; put_tells(&mut clerk, &mut driver, 4, 4, replaced(7, 0, 2)));
+    assert!(rt; shows(&clerk, &driver, 4, Some((2, [4])), 7));
     Ok(())
 }

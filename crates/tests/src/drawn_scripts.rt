@@ -60,14 +60,14 @@ impl Script {
         }
     }
 
-    fn add(&mut self, line: &str) -> Result<(), AllocError> {
-        self.text.push_str(line)?;
+    fn add(&mut self, line: String) -> Result<(), AllocError> {
+        self.text.push_str(line.as_str())?;
         self.text.push('\n')?;
         self.lines = self.lines.saturating_add(1);
         Ok(())
     }
 
-    fn ask(&mut self, asked: Asked, line: &str) -> Result<(), AllocError> {
+    fn ask(&mut self, asked: Asked, line: String) -> Result<(), AllocError> {
         self.asked.push(asked)?;
         self.add(line)
     }
@@ -87,20 +87,26 @@ impl Script {
         }
     }
 
+    /// How many accesses of the reader are left, up to the end of its lookup.
+    fn left_of(&self, reader: usize) -> io::Result<u64> {
+        let step = format!(in self.alloc; "r {reader}")?;
+        self.left(step.as_str())
+    }
+
     /// A whole call of the writer, whose number is the value of a put.
     fn call(&mut self, kind: u32, key: u64, number: u64) -> Result<(), AllocError> {
         match kind % 8 {
             0 => {
                 let line = format!(in self.alloc; "remove {key}")?;
-                self.ask(Asked::Remove(key), line.as_str())
+                self.ask(Asked::Remove(key), line)
             }
             1 | 2 => {
                 let line = format!(in self.alloc; "get {key}")?;
-                self.ask(Asked::Get(key), line.as_str())
+                self.ask(Asked::Get(key), line)
             }
             _ => {
                 let line = format!(in self.alloc; "put {key} {number}")?;
-                self.ask(Asked::Put(key, number), line.as_str())
+                self.ask(Asked::Put(key, number), line)
             }
         }
     }
@@ -113,20 +119,19 @@ impl Script {
         if !runs {
             self.set(reader, true);
             let line = format!(in self.alloc; "begin {reader} get {key}")?;
-            self.ask(Asked::Begin(reader, key), line.as_str())?;
+            self.ask(Asked::Begin(reader, key), line)?;
             return Ok(());
         }
-        let step = format!(in self.alloc; "r {reader}")?;
-        let left = self.left(step.as_str())?;
+        let left = self.left_of(reader)?;
         let some = u64::from(draw / 2).checked_rem(left).unwrap_or(0);
         if draw % 2 == 1 || some == 0 {
             self.set(reader, false);
             let line = format!(in self.alloc; "r {reader} {left}")?;
-            self.ask(Asked::End(reader), line.as_str())?;
+            self.ask(Asked::End(reader), line)?;
             return Ok(());
         }
         let line = format!(in self.alloc; "r {reader} {some}")?;
-        self.add(line.as_str())?;
+        self.add(line)?;
         Ok(())
     }
 
@@ -139,7 +144,7 @@ impl Script {
         number: u64,
     ) -> io::Result<()> {
         let line = format!(in self.alloc; "begin put {key} {number}")?;
-        self.add(line.as_str())?;
+        self.add(line)?;
         let mut left = self.left("w")?;
         if left == 0 {
             self.asked.push(Asked::Put(key, number))?;
@@ -150,7 +155,8 @@ impl Script {
             if left <= ACTS_AFTER_SWEEP + 1 {
                 break;
             }
-            self.ask(Asked::Reading, "w")?;
+            let line = String::from_str(self.alloc, "w")?;
+            self.ask(Asked::Reading, line)?;
             for _ in 0..6 {
                 let reader = (rng.next_u32() % 2) as usize;
                 let other = drawn_key(rng, keys);
@@ -159,7 +165,7 @@ impl Script {
             left = self.left("w")?;
         }
         let line = format!(in self.alloc; "w {left}")?;
-        self.ask(Asked::Put(key, number), line.as_str())?;
+        self.ask(Asked::Put(key, number), line)?;
         Ok(())
     }
 

@@ -22,6 +22,8 @@ mod plain;
 #[cfg(test)]
 mod script;
 #[cfg(test)]
+mod shapes;
+#[cfg(test)]
 mod streams;
 #[cfg(test)]
 mod sweep;

@@ -5,7 +5,8 @@ ghost use Rattle.std.specs.Prelude.{◌≡◌};
 ghost use Rattle.mc_words.specs.Checks.{shape_of};
 ghost use Rattle.mc_search.specs.Readable.{HasSlots, IsFilled};
 
-use crate::table::{Table, checked_with, is_readable, table_of};
+use crate::shapes::checked;
+use crate::table::{Table, is_readable, table_of};
 use arrayvec::ArrayVec;
 use mc_plan::{Finder, Path};
 use mc_words::{Checked, Place};
@@ -206,7 +207,7 @@ fn is_first_of_least(checked: &Checked, finder: &mut Finder, table: &mut Table, 
 
 /// The first of 500 drawn tables in which the path of a drawn key is not the one of the plain searches.
 fn wrong_table(alloc: Global, rng: &mut Lcg64Xsh32, depth: u8) -> Result<Option<u32>, Fail> {
-    let checked = checked_with(32, depth)?;
+    let checked = checked(32, 128, depth)?;
     for n in 0..500 {
         let mut finder = Finder::new(alloc, &checked)?;
         let mut table = drawn(rng);
@@ -233,15 +234,15 @@ fn paths_are_the_first_of_the_least(rt: HostRuntime) -> Result<(), Fail> {
 /// Key 28 has the buckets 0 and 1 of four. Item 0 is the only one there with tag 1, so it can go to bucket 3.
 #[test]
 fn items_go_to_their_other_buckets(rt: HostRuntime) -> Result<(), Fail> {
-    let checked = checked_with(4, 2)?;
+    let checked = checked(4, 16, 2)?;
     let mut finder = Finder::new(rt.alloc(), &checked)?;
     let mut free = table_of(&[4294967297, 2, 3, 4, 5, 6, 7, 8]);
     assert!(rt; is_readable(&checked, &mut free));
     let path = finder.path(&mut free, 28);
-    assert_eq!(rt; written(&path).as_slice(), [12, 0].as_slice());
+    assert!(rt; written(&path).as_slice() == [12, 0].as_slice());
     let mut full = table_of(&[4294967297, 2, 3, 4, 5, 6, 7, 8, 0, 0, 0, 0, 9, 10, 11, 12]);
     assert!(rt; is_readable(&checked, &mut full));
     let path = finder.path(&mut full, 28);
-    assert_eq!(rt; written(&path).as_slice(), [8, 12, 0].as_slice());
+    assert!(rt; written(&path).as_slice() == [8, 12, 0].as_slice());
     Ok(())
 }

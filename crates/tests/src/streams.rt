@@ -1,10 +1,9 @@
 //! Replays over readers and writers that fail.
-ghost use Rattle.std.specs.Prelude.{◌≡◌, IfOk};
-ghost use Rattle.mc_words.specs.Checks.{shape_of};
-
+use crate::shapes::checked;
 use mc_replay::{ReplayError, replay};
 use mc_step::run_step;
-use mc_words::{Checked, Mix, Shape, ShapeError};
+use mc_words::ShapeError;
+use std::alloc::Global;
 use std::io;
 use std::io::{BufReader, Error, ErrorKind, Read, Write};
 
@@ -55,59 +54,86 @@ const ANSWERS: &[u8] = b"stored at 1 moves 0\nrenewed at 2\nfound 9 at 2\n";
 
 /// The line that is read after so many bytes of the script, and the answers of those before it.
 fn reading(count: usize) -> (u64, &'static [u8]) {
-    match count {
-        0..=7 => (1, b""),
-        8..=15 => (2, b"stored at 1 moves 0\n"),
-        16..=21 => (3, b"stored at 1 moves 0\nrenewed at 2\n"),
-        _ => (4, ANSWERS),
+    if count < 8 {
+        (1, b"")
+    } else if count < 16 {
+        (2, b"stored at 1 moves 0\n")
+    } else if count < 22 {
+        (3, b"stored at 1 moves 0\nrenewed at 2\n")
+    } else {
+        (4, ANSWERS)
     }
 }
 
 /// The line whose answer is written after so many bytes.
 fn writing(count: usize) -> u64 {
-    match count {
-        0..=19 => 1,
-        20..=32 => 2,
-        _ => 3,
+    if count < 20 {
+        1
+    } else if count < 33 {
+        2
+    } else {
+        3
     }
 }
 
-fn checked() -> Result<Checked, ShapeError>
-    ensures { IfOk result (λ c. (shape_of c).depth ≡ 0) }
-{
-    let shape = Shape {
-        buckets: 4,
-        items: 16,
-        stripes: 1,
-        depth: 0,
-        tries: 2,
-        limit: 1 << 62,
-        mix: Mix::Plain,
+/// Replays a script of a new cache with two readers, into a writer that takes so many bytes: what it took, and the end.
+fn replay_narrow(
+    alloc: Global,
+    script: &[u8],
+    room: usize,
+) -> Result<(Vec<u8>, Result<(), ReplayError>), ShapeError> {
+    let checked = checked(4, 16, 0)?;
+    let mut input = script;
+    let mut output = Narrow {
+        taken: Vec::new(alloc),
+        room,
     };
-    shape.check()
+    let result = replay::<1, &[u8], Narrow>(alloc, &checked, 2, &mut input, &mut output);
+    Ok((output.taken, result))
+}
+
+/// What a run of the program leaves.
+#[derive(Drop)]
+struct Outcome {
+    status: u8,
+    output: Vec<u8>,
+    errors: Vec<u8>,
+}
+
+/// Runs the program over these bytes, after which a read fails.
+fn run_broken(alloc: Global, bytes: &[u8]) -> io::Result<Outcome> {
+    let mut input = BufReader::new(alloc, Broken { left: bytes })?;
+    let mut output = Vec::new(alloc);
+    let mut errors = Vec::new(alloc);
+    let status = run_step(alloc, PLAIN, &mut input, &mut output, &mut errors);
+    Ok(Outcome {
+        status,
+        output,
+        errors,
+    })
 }
 
 #[test]
 fn a_replay_writes_its_answers(rt: HostRuntime) -> Result<(), ShapeError> {
     let alloc = rt.alloc();
-    let checked = checked()?;
+    let checked = checked(4, 16, 0)?;
     let mut input = SCRIPT;
     let mut output = Vec::new(alloc);
     assert!(rt; replay::<1, &[u8], Vec<u8>>(alloc, &checked, 2, &mut input, &mut output) == Ok(()));
-    assert_eq!(rt; output.as_slice(), ANSWERS);
+    assert!(rt; output.as_slice() == ANSWERS);
     let mut input = b"put 1 2 3 4\nget 1\nput 1 5 6 7\nget 1\nremove 1\nget 1".as_slice();
     let mut output = Vec::new(alloc);
     assert!(rt; replay::<3, &[u8], Vec<u8>>(alloc, &checked, 2, &mut input, &mut output) == Ok(()));
     let answers =
         b"stored at 1 moves 0\nfound 2 3 4 at 1\nrenewed at 2\nfound 5 6 7 at 2\nremoved at 3\nabsent at 3\n".as_slice();
-    assert_eq!(rt; output.as_slice(), answers);
+    assert!(rt; output.as_slice() == answers);
     Ok(())
 }
 
 #[test]
 fn a_replay_tells_the_line_and_the_fault(rt: HostRuntime) -> Result<(), ShapeError> {
     let alloc = rt.alloc();
-    let checked = checked()?;
+    let checked = checked(4, 16, 0)?;
     let cases: [(&[u8], u64, u8); 6] = [
         (b"get 0\nget 0\nx", 3, 4),
         (b"get 0\nget x\nw", 2, 5),
@@ -128,7 +154,7 @@ fn a_replay_tells_the_line_and_the_fault(rt: HostRuntime) -> Result<(), ShapeErr
         let result = replay::<1, &[u8], Vec<u8>>(alloc, &checked, readers, &mut input, &mut output);
         assert!(rt; result == Err(ReplayError { line: 0, number: 6 }));
         assert!(rt; output.is_empty());
-        assert_eq!(rt; input.len(), SCRIPT.len());
+        assert!(rt; input.len() == SCRIPT.len());
     }
     Ok(())
 }
@@ -136,22 +162,14 @@ fn a_replay_tells_the_line_and_the_fault(rt: HostRuntime) -> Result<(), ShapeErr
 #[test]
 fn a_refused_line_has_its_answer_written_first(rt: HostRuntime) -> Result<(), ShapeError> {
     let alloc = rt.alloc();
-    let checked = checked()?;
+    let answer = b"stored at 1 moves 0\n".as_slice();
     for (room, number) in [(20, 8), (19, 9), (0, 9)] {
-        let mut input = b"begin put 0 7\nw 8".as_slice();
-        let mut output = Narrow {
-            taken: Vec::new(alloc),
-            room,
-        };
-        let result = replay::<1, &[u8], Narrow>(alloc, &checked, 2, &mut input, &mut output);
+        let (taken, result) = replay_narrow(alloc, b"begin put 0 7\nw 8", room)?;
         assert!(rt;
             result == Err(ReplayError { line: 2, number }),
             "with room for {room}"
         );
-        assert_eq!(rt;
-            output.taken.as_slice(),
-            &b"stored at 1 moves 0\n".as_slice()[..room]
-        );
+        assert!(rt; taken.as_slice() == &answer[..room]);
     }
     Ok(())
 }
@@ -159,23 +177,17 @@ fn a_refused_line_has_its_answer_written_first(rt: HostRuntime) -> Result<(), Sh
 #[test]
 fn each_byte_that_is_not_taken(rt: HostRuntime) -> Result<(), ShapeError> {
     let alloc = rt.alloc();
-    let checked = checked()?;
     for room in 0..ANSWERS.len() {
-        let mut input = SCRIPT;
-        let mut output = Narrow {
-            taken: Vec::new(alloc),
-            room,
-        };
-        let result = replay::<1, &[u8], Narrow>(alloc, &checked, 2, &mut input, &mut output);
+        let (taken, result) = replay_narrow(alloc, SCRIPT, room)?;
         let line = writing(room);
         assert!(rt;
             result == Err(ReplayError { line, number: 9 }),
             "with room for {room}"
         );
-        assert_eq!(rt; output.taken.as_slice(), &ANSWERS[..room]);
+        assert!(rt; taken.as_slice() == &ANSWERS[..room]);
     }
-    assert_eq!(rt; writing(25), 2);
-    assert_eq!(rt; &ANSWERS[..25], b"stored at 1 moves 0\nrenew".as_slice());
+    assert!(rt; writing(25) == 2);
+    assert!(rt; &ANSWERS[..25] == b"stored at 1 moves 0\nrenew".as_slice());
     Ok(())
 }
 
@@ -183,18 +195,12 @@ fn each_byte_that_is_not_taken(rt: HostRuntime) -> Result<(), ShapeError> {
 fn each_byte_that_is_not_read(rt: HostRuntime) -> io::Result<()> {
     let alloc = rt.alloc();
     for count in 0..=SCRIPT.len() {
-        let broken = Broken {
-            left: &SCRIPT[..count],
-        };
-        let mut input = BufReader::new(alloc, broken)?;
-        let mut output = Vec::new(alloc);
-        let mut errors = Vec::new(alloc);
-        let status = run_step(alloc, PLAIN, &mut input, &mut output, &mut errors);
         let (line, answers) = reading(count);
         let told = format!(in alloc; "line {line}: read failed\n")?;
-        assert_eq!(rt; status, 3);
-        assert_eq!(rt; errors.as_slice(), told.as_bytes());
-        assert_eq!(rt; output.as_slice(), answers);
+        let outcome = run_broken(alloc, &SCRIPT[..count])?;
+        assert!(rt; outcome.status == 3);
+        assert!(rt; outcome.errors.as_slice() == told.as_bytes());
+        assert!(rt; outcome.output.as_slice() == answers);
     }
     Ok(())
 }
@@ -209,16 +215,10 @@ fn a_line_that_is_too_long_before_the_read_fails(rt: HostRuntime) -> io::Result<
     ];
     for (length, told, wanted) in cases {
         let bytes = vec![in alloc; b'#'; length]?;
-        let broken = Broken {
-            left: bytes.as_slice(),
-        };
-        let mut input = BufReader::new(alloc, broken)?;
-        let mut output = Vec::new(alloc);
-        let mut errors = Vec::new(alloc);
-        let status = run_step(alloc, PLAIN, &mut input, &mut output, &mut errors);
-        assert_eq!(rt; status, wanted);
-        assert_eq!(rt; errors.as_slice(), told);
-        assert!(rt; output.is_empty());
+        let outcome = run_broken(alloc, bytes.as_slice())?;
+        assert!(rt; outcome.status == wanted);
+        assert!(rt; outcome.errors.as_slice() == told);
+        assert!(rt; outcome.output.is_empty());
     }
     Ok(())
 }
@@ -240,8 +240,8 @@ fn the_status_of_a_failed_write(rt: HostRuntime) {
         };
         let mut errors = Vec::new(alloc);
         let status = run_step(alloc, words, &mut input, &mut output, &mut errors);
-        assert_eq!(rt; status, wanted);
-        assert_eq!(rt; errors.as_slice(), told);
+        assert!(rt; status == wanted);
+        assert!(rt; errors.as_slice() == told);
     }
 }
 
@@ -261,6 +261,6 @@ fn a_failed_write_to_the_errors_is_passed_over(rt: HostRuntime) {
             room: 3,
         };
         let status = run_step(alloc, words, &mut input, &mut output, &mut errors);
-        assert_eq!(rt; status, 2);
+        assert!(rt; status == 2);
     }
 }

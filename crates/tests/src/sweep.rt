@@ -23,11 +23,11 @@ fn swept(items: u32, hand: u32, bits: &[u64]) -> (Option<u32>, u32)
 
 #[test]
 fn a_sweep_stops_at_the_first_clear_bit(rt: HostRuntime) -> Result<(), Fail> {
-    assert_eq!(rt; swept(3, 1, &[0, 0]), (Some(1), 2));
-    assert_eq!(rt; swept(3, 1, &[1, 1, 1, 0, 0]), (Some(1), 2));
-    assert_eq!(rt; swept(3, 1, &[1, 0]), (Some(2), 0));
-    assert_eq!(rt; swept(3, 1, &[1, 1, 1, 1, 1, 1, 0]), (None, 1));
-    assert_eq!(rt; swept(1, 0, &[1, 0]), (Some(0), 0));
+    assert!(rt; swept(3, 1, &[0, 0]) == (Some(1), 2));
+    assert!(rt; swept(3, 1, &[1, 1, 1, 0, 0]) == (Some(1), 2));
+    assert!(rt; swept(3, 1, &[1, 0]) == (Some(2), 0));
+    assert!(rt; swept(3, 1, &[1, 1, 1, 1, 1, 1, 0]) == (None, 1));
+    assert!(rt; swept(1, 0, &[1, 0]) == (Some(0), 0));
     Ok(())
 }
 
@@ -46,14 +46,14 @@ fn a_path_is_cut_at_the_victim(rt: HostRuntime) -> Result<(), Fail> {
         hole: place(3, 0),
     };
     let path = path.cut_at(place(2, 0));
-    assert_eq!(rt; path.places.len(), 3);
-    assert_eq!(rt; path.hole, place(3, 0));
+    assert!(rt; path.places.len() == 3);
+    assert!(rt; path.hole == place(3, 0));
     let path = path.cut_at(place(1, 1));
-    assert_eq!(rt; path.places.as_slice(), [place(0, 1)].as_slice());
-    assert_eq!(rt; path.hole, place(1, 1));
-    assert_eq!(rt; path.first(), place(0, 1));
+    assert!(rt; path.places.as_slice() == [place(0, 1)].as_slice());
+    assert!(rt; path.hole == place(1, 1));
+    assert!(rt; path.first() == place(0, 1));
     let path = path.cut_at(place(0, 1));
-    assert_eq!(rt; path.places.len(), 0);
-    assert_eq!(rt; path.hole, place(0, 1));
+    assert!(rt; path.places.is_empty());
+    assert!(rt; path.hole == place(0, 1));
     Ok(())
 }

@@ -5,7 +5,7 @@ ghost use Rattle.mc_words.specs.Places.{IsPlace, slot_number, slot};
 ghost use Rattle.mc_search.specs.Readable.{HasSlots, IsFilled};
 
 use mc_plan::Peek;
-use mc_words::{Checked, Mix, Place, Shape, ShapeError};
+use mc_words::{Checked, Place};
 
 /// The words of a small table: those of one stripe, 32 buckets and no item, or of fewer buckets and some items.
 #[derive(Drop)]
@@ -64,17 +64,4 @@ pub(crate) fn is_readable(checked: &Checked, table: &mut Table) -> bool
         }
     }
     true
-}
-
-pub(crate) fn checked_with(buckets: u32, depth: u8) -> Result<Checked, ShapeError> {
-    let shape = Shape {
-        buckets,
-        items: buckets.saturating_mul(4),
-        stripes: 1,
-        depth,
-        tries: 1,
-        limit: 0,
-        mix: Mix::Plain,
-    };
-    shape.check()
 }

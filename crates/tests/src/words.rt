@@ -1,18 +1,15 @@
 //! Shapes and keys, beside values that come from elsewhere.
+use crate::shapes::{checked, shape};
 use mc_words::{Checked, Mix, Shape, ShapeError};
-use std::alloc::AllocError;
+use std::alloc::{AllocError, Global};
 
-/// A shape of so many buckets and items, with one stripe and no displacements.
-fn shape(buckets: u32, items: u32, mix: Mix) -> Shape {
-    Shape {
-        buckets,
-        items,
-        stripes: 1,
-        depth: 0,
-        tries: 2,
-        limit: 1 << 62,
-        mix,
-    }
+/// A checked shape of so many buckets, whose keys are mixed.
+fn mixed(buckets: u32) -> Result<Checked, ShapeError> {
+    let shape = Shape {
+        mix: Mix::Fmix,
+        ..shape(buckets, 16, 0)
+    };
+    shape.check()
 }
 
 /// The tag of a key and its two buckets.
@@ -25,20 +22,19 @@ fn parts(checked: &Checked, key: u64) -> (u8, u32, u32) {
 #[test]
 fn a_key_has_these_parts(rt: HostRuntime) -> Result<(), ShapeError> {
     // Mixed, key 1 is 0xb456_bcfc_34c2_cb2c.
-    let large = shape(1 << 20, 16, Mix::Fmix).check()?;
-    assert_eq!(rt; (large.tag(0), large.first(0)), (0, 0));
-    assert_eq!(rt; (large.tag(1), large.first(1)), (0xb4, 0x2_cb2c));
-    let mixed = shape(4, 16, Mix::Fmix).check()?;
-    assert_eq!(rt; parts(&mixed, 1), (180, 0, 1));
-    let plain = shape(4, 16, Mix::Plain).check()?;
+    let large = mixed(1 << 20)?;
+    assert!(rt; (large.tag(0), large.first(0)) == (0, 0));
+    assert!(rt; (large.tag(1), large.first(1)) == (0xb4, 0x2_cb2c));
+    assert!(rt; parts(&mixed(4)?, 1) == (180, 0, 1));
+    let plain = checked(4, 16, 0)?;
     for (key, wanted) in [
         (0, (0, 0, 1)),
         (1 << 56, (1, 0, 3)),
         (u64::MAX, (255, 3, 0)),
         (1 << 32, (0, 0, 1)),
     ] {
-        assert_eq!(rt; parts(&plain, key), wanted, "{key}");
-        assert_eq!(rt; plain.stripe(key), 0, "{key}");
+        assert!(rt; parts(&plain, key) == wanted, "{key}");
+        assert!(rt; plain.stripe(key) == 0, "{key}");
     }
     Ok(())
 }
@@ -50,59 +46,74 @@ fn a_key_has_this_stripe(rt: HostRuntime) -> Result<(), ShapeError> {
         (1 << 32, Mix::Plain, 2, 1),
         (u64::MAX, Mix::Plain, 1 << 16, (1 << 16) - 1),
     ] {
-        let checked = Shape {
+        let shape = Shape {
             stripes,
-            ..shape(4, 16, mix)
-        }
-        .check()?;
-        assert_eq!(rt; checked.stripe(key), wanted, "{key} of {stripes}");
+            mix,
+            ..shape(4, 16, 0)
+        };
+        assert!(rt; shape.check()?.stripe(key) == wanted, "{key} of {stripes}");
     }
     Ok(())
 }
 
+/// The other bucket of key 0 under a tag.
+fn other(checked: &Checked, tag: u8) -> u32 {
+    let zero = checked.first(0);
+    checked.alt(zero, tag)
+}
+
+/// Whether item 0 has this word under a tag, and the word names both.
+fn is_word(checked: &Checked, tag: u8, word: u64) -> bool {
+    checked.slot_word(tag, 0) == word && checked.slot_parts(word) == Some((tag, 0))
+}
+
 #[test]
 fn the_buckets_of_a_tag_are_so_far_apart(rt: HostRuntime) -> Result<(), ShapeError> {
-    let many = shape(1024, 16, Mix::Plain).check()?;
+    let many = checked(1024, 16, 0)?;
     for (tag, offset) in [(0, 405), (1, 191), (255, 107)] {
-        let zero = many.first(0);
-        assert_eq!(rt; many.alt(zero, tag), offset, "tag {tag} of 1024");
+        assert!(rt; other(&many, tag) == offset, "tag {tag} of 1024");
     }
-    let four = shape(4, 16, Mix::Plain).check()?;
+    let four = checked(4, 16, 0)?;
     for tag in 0..=255u8 {
         let offset = if tag % 2 == 0 { 1 } else { 3 };
-        let zero = four.first(0);
-        assert_eq!(rt; four.alt(zero, tag), offset, "tag {tag} of four");
+        assert!(rt; other(&four, tag) == offset, "tag {tag} of four");
     }
-    for (tag, word) in [(180, 773_094_113_281), (0, 1)] {
-        assert_eq!(rt; four.slot_word(tag, 0), word);
-        assert!(rt; four.slot_parts(word) == Some((tag, 0)));
-    }
+    assert!(rt; is_word(&four, 180, 773_094_113_281));
+    assert!(rt; is_word(&four, 0, 1));
     assert!(rt; four.slot_parts(0) == None);
-    assert_eq!(rt; four.words::<1>(), 51);
+    assert!(rt; four.words::<1>() == 51);
     Ok(())
 }
 
 #[test]
 fn a_checked_shape_is_kept(rt: HostRuntime) -> Result<(), ShapeError> {
     for wanted in [
-        shape(2, 1, Mix::Plain),
-        shape(4, 16, Mix::Fmix),
-        shape(1 << 20, 1 << 22, Mix::Plain),
+        shape(2, 1, 0),
+        Shape {
+            mix: Mix::Fmix,
+            ..shape(4, 16, 0)
+        },
+        shape(1 << 20, 1 << 22, 0),
         Shape {
             depth: 8,
             tries: 1,
             limit: 0,
-            ..shape(4, 16, Mix::Plain)
+            ..shape(4, 16, 0)
         },
         Shape {
             tries: 64,
             stripes: 1 << 16,
-            ..shape(4, 16, Mix::Plain)
+            ..shape(4, 16, 0)
         },
     ] {
         assert!(rt; wanted.check()?.shape() == wanted);
     }
     Ok(())
+}
+
+/// Whether the fault is told in these words.
+fn is_told(alloc: Global, fault: ShapeError, text: &str) -> Result<bool, AllocError> {
+    Ok(format!(in alloc; "{fault}")?.as_str() == text)
 }
 
 #[test]
@@ -138,7 +149,7 @@ fn the_first_fault_of_a_shape_is_told(rt: HostRuntime) -> Result<(), AllocError>
         ),
     ] {
         assert!(rt; faulty.check() == Err(fault));
-        assert_eq!(rt; format!(in alloc; "{fault}")?.as_str(), text);
+        assert!(rt; is_told(alloc, fault, text)?, "{text}");
         match fault {
             ShapeError::Buckets => faulty.buckets = 4,
             ShapeError::Items => faulty.items = 16,

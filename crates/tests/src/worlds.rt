@@ -1,26 +1,31 @@
 //! New worlds and short lists of events, with the shape that the stepper takes by default.
+use crate::shapes::{checked, shape};
 use mc_core::{
     Act, Change, Deed, Done, Event, Reply, Run, Stepped, Unlawful, World, WorldError, run, run_new,
 };
-use mc_words::{Checked, Mix, Place, Shape, ShapeError};
+use mc_words::{Checked, Place, Shape};
 use std::alloc::{AllocError, Global};
 use std::test::Fail;
 
-fn checked_of(buckets: u32, items: u32, limit: u64) -> Result<Checked, ShapeError> {
-    let shape = Shape {
-        buckets,
-        items,
-        stripes: 1,
-        depth: 2,
-        tries: 2,
-        limit,
-        mix: Mix::Plain,
-    };
-    shape.check()
+/// A new world of so many buckets and items for so many readers.
+fn new_world(alloc: Global, buckets: u32, items: u32, readers: u32) -> Result<World<1>, Fail> {
+    let checked = checked(buckets, items, 2)?;
+    Ok(World::new(alloc, &checked, readers)?)
 }
 
-fn checked_with(limit: u64) -> Result<Checked, ShapeError> {
-    checked_of(4, 16, limit)
+/// Makes the event, and tells whether the world gives this.
+fn gives(world: &mut World<1>, event: Event, given: Result<Stepped<1>, Unlawful>) -> bool {
+    world.step(event) == given
+}
+
+/// Whether this lookup alone ended, and no event was refused.
+fn ends_with(made: &Run<1>, done: Done<1>) -> bool {
+    made.done.as_slice() == [done].as_slice() && made.stopped == None
+}
+
+/// Whether no lookup ended, and this event was refused.
+fn stops_at(made: &Run<1>, event: usize, why: Unlawful) -> bool {
+    made.done.is_empty() && made.stopped == Some((event, why))
 }
 
 /// A word of the world, if it has so many.
@@ -32,30 +37,30 @@ fn word_at(world: &World<1>, n: usize) -> Option<u64> {
     }
 }
 
-const LIMIT: u64 = 4611686018427387904;
-
 const FIRST: Place = Place { bucket: 0, slot: 0 };
 
 #[test]
 fn a_new_world_refuses_a_write_and_an_open_past_the_limit(rt: HostRuntime) -> Result<(), Fail> {
-    let checked = checked_with(1)?;
-    let mut world: World<1> = World::new(rt.alloc(), &checked, 2)?;
-    let refused = world.step(Event::Write(Act::Item(0, 0, 0)));
-    assert_eq!(rt; refused, Err(Unlawful::NotLawful));
-    let refused = world.step(Event::Write(Act::Open(0, Deed::Fill)));
-    assert_eq!(rt; refused, Err(Unlawful::Limit));
-    assert_eq!(rt; world.history().len(), 0);
+    let shape = Shape {
+        limit: 1,
+        ..shape(4, 16, 2)
+    };
+    let mut world: World<1> = World::new(rt.alloc(), &shape.check()?, 2)?;
+    let write = Event::Write(Act::Item(0, 0, 0));
+    assert!(rt; gives(&mut world, write, Err(Unlawful::NotLawful)));
+    let open = Event::Write(Act::Open(0, Deed::Fill));
+    assert!(rt; gives(&mut world, open, Err(Unlawful::Limit)));
+    assert!(rt; world.history().is_empty());
     for n in 0..51 {
-        assert_eq!(rt; word_at(&world, n), Some(0), "word {n}");
+        assert!(rt; word_at(&world, n) == Some(0), "word {n}");
     }
-    assert_eq!(rt; word_at(&world, 51), None);
+    assert!(rt; word_at(&world, 51) == None);
     Ok(())
 }
 
 #[test]
 fn a_list_of_events_is_run_up_to_the_first_refused(rt: HostRuntime) -> Result<(), Fail> {
-    let checked = checked_with(LIMIT)?;
-    let mut world: World<1> = World::new(rt.alloc(), &checked, 1)?;
+    let mut world = new_world(rt.alloc(), 4, 16, 1)?;
     let mut events = [Event::Read(0); 13];
     events[0] = Event::Begin(0, 0);
     let made = run(rt.alloc(), &mut world, &events[..12])?;
@@ -66,12 +71,10 @@ fn a_list_of_events_is_run_up_to_the_first_refused(rt: HostRuntime) -> Result<()
         first: 1,
         last: 11,
     };
-    assert_eq!(rt; made.done.as_slice(), [done].as_slice());
-    assert_eq!(rt; made.stopped, None);
+    assert!(rt; ends_with(&made, done));
     events[4] = Event::Begin(0, 0);
     let made = run(rt.alloc(), &mut world, &events)?;
-    assert_eq!(rt; made.done.len(), 0);
-    assert_eq!(rt; made.stopped, Some((4, Unlawful::StillRunning)));
+    assert!(rt; stops_at(&made, 4, Unlawful::StillRunning));
     Ok(())
 }
 
@@ -91,12 +94,11 @@ fn changes() -> [Act; 10] {
     ]
 }
 
-/// The acts of 1,000 fills and removals.
-fn many_changes(alloc: Global) -> Result<Vec<Event>, AllocError> {
-    let changes = changes();
+/// These acts, 1,000 times.
+fn thousand_times(alloc: Global, acts: &[Act]) -> Result<Vec<Event>, AllocError> {
     let mut events = Vec::new(alloc);
     for _ in 0..1000 {
-        for act in &changes {
+        for act in acts {
             events.push(Event::Write(*act))?;
         }
     }
@@ -116,6 +118,18 @@ fn many_lookups(alloc: Global, many: u32) -> Result<Vec<Event>, AllocError> {
     Ok(events)
 }
 
+/// Makes 1,000 fills and removals.
+fn make_changes(alloc: Global, world: &mut World<1>) -> Result<Run<1>, Fail> {
+    let events = thousand_times(alloc, &changes())?;
+    Ok(run(alloc, world, events.as_slice())?)
+}
+
+/// Makes 10,000 events of lookups.
+fn make_lookups(alloc: Global, world: &mut World<1>) -> Result<Run<1>, Fail> {
+    let events = many_lookups(alloc, 10_000)?;
+    Ok(run(alloc, world, events.as_slice())?)
+}
+
 /// Whether each of these lookups found no key, and told it of this moment.
 fn are_absent(ended: &[Done<1>], at: u64) -> bool {
     for done in ended {
@@ -129,15 +143,14 @@ fn are_absent(ended: &[Done<1>], at: u64) -> bool {
 #[test]
 fn a_long_list_of_events_is_run(rt: HostRuntime) -> Result<(), Fail> {
     let alloc = rt.alloc();
-    let checked = checked_with(LIMIT)?;
-    let mut world: World<1> = World::new(alloc, &checked, 1)?;
-    let made = run(alloc, &mut world, many_changes(alloc)?.as_slice())?;
-    assert_eq!(rt; made.stopped, None);
-    assert_eq!(rt; made.done.len(), 0);
-    assert_eq!(rt; world.history().len(), 2000);
-    let made = run(alloc, &mut world, many_lookups(alloc, 10_000)?.as_slice())?;
-    assert_eq!(rt; made.stopped, None);
-    assert_eq!(rt; made.done.len(), 833);
+    let mut world = new_world(alloc, 4, 16, 1)?;
+    let made = make_changes(alloc, &mut world)?;
+    assert!(rt; made.stopped == None);
+    assert!(rt; made.done.is_empty());
+    assert!(rt; world.history().len() == 2000);
+    let made = make_lookups(alloc, &mut world)?;
+    assert!(rt; made.stopped == None);
+    assert!(rt; made.done.len() == 833);
     assert!(rt; are_absent(made.done.as_slice(), 2000));
     Ok(())
 }
@@ -145,7 +158,7 @@ fn a_long_list_of_events_is_run(rt: HostRuntime) -> Result<(), Fail> {
 /// Whether the world makes each of these acts, and they read no bit.
 fn makes_all(world: &mut World<1>, acts: &[Act]) -> bool {
     for act in acts {
-        if world.step(Event::Write(*act)) != Ok(Stepped::Nothing) {
+        if !gives(world, Event::Write(*act), Ok(Stepped::Nothing)) {
             return false;
         }
     }
@@ -154,17 +167,16 @@ fn makes_all(world: &mut World<1>, acts: &[Act]) -> bool {
 
 #[test]
 fn a_fill_and_a_lookup(rt: HostRuntime) -> Result<(), Fail> {
-    let checked = checked_with(LIMIT)?;
-    let mut world: World<1> = World::new(rt.alloc(), &checked, 1)?;
+    let mut world = new_world(rt.alloc(), 4, 16, 1)?;
     assert!(rt; makes_all(&mut world, &changes()[..6]));
     assert!(rt; makes_all(&mut world, &[Act::Mark(0)]));
-    assert_eq!(rt; word_at(&world, 0), Some(1));
-    assert_eq!(rt; word_at(&world, 1), Some(2));
-    assert_eq!(rt; word_at(&world, 50), Some(1));
-    assert_eq!(rt; world.history(), [Change::Put(0, [7])].as_slice());
-    assert_eq!(rt; world.step(Event::Begin(0, 0)), Ok(Stepped::Nothing));
+    assert!(rt; word_at(&world, 0) == Some(1));
+    assert!(rt; word_at(&world, 1) == Some(2));
+    assert!(rt; word_at(&world, 50) == Some(1));
+    assert!(rt; world.history() == [Change::Put(0, [7])].as_slice());
+    assert!(rt; gives(&mut world, Event::Begin(0, 0), Ok(Stepped::Nothing)));
     for word in [2, 1, 0, 7, 1, 2] {
-        assert_eq!(rt; world.step(Event::Read(0)), Ok(Stepped::Word(word)));
+        assert!(rt; gives(&mut world, Event::Read(0), Ok(Stepped::Word(word))));
     }
     let done = Done {
         reader: 0,
@@ -173,80 +185,84 @@ fn a_fill_and_a_lookup(rt: HostRuntime) -> Result<(), Fail> {
         first: 8,
         last: 14,
     };
-    assert_eq!(rt; world.step(Event::Read(0)), Ok(Stepped::Done(done)));
+    assert!(rt; gives(&mut world, Event::Read(0), Ok(Stepped::Done(done))));
     Ok(())
+}
+
+/// Whether a world for so many readers is refused for their number.
+fn refuses_readers(alloc: Global, checked: &Checked, readers: u32) -> bool {
+    let world: Result<World<1>, WorldError> = World::new(alloc, checked, readers);
+    matches!(&world, Err(WorldError::Readers))
 }
 
 #[test]
 fn readers_are_from_1_to_1024(rt: HostRuntime) -> Result<(), Fail> {
-    let checked = checked_with(LIMIT)?;
-    for readers in [0, 1025] {
-        let world: Result<World<1>, WorldError> = World::new(rt.alloc(), &checked, readers);
-        assert!(rt; matches!(&world, Err(WorldError::Readers)), "{readers}");
-    }
+    let checked = checked(4, 16, 2)?;
+    assert!(rt; refuses_readers(rt.alloc(), &checked, 0));
+    assert!(rt; refuses_readers(rt.alloc(), &checked, 1025));
     let mut world: World<1> = World::new(rt.alloc(), &checked, 1024)?;
-    assert_eq!(rt; world.step(Event::Begin(1023, 0)), Ok(Stepped::Nothing));
-    assert_eq!(rt; world.step(Event::Begin(1024, 0)), Err(Unlawful::NoReader));
-    assert_eq!(rt; world.step(Event::Read(1024)), Err(Unlawful::NoReader));
-    assert_eq!(rt; world.step(Event::Read(0)), Err(Unlawful::NotLawful));
+    assert!(rt; gives(&mut world, Event::Begin(1023, 0), Ok(Stepped::Nothing)));
+    assert!(rt; gives(&mut world, Event::Begin(1024, 0), Err(Unlawful::NoReader)));
+    assert!(rt; gives(&mut world, Event::Read(1024), Err(Unlawful::NoReader)));
+    assert!(rt; gives(&mut world, Event::Read(0), Err(Unlawful::NotLawful)));
     Ok(())
 }
 
 #[test]
 fn sixty_four_items_share_a_word_of_bits(rt: HostRuntime) -> Result<(), Fail> {
-    let checked = checked_of(32, 65, LIMIT)?;
-    let mut world: World<1> = World::new(rt.alloc(), &checked, 1)?;
+    let mut world = new_world(rt.alloc(), 32, 65, 1)?;
     for item in [63, 64, 0] {
-        let marked = world.step(Event::Write(Act::Mark(item)));
-        assert_eq!(rt; marked, Ok(Stepped::Nothing), "item {item}");
+        let mark = Event::Write(Act::Mark(item));
+        assert!(rt;
+            gives(&mut world, mark, Ok(Stepped::Nothing)),
+            "item {item}"
+        );
     }
-    assert_eq!(rt; checked.words::<1>(), 262);
-    assert_eq!(rt; word_at(&world, 260), Some(9223372036854775809));
-    assert_eq!(rt; word_at(&world, 261), Some(1));
+    assert!(rt; world.checked().words::<1>() == 262);
+    assert!(rt; word_at(&world, 260) == Some(9223372036854775809));
+    assert!(rt; word_at(&world, 261) == Some(1));
     Ok(())
+}
+
+/// The acts of a fill of the item under its own number, in the bucket of that number, and of its mark.
+fn marked_fill(item: u32, value: u64) -> [Act; 7] {
+    let key = u64::from(item);
+    let place = Place {
+        bucket: item,
+        slot: 0,
+    };
+    [
+        Act::Open(key, Deed::Fill),
+        Act::Item(item, 0, key),
+        Act::Item(item, 1, value),
+        Act::Slot(place, key + 1),
+        Act::Moment,
+        Act::Close,
+        Act::Mark(item),
+    ]
 }
 
 #[test]
 fn the_hand_clears_one_bit_of_its_word(rt: HostRuntime) -> Result<(), Fail> {
-    let checked = checked_of(4, 2, LIMIT)?;
-    let mut world: World<1> = World::new(rt.alloc(), &checked, 1)?;
-    for (item, value) in [(0, 10), (1, 11)] {
-        let key = u64::from(item);
-        let place = Place {
-            bucket: item,
-            slot: 0,
-        };
-        let acts = [
-            Act::Open(key, Deed::Fill),
-            Act::Item(item, 0, key),
-            Act::Item(item, 1, value),
-            Act::Slot(place, key + 1),
-            Act::Moment,
-            Act::Close,
-            Act::Mark(item),
-        ];
-        assert!(rt; makes_all(&mut world, &acts));
-    }
-    assert_eq!(rt; word_at(&world, 22), Some(3));
-    let read = world.step(Event::Write(Act::Hand(0)));
-    assert_eq!(rt; read, Ok(Stepped::Word(1)));
-    assert_eq!(rt; word_at(&world, 22), Some(2));
-    let again = world.step(Event::Write(Act::Hand(0)));
-    assert_eq!(rt; again, Err(Unlawful::NotLawful));
+    let mut world = new_world(rt.alloc(), 4, 2, 1)?;
+    assert!(rt; makes_all(&mut world, &marked_fill(0, 10)));
+    assert!(rt; makes_all(&mut world, &marked_fill(1, 11)));
+    assert!(rt; word_at(&world, 22) == Some(3));
+    let hand = Event::Write(Act::Hand(0));
+    assert!(rt; gives(&mut world, hand, Ok(Stepped::Word(1))));
+    assert!(rt; word_at(&world, 22) == Some(2));
+    assert!(rt; gives(&mut world, hand, Err(Unlawful::NotLawful)));
     Ok(())
 }
 
 /// A fill of key 0 with 7, a lookup of it to its end, and what that tells.
 #[test]
 fn a_lookup_after_a_fill_tells_the_value(rt: HostRuntime) -> Result<(), Fail> {
-    let checked = checked_with(LIMIT)?;
+    let checked = checked(4, 16, 2)?;
     let mut events = [Event::Read(0); 14];
-    events[0] = Event::Write(Act::Open(0, Deed::Fill));
-    events[1] = Event::Write(Act::Item(0, 0, 0));
-    events[2] = Event::Write(Act::Item(0, 1, 7));
-    events[3] = Event::Write(Act::Slot(FIRST, 1));
-    events[4] = Event::Write(Act::Moment);
-    events[5] = Event::Write(Act::Close);
+    for (event, act) in events.iter_mut().zip(&changes()[..6]) {
+        *event = Event::Write(*act);
+    }
     events[6] = Event::Begin(0, 0);
     let made: Run<1> = run_new(rt.alloc(), &checked, 1, &events)?;
     let done = Done {
@@ -256,19 +272,17 @@ fn a_lookup_after_a_fill_tells_the_value(rt: HostRuntime) -> Result<(), Fail> {
         first: 7,
         last: 13,
     };
-    assert_eq!(rt; made.done.as_slice(), [done].as_slice());
-    assert_eq!(rt; made.stopped, None);
+    assert!(rt; ends_with(&made, done));
     Ok(())
 }
 
 #[test]
 fn a_new_world_stops_at_an_event_that_is_refused(rt: HostRuntime) -> Result<(), Fail> {
-    let checked = checked_with(LIMIT)?;
+    let checked = checked(4, 16, 2)?;
     let world: World<1> = World::new(rt.alloc(), &checked, 3)?;
-    assert_eq!(rt; world.readers(), 3);
+    assert!(rt; world.readers() == 3);
     let events = [Event::Begin(0, 0), Event::Begin(1, 0), Event::Read(0)];
     let made: Run<1> = run_new(rt.alloc(), &checked, 1, &events)?;
-    assert_eq!(rt; made.done.len(), 0);
-    assert_eq!(rt; made.stopped, Some((1, Unlawful::NoReader)));
+    assert!(rt; stops_at(&made, 1, Unlawful::NoReader));
     Ok(())
 }
