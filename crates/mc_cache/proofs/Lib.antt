@@ -1,2 +1,3 @@
 pub mod SameSeats
 pub mod NewWriters
+pub mod OrderedAnswers

@@ -9,6 +9,7 @@ ghost use Rattle.mc_shared.specs.Records.{reader_record};
 ghost use Rattle.mc_shared.specs.Views.{IsFrontOf};
 ghost use Rattle.mc_reader.specs.Records.{HasLooked};
 ghost use Rattle.mc_cache.specs.Beside.{HasLookedBeside};
+ghost use Rattle.mc_cache.specs.Orders.{HasAnsweredInOrder};
 
 use crate::cache::Cache;
 use crate::writer::Writer;
@@ -51,9 +52,12 @@ impl<const V: usize> Reader<V> {
         ensures writer { writer.new ≡ writer.old }
         ensures reader { self.new ≡ reader_record self.old.of writer.old.acts self.old.done }
         ensures begins { IsFrontOf self.old.front writer.old.acts }
+        ensures order { HasAnsweredInOrder V cache.now.layout.shape writer.old.acts self.old.done }
         ensures moment { result ≡ length (state_of V cache.now.layout.shape writer.old.acts).history }
     {
         catch(&cache.cells, &mut self.seat, &mut writer.seat);
+        writer.seat.known();
+        self.seat.known();
         writer.seat.moment()
     }
 

@@ -22,7 +22,7 @@ use Rattle.mc_theory.proofs.Lists.Fronts.{lawful_none, lawful_push, state_none, 
 use Rattle.mc_theory.proofs.Invariant.EachState.{zeros}
 use Rattle.mc_theory.proofs.Invariant.Limits.{within_after}
 use Rattle.mc_shared.specs.declared.layout.Layout.{Layout}
-use Rattle.mc_shared.specs.Views.{writer_view, acts_of, tally_of, layout_state, with_bit}
+use Rattle.mc_shared.specs.Views.{Tally, writer_view, acts_of, tally_of, layout_state, with_bit}
 use Rattle.mc_shared.specs.Steps.{SeatView}
 use Rattle.mc_shared.specs.Inside.Steps.{IsPlain}
 use Rattle.mc_shared.specs.Inside.Seats.{MayMake}
@@ -167,8 +167,8 @@ unfolding opening
 runs_new l = tt
 
 -- a new writer's seat
-pub new_writer : (l : Layout) (me : SeatView) → me ≡ (writer_view l [] [], []) → IsShape l.shape → IsWriter me 0 0 0
-new_writer l me is shape = subst (λ (x : SeatView). IsWriter x 0 0 0) (sym is) (record {
+pub new_writer : (l : Layout) (me : SeatView) (tally : Tally) → me ≡ (writer_view l [] tally, []) → IsShape l.shape → IsWriter me 0 0 0
+new_writer l me tally is shape = subst (λ (x : SeatView). IsWriter x 0 0 0) (sym is) (record {
   seat = refl;
   shape = shape;
   lawful = lawful_none l.width l.shape;

@@ -4,13 +4,14 @@ use mathlib.Core.Option.{some, some-injective, some-ne-none}
 use lib.ListN.{get_elem?}
 use Rattle.mc_theory.specs.Lists.{Made}
 use Rattle.mc_theory.specs.Readings.{Reading}
+use Rattle.mc_shared.specs.Views.{Note}
 use Rattle.mc_shared.specs.RecencyTrace.{Trace, trace_swept, trace_marked, trace_after, trace_from, is_mark_of, marks_in, Coherent, total}
 
-pub trace-push : (i : ℕ) (t : Trace) (ms : List Made) (ns : List ℕ) (m : Made) (n : ℕ) → length ns ≡ length ms → trace_from i t (ms ++ m ∷ []) (ns ++ n ∷ []) ≡ trace_after i (trace_from i t ms ns) m.act m.bit n
+pub trace-push : (i : ℕ) (t : Trace) (ms : List Made) (ns : List Note) (m : Made) (n : Note) → length ns ≡ length ms → trace_from i t (ms ++ m ∷ []) (ns ++ n ∷ []) ≡ trace_after i (trace_from i t ms ns) m.act m.bit n.marks
 trace-push i t [] [] m n e = refl
 trace-push i t [] (y ∷ ys) m n e = absurd (omega arith)
 trace-push i t (x ∷ xs) [] m n e = absurd (omega arith)
-trace-push i t (x ∷ xs) (y ∷ ys) m n e = trace-push i (trace_after i t x.act x.bit y) xs ys m n (omega arith)
+trace-push i t (x ∷ xs) (y ∷ ys) m n e = trace-push i (trace_after i t x.act x.bit y.marks) xs ys m n (omega arith)
 
 -- the hand reads the bit and clears it
 pub coherent_swept : (t : Trace) (marks bit : ℕ) → Coherent t marks bit → Coherent (trace_swept t bit marks) marks 0

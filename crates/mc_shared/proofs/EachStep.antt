@@ -1,5 +1,5 @@
 -- Each step keeps the rule of the table.
-use Rattle.std.proofs.Common.{◌≡◌, Bool, ℕ, zero, suc, ◌+◌, ◌<◌, ◌≢◌, eqb, eq-eqb, ne_eqb, List, [], ◌∷◌, ◌++◌, length, get_or, set, refl, ap, sym, ◌∙◌, subst, ⊎_elim, arith, length-set, length-append, get_or-set_other, get_or-set_same, Some}
+use Rattle.std.proofs.Common.{◌≡◌, Bool, ℕ, zero, suc, ◌+◌, ◌<◌, ◌≢◌, eqb, eq-eqb, ne_eqb, List, [], ◌∷◌, ◌++◌, length, get_or, set, refl, ap, sym, ◌∙◌, subst, ⊎_elim, arith, ◌≤◌, length-set, length-append, get_or-set_other, get_or-set_same, Some}
 use Rattle.std.specs.Prelude.{replicate, if◌then◌else◌}
 use Rattle.std.proofs.lemmas.List.{length-replicate}
 use mathlib.Core.Logic.{dite}
@@ -32,34 +32,47 @@ use Rattle.mc_theory.proofs.Invariant.EachState.{zeros}
 use Rattle.mc_theory.proofs.Lists.WrittenWords.{reads_its_word}
 use Rattle.mc_shared.specs.declared.layout.Layout.{Layout}
 use Rattle.mc_shared.specs.RecencyTrace.{Trace, new_trace, trace_after, trace_of, marks_in, is_mark_of, total, Coherent}
-use Rattle.mc_shared.specs.Views.{Role, Spent, Writes, Reads, Both, View, view_as, writer_view, reader_view, new_writer_view, spent_view, acts_of, tally_of, front_of, done_of, layout_state, with_bit, IsFrontOf}
-use Rattle.mc_shared.specs.TableRule.{word_after, IsRecord, FitsRole, Fits, AllFit, marks_of, bit_in, Ruled}
-use Rattle.mc_shared.specs.Steps.{SeatView, bit_of, AddsAct, AddsActIfSet, FetchesWord, reading, ReadsWord, mark_at, AddsMark, AddsMarkIfSet, ComparesMoment, new_reader_view, joined_view, writer_part, reader_part}
+use Rattle.mc_shared.specs.Views.{Note, Tally, new_tally, tally_for, with_reader, with_note, seated_in, Role, Spent, Writes, Reads, Both, View, view_as, writer_view, reader_view, new_writer_view, spent_view, acts_of, tally_of, number_of, front_of, done_of, layout_state, with_bit, IsFrontOf}
+use Rattle.mc_shared.specs.ExactFronts.{IsExact}
+use Rattle.mc_shared.specs.TableRule.{word_after, IsRecord, FitsRole, Fits, AllFit, seats_of, marks_of, bit_in, Ruled}
+use Rattle.mc_shared.specs.Steps.{SeatView, bit_of, AddsAct, AddsActIfSet, FetchesWord, reading, ReadsWord, mark_at, AddsMark, AddsMarkIfSet, ComparesMoment, with_reader_view, new_reader_view, joined_view, writer_part, reader_part}
 use Rattle.mc_shared.specs.Inside.Steps.{WritesAt, only, all_but}
 use Rattle.mc_shared.specs.Inside.Seats.{MayMake}
 use Rattle.mc_shared.proofs.WrittenPlaces.{act_names_in, place_below, word_written}
 use Rattle.mc_shared.proofs.PackedBits.{bit_low, recency_below, or_here, or_spares, and_spares, or_same, bit_there, bit_spared}
 use Rattle.mc_shared.proofs.Coherence.{trace-push, coherent_marked, marks_in-push, total_set, total_push}
-use Rattle.mc_shared.proofs.ReaderRecords.{front_self, front_none, front_push, record_none, record_longer, record_read, record_mark}
-use Rattle.mc_shared.proofs.RecencySteps.{StepBits, StepPast, spared_past, hand_bits, touch_bits, sum_at, sum_here}
+use Rattle.mc_shared.proofs.ReaderRecords.{front_self, front_none, front_push, front_length, record_none, record_longer, record_read, record_mark}
+use Rattle.mc_shared.proofs.ExactSteps.{stands_here, exact_none, exact_act, exact_entry, note_at, Counted, counted}
+use Rattle.mc_shared.proofs.RecencySteps.{StepBits, StepPast, spared_past, hand_bits, touch_bits, sum_here}
 
-pub fits_set : (l : Layout) (log : List Made) (sums : List ℕ) (at id : ℕ) (views : List View) (w : View) → ((j : ℕ) (u : View) → j ≢ id → get_elem? views j ≡ some u → Fits l log sums at j u) → Fits l log sums at id w → AllFit l log sums at (set views id w)
+pub fits_set : (l : Layout) (log : List Made) (sums : Tally) (at id : ℕ) (views : List View) (w : View) → ((j : ℕ) (u : View) → j ≢ id → get_elem? views j ≡ some u → Fits l log sums at j u) → Fits l log sums at id w → AllFit l log sums at (set views id w)
 fits_set l log sums at id views w others mine j u e =
     ⊎_elim
     (λ (x : (j ≡ id) × (w ≡ u)). subst (λ (y : ℕ × View). Fits l log sums at y.0 y.1) (λ i. (sym x.0 i, x.1 i)) mine)
     (λ (x : (j ≢ id) × (get_elem? views j ≡ some u)). others j u x.0 x.1)
     (at_set views id j w u e)
 
--- a seat other than the writer's still fits when the writer makes an act
-grows : (l own : Layout) (log : List Made) (sums : List ℕ) (m : Made) (n at j : ℕ) → j ≢ at → (r : Role) → FitsRole l own log sums at j r → FitsRole l own (log ++ m ∷ []) (sums ++ n ∷ []) at j r
-grows l own log sums m n at j ne Spent f = tt
-grows l own log sums m n at j ne (Writes acts tally) f = absurd (ne f.1)
-grows l own log sums m n at j ne (Reads front done) f = (f.0, front_push front log m f.1, f.2)
-grows l own log sums m n at j ne (Both acts tally front done) f = absurd (ne f.1)
+-- a seat other than the writer's still fits when the writer makes an act, beside which this reader's entries are noted
+grows : (l own : Layout) (log : List Made) (sums : Tally) (m : Made) (n : Note) (at j : ℕ) → j ≢ at → (r : Role) → Counted n r → FitsRole l own log sums at j r → FitsRole l own (log ++ m ∷ []) (with_note sums n) at j r
+grows l own log sums m n at j ne Spent c f = tt
+grows l own log sums m n at j ne (Writes acts tally) c f = absurd (ne f.1)
+grows l own log sums m n at j ne (Reads a front done) c f = (f.0, front_push front log m f.1, f.2, exact_act a sums.notes n done c f.3)
+grows l own log sums m n at j ne (Both acts tally a front done) c f = absurd (ne f.1)
+
+-- and when the writer's tally has one reader more
+joins_in : (l own : Layout) (log : List Made) (sums : Tally) (at j : ℕ) → j ≢ at → (r : Role) → FitsRole l own log sums at j r → FitsRole l own log (with_reader sums) at j r
+joins_in l own log sums at j ne Spent f = tt
+joins_in l own log sums at j ne (Writes acts tally) f = absurd (ne f.1)
+joins_in l own log sums at j ne (Reads a front done) f = f
+joins_in l own log sums at j ne (Both acts tally a front done) f = absurd (ne f.1)
 
 -- a view with as many marks in the place of another
 same_marks : (i id : ℕ) (views : List View) (v w : View) → get_elem? views id ≡ some v → marks_in i (done_of w) ≡ marks_in i (done_of v) → marks_of i (set views id w) ≡ marks_of i views
 same_marks i id views v w at e = let t = total_set (λ (u : View). marks_in i (done_of u)) views id v w at in omega arith
+
+-- and with the same reader
+pub same_seats : (a id : ℕ) (views : List View) (v w : View) → get_elem? views id ≡ some v → seated_in a w.role ≡ seated_in a v.role → seats_of a (set views id w) ≡ seats_of a views
+same_seats a id views v w at e = let t = total_set (λ (u : View). seated_in a u.role) views id v w at in omega arith
 
 -- ---- a new table
 opening_zero : (V : ℕ) (sh : Shape) (n : ℕ) → get_or (states.opening V sh).words n 0 ≡ 0
@@ -69,13 +82,15 @@ opening_zero V sh n = zeros (word_count V sh) n
 pub begins : (l : Layout) (ws : List ℕ) → ws ≡ replicate (all_words l.width l.shape) 0 → Ruled l (opening ws [] (new_writer_view l))
 begins l ws is = record {
   log = [];
-  sums = [];
+  tally = new_tally;
   paired = refl;
   at = 0;
   lawful = lawful_none l.width l.shape;
   wide = ap length is ∙ length-replicate (all_words l.width l.shape) 0;
   words = λ n below. zero_in n ∙ sym (ap (λ (s : State l.width). get_or s.words n 0) (state_none l.width l.shape) ∙ opening_zero l.width l.shape n);
   views = one;
+  single = λ a below. absurd (omega arith);
+  unseated = λ a over. refl;
   bits = λ i below. subst (λ (z : ℕ). Coherent (trace_of i [] []) 0 z) (sym (clear i)) (record { is = omega arith; seen = omega arith; right = refl });
   past = λ i past. clear i;
 }
@@ -86,35 +101,39 @@ begins l ws is = record {
     clear : (i : ℕ) → bit_in l ws i ≡ 0
     clear i = ap (λ (z : ℕ). bit_at z (recency_bit i)) (zero_in (recency_place l.width l.shape i)) ∙ bit_at-zero (recency_bit i)
 
-    one : AllFit l [] [] 0 (new_writer_view l ∷ [])
-    one zero v e = subst (Fits l [] [] 0 0) (some-injective _ _ e) (refl, refl, refl, refl)
+    one : AllFit l [] new_tally 0 (new_writer_view l ∷ [])
+    one zero v e = subst (Fits l [] new_tally 0 0) (some-injective _ _ e) (refl, refl, refl, refl)
     one (suc j) v e = absurd (some-ne-none v (sym e))
 
 module _ (l : Layout) (id slots : ℕ) (c : List (ℕ × Unit {0})) where
   -- a step that changes no word
-  unmoved : (s : table.State (Unit {0}) View) (r : Ruled l s) (n : ℕ) (v w : View) → get_elem? s.views id ≡ some v → ((i : ℕ) → marks_in i (done_of w) ≡ marks_in i (done_of v)) → Fits l r.log r.sums r.at id w → Ruled l (stepped s n (get_or s.words n 0) id c w keeps)
-  unmoved s r n v w at alike mine = subst (λ (ws : List ℕ). Ruled l record { words = ws; homes = s.homes; views = set s.views id w }) (sym (set-get_or s.words n 0)) record {
+  unmoved : (s : table.State (Unit {0}) View) (r : Ruled l s) (n : ℕ) (v w : View) → get_elem? s.views id ≡ some v → ((i : ℕ) → marks_in i (done_of w) ≡ marks_in i (done_of v)) → ((a : ℕ) → seated_in a w.role ≡ seated_in a v.role) → Fits l r.log r.tally r.at id w → Ruled l (stepped s n (get_or s.words n 0) id c w keeps)
+  unmoved s r n v w at alike sits mine = subst (λ (ws : List ℕ). Ruled l record { words = ws; homes = s.homes; views = set s.views id w }) (sym (set-get_or s.words n 0)) record {
     log = r.log;
-    sums = r.sums;
+    tally = r.tally;
     paired = r.paired;
     at = r.at;
     lawful = r.lawful;
     wide = r.wide;
     words = r.words;
-    views = fits_set l r.log r.sums r.at id s.views w (λ j u _ e. r.views j u e) mine;
-    bits = λ i below. subst (λ (m : ℕ). Coherent (trace_of i r.log r.sums) m (bit_in l s.words i)) (sym (same_marks i id s.views v w at (alike i))) (r.bits i below);
+    views = fits_set l r.log r.tally r.at id s.views w (λ j u _ e. r.views j u e) mine;
+    single = λ a below. same_seats a id s.views v w at (sits a) ∙ r.single a below;
+    unseated = λ a over. same_seats a id s.views v w at (sits a) ∙ r.unseated a over;
+    bits = λ i below. subst (λ (m : ℕ). Coherent (trace_of i r.log r.tally.notes) m (bit_in l s.words i)) (sym (same_marks i id s.views v w at (alike i))) (r.bits i below);
     past = r.past;
   }
 
   -- the writer's act, where the word at its place becomes what the act writes
-  pub makes : (acts : List Made) (tally : List ℕ) (a : Act) (n x : ℕ) (f g : ℕ → ℕ) (st : Step (Unit {0})) → MayMake l acts a → WritesAt l acts a n x → (n < word_count l.width l.shape → f (word_after l acts n) ≡ x) → StepBits l a n f g → StepPast l n f
+  pub makes : (acts : List Made) (tally : Tally) (a : Act) (n x : ℕ) (f g : ℕ → ℕ) (st : Step (Unit {0})) → MayMake l acts a → WritesAt l acts a n x → (n < word_count l.width l.shape → f (word_after l acts n) ≡ x) → StepBits l a n f g → StepPast l n f
       → Allows (Ruled l) slots id (writer_view l acts tally, c) n f (λ r. AddsAct a st (writer_view l acts tally, c) (g r))
   makes acts tally a n x f g st may w writes bit past s r long at fits =
       let mine = r.views id (writer_view l acts tally) at in
       let same : acts ≡ r.log = mine.2 in
-      let even : tally ≡ r.sums = mine.3 in
-      let sum : ℕ = sum_at a s.views in
-      let paired : length tally ≡ length acts = subst (λ (z : List ℕ × List Made). length z.0 ≡ length z.1) (λ i. (sym even i, sym same i)) r.paired in
+      let even : tally ≡ r.tally = mine.3 in
+      let note : Note = note_at a tally.readers s.views in
+      let single : (b : ℕ) → b < tally.readers → seats_of b s.views ≡ 1 = subst (λ (z : Tally). (b : ℕ) → b < z.readers → seats_of b s.views ≡ 1) (sym even) r.single in
+      let unseated : (b : ℕ) → tally.readers ≤ b → seats_of b s.views ≡ 0 = subst (λ (z : Tally). (b : ℕ) → z.readers ≤ b → seats_of b s.views ≡ 0) (sym even) r.unseated in
+      let paired : length tally.notes ≡ length acts = subst (λ (z : Tally × List Made). length z.0.notes ≡ length z.1) (λ i. (sym even i, sym same i)) r.paired in
       let m : Made = with_bit a (bit_of a (g (get_or s.words n 0))) in
       let ws : (k : ℕ) → k < word_count l.width l.shape → get_or s.words k 0 ≡ word_after l acts k = subst (λ (z : List Made). (k : ℕ) → k < word_count l.width l.shape → get_or s.words k 0 ≡ word_after l z k) (sym same) r.words in
       let wide : length s.words ≡ all_words l.width l.shape = r.wide in
@@ -126,33 +145,36 @@ module _ (l : Layout) (id slots : ℕ) (c : List (ℕ × Unit {0})) where
       word_written l acts m n x k may w below ∙ (ap (λ (z : ℕ). get_or (set (layout_state l acts).words n x) z 0) e ∙ get_or-set_same (layout_state l acts).words n x 0 (omega arith)))))))
       (λ other. get_or-set_other s.words n k v 0 other ∙ (ws k below ∙ sym (word_written l acts m n x k may w below ∙ get_or-set_other (layout_state l acts).words n k x 0 other)))
       in
-      let inside : n < all_words l.width l.shape = place_below l acts a n x may w in (
-        writer_view l (acts ++ m ∷ []) (tally ++ sum ∷ []),
+      let inside : n < all_words l.width l.shape = place_below l acts a n x may w in
+      let new : View = writer_view l (acts ++ m ∷ []) (with_note tally note) in (
+        writer_view l (acts ++ m ∷ []) (with_note tally note),
         keeps,
         tt,
         record {
           log = acts ++ m ∷ [];
-          sums = tally ++ sum ∷ [];
-          paired = omega (arith, length-append tally (sum ∷ []), length-append acts (m ∷ []), paired);
+          tally = with_note tally note;
+          paired = omega (arith, length-append tally.notes (note ∷ []), length-append acts (m ∷ []), paired);
           at = r.at;
           lawful = lawful_push l.width l.shape acts m may.lawful may.allowed;
           wide = length-set s.words n v ∙ wide;
           words = words';
-          views = fits_set l (acts ++ m ∷ []) (tally ++ sum ∷ []) r.at id s.views (writer_view l (acts ++ m ∷ []) (tally ++ sum ∷ []))
-              (λ j u ne e. grows l u.layout acts tally m sum r.at j (λ (z : j ≡ r.at). ne (z ∙ sym mine.1)) u.role (subst (λ (z : List Made × List ℕ). Fits l z.0 z.1 r.at j u) (λ i. (sym same i, sym even i)) (r.views j u e)))
+          views = fits_set l (acts ++ m ∷ []) (with_note tally note) r.at id s.views new
+              (λ j u ne e. grows l u.layout acts tally m note r.at j (λ (z : j ≡ r.at). ne (z ∙ sym mine.1)) u.role (counted a tally.readers s.views single unseated j u e) (subst (λ (z : List Made × Tally). Fits l z.0 z.1 r.at j u) (λ i. (sym same i, sym even i)) (r.views j u e)))
               (refl, mine.1, refl, refl);
+          single = λ b below. same_seats b id s.views (writer_view l acts tally) new at refl ∙ single b below;
+          unseated = λ b over. same_seats b id s.views (writer_view l acts tally) new at refl ∙ unseated b over;
           bits = λ k below.
-              let t : Trace = trace_of k acts tally in
-              let old : Coherent t (marks_of k s.views) (bit_in l s.words k) = subst (λ (z : List Made × List ℕ). Coherent (trace_of k z.0 z.1) (marks_of k s.views) (bit_in l s.words k)) (λ i. (sym same i, sym even i)) (r.bits k below) in
-              let new : Coherent (trace_after k t a m.bit (marks_of k s.views)) (marks_of k s.views) (bit_in l (set s.words n v) k) = bit t s.words (omega arith) k (marks_of k s.views) old in
-              subst (λ (y : Trace × ℕ). Coherent y.0 y.1 (bit_in l (set s.words n v) k)) (λ i. (sym (trace-push k new_trace acts tally m sum paired ∙ sum_here k t a m.bit s.views) i, sym (same_marks k id s.views (writer_view l acts tally) (writer_view l (acts ++ m ∷ []) (tally ++ sum ∷ [])) at refl) i)) new;
+              let t : Trace = trace_of k acts tally.notes in
+              let old : Coherent t (marks_of k s.views) (bit_in l s.words k) = subst (λ (z : List Made × Tally). Coherent (trace_of k z.0 z.1.notes) (marks_of k s.views) (bit_in l s.words k)) (λ i. (sym same i, sym even i)) (r.bits k below) in
+              let now' : Coherent (trace_after k t a m.bit (marks_of k s.views)) (marks_of k s.views) (bit_in l (set s.words n v) k) = bit t s.words (omega arith) k (marks_of k s.views) old in
+              subst (λ (y : Trace × ℕ). Coherent y.0 y.1 (bit_in l (set s.words n v) k)) (λ i. (sym (trace-push k new_trace acts tally.notes m note paired ∙ sum_here k t a m.bit s.views) i, sym (same_marks k id s.views (writer_view l acts tally) new at refl) i)) now';
           past = λ k over. past s.words (omega arith) k over ∙ r.past k over;
         },
-        (sum, refl),
+        (note, refl),
       )
 
   -- a load of the word that holds the bit of the writer's mark. Where it finds the bit set, it is the very step that sets it
-  pub remarks : (acts : List Made) (tally : List ℕ) (i : ℕ) (st : Step (Unit {0})) → MayMake l acts (Mark i)
+  pub remarks : (acts : List Made) (tally : Tally) (i : ℕ) (st : Step (Unit {0})) → MayMake l acts (Mark i)
       → Allows (Ruled l) slots id (writer_view l acts tally, c) (recency_place l.width l.shape i) (λ w. w) (AddsActIfSet (Mark i) st (writer_view l acts tally, c))
   remarks acts tally i st may s r long at fits =
       let v : View = writer_view l acts tally in
@@ -162,26 +184,26 @@ module _ (l : Layout) (id slots : ℕ) (c : List (ℕ × Unit {0})) where
       (λ (e : bit_at w (recency_bit i) ≡ 1).
       let m = makes acts tally (Mark i) n (only i) (λ z. bit_or z (only i)) (λ z. z) st may (refl, refl) (λ low. absurd (omega arith)) (touch_bits l i) (spared_past l i (λ z. bit_or z (only i)) (act_names_in l acts (Mark i) may) (or_spares (recency_bit i) (bit_low i))) s r long at fits in
       (m.0, m.1, m.2, subst (λ (x : ℕ). Ruled l (stepped s n x id c m.0 m.1)) (or_same (recency_bit i) w e) m.3, ((λ _. m.4), (λ z. absurd (omega (arith, e, z))))))
-      (λ ne. (v, keeps, tt, unmoved s r n v v at (λ k. refl) (r.views id v at), ((λ z. absurd (ne z)), (λ _. refl))))
+      (λ ne. (v, keeps, tt, unmoved s r n v v at (λ k. refl) (λ a. refl) (r.views id v at), ((λ z. absurd (ne z)), (λ _. refl))))
 
-  pub looks : (acts : List Made) (tally : List ℕ) (n : ℕ) (st : Step (Unit {0})) → st.word ≡ n → n < word_count l.width l.shape → Allows (Ruled l) slots id (writer_view l acts tally, c) n (λ r. r) (FetchesWord st (writer_view l acts tally, c))
+  pub looks : (acts : List Made) (tally : Tally) (n : ℕ) (st : Step (Unit {0})) → st.word ≡ n → n < word_count l.width l.shape → Allows (Ruled l) slots id (writer_view l acts tally, c) n (λ r. r) (FetchesWord st (writer_view l acts tally, c))
   looks acts tally n st is below s r long at fits =
       let mine = r.views id (writer_view l acts tally) at in
-      (writer_view l acts tally, keeps, tt, unmoved s r n (writer_view l acts tally) (writer_view l acts tally) at (λ i. refl) mine, (refl, r.words n below ∙ λ i. word_after l (sym (mine.2) i) (sym is i)))
+      (writer_view l acts tally, keeps, tt, unmoved s r n (writer_view l acts tally) (writer_view l acts tally) at (λ i. refl) (λ a. refl) mine, (refl, r.words n below ∙ λ i. word_after l (sym (mine.2) i) (sym is i)))
 
-  pub reads_one : (front : List Made) (done : List Reading) (a : Access) (n : ℕ) (st : Step (Unit {0})) → place_read l.width l.shape a ≡ Some n → st.word ≡ n → n < word_count l.width l.shape
-      → Allows (Ruled l) slots id (reader_view l front done, c) n (λ r. r) (ReadsWord a st (reader_view l front done, c))
-  reads_one front done a n st where_is is below s r long at fits =
-      let mine = r.views id (reader_view l front done) at in
+  pub reads_one : (number : ℕ) (front : List Made) (done : List Reading) (a : Access) (n : ℕ) (st : Step (Unit {0})) → place_read l.width l.shape a ≡ Some n → st.word ≡ n → n < word_count l.width l.shape
+      → Allows (Ruled l) slots id (reader_view l number front done, c) n (λ r. r) (ReadsWord a st (reader_view l number front done, c))
+  reads_one number front done a n st where_is is below s r long at fits =
+      let mine = r.views id (reader_view l number front done) at in
       let p : IsFrontOf front r.log = mine.1 in
       let x : ℕ = get_or s.words n 0 in
       let done' : List Reading = done ++ reading a x r.log ∷ [] in
       let word : IsWordOf l.width l.shape (layout_state l r.log).words a x = subst (IsWordOf l.width l.shape (layout_state l r.log).words a) (sym (r.words n below)) (reads_its_word l.width l.shape (layout_state l r.log).words a n where_is).0 in
       let kept : IsRecord l r.log done' = record_read l r.log done a x (record_longer l front r.log done p mine.2) word in (
-        reader_view l r.log done',
+        reader_view l number r.log done',
         keeps,
         tt,
-        unmoved s r n (reader_view l front done) (reader_view l r.log done') at (λ i. marks_in-push i (reading a x r.log) done ∙ no_mark l i a n (marks_in i done) where_is) (refl, front_self r.log, kept),
+        unmoved s r n (reader_view l number front done) (reader_view l number r.log done') at (λ i. marks_in-push i (reading a x r.log) done ∙ no_mark l i a n (marks_in i done) where_is) (λ b. refl) (refl, front_self r.log, kept, exact_entry number r.tally.notes done (reading a x r.log) (stands_here a (length r.log) (length r.tally.notes) (sym r.paired)) mine.3),
         (where_is ∙ ap Some (sym is), refl, record { begins = p; adds = refl; lawful = r.lawful; recorded = kept }),
       )
     where
@@ -194,124 +216,173 @@ module _ (l : Layout) (id slots : ℕ) (c : List (ℕ × Unit {0})) where
       no_mark l i (access.Mark k) n many e = absurd (cc)
 
   -- a step that sets the bit of an item
-  pub marks_one : (front : List Made) (done : List Reading) (i : ℕ) (g : ℕ → ℕ) (st : Step (Unit {0})) → i < l.shape.items
-      → Allows (Ruled l) slots id (reader_view l front done, c) (recency_place l.width l.shape i) (λ w. bit_or w (only i)) (λ r. AddsMark i st (reader_view l front done, c) (g r))
-  marks_one front done i g st within s r long at fits =
-      let mine = r.views id (reader_view l front done) at in
+  pub marks_one : (number : ℕ) (front : List Made) (done : List Reading) (i : ℕ) (g : ℕ → ℕ) (st : Step (Unit {0})) → i < l.shape.items
+      → Allows (Ruled l) slots id (reader_view l number front done, c) (recency_place l.width l.shape i) (λ w. bit_or w (only i)) (λ r. AddsMark i st (reader_view l number front done, c) (g r))
+  marks_one number front done i g st within s r long at fits =
+      let mine = r.views id (reader_view l number front done) at in
       let done' : List Reading = done ++ mark_at i front ∷ [] in
       let wide : length s.words ≡ all_words l.width l.shape = r.wide in
       let n : ℕ = recency_place l.width l.shape i in
       let f : ℕ → ℕ = λ w. bit_or w (only i) in
       let x : ℕ = f (get_or s.words n 0) in
       let inside : n < all_words l.width l.shape = recency_below l.width l.shape i within in (
-        reader_view l front done',
+        reader_view l number front done',
         keeps,
         tt,
         record {
           log = r.log;
-          sums = r.sums;
+          tally = r.tally;
           paired = r.paired;
           at = r.at;
           lawful = r.lawful;
           wide = length-set s.words n x ∙ wide;
           words = λ k below. get_or-set_other s.words n k x 0 (λ e. omega arith) ∙ r.words k below;
-          views = fits_set l r.log r.sums r.at id s.views (reader_view l front done') (λ j u _ e. r.views j u e) (refl, mine.1, record_mark l front done i mine.2);
+          views = fits_set l r.log r.tally r.at id s.views (reader_view l number front done') (λ j u _ e. r.views j u e)
+              (refl, mine.1, record_mark l front done i mine.2, exact_entry number r.tally.notes done (mark_at i front) (omega (arith, front_length front r.log mine.1, r.paired)) mine.3);
+          single = λ b below. same_seats b id s.views (reader_view l number front done) (reader_view l number front done') at refl ∙ r.single b below;
+          unseated = λ b over. same_seats b id s.views (reader_view l number front done) (reader_view l number front done') at refl ∙ r.unseated b over;
           bits = λ k below.
-              let all = total_set (λ (u : View). marks_in k (done_of u)) s.views id (reader_view l front done) (reader_view l front done') at in
+              let all = total_set (λ (u : View). marks_in k (done_of u)) s.views id (reader_view l number front done) (reader_view l number front done') at in
               let more = marks_in-push k (mark_at i front) done in
               dite (ℕ_discrete i k)
               (λ e. let hit : ◌≡◌ {A = ℕ} (if eqb i k then 1 else 0) 1 = ap (λ (b : Bool). if◌then◌else◌ {A = ℕ} b 1 0) (eq-eqb i k e) in
-              let count : marks_of k (set s.views id (reader_view l front done')) ≡ marks_of k s.views + 1 = omega arith in
+              let count : marks_of k (set s.views id (reader_view l number front done')) ≡ marks_of k s.views + 1 = omega arith in
               let there : bit_in l (set s.words n x) k ≡ 1 = ap (bit_in l (set s.words n x)) (sym e) ∙ (bit_there l s.words i x (omega arith) ∙ or_here (recency_bit i) (get_or s.words n 0) (bit_low i)) in
-              subst (λ (y : ℕ × ℕ). Coherent (trace_of k r.log r.sums) y.0 y.1) (λ j. (sym count j, sym there j)) (coherent_marked (trace_of k r.log r.sums) (marks_of k s.views) (bit_in l s.words k) (r.bits k below)))
+              subst (λ (y : ℕ × ℕ). Coherent (trace_of k r.log r.tally.notes) y.0 y.1) (λ j. (sym count j, sym there j)) (coherent_marked (trace_of k r.log r.tally.notes) (marks_of k s.views) (bit_in l s.words k) (r.bits k below)))
               (λ ne. let miss : ◌≡◌ {A = ℕ} (if eqb i k then 1 else 0) 0 = ap (λ (b : Bool). if◌then◌else◌ {A = ℕ} b 1 0) (ne_eqb i k ne) in
-              let count : marks_of k (set s.views id (reader_view l front done')) ≡ marks_of k s.views = omega arith in
+              let count : marks_of k (set s.views id (reader_view l number front done')) ≡ marks_of k s.views = omega arith in
               let there : bit_in l (set s.words n x) k ≡ bit_in l s.words k = bit_spared l s.words i k f (or_spares (recency_bit i) (bit_low i)) ne (omega arith) in
-              subst (λ (y : ℕ × ℕ). Coherent (trace_of k r.log r.sums) y.0 y.1) (λ j. (sym count j, sym there j)) (r.bits k below));
+              subst (λ (y : ℕ × ℕ). Coherent (trace_of k r.log r.tally.notes) y.0 y.1) (λ j. (sym count j, sym there j)) (r.bits k below));
           past = λ k over. spared_past l i f within (or_spares (recency_bit i) (bit_low i)) s.words (omega arith) k over ∙ r.past k over;
         },
         refl,
       )
 
   -- a load of the word. Where it finds the bit set, it is the very step that sets it: the word and the views after it are the same
-  pub notices_one : (front : List Made) (done : List Reading) (i : ℕ) (st : Step (Unit {0})) → i < l.shape.items → Allows (Ruled l) slots id (reader_view l front done, c) (recency_place l.width l.shape i) (λ w. w) (AddsMarkIfSet i st (reader_view l front done, c))
-  notices_one front done i st within s r long at fits =
-      let v : View = reader_view l front done in
+  pub notices_one : (number : ℕ) (front : List Made) (done : List Reading) (i : ℕ) (st : Step (Unit {0})) → i < l.shape.items → Allows (Ruled l) slots id (reader_view l number front done, c) (recency_place l.width l.shape i) (λ w. w) (AddsMarkIfSet i st (reader_view l number front done, c))
+  notices_one number front done i st within s r long at fits =
+      let v : View = reader_view l number front done in
       let n : ℕ = recency_place l.width l.shape i in
       let w : ℕ = get_or s.words n 0 in
       dite (ℕ_discrete (bit_at w (recency_bit i)) 1)
       (λ (e : bit_at w (recency_bit i) ≡ 1).
-      let m = marks_one front done i (λ z. z) st within s r long at fits in
+      let m = marks_one number front done i (λ z. z) st within s r long at fits in
       (m.0, m.1, m.2, subst (λ (x : ℕ). Ruled l (stepped s n x id c m.0 m.1)) (or_same (recency_bit i) w e) m.3, ((λ _. m.4), (λ z. absurd (omega (arith, e, z))))))
-      (λ ne. (v, keeps, tt, unmoved s r n v v at (λ k. refl) (r.views id v at), ((λ z. absurd (ne z)), (λ _. refl))))
+      (λ ne. (v, keeps, tt, unmoved s r n v v at (λ k. refl) (λ a. refl) (r.views id v at), ((λ z. absurd (ne z)), (λ _. refl))))
 
-  pub compares_one : (acts : List Made) (tally : List ℕ) (front : List Made) (done : List Reading) (n : ℕ) (st : Step (Unit {0})) → st.word ≡ n → n < word_count l.width l.shape
-      → Allows (Ruled l) slots id (view_as l (Both acts tally front done), c) n (λ r. r) (ComparesMoment st (view_as l (Both acts tally front done), c))
-  compares_one acts tally front done n st is below s r long at fits =
-      let v : View = view_as l (Both acts tally front done) in
+  pub compares_one : (acts : List Made) (tally : Tally) (number : ℕ) (front : List Made) (done : List Reading) (n : ℕ) (st : Step (Unit {0})) → st.word ≡ n → n < word_count l.width l.shape
+      → Allows (Ruled l) slots id (view_as l (Both acts tally number front done), c) n (λ r. r) (ComparesMoment st (view_as l (Both acts tally number front done), c))
+  compares_one acts tally number front done n st is below s r long at fits =
+      let v : View = view_as l (Both acts tally number front done) in
       let mine = r.views id v at in
       let same : acts ≡ r.log = mine.2 in
+      let even : tally ≡ r.tally = mine.3 in
       let p : IsFrontOf front acts = subst (IsFrontOf front) (sym same) mine.4 in
-      (v, keeps, tt, unmoved s r n v v at (λ i. refl) mine, (refl, p, record_longer l front acts done p mine.5, r.words n below ∙ λ i. word_after l (sym same i) (sym is i)))
+      let paired : length tally.notes ≡ length acts = subst (λ (z : Tally × List Made). length z.0.notes ≡ length z.1) (λ i. (sym even i, sym same i)) r.paired in
+      let exact : IsExact number tally.notes done = subst (λ (z : Tally). IsExact number z.notes done) (sym even) mine.6 in
+      (v, keeps, tt, unmoved s r n v v at (λ i. refl) (λ a. refl) mine, (refl, p, record_longer l front acts done p mine.5, paired, exact, r.words n below ∙ λ i. word_after l (sym same i) (sym is i)))
 
 -- ---- seats
--- a view is cut in two
-splits_as : (l : Layout) (id : ℕ) (s : table.State (Unit {0}) View) (r : Ruled l s) (v left right : View) → get_elem? s.views id ≡ some v → ((i : ℕ) → marks_in i (done_of left) + marks_in i (done_of right) ≡ marks_in i (done_of v)) → Fits l r.log r.sums r.at id left → ((j : ℕ) → Fits l r.log r.sums r.at j right)
+-- a view is cut in two, and the tally may have one reader more
+splits_as : (l : Layout) (id : ℕ) (s : table.State (Unit {0}) View) (r : Ruled l s) (all : Tally) (v left right : View) → get_elem? s.views id ≡ some v → all.notes ≡ r.tally.notes → ((i : ℕ) → marks_in i (done_of left) + marks_in i (done_of right) ≡ marks_in i (done_of v))
+    → ((j : ℕ) (u : View) → j ≢ id → get_elem? s.views j ≡ some u → Fits l r.log all r.at j u) → Fits l r.log all r.at id left → ((j : ℕ) → Fits l r.log all r.at j right)
+    → ((a : ℕ) → a < all.readers → seats_of a (set s.views id left ++ right ∷ []) ≡ 1) → ((a : ℕ) → all.readers ≤ a → seats_of a (set s.views id left ++ right ∷ []) ≡ 0)
     → Ruled l record { words = s.words; homes = s.homes; views = set s.views id left ++ right ∷ [] }
-splits_as l id s r v left right at cut mine new = record {
+splits_as l id s r all v left right at same cut others mine new single unseated = record {
   log = r.log;
-  sums = r.sums;
-  paired = r.paired;
+  tally = all;
+  paired = ap length same ∙ r.paired;
   at = r.at;
   lawful = r.lawful;
   wide = r.wide;
   words = r.words;
-  views = λ j u e. ⊎_elim (λ was. fits_set l r.log r.sums r.at id s.views left (λ k x _ h. r.views k x h) mine j u was) (λ (is : right ≡ u). subst (Fits l r.log r.sums r.at j) is (new j)) (at_snoc (set s.views id left) right u j e);
+  views = λ j u e. ⊎_elim (λ was. fits_set l r.log all r.at id s.views left others mine j u was) (λ (is : right ≡ u). subst (Fits l r.log all r.at j) is (new j)) (at_snoc (set s.views id left) right u j e);
+  single = single;
+  unseated = unseated;
   bits = λ i below.
       let f = λ (u : View). marks_in i (done_of u) in
       let a = total_push f (set s.views id left) right in
       let b = total_set f s.views id v left at in
       let d = cut i in
       let count : total f (set s.views id left ++ right ∷ []) ≡ total f s.views = omega arith in
-      subst (λ (m : ℕ). Coherent (trace_of i r.log r.sums) m (bit_in l s.words i)) (sym count) (r.bits i below);
+      subst (λ (z : ℕ × List Note). Coherent (trace_of i r.log z.1) z.0 (bit_in l s.words i)) (λ j. (sym count j, sym same j)) (r.bits i below);
   past = r.past;
 }
 
--- a new reader
-pub splits_new : (l : Layout) (id : ℕ) (acts : List Made) (tally : List ℕ) → Splits (Ruled l) id (writer_view l acts tally) (writer_view l acts tally) (reader_view l [] [])
-splits_new l id acts tally s r at = splits_as l id s r (writer_view l acts tally) (writer_view l acts tally) (reader_view l [] []) at (λ i. omega arith) (r.views id (writer_view l acts tally) at) (λ j. (refl, front_none r.log, record_none l []))
+-- how many seats a reader is on, where one view is cut in two
+cut_seats : (a id : ℕ) (views : List View) (v left right : View) → get_elem? views id ≡ some v → seats_of a (set views id left ++ right ∷ []) + seated_in a v.role ≡ seats_of a views + seated_in a left.role + seated_in a right.role
+cut_seats a id views v left right at =
+    let f = λ (u : View). seated_in a u.role in
+    let x = total_push f (set views id left) right in
+    let y = total_set f views id v left at in
+    omega arith
+
+-- a new reader, of a table of which no act was made yet
+pub splits_new : (l : Layout) (id n : ℕ) → Splits (Ruled l) id (writer_view l [] (tally_for n)) (writer_view l [] (tally_for (n + 1))) (reader_view l n [] [])
+splits_new l id n s r at =
+    let v : View = writer_view l [] (tally_for n) in
+    let left : View = writer_view l [] (tally_for (n + 1)) in
+    let right : View = reader_view l n [] [] in
+    let mine = r.views id v at in
+    let even : tally_for n ≡ r.tally = mine.3 in
+    let notes : ◌≡◌ {A = List Note} [] r.tally.notes = ap (λ (t : Tally). t.notes) even in
+    let others : (j : ℕ) (u : View) → j ≢ id → get_elem? s.views j ≡ some u → Fits l r.log (tally_for (n + 1)) r.at j u =
+    λ j u ne e. joins_in l u.layout r.log (tally_for n) r.at j (λ (z : j ≡ r.at). ne (z ∙ sym mine.1)) u.role (subst (λ (z : Tally). Fits l r.log z r.at j u) (sym even) (r.views j u e)) in
+    let one : (a : ℕ) → a < n → seats_of a s.views ≡ 1 = λ a below. r.single a (subst (λ (z : Tally). a < z.readers) even below) in
+    let none : (a : ℕ) → n ≤ a → seats_of a s.views ≡ 0 = λ a over. r.unseated a (subst (λ (z : Tally). z.readers ≤ a) even over) in
+    splits_as l id s r (tally_for (n + 1)) v left right at notes (λ i. omega arith) others (refl, mine.1, mine.2, refl) (λ j. (refl, front_none r.log, record_none l [], exact_none n))
+    (λ a below. let c = cut_seats a id s.views v left right at in dite (ℕ_discrete n a)
+    (λ e. let hit : ◌≡◌ {A = ℕ} (if eqb n a then 1 else 0) 1 = ap (λ (b : Bool). if◌then◌else◌ {A = ℕ} b 1 0) (eq-eqb n a e) in omega (arith, c, hit, none a (omega (arith, e))))
+    (λ ne. let miss : ◌≡◌ {A = ℕ} (if eqb n a then 1 else 0) 0 = ap (λ (b : Bool). if◌then◌else◌ {A = ℕ} b 1 0) (ne_eqb n a ne) in omega (arith, c, miss, one a (omega (arith, below, ne)))))
+    (λ a over. let c = cut_seats a id s.views v left right at in
+    let miss : ◌≡◌ {A = ℕ} (if eqb n a then 1 else 0) 0 = ap (λ (b : Bool). if◌then◌else◌ {A = ℕ} b 1 0) (ne_eqb n a (λ e. omega (arith, e, over))) in
+    omega (arith, c, miss, none a (omega (arith, over))))
 
 -- the reader that was joined to the writer is split off
-pub splits_back : (l : Layout) (id : ℕ) (acts : List Made) (tally : List ℕ) (front : List Made) (done : List Reading) → Splits (Ruled l) id (view_as l (Both acts tally front done)) (writer_view l acts tally) (reader_view l acts done)
-splits_back l id acts tally front done s r at =
-    let mine = r.views id (view_as l (Both acts tally front done)) at in
+pub splits_back : (l : Layout) (id : ℕ) (acts : List Made) (tally : Tally) (number : ℕ) (front : List Made) (done : List Reading) → Splits (Ruled l) id (view_as l (Both acts tally number front done)) (writer_view l acts tally) (reader_view l number acts done)
+splits_back l id acts tally number front done s r at =
+    let v : View = view_as l (Both acts tally number front done) in
+    let left : View = writer_view l acts tally in
+    let right : View = reader_view l number acts done in
+    let mine = r.views id v at in
     let same : acts ≡ r.log = mine.2 in
     let p : IsFrontOf front acts = subst (IsFrontOf front) (sym same) mine.4 in
-    splits_as l id s r (view_as l (Both acts tally front done)) (writer_view l acts tally) (reader_view l acts done) at (λ i. omega arith) (refl, mine.1, same, mine.3) (λ j. (refl, subst (IsFrontOf acts) same (front_self acts), record_longer l front acts done p mine.5))
+    splits_as l id s r r.tally v left right at refl (λ i. omega arith) (λ k x _ h. r.views k x h) (refl, mine.1, same, mine.3) (λ j. (refl, subst (IsFrontOf acts) same (front_self acts), record_longer l front acts done p mine.5, mine.6))
+    (λ a below. let c = cut_seats a id s.views v left right at in omega (arith, c, r.single a below))
+    (λ a over. let c = cut_seats a id s.views v left right at in omega (arith, c, r.unseated a over))
 
-pub joins_reader : (l : Layout) (id other : ℕ) (acts : List Made) (tally : List ℕ) (front : List Made) (done : List Reading) → Joins (Ruled l) id (writer_view l acts tally) other (reader_view l front done) (view_as l (Both acts tally front done)) spent_view
-joins_reader l id other acts tally front done s r at apart there =
-    let w : View = view_as l (Both acts tally front done) in
+pub joins_reader : (l : Layout) (id other : ℕ) (acts : List Made) (tally : Tally) (number : ℕ) (front : List Made) (done : List Reading)
+    → Joins (Ruled l) id (writer_view l acts tally) other (reader_view l number front done) (view_as l (Both acts tally number front done)) spent_view
+joins_reader l id other acts tally number front done s r at apart there =
+    let w : View = view_as l (Both acts tally number front done) in
     let mine = r.views id (writer_view l acts tally) at in
-    let theirs : Fits l r.log r.sums r.at other (reader_view l front done) =
-    ⊎_elim (λ (t : (other ≡ id) × (w ≡ reader_view l front done)). absurd (apart t.0)) (λ (t : (other ≢ id) × (get_elem? s.views other ≡ some (reader_view l front done))). r.views other (reader_view l front done) t.1) (at_set s.views id other w (reader_view l front done) there)
+    let theirs : Fits l r.log r.tally r.at other (reader_view l number front done) =
+    ⊎_elim (λ (t : (other ≡ id) × (w ≡ reader_view l number front done)). absurd (apart t.0)) (λ (t : (other ≢ id) × (get_elem? s.views other ≡ some (reader_view l number front done))). r.views other (reader_view l number front done) t.1) (at_set s.views id other w (reader_view l number front done) there)
     in
-    let both : AllFit l r.log r.sums r.at (set s.views id w) = fits_set l r.log r.sums r.at id s.views w (λ k x _ h. r.views k x h) (refl, mine.1, mine.2, mine.3, theirs.1, theirs.2) in
+    let both : AllFit l r.log r.tally r.at (set s.views id w) = fits_set l r.log r.tally r.at id s.views w (λ k x _ h. r.views k x h) (refl, mine.1, mine.2, mine.3, theirs.1, theirs.2, theirs.3) in
+    let seats : (a : ℕ) → seats_of a (set (set s.views id w) other spent_view) ≡ seats_of a s.views = λ a.
+    let f = λ (u : View). seated_in a u.role in
+    let x = total_set f s.views id (writer_view l acts tally) w at in
+    let y = total_set f (set s.views id w) other (reader_view l number front done) spent_view there in
+    omega arith
+    in
     record {
       log = r.log;
-      sums = r.sums;
+      tally = r.tally;
       paired = r.paired;
       at = r.at;
       lawful = r.lawful;
       wide = r.wide;
       words = r.words;
-      views = fits_set l r.log r.sums r.at other (set s.views id w) spent_view (λ k x _ h. both k x h) tt;
+      views = fits_set l r.log r.tally r.at other (set s.views id w) spent_view (λ k x _ h. both k x h) tt;
+      single = λ a below. seats a ∙ r.single a below;
+      unseated = λ a over. seats a ∙ r.unseated a over;
       bits = λ i below.
           let f = λ (u : View). marks_in i (done_of u) in
           let a = total_set f s.views id (writer_view l acts tally) w at in
-          let b = total_set f (set s.views id w) other (reader_view l front done) spent_view there in
+          let b = total_set f (set s.views id w) other (reader_view l number front done) spent_view there in
           let count : total f (set (set s.views id w) other spent_view) ≡ total f s.views = omega arith in
-          subst (λ (m : ℕ). Coherent (trace_of i r.log r.sums) m (bit_in l s.words i)) (sym count) (r.bits i below);
+          subst (λ (m : ℕ). Coherent (trace_of i r.log r.tally.notes) m (bit_in l s.words i)) (sym count) (r.bits i below);
       past = r.past;
     }
 
@@ -344,34 +415,34 @@ module _ (key l : Layout) (key-is : key ≡ l) (id slots : ℕ) (me : SeatView) 
   looks_as is n below = subst (λ (k : Layout). Allows (Ruled k) slots id me n (λ r. r) (FetchesWord (step slots n 0 0 none) me)) (sym key-is)
       (subst (λ (z : SeatView). Allows (Ruled l) slots id z n (λ r. r) (FetchesWord (step slots n 0 0 none) z)) (sym is) (looks l id slots [] (acts_of me.0) (tally_of me.0) n (step slots n 0 0 none) refl below))
 
-  pub reads_as : me ≡ (reader_view l (front_of me.0) (done_of me.0), []) → (a : Access) (n : ℕ) → place_read l.width l.shape a ≡ Some n → n < word_count l.width l.shape → Allows (Ruled key) slots id me n (λ r. r) (ReadsWord a (step slots n 0 0 none) me)
+  pub reads_as : me ≡ (reader_view l (number_of me.0) (front_of me.0) (done_of me.0), []) → (a : Access) (n : ℕ) → place_read l.width l.shape a ≡ Some n → n < word_count l.width l.shape → Allows (Ruled key) slots id me n (λ r. r) (ReadsWord a (step slots n 0 0 none) me)
   reads_as is a n at below = subst (λ (k : Layout). Allows (Ruled k) slots id me n (λ r. r) (ReadsWord a (step slots n 0 0 none) me)) (sym key-is)
-      (subst (λ (z : SeatView). Allows (Ruled l) slots id z n (λ r. r) (ReadsWord a (step slots n 0 0 none) z)) (sym is) (reads_one l id slots [] (front_of me.0) (done_of me.0) a n (step slots n 0 0 none) at refl below))
+      (subst (λ (z : SeatView). Allows (Ruled l) slots id z n (λ r. r) (ReadsWord a (step slots n 0 0 none) z)) (sym is) (reads_one l id slots [] (number_of me.0) (front_of me.0) (done_of me.0) a n (step slots n 0 0 none) at refl below))
 
-  pub marks_as : me ≡ (reader_view l (front_of me.0) (done_of me.0), []) → (i n m : ℕ) (g : ℕ → ℕ) (st : Step (Unit {0})) → i < l.shape.items → m ≡ only i → n ≡ recency_place l.width l.shape i
+  pub marks_as : me ≡ (reader_view l (number_of me.0) (front_of me.0) (done_of me.0), []) → (i n m : ℕ) (g : ℕ → ℕ) (st : Step (Unit {0})) → i < l.shape.items → m ≡ only i → n ≡ recency_place l.width l.shape i
       → Allows (Ruled key) slots id me n (λ w. bit_or w m) (λ r. AddsMark i st me (g r))
   marks_as is i n m g st within one here = subst (λ (y : ℕ × ℕ). Allows (Ruled key) slots id me y.0 (λ w. bit_or w y.1) (λ r. AddsMark i st me (g r))) (λ j. (sym here j, sym one j))
       (subst (λ (k : Layout). Allows (Ruled k) slots id me (recency_place l.width l.shape i) (λ w. bit_or w (only i)) (λ r. AddsMark i st me (g r))) (sym key-is)
-      (subst (λ (z : SeatView). Allows (Ruled l) slots id z (recency_place l.width l.shape i) (λ w. bit_or w (only i)) (λ r. AddsMark i st z (g r))) (sym is) (marks_one l id slots [] (front_of me.0) (done_of me.0) i g st within)))
+      (subst (λ (z : SeatView). Allows (Ruled l) slots id z (recency_place l.width l.shape i) (λ w. bit_or w (only i)) (λ r. AddsMark i st z (g r))) (sym is) (marks_one l id slots [] (number_of me.0) (front_of me.0) (done_of me.0) i g st within)))
 
-  pub notices_as : me ≡ (reader_view l (front_of me.0) (done_of me.0), []) → (i n : ℕ) (st : Step (Unit {0})) → i < l.shape.items → n ≡ recency_place l.width l.shape i → Allows (Ruled key) slots id me n (λ w. w) (AddsMarkIfSet i st me)
+  pub notices_as : me ≡ (reader_view l (number_of me.0) (front_of me.0) (done_of me.0), []) → (i n : ℕ) (st : Step (Unit {0})) → i < l.shape.items → n ≡ recency_place l.width l.shape i → Allows (Ruled key) slots id me n (λ w. w) (AddsMarkIfSet i st me)
   notices_as is i n st within here = subst (λ (y : ℕ). Allows (Ruled key) slots id me y (λ w. w) (AddsMarkIfSet i st me)) (sym here)
       (subst (λ (k : Layout). Allows (Ruled k) slots id me (recency_place l.width l.shape i) (λ w. w) (AddsMarkIfSet i st me)) (sym key-is)
-      (subst (λ (z : SeatView). Allows (Ruled l) slots id z (recency_place l.width l.shape i) (λ w. w) (AddsMarkIfSet i st z)) (sym is) (notices_one l id slots [] (front_of me.0) (done_of me.0) i st within)))
+      (subst (λ (z : SeatView). Allows (Ruled l) slots id z (recency_place l.width l.shape i) (λ w. w) (AddsMarkIfSet i st z)) (sym is) (notices_one l id slots [] (number_of me.0) (front_of me.0) (done_of me.0) i st within)))
 
-  pub compares_as : me ≡ (view_as l (Both (acts_of me.0) (tally_of me.0) (front_of me.0) (done_of me.0)), []) → (n : ℕ) → n < word_count l.width l.shape → Allows (Ruled key) slots id me n (λ r. r) (ComparesMoment (step slots n 0 0 none) me)
+  pub compares_as : me ≡ (view_as l (Both (acts_of me.0) (tally_of me.0) (number_of me.0) (front_of me.0) (done_of me.0)), []) → (n : ℕ) → n < word_count l.width l.shape → Allows (Ruled key) slots id me n (λ r. r) (ComparesMoment (step slots n 0 0 none) me)
   compares_as is n below = subst (λ (k : Layout). Allows (Ruled k) slots id me n (λ r. r) (ComparesMoment (step slots n 0 0 none) me)) (sym key-is)
       (subst (λ (z : SeatView). Allows (Ruled l) slots id z n (λ r. r) (ComparesMoment (step slots n 0 0 none) z)) (sym is)
-      (compares_one l id slots [] (acts_of me.0) (tally_of me.0) (front_of me.0) (done_of me.0) n (step slots n 0 0 none) refl below))
+      (compares_one l id slots [] (acts_of me.0) (tally_of me.0) (number_of me.0) (front_of me.0) (done_of me.0) n (step slots n 0 0 none) refl below))
 
 module _ (key l : Layout) (key-is : key ≡ l) (id : ℕ) where
-  pub splits_new_as : (v : View) → v ≡ writer_view l [] [] → Splits (Ruled key) id v v (new_reader_view v)
-  splits_new_as v is = subst (λ (k : Layout). Splits (Ruled k) id v v (new_reader_view v)) (sym key-is) (subst (λ (x : View). Splits (Ruled l) id x x (new_reader_view x)) (sym is) (splits_new l id [] []))
+  pub splits_new_as : (v : View) (n : ℕ) → v ≡ writer_view l [] (tally_for n) → Splits (Ruled key) id v (with_reader_view v) (new_reader_view v)
+  splits_new_as v n is = subst (λ (k : Layout). Splits (Ruled k) id v (with_reader_view v) (new_reader_view v)) (sym key-is) (subst (λ (x : View). Splits (Ruled l) id x (with_reader_view x) (new_reader_view x)) (sym is) (splits_new l id n))
 
-  pub splits_back_as : (v : View) → v ≡ view_as l (Both (acts_of v) (tally_of v) (front_of v) (done_of v)) → Splits (Ruled key) id v (writer_part v) (reader_part v)
+  pub splits_back_as : (v : View) → v ≡ view_as l (Both (acts_of v) (tally_of v) (number_of v) (front_of v) (done_of v)) → Splits (Ruled key) id v (writer_part v) (reader_part v)
   splits_back_as v is = subst (λ (k : Layout). Splits (Ruled k) id v (writer_part v) (reader_part v)) (sym key-is)
-      (subst (λ (x : View). Splits (Ruled l) id x (writer_part x) (reader_part x)) (sym is) (splits_back l id (acts_of v) (tally_of v) (front_of v) (done_of v)))
+      (subst (λ (x : View). Splits (Ruled l) id x (writer_part x) (reader_part x)) (sym is) (splits_back l id (acts_of v) (tally_of v) (number_of v) (front_of v) (done_of v)))
 
-  pub joins_as : (other : ℕ) (v w : View) → v ≡ writer_view l (acts_of v) (tally_of v) → w ≡ reader_view l (front_of w) (done_of w) → Joins (Ruled key) id v other w (joined_view v w) spent_view
+  pub joins_as : (other : ℕ) (v w : View) → v ≡ writer_view l (acts_of v) (tally_of v) → w ≡ reader_view l (number_of w) (front_of w) (done_of w) → Joins (Ruled key) id v other w (joined_view v w) spent_view
   joins_as other v w is is' = subst (λ (k : Layout). Joins (Ruled k) id v other w (joined_view v w) spent_view) (sym key-is)
-      (subst (λ (x : View × View). Joins (Ruled l) id x.0 other x.1 (joined_view x.0 x.1) spent_view) (λ i. (sym is i, sym is' i)) (joins_reader l id other (acts_of v) (tally_of v) (front_of w) (done_of w)))
+      (subst (λ (x : View × View). Joins (Ruled l) id x.0 other x.1 (joined_view x.0 x.1) spent_view) (λ i. (sym is i, sym is' i)) (joins_reader l id other (acts_of v) (tally_of v) (number_of w) (front_of w) (done_of w)))

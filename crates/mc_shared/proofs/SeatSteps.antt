@@ -16,7 +16,7 @@ use Rattle.mc_theory.specs.declared.act.Deed.{Deed}
 use Rattle.mc_shared.specs.declared.layout.Layout.{Layout}
 use Rattle.mc_shared.specs.Records.{Opening, WriterRecord, writer_record}
 use Rattle.mc_shared.specs.Inside.Seats.{opening_of}
-use Rattle.mc_shared.specs.Views.{writer_view, acts_of, tally_of, layout_state, with_bit, layout_of}
+use Rattle.mc_shared.specs.Views.{Note, writer_view, acts_of, tally_of, with_note, layout_state, with_bit, layout_of}
 use Rattle.mc_shared.specs.Steps.{SeatView, bit_of}
 use Rattle.mc_shared.specs.Inside.Steps.{WritesAt, IsOffBits, IsPlain}
 use Rattle.mc_shared.specs.Inside.Seats.{MayMake}
@@ -37,9 +37,9 @@ stored_bit Close x is = refl
 stored_bit (Hand i) x is = absurd is
 stored_bit (Mark i) x is = absurd is
 
--- the act is noted with some sum
+-- the act is noted with some note
 abbrev pub Noted : Act → SeatView → ℕ → SeatView → Type 0
-Noted a me x me' = (sum : ℕ) × (me' ≡ (writer_view me.0.layout (acts_of me.0 ++ with_bit a (bit_of a x) ∷ []) (tally_of me.0 ++ sum ∷ []), me.1))
+Noted a me x me' = (note : Note) × (me' ≡ (writer_view me.0.layout (acts_of me.0 ++ with_bit a (bit_of a x) ∷ []) (with_note (tally_of me.0) note), me.1))
 
 -- what a step of the writer leaves, whatever the tally is
 noted : (l : Layout) (me me' : SeatView) (a : Act) (x : ℕ) → Noted a me x me' → me' ≡ (writer_view me.0.layout (acts_of me.0 ++ with_bit a (bit_of a x) ∷ []) (tally_of me'.0), me.1)

@@ -1,6 +1,8 @@
 pub mod Views
 pub mod RecencyTrace
+pub mod ExactFronts
 pub mod TableRule
+pub mod ExactLaws
 pub mod Steps
 pub mod SeatFacts
 pub mod Records

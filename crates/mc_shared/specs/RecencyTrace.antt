@@ -6,6 +6,7 @@ use Rattle.mc_theory.specs.declared.access.Access.{Access}
 use Rattle.mc_theory.specs.declared.access.Access.TheVariants as access
 use Rattle.mc_theory.specs.declared.act.Act.{Act}
 use Rattle.mc_theory.specs.declared.act.Act.TheVariants.{Hand, Mark}
+use Rattle.mc_shared.specs.Views.{Note}
 
 -- of one item: 1 where the writer marked it since the hand was there, how many marks readers had made when the hand was there, and how much the hand told wrongly
 pub record Trace : Type 0 where
@@ -30,17 +31,17 @@ trace_after i t (Hand j) bit marks = if j == i then trace_swept t bit marks else
 trace_after i t (Mark j) bit marks = if j == i then trace_marked t else t
 trace_after i t _ bit marks = t
 
-abbrev pub trace_from : ℕ → Trace → List Made → List ℕ → Trace
-trace_from i t [] sums = t
+abbrev pub trace_from : ℕ → Trace → List Made → List Note → Trace
+trace_from i t [] notes = t
 trace_from i t (m ∷ ms) [] = trace_from i (trace_after i t m.act m.bit 0) ms []
-trace_from i t (m ∷ ms) (n ∷ ns) = trace_from i (trace_after i t m.act m.bit n) ms ns
+trace_from i t (m ∷ ms) (n ∷ ns) = trace_from i (trace_after i t m.act m.bit n.marks) ms ns
 
 abbrev pub new_trace : Trace
 new_trace = record { own = 0; seen = 0; wrong = 0 }
 
--- what the acts and their tally say of the item
-abbrev pub trace_of : ℕ → List Made → List ℕ → Trace
-trace_of i acts sums = trace_from i new_trace acts sums
+-- what the acts and their notes say of the item
+abbrev pub trace_of : ℕ → List Made → List Note → Trace
+trace_of i acts notes = trace_from i new_trace acts notes
 
 abbrev pub is_mark_of : ℕ → Access → ℕ
 is_mark_of i (access.Mark j) = if j == i then 1 else 0

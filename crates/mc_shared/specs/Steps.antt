@@ -11,7 +11,8 @@ use Rattle.mc_theory.specs.declared.access.Access.TheVariants as access
 use Rattle.mc_theory.specs.declared.act.Act.{Act}
 use Rattle.mc_theory.specs.declared.act.Act.TheVariants.{Hand, Mark}
 use Rattle.mc_shared.specs.TableRule.{word_after, IsRecord}
-use Rattle.mc_shared.specs.Views.{Both, View, view_as, writer_view, reader_view, acts_of, tally_of, front_of, done_of, AreLawful, with_bit, IsFrontOf}
+use Rattle.mc_shared.specs.ExactFronts.{IsExact}
+use Rattle.mc_shared.specs.Views.{Note, Both, View, view_as, writer_view, reader_view, acts_of, tally_of, number_of, front_of, done_of, with_note, with_reader, AreLawful, with_bit, IsFrontOf}
 use Rattle.mc_shared.specs.declared.layout.Layout.{Layout}
 
 -- a seat's view, and the slots that it holds: none
@@ -31,7 +32,7 @@ bit_of _ found = 0
 
 -- the writer's record has this act more, with the bit that the step found. What the step may write, and where, the rule says
 abbrev pub AddsAct : Act → Step (Unit {0}) → SeatView → ℕ → SeatView → Type 0
-AddsAct a st me found me' = (sum : ℕ) × (me' ≡ (writer_view me.0.layout (acts_of me.0 ++ with_bit a (bit_of a found) ∷ []) (tally_of me.0 ++ sum ∷ []), me.1))
+AddsAct a st me found me' = (note : Note) × (me' ≡ (writer_view me.0.layout (acts_of me.0 ++ with_bit a (bit_of a found) ∷ []) (with_note (tally_of me.0) note), me.1))
 
 -- the number of the bit that a mark sets
 abbrev pub mark_bit : Act → ℕ
@@ -61,7 +62,7 @@ pub record ReadsOne (l : Layout) (front : List Made) (done : List Reading) (a : 
 abbrev pub ReadsWord : Access → Step (Unit {0}) → SeatView → ℕ → SeatView → Type 0
 ReadsWord a st me found me' =
     (place_read me.0.layout.width me.0.layout.shape a ≡ Some st.word)
-    × (me' ≡ (reader_view me.0.layout (front_of me'.0) (done_of me'.0), me.1))
+    × (me' ≡ (reader_view me.0.layout (number_of me.0) (front_of me'.0) (done_of me'.0), me.1))
     × ReadsOne me.0.layout (front_of me.0) (done_of me.0) a found (front_of me'.0) (done_of me'.0)
 
 -- a mark reads no word
@@ -70,7 +71,7 @@ mark_at i front = reading (access.Mark i) 0 front
 
 -- a seat with one mark more
 abbrev pub with_mark : ℕ → SeatView → SeatView
-with_mark i me = (reader_view me.0.layout (front_of me.0) (done_of me.0 ++ mark_at i (front_of me.0) ∷ []), me.1)
+with_mark i me = (reader_view me.0.layout (number_of me.0) (front_of me.0) (done_of me.0 ++ mark_at i (front_of me.0) ∷ []), me.1)
 
 abbrev pub AddsMark : ℕ → Step (Unit {0}) → SeatView → ℕ → SeatView → Type 0
 AddsMark i st me found me' = me' ≡ with_mark i me
@@ -80,21 +81,26 @@ abbrev pub AddsMarkIfSet : ℕ → Step (Unit {0}) → SeatView → ℕ → Seat
 AddsMarkIfSet i st me found me' = (bit_at found (recency_bit i) ≡ 1 → me' ≡ with_mark i me) × (bit_at found (recency_bit i) ≡ 0 → me' ≡ me)
 
 -- ---- a reader joined to the writer
--- what the reader saw begins the acts, and its record is one of them too
+-- what the reader saw begins the acts, its record is one of them too, and each reading was made at the front of all acts that had been made by then
 abbrev pub ComparesMoment : Step (Unit {0}) → SeatView → ℕ → SeatView → Type 0
 ComparesMoment st me found me' =
     (me' ≡ me) × IsFrontOf (front_of me.0) (acts_of me.0) × IsRecord me.0.layout (acts_of me.0) (done_of me.0)
+    × (length (tally_of me.0).notes ≡ length (acts_of me.0)) × IsExact (number_of me.0) (tally_of me.0).notes (done_of me.0)
     × (found ≡ word_after me.0.layout (acts_of me.0) st.word)
 
+-- a new reader has the next number
 abbrev pub new_reader_view : View → View
-new_reader_view v = reader_view v.layout [] []
+new_reader_view v = reader_view v.layout (tally_of v).readers [] []
+
+abbrev pub with_reader_view : View → View
+with_reader_view v = writer_view v.layout (acts_of v) (with_reader (tally_of v))
 
 abbrev pub joined_view : View → View → View
-joined_view v w = view_as v.layout (Both (acts_of v) (tally_of v) (front_of w) (done_of w))
+joined_view v w = view_as v.layout (Both (acts_of v) (tally_of v) (number_of w) (front_of w) (done_of w))
 
 abbrev pub writer_part : View → View
 writer_part v = writer_view v.layout (acts_of v) (tally_of v)
 
--- the reader that is split off again has seen all acts
+-- the reader that is split off again keeps its number, and has seen all acts
 abbrev pub reader_part : View → View
-reader_part v = reader_view v.layout (acts_of v) (done_of v)
+reader_part v = reader_view v.layout (number_of v) (acts_of v) (done_of v)

@@ -1,5 +1,5 @@
 -- What a seat of a table knows. It exists in proofs alone.
-use Rattle.std.specs.Prelude.{ℕ, ◌≡◌, List, [], ◌++◌}
+use Rattle.std.specs.Prelude.{ℕ, ◌≡◌, ◌+◌, ◌==◌, List, [], ◌∷◌, ◌++◌, if◌then◌else◌}
 use Rattle.mc_theory.specs.Lists.{Made, IsLawful, state_of}
 use Rattle.mc_theory.specs.Readings.{Reading}
 use Rattle.mc_theory.specs.States.{State}
@@ -8,15 +8,38 @@ use Rattle.mc_words.specs.declared.shape.Shape.{Shape}
 use Rattle.mc_words.specs.declared.mix.Mix.TheVariants.{Plain}
 use Rattle.mc_shared.specs.declared.layout.Layout.{Layout}
 
--- what was done on a seat: the acts that were made, or the last front that was seen and what was read and marked
+-- what was so when an act was made: how many marks readers had made of its item, where it is one of the hand, and how many
+-- entries the record of each reader had, by the reader's number
+pub record Note : Type 0 where
+  pub marks : ℕ
+  pub steps : List ℕ
+
+-- how many readers there are, and a note for each act
+pub record Tally : Type 0 where
+  pub readers : ℕ
+  pub notes : List Note
+
+-- what was done on a seat: the acts that were made with their tally, or a reader's number, the last front that it saw, and what it read and marked
 pub data Role : Type 0 where
   -- it was joined to the writer's
   Spent : Role
-  -- the acts, and for each how many marks readers had made of its item, where it is one of the hand
-  Writes : (acts : List Made) (tally : List ℕ) → Role
-  Reads : (front : List Made) (done : List Reading) → Role
+  Writes : (acts : List Made) (tally : Tally) → Role
+  Reads : (number : ℕ) (front : List Made) (done : List Reading) → Role
   -- the writer's, with a reader's joined to it
-  Both : (acts : List Made) (tally : List ℕ) (front : List Made) (done : List Reading) → Role
+  Both : (acts : List Made) (tally : Tally) (number : ℕ) (front : List Made) (done : List Reading) → Role
+
+-- of a table with so many readers, and no acts
+abbrev pub tally_for : ℕ → Tally
+tally_for n = record { readers = n; notes = [] }
+
+abbrev pub new_tally : Tally
+new_tally = tally_for 0
+
+abbrev pub with_reader : Tally → Tally
+with_reader t = record { readers = t.readers + 1; notes = t.notes }
+
+abbrev pub with_note : Tally → Note → Tally
+with_note t n = record { readers = t.readers; notes = t.notes ++ n ∷ [] }
 
 -- of which tables it is one, and what was done
 pub record View : Type 0 where
@@ -26,15 +49,15 @@ pub record View : Type 0 where
 abbrev pub view_as : Layout → Role → View
 view_as l r = record { layout = l; role = r }
 
-abbrev pub writer_view : Layout → List Made → List ℕ → View
+abbrev pub writer_view : Layout → List Made → Tally → View
 writer_view l acts tally = view_as l (Writes acts tally)
 
-abbrev pub reader_view : Layout → List Made → List Reading → View
-reader_view l front done = view_as l (Reads front done)
+abbrev pub reader_view : Layout → ℕ → List Made → List Reading → View
+reader_view l number front done = view_as l (Reads number front done)
 
 -- the writer's seat of a new table
 abbrev pub new_writer_view : Layout → View
-new_writer_view l = writer_view l [] []
+new_writer_view l = writer_view l [] new_tally
 
 -- what no seat of a table knows
 abbrev pub spent_view : View
@@ -43,32 +66,48 @@ spent_view = view_as (record { shape = record { buckets = 0; items = 0; stripes 
 abbrev pub acts_in : Role → List Made
 acts_in Spent = []
 acts_in (Writes acts tally) = acts
-acts_in (Reads front done) = []
-acts_in (Both acts tally front done) = acts
+acts_in (Reads number front done) = []
+acts_in (Both acts tally number front done) = acts
 
-abbrev pub tally_in : Role → List ℕ
-tally_in Spent = []
+abbrev pub tally_in : Role → Tally
+tally_in Spent = new_tally
 tally_in (Writes acts tally) = tally
-tally_in (Reads front done) = []
-tally_in (Both acts tally front done) = tally
+tally_in (Reads number front done) = new_tally
+tally_in (Both acts tally number front done) = tally
+
+abbrev pub number_in : Role → ℕ
+number_in Spent = 0
+number_in (Writes acts tally) = 0
+number_in (Reads number front done) = number
+number_in (Both acts tally number front done) = number
 
 abbrev pub front_in : Role → List Made
 front_in Spent = []
 front_in (Writes acts tally) = []
-front_in (Reads front done) = front
-front_in (Both acts tally front done) = front
+front_in (Reads number front done) = front
+front_in (Both acts tally number front done) = front
 
 abbrev pub done_in : Role → List Reading
 done_in Spent = []
 done_in (Writes acts tally) = []
-done_in (Reads front done) = done
-done_in (Both acts tally front done) = done
+done_in (Reads number front done) = done
+done_in (Both acts tally number front done) = done
+
+-- 1 where a reader of this number has the seat, or was joined to it
+abbrev pub seated_in : ℕ → Role → ℕ
+seated_in a Spent = 0
+seated_in a (Writes acts tally) = 0
+seated_in a (Reads number front done) = if number == a then 1 else 0
+seated_in a (Both acts tally number front done) = if number == a then 1 else 0
 
 abbrev pub acts_of : View → List Made
 acts_of v = acts_in v.role
 
-abbrev pub tally_of : View → List ℕ
+abbrev pub tally_of : View → Tally
 tally_of v = tally_in v.role
+
+abbrev pub number_of : View → ℕ
+number_of v = number_in v.role
 
 abbrev pub front_of : View → List Made
 front_of v = front_in v.role

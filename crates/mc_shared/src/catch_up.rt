@@ -1,8 +1,9 @@
 //! A reader and the writer in one thread.
-ghost use Rattle.std.specs.Prelude.{◌≡◌, []};
+ghost use Rattle.std.specs.Prelude.{◌≡◌, [], length};
 ghost use Rattle.mc_words.specs.Places.{moment};
-ghost use Rattle.mc_shared.specs.Views.{view_as, writer_view, reader_view, acts_of, tally_of, front_of, done_of, layout_state, IsFrontOf};
+ghost use Rattle.mc_shared.specs.Views.{view_as, writer_view, reader_view, acts_of, tally_of, number_of, front_of, done_of, layout_state, IsFrontOf};
 ghost use Rattle.mc_shared.specs.TableRule.{word_after, IsRecord};
+ghost use Rattle.mc_shared.specs.ExactFronts.{IsExact, InOneOrder};
 ghost use Rattle.mc_shared.specs.Records.{reader_record};
 ghost use Rattle.mc_shared.specs.Inside.Seats.{opening_of};
 
@@ -20,11 +21,12 @@ fn catch_on_seats(
 ) -> (u64, Seat<(), Known>)
     requires of { (opening_of seat.old.table_id seat.old.me.0.layout ≡ ruled.now) × (opening_of other.table_id other.me.0.layout ≡ ruled.now) }
     requires writes { seat.old.me ≡ (writer_view ruled.now.layout (acts_of seat.old.me.0) (tally_of seat.old.me.0), []) }
-    requires reads { other.me ≡ (reader_view ruled.now.layout (front_of other.me.0) (done_of other.me.0), []) }
+    requires reads { other.me ≡ (reader_view ruled.now.layout (number_of other.me.0) (front_of other.me.0) (done_of other.me.0), []) }
     ensures writes { (seat.new.table_id ≡ seat.old.table_id) × (seat.new.id ≡ seat.old.id) × (seat.new.me ≡ seat.old.me) }
-    ensures reads { (result.1.table_id ≡ other.table_id) × (result.1.me ≡ (reader_view ruled.now.layout (acts_of seat.old.me.0) (done_of other.me.0), [])) }
+    ensures reads { (result.1.table_id ≡ other.table_id) × (result.1.me ≡ (reader_view ruled.now.layout (number_of other.me.0) (acts_of seat.old.me.0) (done_of other.me.0), [])) }
     ensures begins { IsFrontOf (front_of other.me.0) (acts_of seat.old.me.0) }
     ensures recorded { IsRecord ruled.now.layout (acts_of seat.old.me.0) (done_of other.me.0) }
+    ensures exact { (length (tally_of seat.old.me.0).notes ≡ length (acts_of seat.old.me.0)) × IsExact (number_of other.me.0) (tally_of seat.old.me.0).notes (done_of other.me.0) }
     ensures word { result.0 ≡ word_after ruled.now.layout (acts_of seat.old.me.0) 0 }
 {
     ruled.table.shared.join_seat::<Meeting>(seat, other);
@@ -40,6 +42,7 @@ pub(crate) fn catch_up(ruled: &RuledWords, reader: &mut ReaderSeat, writer: &mut
     ensures writer { writer.new ≡ writer.old }
     ensures reader { reader.new ≡ reader_record reader.old.of writer.old.acts reader.old.done }
     ensures begins { IsFrontOf reader.old.front writer.old.acts }
+    ensures order { InOneOrder writer.old.acts reader.old.done }
     ensures moment { result ≡ moment (layout_state ruled.now.layout writer.old.acts).words }
 {
     let other = mem::replace(&mut reader.badge, Badge::blank()).into_seat::<()>();

@@ -19,6 +19,7 @@
 
 mod catch_up;
 mod cells;
+pub mod laws;
 mod layout;
 mod opening;
 mod plays;

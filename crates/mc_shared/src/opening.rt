@@ -1,8 +1,8 @@
 //! A table is opened and closed.
-ghost use Rattle.std.specs.Prelude.{◌≡◌, ℕ, ◌<◌, [], ◌∷◌, length, slice_index, replicate, IfOk};
+ghost use Rattle.std.specs.Prelude.{◌≡◌, ℕ, ◌+◌, ◌<◌, [], ◌∷◌, length, slice_index, replicate, IfOk};
 ghost use Rattle.mc_words.specs.Places.{all_words, word_count, IsWidth};
 ghost use Rattle.mc_words.specs.Shapes.{IsShape};
-ghost use Rattle.mc_shared.specs.Views.{writer_view};
+ghost use Rattle.mc_shared.specs.Views.{writer_view, tally_of, tally_for, new_tally};
 ghost use Rattle.mc_shared.specs.TableRule.{word_after};
 ghost use Rattle.mc_shared.specs.Records.{writer_record, reader_record};
 ghost use Rattle.mc_shared.specs.Inside.Seats.{opening_of};
@@ -18,8 +18,8 @@ use std::alloc::{AllocError, Global};
 // Splits a new reader's seat off the writer's.
 fn seat_reader(ruled: &RuledWords, seat: &mut Seat<(), Known>) -> ReaderSeat
     requires of { opening_of seat.old.table_id seat.old.me.0.layout ≡ ruled.now }
-    requires seat { seat.old.me ≡ (writer_view ruled.now.layout [] [], []) }
-    ensures seat { (seat.new.table_id ≡ seat.old.table_id) × (seat.new.id ≡ seat.old.id) × (seat.new.me ≡ seat.old.me) }
+    requires seat { seat.old.me ≡ (writer_view ruled.now.layout [] (tally_for (tally_of seat.old.me.0).readers), []) }
+    ensures seat { (seat.new.table_id ≡ seat.old.table_id) × (seat.new.id ≡ seat.old.id) × (seat.new.me ≡ (writer_view ruled.now.layout [] (tally_for ((tally_of seat.old.me.0).readers + 1)), [])) }
     ensures reader { result ≡ reader_record ruled.now [] [] }
 {
     let other = ruled.table.shared.split_seat::<NewReader>(seat);
@@ -35,8 +35,9 @@ fn seat_readers(
     readers: u32,
 ) -> Result<Vec<ReaderSeat>, AllocError>
     requires of { opening_of seat.old.table_id seat.old.me.0.layout ≡ ruled.now }
-    requires seat { seat.old.me ≡ (writer_view ruled.now.layout [] [], []) }
-    ensures seat { (seat.new.table_id ≡ seat.old.table_id) × (seat.new.id ≡ seat.old.id) × (seat.new.me ≡ seat.old.me) }
+    requires seat { seat.old.me ≡ (writer_view ruled.now.layout [] new_tally, []) }
+    ensures seat { (seat.new.table_id ≡ seat.old.table_id) × (seat.new.id ≡ seat.old.id) }
+    ensures me { IfOk result (λ r. seat.new.me ≡ (writer_view ruled.now.layout [] (tally_for readers), [])) }
     ensures readers { IfOk result (λ r. r.items ≡ replicate readers (reader_record ruled.now [] [])) }
 {
     let mut seats = Vec::new(alloc);
@@ -55,7 +56,7 @@ fn lay(
     requires shape { IsShape layout.shape × IsWidth layout.width }
     requires words { words ≡ all_words layout.width layout.shape }
     ensures ruled { IfOk result (λ r. r.0.layout ≡ layout) }
-    ensures seat { IfOk result (λ r. (r.1.table_id ≡ r.0.table) × (r.1.me ≡ (writer_view layout [] [], []))) }
+    ensures seat { IfOk result (λ r. (r.1.table_id ≡ r.0.table) × (r.1.me ≡ (writer_view layout [] new_tally, []))) }
 {
     let zeros = vec![in alloc; 0u64; words]?;
     let (table, seat) = Table::<(), Known, Layout, Ruling, Global>::of_words(

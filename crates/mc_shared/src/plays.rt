@@ -142,9 +142,9 @@ impl Play<(), Known> for Compares {
 pub struct NewReader;
 
 impl Split<Known> for NewReader {
-    ghost use Rattle.mc_shared.specs.Steps.{new_reader_view};
+    ghost use Rattle.mc_shared.specs.Steps.{with_reader_view, new_reader_view};
 
-    ghost left = { λ v. v };
+    ghost left = { with_reader_view };
 
     ghost right = { new_reader_view };
 }

@@ -3,6 +3,7 @@ ghost use Rattle.std.specs.Prelude.{◌≡◌, ◌<◌, [], ◌∷◌, ◌++◌,
 ghost use Rattle.mc_words.specs.Places.{moment, word_count};
 ghost use Rattle.mc_theory.specs.Lists.{state_of};
 ghost use Rattle.mc_theory.specs.Writes.{IsAccess, place_read};
+ghost use Rattle.mc_shared.specs.ExactFronts.{InOneOrder};
 ghost use Rattle.mc_shared.specs.Views.{layout_of, IsFrontOf};
 ghost use Rattle.mc_shared.specs.Steps.{ReadsOne, mark_at};
 ghost use Rattle.mc_shared.specs.Records.{reader_record};
@@ -81,6 +82,7 @@ pub fn catch<const V: usize>(
     ensures writer { writer.new ≡ writer.old }
     ensures reader { reader.new ≡ reader_record reader.old.of writer.old.acts reader.old.done }
     ensures begins { IsFrontOf reader.old.front writer.old.acts }
+    ensures order { InOneOrder writer.old.acts reader.old.done }
     ensures moment { result ≡ moment (state_of V cells.now.layout.shape writer.old.acts).words }
 {
     catch_up(&cells.ruled, reader, writer)

@@ -3,7 +3,7 @@ ghost use Rattle.std.specs.Prelude.{◌≡◌, ◌<◌, [], ◌∷◌, ◌++◌,
 ghost use Rattle.mc_words.specs.Places.{word_count, recency_place};
 ghost use Rattle.mc_words.specs.Recency.{recency_bit};
 ghost use Rattle.mc_theory.specs.Writes.{place_read};
-ghost use Rattle.mc_shared.specs.Views.{reader_view, front_of, done_of};
+ghost use Rattle.mc_shared.specs.Views.{reader_view, number_of, front_of, done_of};
 ghost use Rattle.mc_shared.specs.Steps.{mark_at, ReadsOne};
 ghost use Rattle.mc_shared.specs.Records.{reader_record};
 ghost use Rattle.mc_shared.specs.Inside.Seats.{opening_of};
@@ -24,12 +24,12 @@ fn load_as_reader<J: NamesAccess>(
     place: usize,
 ) -> u64
     requires of { opening_of seat.old.table_id seat.old.me.0.layout ≡ ruled.now }
-    requires seat { seat.old.me ≡ (reader_view ruled.now.layout (front_of seat.old.me.0) (done_of seat.old.me.0), []) }
+    requires seat { seat.old.me ≡ (reader_view ruled.now.layout (number_of seat.old.me.0) (front_of seat.old.me.0) (done_of seat.old.me.0), []) }
     requires access { J.access ≡ access }
     requires place { place_read ruled.now.layout.width ruled.now.layout.shape access ≡ Some place }
     requires range { place < word_count ruled.now.layout.width ruled.now.layout.shape }
     ensures table { (seat.new.table_id ≡ seat.old.table_id) × (seat.new.id ≡ seat.old.id) }
-    ensures seat { seat.new.me ≡ (reader_view ruled.now.layout (front_of seat.new.me.0) (done_of seat.new.me.0), []) }
+    ensures seat { seat.new.me ≡ (reader_view ruled.now.layout (number_of seat.old.me.0) (front_of seat.new.me.0) (done_of seat.new.me.0), []) }
     ensures one { ReadsOne ruled.now.layout (front_of seat.old.me.0) (done_of seat.old.me.0) access result (front_of seat.new.me.0) (done_of seat.new.me.0) }
 {
     let _ = access;
@@ -64,12 +64,12 @@ fn set_bit_as_reader<J: NamesItem>(
     bit: u8,
 )
     requires of { opening_of seat.old.table_id seat.old.me.0.layout ≡ ruled.now }
-    requires seat { seat.old.me ≡ (reader_view ruled.now.layout (front_of seat.old.me.0) (done_of seat.old.me.0), []) }
+    requires seat { seat.old.me ≡ (reader_view ruled.now.layout (number_of seat.old.me.0) (front_of seat.old.me.0) (done_of seat.old.me.0), []) }
     requires item { (J.item ≡ item) × (item < ruled.now.layout.shape.items) }
     requires place { place ≡ recency_place ruled.now.layout.width ruled.now.layout.shape item }
     requires bit { (bit ≡ recency_bit item) × (bit < 64) }
     ensures table { (seat.new.table_id ≡ seat.old.table_id) × (seat.new.id ≡ seat.old.id) }
-    ensures one { seat.new.me ≡ (reader_view ruled.now.layout (front_of seat.old.me.0) (done_of seat.old.me.0 ++ mark_at item (front_of seat.old.me.0) ∷ []), []) }
+    ensures one { seat.new.me ≡ (reader_view ruled.now.layout (number_of seat.old.me.0) (front_of seat.old.me.0) (done_of seat.old.me.0 ++ mark_at item (front_of seat.old.me.0) ∷ []), []) }
 {
     let _ = item;
     ruled
@@ -88,12 +88,12 @@ fn notice_as_reader<J: NamesItem>(
     bit: u8,
 )
     requires of { opening_of seat.old.table_id seat.old.me.0.layout ≡ ruled.now }
-    requires seat { seat.old.me ≡ (reader_view ruled.now.layout (front_of seat.old.me.0) (done_of seat.old.me.0), []) }
+    requires seat { seat.old.me ≡ (reader_view ruled.now.layout (number_of seat.old.me.0) (front_of seat.old.me.0) (done_of seat.old.me.0), []) }
     requires item { (J.item ≡ item) × (item < ruled.now.layout.shape.items) }
     requires place { place ≡ recency_place ruled.now.layout.width ruled.now.layout.shape item }
     requires bit { (bit ≡ recency_bit item) × (bit < 64) }
     ensures table { (seat.new.table_id ≡ seat.old.table_id) × (seat.new.id ≡ seat.old.id) }
-    ensures one { seat.new.me ≡ (reader_view ruled.now.layout (front_of seat.old.me.0) (done_of seat.old.me.0 ++ mark_at item (front_of seat.old.me.0) ∷ []), []) }
+    ensures one { seat.new.me ≡ (reader_view ruled.now.layout (number_of seat.old.me.0) (front_of seat.old.me.0) (done_of seat.old.me.0 ++ mark_at item (front_of seat.old.me.0) ∷ []), []) }
 {
     let found = ruled.table.shared.load::<MarksIfSet<J>>(seat, place);
     if (found >> bit) & 1 == 0 {

@@ -11,7 +11,7 @@ use Rattle.mc_theory.specs.declared.act.Act.{Act}
 use Rattle.mc_shared.specs.Records.{Opening}
 use Rattle.mc_shared.specs.Steps.{SeatView}
 use Rattle.mc_shared.specs.TableRule.{IsRecord}
-use Rattle.mc_shared.specs.Views.{View, writer_view, reader_view, spent_view, acts_of, tally_of, front_of, done_of, AreLawful, layout_state}
+use Rattle.mc_shared.specs.Views.{View, writer_view, reader_view, spent_view, acts_of, tally_of, number_of, front_of, done_of, AreLawful, layout_state}
 use Rattle.mc_shared.specs.declared.layout.Layout.{Layout}
 
 abbrev pub opening_of : TableId → Layout → Opening
@@ -45,7 +45,7 @@ pub record IsWriter (me : SeatView) (place count at : ℕ) : Type 0 where
 
 -- a reader's badge: its front is lawful, and its record is one of that front
 pub record IsReader (views : List View) : Type 0 where
-  pub seat : views ≡ reader_view (view_of views).layout (front_of (view_of views)) (done_of (view_of views)) ∷ []
+  pub seat : views ≡ reader_view (view_of views).layout (number_of (view_of views)) (front_of (view_of views)) (done_of (view_of views)) ∷ []
   pub lawful : AreLawful (view_of views).layout (front_of (view_of views))
   pub recorded : IsRecord (view_of views).layout (front_of (view_of views)) (done_of (view_of views))
 

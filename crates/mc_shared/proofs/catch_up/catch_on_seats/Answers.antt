@@ -1,5 +1,5 @@
 use Rattle.std.proofs.Common.{◌≡◌, ap, sym, ◌∙◌, subst, arith}
-use Rattle.mc_shared.specs.Views.{Both, view_as, acts_of, tally_of, front_of, done_of}
+use Rattle.mc_shared.specs.Views.{Both, view_as, acts_of, tally_of, number_of, front_of, done_of}
 use Rattle.mc_shared.specs.Steps.{SeatView}
 use Rattle.mc_shared.specs.Records.{Opening}
 use Rattle.mc_shared.proofs.EachStep.{joins_as, compares_as, splits_back_as}
@@ -33,5 +33,5 @@ split_seat-parted-requires c =
     let joined = ap (λ (m : SeatView). m.0) (met_is c.args.ruled.now.layout c.args.seat.now.me c.join_seat.new.seat.me c.args.other.me.0 c.requires.writes c.join_seat.ensures.2) in (
       c.load-word.ensures.0 ∙ (c.join_seat.ensures.0 ∙ ap (λ (o : Opening). o.table) (c.requires.of.0 ∙ sym v)),
       rw (c.ruled.invariant.words) (omega arith),
-      splits_back_as _ _ same _ _ (subst (λ (m : SeatView). m.0 ≡ view_as c.args.ruled.now.layout (Both (acts_of m.0) (tally_of m.0) (front_of m.0) (done_of m.0))) (sym c.load-word.ensures.2.0) joined),
+      splits_back_as _ _ same _ _ (subst (λ (m : SeatView). m.0 ≡ view_as c.args.ruled.now.layout (Both (acts_of m.0) (tally_of m.0) (number_of m.0) (front_of m.0) (done_of m.0))) (sym c.load-word.ensures.2.0) joined),
     )

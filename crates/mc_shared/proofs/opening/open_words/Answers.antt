@@ -1,6 +1,11 @@
-use Rattle.std.proofs.Common.{◌∙◌}
+use Rattle.std.proofs.Common.{[], ap, ◌∙◌}
+use Rattle.mc_shared.specs.Views.{writer_view, tally_for}
+use Rattle.mc_shared.specs.declared.layout.Layout.{Layout}
+use Rattle.mc_shared.specs.Steps.{SeatView}
 use Rattle.mc_shared.proofs.BesideSeat.{new_writer}
 use Rattle.mc_shared.proofs.opening.open_words.Goals as goal
 
 pub invariant_of-writer : goal.invariant_of-writer
-invariant_of-writer c = new_writer c.args.layout _ (c.seat_readers.ensures.seat.2 ∙ c.in_ok-ruled.ensures.seat.1) c.requires.shape.0
+invariant_of-writer c =
+    let seats : Layout → SeatView = λ l. (writer_view l [] (tally_for c.args.readers), []) in
+    new_writer c.args.layout _ _ (c.in_ok-seats.ensures.me ∙ ap seats c.in_ok-ruled.ensures.ruled) c.requires.shape.0

@@ -12,8 +12,8 @@ split_seat-other-requires c =
     let sh = ap (λ (o : Opening). o.layout) v in (
       ap (λ (o : Opening). o.table) (c.requires.of ∙ sym v),
       rw (i.words) (omega arith),
-      splits_new_as _ _ sh _ _ (ap (λ (m : SeatView). m.0) c.requires.seat),
+      splits_new_as _ _ sh _ _ _ (ap (λ (m : SeatView). m.0) c.requires.seat),
     )
 
 pub invariant_of-result : goal.invariant_of-result
-invariant_of-result c = new_reader c.args.seat.now.me.0.layout _ c.split_seat-other.result.me.0 c.into_badge.ensures.2 (ap (λ (m : SeatView). m.0) c.split_seat-other.ensures.4)
+invariant_of-result c = new_reader c.args.seat.now.me.0.layout _ _ c.split_seat-other.result.me.0 c.into_badge.ensures.2 (ap (λ (m : SeatView). m.0) c.split_seat-other.ensures.4)

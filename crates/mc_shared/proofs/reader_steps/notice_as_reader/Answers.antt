@@ -8,7 +8,7 @@ use Rattle.mc_words.specs.Recency.{recency_bit}
 use Rattle.mc_shared.specs.Records.{Opening}
 use Rattle.mc_shared.specs.Steps.{SeatView, mark_at}
 use Rattle.mc_shared.proofs.PackedBits.{recency_below, bit_is}
-use Rattle.mc_shared.specs.Views.{reader_view, front_of, done_of}
+use Rattle.mc_shared.specs.Views.{reader_view, number_of, front_of, done_of}
 use Rattle.mc_shared.proofs.EachStep.{notices_as}
 use Rattle.mc_shared.proofs.SeatViews.{marked_is, all_of}
 use Rattle.mc_shared.proofs.reader_steps.notice_as_reader.Goals as goal
@@ -30,12 +30,12 @@ load-found-requires g c =
 pub set_bit_as_reader-requires-clause-seat : goal.set_bit_as_reader-requires-clause-seat
 set_bit_as_reader-requires-clause-seat g c =
     let still = c.load-found.ensures.2.1 (bit_is c.load-found.result c.args.bit c.args.item g.J.NamesItem.item c.requires.item.0 c.requires.bit.0 ∙ c.if-found-bit-eq0.true) in
-    subst (λ (m : SeatView). m ≡ (reader_view c.args.ruled.now.layout (front_of m.0) (done_of m.0), [])) (sym still) c.requires.seat
+    subst (λ (m : SeatView). m ≡ (reader_view c.args.ruled.now.layout (number_of m.0) (front_of m.0) (done_of m.0), [])) (sym still) c.requires.seat
 
 pub returns-then-found-bit-eq0-clause-one : goal.returns-then-found-bit-eq0-clause-one
 returns-then-found-bit-eq0-clause-one g c =
     let still = c.load-found.ensures.2.1 (bit_is c.load-found.result c.args.bit c.args.item g.J.NamesItem.item c.requires.item.0 c.requires.bit.0 ∙ c.if-found-bit-eq0.true) in
-    subst (λ (m : SeatView). c.set_bit_as_reader.new.seat.me ≡ (reader_view c.args.ruled.now.layout (front_of m.0) (done_of m.0 ++ mark_at c.args.item (front_of m.0) ∷ []), [])) still c.set_bit_as_reader.ensures.one
+    subst (λ (m : SeatView). c.set_bit_as_reader.new.seat.me ≡ (reader_view c.args.ruled.now.layout (number_of m.0) (front_of m.0) (done_of m.0 ++ mark_at c.args.item (front_of m.0) ∷ []), [])) still c.set_bit_as_reader.ensures.one
 
 pub returns-else-found-bit-eq0-clause-one : goal.returns-else-found-bit-eq0-clause-one
 returns-else-found-bit-eq0-clause-one g c =

@@ -1,0 +1,98 @@
+-- There is a table in which an act was made that a reader has not seen. There a reading that looks at nothing is refused outright.
+use Rattle.std.proofs.Common.{◌≡◌, ℕ, ◌^◌, ◌<◌, ◌≤◌, List, [], ◌∷◌, ◌++◌, length, get_or, set, refl, ap, sym, ◌∙◌, subst, arith, get_or-set_other}
+use mathlib.Core.Option.{Option, none, some, some-ne-none}
+use Rattle.atomic_table.specs.Table as table
+use Rattle.atomic_table.specs.Table.{Step, step, stepped, Act, keeps, takes, gives, chain, homes_after, carried_after, Valid, Allows}
+use Rattle.std.specs.Int.RustNames.{bit_or}
+use Rattle.mc_words.specs.Places.{word_count, all_words, recency_place}
+use Rattle.mc_words.specs.Recency.{recency_bit}
+use Rattle.mc_words.specs.Shapes.{IsShape}
+use Rattle.mc_words.specs.declared.shape.Shape.{Shape}
+use Rattle.mc_theory.specs.Acts.{IsAllowed}
+use Rattle.mc_theory.specs.States as states
+use Rattle.mc_theory.specs.States.{State}
+use Rattle.mc_theory.specs.declared.access.Access.{Access}
+use Rattle.mc_theory.specs.declared.act.Act.TheVariants.{Mark}
+use Rattle.mc_theory.proofs.Invariant.EachState.{zeros}
+use Rattle.mc_theory.proofs.Lists.Fronts.{lawful_none, state_none}
+use Rattle.mc_shared.specs.declared.layout.Layout.{Layout}
+use Rattle.mc_shared.specs.Views.{number_of, front_of, done_of, tally_for, View, writer_view, reader_view, with_note, with_bit}
+use Rattle.mc_shared.specs.Steps.{SeatView, reading}
+use Rattle.mc_shared.specs.TableRule.{word_after, Ruled}
+use Rattle.mc_shared.specs.Inside.Seats.{MayMake}
+use Rattle.mc_shared.specs.Inside.Steps.{only}
+use Rattle.mc_shared.proofs.PackedBits.{bit_low, or_spares}
+use Rattle.mc_shared.proofs.WrittenPlaces.{act_names_in}
+use Rattle.mc_shared.proofs.RecencySteps.{spared_past, touch_bits}
+use Rattle.mc_shared.proofs.EachStep.{makes}
+use Rattle.mc_shared.proofs.ExactMarks.{Stands, new_words, new_table, stands_new}
+use Rattle.mc_shared.proofs.ExactReadings.{IsLoad, no_stale_reading}
+
+-- a table with no slots has none after any step
+no_slots : (a : Act (Unit {0})) → Valid [] [] a → (homes_after [] [] a ≡ []) × (carried_after [] a ≡ [])
+no_slots keeps v = (refl, refl)
+no_slots (takes k y) v = absurd (some-ne-none _ (sym v))
+no_slots gives v = (refl, refl)
+no_slots (chain a b) v =
+    let x = no_slots a v.0 in
+    let y = no_slots b (subst (λ (z : List (Option (Unit {0})) × List (ℕ × Unit {0})). Valid z.0 z.1 b) (λ i. (x.0 i, x.1 i)) v.1) in
+    ((λ i. homes_after (x.0 i) (x.1 i) b) ∙ y.0, (λ i. carried_after (x.1 i) b) ∙ y.1)
+
+marks_first : (V : ℕ) (sh : Shape) → 0 < sh.items → IsAllowed sh (states.opening V sh) (Mark 0)
+unfolding states.opening
+marks_first V sh some' = some'
+
+few_first : (V : ℕ) (sh : Shape) → (states.opening V sh).version_steps ≤ 2 ^ 62
+unfolding states.opening
+few_first V sh = omega arith
+
+module _ (l : Layout) (shape : IsShape l.shape) where
+  may_mark : MayMake l [] (Mark 0)
+  may_mark = record {
+    shape = shape;
+    lawful = lawful_none l.width l.shape;
+    allowed = subst (λ (s : State l.width). IsAllowed l.shape s (Mark 0)) (sym (state_none l.width l.shape)) (marks_first l.width l.shape (omega (arith, shape.items)));
+    few = subst (λ (s : State l.width). s.version_steps ≤ 2 ^ 62) (sym (state_none l.width l.shape)) (few_first l.width l.shape);
+  }
+
+  -- the writer has marked item 0, and the reader has seen nothing
+  pub stands_acted : (n : ℕ) → n < word_count l.width l.shape → (s : table.State (Unit {0}) View) × (h : Stands l 1 0 [] 0 [] [] 0 s n) × (length h.acts ≡ 1)
+  unfolding new_table new_words
+  stands_acted n low =
+      let p : ℕ = recency_place l.width l.shape 0 in
+      let s : table.State (Unit {0}) View = new_table l in
+      let new = stands_new l p in
+      let w : ℕ = bit_or (get_or s.words p 0) (only 0) in
+      let m = makes l 0 0 [] [] (tally_for 1) (Mark 0) p (only 0) (λ z. bit_or z (only 0)) (λ z. z) (step 0 p 0 0 none) may_mark (refl, refl) (λ here. absurd (omega arith)) (touch_bits l 0) (spared_past l 0 (λ z. bit_or z (only 0)) (act_names_in l [] (Mark 0) may_mark) (or_spares (recency_bit 0) (bit_low 0))) s new.ruled refl refl (omega (arith, zeros (all_words l.width l.shape) p)) in
+      let view : m.0 ≡ writer_view l ([] ++ with_bit (Mark 0) 0 ∷ []) (with_note (tally_for 1) m.4.0) = ap (λ (x : SeatView). x.0) m.4.1 in
+      let same : get_or (set s.words p w) n 0 ≡ 0 = get_or-set_other s.words p n w 0 (λ e. omega (arith, e, low)) ∙ zeros (all_words l.width l.shape) n in (
+        stepped s p w 0 [] m.0 m.1,
+        record {
+          ruled = m.3;
+          long = ap length (no_slots m.1 m.2).0;
+          mine = refl;
+          fits = omega (arith, same);
+          writer = 0;
+          other = λ e. omega (arith, e);
+          acts = [] ++ with_bit (Mark 0) 0 ∷ [];
+          tally = with_note (tally_for 1) m.4.0;
+          writes = ap some view;
+        },
+        refl,
+      )
+
+  -- a reading of any place at the old front, with whatever word: also with the right word of that front
+  pub stale_reading_refused : (a : Access) (n : ℕ) (f : ℕ → ℕ) (told : ℕ → SeatView → Type 0) → IsLoad a → n < word_count l.width l.shape
+      → ((found : ℕ) (me : SeatView) → told found me → (x : ℕ) × (me.0 ≡ reader_view l 0 [] ([] ++ reading a x [] ∷ [])))
+      → Allows (Ruled l) 0 1 (reader_view l 0 [] [], []) n f told → ⊥
+  stale_reading_refused a n f told load low is allows =
+      let s = stands_acted n low in
+      no_stale_reading l 1 0 [] 0 [] [] n f told s.0 s.1 (λ me t. let x = is _ me t in ([], reading a x.0 [], load, omega (arith, s.2), (0, x.1))) allows
+
+  -- the step of a reader that looks at nothing: it enters the word that the place had at its old front, which is the right word of that front
+  abbrev pub KeepsWord : Access → Step (Unit {0}) → SeatView → ℕ → SeatView → Type 0
+  KeepsWord a st me found me' = me' ≡ (reader_view me.0.layout (number_of me.0) (front_of me.0) (done_of me.0 ++ reading a (word_after me.0.layout (front_of me.0) st.word) (front_of me.0) ∷ []), me.1)
+
+  pub kept_word_refused : (a : Access) (n : ℕ) (f : ℕ → ℕ) → IsLoad a → n < word_count l.width l.shape → Allows (Ruled l) 0 1 (reader_view l 0 [] [], []) n f (KeepsWord a (step 0 n 0 0 none) (reader_view l 0 [] [], [])) → ⊥
+  kept_word_refused a n f load low allows =
+      stale_reading_refused a n f (KeepsWord a (step 0 n 0 0 none) (reader_view l 0 [] [], [])) load low (λ found me t. (word_after l [] n, ap (λ (x : SeatView). x.0) t)) allows
