@@ -7,3 +7,4 @@ pub mod Frames
 pub mod Count
 pub mod Apart
 pub mod Powers
+pub mod Sizes

@@ -7,3 +7,4 @@ pub mod History
 pub mod Standing
 pub mod Chains
 pub mod Answers
+pub mod Sizing

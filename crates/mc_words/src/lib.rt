@@ -4,7 +4,7 @@
 //! The definitions of what the words mean stand in `specs/`.
 //!
 //! ```text
-//! let checked = shape.check()?;
+//! let checked = Shape::for_items(3000)?.check()?;
 //! let tag = checked.tag(key);
 //! let word = checked.slot_word(tag, 3);                  // a slot that names item 3
 //! assert_eq!(rt; checked.slot_parts(word), Some((tag, 3)));
@@ -19,6 +19,7 @@ mod mix;
 mod no_memory;
 mod place;
 mod shape;
+mod sizing;
 
 pub use checked::Checked;
 pub use history::{Change, Reply};

@@ -11,7 +11,8 @@ use thiserror::Error;
 pub struct Shape {
     /// A power of two from 2 to 2^20. Each bucket has four slots.
     pub buckets: u32,
-    /// From 1 to four times the buckets.
+    /// From 1 to four times the buckets. Keep it below nine tenths of the slots, as `Shape::for_items` does: where no slot is
+    /// empty once each item is in use, a new key is refused with `NoPath` and nothing is evicted for it.
     pub items: u32,
     /// The number of version counters, a power of two from 1 to 2^16.
     pub stripes: u32,

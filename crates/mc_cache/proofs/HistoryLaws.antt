@@ -1,0 +1,54 @@
+-- The laws of histories.
+use Rattle.std.proofs.Common.{ℕ, ◌≡◌, ◌≢◌, ◌≤◌, ◌∙◌, ◌⊎◌, List, [], ◌∷◌, ◌++◌, length, take, Option, Some, None, ap, arith, inl, inr, refl, subst, sym}
+use Rattle.std.proofs.lemmas.List.{append-nil, length-append, take-append-le}
+use Rattle.std.proofs.Math.Seq.{take-length}
+use Rattle.mc_words.proofs.Maps.{held-evict, held-none, held-other, held-put, held-remove}
+use Rattle.mc_words.specs.History.{IsTrueAnswer, map_value}
+use Rattle.mc_words.specs.declared.history.Change.{Change}
+use Rattle.mc_words.specs.declared.history.Change.TheVariants.{Put, Remove, Evict}
+use Rattle.mc_words.specs.declared.history.Reply.{Reply}
+use Rattle.mc_words.specs.declared.history.Reply.TheVariants.{Found, Absent, Busy}
+use Rattle.mc_theory.specs.Plain.{IsBetween}
+use Rattle.mc_cache.specs.Plain.{Begins, TellsNow}
+use Rattle.mc_cache.specs.PlainLaws.{HistoryLaws, key_of}
+
+others_stay : {V : ℕ} (h : List (Change V)) (c : Change V) (k : ℕ) → k ≢ key_of c → map_value (h ++ c ∷ []) k ≡ map_value h k
+others_stay h (Put j v) k ne = held-other h (Put j v) k ne
+others_stay h (Remove j) k ne = held-other h (Remove j) k ne
+others_stay h (Evict j) k ne = held-other h (Evict j) k ne
+
+-- the map after the first changes of a history stays as it is when the history grows
+still_true : {V : ℕ} (h more : List (Change V)) (k : ℕ) (reply : Reply V) → IsTrueAnswer h k reply → IsTrueAnswer (h ++ more) k reply
+still_true {V} h more k (Found v at) t = (omega (arith, t.0, length-append h more), ap (λ (z : List (Change V)). map_value z k) (take-append-le at h more t.0) ∙ t.1)
+still_true {V} h more k (Absent at) t = (omega (arith, t.0, length-append h more), ap (λ (z : List (Change V)). map_value z k) (take-append-le at h more t.0) ∙ t.1)
+still_true h more k Busy t = t
+
+stays_true : {V : ℕ} (h h' : List (Change V)) (k : ℕ) (reply : Reply V) → Begins h h' → IsTrueAnswer h k reply → IsTrueAnswer h' k reply
+stays_true h h' k reply b t = subst (λ z. IsTrueAnswer z k reply) (sym b.1) (still_true h b.0 k reply t)
+
+-- all changes of a history
+whole : {V : ℕ} (h : List (Change V)) (at : ℕ) → length h ≤ at → at ≤ length h → take at h ≡ h
+whole h at above below = ap (λ (n : ℕ). take n h) (omega (arith, above, below)) ∙ take-length h
+
+tells_now : {V : ℕ} (h : List (Change V)) (k : ℕ) (reply : Reply V) → IsTrueAnswer h k reply → IsBetween (length h) (length h) reply → (reply ≡ Busy) ⊎ TellsNow h k reply
+tells_now {V} h k (Found v at) t b = inr (sym (ap (λ (z : List (Change V)). map_value z k) (whole h at b.0 b.1)) ∙ t.1, omega (arith, b.0, b.1))
+tells_now {V} h k (Absent at) t b = inr (sym (ap (λ (z : List (Change V)). map_value z k) (whole h at b.0 b.1)) ∙ t.1, omega (arith, b.0, b.1))
+tells_now h k Busy t b = inl refl
+
+none_more : {V : ℕ} (h p q : List (Change V)) → h ≡ (h ++ p) ++ q → p ≡ []
+none_more {V} h p q e = empty p (omega (arith, ap length e, length-append (h ++ p) q, length-append h p))
+  where
+    empty : (z : List (Change V)) → length z ≡ 0 → z ≡ []
+    empty [] e = refl
+    empty (x ∷ z) e = absurd (omega (arith, e))
+
+same_history : {V : ℕ} (h h' : List (Change V)) → Begins h h' → Begins h' h → h' ≡ h
+same_history {V} h h' a b = a.1 ∙ (ap (λ (z : List (Change V)). h ++ z) (none_more h a.0 b.0 (b.1 ∙ ap (λ (z : List (Change V)). z ++ b.0) a.1)) ∙ append-nil h)
+
+pub history_laws : (V : ℕ) → HistoryLaws V
+history_laws V = record {
+  maps = record { empty = λ k. held-none V k; put = λ h k v. held-put h k v; removed = λ h k. held-remove h k; evicted = λ h k. held-evict h k; others = λ h c k ne. others_stay h c k ne };
+  stay = λ h h' k reply b t. stays_true h h' k reply b t;
+  last = λ h k reply t b. tells_now h k reply t b;
+  same = λ h h' a b. same_history h h' a b;
+}

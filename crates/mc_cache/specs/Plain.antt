@@ -1,0 +1,83 @@
+-- What the calls of a cache mean for whoever uses it: the clauses `plain`. Of the table they name no word: they speak of two
+-- histories, which are lists of changes of a map. The writer's has every change that was made. A reader's is the part of it that
+-- the reader is known to have seen.
+use Rattle.std.specs.Prelude.{ℕ, ◌≡◌, List, [], ◌∷◌, ◌++◌, length, Option, Some, None, IsSome, Result, Ok, Err}
+pub use Rattle.mc_words.specs.History.{map_value, IsLegal, IsTrueAnswer}
+pub use Rattle.mc_theory.specs.Plain.{IsBetween}
+pub use Rattle.mc_search.specs.Entries.{AreEntriesOf}
+use Rattle.mc_words.specs.declared.history.Change.{Change}
+use Rattle.mc_words.specs.declared.history.Change.TheVariants as change
+use Rattle.mc_words.specs.declared.history.Reply.{Reply}
+use Rattle.mc_words.specs.declared.history.Reply.TheVariants.{Found, Absent, Busy}
+use Rattle.mc_plan.specs.declared.answer.Put.{Put}
+use Rattle.mc_plan.specs.declared.answer.Put.TheVariants.{Stored, Renewed}
+use Rattle.mc_plan.specs.declared.answer.PutError.{PutError}
+use Rattle.mc_plan.specs.declared.answer.Remove.{Remove}
+use Rattle.mc_plan.specs.declared.answer.Remove.TheVariants.{Removed, NotThere}
+use Rattle.mc_plan.specs.declared.answer.Spent.{Spent}
+use Rattle.mc_theory.specs.Lists.{state_of}
+use Rattle.mc_shared.specs.Records.{WriterRecord, ReaderRecord}
+
+-- the history of a writer whose values have V words
+unfoldable pub history : (V : ℕ) → WriterRecord → List (Change V)
+history V w = (state_of V w.of.layout.shape w.acts).history
+
+-- the history that a reader has seen
+unfoldable pub seen : (V : ℕ) → ReaderRecord → List (Change V)
+seen V r = (state_of V r.of.layout.shape r.front).history
+
+-- the one history begins the other
+abbrev pub Begins : {V : ℕ} → List (Change V) → List (Change V) → Type 0
+Begins {V} h h' = (more : List (Change V)) × (h' ≡ h ++ more)
+
+-- the reply is what the map of the history holds of the key, at its end
+abbrev pub TellsNow : {V : ℕ} → List (Change V) → ℕ → Reply V → Type 0
+TellsNow h k (Found v at) = (map_value h k ≡ Some v) × (at ≡ length h)
+TellsNow h k (Absent at) = (map_value h k ≡ None) × (at ≡ length h)
+TellsNow h k Busy = ⊥
+
+-- a put that succeeds puts the key, and first evicts another one where it says so
+abbrev pub put_changes : {V : ℕ} → ℕ → List ℕ → Put → List (Change V)
+put_changes k v (Stored at moves None) = change.Put k v ∷ []
+put_changes k v (Stored at moves (Some other)) = change.Evict other ∷ change.Put k v ∷ []
+put_changes k v (Renewed at) = change.Put k v ∷ []
+
+-- the key was there before only where it was renewed, and a key that was evicted was there
+abbrev pub WasThere : {V : ℕ} → List (Change V) → ℕ → Put → Type 0
+WasThere h k (Stored at moves None) = map_value h k ≡ None
+WasThere h k (Stored at moves (Some other)) = (map_value h k ≡ None) × IsSome (map_value h other)
+WasThere h k (Renewed at) = IsSome (map_value h k)
+
+abbrev pub moment_of : Put → ℕ
+moment_of (Stored at moves evicted) = at
+moment_of (Renewed at) = at
+
+-- from the one history a put has made the other, in which the key has the value
+pub record HasPut (V : ℕ) (h h' : List (Change V)) (k : ℕ) (v : List ℕ) (told : Put) : Type 0 where
+  pub was : WasThere h k told
+  pub grew : h' ≡ h ++ put_changes k v told
+  pub holds : map_value h' k ≡ Some v
+  pub at : moment_of told ≡ length h'
+
+-- what the answer of a put means: a refused one has changed nothing
+abbrev pub PutMeans : (V : ℕ) → List (Change V) → List (Change V) → ℕ → List ℕ → Result Put PutError → Type 0
+PutMeans V h h' k v (Ok told) = HasPut V h h' k v told
+PutMeans V h h' k v (Err why) = h' ≡ h
+
+-- what the answer of a removal means
+abbrev pub RemovalMeans : (V : ℕ) → List (Change V) → List (Change V) → ℕ → Result Remove Spent → Type 0
+RemovalMeans V h h' k (Ok (Removed at)) = IsSome (map_value h k) × (h' ≡ h ++ change.Remove k ∷ []) × (map_value h' k ≡ None) × (at ≡ length h')
+RemovalMeans V h h' k (Ok (NotThere at)) = (map_value h k ≡ None) × (h' ≡ h) × (at ≡ length h)
+RemovalMeans V h h' k (Err spent) = h' ≡ h
+
+-- a reader has seen the one history before a lookup, and the other after it. The reply is what the map held after some number of
+-- changes of the history now seen, no fewer than had been seen before
+pub record HasAnswered (V : ℕ) (h h' : List (Change V)) (k : ℕ) (reply : Reply V) : Type 0 where
+  pub begins : Begins h h'
+  pub true : IsTrueAnswer h' k reply
+  pub between : IsBetween (length h) (length h') reply
+
+-- a reader has met the writer: what it had seen begins the writer's history, all of which it has seen now
+pub record HasMet (V : ℕ) (h h' : List (Change V)) (all : List (Change V)) : Type 0 where
+  pub begins : Begins h all
+  pub now : h' ≡ all
