@@ -1,3 +1,5 @@
 pub mod SameSeats
 pub mod NewWriters
 pub mod OrderedAnswers
+pub mod PlainCalls
+pub mod HistoryLaws

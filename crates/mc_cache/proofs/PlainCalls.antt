@@ -1,5 +1,7 @@
 -- What calls of the cache mean, from what they do to records.
-use Rattle.std.proofs.Common.{ℕ, ◌≡◌, ◌∙◌, List, [], ◌∷◌, ◌++◌, length, Option, Some, None, Result, Ok, Err, ap, append_assoc, refl, sym, subst}
+use Rattle.std.proofs.Common.{ℕ, ◌≡◌, ◌∙◌, List, [], ◌∷◌, ◌++◌, length, Option, Some, None, Result, Ok, Err, All, get_or, arith, ◌<◌, ap, append-nil, append_assoc, refl, sym, subst}
+use Rattle.std.proofs.lemmas.List.{get_or-replicate, length-replicate}
+use Rattle.std.specs.Prelude.{replicate}
 use Rattle.mc_words.proofs.Maps.{held-put, held-remove}
 use Rattle.mc_words.specs.History.{map_value, IsTrueAnswer}
 use Rattle.mc_words.specs.declared.history.Change.{Change}
@@ -7,11 +9,11 @@ use Rattle.mc_words.specs.declared.history.Change.TheVariants as change
 use Rattle.mc_words.specs.declared.history.Reply.{Reply}
 use Rattle.mc_words.specs.declared.history.Reply.TheVariants.{Found, Absent, Busy}
 use Rattle.mc_words.specs.declared.shape.Shape.{Shape}
-use Rattle.mc_theory.proofs.Lists.Fronts.{state_append}
+use Rattle.mc_theory.proofs.Lists.Fronts.{state_append, state_none}
 use Rattle.mc_theory.proofs.Lists.Histories.{history_all}
 use Rattle.mc_theory.specs.Lists.{Made, after_all, state_of}
 use Rattle.mc_theory.specs.Plain.{IsBetween}
-use Rattle.mc_theory.specs.States.{State}
+use Rattle.mc_theory.specs.States.{State, opening}
 use Rattle.mc_plan.specs.Calls.{PutAnswers, RemoveAnswers}
 use Rattle.mc_plan.specs.Clerks.{PutCall, RemoveCall, quiet_of}
 use Rattle.mc_plan.specs.declared.answer.Answer.TheVariants as answer
@@ -23,15 +25,18 @@ use Rattle.mc_plan.specs.declared.answer.Remove.{Remove}
 use Rattle.mc_plan.specs.declared.answer.Remove.TheVariants.{Removed, NotThere}
 use Rattle.mc_plan.specs.declared.answer.Spent.{Spent as RemoveSpent}
 use Rattle.mc_words.specs.Answers.{Quiet}
-use Rattle.mc_shared.specs.Records.{Opening, ReaderRecord, WriterRecord}
-use Rattle.mc_shared.specs.Views.{IsFrontOf}
-use Rattle.mc_writer.specs.WriterCalls.{HasCalled}
-use Rattle.mc_cache.specs.Plain.{Begins, HasAnswered, HasPut, PutMeans, RemovalMeans, history, seen}
+use Rattle.mc_shared.specs.Records.{Opening, ReaderRecord, WriterRecord, reader_record}
+use Rattle.mc_shared.specs.Views.{IsFrontOf, layout_state, with_bit}
+use Rattle.mc_writer.specs.WriterCalls.{HasCalled, HasGot, IsRested}
+use Rattle.mc_writer.proofs.Rests.{agrees_now}
+use Rattle.mc_search.specs.Entries.{AreEntriesOf}
+use Rattle.mc_plan.specs.declared.books.Books.{Books}
+use Rattle.mc_words.specs.Places.{moment}
+use Rattle.mc_theory.specs.declared.act.Act.TheVariants.{Mark}
+use Rattle.mc_shared.specs.declared.layout.Layout.{Layout}
+use Rattle.mc_cache.specs.Plain.{Begins, HasAnswered, HasMet, PutMeans, RemovalMeans, TellsNow, history, seen}
 
 -- ---- the states before a call and after it
-history_of : {V : ℕ} → Quiet V → List (Change V)
-history_of q = q.history
-
 put_answer_means : (V : ℕ) (sh : Shape) (s t : State V) (k : ℕ) (v : List ℕ) (told : Result Put PutError) → PutAnswers sh (quiet_of s) k v told (quiet_of t) → PutMeans V s.history t.history k v told
 put_answer_means V sh s t k v (Ok (Stored at moves None)) a = record {
   was = a.absent;
@@ -62,53 +67,117 @@ removal_answer_means V sh s t k (Err spent) a = ap (λ (q : Quiet V). q.history)
 
 -- ---- the histories of records
 -- the history of a record, and of one with these acts more
-pub history_is : (V : ℕ) (o : Opening) (w : WriterRecord) → w.of ≡ o → history V w ≡ (state_of V o.layout.shape w.acts).history
+history_is : (V : ℕ) (o : Opening) (w : WriterRecord) → w.of ≡ o → history V w ≡ (state_of V o.layout.shape w.acts).history
 unfolding history
 history_is V o w of = ap (λ (p : Opening). (state_of V p.layout.shape w.acts).history) of
 
-pub seen_is : (V : ℕ) (o : Opening) (r : ReaderRecord) → r.of ≡ o → seen V r ≡ (state_of V o.layout.shape r.front).history
+seen_is : (V : ℕ) (o : Opening) (r : ReaderRecord) → r.of ≡ o → seen V r ≡ (state_of V o.layout.shape r.front).history
 unfolding seen
 seen_is V o r of = ap (λ (p : Opening). (state_of V p.layout.shape r.front).history) of
 
 history_grown : (V : ℕ) (sh : Shape) (acts all more : List Made) → all ≡ acts ++ more → (state_of V sh all).history ≡ (after_all sh (state_of V sh acts) more).history
 history_grown V sh acts all more e = ap (λ (xs : List Made). (state_of V sh xs).history) e ∙ ap (λ (s : State V). s.history) (state_append V sh acts more)
 
--- ---- the calls
-pub put_means : (V : ℕ) (o : Opening) (before after : WriterRecord) (k : ℕ) (v : List ℕ) (told : Result Put PutError) → before.of ≡ o → HasCalled V o.layout.shape (PutCall k v) before after (answer.Put told) → PutMeans V (history V before) (history V after) k v told
-put_means V o before after k v told of h =
-    let sh = o.layout.shape in
-    let s = state_of V sh before.acts in
-    let was : history V before ≡ s.history = history_is V o before of in
-    let is : history V after ≡ (after_all sh s h.made).history = history_is V o after (h.of ∙ of) ∙ history_grown V sh before.acts after.acts h.made h.acts in
-    subst (λ (p : List (Change V) × List (Change V)). PutMeans V p.0 p.1 k v told) (λ i. (sym was i, sym is i)) (put_answer_means V sh s (after_all sh s h.made) k v told h.answered.means)
+-- ---- the calls of the writer. Each is made on a seat, which is what callers see of the writer
+module _ (V : ℕ) (o cells : Opening) (self seat : WriterRecord) (table : cells ≡ o) (same : seat ≡ self) (of : self.of ≡ o) where
+  seat_of : seat.of ≡ cells
+  seat_of = ap (λ (w : WriterRecord). w.of) same ∙ (of ∙ sym table)
 
-pub removal_means : (V : ℕ) (o : Opening) (before after : WriterRecord) (k : ℕ) (told : Result Remove RemoveSpent) → before.of ≡ o → HasCalled V o.layout.shape (RemoveCall k) before after (answer.Remove told) → RemovalMeans V (history V before) (history V after) k told
-removal_means V o before after k told of h =
-    let sh = o.layout.shape in
-    let s = state_of V sh before.acts in
-    let was : history V before ≡ s.history = history_is V o before of in
-    let is : history V after ≡ (after_all sh s h.made).history = history_is V o after (h.of ∙ of) ∙ history_grown V sh before.acts after.acts h.made h.acts in
-    subst (λ (p : List (Change V) × List (Change V)). RemovalMeans V p.0 p.1 k told) (λ i. (sym was i, sym is i)) (removal_answer_means V sh s (after_all sh s h.made) k told h.answered.means)
+  history_before : history V self ≡ (state_of V cells.layout.shape seat.acts).history
+  history_before = ap (history V) (sym same) ∙ history_is V cells seat seat_of
 
+  history_called : (after : WriterRecord) (made : List Made) → after.of ≡ seat.of → after.acts ≡ seat.acts ++ made → history V after ≡ (after_all cells.layout.shape (state_of V cells.layout.shape seat.acts) made).history
+  history_called after made of' acts = history_is V cells after (of' ∙ seat_of) ∙ history_grown V cells.layout.shape seat.acts after.acts made acts
+
+  pub put_means : (after : WriterRecord) (k : ℕ) (v : List ℕ) (told : Result Put PutError) → HasCalled V cells.layout.shape (PutCall k v) seat after (answer.Put told) → PutMeans V (history V self) (history V after) k v told
+  put_means after k v told h =
+      let s = state_of V cells.layout.shape seat.acts in
+      subst (λ (p : List (Change V) × List (Change V)). PutMeans V p.0 p.1 k v told) (λ i. (sym history_before i, sym (history_called after h.made h.of h.acts) i))
+      (put_answer_means V cells.layout.shape s (after_all cells.layout.shape s h.made) k v told h.answered.means)
+
+  pub removal_means : (after : WriterRecord) (k : ℕ) (told : Result Remove RemoveSpent) → HasCalled V cells.layout.shape (RemoveCall k) seat after (answer.Remove told) → RemovalMeans V (history V self) (history V after) k told
+  removal_means after k told h =
+      let s = state_of V cells.layout.shape seat.acts in
+      subst (λ (p : List (Change V) × List (Change V)). RemovalMeans V p.0 p.1 k told) (λ i. (sym history_before i, sym (history_called after h.made h.of h.acts) i))
+      (removal_answer_means V cells.layout.shape s (after_all cells.layout.shape s h.made) k told h.answered.means)
+
+  -- a mark changes no map
+  history_kept : (after : WriterRecord) (k : ℕ) (reply : Reply V) → HasGot V cells.layout.shape k seat after reply → history V after ≡ (state_of V cells.layout.shape seat.acts).history
+  history_kept after k (Found v at) h = history_called after (with_bit (Mark h.replies.2.1) 0 ∷ []) h.of h.replies.2.3
+  history_kept after k (Absent at) h = history_called after [] h.of (h.replies.2 ∙ sym (append-nil seat.acts))
+  history_kept after k Busy h = absurd h.replies
+
+  told_now : (h : List (Change V)) (after : WriterRecord) (k : ℕ) (reply : Reply V) → h ≡ (state_of V cells.layout.shape seat.acts).history → HasGot V cells.layout.shape k seat after reply → TellsNow h k reply
+  told_now h after k (Found v at) e g = (ap (λ (x : List (Change V)). map_value x k) e ∙ g.replies.0, g.replies.1 ∙ sym (ap length e))
+  told_now h after k (Absent at) e g = (ap (λ (x : List (Change V)). map_value x k) e ∙ g.replies.0, g.replies.1 ∙ sym (ap length e))
+  told_now h after k Busy e g = absurd g.replies
+
+  pub got_means : (after : WriterRecord) (k : ℕ) (reply : Reply V) → HasGot V cells.layout.shape k seat after reply → TellsNow (history V self) k reply × (history V after ≡ history V self)
+  got_means after k reply h = (told_now (history V self) after k reply history_before h, history_kept after k reply h ∙ sym history_before)
+
+  -- what the map holds while the writer rests
+  pub held_now : (k : ℕ) (held : Option (List ℕ)) → map_value (state_of V cells.layout.shape seat.acts).history k ≡ held → map_value (history V self) k ≡ held
+  held_now k held e = ap (λ (x : List (Change V)). map_value x k) history_before ∙ e
+
+  pub entries_now : (es : List (ℕ × List ℕ)) → AreEntriesOf V (state_of V cells.layout.shape seat.acts).history es → AreEntriesOf V (history V self) es
+  entries_now es e = subst (λ (h : List (Change V)). AreEntriesOf V h es) (sym history_before) e
+
+-- the moment that a seat keeps is the length of the history
+pub moment_tells : (V : ℕ) (books : Books) (self seat : WriterRecord) (n : ℕ) → seat ≡ self → IsRested V books seat → n ≡ moment (layout_state seat.of.layout seat.acts).words → n ≡ length (history V self)
+unfolding history
+moment_tells V books self seat n same rested e =
+    let wide : seat.of.layout.width ≡ V = ap (λ (l : Layout). l.width) rested.layout in
+    e ∙ ap (λ (w : ℕ). moment (state_of w seat.of.layout.shape seat.acts).words) wide ∙ (agrees_now V seat.of books seat refl rested).at_moment ∙ ap (λ (w : WriterRecord). length (history V w)) same
+
+-- a new cache has no history, and no reader has seen any
+pub history_new : (V : ℕ) (o : Opening) (w : WriterRecord) → w.of ≡ o → w.acts ≡ [] → history V w ≡ []
+unfolding opening
+history_new V o w of e = history_is V o w of ∙ (ap (λ (xs : List Made). (state_of V o.layout.shape xs).history) e ∙ ap (λ (s : State V). s.history) (state_none V o.layout.shape))
+
+pub seen_new : (V : ℕ) (o : Opening) (r : ReaderRecord) → r.of ≡ o → r.front ≡ [] → seen V r ≡ []
+unfolding opening
+seen_new V o r of e = seen_is V o r of ∙ (ap (λ (xs : List Made). (state_of V o.layout.shape xs).history) e ∙ ap (λ (s : State V). s.history) (state_none V o.layout.shape))
+
+pub none_seen : (V n : ℕ) (o : Opening) (rs : List ReaderRecord) → rs ≡ replicate n (reader_record o [] []) → All (λ (r : ReaderRecord). seen V r ≡ []) rs
+none_seen V n o rs e = λ k d within.
+    let same : get_or rs k d ≡ reader_record o [] [] = ap (λ (xs : List ReaderRecord). get_or xs k d) e ∙ get_or-replicate n k (reader_record o [] []) d (omega (arith, within, ap length e, length-replicate n (reader_record o [] []))) in
+    seen_new V o (get_or rs k d) (ap (λ (r : ReaderRecord). r.of) same) (ap (λ (r : ReaderRecord). r.front) same)
+
+-- ---- the calls of a reader
 -- one list of acts begins another, and so do their histories
 front_begins : (V : ℕ) (sh : Shape) (front acts : List Made) → IsFrontOf front acts → Begins (state_of V sh front).history (state_of V sh acts).history
 front_begins V sh front acts b =
     let grown = history_all sh (state_of V sh front) b.0 in
     (grown.0, history_grown V sh front acts b.0 b.1 ∙ grown.1)
 
-pub begins_seen : (V : ℕ) (o : Opening) (before after : ReaderRecord) → before.of ≡ o → after.of ≡ o → IsFrontOf before.front after.front → Begins (seen V before) (seen V after)
-begins_seen V o before after of of' b = subst (λ (p : List (Change V) × List (Change V)). Begins p.0 p.1) (λ i. (sym (seen_is V o before of) i, sym (seen_is V o after of') i)) (front_begins V o.layout.shape before.front after.front b)
+pub answered : (V : ℕ) (o cells : Opening) (self seat after : ReaderRecord) (k : ℕ) (reply : Reply V) → cells ≡ o → seat ≡ self → self.of ≡ o → after.of ≡ seat.of → IsFrontOf seat.front after.front → IsTrueAnswer (state_of V cells.layout.shape after.front).history k reply
+    → IsBetween (length (state_of V cells.layout.shape seat.front).history) (length (state_of V cells.layout.shape after.front).history) reply → HasAnswered V (seen V self) (seen V after) k reply
+answered V o cells self seat after k reply table same of of' b true between =
+    let at : seat.of ≡ cells = ap (λ (r : ReaderRecord). r.of) same ∙ (of ∙ sym table) in
+    let was : (state_of V cells.layout.shape seat.front).history ≡ seen V self = sym (seen_is V cells seat at) ∙ ap (seen V) same in
+    let is : (state_of V cells.layout.shape after.front).history ≡ seen V after = sym (seen_is V cells after (of' ∙ at)) in
+    record {
+      begins = subst (λ (p : List (Change V) × List (Change V)). Begins p.0 p.1) (λ i. (was i, is i)) (front_begins V cells.layout.shape seat.front after.front b);
+      true = subst (λ (h : List (Change V)). IsTrueAnswer h k reply) is true;
+      between = subst (λ (p : List (Change V) × List (Change V)). IsBetween (length p.0) (length p.1) reply) (λ i. (was i, is i)) between;
+    }
 
-pub begins_history : (V : ℕ) (o : Opening) (before : ReaderRecord) (w : WriterRecord) → before.of ≡ o → w.of ≡ o → IsFrontOf before.front w.acts → Begins (seen V before) (history V w)
-begins_history V o before w of of' b = subst (λ (p : List (Change V) × List (Change V)). Begins p.0 p.1) (λ i. (sym (seen_is V o before of) i, sym (history_is V o w of') i)) (front_begins V o.layout.shape before.front w.acts b)
+pub met : (V : ℕ) (o : Opening) (self seat after : ReaderRecord) (writer beside : WriterRecord) → seat ≡ self → beside ≡ writer → self.of ≡ o → writer.of ≡ o → after.of ≡ seat.of → after.front ≡ beside.acts → IsFrontOf seat.front beside.acts
+    → HasMet V (seen V self) (seen V after) (history V writer)
+met V o self seat after writer beside same same' of of' kept front b =
+    let at : seat.of ≡ o = ap (λ (r : ReaderRecord). r.of) same ∙ of in
+    let acts : beside.acts ≡ writer.acts = ap (λ (w : WriterRecord). w.acts) same' in
+    let was : (state_of V o.layout.shape seat.front).history ≡ seen V self = sym (seen_is V o seat at) ∙ ap (seen V) same in
+    let all : (state_of V o.layout.shape beside.acts).history ≡ history V writer = ap (λ (xs : List Made). (state_of V o.layout.shape xs).history) acts ∙ sym (history_is V o writer of') in
+    record {
+      begins = subst (λ (p : List (Change V) × List (Change V)). Begins p.0 p.1) (λ i. (was i, all i)) (front_begins V o.layout.shape seat.front beside.acts b);
+      now = seen_is V o after (kept ∙ at) ∙ (ap (λ (xs : List Made). (state_of V o.layout.shape xs).history) front ∙ all);
+    }
 
-pub seen_all : (V : ℕ) (o : Opening) (r : ReaderRecord) (w : WriterRecord) → r.of ≡ o → w.of ≡ o → r.front ≡ w.acts → seen V r ≡ history V w
-seen_all V o r w of of' e = seen_is V o r of ∙ (ap (λ (xs : List Made). (state_of V o.layout.shape xs).history) e ∙ sym (history_is V o w of'))
+-- what is read or marked besides changes nothing of what was seen
+seen_same : (V : ℕ) (r t : ReaderRecord) → r.of ≡ t.of → r.front ≡ t.front → seen V r ≡ seen V t
+unfolding seen
+seen_same V r t of front = λ i. (state_of V (of i).layout.shape (front i)).history
 
-pub answered : (V : ℕ) (o : Opening) (before after : ReaderRecord) (k : ℕ) (reply : Reply V) → before.of ≡ o → after.of ≡ o → IsFrontOf before.front after.front → IsTrueAnswer (state_of V o.layout.shape after.front).history k reply
-    → IsBetween (length (state_of V o.layout.shape before.front).history) (length (state_of V o.layout.shape after.front).history) reply → HasAnswered V (seen V before) (seen V after) k reply
-answered V o before after k reply of of' b true between = record {
-  begins = begins_seen V o before after of of' b;
-  true = subst (λ (h : List (Change V)). IsTrueAnswer h k reply) (sym (seen_is V o after of')) true;
-  between = subst (λ (p : List (Change V) × List (Change V)). IsBetween (length p.0) (length p.1) reply) (λ i. (sym (seen_is V o before of) i, sym (seen_is V o after of') i)) between;
-}
+pub met_still : (V : ℕ) (h all : List (Change V)) (r t : ReaderRecord) → HasMet V h (seen V t) all → r.of ≡ t.of → r.front ≡ t.front → HasMet V h (seen V r) all
+met_still V h all r t m of front = record { begins = m.begins; now = seen_same V r t of front ∙ m.now }

@@ -3,6 +3,7 @@ ghost use Rattle.std.specs.Prelude.{◌≡◌, IfOk, MatchResult};
 ghost use Rattle.mc_theory.specs.Lists.{state_of};
 ghost use Rattle.mc_writer.specs.WriterCalls.{IsRested};
 ghost use Rattle.mc_search.specs.Entries.{AreEntriesOf};
+ghost use Rattle.mc_cache.specs.Plain.{history};
 
 use crate::cache::Cache;
 use crate::reader::Reader;
@@ -53,6 +54,7 @@ impl<const V: usize> Cache<V> {
         ensures entries { MatchResult result
             (λ es. AreEntriesOf V (state_of V self.entry.layout.shape writer.entry.acts).history es.items)
             (λ still. (still.cache ≡ self.entry) × (still.writer ≡ writer.entry) × (still.readers.items ≡ readers.entry.items)) }
+        ensures plain { IfOk result (λ es. AreEntriesOf V (history V writer.entry) es.items) }
     {
         match list_beside(alloc, &self.cells, &mut writer.seat, &writer.books) {
             Ok(entries) => Ok(entries),

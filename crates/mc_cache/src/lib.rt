@@ -17,6 +17,7 @@
 
 mod cache;
 mod closing;
+pub mod laws;
 mod opening;
 mod reader;
 mod writer;

@@ -1,5 +1,5 @@
 //! A cache is opened.
-ghost use Rattle.std.specs.Prelude.{ℕ, ◌≡◌, [], IfOk, MatchResult, replicate};
+ghost use Rattle.std.specs.Prelude.{ℕ, ◌≡◌, [], All, IfOk, MatchResult, replicate};
 ghost use Rattle.mc_words.specs.Checks.{shape_of};
 ghost use Rattle.mc_words.specs.Places.{IsWidth};
 ghost use Rattle.mc_words.specs.Shapes.{IsShape};
@@ -7,6 +7,7 @@ ghost use Rattle.mc_shared.specs.Records.{reader_record, writer_record};
 ghost use Rattle.mc_shared.specs.Views.{layout_of};
 ghost use Rattle.mc_cache.specs.Openings.{HasReaders, RefusesOpening};
 ghost use Rattle.mc_shared.specs.Records.{ReaderRecord};
+ghost use Rattle.mc_cache.specs.Plain.{history, seen};
 
 use crate::cache::Cache;
 use crate::reader::Reader;
@@ -74,6 +75,7 @@ pub fn open<const V: usize>(
     ensures asked { IfOk result (λ r. IsShape shape × HasReaders readers) }
     ensures writer { IfOk result (λ r. r.1 ≡ writer_record r.0 []) }
     ensures readers { IfOk result (λ r. r.2.items ≡ replicate readers (reader_record r.0 [] [])) }
+    ensures plain { IfOk result (λ r. (history V r.1 ≡ []) × All (λ reader. seen V reader ≡ []) r.2.items) }
 {
     let checked = match shape.check() {
         Ok(checked) => checked,

@@ -10,6 +10,7 @@ ghost use Rattle.mc_shared.specs.Views.{IsFrontOf};
 ghost use Rattle.mc_reader.specs.Records.{HasLooked};
 ghost use Rattle.mc_cache.specs.Beside.{HasLookedBeside};
 ghost use Rattle.mc_cache.specs.Orders.{HasAnsweredInOrder};
+ghost use Rattle.mc_cache.specs.Plain.{HasAnswered, HasMet, TellsNow, history, seen};
 
 use crate::cache::Cache;
 use crate::writer::Writer;
@@ -41,6 +42,7 @@ impl<const V: usize> Reader<V> {
         ensures looked { HasLooked V cache.now.layout.shape key self.old self.new result }
         ensures truth { IsTrueAnswer (state_of V cache.now.layout.shape self.new.front).history key result }
         ensures between { IsBetween (length (state_of V cache.now.layout.shape self.old.front).history) (length (state_of V cache.now.layout.shape self.new.front).history) result }
+        ensures plain { HasAnswered V (seen V self.old) (seen V self.new) key result }
     {
         get(&cache.cells, &mut self.seat, key)
     }
@@ -54,6 +56,7 @@ impl<const V: usize> Reader<V> {
         ensures begins { IsFrontOf self.old.front writer.old.acts }
         ensures order { HasAnsweredInOrder V cache.now.layout.shape writer.old.acts self.old.done }
         ensures moment { result ≡ length (state_of V cache.now.layout.shape writer.old.acts).history }
+        ensures plain { HasMet V (seen V self.old) (seen V self.new) (history V writer.old) × (result ≡ length (history V writer.old)) }
     {
         catch(&cache.cells, &mut self.seat, &mut writer.seat);
         writer.seat.known();
@@ -67,18 +70,16 @@ impl<const V: usize> Reader<V> {
         requires of { (self.old.of ≡ cache.now) × (writer.old.of ≡ cache.now) }
         ensures writer { writer.new ≡ writer.old }
         ensures looked { HasLookedBeside V cache.now.layout.shape key writer.old.acts self.old self.new result }
+        ensures plain { HasMet V (seen V self.old) (seen V self.new) (history V writer.old) × TellsNow (history V writer.old) key result }
     {
         let at = self.catch_up(cache, writer);
-        let found = look(&cache.cells, &mut writer.seat, &writer.books, key);
-        let reply = match found {
+        match look(&cache.cells, &mut writer.seat, &writer.books, key) {
             Some(hit) => {
                 let value = hit.1;
                 mark_unless_set(&cache.cells, &mut self.seat, hit.0);
                 Reply::Found { value, at }
             }
             None => Reply::Absent { at },
-        };
-        self.catch_up(cache, writer);
-        reply
+        }
     }
 }

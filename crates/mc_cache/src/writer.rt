@@ -1,6 +1,7 @@
 //! The writer.
 ghost use Rattle.std.specs.Prelude.{◌≡◌, length};
 ghost use Rattle.mc_theory.specs.Lists.{state_of};
+ghost use Rattle.mc_cache.specs.Plain.{IsLegal, PutMeans, RemovalMeans, TellsNow, history};
 ghost use Rattle.mc_plan.specs.Clerks.{PutCall, RemoveCall};
 ghost use Rattle.mc_plan.specs.declared.answer.Answer.TheVariants as answer;
 ghost use Rattle.mc_writer.specs.WriterCalls.{HasCalled, HasGot};
@@ -38,6 +39,7 @@ impl<const V: usize> Writer<V> {
     pub fn put(&mut self, cache: &Cache<V>, key: u64, value: [u64; V]) -> Result<Put, PutError>
         requires of { self.old.of ≡ cache.now }
         ensures called { HasCalled V cache.now.layout.shape (PutCall key value.entry) self.old self.new (answer.Put result) }
+        ensures plain { PutMeans V (history V self.old) (history V self.new) key value.entry result }
     {
         put(&cache.cells, &mut self.seat, &mut self.books, key, &value)
     }
@@ -46,6 +48,7 @@ impl<const V: usize> Writer<V> {
     pub fn remove(&mut self, cache: &Cache<V>, key: u64) -> Result<Remove, Spent>
         requires of { self.old.of ≡ cache.now }
         ensures called { HasCalled V cache.now.layout.shape (RemoveCall key) self.old self.new (answer.Remove result) }
+        ensures plain { RemovalMeans V (history V self.old) (history V self.new) key result }
     {
         remove(&cache.cells, &mut self.seat, &mut self.books, key)
     }
@@ -54,13 +57,15 @@ impl<const V: usize> Writer<V> {
     pub fn get(&mut self, cache: &Cache<V>, key: u64) -> Reply<V>
         requires of { self.old.of ≡ cache.now }
         ensures got { HasGot V cache.now.layout.shape key self.old self.new result }
+        ensures plain { TellsNow (history V self.old) key result × (history V self.new ≡ history V self.old) }
     {
         get(&cache.cells, &mut self.seat, &self.books, key)
     }
 
     /// The length of the history: how many changes of the map were made.
     pub fn moment(&self) -> u64
-        ensures { result ≡ length (state_of V self.now.of.layout.shape self.now.acts).history }
+        ensures moment { result ≡ length (state_of V self.now.of.layout.shape self.now.acts).history }
+        ensures plain { result ≡ length (history V self.now) }
     {
         self.seat.moment()
     }
