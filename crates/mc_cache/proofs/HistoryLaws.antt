@@ -35,6 +35,19 @@ tells_now {V} h k (Found v at) t b = inr (sym (ap (λ (z : List (Change V)). map
 tells_now {V} h k (Absent at) t b = inr (sym (ap (λ (z : List (Change V)). map_value z k) (whole h at b.0 b.1)) ∙ t.1, omega (arith, b.0, b.1))
 tells_now h k Busy t b = inl refl
 
+found_in : (V : ℕ) → Option (List ℕ) → ℕ → Reply V
+found_in V None at = Found [] at
+found_in V (Some x) at = Found x at
+
+held_found : {V : ℕ} (h : List (Change V)) (k : ℕ) (v : List ℕ) (reply : Reply V) → map_value h k ≡ Some v → TellsNow h k reply → reply ≡ Found v (length h)
+unfolding found_in
+held_found {V} h k v (Found w at) held t = λ i. found_in V ((sym t.0 ∙ held) i) (t.1 i)
+held_found h k v (Absent at) held t = absurd (none_some (sym t.0 ∙ held))
+  where
+    none_some : ◌≡◌ {A = Option (List ℕ)} None (Some v) → ⊥
+    none_some e = absurd (cc)
+held_found h k v Busy held t = absurd t
+
 none_more : {V : ℕ} (h p q : List (Change V)) → h ≡ (h ++ p) ++ q → p ≡ []
 none_more {V} h p q e = empty p (omega (arith, ap length e, length-append (h ++ p) q, length-append h p))
   where
@@ -50,5 +63,6 @@ history_laws V = record {
   maps = record { empty = λ k. held-none V k; put = λ h k v. held-put h k v; removed = λ h k. held-remove h k; evicted = λ h k. held-evict h k; others = λ h c k ne. others_stay h c k ne };
   stay = λ h h' k reply b t. stays_true h h' k reply b t;
   last = λ h k reply t b. tells_now h k reply t b;
+  found = λ h k v reply held t. held_found h k v reply held t;
   same = λ h h' a b. same_history h h' a b;
 }

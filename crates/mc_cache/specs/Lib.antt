@@ -3,3 +3,10 @@ pub mod Openings
 pub mod Orders
 pub mod Plain
 pub mod PlainLaws
+-- what callers name besides
+pub use Rattle.mc_words.specs.declared.history.Change
+pub use Rattle.mc_words.specs.declared.history.Reply
+pub use Rattle.mc_plan.specs.declared.answer.Put
+pub use Rattle.mc_plan.specs.declared.answer.PutError
+pub use Rattle.mc_plan.specs.declared.answer.Remove
+pub use Rattle.mc_plan.specs.declared.answer.Spent

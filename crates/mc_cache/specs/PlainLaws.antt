@@ -4,7 +4,7 @@ use Rattle.mc_words.specs.History.{map_value, IsTrueAnswer}
 use Rattle.mc_words.specs.declared.history.Change.{Change}
 use Rattle.mc_words.specs.declared.history.Change.TheVariants.{Put, Remove, Evict}
 use Rattle.mc_words.specs.declared.history.Reply.{Reply}
-use Rattle.mc_words.specs.declared.history.Reply.TheVariants.{Busy}
+use Rattle.mc_words.specs.declared.history.Reply.TheVariants.{Found, Busy}
 use Rattle.mc_theory.specs.Plain.{IsBetween}
 use Rattle.mc_cache.specs.Plain.{Begins, TellsNow}
 
@@ -29,6 +29,10 @@ AnswersStay V = (h h' : List (Change V)) (k : ℕ) (reply : Reply V) → Begins 
 abbrev pub LastAnswersTellNow : ℕ → Type 0
 LastAnswersTellNow V = (h : List (Change V)) (k : ℕ) (reply : Reply V) → IsTrueAnswer h k reply → IsBetween (length h) (length h) reply → (reply ≡ Busy) ⊎ TellsNow h k reply
 
+-- and where the map holds a value, the answer has it
+abbrev pub HeldIsFound : ℕ → Type 0
+HeldIsFound V = (h : List (Change V)) (k : ℕ) (v : List ℕ) (reply : Reply V) → map_value h k ≡ Some v → TellsNow h k reply → reply ≡ Found v (length h)
+
 -- two histories that begin each other are one
 abbrev pub BeginnersAreSame : ℕ → Type 0
 BeginnersAreSame V = (h h' : List (Change V)) → Begins h h' → Begins h' h → h' ≡ h
@@ -38,4 +42,5 @@ pub record HistoryLaws (V : ℕ) : Type 0 where
   pub maps : MapsFollow V
   pub stay : AnswersStay V
   pub last : LastAnswersTellNow V
+  pub found : HeldIsFound V
   pub same : BeginnersAreSame V
