@@ -1,3 +1,2 @@
-pub mod SameSeats
 pub mod NewWriters
 pub mod OrderedAnswers

@@ -19,7 +19,7 @@ use mc_words::Reply;
 use mc_writer::look;
 use std::marker::Model;
 
-/// A reader. Contracts see it as its record: the last front of the writer's acts that it has seen, and what it read and marked.
+/// A reader. Contracts see it as its record: its number, the last front of the writer's acts that it has seen, and what it read and marked.
 #[derive(Drop)]
 pub struct Reader<const V: usize> {
     pub(crate) seat: ReaderSeat,
@@ -50,9 +50,9 @@ impl<const V: usize> Reader<V> {
     pub fn catch_up(&mut self, cache: &Cache<V>, writer: &mut Writer<V>) -> u64
         requires of { (self.old.of ≡ cache.now) × (writer.old.of ≡ cache.now) }
         ensures writer { writer.new ≡ writer.old }
-        ensures reader { self.new ≡ reader_record self.old.of writer.old.acts self.old.done }
+        ensures reader { self.new ≡ reader_record self.old.of self.old.number writer.old.acts self.old.done }
         ensures begins { IsFrontOf self.old.front writer.old.acts }
-        ensures order { HasAnsweredInOrder V cache.now.layout.shape writer.old.acts self.old.done }
+        ensures order { HasAnsweredInOrder V cache.now.layout.shape writer.old self.old.number self.old.done }
         ensures moment { result ≡ length (state_of V cache.now.layout.shape writer.old.acts).history }
     {
         catch(&cache.cells, &mut self.seat, &mut writer.seat);
@@ -67,6 +67,7 @@ impl<const V: usize> Reader<V> {
         requires of { (self.old.of ≡ cache.now) × (writer.old.of ≡ cache.now) }
         ensures writer { writer.new ≡ writer.old }
         ensures looked { HasLookedBeside V cache.now.layout.shape key writer.old.acts self.old self.new result }
+        ensures order { HasAnsweredInOrder V cache.now.layout.shape writer.old self.new.number self.new.done }
     {
         let at = self.catch_up(cache, writer);
         let found = look(&cache.cells, &mut writer.seat, &writer.books, key);
