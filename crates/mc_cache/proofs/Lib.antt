@@ -1,4 +1,3 @@
-pub mod SameSeats
 pub mod NewWriters
 pub mod OrderedAnswers
 pub mod PlainCalls

@@ -11,7 +11,7 @@ use Rattle.mc_shared.specs.Records.{Opening, WriterRecord, writer_record}
 use Rattle.mc_shared.specs.Views.{layout_of}
 use Rattle.mc_writer.specs.WriterCalls.{IsRested}
 
-pub rested_new : (V : ℕ) (sh : Shape) (books : Books) (seat : WriterRecord) (o : Opening) → seat ≡ writer_record o [] → o.layout ≡ layout_of V sh → shape_of books.checked ≡ sh → AreBooksOf V books (opening V sh) → IsRested V books seat
+pub rested_new : (V : ℕ) (sh : Shape) (books : Books) (seat : WriterRecord) (o : Opening) → seat ≡ writer_record o [] [] → o.layout ≡ layout_of V sh → shape_of books.checked ≡ sh → AreBooksOf V books (opening V sh) → IsRested V books seat
 rested_new V sh books seat o e lay shape known = record {
   layout = ap (λ (r : WriterRecord). r.of.layout) e ∙ (lay ∙ ap (layout_of V) (sym shape));
   known = subst (AreBooksOf V books) (sym (ap (λ (r : WriterRecord). state_of V (shape_of books.checked) r.acts) e ∙ (state_none V (shape_of books.checked) ∙ ap (opening V) shape))) known;

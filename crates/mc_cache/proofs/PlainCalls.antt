@@ -1,7 +1,6 @@
 -- What calls of the cache mean, from what they do to records.
-use Rattle.std.proofs.Common.{ℕ, ◌≡◌, ◌∙◌, List, [], ◌∷◌, ◌++◌, length, Option, Some, None, Result, Ok, Err, All, get_or, arith, ◌<◌, ap, append-nil, append_assoc, refl, sym, subst}
-use Rattle.std.proofs.lemmas.List.{get_or-replicate, length-replicate}
-use Rattle.std.specs.Prelude.{replicate}
+use Rattle.std.proofs.Common.{ℕ, zero, suc, ◌≡◌, ◌∙◌, List, [], ◌∷◌, ◌++◌, length, Option, Some, None, Result, Ok, Err, All, ap, append-nil, append_assoc, refl, sym, subst}
+use Rattle.std.proofs.lemmas.List.Elements.{All-nil, All-push}
 use Rattle.mc_words.proofs.Maps.{held-put, held-remove}
 use Rattle.mc_words.specs.History.{map_value, IsTrueAnswer}
 use Rattle.mc_words.specs.declared.history.Change.{Change}
@@ -25,7 +24,7 @@ use Rattle.mc_plan.specs.declared.answer.Remove.{Remove}
 use Rattle.mc_plan.specs.declared.answer.Remove.TheVariants.{Removed, NotThere}
 use Rattle.mc_plan.specs.declared.answer.Spent.{Spent as RemoveSpent}
 use Rattle.mc_words.specs.Answers.{Quiet}
-use Rattle.mc_shared.specs.Records.{Opening, ReaderRecord, WriterRecord, reader_record}
+use Rattle.mc_shared.specs.Records.{Opening, ReaderRecord, WriterRecord, new_readers, reader_record}
 use Rattle.mc_shared.specs.Views.{IsFrontOf, layout_state, with_bit}
 use Rattle.mc_writer.specs.WriterCalls.{HasCalled, HasGot, IsRested}
 use Rattle.mc_writer.proofs.Rests.{agrees_now}
@@ -34,7 +33,7 @@ use Rattle.mc_plan.specs.declared.books.Books.{Books}
 use Rattle.mc_words.specs.Places.{moment}
 use Rattle.mc_theory.specs.declared.act.Act.TheVariants.{Mark}
 use Rattle.mc_shared.specs.declared.layout.Layout.{Layout}
-use Rattle.mc_cache.specs.Plain.{Begins, HasAnswered, HasMet, PutMeans, RemovalMeans, TellsNow, history, seen}
+use Rattle.mc_cache.specs.Plain.{Begins, HasAnswered, HasMet, IsNewReader, PutMeans, RemovalMeans, TellsNow, history, seen}
 
 -- ---- the states before a call and after it
 put_answer_means : (V : ℕ) (sh : Shape) (s t : State V) (k : ℕ) (v : List ℕ) (told : Result Put PutError) → PutAnswers sh (quiet_of s) k v told (quiet_of t) → PutMeans V s.history t.history k v told
@@ -138,10 +137,9 @@ pub seen_new : (V : ℕ) (o : Opening) (r : ReaderRecord) → r.of ≡ o → r.f
 unfolding opening
 seen_new V o r of e = seen_is V o r of ∙ (ap (λ (xs : List Made). (state_of V o.layout.shape xs).history) e ∙ ap (λ (s : State V). s.history) (state_none V o.layout.shape))
 
-pub none_seen : (V n : ℕ) (o : Opening) (rs : List ReaderRecord) → rs ≡ replicate n (reader_record o [] []) → All (λ (r : ReaderRecord). seen V r ≡ []) rs
-none_seen V n o rs e = λ k d within.
-    let same : get_or rs k d ≡ reader_record o [] [] = ap (λ (xs : List ReaderRecord). get_or xs k d) e ∙ get_or-replicate n k (reader_record o [] []) d (omega (arith, within, ap length e, length-replicate n (reader_record o [] []))) in
-    seen_new V o (get_or rs k d) (ap (λ (r : ReaderRecord). r.of) same) (ap (λ (r : ReaderRecord). r.front) same)
+pub new_readers_see_none : (V n : ℕ) (o : Opening) → All (IsNewReader V o) (new_readers o n)
+new_readers_see_none V zero o = All-nil (IsNewReader V o)
+new_readers_see_none V (suc n) o = All-push (IsNewReader V o) (new_readers o n) (reader_record o n [] []) (new_readers_see_none V n o) (refl, seen_new V o (reader_record o n [] []) refl refl)
 
 -- ---- the calls of a reader
 -- one list of acts begins another, and so do their histories

@@ -22,6 +22,7 @@ RepliesBeside V sh k acts s done done' Busy = ⊥
 -- the reader has seen all of the writer's acts, and its reply is that of the state after them
 pub record HasLookedBeside (V : ℕ) (sh : Shape) (k : ℕ) (acts : List Made) (before after : ReaderRecord) (reply : Reply V) : Type 0 where
   pub of : after.of ≡ before.of
+  pub number : after.number ≡ before.number
   pub begins : IsFrontOf before.front acts
   pub front : after.front ≡ acts
   pub replies : RepliesBeside V sh k acts (state_of V sh acts) before.done after.done reply

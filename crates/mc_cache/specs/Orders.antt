@@ -3,20 +3,22 @@ use Rattle.std.specs.Prelude.{ℕ, ◌≡◌, ◌+◌, ◌-◌, ◌^◌, ◌<◌
 use Rattle.mc_words.specs.History.{IsTrueAnswer}
 use Rattle.mc_words.specs.declared.history.Reply.{Reply}
 use Rattle.mc_words.specs.declared.shape.Shape.{Shape}
-use Rattle.mc_theory.specs.Lists.{Made, front, state_of}
+use Rattle.mc_theory.specs.Lists.{front, state_of}
 use Rattle.mc_theory.specs.Lookups.{IsLookup}
 use Rattle.mc_theory.specs.Plain.{IsBetween}
 use Rattle.mc_theory.specs.Readings.{Reading}
 use Rattle.mc_shared.specs.ExactFronts.{made_by, InOneOrder}
+use Rattle.mc_shared.specs.Records.{WriterRecord}
 
--- how many changes of the map had been made when the reader made its step n, counted from 0
-abbrev pub changes_by : (V : ℕ) → Shape → (acts : List Made) (done : List Reading) → InOneOrder acts done → ℕ → ℕ
-changes_by V sh acts done o n = length (front V sh acts (made_by o.number n o.notes)).history
+-- how many changes of the map had been made when the reader with this number made its step n, counted from 0, as the writer's notes tell
+abbrev pub changes_by : (V : ℕ) → Shape → WriterRecord → ℕ → ℕ → ℕ
+changes_by V sh writer number n = length (front V sh writer.acts (made_by number n writer.notes)).history
 
--- there is one order of all these acts and all steps of the reader, and each lookup that the reader has made is true in it: its
--- reply is what the map held after some number of changes, no fewer than were made before its first step, and no more than were made when its last was
-pub record HasAnsweredInOrder (V : ℕ) (sh : Shape) (acts : List Made) (done : List Reading) : Type 0 where
-  pub order : InOneOrder acts done
+-- the steps of the reader stand among the acts of the writer as its notes tell, and each lookup that the reader has made is true in
+-- this order: its reply is what the map held after some number of changes, no fewer than were made before its first step, and no more
+-- than were made when its last was
+pub record HasAnsweredInOrder (V : ℕ) (sh : Shape) (writer : WriterRecord) (number : ℕ) (done : List Reading) : Type 0 where
+  pub order : InOneOrder writer.acts writer.notes number done
   pub lookups : (before rs after : List Reading) (k : ℕ) (reply : Reply V) → k < 2 ^ 64 → done ≡ before ++ rs ++ after → IsLookup V sh k sh.tries rs reply →
-      IsTrueAnswer (state_of V sh acts).history k reply
-      × IsBetween (changes_by V sh acts done order (length before)) (changes_by V sh acts done order (length before + length rs - 1)) reply
+      IsTrueAnswer (state_of V sh writer.acts).history k reply
+      × IsBetween (changes_by V sh writer number (length before)) (changes_by V sh writer number (length before + length rs - 1)) reply

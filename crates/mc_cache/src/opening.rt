@@ -1,13 +1,12 @@
 //! A cache is opened.
-ghost use Rattle.std.specs.Prelude.{ℕ, ◌≡◌, [], All, IfOk, MatchResult, replicate};
+ghost use Rattle.std.specs.Prelude.{◌≡◌, [], All, IfOk, MatchResult};
 ghost use Rattle.mc_words.specs.Checks.{shape_of};
 ghost use Rattle.mc_words.specs.Places.{IsWidth};
 ghost use Rattle.mc_words.specs.Shapes.{IsShape};
-ghost use Rattle.mc_shared.specs.Records.{reader_record, writer_record};
+ghost use Rattle.mc_shared.specs.Records.{new_readers, writer_record};
 ghost use Rattle.mc_shared.specs.Views.{layout_of};
 ghost use Rattle.mc_cache.specs.Openings.{HasReaders, RefusesOpening};
-ghost use Rattle.mc_shared.specs.Records.{ReaderRecord};
-ghost use Rattle.mc_cache.specs.Plain.{history, seen};
+ghost use Rattle.mc_cache.specs.Plain.{IsNewReader, history};
 
 use crate::cache::Cache;
 use crate::reader::Reader;
@@ -32,13 +31,12 @@ pub enum OpenError {
 // The readers on these seats.
 fn seat_readers<const V: usize>(
     alloc: Global,
-    mut seats: Vec<ReaderSeat>,
+    seats: Vec<ReaderSeat>,
 ) -> Result<Vec<Reader<V>>, AllocError>
-    requires alike { (n : ℕ) × (r : ReaderRecord) × (seats.items ≡ replicate n r) }
-    ensures readers { (n : ℕ) (r : ReaderRecord) → seats.items ≡ replicate n r → IfOk result (λ readers. readers.items ≡ replicate n r) }
+    ensures { IfOk result (λ readers. readers.items ≡ seats.items) }
 {
     let mut readers = Vec::new(alloc);
-    while let Some(seat) = seats.pop() {
+    for seat in seats {
         readers.push(Reader { seat })?;
     }
     Ok(readers)
@@ -53,8 +51,8 @@ fn open_checked<const V: usize>(
     requires width { IsWidth V }
     requires readers { HasReaders readers }
     ensures cache { IfOk result (λ r. r.0.layout ≡ layout_of V (shape_of checked.now)) }
-    ensures writer { IfOk result (λ r. r.1 ≡ writer_record r.0 []) }
-    ensures readers { IfOk result (λ r. r.2.items ≡ replicate readers (reader_record r.0 [] [])) }
+    ensures writer { IfOk result (λ r. r.1 ≡ writer_record r.0 [] []) }
+    ensures readers { IfOk result (λ r. r.2.items ≡ new_readers r.0 readers) }
 {
     let books = Books::new(alloc, checked)?;
     let (cells, seat, seats) = mc_shared::open::<V>(alloc, checked, readers)?;
@@ -73,9 +71,9 @@ pub fn open<const V: usize>(
     requires width { IsWidth V }
     ensures cache { MatchResult result (λ r. r.0.layout ≡ layout_of V shape) (λ e. RefusesOpening shape readers e) }
     ensures asked { IfOk result (λ r. IsShape shape × HasReaders readers) }
-    ensures writer { IfOk result (λ r. r.1 ≡ writer_record r.0 []) }
-    ensures readers { IfOk result (λ r. r.2.items ≡ replicate readers (reader_record r.0 [] [])) }
-    ensures plain { IfOk result (λ r. (history V r.1 ≡ []) × All (λ reader. seen V reader ≡ []) r.2.items) }
+    ensures writer { IfOk result (λ r. r.1 ≡ writer_record r.0 [] []) }
+    ensures readers { IfOk result (λ r. r.2.items ≡ new_readers r.0 readers) }
+    ensures plain { IfOk result (λ r. (history V r.1 ≡ []) × All (IsNewReader V r.0) r.2.items) }
 {
     let checked = match shape.check() {
         Ok(checked) => checked,

@@ -20,7 +20,7 @@ use mc_words::Reply;
 use mc_writer::look;
 use std::marker::Model;
 
-/// A reader. Contracts see it as its record: the last front of the writer's acts that it has seen, and what it read and marked.
+/// A reader. Contracts see it as its record: its number, the last front of the writer's acts that it has seen, and what it read and marked.
 #[derive(Drop)]
 pub struct Reader<const V: usize> {
     pub(crate) seat: ReaderSeat,
@@ -52,9 +52,9 @@ impl<const V: usize> Reader<V> {
     pub fn catch_up(&mut self, cache: &Cache<V>, writer: &mut Writer<V>) -> u64
         requires of { (self.old.of ≡ cache.now) × (writer.old.of ≡ cache.now) }
         ensures writer { writer.new ≡ writer.old }
-        ensures reader { self.new ≡ reader_record self.old.of writer.old.acts self.old.done }
+        ensures reader { self.new ≡ reader_record self.old.of self.old.number writer.old.acts self.old.done }
         ensures begins { IsFrontOf self.old.front writer.old.acts }
-        ensures order { HasAnsweredInOrder V cache.now.layout.shape writer.old.acts self.old.done }
+        ensures order { HasAnsweredInOrder V cache.now.layout.shape writer.old self.old.number self.old.done }
         ensures moment { result ≡ length (state_of V cache.now.layout.shape writer.old.acts).history }
         ensures plain { HasMet V (seen V self.old) (seen V self.new) (history V writer.old) × (result ≡ length (history V writer.old)) }
     {
@@ -70,6 +70,7 @@ impl<const V: usize> Reader<V> {
         requires of { (self.old.of ≡ cache.now) × (writer.old.of ≡ cache.now) }
         ensures writer { writer.new ≡ writer.old }
         ensures looked { HasLookedBeside V cache.now.layout.shape key writer.old.acts self.old self.new result }
+        ensures order { HasAnsweredInOrder V cache.now.layout.shape writer.old self.old.number self.old.done }
         ensures plain { HasMet V (seen V self.old) (seen V self.new) (history V writer.old) × TellsNow (history V writer.old) key result }
     {
         let at = self.catch_up(cache, writer);

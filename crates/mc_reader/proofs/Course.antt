@@ -40,6 +40,7 @@ pub sets_out : (V : ℕ) (sh : Shape) (k : ℕ) (before : ReaderRecord) (lookup 
 sets_out V sh k before lookup shape left steps = record {
   rs = [];
   of = refl;
+  number = refl;
   done = sym (append-nil before.done);
   begins = front_self before.front;
   rise = omega arith;
@@ -49,14 +50,15 @@ sets_out V sh k before lookup shape left steps = record {
 }
 
 -- ---- one access more
-pub goes_on : (V : ℕ) (sh : Shape) (k : ℕ) (before old new : ReaderRecord) (lookup next : Lookup V) (a : Access) (word : ℕ) → new.of ≡ old.of → IsFrontOf old.front new.front → new.done ≡ old.done ++ reading a word new.front ∷ [] → Consumes lookup a word next → IsOnCourse V sh k before old lookup → IsOnCourse V sh k before new next
-goes_on V sh k before old new lookup next a word of begins adds t w =
+pub goes_on : (V : ℕ) (sh : Shape) (k : ℕ) (before old new : ReaderRecord) (lookup next : Lookup V) (a : Access) (word : ℕ) → new.of ≡ old.of → new.number ≡ old.number → IsFrontOf old.front new.front → new.done ≡ old.done ++ reading a word new.front ∷ [] → Consumes lookup a word next → IsOnCourse V sh k before old lookup → IsOnCourse V sh k before new next
+goes_on V sh k before old new lookup next a word of number begins adds t w =
     let r : Reading = reading a word new.front in
     let le = front_length old.front new.front begins in
     let one : (rest : List Reading) → (w.rs ++ r ∷ []) ++ rest ≡ w.rs ++ r ∷ rest = λ rest. append_assoc w.rs (r ∷ []) rest in
     record {
       rs = w.rs ++ r ∷ [];
       of = of ∙ w.of;
+      number = number ∙ w.number;
       done = adds ∙ (ap (λ (z : List Reading). z ++ r ∷ []) w.done ∙ append_assoc before.done w.rs (r ∷ []));
       begins = front_trans before.front old.front new.front w.begins begins;
       rise = (readings_grow V).more (length before.front) (length new.front) w.rs r ((readings_grow V).later (length before.front) (length old.front) (length new.front) w.rs w.rise le) (omega arith);
@@ -87,6 +89,7 @@ pub ends : (V : ℕ) (sh : Shape) (k : ℕ) (before after : ReaderRecord) (looku
 ends V sh k before after lookup reply over w = record {
   rs = w.rs;
   of = w.of;
+  number = w.number;
   done = w.done;
   begins = w.begins;
   rise = w.rise;
@@ -109,24 +112,26 @@ tells_true V sh k before after reply shape small layout lawful recorded h =
 
 -- ---- one stage after the other
 pub leads_self : (V : ℕ) (sh : Shape) (r : ReaderRecord) (l : Lookup V) → Leads V sh r l r l
-leads_self V sh r l = record { of = refl; shape = refl; key = refl; way = λ k before w. w; most = omega arith }
+leads_self V sh r l = record { of = refl; number = refl; shape = refl; key = refl; way = λ k before w. w; most = omega arith }
 
-pub leads_on : (V : ℕ) (sh : Shape) (old mid new : ReaderRecord) (l m n : Lookup V) (a b : Access) (word : ℕ) → Leads V sh old l mid m → new.of ≡ mid.of → ReadsOne (layout_of V sh) mid.front mid.done a word new.front new.done → a ≡ b → Consumes m b word n → Leads V sh old l new n
-leads_on V sh old mid new l m n a b word on of one same t = record {
+pub leads_on : (V : ℕ) (sh : Shape) (old mid new : ReaderRecord) (l m n : Lookup V) (a b : Access) (word : ℕ) → Leads V sh old l mid m → new.of ≡ mid.of → new.number ≡ mid.number → ReadsOne (layout_of V sh) mid.front mid.done a word new.front new.done → a ≡ b → Consumes m b word n → Leads V sh old l new n
+leads_on V sh old mid new l m n a b word on of number one same t = record {
   of = of ∙ on.of;
+  number = number ∙ on.number;
   shape = t.shape ∙ on.shape;
   key = t.key ∙ on.key;
-  way = λ k before w. goes_on V sh k before mid new m n b word of one.begins (one.adds ∙ ap (λ (c : Access). mid.done ++ reading c word new.front ∷ []) same) t (on.way k before w);
+  way = λ k before w. goes_on V sh k before mid new m n b word of number one.begins (one.adds ∙ ap (λ (c : Access). mid.done ++ reading c word new.front ∷ []) same) t (on.way k before w);
   most = omega (arith, on.most, t.fewer);
 }
 
 -- the same for a mark
-pub leads_mark : (V : ℕ) (sh : Shape) (old mid new : ReaderRecord) (l m n : Lookup V) (i : ℕ) → Leads V sh old l mid m → new ≡ reader_record mid.of mid.front (mid.done ++ mark_at i mid.front ∷ []) → Consumes m (access.Mark i) 0 n → Leads V sh old l new n
+pub leads_mark : (V : ℕ) (sh : Shape) (old mid new : ReaderRecord) (l m n : Lookup V) (i : ℕ) → Leads V sh old l mid m → new ≡ reader_record mid.of mid.number mid.front (mid.done ++ mark_at i mid.front ∷ []) → Consumes m (access.Mark i) 0 n → Leads V sh old l new n
 leads_mark V sh old mid new l m n i on e t = record {
   of = ap (λ (r : ReaderRecord). r.of) e ∙ on.of;
+  number = ap (λ (r : ReaderRecord). r.number) e ∙ on.number;
   shape = t.shape ∙ on.shape;
   key = t.key ∙ on.key;
-  way = λ k before w. goes_on V sh k before mid new m n (access.Mark i) 0 (ap (λ (r : ReaderRecord). r.of) e) (subst (λ (r : ReaderRecord). IsFrontOf mid.front r.front) (sym e) (front_self mid.front))
+  way = λ k before w. goes_on V sh k before mid new m n (access.Mark i) 0 (ap (λ (r : ReaderRecord). r.of) e) (ap (λ (r : ReaderRecord). r.number) e) (subst (λ (r : ReaderRecord). IsFrontOf mid.front r.front) (sym e) (front_self mid.front))
       (ap (λ (r : ReaderRecord). r.done) e ∙ ap (λ (f : List Made). mid.done ++ mark_at i f ∷ []) (sym (ap (λ (r : ReaderRecord). r.front) e))) t (on.way k before w);
   most = omega (arith, on.most, t.fewer);
 }
@@ -141,6 +146,7 @@ slots_below j l = sym (cond_below j 8 (Slot j) (Moment None) l)
 pub leads_trans : (V : ℕ) (sh : Shape) (old mid new : ReaderRecord) (l m n : Lookup V) → Leads V sh old l mid m → Leads V sh mid m new n → Leads V sh old l new n
 leads_trans V sh old mid new l m n a b = record {
   of = b.of ∙ a.of;
+  number = b.number ∙ a.number;
   shape = b.shape ∙ a.shape;
   key = b.key ∙ a.key;
   way = λ k before w. b.way k before (a.way k before w);

@@ -8,10 +8,11 @@ use Rattle.mc_theory.specs.Readings.{Reading, RiseTo}
 use Rattle.mc_shared.specs.Records.{ReaderRecord}
 use Rattle.mc_shared.specs.Views.{IsFrontOf}
 
--- these readings were added, at fronts from the old one on that don't fall; they are a whole lookup of the key, with this reply
+-- the reader keeps its number, and these readings were added, at fronts from the old one on that don't fall; they are a whole lookup of the key, with this reply
 pub record HasLooked (V : ℕ) (sh : Shape) (k : ℕ) (before after : ReaderRecord) (reply : Reply V) : Type 0 where
   pub rs : List Reading
   pub of : after.of ≡ before.of
+  pub number : after.number ≡ before.number
   pub done : after.done ≡ before.done ++ rs
   pub begins : IsFrontOf before.front after.front
   pub rise : RiseTo (length before.front) rs (length after.front)

@@ -35,6 +35,7 @@ fn read_next<const V: usize>(
     requires next { next_access {V = V} lookup.now ≡ Some access }
     requires place { place_read V cells.now.layout.shape access ≡ Some place }
     ensures of { seat.new.of ≡ seat.old.of }
+    ensures number { seat.new.number ≡ seat.old.number }
     ensures one { ReadsOne (layout_of V cells.now.layout.shape) seat.old.front seat.old.done access result seat.new.front seat.new.done }
 {
     let _ = lookup;

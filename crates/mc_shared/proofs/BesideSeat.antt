@@ -1,5 +1,5 @@
 -- What is kept beside the writer's seat: where the running deed's version lies, that version, and the moment.
-use Rattle.std.proofs.Common.{◌≡◌, ℕ, ◌+◌, ◌<◌, ◌≤◌, List, [], ◌∷◌, ◌++◌, length, refl, ap, sym, ◌∙◌, subst, arith, Option, Some}
+use Rattle.std.proofs.Common.{◌≡◌, ℕ, ◌+◌, ◌<◌, ◌≤◌, List, [], ◌∷◌, ◌++◌, length, length-append, refl, ap, sym, ◌∙◌, subst, arith, Option, Some}
 use Rattle.mc_words.specs.Keys.{stripe_of}
 use Rattle.mc_words.specs.Places.{word_count, version_place, moment, version, with_version, with_slot, with_item}
 use Rattle.mc_words.specs.Shapes.{IsShape}
@@ -24,7 +24,7 @@ use Rattle.mc_theory.proofs.Invariant.Limits.{within_after}
 use Rattle.mc_shared.specs.declared.layout.Layout.{Layout}
 use Rattle.mc_shared.specs.Views.{Tally, writer_view, acts_of, tally_of, layout_state, with_bit}
 use Rattle.mc_shared.specs.Steps.{SeatView}
-use Rattle.mc_shared.specs.Inside.Steps.{IsPlain}
+use Rattle.mc_shared.specs.Inside.Steps.{IsPlain, AddsNote}
 use Rattle.mc_shared.specs.Inside.Seats.{MayMake}
 use Rattle.mc_shared.specs.Inside.Seats.{RunsAt, IsWriter}
 
@@ -93,10 +93,10 @@ close_writes l w hand cleared (Closing k) place count at may h = closing_writes 
 close_writes l w hand cleared _ place count at may h = absurd may
 
 -- ---- what is known of the writer's seat after an act
-after_made : (me me' : SeatView) (a : Act) (b place count at place' count' at' : ℕ) → IsWriter me place count at → MayMake me.0.layout (acts_of me.0) a → HasVersionSteps me.0.layout.shape.limit (layout_state me.0.layout (acts_of me.0)).version_steps a → me' ≡ (writer_view me.0.layout (acts_of me.0 ++ with_bit a b ∷ []) (tally_of me'.0), [])
+after_made : (me me' : SeatView) (a : Act) (b place count at place' count' at' : ℕ) → IsWriter me place count at → MayMake me.0.layout (acts_of me.0) a → HasVersionSteps me.0.layout.shape.limit (layout_state me.0.layout (acts_of me.0)).version_steps a → me' ≡ (writer_view me.0.layout (acts_of me.0 ++ with_bit a b ∷ []) (tally_of me'.0), []) → AddsNote me me'
     → Beside me.0.layout (words_after me.0.layout.width me.0.layout.shape (layout_state me.0.layout (acts_of me.0)).words (layout_state me.0.layout (acts_of me.0)).phase a) (phase_after (layout_state me.0.layout (acts_of me.0)).phase a) place' count' at'
     → IsWriter me' place' count' at'
-after_made me me' a b place count at place' count' at' mine may has is beside =
+after_made me me' a b place count at place' count' at' mine may has is note beside =
     let l : Layout = me.0.layout in
     let acts : List Made = acts_of me.0 in
     let s : State l.width = layout_state l acts in
@@ -106,6 +106,7 @@ after_made me me' a b place count at place' count' at' mine may has is beside =
       seat = refl;
       shape = mine.shape;
       lawful = lawful_push l.width l.shape acts (with_bit a b) may.lawful may.allowed;
+      paired = omega (arith, ap length note.1, length-append (tally_of me.0).notes (note.0 ∷ []), length-append acts (with_bit a b ∷ []), mine.paired);
       within = subst (λ (z : State l.width). z.version_steps + close_owed z.phase ≤ l.shape.limit) (sym next) within;
       moment_is = subst (λ (z : State l.width). at' ≡ moment z.words) (sym next) beside.0;
       version_is = subst (λ (z : State l.width). RunsAt l z.words (deed_key z.phase) place' count') (sym next) beside.1;
@@ -127,31 +128,31 @@ has_plain limit changes Close is = absurd is
 has_plain limit changes (Hand i) is = tt
 has_plain limit changes (Mark i) is = tt
 
-pub plain_made : (me me' : SeatView) (a : Act) (b place count at : ℕ) → IsWriter me place count at → IsPlain a → MayMake me.0.layout (acts_of me.0) a → me' ≡ (writer_view me.0.layout (acts_of me.0 ++ with_bit a b ∷ []) (tally_of me'.0), []) → IsWriter me' place count at
-plain_made me me' a b place count at mine is may e =
+pub plain_made : (me me' : SeatView) (a : Act) (b place count at : ℕ) → IsWriter me place count at → IsPlain a → MayMake me.0.layout (acts_of me.0) a → me' ≡ (writer_view me.0.layout (acts_of me.0 ++ with_bit a b ∷ []) (tally_of me'.0), []) → AddsNote me me' → IsWriter me' place count at
+plain_made me me' a b place count at mine is may e note =
     let l = me.0.layout in let s = layout_state l (acts_of me.0) in
-    after_made me me' a b place count at place count at mine may (has_plain _ _ a is) e (plain_keeps l s.words s.hand s.cleared s.phase a place count at mine.shape is may.allowed (beside_of me place count at mine))
+    after_made me me' a b place count at place count at mine may (has_plain _ _ a is) e note (plain_keeps l s.words s.hand s.cleared s.phase a place count at mine.shape is may.allowed (beside_of me place count at mine))
 
 pub opened_made : (me me' : SeatView) (k : ℕ) (d : Deed) (b place count at place' count' : ℕ) → IsWriter me place count at → MayMake me.0.layout (acts_of me.0) (Open k d) → HasVersionSteps me.0.layout.shape.limit (layout_state me.0.layout (acts_of me.0)).version_steps (Open k d)
     → place' ≡ version_place (stripe_of me.0.layout.shape k) → count' ≡ version (layout_state me.0.layout (acts_of me.0)).words (stripe_of me.0.layout.shape k) + 1
-    → me' ≡ (writer_view me.0.layout (acts_of me.0 ++ with_bit (Open k d) b ∷ []) (tally_of me'.0), []) → IsWriter me' place' count' at
-opened_made me me' k d b place count at place' count' mine may has here next e =
+    → me' ≡ (writer_view me.0.layout (acts_of me.0 ++ with_bit (Open k d) b ∷ []) (tally_of me'.0), []) → AddsNote me me' → IsWriter me' place' count' at
+opened_made me me' k d b place count at place' count' mine may has here next e note =
     let l = me.0.layout in let s = layout_state l (acts_of me.0) in
     let long = state_length l.width l.shape (acts_of me.0) in
-    after_made me me' (Open k d) b place count at place' count' at mine may has e (opens l s.words k d place' count' at mine.shape (omega arith) mine.moment_is here next)
+    after_made me me' (Open k d) b place count at place' count' at mine may has e note (opens l s.words k d place' count' at mine.shape (omega arith) mine.moment_is here next)
 
 pub counted_made : (me me' : SeatView) (b place count at : ℕ) → IsWriter me place count at → MayMake me.0.layout (acts_of me.0) Moment
-    → me' ≡ (writer_view me.0.layout (acts_of me.0 ++ with_bit Moment b ∷ []) (tally_of me'.0), []) → IsWriter me' place count (at + 1)
-counted_made me me' b place count at mine may e =
+    → me' ≡ (writer_view me.0.layout (acts_of me.0 ++ with_bit Moment b ∷ []) (tally_of me'.0), []) → AddsNote me me' → IsWriter me' place count (at + 1)
+counted_made me me' b place count at mine may e note =
     let l = me.0.layout in let s = layout_state l (acts_of me.0) in
     let long = state_length l.width l.shape (acts_of me.0) in
-    after_made me me' Moment b place count at place count (at + 1) mine may tt e (counts l s.words s.hand s.cleared s.phase place count at (omega arith) may.allowed (beside_of me place count at mine))
+    after_made me me' Moment b place count at place count (at + 1) mine may tt e note (counts l s.words s.hand s.cleared s.phase place count at (omega arith) may.allowed (beside_of me place count at mine))
 
 pub closed_made : (me me' : SeatView) (b place count at place' count' : ℕ) → IsWriter me place count at → MayMake me.0.layout (acts_of me.0) Close
-    → me' ≡ (writer_view me.0.layout (acts_of me.0 ++ with_bit Close b ∷ []) (tally_of me'.0), []) → IsWriter me' place' count' at
-closed_made me me' b place count at place' count' mine may e =
+    → me' ≡ (writer_view me.0.layout (acts_of me.0 ++ with_bit Close b ∷ []) (tally_of me'.0), []) → AddsNote me me' → IsWriter me' place' count' at
+closed_made me me' b place count at place' count' mine may e note =
     let l = me.0.layout in let s = layout_state l (acts_of me.0) in
-    after_made me me' Close b place count at place' count' at mine may tt e (closes l s.words s.hand s.cleared s.phase place count place' count' at may.allowed (beside_of me place count at mine))
+    after_made me me' Close b place count at place' count' at mine may tt e note (closes l s.words s.hand s.cleared s.phase place count place' count' at may.allowed (beside_of me place count at mine))
 
 -- ---- a new table
 within_new : (V : ℕ) (sh : Shape) → (opening V sh).version_steps + close_owed (opening V sh).phase ≤ sh.limit
@@ -167,11 +168,12 @@ unfolding opening
 runs_new l = tt
 
 -- a new writer's seat
-pub new_writer : (l : Layout) (me : SeatView) (tally : Tally) → me ≡ (writer_view l [] tally, []) → IsShape l.shape → IsWriter me 0 0 0
-new_writer l me tally is shape = subst (λ (x : SeatView). IsWriter x 0 0 0) (sym is) (record {
+pub new_writer : (l : Layout) (me : SeatView) (tally : Tally) → tally.notes ≡ [] → me ≡ (writer_view l [] tally, []) → IsShape l.shape → IsWriter me 0 0 0
+new_writer l me tally none is shape = subst (λ (x : SeatView). IsWriter x 0 0 0) (sym is) (record {
   seat = refl;
   shape = shape;
   lawful = lawful_none l.width l.shape;
+  paired = ap length none;
   within = subst (λ (s : State l.width). s.version_steps + close_owed s.phase ≤ l.shape.limit) (sym (state_none l.width l.shape)) (within_new l.width l.shape);
   moment_is = subst (λ (s : State l.width). 0 ≡ moment s.words) (sym (state_none l.width l.shape)) (sym (moment_new l.width l.shape));
   version_is = subst (λ (s : State l.width). RunsAt l s.words (deed_key s.phase) 0 0) (sym (state_none l.width l.shape)) (runs_new l);

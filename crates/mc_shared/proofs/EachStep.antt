@@ -9,7 +9,7 @@ use lib.ListN.{get_elem?}
 use lib.Seq.{set-get_or}
 use Rattle.atomic_table.specs.Table as table
 use Rattle.atomic_table.specs.Table.{Step, step, keeps, stepped, opening, Allows, Splits, Joins}
-use Rattle.atomic_table.proofs.Lists.{at_set, at_snoc}
+use Rattle.atomic_table.proofs.Lists.{at_set, at_snoc, at_longer, set_here, set_else}
 use Rattle.mc_words.specs.Places.{word_count, all_words, recency_place}
 use Rattle.mc_words.specs.Recency.{recency_bit}
 use Rattle.std.specs.Int.{bit_at}
@@ -32,9 +32,9 @@ use Rattle.mc_theory.proofs.Invariant.EachState.{zeros}
 use Rattle.mc_theory.proofs.Lists.WrittenWords.{reads_its_word}
 use Rattle.mc_shared.specs.declared.layout.Layout.{Layout}
 use Rattle.mc_shared.specs.RecencyTrace.{Trace, new_trace, trace_after, trace_of, marks_in, is_mark_of, total, Coherent}
-use Rattle.mc_shared.specs.Views.{Note, Tally, new_tally, tally_for, with_reader, with_note, seated_in, Role, Spent, Writes, Reads, Both, View, view_as, writer_view, reader_view, new_writer_view, spent_view, acts_of, tally_of, number_of, front_of, done_of, layout_state, with_bit, IsFrontOf}
+use Rattle.mc_shared.specs.Views.{Note, Tally, new_tally, tally_for, with_reader, with_note, seated_in, Role, Spent, Writes, Reads, Both, View, IsWriters, view_as, writer_view, reader_view, new_writer_view, spent_view, acts_of, tally_of, number_of, front_of, done_of, layout_state, with_bit, IsFrontOf}
 use Rattle.mc_shared.specs.ExactFronts.{IsExact}
-use Rattle.mc_shared.specs.TableRule.{word_after, IsRecord, FitsRole, Fits, AllFit, seats_of, marks_of, bit_in, Ruled}
+use Rattle.mc_shared.specs.TableRule.{word_after, IsRecord, FitsRole, Fits, AllFit, HasWriter, seats_of, marks_of, bit_in, Ruled}
 use Rattle.mc_shared.specs.Steps.{SeatView, bit_of, AddsAct, AddsActIfSet, FetchesWord, reading, ReadsWord, mark_at, AddsMark, AddsMarkIfSet, ComparesMoment, with_reader_view, new_reader_view, joined_view, writer_part, reader_part}
 use Rattle.mc_shared.specs.Inside.Steps.{WritesAt, only, all_but}
 use Rattle.mc_shared.specs.Inside.Seats.{MayMake}
@@ -74,6 +74,24 @@ same_marks i id views v w at e = let t = total_set (λ (u : View). marks_in i (d
 pub same_seats : (a id : ℕ) (views : List View) (v w : View) → get_elem? views id ≡ some v → seated_in a w.role ≡ seated_in a v.role → seats_of a (set views id w) ≡ seats_of a views
 same_seats a id views v w at e = let t = total_set (λ (u : View). seated_in a u.role) views id v w at in omega arith
 
+-- ---- the writer's seat stays among the seats
+pub got_below : {A : Type 0} (xs : List A) (i : ℕ) (x : A) → get_elem? xs i ≡ some x → i < length xs
+got_below [] i x e = absurd (some-ne-none x (sym e))
+got_below (y ∷ ys) zero x e = omega arith
+got_below (y ∷ ys) (suc i) x e = let h = got_below ys i x e in omega arith
+
+writer_set : (at id : ℕ) (views : List View) (v w : View) → get_elem? views id ≡ some v → (IsWriters v.role → IsWriters w.role) → HasWriter at views → HasWriter at (set views id w)
+writer_set at id views v w here still h = dite (ℕ_discrete at id)
+    (λ same. (
+      w,
+      ap (λ (k : ℕ). get_elem? (set views id w) k) same ∙ set_here views id w (got_below views id v here),
+      still (subst (λ (x : View). IsWriters x.role) (some-injective _ _ (sym h.1 ∙ (ap (λ (k : ℕ). get_elem? views k) same ∙ here))) h.2),
+    ))
+    (λ ne. (h.0, set_else views id at w ne ∙ h.1, h.2))
+
+writer_push : (at : ℕ) (views : List View) (w : View) → HasWriter at views → HasWriter at (views ++ w ∷ [])
+writer_push at views w h = (h.0, at_longer views (w ∷ []) at h.0 h.1, h.2)
+
 -- ---- a new table
 opening_zero : (V : ℕ) (sh : Shape) (n : ℕ) → get_or (states.opening V sh).words n 0 ≡ 0
 unfolding states.opening
@@ -85,6 +103,7 @@ begins l ws is = record {
   tally = new_tally;
   paired = refl;
   at = 0;
+  writer = (new_writer_view l, refl, tt);
   lawful = lawful_none l.width l.shape;
   wide = ap length is ∙ length-replicate (all_words l.width l.shape) 0;
   words = λ n below. zero_in n ∙ sym (ap (λ (s : State l.width). get_or s.words n 0) (state_none l.width l.shape) ∙ opening_zero l.width l.shape n);
@@ -107,12 +126,13 @@ begins l ws is = record {
 
 module _ (l : Layout) (id slots : ℕ) (c : List (ℕ × Unit {0})) where
   -- a step that changes no word
-  unmoved : (s : table.State (Unit {0}) View) (r : Ruled l s) (n : ℕ) (v w : View) → get_elem? s.views id ≡ some v → ((i : ℕ) → marks_in i (done_of w) ≡ marks_in i (done_of v)) → ((a : ℕ) → seated_in a w.role ≡ seated_in a v.role) → Fits l r.log r.tally r.at id w → Ruled l (stepped s n (get_or s.words n 0) id c w keeps)
-  unmoved s r n v w at alike sits mine = subst (λ (ws : List ℕ). Ruled l record { words = ws; homes = s.homes; views = set s.views id w }) (sym (set-get_or s.words n 0)) record {
+  unmoved : (s : table.State (Unit {0}) View) (r : Ruled l s) (n : ℕ) (v w : View) → get_elem? s.views id ≡ some v → ((i : ℕ) → marks_in i (done_of w) ≡ marks_in i (done_of v)) → ((a : ℕ) → seated_in a w.role ≡ seated_in a v.role) → (IsWriters v.role → IsWriters w.role) → Fits l r.log r.tally r.at id w → Ruled l (stepped s n (get_or s.words n 0) id c w keeps)
+  unmoved s r n v w at alike sits writes mine = subst (λ (ws : List ℕ). Ruled l record { words = ws; homes = s.homes; views = set s.views id w }) (sym (set-get_or s.words n 0)) record {
     log = r.log;
     tally = r.tally;
     paired = r.paired;
     at = r.at;
+    writer = writer_set r.at id s.views v w at writes r.writer;
     lawful = r.lawful;
     wide = r.wide;
     words = r.words;
@@ -155,6 +175,7 @@ module _ (l : Layout) (id slots : ℕ) (c : List (ℕ × Unit {0})) where
           tally = with_note tally note;
           paired = omega (arith, length-append tally.notes (note ∷ []), length-append acts (m ∷ []), paired);
           at = r.at;
+          writer = writer_set r.at id s.views (writer_view l acts tally) new at (λ z. z) r.writer;
           lawful = lawful_push l.width l.shape acts m may.lawful may.allowed;
           wide = length-set s.words n v ∙ wide;
           words = words';
@@ -184,12 +205,12 @@ module _ (l : Layout) (id slots : ℕ) (c : List (ℕ × Unit {0})) where
       (λ (e : bit_at w (recency_bit i) ≡ 1).
       let m = makes acts tally (Mark i) n (only i) (λ z. bit_or z (only i)) (λ z. z) st may (refl, refl) (λ low. absurd (omega arith)) (touch_bits l i) (spared_past l i (λ z. bit_or z (only i)) (act_names_in l acts (Mark i) may) (or_spares (recency_bit i) (bit_low i))) s r long at fits in
       (m.0, m.1, m.2, subst (λ (x : ℕ). Ruled l (stepped s n x id c m.0 m.1)) (or_same (recency_bit i) w e) m.3, ((λ _. m.4), (λ z. absurd (omega (arith, e, z))))))
-      (λ ne. (v, keeps, tt, unmoved s r n v v at (λ k. refl) (λ a. refl) (r.views id v at), ((λ z. absurd (ne z)), (λ _. refl))))
+      (λ ne. (v, keeps, tt, unmoved s r n v v at (λ k. refl) (λ a. refl) (λ z. z) (r.views id v at), ((λ z. absurd (ne z)), (λ _. refl))))
 
   pub looks : (acts : List Made) (tally : Tally) (n : ℕ) (st : Step (Unit {0})) → st.word ≡ n → n < word_count l.width l.shape → Allows (Ruled l) slots id (writer_view l acts tally, c) n (λ r. r) (FetchesWord st (writer_view l acts tally, c))
   looks acts tally n st is below s r long at fits =
       let mine = r.views id (writer_view l acts tally) at in
-      (writer_view l acts tally, keeps, tt, unmoved s r n (writer_view l acts tally) (writer_view l acts tally) at (λ i. refl) (λ a. refl) mine, (refl, r.words n below ∙ λ i. word_after l (sym (mine.2) i) (sym is i)))
+      (writer_view l acts tally, keeps, tt, unmoved s r n (writer_view l acts tally) (writer_view l acts tally) at (λ i. refl) (λ a. refl) (λ z. z) mine, (refl, r.words n below ∙ λ i. word_after l (sym (mine.2) i) (sym is i)))
 
   pub reads_one : (number : ℕ) (front : List Made) (done : List Reading) (a : Access) (n : ℕ) (st : Step (Unit {0})) → place_read l.width l.shape a ≡ Some n → st.word ≡ n → n < word_count l.width l.shape
       → Allows (Ruled l) slots id (reader_view l number front done, c) n (λ r. r) (ReadsWord a st (reader_view l number front done, c))
@@ -203,7 +224,7 @@ module _ (l : Layout) (id slots : ℕ) (c : List (ℕ × Unit {0})) where
         reader_view l number r.log done',
         keeps,
         tt,
-        unmoved s r n (reader_view l number front done) (reader_view l number r.log done') at (λ i. marks_in-push i (reading a x r.log) done ∙ no_mark l i a n (marks_in i done) where_is) (λ b. refl) (refl, front_self r.log, kept, exact_entry number r.tally.notes done (reading a x r.log) (stands_here a (length r.log) (length r.tally.notes) (sym r.paired)) mine.3),
+        unmoved s r n (reader_view l number front done) (reader_view l number r.log done') at (λ i. marks_in-push i (reading a x r.log) done ∙ no_mark l i a n (marks_in i done) where_is) (λ b. refl) (λ z. z) (refl, front_self r.log, kept, exact_entry number r.tally.notes done (reading a x r.log) (stands_here a (length r.log) (length r.tally.notes) (sym r.paired)) mine.3),
         (where_is ∙ ap Some (sym is), refl, record { begins = p; adds = refl; lawful = r.lawful; recorded = kept }),
       )
     where
@@ -234,6 +255,7 @@ module _ (l : Layout) (id slots : ℕ) (c : List (ℕ × Unit {0})) where
           tally = r.tally;
           paired = r.paired;
           at = r.at;
+          writer = writer_set r.at id s.views (reader_view l number front done) (reader_view l number front done') at (λ z. z) r.writer;
           lawful = r.lawful;
           wide = length-set s.words n x ∙ wide;
           words = λ k below. get_or-set_other s.words n k x 0 (λ e. omega arith) ∙ r.words k below;
@@ -268,7 +290,7 @@ module _ (l : Layout) (id slots : ℕ) (c : List (ℕ × Unit {0})) where
       (λ (e : bit_at w (recency_bit i) ≡ 1).
       let m = marks_one number front done i (λ z. z) st within s r long at fits in
       (m.0, m.1, m.2, subst (λ (x : ℕ). Ruled l (stepped s n x id c m.0 m.1)) (or_same (recency_bit i) w e) m.3, ((λ _. m.4), (λ z. absurd (omega (arith, e, z))))))
-      (λ ne. (v, keeps, tt, unmoved s r n v v at (λ k. refl) (λ a. refl) (r.views id v at), ((λ z. absurd (ne z)), (λ _. refl))))
+      (λ ne. (v, keeps, tt, unmoved s r n v v at (λ k. refl) (λ a. refl) (λ z. z) (r.views id v at), ((λ z. absurd (ne z)), (λ _. refl))))
 
   pub compares_one : (acts : List Made) (tally : Tally) (number : ℕ) (front : List Made) (done : List Reading) (n : ℕ) (st : Step (Unit {0})) → st.word ≡ n → n < word_count l.width l.shape
       → Allows (Ruled l) slots id (view_as l (Both acts tally number front done), c) n (λ r. r) (ComparesMoment st (view_as l (Both acts tally number front done), c))
@@ -280,19 +302,20 @@ module _ (l : Layout) (id slots : ℕ) (c : List (ℕ × Unit {0})) where
       let p : IsFrontOf front acts = subst (IsFrontOf front) (sym same) mine.4 in
       let paired : length tally.notes ≡ length acts = subst (λ (z : Tally × List Made). length z.0.notes ≡ length z.1) (λ i. (sym even i, sym same i)) r.paired in
       let exact : IsExact number tally.notes done = subst (λ (z : Tally). IsExact number z.notes done) (sym even) mine.6 in
-      (v, keeps, tt, unmoved s r n v v at (λ i. refl) (λ a. refl) mine, (refl, p, record_longer l front acts done p mine.5, paired, exact, r.words n below ∙ λ i. word_after l (sym same i) (sym is i)))
+      (v, keeps, tt, unmoved s r n v v at (λ i. refl) (λ a. refl) (λ z. z) mine, (refl, p, record_longer l front acts done p mine.5, record { paired = paired; exact = exact }, r.words n below ∙ λ i. word_after l (sym same i) (sym is i)))
 
 -- ---- seats
 -- a view is cut in two, and the tally may have one reader more
 splits_as : (l : Layout) (id : ℕ) (s : table.State (Unit {0}) View) (r : Ruled l s) (all : Tally) (v left right : View) → get_elem? s.views id ≡ some v → all.notes ≡ r.tally.notes → ((i : ℕ) → marks_in i (done_of left) + marks_in i (done_of right) ≡ marks_in i (done_of v))
     → ((j : ℕ) (u : View) → j ≢ id → get_elem? s.views j ≡ some u → Fits l r.log all r.at j u) → Fits l r.log all r.at id left → ((j : ℕ) → Fits l r.log all r.at j right)
-    → ((a : ℕ) → a < all.readers → seats_of a (set s.views id left ++ right ∷ []) ≡ 1) → ((a : ℕ) → all.readers ≤ a → seats_of a (set s.views id left ++ right ∷ []) ≡ 0)
+    → (IsWriters v.role → IsWriters left.role) → ((a : ℕ) → a < all.readers → seats_of a (set s.views id left ++ right ∷ []) ≡ 1) → ((a : ℕ) → all.readers ≤ a → seats_of a (set s.views id left ++ right ∷ []) ≡ 0)
     → Ruled l record { words = s.words; homes = s.homes; views = set s.views id left ++ right ∷ [] }
-splits_as l id s r all v left right at same cut others mine new single unseated = record {
+splits_as l id s r all v left right at same cut others mine new writes single unseated = record {
   log = r.log;
   tally = all;
   paired = ap length same ∙ r.paired;
   at = r.at;
+  writer = writer_push r.at (set s.views id left) right (writer_set r.at id s.views v left at writes r.writer);
   lawful = r.lawful;
   wide = r.wide;
   words = r.words;
@@ -330,7 +353,7 @@ splits_new l id n s r at =
     λ j u ne e. joins_in l u.layout r.log (tally_for n) r.at j (λ (z : j ≡ r.at). ne (z ∙ sym mine.1)) u.role (subst (λ (z : Tally). Fits l r.log z r.at j u) (sym even) (r.views j u e)) in
     let one : (a : ℕ) → a < n → seats_of a s.views ≡ 1 = λ a below. r.single a (subst (λ (z : Tally). a < z.readers) even below) in
     let none : (a : ℕ) → n ≤ a → seats_of a s.views ≡ 0 = λ a over. r.unseated a (subst (λ (z : Tally). z.readers ≤ a) even over) in
-    splits_as l id s r (tally_for (n + 1)) v left right at notes (λ i. omega arith) others (refl, mine.1, mine.2, refl) (λ j. (refl, front_none r.log, record_none l [], exact_none n))
+    splits_as l id s r (tally_for (n + 1)) v left right at notes (λ i. omega arith) others (refl, mine.1, mine.2, refl) (λ j. (refl, front_none r.log, record_none l [], exact_none n)) (λ z. z)
     (λ a below. let c = cut_seats a id s.views v left right at in dite (ℕ_discrete n a)
     (λ e. let hit : ◌≡◌ {A = ℕ} (if eqb n a then 1 else 0) 1 = ap (λ (b : Bool). if◌then◌else◌ {A = ℕ} b 1 0) (eq-eqb n a e) in omega (arith, c, hit, none a (omega (arith, e))))
     (λ ne. let miss : ◌≡◌ {A = ℕ} (if eqb n a then 1 else 0) 0 = ap (λ (b : Bool). if◌then◌else◌ {A = ℕ} b 1 0) (ne_eqb n a ne) in omega (arith, c, miss, one a (omega (arith, below, ne)))))
@@ -347,7 +370,7 @@ splits_back l id acts tally number front done s r at =
     let mine = r.views id v at in
     let same : acts ≡ r.log = mine.2 in
     let p : IsFrontOf front acts = subst (IsFrontOf front) (sym same) mine.4 in
-    splits_as l id s r r.tally v left right at refl (λ i. omega arith) (λ k x _ h. r.views k x h) (refl, mine.1, same, mine.3) (λ j. (refl, subst (IsFrontOf acts) same (front_self acts), record_longer l front acts done p mine.5, mine.6))
+    splits_as l id s r r.tally v left right at refl (λ i. omega arith) (λ k x _ h. r.views k x h) (refl, mine.1, same, mine.3) (λ j. (refl, subst (IsFrontOf acts) same (front_self acts), record_longer l front acts done p mine.5, mine.6)) (λ z. z)
     (λ a below. let c = cut_seats a id s.views v left right at in omega (arith, c, r.single a below))
     (λ a over. let c = cut_seats a id s.views v left right at in omega (arith, c, r.unseated a over))
 
@@ -371,6 +394,7 @@ joins_reader l id other acts tally number front done s r at apart there =
       tally = r.tally;
       paired = r.paired;
       at = r.at;
+      writer = writer_set r.at other (set s.views id w) (reader_view l number front done) spent_view there (λ z. z) (writer_set r.at id s.views (writer_view l acts tally) w at (λ z. z) r.writer);
       lawful = r.lawful;
       wide = r.wide;
       words = r.words;

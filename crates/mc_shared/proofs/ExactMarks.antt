@@ -5,7 +5,7 @@ use Rattle.std.proofs.lemmas.List.{length-replicate}
 use Rattle.std.proofs.lemmas.Nat.Bits.{bit_at-zero}
 use Rattle.mc_words.specs.Places.{all_words, recency_place}
 use Rattle.mc_theory.proofs.Invariant.EachState.{zeros}
-use Rattle.mc_shared.proofs.EachStep.{begins, splits_new}
+use Rattle.mc_shared.proofs.EachStep.{begins, splits_new, got_below}
 use mathlib.Core.Logic.{dite}
 use mathlib.Core.Option.{some, some-ne-none}
 use native.Mathlib.Decide.{ℕ_discrete}
@@ -25,11 +25,6 @@ use Rattle.mc_shared.specs.Views.{Tally, tally_for, with_note, View, new_writer_
 use Rattle.mc_shared.specs.TableRule.{marks_of, bit_in, Fits, Ruled}
 use Rattle.mc_shared.specs.Steps.{SeatView, AddsAct, mark_at}
 use Rattle.mc_shared.proofs.Coherence.{trace-push, marks_in-push, total_set, bit_stays, marked_is_set}
-
-got_below : {A : Type 0} (xs : List A) (i : ℕ) (x : A) → get_elem? xs i ≡ some x → i < length xs
-got_below [] i x e = absurd (some-ne-none x (sym e))
-got_below (y ∷ ys) zero x e = omega arith
-got_below (y ∷ ys) (suc i) x e = let h = got_below ys i x e in omega arith
 
 module _ (l : Layout) (id slots : ℕ) (c : List (ℕ × Unit {0})) (number : ℕ) (front : List Made) (done : List Reading) (i : ℕ) where
   -- a table in which the writer's seat is another one, and this is what this seat knows

@@ -2,8 +2,8 @@
 use Rattle.std.specs.Prelude.{if◌then◌else◌}
 use mathlib.Core.Logic.{dite}
 use native.Mathlib.Decide.{dec_le, ℕ_discrete}
-use Rattle.std.proofs.Common.{◌≡◌, Bool, eqb, eq-eqb, ne_eqb, ℕ, zero, suc, ◌<◌, ◌≤◌, List, [], ◌∷◌, ◌++◌, length, get_or, set, refl, ap, sym, ◌∙◌, subst, arith, Some}
-use mathlib.Core.Option.{some, some-ne-none}
+use Rattle.std.proofs.Common.{◌≡◌, ◌≢◌, Bool, eqb, eq-eqb, ne_eqb, ℕ, zero, suc, ◌<◌, ◌≤◌, List, [], ◌∷◌, ◌++◌, length, get_or, set, refl, ap, sym, ◌∙◌, subst, arith, Some}
+use mathlib.Core.Option.{some, some-injective}
 use lib.ListN.{get_elem?}
 use Rattle.atomic_table.specs.Table as table
 use Rattle.atomic_table.specs.Table.{stepped, step, keeps, Allows}
@@ -18,20 +18,16 @@ use Rattle.mc_theory.proofs.Lists.Fronts.{front_all, front_append}
 use Rattle.mc_theory.proofs.Lists.Readings.{read_parts}
 use Rattle.mc_theory.proofs.Lists.WrittenWords.{reads_its_word}
 use Rattle.mc_shared.specs.declared.layout.Layout.{Layout}
-use Rattle.mc_shared.specs.Views.{Note, Tally, seated_in, Role, Spent, Writes, Reads, Both, View, writer_view, reader_view, acts_in, tally_in, tally_of, AreLawful, layout_state, IsFrontOf}
-use Rattle.mc_shared.specs.ExactFronts.{StandsAt, IsExact}
-use Rattle.mc_shared.specs.ExactLaws.{IsWriters, AddsEntry, ReadingsAreNewest}
-use Rattle.mc_shared.specs.Steps.{SeatView}
-use Rattle.mc_shared.specs.TableRule.{word_after, seats_of, IsRecord, FitsRole, Ruled}
+use Rattle.mc_shared.specs.Views.{Note, Tally, seated_in, Role, Spent, Writes, Reads, Both, View, IsWriters, writer_view, reader_view, acts_in, tally_in, front_of, done_of, AreLawful, layout_state, IsFrontOf}
+use Rattle.mc_shared.specs.ExactFronts.{IsReading, StandsAt, IsExact}
+use Rattle.mc_shared.specs.ExactLaws.{AddsEntry, ReadingsAreNewest, ReadsAreEntries}
+use Rattle.mc_shared.specs.Steps.{SeatView, reading}
+use Rattle.mc_shared.specs.TableRule.{word_after, seats_of, IsRecord, FitsRole, Fits, Ruled}
 use Rattle.mc_shared.proofs.ReaderRecords.{record_longer}
 use Rattle.mc_shared.proofs.ExactSteps.{entry_is, seat_counts}
 use Rattle.mc_shared.proofs.Coherence.{total_set}
 use Rattle.mc_shared.proofs.ExactMarks.{Stands}
-
-got_below : {A : Type 0} (xs : List A) (i : ℕ) (x : A) → get_elem? xs i ≡ some x → i < length xs
-got_below [] i x e = absurd (some-ne-none x (sym e))
-got_below (y ∷ ys) zero x e = omega arith
-got_below (y ∷ ys) (suc i) x e = let h = got_below ys i x e in omega arith
+use Rattle.mc_shared.proofs.EachStep.{got_below}
 
 -- the last front is no later than the end
 last_rise : (f g : ℕ) (rs : List Reading) (r : Reading) → RiseTo f (rs ++ r ∷ []) g → r.front ≤ g
@@ -79,6 +75,44 @@ kept_number a b views seat v w at here is same =
     let c = total_set (λ (u : View). seated_in a u.role) views seat v w at in
     dite (ℕ_discrete b a) (λ e. e) (λ ne. let miss : ◌≡◌ {A = ℕ} (if eqb b a then 1 else 0) 0 = ap (λ (x : Bool). if◌then◌else◌ {A = ℕ} x 1 0) (ne_eqb b a ne) in absurd (omega (arith, c, here, is, same, miss)))
 
+-- the writer's seat is another one, in both states: the acts and their notes are those of both
+module _ (l : Layout) (s t : table.State (Unit {0}) View) (acts : List Made) (e : Reading) (h : AddsEntry l s t acts e) where
+  apart : h.before.at ≢ h.seat
+  apart same =
+      let w = h.before.writer in
+      let is : w.0 ≡ reader_view l h.number h.old h.done = some-injective _ _ (sym w.1 ∙ (ap (λ (k : ℕ). get_elem? s.views k) same ∙ h.reads)) in
+      subst (λ (x : View). IsWriters x.role) is w.2
+
+  knew : (acts_in h.before.writer.0.role ≡ h.before.log) × (tally_in h.before.writer.0.role ≡ h.before.tally)
+  knew =
+      let w = h.before.writer in
+      knows_all l w.0.layout h.before.log h.before.tally h.before.at h.before.at w.0.role w.2 (h.before.views h.before.at w.0 w.1)
+
+  knows : (acts_in h.before.writer.0.role ≡ h.after.log) × (tally_in h.before.writer.0.role ≡ h.after.tally)
+  knows =
+      let w = h.before.writer in
+      let there : get_elem? t.views h.before.at ≡ some w.0 = ap (λ (vs : List View). get_elem? vs h.before.at) h.step ∙ (set_else s.views h.seat h.before.at (reader_view l h.number' h.new (h.done ++ e ∷ [])) apart ∙ w.1) in
+      knows_all l w.0.layout h.after.log h.after.tally h.after.at h.before.at w.0.role w.2 (h.after.views h.before.at w.0 there)
+
+  pub log_after : h.after.log ≡ acts
+  log_after = sym knows.0 ∙ (knew.0 ∙ h.made)
+
+  tally_after : h.after.tally ≡ h.before.tally
+  tally_after = sym knows.1 ∙ knew.1
+
+  -- what the rule says of the record after the step
+  fits_after : Fits l h.after.log h.after.tally h.after.at h.seat (reader_view l h.number' h.new (h.done ++ e ∷ []))
+  fits_after =
+      let v : View = reader_view l h.number h.old h.done in
+      let w : View = reader_view l h.number' h.new (h.done ++ e ∷ []) in
+      h.after.views h.seat w (ap (λ (vs : List View). get_elem? vs h.seat) h.step ∙ set_here s.views h.seat w (got_below s.views h.seat v h.reads))
+
+  -- it is one of all acts
+  pub entered : AreLawful l acts × IsRecord l acts (h.done ++ e ∷ [])
+  entered =
+      let p : IsFrontOf h.new acts = subst (IsFrontOf h.new) log_after fits_after.1 in
+      (subst (AreLawful l) log_after h.after.lawful, record_longer l h.new acts (h.done ++ e ∷ []) p fits_after.2)
+
 pub readings_are_newest : ReadingsAreNewest
 readings_are_newest l s t acts e h =
     let r = h.before in
@@ -86,20 +120,14 @@ readings_are_newest l s t acts e h =
     let v : View = reader_view l h.number h.old h.done in
     let w : View = reader_view l h.number' h.new (h.done ++ e ∷ []) in
     let mine = r.views h.seat v h.reads in
-    let here : get_elem? t.views h.seat ≡ some w = ap (λ (vs : List View). get_elem? vs h.seat) h.step ∙ set_here s.views h.seat w (got_below s.views h.seat v h.reads) in
-    let mine' = r'.views h.seat w here in
-    let tally : Tally = tally_of h.view in
-    let old = knows_all l h.view.layout r.log r.tally r.at h.writer h.view.role h.writes (r.views h.writer h.view h.there) in
-    let there : get_elem? t.views h.writer ≡ some h.view = ap (λ (vs : List View). get_elem? vs h.writer) h.step ∙ (set_else s.views h.seat h.writer w h.apart ∙ h.there) in
-    let new = knows_all l h.view.layout r'.log r'.tally r'.at h.writer h.view.role h.writes (r'.views h.writer h.view there) in
-    let log : acts ≡ r.log = sym h.made ∙ old.0 in
-    let log' : acts ≡ r'.log = sym h.made ∙ new.0 in
-    let was : IsExact h.number tally.notes h.done = subst (λ (z : Tally). IsExact h.number z.notes h.done) (sym old.1) mine.3 in
-    let seated : seats_of h.number s.views ≡ seats_of h.number t.views = same_number l s t r r' h.number (old.1) (new.1) h.seat v h.reads (hit h.number) in
+    let mine' = fits_after l s t acts e h in
+    let same_tally : r'.tally ≡ r.tally = tally_after l s t acts e h in
+    let log' : acts ≡ r'.log = sym (log_after l s t acts e h) in
+    let seated : seats_of h.number s.views ≡ seats_of h.number t.views = same_number l s t r r' h.number refl (sym same_tally) h.seat v h.reads (hit h.number) in
     let same : h.number' ≡ h.number = kept_number h.number h.number' s.views h.seat v w h.reads (hit h.number) refl (seated ∙ ap (seats_of h.number) h.step) in
-    let is : IsExact h.number tally.notes (h.done ++ e ∷ []) = subst (λ (z : ℕ × List Note). IsExact z.0 z.1 (h.done ++ e ∷ [])) (λ i. (same i, ap (λ (x : Tally). x.notes) (sym new.1) i)) mine'.3 in
-    let paired : length tally.notes ≡ length acts = subst (λ (z : Tally × List Made). length z.0.notes ≡ length z.1) (λ i. (sym old.1 i, sym log i)) r.paired in
-    let stands : StandsAt e.access e.front (length acts) = subst (StandsAt e.access e.front) paired (entry_is h.number tally.notes h.done e was is) in
+    let is : IsExact h.number r.tally.notes (h.done ++ e ∷ []) = subst (λ (z : ℕ × List Note). IsExact z.0 z.1 (h.done ++ e ∷ [])) (λ i. (same i, ap (λ (x : Tally). x.notes) same_tally i)) mine'.3 in
+    let paired : length r.tally.notes ≡ length acts = r.paired ∙ ap length h.made in
+    let stands : StandsAt e.access e.front (length acts) = subst (StandsAt e.access e.front) paired (entry_is h.number r.tally.notes h.done e mine.3 is) in
     let p : IsFrontOf h.new acts = subst (IsFrontOf h.new) (sym log') mine'.1 in
     let kept : IsRecord l h.new (h.done ++ e ∷ []) = mine'.2 in
     let below : e.front ≤ length h.new = last_rise 0 (length h.new) h.done e kept.rise in
@@ -112,29 +140,31 @@ readings_are_newest l s t acts e h =
     in (
       stands,
       word,
-      λ n at low. one_word 0 l (layout_state l acts).words e.access n _ _ at word (reads_its_word l.width l.shape (layout_state l acts).words e.access n at).0 ∙ (ap (λ (z : List Made). word_after l z n) log ∙ sym (r.words n low)),
+      λ n at low. one_word 0 l (layout_state l acts).words e.access n _ _ at word (reads_its_word l.width l.shape (layout_state l acts).words e.access n at).0 ∙ (ap (λ (z : List Made). word_after l z n) (sym h.made) ∙ sym (r.words n low)),
     )
 
--- what the record is after the step: one of all acts
-pub entered : (l : Layout) (s t : table.State (Unit {0}) View) (acts : List Made) (e : Reading) → (h : AddsEntry l s t acts e) → AreLawful l acts × IsRecord l acts (h.done ++ e ∷ [])
-entered l s t acts e h =
-    let r' = h.after in
-    let v : View = reader_view l h.number h.old h.done in
-    let w : View = reader_view l h.number' h.new (h.done ++ e ∷ []) in
-    let here : get_elem? t.views h.seat ≡ some w = ap (λ (vs : List View). get_elem? vs h.seat) h.step ∙ set_here s.views h.seat w (got_below s.views h.seat v h.reads) in
-    let mine' = r'.views h.seat w here in
-    let there : get_elem? t.views h.writer ≡ some h.view = ap (λ (vs : List View). get_elem? vs h.writer) h.step ∙ (set_else s.views h.seat h.writer w h.apart ∙ h.there) in
-    let new = knows_all l h.view.layout r'.log r'.tally r'.at h.writer h.view.role h.writes (r'.views h.writer h.view there) in
-    let log' : acts ≡ r'.log = sym h.made ∙ new.0 in
-    let p : IsFrontOf h.new acts = subst (IsFrontOf h.new) (sym log') mine'.1 in
-    (subst (AreLawful l) (sym log') r'.lawful, record_longer l h.new acts (h.done ++ e ∷ []) p mine'.2)
+-- a load that tells a reading is a step that enters it
+pub reads_are_entries : ReadsAreEntries
+reads_are_entries l s seat slots place number old done held a st allows rule fits mine small =
+    let next = allows s rule fits mine small in
+    let told = next.4 in
+    let is : next.0 ≡ reader_view l number (front_of next.0) (done_of next.0) = ap (λ (x : SeatView). x.0) told.1 in
+    let adds : done_of next.0 ≡ done ++ reading a (get_or s.words place 0) (front_of next.0) ∷ [] = told.2.adds in
+    record {
+      before = rule;
+      after = next.3;
+      made = refl;
+      seat = seat;
+      number = number;
+      number' = number;
+      old = old;
+      new = front_of next.0;
+      done = done;
+      reads = mine;
+      step = ap (λ (w : View). set s.views seat w) (is ∙ ap (λ (z : List Reading). reader_view l number (front_of next.0) z) adds);
+    }
 
--- an access that is no mark
-abbrev pub IsLoad : Access → Type 0
-IsLoad (access.Mark i) = ⊥
-IsLoad _ = Unit {0}
-
-load_stands : (a : Access) (front made : ℕ) → IsLoad a → StandsAt a front made → front ≡ made
+pub load_stands : (a : Access) (front made : ℕ) → IsReading a → StandsAt a front made → front ≡ made
 load_stands (access.Version t) front made is h = h
 load_stands (access.Slot p) front made is h = h
 load_stands (access.Key k) front made is h = h
@@ -144,21 +174,17 @@ load_stands (access.Mark k) front made is h = absurd is
 
 -- so no step enters a reading at an older front, whatever word it tells, once another act was made
 pub no_stale_reading : (l : Layout) (id slots : ℕ) (c : List (ℕ × Unit {0})) (number : ℕ) (old : List Made) (done : List Reading) (n : ℕ) (f : ℕ → ℕ) (told : ℕ → SeatView → Type 0) (s : table.State (Unit {0}) View) → (h : Stands l id slots c number old done 0 s n)
-    → ((me : SeatView) → told (get_or s.words n 0) me → (new : List Made) × (e : Reading) × IsLoad e.access × (e.front < length h.acts) × ((number' : ℕ) × (me.0 ≡ reader_view l number' new (done ++ e ∷ []))))
+    → ((me : SeatView) → told (get_or s.words n 0) me → (new : List Made) × (e : Reading) × IsReading e.access × (e.front < length h.acts) × ((number' : ℕ) × (me.0 ≡ reader_view l number' new (done ++ e ∷ []))))
     → Allows (Ruled l) slots id (reader_view l number old done, c) n f told → ⊥
 no_stale_reading l id slots c number old done n f told s h is allows =
     let m = allows s h.ruled h.long h.mine h.fits in
     let x = is _ m.4 in
+    let old' = h.ruled.views h.writer (writer_view l h.acts h.tally) h.writes in
     let entry : AddsEntry l s (stepped s n (f (get_or s.words n 0)) id c m.0 m.1) h.acts x.1 = record {
       before = h.ruled;
       after = m.3;
-      writer = h.writer;
-      view = writer_view l h.acts h.tally;
-      there = h.writes;
-      writes = tt;
-      made = refl;
+      made = sym old'.2;
       seat = id;
-      apart = h.other;
       number = number;
       number' = x.4.0;
       old = old;

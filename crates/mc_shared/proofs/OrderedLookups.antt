@@ -58,7 +58,7 @@ stands_by (access.Value k j) front made h = omega (arith, h)
 stands_by access.Moment front made h = omega (arith, h)
 stands_by (access.Mark k) front made h = h
 
-stand_drop : (a n : ℕ) (ts : List Note) (xs ys : List Reading) → StandAt a ts n (xs ++ ys) → StandAt a ts (n + length xs) ys
+pub stand_drop : (a n : ℕ) (ts : List Note) (xs ys : List Reading) → StandAt a ts n (xs ++ ys) → StandAt a ts (n + length xs) ys
 stand_drop a n ts [] ys s = subst (λ (k : ℕ). StandAt a ts k ys) (omega arith) s
 stand_drop a n ts (x ∷ xs) ys s = subst (λ (k : ℕ). StandAt a ts k ys) (omega arith) (stand_drop a (suc n) ts xs ys s.1)
 

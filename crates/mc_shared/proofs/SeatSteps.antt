@@ -14,11 +14,11 @@ use Rattle.mc_theory.specs.declared.act.Act.{Act}
 use Rattle.mc_theory.specs.declared.act.Act.TheVariants.{Open, Slot, Item, Moment, Close, Hand, Mark}
 use Rattle.mc_theory.specs.declared.act.Deed.{Deed}
 use Rattle.mc_shared.specs.declared.layout.Layout.{Layout}
-use Rattle.mc_shared.specs.Records.{Opening, WriterRecord, writer_record}
+use Rattle.mc_shared.specs.Records.{Opening, WriterRecord, writer_record, HasActed}
 use Rattle.mc_shared.specs.Inside.Seats.{opening_of}
 use Rattle.mc_shared.specs.Views.{Note, writer_view, acts_of, tally_of, with_note, layout_state, with_bit, layout_of}
 use Rattle.mc_shared.specs.Steps.{SeatView, bit_of}
-use Rattle.mc_shared.specs.Inside.Steps.{WritesAt, IsOffBits, IsPlain}
+use Rattle.mc_shared.specs.Inside.Steps.{WritesAt, IsOffBits, IsPlain, AddsNote}
 use Rattle.mc_shared.specs.Inside.Seats.{MayMake}
 use Rattle.mc_shared.specs.TableRule.{word_after}
 use Rattle.mc_shared.specs.SeatFacts.{IsRun}
@@ -40,6 +40,9 @@ stored_bit (Mark i) x is = absurd is
 -- the act is noted with some note
 abbrev pub Noted : Act → SeatView → ℕ → SeatView → Type 0
 Noted a me x me' = (note : Note) × (me' ≡ (writer_view me.0.layout (acts_of me.0 ++ with_bit a (bit_of a x) ∷ []) (with_note (tally_of me.0) note), me.1))
+
+pub note_of : (a : Act) (me me' : SeatView) (x : ℕ) → Noted a me x me' → AddsNote me me'
+note_of a me me' x e = (e.0, ap (λ (m : SeatView). (tally_of m.0).notes) e.1)
 
 -- what a step of the writer leaves, whatever the tally is
 noted : (l : Layout) (me me' : SeatView) (a : Act) (x : ℕ) → Noted a me x me' → me' ≡ (writer_view me.0.layout (acts_of me.0 ++ with_bit a (bit_of a x) ∷ []) (tally_of me'.0), me.1)
@@ -70,7 +73,7 @@ version_is w s n x here is = is ∙ ap (λ (z : ℕ). slice_index w z) here
 version_at : (sh : Shape) (w : List ℕ) (s n x : ℕ) → n ≡ version_place s → x ≡ slice_index w n → ◌≡◌ {A = Option (ℕ × ℕ)} (Some (version_place s, version w s + 1)) (Some (n, x + 1))
 version_at sh w s n x here is = let e = version_is w s n x here is in λ i. Some (sym here i, sym e i + 1)
 
-module _ (t : TableId) (me : SeatView) (o : Opening) (w : WriterRecord) (place count at : ℕ) (v : writer_record (opening_of t me.0.layout) (acts_of me.0) ≡ w) (of : w.of ≡ o) (mine : IsWriter me place count at) where
+module _ (t : TableId) (me : SeatView) (o : Opening) (w : WriterRecord) (place count at : ℕ) (v : writer_record (opening_of t me.0.layout) (acts_of me.0) (tally_of me.0).notes ≡ w) (of : w.of ≡ o) (mine : IsWriter me place count at) where
   layout_is : me.0.layout ≡ o.layout
   layout_is = ap (λ (r : WriterRecord). r.of.layout) v ∙ ap (λ (p : Opening). p.layout) of
 
@@ -123,26 +126,37 @@ module _ (t : TableId) (me : SeatView) (o : Opening) (w : WriterRecord) (place c
   open_fits k d n x here is h = write_small o.layout (acts_of me.0) (Open k d) n (x + 1) (may_at (Open k d) h) (open_at k d n x here is)
 
   -- ---- after a step
+  -- what the caller sees of it
+  pub acted_in : (t' : TableId) (me' : SeatView) (w' : WriterRecord) (a : Act) (b : ℕ) → t' ≡ t → writer_record (opening_of t' me'.0.layout) (acts_of me'.0) (tally_of me'.0).notes ≡ w' → me' ≡ (writer_view o.layout (acts_of me.0 ++ with_bit a b ∷ []) (tally_of me'.0), []) → AddsNote me me' → HasActed w w' a b
+  acted_in t' me' w' a b same v' e note =
+      let layout : me'.0.layout ≡ me.0.layout = ap (λ (m : SeatView). m.0.layout) e ∙ sym layout_is in
+      record {
+        of = sym (ap (λ (r : WriterRecord). r.of) v') ∙ ((λ i. opening_of (same i) (layout i)) ∙ ap (λ (r : WriterRecord). r.of) v);
+        acts = sym (ap (λ (r : WriterRecord). r.acts) v') ∙ (ap (λ (m : SeatView). acts_of m.0) e ∙ ap (λ (r : WriterRecord). r.acts ++ with_bit a b ∷ []) v);
+        note = note.0;
+        notes = sym (ap (λ (r : WriterRecord). r.notes) v') ∙ (note.1 ∙ ap (λ (r : WriterRecord). r.notes ++ note.0 ∷ []) v);
+      }
+
   made_in : (me' : SeatView) (a : Act) (b : ℕ) → me' ≡ (writer_view o.layout (acts_of me.0 ++ with_bit a b ∷ []) (tally_of me'.0), []) → me' ≡ (writer_view me.0.layout (acts_of me.0 ++ with_bit a b ∷ []) (tally_of me'.0), [])
   made_in me' a b e = e ∙ (λ i. (writer_view (sym layout_is i) (acts_of me.0 ++ with_bit a b ∷ []) (tally_of me'.0), []))
 
-  pub after_plain : (me' : SeatView) (a : Act) (b : ℕ) → IsPlain a → IsAllowed o.layout.shape (layout_state o.layout w.acts) a → me' ≡ (writer_view o.layout (acts_of me.0 ++ with_bit a b ∷ []) (tally_of me'.0), []) → IsWriter me' place count at
-  after_plain me' a b is h e = plain_made me me' a b place count at mine is (may_in a h) (made_in me' a b e)
+  pub after_plain : (me' : SeatView) (a : Act) (b : ℕ) → IsPlain a → IsAllowed o.layout.shape (layout_state o.layout w.acts) a → me' ≡ (writer_view o.layout (acts_of me.0 ++ with_bit a b ∷ []) (tally_of me'.0), []) → AddsNote me me' → IsWriter me' place count at
+  after_plain me' a b is h e note = plain_made me me' a b place count at mine is (may_in a h) (made_in me' a b e) note
 
-  pub after_moment : (me' : SeatView) (b : ℕ) → IsAllowed o.layout.shape (layout_state o.layout w.acts) Moment → me' ≡ (writer_view o.layout (acts_of me.0 ++ with_bit Moment b ∷ []) (tally_of me'.0), []) → IsWriter me' place count (at + 1)
-  after_moment me' b h e = counted_made me me' b place count at mine (may_in Moment h) (made_in me' Moment b e)
+  pub after_moment : (me' : SeatView) (b : ℕ) → IsAllowed o.layout.shape (layout_state o.layout w.acts) Moment → me' ≡ (writer_view o.layout (acts_of me.0 ++ with_bit Moment b ∷ []) (tally_of me'.0), []) → AddsNote me me' → IsWriter me' place count (at + 1)
+  after_moment me' b h e note = counted_made me me' b place count at mine (may_in Moment h) (made_in me' Moment b e) note
 
-  pub after_close : (me' : SeatView) (b place' count' : ℕ) → IsAllowed o.layout.shape (layout_state o.layout w.acts) Close → me' ≡ (writer_view o.layout (acts_of me.0 ++ with_bit Close b ∷ []) (tally_of me'.0), []) → IsWriter me' place' count' at
-  after_close me' b place' count' h e = closed_made me me' b place count at place' count' mine (may_in Close h) (made_in me' Close b e)
+  pub after_close : (me' : SeatView) (b place' count' : ℕ) → IsAllowed o.layout.shape (layout_state o.layout w.acts) Close → me' ≡ (writer_view o.layout (acts_of me.0 ++ with_bit Close b ∷ []) (tally_of me'.0), []) → AddsNote me me' → IsWriter me' place' count' at
+  after_close me' b place' count' h e note = closed_made me me' b place count at place' count' mine (may_in Close h) (made_in me' Close b e) note
 
   pub after_open : (me' : SeatView) (k : ℕ) (d : Deed) (b n x : ℕ) → n ≡ version_place (stripe_of o.layout.shape k) → x ≡ word_after o.layout (acts_of me.0) n → IsAllowed o.layout.shape (layout_state o.layout w.acts) (Open k d) → HasVersionSteps o.layout.shape.limit (layout_state o.layout w.acts).version_steps (Open k d)
-      → me' ≡ (writer_view o.layout (acts_of me.0 ++ with_bit (Open k d) b ∷ []) (tally_of me'.0), []) → IsWriter me' n (x + 1) at
-  after_open me' k d b n x here is h has e =
+      → me' ≡ (writer_view o.layout (acts_of me.0 ++ with_bit (Open k d) b ∷ []) (tally_of me'.0), []) → AddsNote me me' → IsWriter me' n (x + 1) at
+  after_open me' k d b n x here is h has e note =
       let has' : HasVersionSteps me.0.layout.shape.limit (layout_state me.0.layout (acts_of me.0)).version_steps (Open k d) = subst (λ (y : Layout × List Made). HasVersionSteps y.0.shape.limit (layout_state y.0 y.1).version_steps (Open k d)) (λ i. (sym layout_is i, sym acts_is i)) has in
       let here' : n ≡ version_place (stripe_of me.0.layout.shape k) = subst (λ (l : Layout). n ≡ version_place (stripe_of l.shape k)) (sym layout_is) here in
       let is' : x ≡ word_after me.0.layout (acts_of me.0) n = subst (λ (l : Layout). x ≡ word_after l (acts_of me.0) n) (sym layout_is) is in
       let next : x + 1 ≡ version (layout_state me.0.layout (acts_of me.0)).words (stripe_of me.0.layout.shape k) + 1 = ap (λ y. y + 1) (version_is (layout_state me.0.layout (acts_of me.0)).words _ n x here' is') in
-      opened_made me me' k d b place count at n (x + 1) mine (may_in (Open k d) h) has' here' next (made_in me' (Open k d) b e)
+      opened_made me me' k d b place count at n (x + 1) mine (may_in (Open k d) h) has' here' next (made_in me' (Open k d) b e) note
 
 -- what an allowed act names is of the table, for a caller that knows the number of words of a value
 pub named_in : (V : ℕ) (sh : Shape) (o : Opening) (w : WriterRecord) (a : Act) → o.layout ≡ layout_of V sh → w.of ≡ o → IsRun w.of.layout w.acts → IsAllowed o.layout.shape (state_of V o.layout.shape w.acts) a → NamesIn V sh a

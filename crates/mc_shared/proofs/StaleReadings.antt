@@ -26,7 +26,8 @@ use Rattle.mc_shared.proofs.WrittenPlaces.{act_names_in}
 use Rattle.mc_shared.proofs.RecencySteps.{spared_past, touch_bits}
 use Rattle.mc_shared.proofs.EachStep.{makes}
 use Rattle.mc_shared.proofs.ExactMarks.{Stands, new_words, new_table, stands_new}
-use Rattle.mc_shared.proofs.ExactReadings.{IsLoad, no_stale_reading}
+use Rattle.mc_shared.proofs.ExactReadings.{no_stale_reading}
+use Rattle.mc_shared.specs.ExactFronts.{IsReading}
 
 -- a table with no slots has none after any step
 no_slots : (a : Act (Unit {0})) → Valid [] [] a → (homes_after [] [] a ≡ []) × (carried_after [] a ≡ [])
@@ -82,7 +83,7 @@ module _ (l : Layout) (shape : IsShape l.shape) where
       )
 
   -- a reading of any place at the old front, with whatever word: also with the right word of that front
-  pub stale_reading_refused : (a : Access) (n : ℕ) (f : ℕ → ℕ) (told : ℕ → SeatView → Type 0) → IsLoad a → n < word_count l.width l.shape
+  pub stale_reading_refused : (a : Access) (n : ℕ) (f : ℕ → ℕ) (told : ℕ → SeatView → Type 0) → IsReading a → n < word_count l.width l.shape
       → ((found : ℕ) (me : SeatView) → told found me → (x : ℕ) × (me.0 ≡ reader_view l 0 [] ([] ++ reading a x [] ∷ [])))
       → Allows (Ruled l) 0 1 (reader_view l 0 [] [], []) n f told → ⊥
   stale_reading_refused a n f told load low is allows =
@@ -93,6 +94,6 @@ module _ (l : Layout) (shape : IsShape l.shape) where
   abbrev pub KeepsWord : Access → Step (Unit {0}) → SeatView → ℕ → SeatView → Type 0
   KeepsWord a st me found me' = me' ≡ (reader_view me.0.layout (number_of me.0) (front_of me.0) (done_of me.0 ++ reading a (word_after me.0.layout (front_of me.0) st.word) (front_of me.0) ∷ []), me.1)
 
-  pub kept_word_refused : (a : Access) (n : ℕ) (f : ℕ → ℕ) → IsLoad a → n < word_count l.width l.shape → Allows (Ruled l) 0 1 (reader_view l 0 [] [], []) n f (KeepsWord a (step 0 n 0 0 none) (reader_view l 0 [] [], [])) → ⊥
+  pub kept_word_refused : (a : Access) (n : ℕ) (f : ℕ → ℕ) → IsReading a → n < word_count l.width l.shape → Allows (Ruled l) 0 1 (reader_view l 0 [] [], []) n f (KeepsWord a (step 0 n 0 0 none) (reader_view l 0 [] [], [])) → ⊥
   kept_word_refused a n f load low allows =
       stale_reading_refused a n f (KeepsWord a (step 0 n 0 0 none) (reader_view l 0 [] [], [])) load low (λ found me t. (word_after l [] n, ap (λ (x : SeatView). x.0) t)) allows

@@ -20,6 +20,11 @@ abbrev pub made_by : ℕ → ℕ → List Note → ℕ
 made_by a n [] = 0
 made_by a n (t ∷ ts) = (1 - (steps_by a t - n)) + made_by a n ts
 
+-- the access is no mark
+abbrev pub IsReading : Access → Type 0
+IsReading (Mark i) = ⊥
+IsReading _ = Unit {0}
+
 -- a reading stands at the front of all acts that were made by then; a mark, which reads nothing, at one of them
 abbrev pub StandsAt : Access → ℕ → ℕ → Type 0
 StandsAt (Mark i) front made = front ≤ made
@@ -35,10 +40,8 @@ pub record IsExact (a : ℕ) (notes : List Note) (done : List Reading) : Type 0 
   pub rise : StepsRise a 0 notes (length done)
   pub fronts : StandAt a notes 0 done
 
--- there is one order of these acts and these entries of a reader, in which each reading comes behind just the acts of its front:
--- beside each act stands how many entries the record had when it was made
-pub record InOneOrder (acts : List Made) (done : List Reading) : Type 0 where
-  pub number : ℕ
-  pub notes : List Note
+-- the notes are those of these acts, and the entries of the reader with this number stand in the order that they tell: each reading
+-- comes behind just the acts of its front
+pub record InOneOrder (acts : List Made) (notes : List Note) (number : ℕ) (done : List Reading) : Type 0 where
   pub paired : length notes ≡ length acts
   pub exact : IsExact number notes done

@@ -1,5 +1,5 @@
 -- What the rule says of each reading, that it is of the newest words, and what follows for a lookup.
-use Rattle.std.specs.Prelude.{◌≡◌, ◌≢◌, ℕ, ◌+◌, ◌-◌, ◌^◌, ◌<◌, List, [], ◌∷◌, ◌++◌, length, slice_index, slice_set, Some}
+use Rattle.std.specs.Prelude.{◌≡◌, ℕ, ◌+◌, ◌-◌, ◌^◌, ◌<◌, ◌≤◌, List, [], ◌∷◌, ◌++◌, length, slice_index, slice_set, Some}
 use mathlib.Core.Option.{some}
 use lib.ListN.{get_elem?}
 use Rattle.atomic_table.specs.Table as table
@@ -13,30 +13,20 @@ use Rattle.mc_theory.specs.Lookups.{IsLookup}
 use Rattle.mc_theory.specs.Plain.{IsBetween}
 use Rattle.mc_theory.specs.Readings.{Reading, IsWordOf}
 use Rattle.mc_theory.specs.Writes.{place_read}
-use Rattle.mc_shared.specs.ExactFronts.{made_by, StandsAt, IsExact}
+use Rattle.mc_theory.specs.declared.access.Access.{Access}
+use Rattle.mc_shared.specs.ExactFronts.{steps_by, made_by, IsReading, StandsAt, IsExact, InOneOrder}
 use Rattle.mc_shared.specs.TableRule.{IsRecord, Ruled}
-use Rattle.mc_shared.specs.Views.{Note, Role, Spent, Writes, Reads, Both, View, reader_view, acts_of, layout_of, layout_state, IsFrontOf}
+use Rattle.mc_shared.specs.Views.{Note, View, reader_view, front_of, layout_of, layout_state, IsFrontOf}
+use Rattle.mc_shared.specs.Steps.{reading, ReadsWord}
 use Rattle.mc_shared.specs.declared.layout.Layout.{Layout}
 
--- it is the writer's seat, alone or with a reader's joined to it
-abbrev pub IsWriters : Role → Type 0
-IsWriters Spent = ⊥
-IsWriters (Writes acts tally) = Unit {0}
-IsWriters (Reads number front done) = ⊥
-IsWriters (Both acts tally number front done) = Unit {0}
-
 -- two states of a table under its rule, one step of a reader apart: of the views only this reader's has changed, and its record
--- has this entry more. The writer's seat is another one, and has made these acts
+-- has this entry more. These are all acts that the writer has made
 pub record AddsEntry (l : Layout) (s t : table.State (Unit {0}) View) (acts : List Made) (e : Reading) : Type 0 where
   pub before : Ruled l s
   pub after : Ruled l t
-  pub writer : ℕ
-  pub view : View
-  pub there : get_elem? s.views writer ≡ some view
-  pub writes : IsWriters view.role
-  pub made : acts_of view ≡ acts
+  pub made : before.log ≡ acts
   pub seat : ℕ
-  pub apart : writer ≢ seat
   pub number : ℕ
   pub number' : ℕ
   pub old : List Made
@@ -51,6 +41,17 @@ ReadingsAreNewest =
     (l : Layout) (s t : table.State (Unit {0}) View) (acts : List Made) (e : Reading) → AddsEntry l s t acts e →
     StandsAt e.access e.front (length acts) × IsWordOf l.width l.shape (layout_state l acts).words e.access e.word ×
     ((n : ℕ) → place_read l.width l.shape e.access ≡ Some n → n < word_count l.width l.shape → e.word ≡ slice_index s.words n)
+
+-- a running read is such a step: whatever proof its caller has that the rule allows a load that tells a reading, from each state that
+-- it meets the load leads to one with that reading more, of the word that it found
+abbrev pub ReadsAreEntries : Type 0
+ReadsAreEntries =
+    (l : Layout) (s : table.State (Unit {0}) View) (seat slots place number : ℕ) (old : List Made) (done : List Reading) (held : List (ℕ × Unit {0})) (a : Access) (st : table.Step (Unit {0})) →
+    (allows : table.Allows (Ruled l) slots seat (reader_view l number old done, held) place (λ found. found) (ReadsWord a st (reader_view l number old done, held))) →
+    (rule : Ruled l s) (fits : length s.homes ≡ slots) (mine : get_elem? s.views seat ≡ some (reader_view l number old done)) (small : slice_index s.words place < 18446744073709551616) →
+    let found = slice_index s.words place in
+    let next = allows s rule fits mine small in
+    AddsEntry l s (table.stepped s place found seat held next.0 next.1) rule.log (reading a found (front_of next.0))
 
 -- a lookup that a reader made, among all acts and its whole record: its reply is true, at a number of changes that is no lower than
 -- that of the changes made before the lookup's first step, and no higher than that of those made before its last
@@ -78,6 +79,14 @@ pub record IsLookedUp (V : ℕ) (sh : Shape) (k tries : ℕ) (acts acts' : List 
   pub ends : AddsEntry (layout_of V sh) s' t' acts' last
   pub whole : ends.done ++ last ∷ [] ≡ begins.done ++ rs
   pub later : IsFrontOf acts acts'
+
+-- an act that was made between two meetings of a reader with the writer, between which the reader made no step, has in its note the
+-- number of entries of that reader, up to marks that it made after its last reading
+abbrev pub IdleActsAreNoted : Type 0
+IdleActsAreNoted =
+    (acts later : List Made) (notes more : List Note) (number : ℕ) (done marks : List Reading) (last : Reading) (k : ℕ) (note : Note) →
+    InOneOrder acts notes number (done ++ last ∷ marks) → InOneOrder later (notes ++ more) number (done ++ last ∷ marks) → IsReading last.access → get_elem? more k ≡ some note →
+    (length (done ++ last ∷ []) ≤ steps_by number note) × (steps_by number note ≤ length (done ++ last ∷ marks))
 
 -- whatever threads do meanwhile, its reply is what the map held after some number of changes, no fewer than had been made at the
 -- instant of its first step, and no more than had been made at that of its last

@@ -1,8 +1,10 @@
 -- What a clause sees of a table and of its seats.
-use Rattle.std.specs.Prelude.{List}
+use Rattle.std.specs.Prelude.{ℕ, zero, suc, ◌≡◌, List, [], ◌∷◌, ◌++◌}
 use Rattle.atomic_table.specs.Seated.{TableId}
 use Rattle.mc_theory.specs.Lists.{Made}
 use Rattle.mc_theory.specs.Readings.{Reading}
+use Rattle.mc_theory.specs.declared.act.Act.{Act}
+use Rattle.mc_shared.specs.Views.{Note, with_bit}
 use Rattle.mc_shared.specs.declared.layout.Layout.{Layout}
 
 -- which table it is
@@ -10,19 +12,38 @@ pub record Opening : Type 0 where
   pub table : TableId
   pub layout : Layout
 
--- the acts that the writer of a table made
+-- the acts that the writer of a table made, and beside each what had been done when it was made
 pub record WriterRecord : Type 0 where
   pub of : Opening
   pub acts : List Made
+  pub notes : List Note
 
--- the last front that a reader of a table saw, and what it read and marked
+-- a reader's number, by which notes count its entries, the last front that it saw, and what it read and marked
 pub record ReaderRecord : Type 0 where
   pub of : Opening
+  pub number : ℕ
   pub front : List Made
   pub done : List Reading
 
-abbrev pub writer_record : Opening → List Made → WriterRecord
-writer_record o acts = record { of = o; acts = acts }
+abbrev pub writer_record : Opening → List Made → List Note → WriterRecord
+writer_record o acts notes = record { of = o; acts = acts; notes = notes }
 
-abbrev pub reader_record : Opening → List Made → List Reading → ReaderRecord
-reader_record o front done = record { of = o; front = front; done = done }
+abbrev pub reader_record : Opening → ℕ → List Made → List Reading → ReaderRecord
+reader_record o number front done = record { of = o; number = number; front = front; done = done }
+
+-- the readers of a new table: each has another number, and none has done anything
+abbrev pub new_readers : Opening → ℕ → List ReaderRecord
+new_readers o zero = []
+new_readers o (suc n) = new_readers o n ++ reader_record o n [] [] ∷ []
+
+-- notes are added at the end alone: none is ever changed
+pub record NotesGrow (old new : List Note) : Type 0 where
+  pub more : List Note
+  pub is : new ≡ old ++ more
+
+-- one act was made, with the bit that it read, and one note beside it
+pub record HasActed (before after : WriterRecord) (act : Act) (bit : ℕ) : Type 0 where
+  pub of : after.of ≡ before.of
+  pub acts : after.acts ≡ before.acts ++ with_bit act bit ∷ []
+  pub note : Note
+  pub notes : after.notes ≡ before.notes ++ note ∷ []

@@ -11,7 +11,7 @@ use Rattle.mc_theory.specs.declared.access.Access.TheVariants as access
 use Rattle.mc_theory.specs.declared.act.Act.{Act}
 use Rattle.mc_theory.specs.declared.act.Act.TheVariants.{Hand, Mark}
 use Rattle.mc_shared.specs.TableRule.{word_after, IsRecord}
-use Rattle.mc_shared.specs.ExactFronts.{IsExact}
+use Rattle.mc_shared.specs.ExactFronts.{InOneOrder}
 use Rattle.mc_shared.specs.Views.{Note, Both, View, view_as, writer_view, reader_view, acts_of, tally_of, number_of, front_of, done_of, with_note, with_reader, AreLawful, with_bit, IsFrontOf}
 use Rattle.mc_shared.specs.declared.layout.Layout.{Layout}
 
@@ -85,7 +85,7 @@ AddsMarkIfSet i st me found me' = (bit_at found (recency_bit i) ≡ 1 → me' �
 abbrev pub ComparesMoment : Step (Unit {0}) → SeatView → ℕ → SeatView → Type 0
 ComparesMoment st me found me' =
     (me' ≡ me) × IsFrontOf (front_of me.0) (acts_of me.0) × IsRecord me.0.layout (acts_of me.0) (done_of me.0)
-    × (length (tally_of me.0).notes ≡ length (acts_of me.0)) × IsExact (number_of me.0) (tally_of me.0).notes (done_of me.0)
+    × InOneOrder (acts_of me.0) (tally_of me.0).notes (number_of me.0) (done_of me.0)
     × (found ≡ word_after me.0.layout (acts_of me.0) st.word)
 
 -- a new reader has the next number

@@ -10,7 +10,7 @@ use Rattle.mc_theory.specs.Lists.{Made}
 use Rattle.mc_theory.specs.Readings.{Reading, AreRead, RiseTo}
 use Rattle.mc_shared.specs.RecencyTrace.{trace_of, marks_in, total, Coherent}
 use Rattle.mc_shared.specs.ExactFronts.{IsExact}
-use Rattle.mc_shared.specs.Views.{Tally, Role, Spent, Writes, Reads, Both, View, seated_in, done_of, AreLawful, layout_state, IsFrontOf}
+use Rattle.mc_shared.specs.Views.{Tally, Role, Spent, Writes, Reads, Both, View, IsWriters, seated_in, done_of, AreLawful, layout_state, IsFrontOf}
 use Rattle.mc_shared.specs.declared.layout.Layout.{Layout}
 
 -- the word at a place after these acts
@@ -35,6 +35,10 @@ Fits l log all at seat v = FitsRole l v.layout log all at seat v.role
 abbrev pub AllFit : Layout → List Made → Tally → ℕ → List View → Type 0
 AllFit l log all at views = (seat : ℕ) (v : View) → get_elem? views seat ≡ some v → Fits l log all at seat v
 
+-- the writer's seat is the one at `at`
+abbrev pub HasWriter : ℕ → List View → Type 0
+HasWriter at views = (v : View) × (get_elem? views at ≡ some v) × IsWriters v.role
+
 -- on how many seats this reader is: on none, or on one
 abbrev pub seats_of : ℕ → List View → ℕ
 seats_of a views = total (λ (v : View). seated_in a v.role) views
@@ -53,8 +57,9 @@ pub record Ruled (l : Layout) (s : table.State (Unit {0}) View) : Type 0 where
   pub log : List Made
   pub tally : Tally
   pub paired : length tally.notes ≡ length log
-  -- the number of the writer's seat
+  -- the number of the writer's seat, which no step takes away
   pub at : ℕ
+  pub writer : HasWriter at s.views
   pub lawful : AreLawful l log
   pub wide : length s.words ≡ all_words l.width l.shape
   -- the words before the recency words are those after all acts

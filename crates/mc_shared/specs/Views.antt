@@ -100,6 +100,13 @@ seated_in a (Writes acts tally) = 0
 seated_in a (Reads number front done) = if number == a then 1 else 0
 seated_in a (Both acts tally number front done) = if number == a then 1 else 0
 
+-- it is the role of the writer's seat, alone or with a reader's joined to it
+abbrev pub IsWriters : Role → Type 0
+IsWriters Spent = ⊥
+IsWriters (Writes acts tally) = Unit {0}
+IsWriters (Reads number front done) = ⊥
+IsWriters (Both acts tally number front done) = Unit {0}
+
 abbrev pub acts_of : View → List Made
 acts_of v = acts_in v.role
 

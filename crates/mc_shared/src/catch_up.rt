@@ -1,9 +1,9 @@
 //! A reader and the writer in one thread.
-ghost use Rattle.std.specs.Prelude.{◌≡◌, [], length};
+ghost use Rattle.std.specs.Prelude.{◌≡◌, []};
 ghost use Rattle.mc_words.specs.Places.{moment};
 ghost use Rattle.mc_shared.specs.Views.{view_as, writer_view, reader_view, acts_of, tally_of, number_of, front_of, done_of, layout_state, IsFrontOf};
 ghost use Rattle.mc_shared.specs.TableRule.{word_after, IsRecord};
-ghost use Rattle.mc_shared.specs.ExactFronts.{IsExact, InOneOrder};
+ghost use Rattle.mc_shared.specs.ExactFronts.{InOneOrder};
 ghost use Rattle.mc_shared.specs.Records.{reader_record};
 ghost use Rattle.mc_shared.specs.Inside.Seats.{opening_of};
 
@@ -26,7 +26,7 @@ fn catch_on_seats(
     ensures reads { (result.1.table_id ≡ other.table_id) × (result.1.me ≡ (reader_view ruled.now.layout (number_of other.me.0) (acts_of seat.old.me.0) (done_of other.me.0), [])) }
     ensures begins { IsFrontOf (front_of other.me.0) (acts_of seat.old.me.0) }
     ensures recorded { IsRecord ruled.now.layout (acts_of seat.old.me.0) (done_of other.me.0) }
-    ensures exact { (length (tally_of seat.old.me.0).notes ≡ length (acts_of seat.old.me.0)) × IsExact (number_of other.me.0) (tally_of seat.old.me.0).notes (done_of other.me.0) }
+    ensures order { InOneOrder (acts_of seat.old.me.0) (tally_of seat.old.me.0).notes (number_of other.me.0) (done_of other.me.0) }
     ensures word { result.0 ≡ word_after ruled.now.layout (acts_of seat.old.me.0) 0 }
 {
     ruled.table.shared.join_seat::<Meeting>(seat, other);
@@ -40,9 +40,9 @@ fn catch_on_seats(
 pub(crate) fn catch_up(ruled: &RuledWords, reader: &mut ReaderSeat, writer: &mut WriterSeat) -> u64
     requires of { (reader.old.of ≡ ruled.now) × (writer.old.of ≡ ruled.now) }
     ensures writer { writer.new ≡ writer.old }
-    ensures reader { reader.new ≡ reader_record reader.old.of writer.old.acts reader.old.done }
+    ensures reader { reader.new ≡ reader_record reader.old.of reader.old.number writer.old.acts reader.old.done }
     ensures begins { IsFrontOf reader.old.front writer.old.acts }
-    ensures order { InOneOrder writer.old.acts reader.old.done }
+    ensures order { InOneOrder writer.old.acts writer.old.notes reader.old.number reader.old.done }
     ensures moment { result ≡ moment (layout_state ruled.now.layout writer.old.acts).words }
 {
     let other = mem::replace(&mut reader.badge, Badge::blank()).into_seat::<()>();

@@ -1,9 +1,14 @@
 //! The laws of the rule and of exact records, one function each. A body does nothing: what it ensures is the law.
-ghost use Rattle.mc_shared.specs.ExactLaws.{ReadingsAreNewest, LookupsAreInTime, LookupsStandInOrder};
+ghost use Rattle.mc_shared.specs.ExactLaws.{ReadingsAreNewest, ReadsAreEntries, LookupsAreInTime, LookupsStandInOrder, IdleActsAreNoted};
 
 /// Whatever step enters a reading in a reader's record, it is of the newest words: a reader that does not look breaks the rule.
 pub fn readings_are_newest()
     ensures { ReadingsAreNewest }
+{}
+
+/// A running read is a step that enters a reading, of the word that its load found.
+pub fn reads_are_entries()
+    ensures { ReadsAreEntries }
 {}
 
 /// A lookup among threads has a true reply, at a moment between the instant of its first step and that of its last.
@@ -11,7 +16,12 @@ pub fn lookups_are_in_time<const V: usize>()
     ensures { LookupsAreInTime V }
 {}
 
-/// A lookup's reply is true at a moment between its first step and its last, in an order of all acts and of the reader's steps.
+/// A lookup's reply is true at a moment between its first step and its last, in the order of all acts and of the reader's steps.
 pub fn lookups_stand_in_order<const V: usize>()
     ensures { LookupsStandInOrder V }
+{}
+
+/// An act that is made while a reader makes no step has the number of that reader's entries in its note.
+pub fn idle_acts_are_noted()
+    ensures { IdleActsAreNoted }
 {}

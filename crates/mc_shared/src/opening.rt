@@ -1,10 +1,10 @@
 //! A table is opened and closed.
-ghost use Rattle.std.specs.Prelude.{◌≡◌, ℕ, ◌+◌, ◌<◌, [], ◌∷◌, length, slice_index, replicate, IfOk};
+ghost use Rattle.std.specs.Prelude.{◌≡◌, ℕ, ◌+◌, ◌<◌, [], ◌∷◌, length, slice_index, IfOk};
 ghost use Rattle.mc_words.specs.Places.{all_words, word_count, IsWidth};
 ghost use Rattle.mc_words.specs.Shapes.{IsShape};
 ghost use Rattle.mc_shared.specs.Views.{writer_view, tally_of, tally_for, new_tally};
 ghost use Rattle.mc_shared.specs.TableRule.{word_after};
-ghost use Rattle.mc_shared.specs.Records.{writer_record, reader_record};
+ghost use Rattle.mc_shared.specs.Records.{writer_record, reader_record, new_readers};
 ghost use Rattle.mc_shared.specs.Inside.Seats.{opening_of};
 
 use crate::layout::Layout;
@@ -20,7 +20,7 @@ fn seat_reader(ruled: &RuledWords, seat: &mut Seat<(), Known>) -> ReaderSeat
     requires of { opening_of seat.old.table_id seat.old.me.0.layout ≡ ruled.now }
     requires seat { seat.old.me ≡ (writer_view ruled.now.layout [] (tally_for (tally_of seat.old.me.0).readers), []) }
     ensures seat { (seat.new.table_id ≡ seat.old.table_id) × (seat.new.id ≡ seat.old.id) × (seat.new.me ≡ (writer_view ruled.now.layout [] (tally_for ((tally_of seat.old.me.0).readers + 1)), [])) }
-    ensures reader { result ≡ reader_record ruled.now [] [] }
+    ensures reader { result ≡ reader_record ruled.now (tally_of seat.old.me.0).readers [] [] }
 {
     let other = ruled.table.shared.split_seat::<NewReader>(seat);
     ReaderSeat {
@@ -38,7 +38,7 @@ fn seat_readers(
     requires seat { seat.old.me ≡ (writer_view ruled.now.layout [] new_tally, []) }
     ensures seat { (seat.new.table_id ≡ seat.old.table_id) × (seat.new.id ≡ seat.old.id) }
     ensures me { IfOk result (λ r. seat.new.me ≡ (writer_view ruled.now.layout [] (tally_for readers), [])) }
-    ensures readers { IfOk result (λ r. r.items ≡ replicate readers (reader_record ruled.now [] [])) }
+    ensures readers { IfOk result (λ r. r.items ≡ new_readers ruled.now readers) }
 {
     let mut seats = Vec::new(alloc);
     for _i in 0..readers {
@@ -77,8 +77,8 @@ pub(crate) fn open_words(
     requires shape { IsShape layout.shape × IsWidth layout.width }
     requires words { words ≡ all_words layout.width layout.shape }
     ensures ruled { IfOk result (λ r. r.0.layout ≡ layout) }
-    ensures writer { IfOk result (λ r. r.1 ≡ writer_record r.0 []) }
-    ensures readers { IfOk result (λ r. r.2.items ≡ replicate readers (reader_record r.0 [] [])) }
+    ensures writer { IfOk result (λ r. r.1 ≡ writer_record r.0 [] []) }
+    ensures readers { IfOk result (λ r. r.2.items ≡ new_readers r.0 readers) }
 {
     let (ruled, mut seat) = lay(alloc, layout, words)?;
     let seats = seat_readers(alloc, &ruled, &mut seat, readers)?;

@@ -21,6 +21,7 @@ pub fn read<const V: usize>(cells: &Cells<V>, reader: &mut ReaderSeat, access: A
     requires access { IsAccess V cells.now.layout.shape access }
     requires load { IsSome (place_read V cells.now.layout.shape access) }
     ensures of { reader.new.of ≡ reader.old.of }
+    ensures number { reader.new.number ≡ reader.old.number }
     ensures one { ReadsOne (layout_of V cells.now.layout.shape) reader.old.front reader.old.done access result reader.new.front reader.new.done }
 {
     let checked = &cells.checked;
@@ -46,6 +47,7 @@ pub fn read_at<const V: usize>(
     requires place { place_read V cells.now.layout.shape access ≡ Some place }
     requires range { place < word_count V cells.now.layout.shape }
     ensures of { reader.new.of ≡ reader.old.of }
+    ensures number { reader.new.number ≡ reader.old.number }
     ensures one { ReadsOne (layout_of V cells.now.layout.shape) reader.old.front reader.old.done access result reader.new.front reader.new.done }
 {
     read_word(&cells.ruled, reader, access, place)
@@ -56,7 +58,7 @@ pub fn read_at<const V: usize>(
 pub fn mark<const V: usize>(cells: &Cells<V>, reader: &mut ReaderSeat, i: u32)
     requires of { reader.old.of ≡ cells.now }
     requires item { i < cells.now.layout.shape.items }
-    ensures { reader.new ≡ reader_record reader.old.of reader.old.front (reader.old.done ++ mark_at i reader.old.front ∷ []) }
+    ensures { reader.new ≡ reader_record reader.old.of reader.old.number reader.old.front (reader.old.done ++ mark_at i reader.old.front ∷ []) }
 {
     let place = cells.checked.recency_place::<V>(i);
     mark_item(&cells.ruled, reader, i, place, cells.checked.recency_bit(i));
@@ -66,7 +68,7 @@ pub fn mark<const V: usize>(cells: &Cells<V>, reader: &mut ReaderSeat, i: u32)
 pub fn mark_unless_set<const V: usize>(cells: &Cells<V>, reader: &mut ReaderSeat, i: u32)
     requires of { reader.old.of ≡ cells.now }
     requires item { i < cells.now.layout.shape.items }
-    ensures { reader.new ≡ reader_record reader.old.of reader.old.front (reader.old.done ++ mark_at i reader.old.front ∷ []) }
+    ensures { reader.new ≡ reader_record reader.old.of reader.old.number reader.old.front (reader.old.done ++ mark_at i reader.old.front ∷ []) }
 {
     let place = cells.checked.recency_place::<V>(i);
     mark_item_unless_set(&cells.ruled, reader, i, place, cells.checked.recency_bit(i));
@@ -80,9 +82,9 @@ pub fn catch<const V: usize>(
 ) -> u64
     requires of { (reader.old.of ≡ cells.now) × (writer.old.of ≡ cells.now) }
     ensures writer { writer.new ≡ writer.old }
-    ensures reader { reader.new ≡ reader_record reader.old.of writer.old.acts reader.old.done }
+    ensures reader { reader.new ≡ reader_record reader.old.of reader.old.number writer.old.acts reader.old.done }
     ensures begins { IsFrontOf reader.old.front writer.old.acts }
-    ensures order { InOneOrder writer.old.acts reader.old.done }
+    ensures order { InOneOrder writer.old.acts writer.old.notes reader.old.number reader.old.done }
     ensures moment { result ≡ moment (state_of V cells.now.layout.shape writer.old.acts).words }
 {
     catch_up(&cells.ruled, reader, writer)

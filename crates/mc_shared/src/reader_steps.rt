@@ -47,6 +47,7 @@ pub(crate) fn read_word(
     requires place { place_read ruled.now.layout.width ruled.now.layout.shape access ≡ Some place }
     requires range { place < word_count ruled.now.layout.width ruled.now.layout.shape }
     ensures of { reader.new.of ≡ reader.old.of }
+    ensures number { reader.new.number ≡ reader.old.number }
     ensures one { ReadsOne ruled.now.layout reader.old.front reader.old.done access result reader.new.front reader.new.done }
 {
     let mut seat = mem::replace(&mut reader.badge, Badge::blank()).into_seat::<()>();
@@ -113,7 +114,7 @@ pub(crate) fn mark_item(
     requires item { item < ruled.now.layout.shape.items }
     requires place { place ≡ recency_place ruled.now.layout.width ruled.now.layout.shape item }
     requires bit { (bit ≡ recency_bit item) × (bit < 64) }
-    ensures { reader.new ≡ reader_record reader.old.of reader.old.front (reader.old.done ++ mark_at item reader.old.front ∷ []) }
+    ensures { reader.new ≡ reader_record reader.old.of reader.old.number reader.old.front (reader.old.done ++ mark_at item reader.old.front ∷ []) }
 {
     let mut seat = mem::replace(&mut reader.badge, Badge::blank()).into_seat::<()>();
     set_bit_as_reader::<Brand>(ruled, &mut seat, item, place, bit);
@@ -132,7 +133,7 @@ pub(crate) fn mark_item_unless_set(
     requires item { item < ruled.now.layout.shape.items }
     requires place { place ≡ recency_place ruled.now.layout.width ruled.now.layout.shape item }
     requires bit { (bit ≡ recency_bit item) × (bit < 64) }
-    ensures { reader.new ≡ reader_record reader.old.of reader.old.front (reader.old.done ++ mark_at item reader.old.front ∷ []) }
+    ensures { reader.new ≡ reader_record reader.old.of reader.old.number reader.old.front (reader.old.done ++ mark_at item reader.old.front ∷ []) }
 {
     let mut seat = mem::replace(&mut reader.badge, Badge::blank()).into_seat::<()>();
     notice_as_reader::<Brand>(ruled, &mut seat, item, place, bit);

@@ -3,7 +3,7 @@ use crate::plays::Known;
 use atomic_table::{Badge, Seat};
 use std::marker::Model;
 
-/// The writer's seat. Contracts see it as the acts that were made on it.
+/// The writer's seat. Contracts see it as the acts that were made on it, each with its note.
 #[derive(Drop)]
 pub struct WriterSeat {
     pub(crate) seat: Seat<(), Known>,
@@ -16,21 +16,21 @@ pub struct WriterSeat {
 }
 
 impl Model for WriterSeat {
-    ghost use Rattle.mc_shared.specs.Views.{acts_of};
+    ghost use Rattle.mc_shared.specs.Views.{acts_of, tally_of};
     ghost use Rattle.mc_shared.specs.Inside.Seats.{IsWriter};
     ghost use Rattle.mc_shared.specs.Records.{WriterRecord, writer_record};
     ghost use Rattle.mc_shared.specs.Inside.Seats.{opening_of};
 
     ghost Value = { WriterRecord };
 
-    ghost view = { λ w. writer_record (opening_of w.seat.table_id w.seat.me.0.layout) (acts_of w.seat.me.0) };
+    ghost view = { λ w. writer_record (opening_of w.seat.table_id w.seat.me.0.layout) (acts_of w.seat.me.0) (tally_of w.seat.me.0).notes };
 
     ghost invariant = { λ w. IsWriter w.seat.me w.place w.count w.at };
 }
 
 impl WriterSeat {
     ghost use Rattle.mc_shared.specs.SeatFacts.{IsRun};
-    ghost use Rattle.std.specs.Prelude.{◌≡◌};
+    ghost use Rattle.std.specs.Prelude.{◌≡◌, length};
     ghost use Rattle.mc_words.specs.Places.{moment};
     ghost use Rattle.mc_shared.specs.Views.{layout_state};
 
@@ -41,29 +41,30 @@ impl WriterSeat {
         self.at
     }
 
-    /// What is always known of the acts.
+    /// What is always known of the acts: there is a note beside each.
     pub fn known(&self)
-        ensures { IsRun self.now.of.layout self.now.acts }
+        ensures run { IsRun self.now.of.layout self.now.acts }
+        ensures paired { length self.now.notes ≡ length self.now.acts }
     {
         let _at = self.at;
     }
 }
 
-/// A reader's seat. Contracts see it as the last front that was seen on it, and what was read and marked.
+/// A reader's seat. Contracts see it as its number, the last front that was seen on it, and what was read and marked.
 #[derive(Drop)]
 pub struct ReaderSeat {
     pub(crate) badge: Badge<Known>,
 }
 
 impl Model for ReaderSeat {
-    ghost use Rattle.mc_shared.specs.Views.{front_of, done_of};
+    ghost use Rattle.mc_shared.specs.Views.{number_of, front_of, done_of};
     ghost use Rattle.mc_shared.specs.Inside.Seats.{view_of, IsReader};
     ghost use Rattle.mc_shared.specs.Records.{ReaderRecord, reader_record};
     ghost use Rattle.mc_shared.specs.Inside.Seats.{opening_of};
 
     ghost Value = { ReaderRecord };
 
-    ghost view = { λ r. reader_record (opening_of r.badge.table_id (view_of r.badge.views).layout) (front_of (view_of r.badge.views)) (done_of (view_of r.badge.views)) };
+    ghost view = { λ r. reader_record (opening_of r.badge.table_id (view_of r.badge.views).layout) (number_of (view_of r.badge.views)) (front_of (view_of r.badge.views)) (done_of (view_of r.badge.views)) };
 
     ghost invariant = { λ r. IsReader r.badge.views };
 }

@@ -1,13 +1,12 @@
 //! The writer's steps on shared words: one call an act, and a load that changes no record.
-ghost use Rattle.std.specs.Prelude.{◌≡◌, ◌^◌, ◌<◌, [], ◌∷◌, ◌++◌, slice_index};
+ghost use Rattle.std.specs.Prelude.{◌≡◌, ◌^◌, ◌<◌, slice_index};
 ghost use Rattle.mc_words.specs.Places.{IsWidth, item_place, word_count};
 ghost use Rattle.mc_theory.specs.Acts.{IsAllowed};
 ghost use Rattle.mc_theory.specs.Lists.{state_of};
 ghost use Rattle.mc_theory.specs.Traces.{HasVersionSteps};
 ghost use Rattle.mc_theory.specs.declared.act.Act.TheVariants.{Open, Slot, Item, Moment, Close, Hand, Mark};
-ghost use Rattle.mc_shared.specs.Views.{with_bit};
 ghost use Rattle.mc_shared.specs.Steps.{IsStored};
-ghost use Rattle.mc_shared.specs.Records.{writer_record};
+ghost use Rattle.mc_shared.specs.Records.{HasActed};
 
 use crate::cells::Cells;
 use crate::seats::WriterSeat;
@@ -24,7 +23,7 @@ pub fn begin_deed<const V: usize>(cells: &Cells<V>, writer: &mut WriterSeat, key
     requires of { writer.old.of ≡ cells.now }
     requires allowed { IsAllowed cells.now.layout.shape (state_of V cells.now.layout.shape writer.old.acts) (Open key deed) }
     requires limit { HasVersionSteps cells.now.layout.shape.limit (state_of V cells.now.layout.shape writer.old.acts).version_steps (Open key deed) }
-    ensures acts { writer.new ≡ writer_record writer.old.of (writer.old.acts ++ with_bit (Open key deed) 0 ∷ []) }
+    ensures acted { HasActed writer.old writer.new (Open key deed) 0 }
 {
     let checked = &cells.checked;
     let place = checked.version_place(checked.stripe(key));
@@ -40,7 +39,7 @@ pub fn write_slot<const V: usize>(
 )
     requires of { writer.old.of ≡ cells.now }
     requires allowed { IsAllowed cells.now.layout.shape (state_of V cells.now.layout.shape writer.old.acts) (Slot place word) }
-    ensures acts { writer.new ≡ writer_record writer.old.of (writer.old.acts ++ with_bit (Slot place word) 0 ∷ []) }
+    ensures acted { HasActed writer.old writer.new (Slot place word) 0 }
 {
     writer.known();
     let at = cells.checked.slot_place(place);
@@ -58,7 +57,7 @@ pub fn write_item<const V: usize>(
 )
     requires of { writer.old.of ≡ cells.now }
     requires allowed { IsAllowed cells.now.layout.shape (state_of V cells.now.layout.shape writer.old.acts) (Item i j word) }
-    ensures acts { writer.new ≡ writer_record writer.old.of (writer.old.acts ++ with_bit (Item i j word) 0 ∷ []) }
+    ensures acted { HasActed writer.old writer.new (Item i j word) 0 }
 {
     writer.known();
     let at = cells.checked.item_place::<V>(i, j);
@@ -79,7 +78,7 @@ pub fn write_item_from<const V: usize>(
     requires of { writer.old.of ≡ cells.now }
     requires items { (items ≡ item_place V cells.now.layout.shape 0 0) × (items < 2 ^ 40) }
     requires allowed { IsAllowed cells.now.layout.shape (state_of V cells.now.layout.shape writer.old.acts) (Item i j word) }
-    ensures acts { writer.new ≡ writer_record writer.old.of (writer.old.acts ++ with_bit (Item i j word) 0 ∷ []) }
+    ensures acted { HasActed writer.old writer.new (Item i j word) 0 }
 {
     let at = items + i as usize * (V + 1) + usize::from(j);
     write_word(&cells.ruled, writer, Act::Item(i, j, word), at, word);
@@ -90,7 +89,7 @@ pub fn write_item_from<const V: usize>(
 pub fn count_moment<const V: usize>(cells: &Cells<V>, writer: &mut WriterSeat)
     requires of { writer.old.of ≡ cells.now }
     requires allowed { IsAllowed cells.now.layout.shape (state_of V cells.now.layout.shape writer.old.acts) Moment }
-    ensures acts { writer.new ≡ writer_record writer.old.of (writer.old.acts ++ with_bit Moment 0 ∷ []) }
+    ensures acted { HasActed writer.old writer.new Moment 0 }
 {
     count_change(&cells.ruled, writer);
 }
@@ -100,7 +99,7 @@ pub fn count_moment<const V: usize>(cells: &Cells<V>, writer: &mut WriterSeat)
 pub fn end_deed<const V: usize>(cells: &Cells<V>, writer: &mut WriterSeat)
     requires of { writer.old.of ≡ cells.now }
     requires allowed { IsAllowed cells.now.layout.shape (state_of V cells.now.layout.shape writer.old.acts) Close }
-    ensures acts { writer.new ≡ writer_record writer.old.of (writer.old.acts ++ with_bit Close 0 ∷ []) }
+    ensures acted { HasActed writer.old writer.new Close 0 }
 {
     close_deed(&cells.ruled, writer);
 }
@@ -110,7 +109,7 @@ pub fn end_deed<const V: usize>(cells: &Cells<V>, writer: &mut WriterSeat)
 pub fn set_mark<const V: usize>(cells: &Cells<V>, writer: &mut WriterSeat, i: u32)
     requires of { writer.old.of ≡ cells.now }
     requires allowed { IsAllowed cells.now.layout.shape (state_of V cells.now.layout.shape writer.old.acts) (Mark i) }
-    ensures acts { writer.new ≡ writer_record writer.old.of (writer.old.acts ++ with_bit (Mark i) 0 ∷ []) }
+    ensures acted { HasActed writer.old writer.new (Mark i) 0 }
 {
     writer.known();
     let place = cells.checked.recency_place::<V>(i);
@@ -121,7 +120,7 @@ pub fn set_mark<const V: usize>(cells: &Cells<V>, writer: &mut WriterSeat, i: u3
 pub fn set_mark_unless_set<const V: usize>(cells: &Cells<V>, writer: &mut WriterSeat, i: u32)
     requires of { writer.old.of ≡ cells.now }
     requires allowed { IsAllowed cells.now.layout.shape (state_of V cells.now.layout.shape writer.old.acts) (Mark i) }
-    ensures acts { writer.new ≡ writer_record writer.old.of (writer.old.acts ++ with_bit (Mark i) 0 ∷ []) }
+    ensures acted { HasActed writer.old writer.new (Mark i) 0 }
 {
     writer.known();
     let place = cells.checked.recency_place::<V>(i);
@@ -133,7 +132,7 @@ pub fn set_mark_unless_set<const V: usize>(cells: &Cells<V>, writer: &mut Writer
 pub fn turn_hand<const V: usize>(cells: &Cells<V>, writer: &mut WriterSeat, i: u32) -> u64
     requires of { writer.old.of ≡ cells.now }
     requires allowed { IsAllowed cells.now.layout.shape (state_of V cells.now.layout.shape writer.old.acts) (Hand i) }
-    ensures acts { writer.new ≡ writer_record writer.old.of (writer.old.acts ++ with_bit (Hand i) result ∷ []) }
+    ensures acted { HasActed writer.old writer.new (Hand i) result }
 {
     writer.known();
     let place = cells.checked.recency_place::<V>(i);
@@ -146,7 +145,7 @@ pub fn perform<const V: usize>(cells: &Cells<V>, writer: &mut WriterSeat, act: A
     requires of { writer.old.of ≡ cells.now }
     requires allowed { IsAllowed cells.now.layout.shape (state_of V cells.now.layout.shape writer.old.acts) act }
     requires limit { HasVersionSteps cells.now.layout.shape.limit (state_of V cells.now.layout.shape writer.old.acts).version_steps act }
-    ensures acts { writer.new ≡ writer_record writer.old.of (writer.old.acts ++ with_bit act result ∷ []) }
+    ensures acted { HasActed writer.old writer.new act result }
     ensures bit { IsStored act → result ≡ 0 }
 {
     match act {

@@ -9,9 +9,9 @@ ghost use Rattle.mc_theory.specs.Writes.{write_of};
 ghost use Rattle.mc_theory.specs.declared.act.Act.TheVariants.{Open, Moment, Close, Hand, Mark};
 ghost use Rattle.mc_shared.specs.Views.{writer_view, acts_of, tally_of, layout_state, with_bit};
 ghost use Rattle.mc_shared.specs.TableRule.{word_after};
-ghost use Rattle.mc_shared.specs.Inside.Steps.{WritesAt, IsOffBits, IsPlain};
+ghost use Rattle.mc_shared.specs.Inside.Steps.{WritesAt, IsOffBits, IsPlain, AddsNote};
 ghost use Rattle.mc_shared.specs.Inside.Seats.{MayMake};
-ghost use Rattle.mc_shared.specs.Records.{writer_record};
+ghost use Rattle.mc_shared.specs.Records.{HasActed};
 ghost use Rattle.mc_shared.specs.Inside.Seats.{opening_of};
 
 use crate::plays::{Fetches, Known, Makes, MakesMarkIfSet, NamesAct};
@@ -58,6 +58,7 @@ fn store_as_writer<J: NamesAct>(
     requires writes { WritesAt ruled.now.layout (acts_of seat.old.me.0) act place word }
     ensures table { (seat.new.table_id ≡ seat.old.table_id) × (seat.new.id ≡ seat.old.id) }
     ensures acts { seat.new.me ≡ (writer_view ruled.now.layout (acts_of seat.old.me.0 ++ with_bit act 0 ∷ []) (tally_of seat.new.me.0), []) }
+    ensures noted { AddsNote seat.old.me seat.new.me }
 {
     let _ = act;
     ruled.table.shared.store::<Makes<J>>(seat, place, word);
@@ -79,6 +80,7 @@ fn clear_bit_as_writer<J: NamesAct>(
     requires bit { (bit ≡ recency_bit item) × (bit < 64) }
     ensures table { (seat.new.table_id ≡ seat.old.table_id) × (seat.new.id ≡ seat.old.id) }
     ensures acts { seat.new.me ≡ (writer_view ruled.now.layout (acts_of seat.old.me.0 ++ with_bit (Hand item) result ∷ []) (tally_of seat.new.me.0), []) }
+    ensures noted { AddsNote seat.old.me seat.new.me }
 {
     let _ = item;
     let found = ruled
@@ -104,6 +106,7 @@ fn set_bit_as_writer<J: NamesAct>(
     requires bit { (bit ≡ recency_bit item) × (bit < 64) }
     ensures table { (seat.new.table_id ≡ seat.old.table_id) × (seat.new.id ≡ seat.old.id) }
     ensures acts { seat.new.me ≡ (writer_view ruled.now.layout (acts_of seat.old.me.0 ++ with_bit (Mark item) 0 ∷ []) (tally_of seat.new.me.0), []) }
+    ensures noted { AddsNote seat.old.me seat.new.me }
 {
     let _ = item;
     ruled
@@ -128,6 +131,7 @@ fn notice_as_writer<J: NamesAct>(
     requires bit { (bit ≡ recency_bit item) × (bit < 64) }
     ensures table { (seat.new.table_id ≡ seat.old.table_id) × (seat.new.id ≡ seat.old.id) }
     ensures acts { seat.new.me ≡ (writer_view ruled.now.layout (acts_of seat.old.me.0 ++ with_bit (Mark item) 0 ∷ []) (tally_of seat.new.me.0), []) }
+    ensures noted { AddsNote seat.old.me seat.new.me }
 {
     let found = ruled.table.shared.load::<MakesMarkIfSet<J>>(seat, place);
     if (found >> bit) & 1 == 0 {
@@ -147,7 +151,7 @@ pub(crate) fn write_word(
     requires plain { IsPlain act × IsOffBits act }
     requires allowed { IsAllowed ruled.now.layout.shape (layout_state ruled.now.layout writer.old.acts) act }
     requires writes { WritesAt ruled.now.layout writer.old.acts act place word }
-    ensures { writer.new ≡ writer_record writer.old.of (writer.old.acts ++ with_bit act 0 ∷ []) }
+    ensures { HasActed writer.old writer.new act 0 }
 {
     store_as_writer::<Brand>(ruled, &mut writer.seat, act, place, word);
 }
@@ -164,7 +168,7 @@ pub(crate) fn open_deed(
     requires allowed { IsAllowed ruled.now.layout.shape (layout_state ruled.now.layout writer.old.acts) (Open key deed) }
     requires limit { HasVersionSteps ruled.now.layout.shape.limit (layout_state ruled.now.layout writer.old.acts).version_steps (Open key deed) }
     requires place { place ≡ version_place (stripe_of ruled.now.layout.shape key) }
-    ensures { writer.new ≡ writer_record writer.old.of (writer.old.acts ++ with_bit (Open key deed) 0 ∷ []) }
+    ensures { HasActed writer.old writer.new (Open key deed) 0 }
 {
     let count = load_as_writer(ruled, &mut writer.seat, place) + 1;
     store_as_writer::<Brand>(ruled, &mut writer.seat, Act::Open(key, deed), place, count);
@@ -176,7 +180,7 @@ pub(crate) fn open_deed(
 pub(crate) fn count_change(ruled: &RuledWords, writer: &mut WriterSeat)
     requires of { writer.old.of ≡ ruled.now }
     requires allowed { IsAllowed ruled.now.layout.shape (layout_state ruled.now.layout writer.old.acts) Moment }
-    ensures { writer.new ≡ writer_record writer.old.of (writer.old.acts ++ with_bit Moment 0 ∷ []) }
+    ensures { HasActed writer.old writer.new Moment 0 }
 {
     let at = writer.at + 1;
     store_as_writer::<Brand>(ruled, &mut writer.seat, Act::Moment, 0, at);
@@ -187,7 +191,7 @@ pub(crate) fn count_change(ruled: &RuledWords, writer: &mut WriterSeat)
 pub(crate) fn close_deed(ruled: &RuledWords, writer: &mut WriterSeat)
     requires of { writer.old.of ≡ ruled.now }
     requires allowed { IsAllowed ruled.now.layout.shape (layout_state ruled.now.layout writer.old.acts) Close }
-    ensures { writer.new ≡ writer_record writer.old.of (writer.old.acts ++ with_bit Close 0 ∷ []) }
+    ensures { HasActed writer.old writer.new Close 0 }
 {
     let count = writer.count + 1;
     store_as_writer::<Brand>(ruled, &mut writer.seat, Act::Close, writer.place, count);
@@ -205,7 +209,7 @@ pub(crate) fn sweep_word(
     requires allowed { IsAllowed ruled.now.layout.shape (layout_state ruled.now.layout writer.old.acts) (Hand item) }
     requires place { place ≡ recency_place ruled.now.layout.width ruled.now.layout.shape item }
     requires bit { (bit ≡ recency_bit item) × (bit < 64) }
-    ensures { writer.new ≡ writer_record writer.old.of (writer.old.acts ++ with_bit (Hand item) result ∷ []) }
+    ensures { HasActed writer.old writer.new (Hand item) result }
 {
     clear_bit_as_writer::<Brand>(ruled, &mut writer.seat, item, place, bit)
 }
@@ -222,7 +226,7 @@ pub(crate) fn mark_word(
     requires allowed { IsAllowed ruled.now.layout.shape (layout_state ruled.now.layout writer.old.acts) (Mark item) }
     requires place { place ≡ recency_place ruled.now.layout.width ruled.now.layout.shape item }
     requires bit { (bit ≡ recency_bit item) × (bit < 64) }
-    ensures { writer.new ≡ writer_record writer.old.of (writer.old.acts ++ with_bit (Mark item) 0 ∷ []) }
+    ensures { HasActed writer.old writer.new (Mark item) 0 }
 {
     set_bit_as_writer::<Brand>(ruled, &mut writer.seat, item, place, bit);
 }
@@ -239,7 +243,7 @@ pub(crate) fn mark_unless_word_set(
     requires allowed { IsAllowed ruled.now.layout.shape (layout_state ruled.now.layout writer.old.acts) (Mark item) }
     requires place { place ≡ recency_place ruled.now.layout.width ruled.now.layout.shape item }
     requires bit { (bit ≡ recency_bit item) × (bit < 64) }
-    ensures { writer.new ≡ writer_record writer.old.of (writer.old.acts ++ with_bit (Mark item) 0 ∷ []) }
+    ensures { HasActed writer.old writer.new (Mark item) 0 }
 {
     notice_as_writer::<Brand>(ruled, &mut writer.seat, item, place, bit);
 }

@@ -1,7 +1,7 @@
 //! A cache is opened and its workers are made ready.
-ghost use Rattle.std.specs.Prelude.{ℕ, ◌≡◌, ◌*◌, ◌≤◌, [], IfOk, MatchResult, replicate, vec_len, vec_capacity};
+ghost use Rattle.std.specs.Prelude.{ℕ, ◌≡◌, ◌*◌, ◌≤◌, [], IfOk, MatchResult, vec_len, vec_capacity};
 ghost use Rattle.mc_words.specs.Places.{IsWidth};
-ghost use Rattle.mc_shared.specs.Records.{Opening, reader_record};
+ghost use Rattle.mc_shared.specs.Records.{Opening, new_readers};
 ghost use Rattle.mc_workers.specs.Loads.{HasKeys, RefusesLoad};
 ghost use Rattle.mc_workers.specs.Inside.Beginnings.{CanBegin};
 ghost use Rattle.mc_workers.specs.Inside.Workers.{AreReady, IsWriting};
@@ -52,9 +52,9 @@ fn lookings_of<const V: usize>(
 ) -> Result<Vec<Looking<V>>, AllocError>
     requires width { IsWidth V }
     requires keys { 1 ≤ load.keys }
-    requires fresh { (o : Opening) × (readers.items ≡ replicate load.readers (reader_record o [] [])) }
+    requires fresh { (o : Opening) × (readers.items ≡ new_readers o load.readers) }
     ensures len { IfOk result (λ ls. vec_len ls ≡ load.readers) }
-    ensures ready { (o : Opening) → readers.entry.items ≡ replicate load.readers (reader_record o [] []) → IfOk result (λ ls. AreReady V o load.lookups ls.items) }
+    ensures ready { (o : Opening) → readers.entry.items ≡ new_readers o load.readers → IfOk result (λ ls. AreReady V o load.lookups ls.items) }
 {
     let mut lookings = Vec::new(alloc);
     while let Some(reader) = readers.pop() {

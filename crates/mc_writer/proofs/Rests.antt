@@ -1,5 +1,5 @@
 -- What is known of the words while the writer rests.
-use Rattle.std.proofs.Common.{ℕ, ◌≡◌, ◌<◌, List, [], ◌∷◌, ◌++◌, None, ap, sym, ◌∙◌, subst}
+use Rattle.std.proofs.Common.{ℕ, ◌≡◌, ◌<◌, [], ◌∷◌, ◌++◌, None, ap, sym, ◌∙◌, subst}
 use Rattle.mc_words.specs.Checks.{shape_of}
 use Rattle.mc_words.specs.Standing.{Agrees}
 use Rattle.mc_words.specs.declared.shape.Shape.{Shape}
@@ -13,7 +13,7 @@ use Rattle.mc_theory.proofs.Lists.Fronts.{state_push}
 use Rattle.mc_plan.specs.Clerks.{AreBooksOf}
 use Rattle.mc_plan.specs.declared.books.Books.{Books}
 use Rattle.mc_plan.proofs.Deeds.QuietStates.{agrees_quiet}
-use Rattle.mc_shared.specs.Records.{Opening, WriterRecord, writer_record}
+use Rattle.mc_shared.specs.Records.{Opening, WriterRecord, HasActed}
 use Rattle.mc_shared.specs.Views.{layout_of, with_bit}
 use Rattle.mc_shared.specs.declared.layout.Layout.{Layout}
 use Rattle.mc_writer.specs.WriterCalls.{IsRested}
@@ -46,8 +46,12 @@ module _ (V : ℕ) (o : Opening) (books : Books) (seat : WriterRecord) (of : sea
       subst (λ (p : Phase). MayFrom V o.layout.shape s.words s.hand s.cleared p (Mark i)) (sym quiet) within
 
   -- and rests after it
-  pub marked_rests : (i : ℕ) (after : WriterRecord) → after ≡ writer_record seat.of (seat.acts ++ with_bit (Mark i) 0 ∷ []) → IsRested V books after
-  marked_rests i after e =
+  pub marked_rests : (i : ℕ) (before after : WriterRecord) → before ≡ seat → HasActed before after (Mark i) 0 → IsRested V books after
+  marked_rests i before after same_seat e =
       let sh = shape_of books.checked in
       let same : state_of V sh (seat.acts ++ with_bit (Mark i) 0 ∷ []) ≡ state_of V sh seat.acts = state_push V sh seat.acts (with_bit (Mark i) 0) ∙ marked_same V sh (state_of V sh seat.acts) i rested.known.quiet.quiet in
-      subst (IsRested V books) (sym e) (record { layout = rested.layout; known = subst (AreBooksOf V books) (sym same) rested.known })
+      let acts : after.acts ≡ seat.acts ++ with_bit (Mark i) 0 ∷ [] = e.acts ∙ ap (λ (w : WriterRecord). w.acts ++ with_bit (Mark i) 0 ∷ []) same_seat in
+      record {
+        layout = ap (λ (p : Opening). p.layout) (e.of ∙ ap (λ (w : WriterRecord). w.of) same_seat) ∙ rested.layout;
+        known = subst (AreBooksOf V books) (sym (ap (state_of V sh) acts ∙ same)) rested.known;
+      }

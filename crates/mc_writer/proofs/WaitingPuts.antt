@@ -15,7 +15,8 @@ use Rattle.mc_plan.specs.declared.books.Books.{Books}
 use Rattle.mc_plan.specs.declared.waiting.Waiting.{Waiting}
 use Rattle.mc_plan.proofs.Calls.DueActs.{all_made, planned_due}
 use Rattle.mc_plan.proofs.Calls.SweptStates.{swept_still}
-use Rattle.mc_shared.specs.Records.{Opening, WriterRecord, writer_record}
+use Rattle.mc_shared.specs.Records.{Opening, WriterRecord, NotesGrow}
+use Rattle.mc_shared.proofs.GrownNotes.{grow_self, grow_trans}
 use Rattle.mc_shared.specs.Views.{layout_of}
 use Rattle.mc_shared.specs.declared.layout.Layout.{Layout}
 use Rattle.mc_writer.specs.Inside.Turns.{HasTurned}
@@ -24,12 +25,12 @@ use Rattle.mc_writer.proofs.WholeCalls.{called_swept}
 
 -- before the hand has turned
 pub unturned : (V : ℕ) (sh : Shape) (b : Books) (waiting : Waiting V) (key : ℕ) (value : List ℕ) (before : WriterRecord) → IsSweeping V b waiting (PutCall key value) (state_of V sh before.acts) [] → HasTurned V sh b waiting (PutCall key value) before before
-unturned V sh b waiting key value before start = record { readings = []; acts = ap (λ (xs : List Made). writer_record before.of xs) (sym (append-nil before.acts)); sweeping = start }
+unturned V sh b waiting key value before start = record { readings = []; of = refl; acts = sym (append-nil before.acts); notes = grow_self before.notes; sweeping = start }
 
 -- the hand writes no word
 pub words_still : (V : ℕ) (sh : Shape) (b : Books) (waiting : Waiting V) (key : ℕ) (value : List ℕ) (before mid : WriterRecord) (t : HasTurned V sh b waiting (PutCall key value) before mid) → (state_of V sh mid.acts).words ≡ (state_of V sh before.acts).words
 words_still V sh b waiting key value before mid t =
-    ap (λ (w : WriterRecord). (state_of V sh w.acts).words) t.acts
+    ap (λ (xs : List Made). (state_of V sh xs).words) t.acts
     ∙ (ap (λ (s : State V). s.words) (state_append V sh before.acts (hand_acts t.readings)) ∙ (swept_still V sh (state_of V sh before.acts) t.readings).words)
 
 module _ (V : ℕ) (o : Opening) (b0 b1 : Books) (waiting : Waiting V) (key : ℕ) (value : List ℕ) (before mid seat : WriterRecord) (layout : o.layout ≡ layout_of V (shape_of b0.checked)) (of : before.of ≡ o)
@@ -44,10 +45,13 @@ module _ (V : ℕ) (o : Opening) (b0 b1 : Books) (waiting : Waiting V) (key : �
   layout_now = ap (λ (p : Opening). p.layout) of ∙ (layout ∙ ap (λ (sh : Shape). layout_of V sh) (ap shape_of (sym kept)))
 
   acts_now : seat.acts ≡ before.acts ++ hand_acts t.readings
-  acts_now = ap (λ (w : WriterRecord). w.acts) same ∙ ap (λ (w : WriterRecord). w.acts) t.acts
+  acts_now = ap (λ (w : WriterRecord). w.acts) same ∙ t.acts
 
   of_now : seat.of ≡ before.of
-  of_now = ap (λ (w : WriterRecord). w.of) same ∙ ap (λ (w : WriterRecord). w.of) t.acts
+  of_now = ap (λ (w : WriterRecord). w.of) same ∙ t.of
+
+  notes_now : NotesGrow before.notes seat.notes
+  notes_now = subst (λ (w : WriterRecord). NotesGrow before.notes w.notes) (sym same) t.notes
 
   state_now : state_of V o.layout.shape seat.acts ≡ state_after_sweep V o.layout.shape (state_of V o.layout.shape before.acts) t.readings
   state_now = ap (state_of V o.layout.shape) acts_now ∙ state_append V o.layout.shape before.acts (hand_acts t.readings)
@@ -62,20 +66,20 @@ module _ (V : ℕ) (o : Opening) (b0 b1 : Books) (waiting : Waiting V) (key : �
 
   -- and once they are made, the call is over
   pub plan_made : (plan : List Act) (told : Answer) (after : WriterRecord) → IsPlanned V b1 plan (PutCall key value) (state_of V o.layout.shape before.acts) (state_after_sweep V (shape_of b1.checked) (state_of V o.layout.shape before.acts) t.readings) told
-      → IsSweepOf V (shape_of b1.checked) (state_of V o.layout.shape before.acts) t.readings told → after.of ≡ seat.of → after.acts ≡ seat.acts ++ as_made plan
+      → IsSweepOf V (shape_of b1.checked) (state_of V o.layout.shape before.acts) t.readings told → after.of ≡ seat.of → after.acts ≡ seat.acts ++ as_made plan → NotesGrow seat.notes after.notes
       → HasCalled V o.layout.shape (PutCall key value) before after told × IsRested V b1 after
-  plan_made plan told after p sweeps of' acts =
-      called_swept V o.layout.shape b0 b1 waiting plan (PutCall key value) told t.readings before after layout_now shape_was shape_now t.sweeping (of' ∙ of_now) (acts ∙ ap (λ (xs : List Made). xs ++ as_made plan) acts_now)
+  plan_made plan told after p sweeps of' acts notes =
+      called_swept V o.layout.shape b0 b1 waiting plan (PutCall key value) told t.readings before after layout_now shape_was shape_now t.sweeping (of' ∙ of_now) (acts ∙ ap (λ (xs : List Made). xs ++ as_made plan) acts_now) (grow_trans notes_now notes)
       (subst (λ (sh : Shape). IsSweepOf V sh (state_of V o.layout.shape before.acts) t.readings told) shape_now sweeps) (planned_now plan told p)
 
   -- a plan of no acts
   pub none_made : (told : Answer) → IsPlanned V b1 [] (PutCall key value) (state_of V o.layout.shape before.acts) (state_after_sweep V (shape_of b1.checked) (state_of V o.layout.shape before.acts) t.readings) told
       → IsSweepOf V (shape_of b1.checked) (state_of V o.layout.shape before.acts) t.readings told → HasCalled V o.layout.shape (PutCall key value) before seat told × IsRested V b1 seat
-  none_made told p sweeps = plan_made [] told seat p sweeps refl (sym (append-nil seat.acts))
+  none_made told p sweeps = plan_made [] told seat p sweeps refl (sym (append-nil seat.acts)) (grow_self seat.notes)
 
   -- acts that were due and aren't any more
   pub due_made_all : (plan : List Act) (told : Answer) (after : WriterRecord) → IsPlanned V b1 plan (PutCall key value) (state_of V o.layout.shape before.acts) (state_after_sweep V (shape_of b1.checked) (state_of V o.layout.shape before.acts) t.readings) told
-      → IsSweepOf V (shape_of b1.checked) (state_of V o.layout.shape before.acts) t.readings told → after.of ≡ seat.of → ((all : List Made) → AreDue V o.layout.shape all seat.acts plan → AreDue V o.layout.shape all after.acts [])
+      → IsSweepOf V (shape_of b1.checked) (state_of V o.layout.shape before.acts) t.readings told → after.of ≡ seat.of → NotesGrow seat.notes after.notes → ((all : List Made) → AreDue V o.layout.shape all seat.acts plan → AreDue V o.layout.shape all after.acts [])
       → HasCalled V o.layout.shape (PutCall key value) before after told × IsRested V b1 after
-  due_made_all plan told after p sweeps of' makes =
-      plan_made plan told after p sweeps of' (all_made V o.layout.shape (seat.acts ++ as_made plan) after.acts (makes (seat.acts ++ as_made plan) (plan_due plan told p)))
+  due_made_all plan told after p sweeps of' notes makes =
+      plan_made plan told after p sweeps of' (all_made V o.layout.shape (seat.acts ++ as_made plan) after.acts (makes (seat.acts ++ as_made plan) (plan_due plan told p))) notes

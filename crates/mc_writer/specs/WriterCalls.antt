@@ -12,14 +12,15 @@ use Rattle.mc_theory.specs.declared.act.Act.TheVariants.{Mark}
 use Rattle.mc_plan.specs.Clerks.{AreBooksOf, Answered, Call}
 use Rattle.mc_plan.specs.declared.answer.Answer.{Answer}
 use Rattle.mc_plan.specs.declared.books.Books.{Books}
-use Rattle.mc_shared.specs.Records.{WriterRecord}
+use Rattle.mc_shared.specs.Records.{WriterRecord, NotesGrow}
 use Rattle.mc_shared.specs.Views.{layout_of, with_bit}
 
--- a whole call was made on the seat, and this is its true answer
+-- a whole call was made on the seat, and this is its true answer. The notes beside earlier acts are as they were
 pub record HasCalled (V : ℕ) (sh : Shape) (call : Call) (before after : WriterRecord) (told : Answer) : Type 0 where
   pub made : List Made
   pub of : after.of ≡ before.of
   pub acts : after.acts ≡ before.acts ++ made
+  pub notes : NotesGrow before.notes after.notes
   pub answered : Answered V sh call (state_of V sh before.acts) made told
 
 -- between two calls the books are those of the state after the acts of the seat
@@ -37,4 +38,5 @@ RepliesNow V sh k s acts acts' Busy = ⊥
 -- a key was looked up by the writer
 pub record HasGot (V : ℕ) (sh : Shape) (k : ℕ) (before after : WriterRecord) (reply : Reply V) : Type 0 where
   pub of : after.of ≡ before.of
+  pub notes : NotesGrow before.notes after.notes
   pub replies : RepliesNow V sh k (state_of V sh before.acts) before.acts after.acts reply

@@ -7,6 +7,7 @@ ghost use Rattle.mc_theory.specs.declared.act.Act.TheVariants as act;
 ghost use Rattle.mc_plan.specs.Decisions.{acts_of_moves};
 ghost use Rattle.mc_plan.specs.Plans.{value_acts, fill_acts, renew_acts, take_out_acts, move_acts};
 ghost use Rattle.mc_plan.specs.Due.{AreDue};
+ghost use Rattle.mc_shared.specs.Records.{NotesGrow};
 
 use mc_plan::Move;
 use mc_shared::{
@@ -20,6 +21,7 @@ fn open<const V: usize>(cells: &Cells<V>, seat: &mut WriterSeat, key: u64, deed:
     requires of { seat.old.of ≡ cells.now }
     requires due { (all : List Made) × (due : List Act) × AreDue V cells.now.layout.shape all seat.old.acts (act.Open key deed ∷ due) }
     ensures of { seat.new.of ≡ seat.old.of }
+    ensures notes { NotesGrow seat.old.notes seat.new.notes }
     ensures due { (all : List Made) (due : List Act) → AreDue V cells.now.layout.shape all seat.old.acts (act.Open key deed ∷ due) → AreDue V cells.now.layout.shape all seat.new.acts due }
 {
     begin_deed(cells, seat, key, deed);
@@ -39,6 +41,7 @@ fn word<const V: usize>(
     requires items { (items ≡ item_place V cells.now.layout.shape 0 0) × (items < 2 ^ 40) }
     requires due { (all : List Made) × (due : List Act) × AreDue V cells.now.layout.shape all seat.old.acts (act.Item i j word ∷ due) }
     ensures of { seat.new.of ≡ seat.old.of }
+    ensures notes { NotesGrow seat.old.notes seat.new.notes }
     ensures due { (all : List Made) (due : List Act) → AreDue V cells.now.layout.shape all seat.old.acts (act.Item i j word ∷ due) → AreDue V cells.now.layout.shape all seat.new.acts due }
 {
     write_item_from(cells, seat, items, i, j, word);
@@ -48,6 +51,7 @@ fn slot<const V: usize>(cells: &Cells<V>, seat: &mut WriterSeat, place: Place, w
     requires of { seat.old.of ≡ cells.now }
     requires due { (all : List Made) × (due : List Act) × AreDue V cells.now.layout.shape all seat.old.acts (act.Slot place word ∷ due) }
     ensures of { seat.new.of ≡ seat.old.of }
+    ensures notes { NotesGrow seat.old.notes seat.new.notes }
     ensures due { (all : List Made) (due : List Act) → AreDue V cells.now.layout.shape all seat.old.acts (act.Slot place word ∷ due) → AreDue V cells.now.layout.shape all seat.new.acts due }
 {
     write_slot(cells, seat, place, word);
@@ -57,6 +61,7 @@ fn count<const V: usize>(cells: &Cells<V>, seat: &mut WriterSeat)
     requires of { seat.old.of ≡ cells.now }
     requires due { (all : List Made) × (due : List Act) × AreDue V cells.now.layout.shape all seat.old.acts (act.Moment ∷ due) }
     ensures of { seat.new.of ≡ seat.old.of }
+    ensures notes { NotesGrow seat.old.notes seat.new.notes }
     ensures due { (all : List Made) (due : List Act) → AreDue V cells.now.layout.shape all seat.old.acts (act.Moment ∷ due) → AreDue V cells.now.layout.shape all seat.new.acts due }
 {
     count_moment(cells, seat);
@@ -66,6 +71,7 @@ fn close<const V: usize>(cells: &Cells<V>, seat: &mut WriterSeat)
     requires of { seat.old.of ≡ cells.now }
     requires due { (all : List Made) × (due : List Act) × AreDue V cells.now.layout.shape all seat.old.acts (act.Close ∷ due) }
     ensures of { seat.new.of ≡ seat.old.of }
+    ensures notes { NotesGrow seat.old.notes seat.new.notes }
     ensures due { (all : List Made) (due : List Act) → AreDue V cells.now.layout.shape all seat.old.acts (act.Close ∷ due) → AreDue V cells.now.layout.shape all seat.new.acts due }
 {
     end_deed(cells, seat);
@@ -76,6 +82,7 @@ pub fn stamp<const V: usize>(cells: &Cells<V>, seat: &mut WriterSeat, i: u32)
     requires of { seat.old.of ≡ cells.now }
     requires due { (all : List Made) × (due : List Act) × AreDue V cells.now.layout.shape all seat.old.acts (act.Mark i ∷ due) }
     ensures of { seat.new.of ≡ seat.old.of }
+    ensures notes { NotesGrow seat.old.notes seat.new.notes }
     ensures due { (all : List Made) (due : List Act) → AreDue V cells.now.layout.shape all seat.old.acts (act.Mark i ∷ due) → AreDue V cells.now.layout.shape all seat.new.acts due }
 {
     set_mark_unless_set(cells, seat, i);
@@ -94,6 +101,7 @@ fn write_value<const V: usize>(
     requires items { (items ≡ item_place V cells.now.layout.shape 0 0) × (items < 2 ^ 40) }
     requires due { (all : List Made) × (due : List Act) × AreDue V cells.now.layout.shape all seat.old.acts (value_acts i 1 value.now ++ due) }
     ensures of { seat.new.of ≡ seat.old.of }
+    ensures notes { NotesGrow seat.old.notes seat.new.notes }
     ensures due { (all : List Made) (due : List Act) → AreDue V cells.now.layout.shape all seat.old.acts (value_acts i 1 value.now ++ due) → AreDue V cells.now.layout.shape all seat.new.acts due }
 {
     for j in 0..V {
@@ -114,6 +122,7 @@ pub fn renew<const V: usize>(
     requires of { seat.old.of ≡ cells.now }
     requires due { (all : List Made) × (due : List Act) × AreDue V cells.now.layout.shape all seat.old.acts (renew_acts key value.now i ++ due) }
     ensures of { seat.new.of ≡ seat.old.of }
+    ensures notes { NotesGrow seat.old.notes seat.new.notes }
     ensures due { (all : List Made) (due : List Act) → AreDue V cells.now.layout.shape all seat.old.acts (renew_acts key value.now i ++ due) → AreDue V cells.now.layout.shape all seat.new.acts due }
 {
     let items = cells.items_start();
@@ -139,6 +148,7 @@ pub fn fill<const V: usize>(
     requires item { i < cells.now.layout.shape.items }
     requires due { (all : List Made) × (due : List Act) × AreDue V cells.now.layout.shape all seat.old.acts (fill_acts cells.now.layout.shape key value.now i place ++ due) }
     ensures of { seat.new.of ≡ seat.old.of }
+    ensures notes { NotesGrow seat.old.notes seat.new.notes }
     ensures due { (all : List Made) (due : List Act) → AreDue V cells.now.layout.shape all seat.old.acts (fill_acts cells.now.layout.shape key value.now i place ++ due) → AreDue V cells.now.layout.shape all seat.new.acts due }
 {
     let checked = cells.checked();
@@ -165,6 +175,7 @@ pub fn take_out<const V: usize>(
     requires of { seat.old.of ≡ cells.now }
     requires due { (all : List Made) × (due : List Act) × AreDue V cells.now.layout.shape all seat.old.acts (take_out_acts key deed place ++ due) }
     ensures of { seat.new.of ≡ seat.old.of }
+    ensures notes { NotesGrow seat.old.notes seat.new.notes }
     ensures due { (all : List Made) (due : List Act) → AreDue V cells.now.layout.shape all seat.old.acts (take_out_acts key deed place ++ due) → AreDue V cells.now.layout.shape all seat.new.acts due }
 {
     open(cells, seat, key, deed);
@@ -185,6 +196,7 @@ pub fn make_move<const V: usize>(
     requires of { seat.old.of ≡ cells.now }
     requires due { (all : List Made) × (due : List Act) × AreDue V cells.now.layout.shape all seat.old.acts (move_acts key named from to ++ due) }
     ensures of { seat.new.of ≡ seat.old.of }
+    ensures notes { NotesGrow seat.old.notes seat.new.notes }
     ensures due { (all : List Made) (due : List Act) → AreDue V cells.now.layout.shape all seat.old.acts (move_acts key named from to ++ due) → AreDue V cells.now.layout.shape all seat.new.acts due }
 {
     open(cells, seat, key, Deed::Move);
@@ -198,6 +210,7 @@ pub fn make_moves<const V: usize>(cells: &Cells<V>, seat: &mut WriterSeat, moves
     requires of { seat.old.of ≡ cells.now }
     requires due { (all : List Made) × (due : List Act) × AreDue V cells.now.layout.shape all seat.old.acts (acts_of_moves moves.now ++ due) }
     ensures of { seat.new.of ≡ seat.old.of }
+    ensures notes { NotesGrow seat.old.notes seat.new.notes }
     ensures due { (all : List Made) (due : List Act) → AreDue V cells.now.layout.shape all seat.old.acts (acts_of_moves moves.now ++ due) → AreDue V cells.now.layout.shape all seat.new.acts due }
 {
     for m in moves {

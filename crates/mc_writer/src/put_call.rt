@@ -8,6 +8,7 @@ ghost use Rattle.mc_plan.specs.Due.{AreDue};
 ghost use Rattle.mc_plan.specs.Clerks.{PutCall, Waits};
 ghost use Rattle.mc_plan.specs.declared.answer.Answer.TheVariants as answer;
 ghost use Rattle.mc_search.specs.Paths.{direct_path};
+ghost use Rattle.mc_shared.specs.Records.{NotesGrow};
 ghost use Rattle.mc_shared.specs.Views.{layout_of};
 ghost use Rattle.mc_words.specs.Checks.{shape_of};
 ghost use Rattle.mc_writer.specs.WriterCalls.{HasCalled, IsRested};
@@ -91,6 +92,7 @@ fn make_renewal<const V: usize>(
     requires of { seat.old.of ≡ cells.now }
     requires due { (all : List Made) × AreDue V cells.now.layout.shape all seat.old.acts (renewal_acts key value.now item) }
     ensures of { seat.new.of ≡ seat.old.of }
+    ensures notes { NotesGrow seat.old.notes seat.new.notes }
     ensures due { (all : List Made) → AreDue V cells.now.layout.shape all seat.old.acts (renewal_acts key value.now item) → AreDue V cells.now.layout.shape all seat.new.acts [] }
 {
     renew(cells, seat, key, value, item);
@@ -112,6 +114,7 @@ fn make_filling<const V: usize>(
     requires item { item < cells.now.layout.shape.items }
     requires due { (all : List Made) × AreDue V cells.now.layout.shape all seat.old.acts (filling_acts cells.now.layout.shape key value.now item place) }
     ensures of { seat.new.of ≡ seat.old.of }
+    ensures notes { NotesGrow seat.old.notes seat.new.notes }
     ensures due { (all : List Made) → AreDue V cells.now.layout.shape all seat.old.acts (filling_acts cells.now.layout.shape key value.now item place) → AreDue V cells.now.layout.shape all seat.new.acts [] }
 {
     fill(cells, seat, key, value, item, place);
@@ -132,6 +135,7 @@ fn make_exchange<const V: usize>(
     requires item { exchange.item < cells.now.layout.shape.items }
     requires due { (all : List Made) × AreDue V cells.now.layout.shape all seat.old.acts (exchange_acts cells.now.layout.shape key value.now exchange) }
     ensures of { seat.new.of ≡ seat.old.of }
+    ensures notes { NotesGrow seat.old.notes seat.new.notes }
     ensures due { (all : List Made) → AreDue V cells.now.layout.shape all seat.old.acts (exchange_acts cells.now.layout.shape key value.now exchange) → AreDue V cells.now.layout.shape all seat.new.acts [] }
 {
     take_out(cells, seat, exchange.evicted, Deed::Evict, exchange.victim);
@@ -151,6 +155,7 @@ fn make_storing<const V: usize>(
     requires item { storing.now.item < cells.now.layout.shape.items }
     requires due { (all : List Made) × AreDue V cells.now.layout.shape all seat.old.acts (storing_acts cells.now.layout.shape key value.now storing.now) }
     ensures of { seat.new.of ≡ seat.old.of }
+    ensures notes { NotesGrow seat.old.notes seat.new.notes }
     ensures due { (all : List Made) → AreDue V cells.now.layout.shape all seat.old.acts (storing_acts cells.now.layout.shape key value.now storing.now) → AreDue V cells.now.layout.shape all seat.new.acts [] }
 {
     make_moves(cells, seat, storing.moves.as_slice());
@@ -172,6 +177,7 @@ fn make_replacement<const V: usize>(
     requires item { storing.now.item < cells.now.layout.shape.items }
     requires due { (all : List Made) × AreDue V cells.now.layout.shape all seat.old.acts (replacement_acts cells.now.layout.shape key value.now replacement storing.now) }
     ensures of { seat.new.of ≡ seat.old.of }
+    ensures notes { NotesGrow seat.old.notes seat.new.notes }
     ensures due { (all : List Made) → AreDue V cells.now.layout.shape all seat.old.acts (replacement_acts cells.now.layout.shape key value.now replacement storing.now) → AreDue V cells.now.layout.shape all seat.new.acts [] }
 {
     take_out(

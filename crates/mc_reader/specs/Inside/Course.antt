@@ -16,6 +16,7 @@ use Rattle.mc_shared.specs.Views.{IsFrontOf}
 pub record IsOnCourse (V : ℕ) (sh : Shape) (k : ℕ) (before after : ReaderRecord) (lookup : Lookup V) : Type 0 where
   pub rs : List Reading
   pub of : after.of ≡ before.of
+  pub number : after.number ≡ before.number
   pub done : after.done ≡ before.done ++ rs
   pub begins : IsFrontOf before.front after.front
   pub rise : RiseTo (length before.front) rs (length after.front)
@@ -26,6 +27,7 @@ pub record IsOnCourse (V : ℕ) (sh : Shape) (k : ℕ) (before after : ReaderRec
 -- from one record and lookup to others: what was on the course of a lookup still is
 pub record Leads (V : ℕ) (sh : Shape) (old : ReaderRecord) (lookup : Lookup V) (new : ReaderRecord) (next : Lookup V) : Type 0 where
   pub of : new.of ≡ old.of
+  pub number : new.number ≡ old.number
   pub shape : next.checked ≡ lookup.checked
   pub key : next.key ≡ lookup.key
   pub way : (k : ℕ) (before : ReaderRecord) → IsOnCourse V sh k before old lookup → IsOnCourse V sh k before new next

@@ -1,5 +1,5 @@
 -- What is always known of the words and of a seat, and when an act may be made.
-use Rattle.std.specs.Prelude.{◌≡◌, ℕ, ◌+◌, ◌^◌, ◌≤◌, List, [], ◌∷◌, Option, Some, None}
+use Rattle.std.specs.Prelude.{◌≡◌, ℕ, ◌+◌, ◌^◌, ◌≤◌, List, [], ◌∷◌, length, Option, Some, None}
 use Rattle.atomic_table.specs.Seated.{TableId}
 use Rattle.mc_words.specs.Keys.{stripe_of}
 use Rattle.mc_words.specs.Places.{all_words, version_place, moment, version, IsWidth}
@@ -34,11 +34,12 @@ abbrev pub RunsAt : Layout → List ℕ → Option ℕ → ℕ → ℕ → Type 
 RunsAt l w None place count = Unit {0}
 RunsAt l w (Some k) place count = (place ≡ version_place (stripe_of l.shape k)) × (count ≡ version w (stripe_of l.shape k))
 
--- The writer's seat: its acts are lawful and within the limit. Beside it are the place and the number of the running deed's version, and the moment
+-- The writer's seat: its acts are lawful and within the limit, and there is a note beside each. Beside it are the place and the number of the running deed's version, and the moment
 pub record IsWriter (me : SeatView) (place count at : ℕ) : Type 0 where
   pub seat : me ≡ (writer_view me.0.layout (acts_of me.0) (tally_of me.0), [])
   pub shape : IsShape me.0.layout.shape
   pub lawful : AreLawful me.0.layout (acts_of me.0)
+  pub paired : length (tally_of me.0).notes ≡ length (acts_of me.0)
   pub within : (layout_state me.0.layout (acts_of me.0)).version_steps + close_owed (layout_state me.0.layout (acts_of me.0)).phase ≤ me.0.layout.shape.limit
   pub moment_is : at ≡ moment (layout_state me.0.layout (acts_of me.0)).words
   pub version_is : RunsAt me.0.layout (layout_state me.0.layout (acts_of me.0)).words (deed_key (layout_state me.0.layout (acts_of me.0)).phase) place count

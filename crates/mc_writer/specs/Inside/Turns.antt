@@ -1,16 +1,17 @@
 -- What the hand's readings leave of the seat.
 use Rattle.std.specs.Prelude.{◌≡◌, ℕ, List, ◌++◌}
 use Rattle.mc_words.specs.declared.shape.Shape.{Shape}
-use Rattle.mc_words.specs.Checks.{shape_of}
 use Rattle.mc_theory.specs.Lists.{state_of}
-use Rattle.mc_search.specs.Sweeps.{Swept, IsOver, hand_acts}
+use Rattle.mc_search.specs.Sweeps.{Swept, hand_acts}
 use Rattle.mc_plan.specs.Clerks.{Call, IsSweeping}
 use Rattle.mc_plan.specs.declared.books.Books.{Books}
 use Rattle.mc_plan.specs.declared.waiting.Waiting.{Waiting}
-use Rattle.mc_shared.specs.Records.{WriterRecord, writer_record}
+use Rattle.mc_shared.specs.Records.{WriterRecord, NotesGrow}
 
 -- since the seat was `before`, the hand has made these readings for the put that waits
 pub record HasTurned (V : ℕ) (sh : Shape) (books : Books) (waiting : Waiting V) (call : Call) (before after : WriterRecord) : Type 0 where
   pub readings : List Swept
-  pub acts : after ≡ writer_record before.of (before.acts ++ hand_acts readings)
+  pub of : after.of ≡ before.of
+  pub acts : after.acts ≡ before.acts ++ hand_acts readings
+  pub notes : NotesGrow before.notes after.notes
   pub sweeping : IsSweeping V books waiting call (state_of V sh before.acts) readings

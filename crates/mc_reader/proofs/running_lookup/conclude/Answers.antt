@@ -33,8 +33,8 @@ returns-else-after_last-clause-leads g c =
     let old = c.args.seat.now in
     let lookup = c.args.lookup.now in
     let mid = c.after_moment.new.self in
-    let moment = leads_on V sh old old c.read_next-at.new.seat lookup lookup mid access.Moment access.Moment c.read_next-at.result (leads_self V sh old lookup) c.read_next-at.ensures.of c.read_next-at.ensures.one refl c.after_moment.ensures.takes in
-    leads_on V sh old c.read_next-at.new.seat c.read_next-last.new.seat lookup mid c.after_last.new.self _ _ c.read_next-last.result moment c.read_next-last.ensures.of c.read_next-last.ensures.one (sym (version_next V mid c.stripe-stripe.result c.stripe-stripe.ensures)) c.after_last.ensures.takes
+    let moment = leads_on V sh old old c.read_next-at.new.seat lookup lookup mid access.Moment access.Moment c.read_next-at.result (leads_self V sh old lookup) c.read_next-at.ensures.of c.read_next-at.ensures.number c.read_next-at.ensures.one refl c.after_moment.ensures.takes in
+    leads_on V sh old c.read_next-at.new.seat c.read_next-last.new.seat lookup mid c.after_last.new.self _ _ c.read_next-last.result moment c.read_next-last.ensures.of c.read_next-last.ensures.number c.read_next-last.ensures.one (sym (version_next V mid c.stripe-stripe.result c.stripe-stripe.ensures)) c.after_last.ensures.takes
 
 pub returns-in_default-clause-leads : goal.returns-in_default-clause-leads
 returns-in_default-clause-leads g c =
@@ -43,8 +43,8 @@ returns-in_default-clause-leads g c =
     let old = c.args.seat.now in
     let lookup = c.args.lookup.now in
     let mid = c.after_moment.new.self in
-    let moment = leads_on V sh old old c.read_next-at.new.seat lookup lookup mid access.Moment access.Moment c.read_next-at.result (leads_self V sh old lookup) c.read_next-at.ensures.of c.read_next-at.ensures.one refl c.after_moment.ensures.takes in
-    leads_on V sh old c.read_next-at.new.seat c.read_next-last.new.seat lookup mid c.after_last.new.self _ _ c.read_next-last.result moment c.read_next-last.ensures.of c.read_next-last.ensures.one (sym (version_next V mid c.stripe-stripe.result c.stripe-stripe.ensures)) c.after_last.ensures.takes
+    let moment = leads_on V sh old old c.read_next-at.new.seat lookup lookup mid access.Moment access.Moment c.read_next-at.result (leads_self V sh old lookup) c.read_next-at.ensures.of c.read_next-at.ensures.number c.read_next-at.ensures.one refl c.after_moment.ensures.takes in
+    leads_on V sh old c.read_next-at.new.seat c.read_next-last.new.seat lookup mid c.after_last.new.self _ _ c.read_next-last.result moment c.read_next-last.ensures.of c.read_next-last.ensures.number c.read_next-last.ensures.one (sym (version_next V mid c.stripe-stripe.result c.stripe-stripe.ensures)) c.after_last.ensures.takes
 
 pub returns-in-Some-clause-leads : goal.returns-in-Some-clause-leads
 returns-in-Some-clause-leads g c =
@@ -53,6 +53,6 @@ returns-in-Some-clause-leads g c =
     let old = c.args.seat.now in
     let lookup = c.args.lookup.now in
     let mid = c.after_moment.new.self in
-    let moment = leads_on V sh old old c.read_next-at.new.seat lookup lookup mid access.Moment access.Moment c.read_next-at.result (leads_self V sh old lookup) c.read_next-at.ensures.of c.read_next-at.ensures.one refl c.after_moment.ensures.takes in
-    let last = leads_on V sh old c.read_next-at.new.seat c.read_next-last.new.seat lookup mid c.after_last.new.self _ _ c.read_next-last.result moment c.read_next-last.ensures.of c.read_next-last.ensures.one (sym (version_next V mid c.stripe-stripe.result c.stripe-stripe.ensures)) c.after_last.ensures.takes in
+    let moment = leads_on V sh old old c.read_next-at.new.seat lookup lookup mid access.Moment access.Moment c.read_next-at.result (leads_self V sh old lookup) c.read_next-at.ensures.of c.read_next-at.ensures.number c.read_next-at.ensures.one refl c.after_moment.ensures.takes in
+    let last = leads_on V sh old c.read_next-at.new.seat c.read_next-last.new.seat lookup mid c.after_last.new.self _ _ c.read_next-last.result moment c.read_next-last.ensures.of c.read_next-last.ensures.number c.read_next-last.ensures.one (sym (version_next V mid c.stripe-stripe.result c.stripe-stripe.ensures)) c.after_last.ensures.takes in
     leads_mark V sh old c.read_next-last.new.seat c.mark_unless_set.new.reader lookup c.after_last.new.self c.after_mark.new.self c.in-Some.i last c.mark_unless_set.ensures (c.after_mark.ensures.takes 0)

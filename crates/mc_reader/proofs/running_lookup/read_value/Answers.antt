@@ -7,7 +7,7 @@ pub loop-count-preserved : goal.loop-count-preserved
 loop-count-preserved g c = record {
   leads = leads_on g.row.V c.args.cells.now.layout.shape c.args.seat.now c.loop-count.seat c.read_next-word.new.seat c.args.lookup.now c.loop-count.lookup c.after_value.new.self
       (access.Value c.args.i (c.loop-count.count + 1)) (access.Value c.args.i (c.loop-count.count + 1)) c.read_next-word.result
-      c.loop-count.invariant.leads c.read_next-word.ensures.of c.read_next-word.ensures.one refl c.after_value.ensures.takes;
+      c.loop-count.invariant.leads c.read_next-word.ensures.of c.read_next-word.ensures.number c.read_next-word.ensures.one refl c.after_value.ensures.takes;
   stage = c.after_value.ensures.goes;
 }
 

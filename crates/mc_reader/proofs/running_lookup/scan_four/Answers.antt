@@ -16,9 +16,9 @@ returns-then-after_key-clause-leads g c =
     let V = g.row.V in
     let sh = c.args.cells.now.layout.shape in
     let slot = leads_on V sh c.args.seat.now c.loop-j.seat c.read_next-word.new.seat c.args.lookup.now c.loop-j.lookup c.after_slot.new.self _ _ c.read_next-word.result
-    c.loop-j.invariant.leads c.read_next-word.ensures.of c.read_next-word.ensures.one (ap access.Slot c.place.ensures) c.after_slot.ensures.takes in
+    c.loop-j.invariant.leads c.read_next-word.ensures.of c.read_next-word.ensures.number c.read_next-word.ensures.one (ap access.Slot c.place.ensures) c.after_slot.ensures.takes in
     leads_on V sh c.args.seat.now c.read_next-word.new.seat c.read_next-key.new.seat c.args.lookup.now c.after_slot.new.self c.after_key.new.self (access.Key c.in-Some.i) (access.Key c.in-Some.i) c.read_next-key.result
-    slot c.read_next-key.ensures.of c.read_next-key.ensures.one refl c.after_key.ensures.takes
+    slot c.read_next-key.ensures.of c.read_next-key.ensures.number c.read_next-key.ensures.one refl c.after_key.ensures.takes
 
 pub loop-j-preserved : goal.loop-j-preserved
 loop-j-preserved g c =
@@ -26,11 +26,11 @@ loop-j-preserved g c =
     let V = g.row.V in
     let sh = c.args.cells.now.layout.shape in
     let slot = leads_on V sh c.args.seat.now c.loop-j.seat c.read_next-word.new.seat c.args.lookup.now c.loop-j.lookup c.after_slot.new.self _ _ c.read_next-word.result
-    c.loop-j.invariant.leads c.read_next-word.ensures.of c.read_next-word.ensures.one (ap access.Slot c.place.ensures) c.after_slot.ensures.takes in
+    c.loop-j.invariant.leads c.read_next-word.ensures.of c.read_next-word.ensures.number c.read_next-word.ensures.one (ap access.Slot c.place.ensures) c.after_slot.ensures.takes in
     elim c.match-after_slot.branch [
       | in-Some+else-after_key w ↦ (
           let both = leads_on V sh c.args.seat.now c.read_next-word.new.seat w.read_next-key.new.seat c.args.lookup.now c.after_slot.new.self w.after_key.new.self (access.Key w.in-Some.i) (access.Key w.in-Some.i) w.read_next-key.result
-          slot w.read_next-key.ensures.of w.read_next-key.ensures.one refl w.after_key.ensures.takes in
+          slot w.read_next-key.ensures.of w.read_next-key.ensures.number w.read_next-key.ensures.one refl w.after_key.ensures.takes in
           record {
             leads = subst (λ (y : ReaderRecord × Lookup V). Leads V sh c.args.seat.now c.args.lookup.now y.0 y.1) (λ i. (sym w.seat-is i, sym w.lookup-is i)) both;
             stage = subst (λ (y : Lookup V). stage_of y ≡ slots_from (c.args.from + c.loop-j.j + 1)) (sym w.lookup-is) w.if-after_key.ensures.goes ∙ ap slots_from plus;

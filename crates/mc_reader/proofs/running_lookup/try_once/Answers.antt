@@ -29,7 +29,7 @@ returns-else-after_first-clause-leads g c =
     let V = g.row.V in
     let sh = c.args.cells.now.layout.shape in
     leads_on V sh c.args.seat.now c.args.seat.now c.read_next-version.new.seat c.args.lookup.now c.args.lookup.now c.after_first.new.self _ _ c.read_next-version.result
-    (leads_self V sh c.args.seat.now c.args.lookup.now) c.read_next-version.ensures.of c.read_next-version.ensures.one (sym (version_next V c.args.lookup.now c.stripe-stripe.result c.stripe-stripe.ensures)) c.after_first.ensures.takes
+    (leads_self V sh c.args.seat.now c.args.lookup.now) c.read_next-version.ensures.of c.read_next-version.ensures.number c.read_next-version.ensures.one (sym (version_next V c.args.lookup.now c.stripe-stripe.result c.stripe-stripe.ensures)) c.after_first.ensures.takes
 
 pub returns-after-hit-clause-leads : goal.returns-after-hit-clause-leads
 returns-after-hit-clause-leads g c =
@@ -38,7 +38,7 @@ returns-after-hit-clause-leads g c =
     let old = c.args.seat.now in
     let lookup = c.args.lookup.now in
     let first = leads_on V sh old old c.read_next-version.new.seat lookup lookup c.after_first.new.self _ _ c.read_next-version.result
-    (leads_self V sh old lookup) c.read_next-version.ensures.of c.read_next-version.ensures.one (sym (version_next V lookup c.stripe-stripe.result c.stripe-stripe.ensures)) c.after_first.ensures.takes in
+    (leads_self V sh old lookup) c.read_next-version.ensures.of c.read_next-version.ensures.number c.read_next-version.ensures.one (sym (version_next V lookup c.stripe-stripe.result c.stripe-stripe.ensures)) c.after_first.ensures.takes in
     let slots = leads_trans V sh old c.read_next-version.new.seat c.scan-hit.new.seat lookup c.after_first.new.self c.scan-hit.new.lookup first c.scan-hit.ensures.leads in
     let value : Leads V sh old lookup c.match-hit.seat c.match-hit.lookup = elim c.match-hit.branch [
       | in-Some w ↦ subst (λ (y : ReaderRecord × Lookup V). Leads V sh old lookup y.0 y.1) (λ i. (sym w.seat-is i, sym w.lookup-is i))

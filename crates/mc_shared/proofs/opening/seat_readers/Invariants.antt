@@ -1,6 +1,5 @@
 use Rattle.std.proofs.Common.{◌≡◌, []}
-use Rattle.std.specs.Prelude.{replicate}
-use Rattle.mc_shared.specs.Records.{reader_record}
+use Rattle.mc_shared.specs.Records.{new_readers}
 use Rattle.mc_shared.specs.Views.{writer_view, tally_for}
 use Rattle.mc_shared.proofs.opening.seat_readers.Given as goal
 
@@ -9,5 +8,5 @@ invariant-loop-i l = record {
   table : l.seat.table_id ≡ l.fn.seat.table_id;
   id : l.seat.id ≡ l.fn.seat.id;
   me : l.seat.me ≡ (writer_view l.ruled.layout [] (tally_for l._i), []);
-  seats : l.seats.items ≡ replicate l._i (reader_record l.ruled [] []);
+  seats : l.seats.items ≡ new_readers l.ruled l._i;
 }

@@ -7,4 +7,4 @@ use Rattle.mc_shared.proofs.writer_calls.turn_hand.Goals as goal
 
 pub recency_place-place-requires-clause-item : goal.recency_place-place-requires-clause-item
 recency_place-place-requires-clause-item g c =
-    named_in g.row.V (shape_of c.cells.inside.checked) c.args.cells.now c.args.writer.now (Hand c.args.i) (ap (λ (o : Opening). o.layout) (sym c.cells.view_is) ∙ c.cells.invariant.0) c.requires.of c.known.ensures c.requires.allowed
+    named_in g.row.V (shape_of c.cells.inside.checked) c.args.cells.now c.args.writer.now (Hand c.args.i) (ap (λ (o : Opening). o.layout) (sym c.cells.view_is) ∙ c.cells.invariant.0) c.requires.of c.known.ensures.run c.requires.allowed

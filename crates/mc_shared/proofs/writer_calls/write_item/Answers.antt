@@ -7,4 +7,4 @@ use Rattle.mc_shared.proofs.writer_calls.write_item.Goals as goal
 
 pub item_place-at-requires-clause-item : goal.item_place-at-requires-clause-item
 item_place-at-requires-clause-item g c =
-    (named_in g.row.V (shape_of c.cells.inside.checked) c.args.cells.now c.args.writer.now (Item c.args.i c.args.j c.args.word) (ap (λ (o : Opening). o.layout) (sym c.cells.view_is) ∙ c.cells.invariant.0) c.requires.of c.known.ensures c.requires.allowed).0
+    (named_in g.row.V (shape_of c.cells.inside.checked) c.args.cells.now c.args.writer.now (Item c.args.i c.args.j c.args.word) (ap (λ (o : Opening). o.layout) (sym c.cells.view_is) ∙ c.cells.invariant.0) c.requires.of c.known.ensures.run c.requires.allowed).0

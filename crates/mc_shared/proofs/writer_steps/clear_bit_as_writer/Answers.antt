@@ -10,7 +10,7 @@ use Rattle.mc_shared.proofs.WrittenPlaces.{place_below}
 use Rattle.mc_shared.proofs.PackedBits.{shifted}
 use Rattle.mc_shared.proofs.EachStep.{hands_as}
 use Rattle.mc_shared.proofs.SeatViews.{all_of}
-use Rattle.mc_shared.proofs.SeatSteps.{take_is}
+use Rattle.mc_shared.proofs.SeatSteps.{take_is, note_of}
 use Rattle.mc_shared.proofs.writer_steps.clear_bit_as_writer.Goals as goal
 
 pub fetch_and-found-requires : goal.fetch_and-found-requires
@@ -30,3 +30,6 @@ fetch_and-found-requires g c =
 pub returns-clause-acts : goal.returns-clause-acts
 returns-clause-acts g c =
     take_is c.args.ruled.now.layout c.args.seat.now.me _ g.J.NamesAct.act c.args.item c.fetch_and-found.result _ c.requires.act (shr_and_one c.fetch_and-found.result c.args.bit ∙ ap (λ (b : ℕ). bit_at c.fetch_and-found.result b) c.requires.bit.0) c.requires.seat c.fetch_and-found.ensures.2
+
+pub returns-clause-noted : goal.returns-clause-noted
+returns-clause-noted g c = note_of g.J.NamesAct.act c.args.seat.now.me _ _ c.fetch_and-found.ensures.2

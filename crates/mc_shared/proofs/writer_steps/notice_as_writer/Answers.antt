@@ -8,14 +8,14 @@ use Rattle.mc_theory.specs.declared.act.Act.TheVariants.{Mark}
 use Rattle.mc_words.specs.Recency.{recency_bit}
 use Rattle.mc_shared.specs.Records.{Opening}
 use Rattle.mc_shared.specs.Steps.{SeatView, mark_bit}
-use Rattle.mc_shared.specs.Inside.Steps.{only}
+use Rattle.mc_shared.specs.Inside.Steps.{only, AddsNote}
 use Rattle.mc_shared.specs.Inside.Seats.{MayMake}
 use Rattle.mc_shared.specs.Views.{writer_view, acts_of, tally_of, with_bit}
 use Rattle.mc_shared.proofs.PackedBits.{bit_is}
 use Rattle.mc_shared.proofs.WrittenPlaces.{place_below}
 use Rattle.mc_shared.proofs.EachStep.{remarks_as}
 use Rattle.mc_shared.proofs.SeatViews.{all_of}
-use Rattle.mc_shared.proofs.SeatSteps.{touch_is}
+use Rattle.mc_shared.proofs.SeatSteps.{touch_is, note_of}
 use Rattle.mc_shared.proofs.writer_steps.notice_as_writer.Goals as goal
 
 pub load-found-requires : goal.load-found-requires
@@ -57,3 +57,16 @@ returns-else-found-bit-eq0-clause-acts g c =
     let is = bit_is x c.args.bit c.args.item c.args.item refl c.requires.bit.0 in
     let set : bit_at x (recency_bit c.args.item) ≡ 1 = omega (arith, is, bit_at-lt x (recency_bit c.args.item), c.if-found-bit-eq0.false) in
     touch_is c.args.ruled.now.layout c.args.seat.now.me _ g.J.NamesAct.act c.args.item x c.requires.act c.requires.seat (c.load-found.ensures.2.0 (found_is x c.args.bit c.args.item g.J.NamesAct.act c.requires.act c.requires.bit.0 ∙ set))
+
+pub returns-then-found-bit-eq0-clause-noted : goal.returns-then-found-bit-eq0-clause-noted
+returns-then-found-bit-eq0-clause-noted g c =
+    let x = c.load-found.result in
+    let still = c.load-found.ensures.2.1 (found_is x c.args.bit c.args.item g.J.NamesAct.act c.requires.act c.requires.bit.0 ∙ (bit_is x c.args.bit c.args.item c.args.item refl c.requires.bit.0 ∙ c.if-found-bit-eq0.true)) in
+    subst (λ (m : SeatView). AddsNote m c.set_bit_as_writer.new.seat.me) still c.set_bit_as_writer.ensures.noted
+
+pub returns-else-found-bit-eq0-clause-noted : goal.returns-else-found-bit-eq0-clause-noted
+returns-else-found-bit-eq0-clause-noted g c =
+    let x = c.load-found.result in
+    let is = bit_is x c.args.bit c.args.item c.args.item refl c.requires.bit.0 in
+    let set : bit_at x (recency_bit c.args.item) ≡ 1 = omega (arith, is, bit_at-lt x (recency_bit c.args.item), c.if-found-bit-eq0.false) in
+    note_of g.J.NamesAct.act c.args.seat.now.me _ _ (c.load-found.ensures.2.0 (found_is x c.args.bit c.args.item g.J.NamesAct.act c.requires.act c.requires.bit.0 ∙ set))

@@ -8,7 +8,7 @@ use Rattle.mc_shared.proofs.WrittenPlaces.{place_below}
 use Rattle.mc_shared.proofs.PackedBits.{shifted}
 use Rattle.mc_shared.proofs.EachStep.{touches_as}
 use Rattle.mc_shared.proofs.SeatViews.{all_of}
-use Rattle.mc_shared.proofs.SeatSteps.{touch_is}
+use Rattle.mc_shared.proofs.SeatSteps.{touch_is, note_of}
 use Rattle.mc_shared.proofs.writer_steps.set_bit_as_writer.Goals as goal
 
 pub fetch_or-requires : goal.fetch_or-requires
@@ -27,3 +27,6 @@ fetch_or-requires g c =
 
 pub returns-clause-acts : goal.returns-clause-acts
 returns-clause-acts g c = touch_is c.args.ruled.now.layout c.args.seat.now.me _ g.J.NamesAct.act c.args.item c.fetch_or.result c.requires.act c.requires.seat c.fetch_or.ensures.2
+
+pub returns-clause-noted : goal.returns-clause-noted
+returns-clause-noted g c = note_of g.J.NamesAct.act c.args.seat.now.me _ _ c.fetch_or.ensures.2

@@ -10,7 +10,7 @@ use Rattle.mc_shared.proofs.WrittenPlaces.{place_below}
 use Rattle.mc_shared.proofs.EachStep.{makes_as}
 use Rattle.mc_shared.proofs.RecencySteps.{store_bits, store_past}
 use Rattle.mc_shared.proofs.SeatViews.{all_of}
-use Rattle.mc_shared.proofs.SeatSteps.{put_is}
+use Rattle.mc_shared.proofs.SeatSteps.{put_is, note_of}
 use Rattle.mc_shared.proofs.writer_steps.store_as_writer.Goals as goal
 
 pub store-requires : goal.store-requires
@@ -30,3 +30,6 @@ store-requires g c =
 
 pub returns-clause-acts : goal.returns-clause-acts
 returns-clause-acts g c = put_is c.args.ruled.now.layout c.args.seat.now.me _ g.J.NamesAct.act c.args.act c.args.word c.requires.act c.requires.low c.requires.seat c.store.ensures.2
+
+pub returns-clause-noted : goal.returns-clause-noted
+returns-clause-noted g c = note_of g.J.NamesAct.act c.args.seat.now.me _ _ c.store.ensures.2

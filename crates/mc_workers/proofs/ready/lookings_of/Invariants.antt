@@ -1,13 +1,12 @@
 use Rattle.std.proofs.Common.{ℕ, ◌≡◌, ◌+◌, [], length}
-use Rattle.std.specs.Prelude.{replicate}
-use Rattle.mc_shared.specs.Records.{Opening, reader_record}
+use Rattle.mc_shared.specs.Records.{Opening, new_readers}
 use Rattle.mc_workers.specs.Inside.Workers.{AreReady}
 use Rattle.mc_workers.proofs.ready.lookings_of.Given as goal
 
 abbrev pub invariant-loop-reader : goal.invariant-loop-reader
 invariant-loop-reader g l = record {
-  readers : (o : Opening) → l.fn.readers.items ≡ replicate l.fn.load.readers (reader_record o [] []) → l.readers.items ≡ replicate (length l.readers.items) (reader_record o [] []);
-  ready : (o : Opening) → l.fn.readers.items ≡ replicate l.fn.load.readers (reader_record o [] []) → AreReady g.row.V o l.fn.load.lookups l.lookings.items;
+  readers : (o : Opening) → l.fn.readers.items ≡ new_readers o l.fn.load.readers → l.readers.items ≡ new_readers o (length l.readers.items);
+  ready : (o : Opening) → l.fn.readers.items ≡ new_readers o l.fn.load.readers → AreReady g.row.V o l.fn.load.lookups l.lookings.items;
   many : length l.lookings.items + length l.readers.items ≡ length l.fn.readers.items;
 }
 

@@ -5,6 +5,7 @@ use Rattle.mc_plan.specs.Plans.{value_acts}
 use Rattle.mc_shared.specs.declared.layout.Layout.{Layout}
 use Rattle.mc_plan.specs.Due.{AreDue}
 use Rattle.mc_writer.proofs.Due.{due_apart}
+use Rattle.mc_shared.proofs.GrownNotes.{grow_trans}
 use Rattle.mc_writer.proofs.deeds.fill.Goals as goal
 
 pub word-requires : goal.word-requires
@@ -63,3 +64,6 @@ returns-clause-due g c = λ all due d.
     let d4 = c.slot.ensures.due all _ d3 in
     let d5 = c.count.ensures.due all _ d4 in
     c.close.ensures.due all _ d5
+
+pub returns-clause-notes : goal.returns-clause-notes
+returns-clause-notes g c = grow_trans (grow_trans (grow_trans (grow_trans (grow_trans c.open.ensures.notes c.word.ensures.notes) c.write_value.ensures.notes) c.slot.ensures.notes) c.count.ensures.notes) c.close.ensures.notes

@@ -1,8 +1,5 @@
-use Rattle.std.proofs.Common.{◌∙◌, [], ◌∷◌, arith}
-use Rattle.mc_theory.specs.declared.act.Act.TheVariants as act
-use Rattle.mc_words.specs.Keys.{tag_of, slot_word}
-use Rattle.mc_plan.specs.Plans.{value_acts}
-use Rattle.mc_writer.proofs.Due.{due_apart}
+use Rattle.std.proofs.Common.{◌∙◌, arith}
+use Rattle.mc_shared.proofs.GrownNotes.{grow_trans}
 use Rattle.mc_writer.proofs.deeds.make_move.Goals as goal
 
 pub slot-requires : goal.slot-requires
@@ -29,3 +26,6 @@ returns-clause-due g c = λ all due d.
     let d2 = c.slot.ensures.due all _ d1 in
     let d3 = c.slot-2.ensures.due all _ d2 in
     c.close.ensures.due all _ d3
+
+pub returns-clause-notes : goal.returns-clause-notes
+returns-clause-notes g c = grow_trans (grow_trans (grow_trans c.open.ensures.notes c.slot.ensures.notes) c.slot-2.ensures.notes) c.close.ensures.notes

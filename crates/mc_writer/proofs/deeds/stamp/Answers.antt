@@ -1,11 +1,15 @@
-use Rattle.std.proofs.Common.{sym, subst, arith}
+use Rattle.std.proofs.Common.{List, sym, subst}
 use Rattle.mc_theory.specs.declared.act.Act.TheVariants as act
-use Rattle.mc_shared.specs.Records.{WriterRecord}
+use Rattle.mc_theory.specs.Lists.{Made}
 use Rattle.mc_plan.specs.Due.{AreDue}
-use Rattle.mc_writer.proofs.Due.{due_may, due_made}
+use Rattle.mc_writer.proofs.Due.{due_made}
+use Rattle.mc_shared.proofs.GrownNotes.{grow_acted}
 use Rattle.mc_writer.proofs.deeds.stamp.Goals as goal
 
 pub returns-clause-due : goal.returns-clause-due
 returns-clause-due g c = λ all due d.
-    subst (λ (w : WriterRecord). AreDue g.row.V c.args.cells.now.layout.shape all w.acts due) (sym c.set_mark_unless_set.ensures.acts)
+    subst (λ (xs : List Made). AreDue g.row.V c.args.cells.now.layout.shape all xs due) (sym c.set_mark_unless_set.ensures.acted.acts)
     (due_made g.row.V c.args.cells.now.layout.shape all c.args.seat.now.acts (act.Mark c.args.i) due d)
+
+pub returns-clause-notes : goal.returns-clause-notes
+returns-clause-notes g c = grow_acted c.set_mark_unless_set.ensures.acted

@@ -1,6 +1,7 @@
 use Rattle.std.proofs.Common.{◌∙◌, ◌+◌, ◌++◌, drop, refl, arith}
 use Rattle.mc_plan.specs.Plans.{value_acts}
 use Rattle.mc_writer.proofs.Due.{value_due, values_end}
+use Rattle.mc_shared.proofs.GrownNotes.{grow_self, grow_trans}
 use Rattle.mc_writer.proofs.deeds.write_value.Goals as goal
 
 pub word-requires : goal.word-requires
@@ -14,6 +15,7 @@ word-requires g c =
 pub loop-j-preserved : goal.loop-j-preserved
 loop-j-preserved g c = record {
   of = c.word.ensures.of ∙ c.loop-j.invariant.of;
+  notes = grow_trans c.loop-j.invariant.notes c.word.ensures.notes;
   due = λ all due d.
       let v = c.args.value.now in
       let j = c.loop-j.j in
@@ -24,3 +26,6 @@ loop-j-preserved g c = record {
 pub returns-clause-due : goal.returns-clause-due
 returns-clause-due g c = λ all due d.
     values_end g.row.V c.args.cells.now.layout.shape all c.loop-j.seat.acts c.args.i c.loop-j.j c.args.value.now due (omega arith) (c.loop-j.invariant.due all due d)
+
+pub loop-j-init : goal.loop-j-init
+loop-j-init g c = record { of = refl; notes = grow_self c.args.seat.now.notes; due = λ all due d. d }

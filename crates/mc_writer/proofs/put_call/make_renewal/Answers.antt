@@ -1,5 +1,6 @@
 use Rattle.std.proofs.Common.{◌∙◌, [], ◌∷◌, arith}
 use Rattle.mc_theory.specs.declared.act.Act.TheVariants as act
+use Rattle.mc_shared.proofs.GrownNotes.{grow_trans}
 use Rattle.mc_writer.proofs.put_call.make_renewal.Goals as goal
 
 pub stamp-requires : goal.stamp-requires
@@ -9,3 +10,6 @@ stamp-requires g c =
 
 pub returns-clause-due : goal.returns-clause-due
 returns-clause-due g c = λ all d. c.stamp.ensures.due all [] (c.renew.ensures.due all (act.Mark c.args.item ∷ []) d)
+
+pub returns-clause-notes : goal.returns-clause-notes
+returns-clause-notes g c = grow_trans c.renew.ensures.notes c.stamp.ensures.notes

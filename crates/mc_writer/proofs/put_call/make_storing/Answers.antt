@@ -1,11 +1,11 @@
-use Rattle.std.proofs.Common.{◌∙◌, ◌++◌, List, [], ◌∷◌, arith, ap, sym, subst}
+use Rattle.std.proofs.Common.{◌∙◌, ◌++◌, List, [], ◌∷◌, arith, sym, subst}
 use Rattle.mc_theory.specs.Lists.{Made}
-use Rattle.mc_theory.specs.declared.act.Act.{Act}
 use Rattle.mc_theory.specs.declared.act.Act.TheVariants as act
 use Rattle.mc_plan.specs.Decisions.{acts_of_moves, storing_acts}
 use Rattle.mc_plan.specs.declared.decision.Move.{Move}
 use Rattle.mc_plan.specs.Due.{AreDue}
 use Rattle.mc_plan.specs.Plans.{fill_acts}
+use Rattle.mc_shared.proofs.GrownNotes.{grow_trans}
 use Rattle.mc_writer.proofs.put_call.make_storing.Goals as goal
 use Rattle.mc_writer.proofs.put_call.make_storing.Goals.{After-make_moves}
 use Rattle.mc_writer.proofs.put_call.make_storing.Given.{Over}
@@ -32,3 +32,6 @@ stamp-requires g c =
 pub returns-clause-due : goal.returns-clause-due
 returns-clause-due g c = λ all d.
     c.stamp.ensures.due all [] (c.fill.ensures.due all (act.Mark c.args.storing.now.item ∷ []) (moved g (goal.at.returns-clause-due g c).After-make_moves all d))
+
+pub returns-clause-notes : goal.returns-clause-notes
+returns-clause-notes g c = grow_trans (grow_trans c.make_moves.ensures.notes c.fill.ensures.notes) c.stamp.ensures.notes

@@ -1,11 +1,9 @@
-use Rattle.std.proofs.Common.{rules, arith, ℕ, ◌≡◌, ◌∙◌, ◌<◌, List, Ok, Err, Some, ap, refl, sym, subst}
+use Rattle.std.proofs.Common.{rules, arith, ℕ, ◌≡◌, ◌∙◌, ◌<◌, List, Ok, Err, Some, ap, sym, subst}
 use Rattle.mc_words.specs.Checks.{shape_of}
 use Rattle.mc_words.specs.declared.shape.Shape.{Shape}
-use Rattle.mc_theory.specs.Lists.{Made, state_of}
-use Rattle.mc_theory.specs.declared.act.Act.{Act}
+use Rattle.mc_theory.specs.Lists.{state_of}
 use Rattle.mc_plan.specs.Clerks.{IsPlanned, PutCall, Waits, state_after_sweep}
 use Rattle.mc_plan.specs.Decisions.{exchange_acts}
-use Rattle.mc_plan.specs.Making.{as_made}
 use Rattle.mc_plan.specs.declared.answer.Answer.TheVariants as answer
 use Rattle.mc_plan.specs.declared.answer.Put.TheVariants as put
 use Rattle.mc_search.specs.declared.path.Path.{Path}
@@ -101,7 +99,7 @@ replaced g c =
     let same : ◌≡◌ {A = Shape × ℕ × List ℕ} (shape_of b.checked, c.turn_round.new.waiting.key, c.turn_round.new.waiting.value) (sh, key, value) = λ i. (shape i, (c.turn_round.ensures.key ∙ c.new-waiting.ensures.key) i, (c.turn_round.ensures.value ∙ c.new-waiting.ensures.value) i) in
     let told = answer.Put (Ok (put.Stored r.at 0 (Some r.evicted))) in
     let planned = subst (λ (y : Shape × ℕ × List ℕ). IsPlanned V b (exchange_acts y.0 y.1 y.2 r) (PutCall key value) s (state_after_sweep V (shape_of b.checked) s t.readings) told) same f.planned in
-    due_made_all V o c.args.books.now b c.turn_round.new.waiting key value before c.turn_round.new.seat c.finish_near.new.seat c.requires.layout c.requires.of t c.finish_near.ensures.seat c.finish_near.ensures.shape (exchange_acts sh key value r) told c.make_exchange.new.seat planned f.sweeps c.make_exchange.ensures.of c.make_exchange.ensures.due
+    due_made_all V o c.args.books.now b c.turn_round.new.waiting key value before c.turn_round.new.seat c.finish_near.new.seat c.requires.layout c.requires.of t c.finish_near.ensures.seat c.finish_near.ensures.shape (exchange_acts sh key value r) told c.make_exchange.new.seat planned f.sweeps c.make_exchange.ensures.of c.make_exchange.ensures.notes c.make_exchange.ensures.due
 
 pub returns-in-Ok-clause-called : goal.returns-in-Ok-clause-called
 returns-in-Ok-clause-called g c = (replaced g (goal.at.returns-in-Ok-clause-called g c).After-make_exchange).0

@@ -1,7 +1,7 @@
 use Rattle.mc_plan.specs.Due.{AreDue}
 use Rattle.mc_plan.specs.Making.{as_made}
 use Rattle.mc_plan.proofs.Calls.DueActs.{planned_due}
-use Rattle.std.proofs.Common.{arith, ◌≡◌, ◌<◌, ◌++◌, ◌∙◌, [], Ok, None, ap, refl, sym, subst}
+use Rattle.std.proofs.Common.{arith, ◌≡◌, ◌<◌, ◌++◌, ◌∙◌, Ok, None, ap, refl, sym, subst}
 use Rattle.mc_words.specs.Checks.{shape_of}
 use Rattle.mc_words.specs.declared.shape.Shape.{Shape}
 use Rattle.mc_theory.specs.Lists.{state_of}
@@ -9,7 +9,7 @@ use Rattle.mc_plan.specs.Clerks.{PutCall, IsPlanned}
 use Rattle.mc_plan.specs.Decisions.{filling_acts}
 use Rattle.mc_plan.specs.declared.answer.Answer.TheVariants as answer
 use Rattle.mc_plan.specs.declared.answer.Put.TheVariants as put
-use Rattle.mc_shared.specs.Records.{Opening, WriterRecord}
+use Rattle.mc_shared.specs.Records.{WriterRecord}
 use Rattle.mc_shared.specs.Views.{layout_of}
 use Rattle.mc_writer.specs.WriterCalls.{HasCalled, IsRested}
 use Rattle.mc_writer.proofs.WholeCalls.{made_now}
@@ -61,7 +61,7 @@ stored g c =
     let shape : shape_of b.checked ≡ sh = sym (ap (λ (l : Layout). l.shape) layout) in
     let planned : IsPlanned V b (filling_acts sh c.args.key c.args.value.now i p) call s s told =
     subst (λ (x : Shape). IsPlanned V b (filling_acts x c.args.key c.args.value.now i p) call s s told) shape c.in-Fill.ensures.near.1 in
-    made_now V c.args.cells.now b (filling_acts sh c.args.key c.args.value.now i p) call told c.args.seat.now c.decide_near.new.seat c.make_filling.new.seat c.requires.of layout c.decide_near.ensures.seat c.make_filling.ensures.of c.make_filling.ensures.due refl planned
+    made_now V c.args.cells.now b (filling_acts sh c.args.key c.args.value.now i p) call told c.args.seat.now c.decide_near.new.seat c.make_filling.new.seat c.requires.of layout c.decide_near.ensures.seat c.make_filling.ensures.of c.make_filling.ensures.notes c.make_filling.ensures.due refl planned
 
 pub returns-in-Fill-clause-called : goal.returns-in-Fill-clause-called
 returns-in-Fill-clause-called g c = (stored g (goal.at.returns-in-Fill-clause-called g c).After-make_filling).0

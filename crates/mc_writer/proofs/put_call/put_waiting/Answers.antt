@@ -1,11 +1,9 @@
-use Rattle.std.proofs.Common.{rules, arith, ℕ, ◌≡◌, ◌∙◌, ◌<◌, List, Ok, Err, Some, ap, refl, sym, subst}
+use Rattle.std.proofs.Common.{rules, arith, ℕ, ◌≡◌, ◌∙◌, ◌<◌, List, Ok, Err, Some, ap, sym, subst}
 use Rattle.mc_words.specs.Checks.{shape_of}
 use Rattle.mc_words.specs.declared.shape.Shape.{Shape}
-use Rattle.mc_theory.specs.Lists.{Made, state_of}
-use Rattle.mc_theory.specs.declared.act.Act.{Act}
+use Rattle.mc_theory.specs.Lists.{state_of}
 use Rattle.mc_plan.specs.Clerks.{IsPlanned, IsSweepOf, PutCall, state_after_sweep}
 use Rattle.mc_plan.specs.Decisions.{replacement_acts, storing_told}
-use Rattle.mc_plan.specs.Making.{as_made}
 use Rattle.mc_plan.specs.declared.answer.Answer.TheVariants as answer
 use Rattle.mc_plan.specs.declared.answer.Put.{Put}
 use Rattle.mc_plan.specs.declared.decision.Storing.{Storing}
@@ -108,7 +106,7 @@ replaced g c =
     subst (λ (x : Storing). IsPlanned V b (replacement_acts (shape_of b.checked) c.turn_round.new.waiting.key c.turn_round.new.waiting.value r x) (PutCall key value) s (state_after_sweep V (shape_of b.checked) s t.readings) (answer.Put (Ok (storing_told x (Some r.evicted))))) (sym c.decided-storing.ensures) f.planned in
     let planned = subst (λ (y : Shape × ℕ × List ℕ). IsPlanned V b (replacement_acts y.0 y.1 y.2 r d) (PutCall key value) s (state_after_sweep V (shape_of b.checked) s t.readings) told) same plans in
     let done = due_made_all V o c.args.books.now b c.turn_round.new.waiting key value before c.turn_round.new.seat c.finish.new.seat c.requires.layout c.requires.of t c.finish.ensures.seat c.finish.ensures.shape (replacement_acts sh key value r d) told c.make_replacement.new.seat planned
-    (subst (λ (x : Storing). IsSweepOf V (shape_of b.checked) s t.readings (answer.Put (Ok (storing_told x (Some r.evicted))))) (sym c.decided-storing.ensures) f.sweeps) c.make_replacement.ensures.of c.make_replacement.ensures.due in
+    (subst (λ (x : Storing). IsSweepOf V (shape_of b.checked) s t.readings (answer.Put (Ok (storing_told x (Some r.evicted))))) (sym c.decided-storing.ensures) f.sweeps) c.make_replacement.ensures.of c.make_replacement.ensures.notes c.make_replacement.ensures.due in
     (subst (λ (x : Put). HasCalled V sh (PutCall key value) before c.make_replacement.new.seat (answer.Put (Ok x))) (sym c.told.ensures) done.0, done.1)
 
 pub returns-in-Ok-clause-called : goal.returns-in-Ok-clause-called

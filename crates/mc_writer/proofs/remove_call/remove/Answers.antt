@@ -1,9 +1,8 @@
-use Rattle.std.proofs.Common.{◌≡◌, ◌∙◌, ◌++◌, [], List, Ok, ap, refl, sym, arith}
+use Rattle.std.proofs.Common.{◌∙◌, [], Ok, ap, refl, sym, arith}
 use Rattle.mc_words.specs.Checks.{shape_of}
 use Rattle.mc_words.specs.declared.shape.Shape.{Shape}
-use Rattle.mc_theory.specs.Lists.{Made, state_of}
+use Rattle.mc_theory.specs.Lists.{state_of}
 use Rattle.mc_plan.specs.Clerks.{RemoveCall}
-use Rattle.mc_plan.specs.Making.{as_made}
 use Rattle.mc_plan.specs.Plans.{remove_acts}
 use Rattle.mc_plan.specs.declared.answer.Answer.TheVariants as answer
 use Rattle.mc_plan.specs.declared.answer.Remove.TheVariants as remove
@@ -35,7 +34,7 @@ removed : (g : Over) (c : After-take_out g) → HasCalled g.row.V c.args.cells.n
 removed g c =
     let V = g.row.V in
     let layout = sym (ap (λ (o : Opening). o.layout) c.requires.of) ∙ (c.requires.rested.layout ∙ ap (λ (x : Shape). layout_of V x) (ap shape_of (sym c.decide_removal.ensures.shape))) in
-    made_now V c.args.cells.now c.decide_removal.new.books (remove_acts c.args.key c.in-TakeOut.place) (RemoveCall c.args.key) (answer.Remove (Ok (remove.Removed c.in-TakeOut.at))) c.args.seat.now c.decide_removal.new.seat c.take_out.new.seat c.requires.of layout c.decide_removal.ensures.seat c.take_out.ensures.of (λ all. c.take_out.ensures.due all []) refl c.in-TakeOut.ensures.decided
+    made_now V c.args.cells.now c.decide_removal.new.books (remove_acts c.args.key c.in-TakeOut.place) (RemoveCall c.args.key) (answer.Remove (Ok (remove.Removed c.in-TakeOut.at))) c.args.seat.now c.decide_removal.new.seat c.take_out.new.seat c.requires.of layout c.decide_removal.ensures.seat c.take_out.ensures.of c.take_out.ensures.notes (λ all. c.take_out.ensures.due all []) refl c.in-TakeOut.ensures.decided
 
 pub returns-in-TakeOut-clause-called : goal.returns-in-TakeOut-clause-called
 returns-in-TakeOut-clause-called g c = (removed g (goal.at.returns-in-TakeOut-clause-called g c).After-take_out).0

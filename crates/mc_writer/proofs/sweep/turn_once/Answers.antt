@@ -5,7 +5,7 @@ use Rattle.mc_theory.specs.declared.act.Act.TheVariants.{Hand}
 use Rattle.mc_search.specs.Sweeps.{Swept, hand_acts}
 use Rattle.mc_plan.proofs.Calls.DueActs.{sweep_may}
 use Rattle.mc_plan.proofs.Calls.SweptStates.{hand_acts_then}
-use Rattle.mc_shared.specs.Records.{WriterRecord, writer_record}
+use Rattle.mc_shared.proofs.GrownNotes.{grow_trans, grow_acted}
 use Rattle.mc_writer.proofs.sweep.turn_once.Goals as goal
 
 pub turn_hand-bit-requires : goal.turn_hand-bit-requires
@@ -13,7 +13,7 @@ turn_hand-bit-requires g c =
     let sh = c.args.cells.now.layout.shape in
     let r = c.requires.turned in
     let may = (sweep_may g.row.V sh c.args.books.now c.args.waiting.now r.0 r.1.acts r.2.readings c.requires.shape r.2.sweeping).1 c.args.i c.requires.next in
-    let at : r.1.acts ++ hand_acts r.2.readings ≡ c.args.seat.now.acts = sym (ap (λ (w : WriterRecord). w.acts) r.2.acts) in
+    let at : r.1.acts ++ hand_acts r.2.readings ≡ c.args.seat.now.acts = sym r.2.acts in
     (omega arith, (c.requires.of, subst (λ (xs : List Made). IsAllowed sh (state_of g.row.V sh xs) (Hand c.args.i)) at may))
 
 pub after-requires : goal.after-requires
@@ -25,13 +25,14 @@ pub returns-clause-turned : goal.returns-clause-turned
 returns-clause-turned g c call before turned =
     let read : Swept = record { item = c.args.i; bit = c.turn_hand-bit.result } in
     let acts : c.turn_hand-bit.new.writer.acts ≡ before.acts ++ hand_acts (turned.readings ++ read ∷ []) =
-    ap (λ (w : WriterRecord). w.acts) c.turn_hand-bit.ensures.acts
-    ∙ ap (λ (w : WriterRecord). w.acts ++ record { act = Hand c.args.i; bit = c.turn_hand-bit.result } ∷ []) turned.acts
+    c.turn_hand-bit.ensures.acted.acts
+    ∙ ap (λ (xs : List Made). xs ++ record { act = Hand c.args.i; bit = c.turn_hand-bit.result } ∷ []) turned.acts
     ∙ append_assoc before.acts (hand_acts turned.readings) (record { act = Hand c.args.i; bit = c.turn_hand-bit.result } ∷ [])
     ∙ ap (λ (xs : List Made). before.acts ++ xs) (sym (hand_acts_then turned.readings (read ∷ []))) in
-    let of = ap (λ (w : WriterRecord). w.of) c.turn_hand-bit.ensures.acts ∙ ap (λ (w : WriterRecord). w.of) turned.acts in
     record {
       readings = turned.readings ++ read ∷ [];
-      acts = λ k. writer_record (of k) (acts k);
+      of = c.turn_hand-bit.ensures.acted.of ∙ turned.of;
+      acts = acts;
+      notes = grow_trans turned.notes (grow_acted c.turn_hand-bit.ensures.acted);
       sweeping = c.after.ensures.swept c.args.books.now call _ turned.readings c.args.i turned.sweeping c.requires.next;
     }

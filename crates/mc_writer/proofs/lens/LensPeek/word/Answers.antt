@@ -1,9 +1,8 @@
-use Rattle.std.proofs.Common.{◌≡◌, ℕ, ◌<◌, refl, ap, sym, ◌∙◌, subst, arith}
+use Rattle.std.proofs.Common.{◌≡◌, ℕ, ap, sym, subst, arith}
 use base.Stored.{Coded-set}
 use borrow.Rule.Reborrow.{re_v}
-use Rattle.mc_words.specs.Places.{word_count}
 use Rattle.mc_theory.proofs.Lists.Bounds.{state_length}
-use Rattle.mc_shared.specs.Records.{Opening, WriterRecord}
+use Rattle.mc_shared.specs.Records.{WriterRecord}
 use Rattle.mc_shared.specs.contracts.ruled_words.RuledWords.{the_row}
 use Rattle.mc_writer.specs.declared.lens.Lens.{Lens}
 use Rattle.mc_writer.proofs.lens.LensPeek.word.Goals as goal
