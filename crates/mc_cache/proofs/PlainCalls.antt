@@ -1,16 +1,16 @@
 -- What calls of the cache mean, from what they do to records.
-use Rattle.std.proofs.Common.{ℕ, zero, suc, ◌≡◌, ◌∙◌, List, [], ◌∷◌, ◌++◌, length, Option, Some, None, Result, Ok, Err, All, ap, append-nil, append_assoc, refl, sym, subst}
+use Rattle.std.proofs.Common.{ℕ, zero, suc, ◌≡◌, ◌∙◌, List, [], ◌∷◌, ◌++◌, length, Option, Some, None, Result, Ok, Err, All, ap, arith, append-nil, append_assoc, refl, sym, subst}
 use Rattle.std.proofs.lemmas.List.Elements.{All-nil, All-push}
 use Rattle.mc_words.proofs.Maps.{held-put, held-remove}
-use Rattle.mc_words.specs.History.{map_value, IsTrueAnswer}
+use Rattle.mc_words.specs.History.{map_value, IsLegal, IsTrueAnswer}
 use Rattle.mc_words.specs.declared.history.Change.{Change}
 use Rattle.mc_words.specs.declared.history.Change.TheVariants as change
 use Rattle.mc_words.specs.declared.history.Reply.{Reply}
 use Rattle.mc_words.specs.declared.history.Reply.TheVariants.{Found, Absent, Busy}
 use Rattle.mc_words.specs.declared.shape.Shape.{Shape}
-use Rattle.mc_theory.proofs.Lists.Fronts.{state_append, state_none}
+use Rattle.mc_theory.proofs.Lists.Fronts.{front_all, state_append, state_none}
 use Rattle.mc_theory.proofs.Lists.Histories.{history_all}
-use Rattle.mc_theory.specs.Lists.{Made, after_all, state_of}
+use Rattle.mc_theory.specs.Lists.{IsLawful, Made, after_all, state_of}
 use Rattle.mc_theory.specs.Plain.{IsBetween}
 use Rattle.mc_theory.specs.States.{State, opening}
 use Rattle.mc_plan.specs.Calls.{PutAnswers, RemoveAnswers}
@@ -27,7 +27,12 @@ use Rattle.mc_words.specs.Answers.{Quiet}
 use Rattle.mc_shared.specs.Records.{Opening, ReaderRecord, WriterRecord, new_readers, reader_record}
 use Rattle.mc_shared.specs.Views.{IsFrontOf, layout_state, with_bit}
 use Rattle.mc_writer.specs.WriterCalls.{HasCalled, HasGot, IsRested}
-use Rattle.mc_writer.proofs.Rests.{agrees_now}
+use Rattle.mc_writer.proofs.Rests.{agrees_now, shape_is}
+use Rattle.mc_words.specs.Checks.{shape_of}
+use Rattle.mc_theory.specs.Phases.{Quiet as QuietPhase}
+use Rattle.mc_theory.proofs.Replies.TrueReplies.{agrees_always}
+use Rattle.mc_shared.specs.SeatFacts.{IsRun}
+use Rattle.mc_cache.specs.Resting.{IsAtRest}
 use Rattle.mc_search.specs.Entries.{AreEntriesOf}
 use Rattle.mc_plan.specs.declared.books.Books.{Books}
 use Rattle.mc_words.specs.Places.{moment}
@@ -127,6 +132,24 @@ unfolding history
 moment_tells V books self seat n same rested e =
     let wide : seat.of.layout.width ≡ V = ap (λ (l : Layout). l.width) rested.layout in
     e ∙ ap (λ (w : ℕ). moment (state_of w seat.of.layout.shape seat.acts).words) wide ∙ (agrees_now V seat.of books seat refl rested).at_moment ∙ ap (λ (w : WriterRecord). length (history V w)) same
+
+-- ---- a writer between two calls
+pub rests_now : (V : ℕ) (books : Books) (self seat : WriterRecord) → seat ≡ self → IsRested V books seat → IsAtRest V self
+rests_now V books self seat same rested =
+    let sh : shape_of books.checked ≡ seat.of.layout.shape = shape_is V seat.of books seat refl rested in
+    subst (IsAtRest V) same (record {
+      quiet = subst (λ (z : Shape). (state_of V z seat.acts).phase ≡ QuietPhase) sh rested.known.quiet.quiet;
+      agrees = agrees_now V seat.of books seat refl rested;
+    })
+
+pub legal_now : (V : ℕ) (books : Books) (self seat : WriterRecord) → seat ≡ self → IsRested V books seat → IsRun seat.of.layout seat.acts → IsLegal self.of.layout.shape.items (history V self)
+unfolding history
+legal_now V books self seat same rested run =
+    let sh = seat.of.layout.shape in
+    let wide : seat.of.layout.width ≡ V = ap (λ (l : Layout). l.width) rested.layout in
+    let lawful : IsLawful V sh seat.acts = subst (λ (w : ℕ). IsLawful w sh seat.acts) wide run.lawful in
+    subst (λ (w : WriterRecord). IsLegal w.of.layout.shape.items (history V w)) same
+    (subst (λ (s : State V). IsLegal sh.items s.history) (front_all V sh seat.acts (length seat.acts) (omega arith)) (agrees_always V sh seat.acts (length seat.acts) run.shape lawful).1)
 
 -- a new cache has no history, and no reader has seen any
 pub history_new : (V : ℕ) (o : Opening) (w : WriterRecord) → w.of ≡ o → w.acts ≡ [] → history V w ≡ []

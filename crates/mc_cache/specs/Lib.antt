@@ -3,6 +3,7 @@ pub mod Openings
 pub mod Orders
 pub mod Plain
 pub mod PlainLaws
+pub mod Resting
 -- what callers name besides
 pub use Rattle.mc_words.specs.declared.history.Change
 pub use Rattle.mc_words.specs.declared.history.Reply

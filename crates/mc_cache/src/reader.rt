@@ -6,7 +6,8 @@ ghost use Rattle.mc_words.specs.History.{IsTrueAnswer, map_value};
 ghost use Rattle.mc_words.specs.Standing.{Stands};
 ghost use Rattle.mc_writer.specs.WriterCalls.{IsRested};
 ghost use Rattle.mc_shared.specs.Records.{reader_record};
-ghost use Rattle.mc_shared.specs.Views.{IsFrontOf};
+ghost use Rattle.mc_shared.specs.Views.{AreLawful, IsFrontOf};
+ghost use Rattle.mc_shared.specs.TableRule.{IsRecord};
 ghost use Rattle.mc_reader.specs.Records.{HasLooked};
 ghost use Rattle.mc_cache.specs.Beside.{HasLookedBeside};
 ghost use Rattle.mc_cache.specs.Orders.{HasAnsweredInOrder};
@@ -45,6 +46,15 @@ impl<const V: usize> Reader<V> {
         ensures plain { HasAnswered V (seen V self.old) (seen V self.new) key result }
     {
         get(&cache.cells, &mut self.seat, key)
+    }
+
+    /// What is always known of a reader: the front that it has seen is lawful, and each word that it read is the one that its
+    /// place had at its front; the fronts don't fall. It does nothing when it runs.
+    pub fn known(&self)
+        ensures lawful { AreLawful self.now.of.layout self.now.front }
+        ensures recorded { IsRecord self.now.of.layout self.now.front self.now.done }
+    {
+        self.seat.known();
     }
 
     /// The writer's moment. No later answer of this reader has a lower one.

@@ -1,6 +1,8 @@
 //! The writer.
 ghost use Rattle.std.specs.Prelude.{◌≡◌, length};
 ghost use Rattle.mc_theory.specs.Lists.{state_of};
+ghost use Rattle.mc_shared.specs.SeatFacts.{IsRun};
+ghost use Rattle.mc_cache.specs.Resting.{IsAtRest};
 ghost use Rattle.mc_cache.specs.Plain.{IsLegal, PutMeans, RemovalMeans, TellsNow, history};
 ghost use Rattle.mc_plan.specs.Clerks.{PutCall, RemoveCall};
 ghost use Rattle.mc_plan.specs.declared.answer.Answer.TheVariants as answer;
@@ -68,5 +70,16 @@ impl<const V: usize> Writer<V> {
         ensures plain { result ≡ length (history V self.now) }
     {
         self.seat.moment()
+    }
+
+    /// What is always known of a writer between two calls: its acts are lawful and within the limit, each has its note, no deed
+    /// runs, the words agree with the history, and the history is legal. It does nothing when it runs.
+    pub fn known(&self)
+        ensures run { IsRun self.now.of.layout self.now.acts }
+        ensures paired { length self.now.notes ≡ length self.now.acts }
+        ensures rests { IsAtRest V self.now }
+        ensures plain { IsLegal self.now.of.layout.shape.items (history V self.now) }
+    {
+        self.seat.known();
     }
 }

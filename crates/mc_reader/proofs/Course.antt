@@ -85,14 +85,16 @@ over_left : {V : ℕ} (l : Lookup V) (reply : Reply V) → reply_now l ≡ Some 
 unfolding IsRemainder
 over_left l reply e = over_at l l.stage reply e
 
-pub ends : (V : ℕ) (sh : Shape) (k : ℕ) (before after : ReaderRecord) (lookup : Lookup V) (reply : Reply V) → reply_now lookup ≡ Some reply → IsOnCourse V sh k before after lookup → HasLooked V sh k before after reply
-ends V sh k before after lookup reply over w = record {
+pub ends : (V : ℕ) (sh : Shape) (k : ℕ) (before after : ReaderRecord) (lookup : Lookup V) (reply : Reply V) → after.of.layout ≡ layout_of V sh → IsRecord after.of.layout after.front after.done → reply_now lookup ≡ Some reply
+    → IsOnCourse V sh k before after lookup → HasLooked V sh k before after reply
+ends V sh k before after lookup reply layout recorded over w = record {
   rs = w.rs;
   of = w.of;
   number = w.number;
   done = w.done;
   begins = w.begins;
   rise = w.rise;
+  read = (read_parts V sh after.front before.done w.rs (subst (λ (z : List Reading). AreRead V sh after.front z) w.done (subst (λ l. IsRecord l after.front after.done) layout recorded).read)).1;
   looked = subst (λ (z : List Reading). IsLookup V sh k sh.tries z reply) (append-nil w.rs) ((w.left [] reply).0 (over_left lookup reply over));
   steps = omega (arith, w.steps);
 }
@@ -101,13 +103,11 @@ ends V sh k before after lookup reply over w = record {
 old_front : (V : ℕ) (sh : Shape) (xs ys : List Made) → IsFrontOf xs ys → front V sh ys (length xs) ≡ state_of V sh xs
 old_front V sh xs ys p = ap (λ (z : List Made). front V sh z (length xs)) p.1 ∙ (front_append V sh xs p.0 (length xs) (omega arith) ∙ front_all V sh xs (length xs) (omega arith))
 
-pub tells_true : (V : ℕ) (sh : Shape) (k : ℕ) (before after : ReaderRecord) (reply : Reply V) → IsShape sh → k < 2 ^ 64 → after.of.layout ≡ layout_of V sh → AreLawful after.of.layout after.front → IsRecord after.of.layout after.front after.done → HasLooked V sh k before after reply
+pub tells_true : (V : ℕ) (sh : Shape) (k : ℕ) (before after : ReaderRecord) (reply : Reply V) → IsShape sh → k < 2 ^ 64 → after.of.layout ≡ layout_of V sh → AreLawful after.of.layout after.front → HasLooked V sh k before after reply
     → IsTrueAnswer (state_of V sh after.front).history k reply × IsBetween (length (state_of V sh before.front).history) (length (state_of V sh after.front).history) reply
-tells_true V sh k before after reply shape small layout lawful recorded h =
+tells_true V sh k before after reply shape small layout lawful h =
     let lawful' : AreLawful (layout_of V sh) after.front = subst (λ l. AreLawful l after.front) layout lawful in
-    let recorded' : IsRecord (layout_of V sh) after.front after.done = subst (λ l. IsRecord l after.front after.done) layout recorded in
-    let read : AreRead V sh after.front h.rs = (read_parts V sh after.front before.done h.rs (subst (λ (z : List Reading). AreRead V sh after.front z) h.done recorded'.read)).1 in
-    let both = replies_are_true V sh after.front k sh.tries (length before.front) (length after.front) h.rs reply shape lawful' small (omega arith) read h.rise h.looked in
+    let both = replies_are_true V sh after.front k sh.tries (length before.front) (length after.front) h.rs reply shape lawful' small (omega arith) h.read h.rise h.looked in
     (both.0, subst (λ (y : State V × State V). IsBetween (length y.0.history) (length y.1.history) reply) (λ i. (old_front V sh before.front after.front h.begins i, front_all V sh after.front (length after.front) (omega arith) i)) both.1)
 
 -- ---- one stage after the other

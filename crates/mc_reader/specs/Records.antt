@@ -4,11 +4,12 @@ use Rattle.mc_words.specs.Places.{payload}
 use Rattle.mc_words.specs.declared.history.Reply.{Reply}
 use Rattle.mc_words.specs.declared.shape.Shape.{Shape}
 use Rattle.mc_theory.specs.Lookups.{IsLookup}
-use Rattle.mc_theory.specs.Readings.{Reading, RiseTo}
+use Rattle.mc_theory.specs.Readings.{AreRead, Reading, RiseTo}
 use Rattle.mc_shared.specs.Records.{ReaderRecord}
 use Rattle.mc_shared.specs.Views.{IsFrontOf}
 
--- the reader keeps its number, and these readings were added, at fronts from the old one on that don't fall; they are a whole lookup of the key, with this reply
+-- the reader keeps its number, and these readings were added, at fronts from the old one on that don't fall, each with the word
+-- of its place at its front; they are a whole lookup of the key, with this reply
 pub record HasLooked (V : ℕ) (sh : Shape) (k : ℕ) (before after : ReaderRecord) (reply : Reply V) : Type 0 where
   pub rs : List Reading
   pub of : after.of ≡ before.of
@@ -16,5 +17,6 @@ pub record HasLooked (V : ℕ) (sh : Shape) (k : ℕ) (before after : ReaderReco
   pub done : after.done ≡ before.done ++ rs
   pub begins : IsFrontOf before.front after.front
   pub rise : RiseTo (length before.front) rs (length after.front)
+  pub read : AreRead V sh after.front rs
   pub looked : IsLookup V sh k sh.tries rs reply
   pub steps : length rs ≤ sh.tries * (19 + payload V) + 1

@@ -33,7 +33,7 @@ returns g c =
     let sh = c.args.cells.now.layout.shape in
     let layout = c.checked-checked.ensures.layout in
     let e = ap (λ (l : Layout). l.shape) layout in
-    let looked = ends V sh c.args.key c.args.seat.now c.loop-seat.seat c.loop-seat.lookup c.in-Some.reply (sym c.reply.ensures.reply ∙ c.in-Some.is) c.loop-seat.invariant.way in
-    let true' = tells_true V sh c.args.key c.args.seat.now c.loop-seat.seat c.in-Some.reply (subst IsShape (sym e) c.checked-checked.result.now.sound) (omega arith)
-    (ap (λ (o : Opening). o.layout) (looked.of ∙ c.requires.of) ∙ (layout ∙ ap (layout_of V) (sym e))) c.known.ensures.lawful c.known.ensures.recorded looked in
+    let of = ap (λ (o : Opening). o.layout) (c.loop-seat.invariant.way.of ∙ c.requires.of) ∙ (layout ∙ ap (layout_of V) (sym e)) in
+    let looked = ends V sh c.args.key c.args.seat.now c.loop-seat.seat c.loop-seat.lookup c.in-Some.reply of c.known.ensures.recorded (sym c.reply.ensures.reply ∙ c.in-Some.is) c.loop-seat.invariant.way in
+    let true' = tells_true V sh c.args.key c.args.seat.now c.loop-seat.seat c.in-Some.reply (subst IsShape (sym e) c.checked-checked.result.now.sound) (omega arith) of c.known.ensures.lawful looked in
     record { looked = looked; truth = true'.0; between = true'.1 }
