@@ -1,25 +1,9 @@
 //! A cache, its writer, and two readers that look keys up in threads of their own.
 #![tactic(auto)]
 
-ghost use Rattle.std.specs.Prelude.{◌≡◌};
-
 use anyhow::bail;
-use mc_cache::{Cache, Reader, Reply, Shape, open};
-use std::marker::Sync;
-use std::thread::{Threads, join_mut};
-
-/// Looks two keys up, each in a thread of its own.
-fn look_both<R: Threads + Sync>(
-    rt: &R,
-    cache: &Cache<1>,
-    one: &mut Reader<1>,
-    two: &mut Reader<1>,
-) -> (Reply<1>, Reply<1>)
-    requires of { (one.old.of ≡ cache.now) × (two.old.of ≡ cache.now) }
-    ensures of { (one.new.of ≡ one.old.of) × (two.new.of ≡ two.old.of) }
-{
-    join_mut(rt, &mut || one.get(cache, 7), &mut || two.get(cache, 8))
-}
+use mc_cache::{Shape, open};
+use std::thread::join_mut;
 
 fn main(rt: HostRuntime) -> anyhow::Result<()> {
     let alloc = rt.alloc();
@@ -29,8 +13,8 @@ fn main(rt: HostRuntime) -> anyhow::Result<()> {
         bail!("no readers");
     };
     writer.put(&cache, 7, [70])?;
-    let (hit, miss) = look_both(&rt, &cache, &mut one, &mut two);
-    println!(rt; "{hit:?} {miss:?}")?;
+    let (hit, miss) = join_mut(&rt, &mut || one.get(&cache, 7), &mut || two.get(&cache, 8));
+    println!(rt; "{hit:?}, {miss:?}")?;
     writer.put(&cache, 8, [80])?;
     let now = two.get_beside(&cache, &mut writer, 8);
     println!(rt; "{now:?}")?;
