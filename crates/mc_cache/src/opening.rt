@@ -1,9 +1,9 @@
 //! A cache is opened.
-ghost use Rattle.std.specs.Prelude.{◌≡◌, [], IfOk, MatchResult};
+ghost use Rattle.std.specs.Prelude.{◌≡◌, [], All, IfOk, MatchResult};
 ghost use Rattle.mc_words.specs.Checks.{shape_of};
 ghost use Rattle.mc_words.specs.Places.{IsWidth};
 ghost use Rattle.mc_words.specs.Shapes.{IsShape};
-ghost use Rattle.mc_shared.specs.Records.{new_readers, writer_record};
+ghost use Rattle.mc_shared.specs.Records.{IsNewReader, new_readers, writer_record};
 ghost use Rattle.mc_shared.specs.Views.{layout_of};
 ghost use Rattle.mc_cache.specs.Openings.{HasReaders, RefusesOpening};
 
@@ -52,6 +52,7 @@ fn open_checked<const V: usize>(
     ensures cache { IfOk result (λ r. r.0.layout ≡ layout_of V (shape_of checked.now)) }
     ensures writer { IfOk result (λ r. r.1 ≡ writer_record r.0 [] []) }
     ensures readers { IfOk result (λ r. r.2.items ≡ new_readers r.0 readers) }
+    ensures fresh { IfOk result (λ r. All (IsNewReader r.0) r.2.items) }
 {
     let books = Books::new(alloc, checked)?;
     let (cells, seat, seats) = mc_shared::open::<V>(alloc, checked, readers)?;
@@ -72,6 +73,7 @@ pub fn open<const V: usize>(
     ensures asked { IfOk result (λ r. IsShape shape × HasReaders readers) }
     ensures writer { IfOk result (λ r. r.1 ≡ writer_record r.0 [] []) }
     ensures readers { IfOk result (λ r. r.2.items ≡ new_readers r.0 readers) }
+    ensures fresh { IfOk result (λ r. All (IsNewReader r.0) r.2.items) }
 {
     let checked = match shape.check() {
         Ok(checked) => checked,
