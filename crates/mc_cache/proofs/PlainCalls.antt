@@ -1,6 +1,6 @@
 -- What calls of the cache mean, from what they do to records.
-use Rattle.std.proofs.Common.{ℕ, zero, suc, ◌≡◌, ◌∙◌, List, [], ◌∷◌, ◌++◌, length, Option, Some, None, Result, Ok, Err, All, ap, arith, append-nil, append_assoc, refl, sym, subst}
-use Rattle.std.proofs.lemmas.List.Elements.{All-nil, All-push}
+use Rattle.std.proofs.Common.{ℕ, ◌≡◌, ◌∙◌, List, [], ◌∷◌, ◌++◌, length, Option, Some, None, Result, Ok, Err, All, ap, arith, append-nil, append_assoc, refl, sym, subst}
+use Rattle.std.proofs.lemmas.List.Elements.{All-weaker}
 use Rattle.mc_words.proofs.Maps.{held-put, held-remove}
 use Rattle.mc_words.specs.History.{map_value, IsLegal, IsTrueAnswer}
 use Rattle.mc_words.specs.declared.history.Change.{Change}
@@ -24,7 +24,7 @@ use Rattle.mc_plan.specs.declared.answer.Remove.{Remove}
 use Rattle.mc_plan.specs.declared.answer.Remove.TheVariants.{Removed, NotThere}
 use Rattle.mc_plan.specs.declared.answer.Spent.{Spent as RemoveSpent}
 use Rattle.mc_words.specs.Answers.{Quiet}
-use Rattle.mc_shared.specs.Records.{Opening, ReaderRecord, WriterRecord, new_readers, reader_record}
+use Rattle.mc_shared.specs.Records.{IsNewReader, Opening, ReaderRecord, WriterRecord}
 use Rattle.mc_shared.specs.Views.{IsFrontOf, layout_state, with_bit}
 use Rattle.mc_writer.specs.WriterCalls.{HasCalled, HasGot, IsRested}
 use Rattle.mc_writer.proofs.Rests.{agrees_now, shape_is}
@@ -38,7 +38,7 @@ use Rattle.mc_plan.specs.declared.books.Books.{Books}
 use Rattle.mc_words.specs.Places.{moment}
 use Rattle.mc_theory.specs.declared.act.Act.TheVariants.{Mark}
 use Rattle.mc_shared.specs.declared.layout.Layout.{Layout}
-use Rattle.mc_cache.specs.Plain.{Begins, HasAnswered, HasMet, IsNewReader, PutMeans, RemovalMeans, TellsNow, history, seen}
+use Rattle.mc_cache.specs.Plain.{Begins, HasAnswered, HasMet, PutMeans, RemovalMeans, TellsNow, history, seen}
 
 -- ---- the states before a call and after it
 put_answer_means : (V : ℕ) (sh : Shape) (s t : State V) (k : ℕ) (v : List ℕ) (told : Result Put PutError) → PutAnswers sh (quiet_of s) k v told (quiet_of t) → PutMeans V s.history t.history k v told
@@ -160,9 +160,8 @@ pub seen_new : (V : ℕ) (o : Opening) (r : ReaderRecord) → r.of ≡ o → r.f
 unfolding opening
 seen_new V o r of e = seen_is V o r of ∙ (ap (λ (xs : List Made). (state_of V o.layout.shape xs).history) e ∙ ap (λ (s : State V). s.history) (state_none V o.layout.shape))
 
-pub new_readers_see_none : (V n : ℕ) (o : Opening) → All (IsNewReader V o) (new_readers o n)
-new_readers_see_none V zero o = All-nil (IsNewReader V o)
-new_readers_see_none V (suc n) o = All-push (IsNewReader V o) (new_readers o n) (reader_record o n [] []) (new_readers_see_none V n o) (refl, seen_new V o (reader_record o n [] []) refl refl)
+pub new_sees_none : (V : ℕ) (o : Opening) (rs : List ReaderRecord) → All (IsNewReader o) rs → All (λ (r : ReaderRecord). seen V r ≡ []) rs
+new_sees_none V o rs all = All-weaker (IsNewReader o) (λ (r : ReaderRecord). seen V r ≡ []) (λ r new. seen_new V o r new.of new.front) rs all
 
 -- ---- the calls of a reader
 -- one list of acts begins another, and so do their histories

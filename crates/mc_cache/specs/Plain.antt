@@ -16,7 +16,7 @@ use Rattle.mc_plan.specs.declared.answer.Remove.{Remove}
 use Rattle.mc_plan.specs.declared.answer.Remove.TheVariants.{Removed, NotThere}
 use Rattle.mc_plan.specs.declared.answer.Spent.{Spent}
 use Rattle.mc_theory.specs.Lists.{state_of}
-use Rattle.mc_shared.specs.Records.{Opening, WriterRecord, ReaderRecord}
+use Rattle.mc_shared.specs.Records.{WriterRecord, ReaderRecord}
 
 -- the history of a writer whose values have V words
 unfoldable pub history : (V : ℕ) → WriterRecord → List (Change V)
@@ -25,10 +25,6 @@ history V w = (state_of V w.of.layout.shape w.acts).history
 -- the history that a reader has seen
 unfoldable pub seen : (V : ℕ) → ReaderRecord → List (Change V)
 seen V r = (state_of V r.of.layout.shape r.front).history
-
--- a reader of this table that has seen nothing
-abbrev pub IsNewReader : ℕ → Opening → ReaderRecord → Type 0
-IsNewReader V o r = (r.of ≡ o) × (seen V r ≡ [])
 
 -- the one history begins the other
 abbrev pub Begins : {V : ℕ} → List (Change V) → List (Change V) → Type 0

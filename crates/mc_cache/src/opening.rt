@@ -3,10 +3,10 @@ ghost use Rattle.std.specs.Prelude.{◌≡◌, [], All, IfOk, MatchResult};
 ghost use Rattle.mc_words.specs.Checks.{shape_of};
 ghost use Rattle.mc_words.specs.Places.{IsWidth};
 ghost use Rattle.mc_words.specs.Shapes.{IsShape};
-ghost use Rattle.mc_shared.specs.Records.{new_readers, writer_record};
+ghost use Rattle.mc_shared.specs.Records.{IsNewReader, new_readers, writer_record};
 ghost use Rattle.mc_shared.specs.Views.{layout_of};
 ghost use Rattle.mc_cache.specs.Openings.{HasReaders, RefusesOpening};
-ghost use Rattle.mc_cache.specs.Plain.{IsNewReader, history};
+ghost use Rattle.mc_cache.specs.Plain.{history, seen};
 
 use crate::cache::Cache;
 use crate::reader::Reader;
@@ -53,6 +53,7 @@ fn open_checked<const V: usize>(
     ensures cache { IfOk result (λ r. r.0.layout ≡ layout_of V (shape_of checked.now)) }
     ensures writer { IfOk result (λ r. r.1 ≡ writer_record r.0 [] []) }
     ensures readers { IfOk result (λ r. r.2.items ≡ new_readers r.0 readers) }
+    ensures fresh { IfOk result (λ r. All (IsNewReader r.0) r.2.items) }
 {
     let books = Books::new(alloc, checked)?;
     let (cells, seat, seats) = mc_shared::open::<V>(alloc, checked, readers)?;
@@ -73,7 +74,8 @@ pub fn open<const V: usize>(
     ensures asked { IfOk result (λ r. IsShape shape × HasReaders readers) }
     ensures writer { IfOk result (λ r. r.1 ≡ writer_record r.0 [] []) }
     ensures readers { IfOk result (λ r. r.2.items ≡ new_readers r.0 readers) }
-    ensures plain { IfOk result (λ r. (history V r.1 ≡ []) × All (IsNewReader V r.0) r.2.items) }
+    ensures fresh { IfOk result (λ r. All (IsNewReader r.0) r.2.items) }
+    ensures plain { IfOk result (λ r. (history V r.1 ≡ []) × All (λ reader. seen V reader ≡ []) r.2.items) }
 {
     let checked = match shape.check() {
         Ok(checked) => checked,

@@ -31,7 +31,13 @@ writer_record o acts notes = record { of = o; acts = acts; notes = notes }
 abbrev pub reader_record : Opening → ℕ → List Made → List Reading → ReaderRecord
 reader_record o number front done = record { of = o; number = number; front = front; done = done }
 
--- the readers of a new table: each has another number, and none has done anything
+-- a reader that has seen and done nothing
+pub record IsNewReader (o : Opening) (r : ReaderRecord) : Type 0 where
+  pub of : r.of ≡ o
+  pub front : r.front ≡ []
+  pub done : r.done ≡ []
+
+-- the readers of a new table, with the numbers from 0 on
 abbrev pub new_readers : Opening → ℕ → List ReaderRecord
 new_readers o zero = []
 new_readers o (suc n) = new_readers o n ++ reader_record o n [] [] ∷ []

@@ -1,10 +1,10 @@
 //! The shared words of a table whose values have `V` words: they are opened, and closed.
-ghost use Rattle.std.specs.Prelude.{◌≡◌, ◌^◌, ◌<◌, ◌≤◌, ℕ, [], IfOk, length, slice_index};
+ghost use Rattle.std.specs.Prelude.{◌≡◌, ◌^◌, ◌<◌, ◌≤◌, ℕ, [], IfOk, All, length, slice_index};
 ghost use Rattle.mc_words.specs.Checks.{shape_of};
 ghost use Rattle.mc_words.specs.Places.{IsWidth, all_words, item_place, word_count};
 ghost use Rattle.mc_theory.specs.Lists.{state_of};
 ghost use Rattle.mc_shared.specs.Views.{layout_of};
-ghost use Rattle.mc_shared.specs.Records.{writer_record, new_readers};
+ghost use Rattle.mc_shared.specs.Records.{writer_record, new_readers, IsNewReader};
 
 use crate::layout::Layout;
 use crate::opening::{close_words, open_words};
@@ -56,6 +56,7 @@ impl<const V: usize> Cells<V> {
 
 /// A table with empty records, and as many readers' seats as are asked for, with the numbers from 0 on. `Err(NoMemory)` where the words or the seats can't be stored.
 /// Condition: a value has from 1 to 8 words, and there are from 1 to 1024 readers.
+#[tactic(auto, using(crate::proofs::NewReaders::all_new))]
 pub fn open<const V: usize>(
     alloc: Global,
     checked: &Checked,
@@ -66,6 +67,7 @@ pub fn open<const V: usize>(
     ensures cells { IfOk result (λ r. r.0.layout ≡ layout_of V (shape_of checked.now)) }
     ensures writer { IfOk result (λ r. r.1 ≡ writer_record r.0 [] []) }
     ensures readers { IfOk result (λ r. r.2.items ≡ new_readers r.0 readers) }
+    ensures fresh { IfOk result (λ r. All (IsNewReader r.0) r.2.items) }
 {
     let layout = Layout {
         shape: checked.shape(),
