@@ -1,13 +1,14 @@
 -- Lists of readers that have ended, one taken off the end; and how their lookups add up.
-use Rattle.std.proofs.Common.{ℕ, suc, ◌≡◌, ◌+◌, ◌*◌, ◌<◌, ◌≤◌, ◌^◌, List, [], ◌∷◌, ◌++◌, length, get_or, None, ap, refl, sym, subst, ◌∙◌, arith}
+use Rattle.std.proofs.Common.{ℕ, suc, ◌≡◌, ◌+◌, ◌*◌, ◌<◌, ◌≤◌, ◌^◌, List, [], ◌∷◌, ◌++◌, length, get_or, Option, None, ap, inr, refl, sym, subst, ◌∙◌, arith}
+use Rattle.std.specs.Prelude.{IfSome}
 use Rattle.std.proofs.Math.Nat.{mul-le-mul_right}
 use Rattle.std.proofs.Math.Seq.{get_or-append_seam}
 use Rattle.std.proofs.lemmas.List.{get_or_append_left, length-append}
 use Rattle.mc_words.specs.Shapes.{IsShape}
 use Rattle.mc_shared.specs.Records.{Opening}
 use Rattle.mc_cache.specs.Openings.{HasReaders}
-use Rattle.mc_workers.specs.Loads.{HasKeys, RefusesLoad}
-use Rattle.mc_workers.specs.Inside.Refusals.{IsRefused}
+use Rattle.mc_workers.specs.Loads.{HasKeys, IsCall, RefusesLoad}
+use Rattle.mc_workers.specs.Inside.Refusals.{AreRefusedBy, IsFirstRefusal, IsFirstRefused}
 use Rattle.mc_workers.specs.declared.asked.Load.{Load}
 use Rattle.mc_workers.specs.declared.error.LoadError.{LoadError}
 use Rattle.mc_workers.specs.declared.error.LoadError.TheVariants as error
@@ -38,9 +39,28 @@ more_lookups sum n k total e = omega (arith, e)
 pub few_lookups : (sum n k readers : ℕ) → readers ≤ 1024 → k < 2 ^ 32 → sum + (n + 1) * k ≡ readers * k → sum + k < 2 ^ 64
 few_lookups sum n k readers few small e = omega (arith, e, mul-le-mul_right k few)
 
+-- the call that the gate refused is one of the reader's
+reader_call : {V : ℕ} (o : Opening) (may : ℕ → ℕ → Type 0) (load : Load) (ls : List (Looking V)) (n call who : ℕ) → length ls ≡ load.readers → HaveEnded V o load.lookups ls → AreRefusedBy may ls → who ≡ n + 1 → IsFirstRefused ls n call
+    → IsCall load who call × may who call
+reader_call {V} o may load ls n call who many ended by place r =
+    let end = subst (HasEnded V o load.lookups n) (sym r.is) (ended n r.reader r.below) in
+    let made : (1 ≤ call) × (call ≤ load.lookups) = subst (λ (x : Option ℕ). IfSome x (λ c. (1 ≤ c) × (c ≤ load.lookups))) r.refused end.refused in
+    let mine = subst (λ (l : Looking V). IfSome l.refused (λ c. may (n + 1) c)) (sym r.is) (by n r.reader r.below) in
+    let told : may (n + 1) call = subst (λ (x : Option ℕ). IfSome x (λ c. may (n + 1) c)) r.refused mine in
+    let low = r.below in ((made.0, inr (omega arith, omega (arith, many), made.1)), subst (λ (w : ℕ). may w call) (sym place) told)
+
 -- the gate's refusal is one of the load's
-pub refused_call : (load : Load) (why : LoadError) → HasKeys load.keys → IsShape load.shape → HasReaders load.readers → IsRefused load why → RefusesLoad load why
-refused_call load (error.Gate who call) keys shape readers r = (keys, shape, readers, r)
-refused_call load (error.Open x) keys shape readers r = absurd r
-refused_call load error.NoMemory keys shape readers r = absurd r
-refused_call load error.Keys keys shape readers r = absurd r
+pub refused_call : {V : ℕ} (o : Opening) (may : ℕ → ℕ → Type 0) (load : Load) (ls : List (Looking V)) (why : LoadError) → HasKeys load.keys → IsShape load.shape → HasReaders load.readers
+    → length ls ≡ load.readers → HaveEnded V o load.lookups ls → AreRefusedBy may ls → IsFirstRefusal ls why → RefusesLoad may load why
+refused_call o may load ls (error.Gate who call) keys shape readers many ended by r =
+    let one = reader_call o may load ls r.0 call who many ended by r.1 r.2 in (keys, shape, readers, one.0, one.1)
+refused_call o may load ls (error.Open x) keys shape readers many ended by r = absurd r
+refused_call o may load ls error.NoMemory keys shape readers many ended by r = absurd r
+refused_call o may load ls error.Keys keys shape readers many ended by r = absurd r
+
+-- what no gate refuses is refused whatever the gate may refuse
+pub refused_by_none : (may : ℕ → ℕ → Type 0) (load : Load) (why : LoadError) → RefusesLoad (λ who call. ⊥) load why → RefusesLoad may load why
+refused_by_none may load (error.Gate who call) r = absurd r.4
+refused_by_none may load (error.Open x) r = r
+refused_by_none may load error.NoMemory r = r
+refused_by_none may load error.Keys r = r

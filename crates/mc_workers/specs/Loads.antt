@@ -27,9 +27,9 @@ HasKeys keys = (1 ≤ keys) × (keys ≤ 2 ^ 32)
 abbrev pub IsCall : Load → ℕ → ℕ → Type 0
 IsCall load who call = (1 ≤ call) × (((who ≡ 0) × (call ≤ load.writes)) ⊎ ((1 ≤ who) × (who ≤ load.readers) × (call ≤ load.lookups)))
 
--- the first fault of what was asked for; where there is none, memory was refused, or the gate refused a call
-abbrev pub RefusesLoad : Load → LoadError → Type 0
-RefusesLoad load error.Keys = ¬ HasKeys load.keys
-RefusesLoad load (error.Open why) = HasKeys load.keys × RefusesOpening load.shape load.readers why
-RefusesLoad load error.NoMemory = HasKeys load.keys × IsShape load.shape × HasReaders load.readers
-RefusesLoad load (error.Gate who call) = HasKeys load.keys × IsShape load.shape × HasReaders load.readers × IsCall load who call
+-- the first fault of what was asked for; where there is none, memory was refused, or the gate refused a call, which is one that it may refuse
+abbrev pub RefusesLoad : (ℕ → ℕ → Type 0) → Load → LoadError → Type 0
+RefusesLoad may load error.Keys = ¬ HasKeys load.keys
+RefusesLoad may load (error.Open why) = HasKeys load.keys × RefusesOpening load.shape load.readers why
+RefusesLoad may load error.NoMemory = HasKeys load.keys × IsShape load.shape × HasReaders load.readers
+RefusesLoad may load (error.Gate who call) = HasKeys load.keys × IsShape load.shape × HasReaders load.readers × IsCall load who call × may who call

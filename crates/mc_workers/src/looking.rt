@@ -1,5 +1,5 @@
 //! A reader at work.
-ghost use Rattle.std.specs.Prelude.{ℕ, ◌≡◌, ◌+◌, ◌≤◌, ◌<◌, None, vec_len, vec_capacity};
+ghost use Rattle.std.specs.Prelude.{ℕ, ◌≡◌, ◌+◌, ◌≤◌, ◌<◌, IfSome, None, vec_len, vec_capacity};
 
 use crate::draws::Draws;
 use crate::gate::Gate;
@@ -51,7 +51,8 @@ impl<const V: usize> Looking<V> {
     pub(crate) fn run<G: Gate>(&mut self, cache: &Cache<V>, gate: &G, lookups: u32)
         requires ready { IsReady V cache.now lookups self.old.number self.old }
         requires number { self.old.number < 1024 }
-        ensures { HasEnded V cache.now lookups self.old.number self.new }
+        ensures ended { HasEnded V cache.now lookups self.old.number self.new }
+        ensures refused { IfSome self.new.refused (λ call. G.may_refuse gate.now (self.old.number + 1) call) }
     {
         let who = self.number + 1;
         for n in 0..lookups {

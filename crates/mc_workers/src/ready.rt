@@ -76,7 +76,7 @@ fn lookings_of<const V: usize>(
 pub(crate) fn make_ready<const V: usize>(alloc: Global, load: Load) -> Result<Workers<V>, LoadError>
     requires width { IsWidth V }
     requires keys { HasKeys load.keys }
-    ensures { MatchResult result (CanBegin load) (RefusesLoad load) }
+    ensures { MatchResult result (CanBegin load) (RefusesLoad (λ _ _. ⊥) load) }
 {
     let (cache, writer, readers) = match open::<V>(alloc, load.shape, load.readers) {
         Ok(opened) => opened,

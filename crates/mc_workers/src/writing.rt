@@ -65,7 +65,7 @@ impl<const V: usize> Writing<V> {
         requires room { vec_len self.old.journal + 2 * calls ≤ vec_capacity self.old.journal }
         ensures writing { IsWriting V cache.now self.new }
         ensures len { vec_len self.new.journal ≤ vec_len self.old.journal + 2 * calls }
-        ensures refused { IfSome result (λ call. (1 ≤ call) × (call ≤ calls)) }
+        ensures refused { IfSome result (λ call. (1 ≤ call) × (call ≤ calls) × G.may_refuse gate.now 0 call) }
     {
         for n in 0..calls {
             let call = u64::from(n) + 1;
