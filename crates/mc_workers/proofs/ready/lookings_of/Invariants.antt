@@ -1,4 +1,4 @@
-use Rattle.std.proofs.Common.{ℕ, ◌≡◌, ◌+◌, [], length}
+use Rattle.std.proofs.Common.{◌≡◌, ◌+◌, [], length}
 use Rattle.std.specs.Prelude.{replicate}
 use Rattle.mc_shared.specs.Records.{Opening, reader_record}
 use Rattle.mc_workers.specs.Inside.Workers.{AreReady}
@@ -7,7 +7,7 @@ use Rattle.mc_workers.proofs.ready.lookings_of.Given as goal
 abbrev pub invariant-loop-reader : goal.invariant-loop-reader
 invariant-loop-reader g l = record {
   readers : (o : Opening) → l.fn.readers.items ≡ replicate l.fn.load.readers (reader_record o [] []) → l.readers.items ≡ replicate (length l.readers.items) (reader_record o [] []);
-  ready : (o : Opening) → l.fn.readers.items ≡ replicate l.fn.load.readers (reader_record o [] []) → AreReady g.row.V o l.fn.load.lookups l.lookings.items;
+  ready : (o : Opening) → l.fn.readers.items ≡ replicate l.fn.load.readers (reader_record o [] []) → AreReady g.row.V o l.fn.load l.lookings.items;
   many : length l.lookings.items + length l.readers.items ≡ length l.fn.readers.items;
 }
 

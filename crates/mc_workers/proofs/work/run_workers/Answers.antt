@@ -11,6 +11,6 @@ returns-in-Some-first_refusal g c =
     let o = c.args.workers.cache in
     refused_call o may c.args.load _ c.in-Some-first_refusal.refused c.requires.keys c.requires.ready.shape c.requires.ready.readers
     (omega (arith, c.as_slice.ensures.len, c.run_all-refused.ensures.len, c.requires.ready.many))
-    (subst (λ (ls : List (Looking g.row.V)). HaveEnded g.row.V o c.args.load.lookups ls) (sym c.as_slice.ensures.value) c.run_all-refused.ensures.ended)
+    (subst (λ (ls : List (Looking g.row.V)). HaveEnded g.row.V o c.args.load ls) (sym c.as_slice.ensures.value) c.run_all-refused.ensures.ended)
     (subst (λ (ls : List (Looking g.row.V)). AreRefusedBy may ls) (sym c.as_slice.ensures.value) c.run_all-refused.ensures.readers)
     c.in-Some-first_refusal.ensures.some
