@@ -61,7 +61,8 @@ impl<const V: usize> Writing<V> {
         ensures capacity { vec_capacity self.old.journal ≤ vec_capacity self.new.journal }
     {
         let key = self.draws.key();
-        if self.draws.is_removal() {
+        let is_removal = self.draws.is_removal();
+        if is_removal {
             self.remove(cache, key)
         } else {
             self.put(cache, key, [call; V])
