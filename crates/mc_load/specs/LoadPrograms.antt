@@ -55,10 +55,10 @@ WritesLines asked output text status =
 abbrev pub WritesReport : LoadOptions → Stream → Stream → ℕ → Type 0
 WritesReport o output errors status = (r : Report) × Reports 4 (load_of o) r × WritesLines o.histogram output (report_text r) status × IsUntouched errors
 
--- the load is refused
+-- the load is refused, though not by its gate, which lets every call through
 abbrev pub TellsRefusal : LoadOptions → Stream → Stream → ℕ → Type 0
 TellsRefusal o output errors status =
-    (why : LoadError) × RefusesLoad (load_of o) why × IsUntouched output × Tells errors (codes "refused: " ++ load_text why) × (status ≡ load_status why)
+    (why : LoadError) × RefusesLoad (λ who call. ⊥) (load_of o) why × IsUntouched output × Tells errors (codes "refused: " ++ load_text why) × (status ≡ load_status why)
 
 -- a load with these options
 abbrev pub RunsLoad : LoadOptions → Stream → Stream → ℕ → Type 0

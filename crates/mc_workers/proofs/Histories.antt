@@ -1,20 +1,23 @@
 -- The history of the writer's acts, and what was told of it.
-use Rattle.std.proofs.Common.{ℕ, ◌≡◌, ◌+◌, ◌≤◌, List, [], ◌∷◌, ◌++◌, length, get_or, take, Option, Some, None, Ok, Err, Result, refl, ap, sym, subst, ◌∙◌, arith}
-use Rattle.std.specs.Prelude.{All}
+use Rattle.std.proofs.Common.{ℕ, ◌≡◌, ◌+◌, ◌*◌, ◌%◌, add-one, eq-eqb, false, below_more, List, [], ◌∷◌, ◌++◌, length, get_or, Some, None, Ok, Err, Result, refl, ap, sym, subst, ◌∙◌, arith}
+use Rattle.std.specs.Prelude.{replicate}
+use Rattle.std.proofs.Math.Dec.{eqb}
+use Rattle.std.proofs.lemmas.Bool.Decides.{nat_tests}
 use Rattle.std.proofs.lemmas.List.Elements.{All-push}
-use Rattle.std.proofs.lemmas.List.{append_assoc, append-nil, length-append, take-append-le}
+use Rattle.std.proofs.Math.Seq.{get_or-append_seam}
+use Rattle.std.proofs.lemmas.List.{append_assoc, append-nil, get_or_append_left, length-append, take-append-le}
 use Rattle.mc_words.specs.History.{IsTrueAnswer, map_value}
 use Rattle.mc_words.specs.declared.history.Change.{Change}
 use Rattle.mc_words.specs.declared.history.Reply.{Reply}
 use Rattle.mc_words.specs.declared.history.Reply.TheVariants.{Found, Absent, Busy}
 use Rattle.mc_words.specs.declared.shape.Shape.{Shape}
-use Rattle.mc_theory.specs.Effects.{after_act}
 use Rattle.mc_theory.specs.Lists.{AreAllowed, IsLawful, Made, after_all, state_of}
 use Rattle.mc_theory.specs.States.{State, opening}
 use Rattle.mc_theory.proofs.Lists.Fronts.{lawful_push, state_append, state_none, state_push}
 use Rattle.mc_theory.proofs.Lists.Histories.{history_all}
 use Rattle.mc_plan.specs.Calls.{PutAnswers, RemoveAnswers}
 use Rattle.mc_plan.specs.Clerks.{PutCall, RemoveCall, quiet_of}
+use Rattle.mc_plan.specs.declared.answer.Answer.{Answer}
 use Rattle.mc_plan.specs.declared.answer.Answer.TheVariants as answer
 use Rattle.mc_plan.specs.declared.answer.Put.{Put}
 use Rattle.mc_plan.specs.declared.answer.Put.TheVariants.{Stored, Renewed}
@@ -28,7 +31,9 @@ use Rattle.mc_shared.specs.Views.{IsFrontOf}
 use Rattle.mc_writer.specs.WriterCalls.{HasCalled}
 use Rattle.mc_check.specs.declared.record.Record.{Record}
 use Rattle.mc_workers.specs.Inside.Journals.{put_changes, remove_changes}
-use Rattle.mc_workers.specs.Inside.Workers.{AreTrue}
+use Rattle.mc_workers.specs.Draws.{drawn_call, drawn_key, drawn_word}
+use Rattle.mc_workers.specs.Loads.{AreDrawn, AreTrue, HasMade}
+use Rattle.mc_workers.specs.declared.asked.Load.{Load}
 
 -- ---- the writer
 opening_history : (V : ℕ) (sh : Shape) → (opening V sh).history ≡ []
@@ -74,6 +79,28 @@ remove_told V sh before after k told lawful h = (
       ∙ remove_history V sh (state_of V sh before.acts) (after_all sh (state_of V sh before.acts) h.made) k told h.answered.means),
 )
 
+-- ---- the calls that were drawn
+pub made_none : (V : ℕ) (load : Load) (w : WriterRecord) → w.acts ≡ [] → HasMade V load 0 w
+unfolding HasMade
+made_none V load w none = none
+
+pub made_more : (V : ℕ) (load : Load) (n : ℕ) (before after : WriterRecord) (told : Answer) → HasMade V load n before → HasCalled V load.shape (drawn_call V load n) before after told → HasMade V load (n + 1) after
+unfolding HasMade
+made_more V load n before after told made called = rw add-one (before, told, made, called)
+
+not_eqb : (a b : ℕ) → (a ≡ b → ⊥) → eqb a b ≡ false
+not_eqb a b h = grind (arith, nat_tests)
+
+-- a word draws a removal
+pub removal_drawn : (V : ℕ) (load : Load) (n : ℕ) → drawn_word load 0 (2 * n + 1) % 8 ≡ 0 → drawn_call V load n ≡ RemoveCall (drawn_key load 0 (2 * n))
+unfolding drawn_call
+removal_drawn V load n h = rw (eq-eqb (drawn_word load 0 (2 * n + 1) % 8) 0 h) refl
+
+-- and any other a put
+pub put_drawn : (V : ℕ) (load : Load) (n : ℕ) → (drawn_word load 0 (2 * n + 1) % 8 ≡ 0 → ⊥) → drawn_call V load n ≡ PutCall (drawn_key load 0 (2 * n)) (replicate V (n + 1))
+unfolding drawn_call
+put_drawn V load n h = rw (not_eqb (drawn_word load 0 (2 * n + 1) % 8) 0 h) refl
+
 -- ---- the readers
 -- an answer stays true as the history grows
 still_true : {V : ℕ} (h more : List (Change V)) (k : ℕ) (reply : Reply V) → IsTrueAnswer h k reply → IsTrueAnswer (h ++ more) k reply
@@ -89,6 +116,14 @@ true_later V sh front acts k reply begins t =
 
 pub told_later : (V : ℕ) (sh : Shape) (front acts : List Made) (records : List (Record V)) → IsFrontOf front acts → AreTrue (state_of V sh front).history records → AreTrue (state_of V sh acts).history records
 told_later V sh front acts records begins all = λ n d low. true_later V sh front acts (get_or records n d).key (get_or records n d).reply begins (all n d low)
+
+-- a key more was drawn
+pub drawn_more : {V : ℕ} (load : Load) (r : ℕ) (records : List (Record V)) (x : Record V) → AreDrawn load r records → x.key ≡ drawn_key load (r + 1) (length records) → AreDrawn load r (records ++ x ∷ [])
+drawn_more {V} load r records x all one = λ n d low.
+    below_more (λ (k : ℕ). (e : Record V) → (get_or (records ++ x ∷ []) k e).key ≡ drawn_key load (r + 1) k) (length records)
+    (λ k under e. ap (λ (y : Record V). y.key) (get_or_append_left records (x ∷ []) e k under) ∙ all k e under)
+    (λ e. ap (λ (y : Record V). y.key) (get_or-append_seam records x [] e) ∙ one)
+    n (omega (arith, low, length-append records (x ∷ []))) d
 
 -- a lookup more
 pub told_more : (V : ℕ) (sh : Shape) (front acts : List Made) (records : List (Record V)) (r : Record V) → IsFrontOf front acts → AreTrue (state_of V sh front).history records → IsTrueAnswer (state_of V sh acts).history r.key r.reply → AreTrue (state_of V sh acts).history (records ++ r ∷ [])

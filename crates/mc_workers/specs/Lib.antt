@@ -1,2 +1,3 @@
+pub mod Draws
 pub mod Inside
 pub mod Loads

@@ -1,7 +1,9 @@
 //! What a worker draws.
-ghost use Rattle.std.specs.Prelude.{◌≤◌};
+ghost use Rattle.std.specs.Prelude.{ℕ, ◌≡◌, ◌+◌, ◌%◌, ◌≤◌, ◌↔◌, IsTrue};
+ghost use Rattle.mc_workers.specs.Draws.{drawn_key, drawn_word};
 
-use rand_core::Rng;
+use crate::asked::Load;
+use rand_core::utils::NextWord;
 use rand_pcg::Lcg64Xsh32;
 
 /// The draws of one worker: a generator of the load's seed, on a stream of the worker's own.
@@ -13,22 +15,31 @@ pub(crate) struct Draws {
 }
 
 impl Draws {
-    pub(crate) fn new(seed: u64, who: u32, keys: u64) -> Draws
-        requires { 1 ≤ keys }
+    ghost use Rattle.mc_workers.specs.Inside.Drawn.{HasDrawn};
+
+    pub(crate) fn new(load: Load, who: u32) -> Draws
+        requires { 1 ≤ load.keys }
+        ensures { HasDrawn load who 0 result }
     {
         Draws {
-            generator: Lcg64Xsh32::new(seed, u64::from(who)),
-            keys,
+            generator: Lcg64Xsh32::new(load.seed, u64::from(who)),
+            keys: load.keys,
         }
     }
 
     /// A key below the number of keys.
-    pub(crate) fn key(&mut self) -> u64 {
-        u64::from(self.generator.next_u32()) % self.keys
+    pub(crate) fn key(&mut self) -> u64
+        ensures drawn { (load : Load) (who n : ℕ) → HasDrawn load who n self.old → HasDrawn load who (n + 1) self.new }
+        ensures key { (load : Load) (who n : ℕ) → HasDrawn load who n self.old → result ≡ drawn_key load who n }
+    {
+        u64::from(self.generator.next_word()) % self.keys
     }
 
     /// Whether a call of the writer is a removal: one in eight is.
-    pub(crate) fn is_removal(&mut self) -> bool {
-        self.generator.next_u32() % 8 == 0
+    pub(crate) fn is_removal(&mut self) -> bool
+        ensures drawn { (load : Load) (who n : ℕ) → HasDrawn load who n self.old → HasDrawn load who (n + 1) self.new }
+        ensures removal { (load : Load) (who n : ℕ) → HasDrawn load who n self.old → (IsTrue result ↔ (drawn_word load who n % 8 ≡ 0)) }
+    {
+        self.generator.next_word() % 8 == 0
     }
 }

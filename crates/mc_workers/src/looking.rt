@@ -1,6 +1,7 @@
 //! A reader at work.
-ghost use Rattle.std.specs.Prelude.{ℕ, ◌≡◌, ◌+◌, ◌≤◌, ◌<◌, None, vec_len, vec_capacity};
+ghost use Rattle.std.specs.Prelude.{ℕ, ◌≡◌, ◌+◌, ◌≤◌, ◌<◌, IfSome, None, length, vec_len, vec_capacity};
 
+use crate::asked::Load;
 use crate::draws::Draws;
 use crate::gate::Gate;
 use mc_cache::{Cache, Reader, Reply};
@@ -28,14 +29,15 @@ fn moment_of<const V: usize>(reply: &Reply<V>) -> Option<u64> {
 }
 
 impl<const V: usize> Looking<V> {
-    ghost use Rattle.mc_workers.specs.Inside.Workers.{HasEnded, IsLooking, IsReady};
+    ghost use Rattle.mc_workers.specs.Inside.Workers.{HasEnded, HasLookedUpDrawn, IsLooking, IsReady};
 
     /// Looks one key up, writes the answer down, and tells its moment.
     fn look(&mut self, cache: &Cache<V>) -> Option<u64>
         requires looking { IsLooking V cache.now self.old }
         requires room { vec_len self.old.records + 1 ≤ vec_capacity self.old.records }
         ensures looking { IsLooking V cache.now self.new }
-        ensures len { vec_len self.new.records ≡ vec_len self.old.records + 1 }
+        ensures drawn { (load : Load) → HasLookedUpDrawn V load self.old → HasLookedUpDrawn V load self.new }
+        ensures len { length self.new.records.items ≡ length self.old.records.items + 1 }
         ensures capacity { vec_capacity self.old.records ≤ vec_capacity self.new.records }
         ensures kept { (self.new.number ≡ self.old.number) × (self.new.refused ≡ self.old.refused) }
     {
@@ -47,14 +49,15 @@ impl<const V: usize> Looking<V> {
         at
     }
 
-    /// Looks so many keys up, or fewer where the gate refuses a call.
-    pub(crate) fn run<G: Gate>(&mut self, cache: &Cache<V>, gate: &G, lookups: u32)
-        requires ready { IsReady V cache.now lookups self.old.number self.old }
+    /// Makes the load's lookups, or fewer where the gate refuses a call.
+    pub(crate) fn run<G: Gate>(&mut self, cache: &Cache<V>, gate: &G, load: Load)
+        requires ready { IsReady V cache.now load self.old.number self.old }
         requires number { self.old.number < 1024 }
-        ensures { HasEnded V cache.now lookups self.old.number self.new }
+        ensures ended { HasEnded V cache.now load self.old.number self.new }
+        ensures refused { IfSome self.new.refused (λ call. G.may_refuse gate.now (self.old.number + 1) call) }
     {
         let who = self.number + 1;
-        for n in 0..lookups {
+        for n in 0..load.lookups {
             let call = u64::from(n) + 1;
             if !gate.before(who, call) {
                 self.refused = Some(call);

@@ -122,6 +122,8 @@ impl<'c, C> Meter<'c, C> {
 }
 
 impl<'c, C: Clock + Sync> Gate for Meter<'c, C> {
+    ghost may_refuse = { λ _ _ _. ⊥ };
+
     fn before(&self, who: u32, call: u64) -> bool {
         if call == 1 {
             if let Some(counts) = self.workers.get(who as usize) {

@@ -1,10 +1,10 @@
 //! A cache is opened and its workers are made ready.
-ghost use Rattle.std.specs.Prelude.{ℕ, ◌≡◌, ◌*◌, ◌≤◌, [], IfOk, MatchResult, vec_len, vec_capacity};
+ghost use Rattle.std.specs.Prelude.{ℕ, ◌≡◌, ◌+◌, ◌*◌, ◌^◌, ◌<◌, ◌≤◌, [], IfOk, MatchResult, vec_len, vec_capacity};
 ghost use Rattle.mc_words.specs.Places.{IsWidth};
 ghost use Rattle.mc_shared.specs.Records.{Opening, new_readers};
 ghost use Rattle.mc_workers.specs.Loads.{HasKeys, RefusesLoad};
 ghost use Rattle.mc_workers.specs.Inside.Beginnings.{CanBegin};
-ghost use Rattle.mc_workers.specs.Inside.Workers.{AreReady, IsWriting};
+ghost use Rattle.mc_workers.specs.Inside.Workers.{AreReady, HasWritten, IsReady, IsWriting};
 
 use crate::asked::Load;
 use crate::draws::Draws;
@@ -32,11 +32,12 @@ fn writing_of<const V: usize>(
     requires keys { 1 ≤ load.keys }
     requires fresh { writer.acts ≡ [] }
     ensures writing { IfOk result (λ w. IsWriting V writer.entry.of w) }
+    ensures written { IfOk result (λ w. HasWritten V load 0 w) }
     ensures room { IfOk result (λ w. 2 * load.writes ≤ vec_capacity w.journal) }
     ensures empty { IfOk result (λ w. vec_len w.journal ≡ 0) }
 {
     let journal = Vec::with_capacity(alloc, 2 * load.writes as usize)?;
-    let draws = Draws::new(load.seed, 0, load.keys);
+    let draws = Draws::new(load, 0);
     Ok(Writing {
         writer,
         draws,
@@ -44,7 +45,30 @@ fn writing_of<const V: usize>(
     })
 }
 
-/// The readers, each with room for all that it will be told.
+/// A reader, with room for all that it will be told.
+fn looking_of<const V: usize>(
+    alloc: Global,
+    load: Load,
+    reader: Reader<V>,
+    number: u32,
+) -> Result<Looking<V>, AllocError>
+    requires width { IsWidth V }
+    requires keys { 1 ≤ load.keys }
+    requires few { number + 1 < 2 ^ 32 }
+    ensures { IfOk result (λ l. IsReady V reader.entry.of load number l) }
+{
+    let draws = Draws::new(load, number + 1);
+    let records = Vec::with_capacity(alloc, load.lookups as usize)?;
+    Ok(Looking {
+        reader,
+        number,
+        draws,
+        records,
+        refused: None,
+    })
+}
+
+/// The readers.
 fn lookings_of<const V: usize>(
     alloc: Global,
     load: Load,
@@ -54,20 +78,12 @@ fn lookings_of<const V: usize>(
     requires keys { 1 ≤ load.keys }
     requires fresh { (o : Opening) × (readers.items ≡ new_readers o load.readers) }
     ensures len { IfOk result (λ ls. vec_len ls ≡ load.readers) }
-    ensures ready { (o : Opening) → readers.entry.items ≡ new_readers o load.readers → IfOk result (λ ls. AreReady V o load.lookups ls.items) }
+    ensures ready { (o : Opening) → readers.entry.items ≡ new_readers o load.readers → IfOk result (λ ls. AreReady V o load ls.items) }
 {
     let mut lookings = Vec::new(alloc);
     while let Some(reader) = readers.pop() {
         let number = lookings.len() as u32;
-        let draws = Draws::new(load.seed, number + 1, load.keys);
-        let records = Vec::with_capacity(alloc, load.lookups as usize)?;
-        lookings.push(Looking {
-            reader,
-            number,
-            draws,
-            records,
-            refused: None,
-        })?;
+        lookings.push(looking_of(alloc, load, reader, number)?)?;
     }
     Ok(lookings)
 }
@@ -76,7 +92,7 @@ fn lookings_of<const V: usize>(
 pub(crate) fn make_ready<const V: usize>(alloc: Global, load: Load) -> Result<Workers<V>, LoadError>
     requires width { IsWidth V }
     requires keys { HasKeys load.keys }
-    ensures { MatchResult result (CanBegin load) (RefusesLoad load) }
+    ensures { MatchResult result (CanBegin load) (RefusesLoad (λ _ _. ⊥) load) }
 {
     let (cache, writer, readers) = match open::<V>(alloc, load.shape, load.readers) {
         Ok(opened) => opened,

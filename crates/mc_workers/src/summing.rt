@@ -1,9 +1,9 @@
 //! What the readers were told is checked and added up.
-ghost use Rattle.std.specs.Prelude.{ℕ, ◌≡◌, ◌+◌, ◌*◌, ◌≤◌, vec_len};
+ghost use Rattle.std.specs.Prelude.{ℕ, ◌≡◌, ◌+◌, ◌*◌, ◌≤◌, length, vec_len};
 ghost use Rattle.mc_words.specs.Places.{IsWidth};
 ghost use Rattle.mc_words.specs.Shapes.{IsShape};
-ghost use Rattle.mc_workers.specs.Loads.{Reports};
-ghost use Rattle.mc_workers.specs.Inside.Workers.{AreWhole, HaveEnded, IsLooking, IsWriting, history_after};
+ghost use Rattle.mc_workers.specs.Loads.{AreTrue, Reports, history_after};
+ghost use Rattle.mc_workers.specs.Inside.Workers.{AreWhole, HasWritten, HaveEnded, IsLooking, IsWriting};
 
 use crate::asked::Load;
 use crate::looking::Looking;
@@ -22,10 +22,11 @@ fn check_reader<const V: usize>(
 ) -> (Tally, u64)
     requires of { writer.old.of ≡ cache.now }
     requires looking { IsLooking V cache.now looking }
-    requires history { checker.now ≡ history_after V cache.now writer.old.acts }
+    requires history { checker.now ≡ history_after V cache.now.layout.shape writer.old.acts }
     ensures writer { writer.new ≡ writer.old }
-    ensures tally { result.0.found + result.0.absent + result.0.busy ≡ vec_len looking.entry.records }
+    ensures tally { result.0.found + result.0.absent + result.0.busy ≡ length looking.entry.records.items }
     ensures wrong { result.1 ≡ 0 }
+    ensures told { AreTrue (history_after V cache.now.layout.shape writer.old.acts) looking.entry.records.items }
 {
     let Looking {
         mut reader,
@@ -48,10 +49,11 @@ pub(crate) fn report_of<const V: usize>(
     requires width { IsWidth V }
     requires shape { IsShape load.shape × (cache.now.layout.shape ≡ load.shape) }
     requires writing { IsWriting V cache.now writing }
+    requires written { HasWritten V load load.writes writing }
     requires journal { vec_len writing.journal ≤ 2 * load.writes }
     requires len { vec_len lookings ≡ load.readers }
     requires few { vec_len lookings ≤ 1024 }
-    requires ended { HaveEnded V cache.now load.lookups lookings.items }
+    requires ended { HaveEnded V cache.now load lookings.items }
     requires whole { AreWhole lookings.items }
     ensures { Reports V load result }
 {

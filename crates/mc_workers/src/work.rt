@@ -25,7 +25,7 @@ fn run_workers<const V: usize, R: Threads + Sync, G: Gate>(
     requires width { IsWidth V }
     requires ready { CanBegin load workers }
     requires keys { HasKeys load.keys }
-    ensures { MatchResult result (Reports V load) (RefusesLoad load) }
+    ensures { MatchResult result (Reports V load) (RefusesLoad (G.may_refuse gate.now) load) }
 {
     let Workers {
         cache,
@@ -43,7 +43,8 @@ fn run_workers<const V: usize, R: Threads + Sync, G: Gate>(
 }
 
 /// Runs a writer and its readers, each in a thread of its own, and checks what the readers were told. All room is made before a
-/// worker starts; between two calls a worker waits for nothing but the gate.
+/// worker starts; between two calls a worker waits for nothing but the gate. A load whose gate may refuse no call, as `Free`, isn't
+/// refused by it.
 /// Condition: a value has from 1 to 8 words.
 pub fn load<const V: usize, R: Threads + Sync, G: Gate>(
     rt: &R,
@@ -52,7 +53,7 @@ pub fn load<const V: usize, R: Threads + Sync, G: Gate>(
     gate: &G,
 ) -> Result<Report, LoadError>
     requires width { IsWidth V }
-    ensures { MatchResult result (Reports V load) (RefusesLoad load) }
+    ensures { MatchResult result (Reports V load) (RefusesLoad (G.may_refuse gate.now) load) }
 {
     if load.keys == 0 || load.keys > 1 << 32 {
         return Err(LoadError::Keys);

@@ -1,6 +1,10 @@
 //! The writer at work.
-ghost use Rattle.std.specs.Prelude.{◌≡◌, ◌+◌, ◌*◌, ◌≤◌, IfSome, vec_len, vec_capacity};
+ghost use Rattle.std.specs.Prelude.{ℕ, ◌≡◌, ◌+◌, ◌*◌, ◌≤◌, IfNone, IfSome, vec_len, vec_capacity};
+ghost use Rattle.mc_plan.specs.Clerks.Call.{PutCall, RemoveCall};
+ghost use Rattle.mc_plan.specs.declared.answer.Answer.{Answer};
+ghost use Rattle.mc_writer.specs.WriterCalls.{HasCalled};
 
+use crate::asked::Load;
 use crate::draws::Draws;
 use crate::gate::Gate;
 use crate::journal::{note_put, note_removal};
@@ -17,13 +21,15 @@ pub(crate) struct Writing<const V: usize> {
 }
 
 impl<const V: usize> Writing<V> {
-    ghost use Rattle.mc_workers.specs.Inside.Workers.{IsWriting};
+    ghost use Rattle.mc_workers.specs.Inside.Workers.{HasWritten, IsWriting};
 
     /// Removes a key, and tells the moment of the answer.
     fn remove(&mut self, cache: &Cache<V>, key: u64) -> Option<u64>
         requires writing { IsWriting V cache.now self.old }
         requires room { vec_len self.old.journal + 2 ≤ vec_capacity self.old.journal }
         ensures writing { IsWriting V cache.now self.new }
+        ensures called { (told : Answer) × HasCalled V cache.now.layout.shape (RemoveCall key) self.old.writer self.new.writer told }
+        ensures draws { self.new.draws ≡ self.old.draws }
         ensures len { vec_len self.new.journal ≤ vec_len self.old.journal + 2 }
         ensures capacity { vec_capacity self.old.journal ≤ vec_capacity self.new.journal }
     {
@@ -36,6 +42,8 @@ impl<const V: usize> Writing<V> {
         requires writing { IsWriting V cache.now self.old }
         requires room { vec_len self.old.journal + 2 ≤ vec_capacity self.old.journal }
         ensures writing { IsWriting V cache.now self.new }
+        ensures called { (told : Answer) × HasCalled V cache.now.layout.shape (PutCall key value.entry) self.old.writer self.new.writer told }
+        ensures draws { self.new.draws ≡ self.old.draws }
         ensures len { vec_len self.new.journal ≤ vec_len self.old.journal + 2 }
         ensures capacity { vec_capacity self.old.journal ≤ vec_capacity self.new.journal }
     {
@@ -48,26 +56,31 @@ impl<const V: usize> Writing<V> {
         requires writing { IsWriting V cache.now self.old }
         requires room { vec_len self.old.journal + 2 ≤ vec_capacity self.old.journal }
         ensures writing { IsWriting V cache.now self.new }
+        ensures written { (load : Load) (n : ℕ) → call ≡ n + 1 → cache.now.layout.shape ≡ load.shape → HasWritten V load n self.old → HasWritten V load (n + 1) self.new }
         ensures len { vec_len self.new.journal ≤ vec_len self.old.journal + 2 }
         ensures capacity { vec_capacity self.old.journal ≤ vec_capacity self.new.journal }
     {
         let key = self.draws.key();
-        if self.draws.is_removal() {
+        let is_removal = self.draws.is_removal();
+        if is_removal {
             self.remove(cache, key)
         } else {
             self.put(cache, key, [call; V])
         }
     }
 
-    /// Makes so many calls, up to one that the gate refuses: which that is. Each value's words are the call's number.
-    pub(crate) fn run<G: Gate>(&mut self, cache: &Cache<V>, gate: &G, calls: u32) -> Option<u64>
+    /// Makes the load's calls, up to one that the gate refuses: which that is. Each value's words are the call's number.
+    pub(crate) fn run<G: Gate>(&mut self, cache: &Cache<V>, gate: &G, load: Load) -> Option<u64>
+        requires shape { cache.now.layout.shape ≡ load.shape }
         requires writing { IsWriting V cache.now self.old }
-        requires room { vec_len self.old.journal + 2 * calls ≤ vec_capacity self.old.journal }
+        requires written { HasWritten V load 0 self.old }
+        requires room { vec_len self.old.journal + 2 * load.writes ≤ vec_capacity self.old.journal }
         ensures writing { IsWriting V cache.now self.new }
-        ensures len { vec_len self.new.journal ≤ vec_len self.old.journal + 2 * calls }
-        ensures refused { IfSome result (λ call. (1 ≤ call) × (call ≤ calls)) }
+        ensures written { IfNone result (HasWritten V load load.writes self.new) }
+        ensures len { vec_len self.new.journal ≤ vec_len self.old.journal + 2 * load.writes }
+        ensures refused { IfSome result (λ call. (1 ≤ call) × (call ≤ load.writes) × G.may_refuse gate.now 0 call) }
     {
-        for n in 0..calls {
+        for n in 0..load.writes {
             let call = u64::from(n) + 1;
             if !gate.before(0, call) {
                 return Some(call);

@@ -1,21 +1,27 @@
-//! Deeds of a writer beside a reader's lookups in another thread. Each answer is what the map held at its moment.
+//! Deeds of a writer beside a reader's lookups in another thread. Each answer is what the map held at its moment, and the last
+//! ones see all deeds.
 ghost use Rattle.std.specs.Prelude.{◌≡◌};
 ghost use Rattle.thread_tests.specs.Twins.{IsTwinOf};
 
 use crate::truth::is_true;
 use crate::twin::{make_all, small_shape};
+use crate::waiting::is_set;
 use mc_core::World;
 use mc_reader::get;
 use mc_shared::{Cells, ReaderSeat, WriterSeat, open};
 use mc_theory::{Act, Deed};
 use mc_words::{Place, Reply};
 use std::alloc::Global;
+use std::sync::atomic::{AtomicBool, Ordering};
 use std::test::Fail;
 use std::thread::{Threads, join};
 
 const DEEDS: u64 = 200;
 
+/// Lookups beside the deeds, and once all are made.
 const LOOKUPS: usize = 2000;
+
+const LAST: usize = 8;
 
 /// Key number `n` of eight, whose stripe is `n`, where there are so many.
 fn key_of(n: u64) -> u64 {
@@ -62,8 +68,13 @@ fn make_deed(
     }
 }
 
-// Fills, renews and removes the keys in turn. Whether all acts were allowed.
-fn write_deeds(cells: &Cells<1>, writer: &mut WriterSeat, world: &mut World<1>) -> bool
+// Fills, renews and removes the keys in turn, and says so at the end. Whether all acts were allowed.
+fn write_deeds(
+    cells: &Cells<1>,
+    writer: &mut WriterSeat,
+    world: &mut World<1>,
+    ended: &AtomicBool,
+) -> bool
     requires of { writer.old.of ≡ cells.now }
     requires twin { IsTwinOf 1 world.old writer.old }
     ensures of { writer.new.of ≡ writer.old.of }
@@ -84,16 +95,28 @@ fn write_deeds(cells: &Cells<1>, writer: &mut WriterSeat, world: &mut World<1>) 
             return false;
         }
     }
+    ended.store(true, Ordering::SeqCst);
     true
 }
 
-// Looks the keys up in turn, into a list that has room.
-fn look_all(cells: &Cells<1>, reader: &mut ReaderSeat, replies: &mut [Reply<1>])
+// Looks the keys up in turn, into a list that has room; the last of them once all deeds are made, or none.
+fn look_all(cells: &Cells<1>, reader: &mut ReaderSeat, ended: &AtomicBool, replies: &mut [Reply<1>])
     requires of { reader.old.of ≡ cells.now }
     ensures of { reader.new.of ≡ reader.old.of }
 {
     for i in 0..replies.len() {
+        if i == LOOKUPS && !is_set(ended) {
+            return;
+        }
         replies[i] = get(cells, reader, key_of(i as u64));
+    }
+}
+
+/// Whether the answer is of the moment after all deeds.
+fn is_of_the_end(reply: Reply<1>) -> bool {
+    match reply {
+        Reply::Found { at, .. } | Reply::Absent { at } => at == DEEDS,
+        Reply::Busy => false,
     }
 }
 
@@ -105,16 +128,18 @@ fn are_answers_true<R: Threads + Sync>(rt: &R, alloc: Global, stripes: u32) -> R
     let Some(mut reader) = readers.pop() else {
         return Err(Fail::new("no reader"));
     };
-    let mut replies = vec![in alloc; Reply::Busy; LOOKUPS]?;
+    let mut replies = vec![in alloc; Reply::Busy; LOOKUPS + LAST]?;
+    let ended = AtomicBool::new(false);
     let (made, ()) = join(
         rt,
-        || write_deeds(&cells, &mut writer, &mut world),
-        || look_all(&cells, &mut reader, replies.as_mut_slice()),
+        || write_deeds(&cells, &mut writer, &mut world, &ended),
+        || look_all(&cells, &mut reader, &ended, replies.as_mut_slice()),
     );
     let changes = world.history();
     let mut right = made && changes.len() as u64 == DEEDS;
     for i in 0..replies.len() {
         right = right && is_true(changes, key_of(i as u64), replies[i]);
+        right = right && (i < LOOKUPS || is_of_the_end(replies[i]));
     }
     Ok(right)
 }

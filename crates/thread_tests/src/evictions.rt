@@ -1,11 +1,12 @@
 //! A writer that puts, removes and evicts beside three readers. Each answer of a reader is what the history of the
-//! writer's calls says of the key at the answer's moment.
+//! writer's calls says of the key at the answer's moment, and the last ones see all of it.
 ghost use Rattle.std.specs.Prelude.{◌≡◌, All, IfOk};
 
 use crate::journal::Entry;
 use crate::looker::{Looker, key_of};
 use mc_cache::{Cache, Change, Mix, Reader, Shape, Writer, open};
 use std::alloc::{AllocError, Global};
+use std::sync::atomic::{AtomicBool, Ordering};
 use std::test::Fail;
 use std::thread;
 use std::thread::{Threads, join};
@@ -33,8 +34,8 @@ fn asked(n: usize) -> Change<1> {
     }
 }
 
-// Makes the calls in turn, and writes down what came of each.
-fn write_all(cache: &Cache<1>, writer: &mut Writer<1>, entries: &mut [Entry])
+// Makes the calls in turn, writes down what came of each, and says so at the end.
+fn write_all(cache: &Cache<1>, writer: &mut Writer<1>, entries: &mut [Entry], ended: &AtomicBool)
     requires { writer.old.of ≡ cache.now }
     ensures { writer.new.of ≡ writer.old.of }
 {
@@ -46,6 +47,7 @@ fn write_all(cache: &Cache<1>, writer: &mut Writer<1>, entries: &mut [Entry])
             }
         };
     }
+    ended.store(true, Ordering::SeqCst);
 }
 
 /// The history that the entries tell. `None` where a moment is not its length.
@@ -83,6 +85,7 @@ fn look_in_threads<R: Threads + Sync>(
     rt: &R,
     cache: &Cache<1>,
     lookers: Vec<Looker>,
+    ended: &AtomicBool,
 ) -> Result<Vec<Looker>, AllocError>
     requires { All (λ l. l.reader.of ≡ cache.now) lookers.items }
 {
@@ -91,7 +94,7 @@ fn look_in_threads<R: Threads + Sync>(
         lookers,
         &|looker: Looker| -> Looker
             requires { looker.reader.of ≡ cache.now }
-        { looker.look_all(cache) },
+        { looker.look_all(cache, ended) },
     )
 }
 
@@ -104,12 +107,13 @@ fn are_answers_true<R: Threads + Sync>(rt: &R, alloc: Global) -> Result<bool, Fa
     let (cache, mut writer, readers) = open::<1>(alloc, SHAPE, 3)?;
     let lookers = lookers_of(alloc, &cache, readers)?;
     let mut entries = vec![in alloc; Entry::Refused; WRITES]?;
+    let ended = AtomicBool::new(false);
     let ((), looked) = join(
         rt,
-        || write_all(&cache, &mut writer, entries.as_mut_slice()),
+        || write_all(&cache, &mut writer, entries.as_mut_slice(), &ended),
         || -> Result<Vec<Looker>, AllocError>
             requires { All (λ l. l.reader.of ≡ cache) lookers.items }
-        { look_in_threads(rt, &cache, lookers) },
+        { look_in_threads(rt, &cache, lookers, &ended) },
     );
     let looked = looked?;
     let Some(history) = history_of(alloc, entries.as_slice())? else {

@@ -1,6 +1,7 @@
 //! A reader that never caught up with the writer finds in the end what the writer has put.
 ghost use Rattle.std.specs.Prelude.{◌≡◌};
 
+use crate::waiting::{TURNS, is_set};
 use mc_cache::{Cache, Mix, Put, Reader, Reply, Shape, Writer, open};
 use std::sync::atomic::{AtomicBool, Ordering};
 use std::test::Fail;
@@ -15,9 +16,6 @@ const SHAPE: Shape = Shape {
     limit: 1 << 62,
     mix: Mix::Plain,
 };
-
-/// How often a loop that waits turns at most.
-const TURNS: u32 = 1 << 26;
 
 // Misses the key, says so, and looks until it is there. `None` where the first look didn't miss, or none found it.
 fn look_until_found(
@@ -41,16 +39,6 @@ fn look_until_found(
     None
 }
 
-// Whether the key was missed in time.
-fn is_missed(missed: &AtomicBool) -> bool {
-    for _turn in 0..TURNS {
-        if missed.load(Ordering::SeqCst) {
-            return true;
-        }
-    }
-    false
-}
-
 // Waits until the key was missed, and puts it. Whether it was missed in time, and stored.
 fn put_when_missed(cache: &Cache<1>, writer: &mut Writer<1>, missed: &AtomicBool) -> bool
     requires { writer.old.of ≡ cache.now }
@@ -60,7 +48,7 @@ fn put_when_missed(cache: &Cache<1>, writer: &mut Writer<1>, missed: &AtomicBool
         moves: 0,
         evicted: None,
     };
-    is_missed(missed) && writer.put(cache, 0, [7]) == Ok(stored)
+    is_set(missed) && writer.put(cache, 0, [7]) == Ok(stored)
 }
 
 #[test]

@@ -15,7 +15,11 @@ mod evictions;
 #[cfg(test)]
 mod journal;
 #[cfg(test)]
+mod late_gate;
+#[cfg(test)]
 mod late_read;
+#[cfg(test)]
+mod load_draws;
 #[cfg(test)]
 mod load_gate;
 #[cfg(test)]
@@ -25,12 +29,18 @@ mod looker;
 #[cfg(test)]
 mod marks;
 #[cfg(test)]
+mod openings;
+#[cfg(test)]
 mod put_read_back;
 #[cfg(test)]
 mod rows;
 #[cfg(test)]
 mod sharing;
 #[cfg(test)]
+mod texts;
+#[cfg(test)]
 mod truth;
 #[cfg(test)]
 mod twin;
+#[cfg(test)]
+mod waiting;

@@ -19,8 +19,8 @@ struct Held {
     moment: AtomicU64,
     /// Answers of readers without a moment.
     busy: AtomicU64,
-    /// A reader's first answer was busy, or of a moment before the writer's last.
-    stale: AtomicBool,
+    /// The writer's first call put nothing, or a reader's first answer was busy or of a moment before the writer's last.
+    wrong: AtomicBool,
 }
 
 impl Held {
@@ -34,7 +34,7 @@ impl Held {
             answered: [AtomicU64::new(0), AtomicU64::new(0), AtomicU64::new(0)],
             moment: AtomicU64::new(0),
             busy: AtomicU64::new(0),
-            stale: AtomicBool::new(false),
+            wrong: AtomicBool::new(false),
         }
     }
 
@@ -90,13 +90,16 @@ impl Gate for Held {
             if let Some(moment) = at {
                 self.moment.store(moment, Ordering::SeqCst);
             }
+            if call == 1 && at != Some(1) {
+                self.wrong.store(true, Ordering::SeqCst);
+            }
         } else {
             let last = self.moment.load(Ordering::SeqCst);
             if at.is_none() {
                 self.busy.fetch_add(1, Ordering::SeqCst);
             }
             if call == 1 && at.unwrap_or(0) < last {
-                self.stale.store(true, Ordering::SeqCst);
+                self.wrong.store(true, Ordering::SeqCst);
             }
         }
         if who < 3 {
@@ -135,7 +138,7 @@ fn workers_run_at_once(rt: HostRuntime) -> Result<(), Fail> {
         let counted = [report.changes, report.busy];
         let moment = gate.moment.load(Ordering::SeqCst);
         let busy = gate.busy.load(Ordering::SeqCst);
-        assert!(rt; !gate.stale.load(Ordering::SeqCst));
+        assert!(rt; !gate.wrong.load(Ordering::SeqCst));
         assert_eq!(rt; told, [200, 200, 100, 0]);
         assert_eq!(rt; counted, [moment, busy]);
     }

@@ -43,3 +43,39 @@ fn keys_are_refused_before_readers(rt: HostRuntime) -> Result<(), Fail> {
     assert!(rt; tells(&rt, rt.alloc(), words.as_slice(), "", told, 2));
     Ok(())
 }
+
+/// Whether the text is the first part, some digits, and then the last part.
+fn is_number_between(text: &[u8], first: &[u8], last: &[u8]) -> bool {
+    let Some(rest) = text.strip_prefix(first) else {
+        return false;
+    };
+    let Some(number) = rest.strip_suffix(last) else {
+        return false;
+    };
+    !number.is_empty() && number.iter().all(|digit| digit.is_ascii_digit())
+}
+
+#[test]
+fn a_histogram_has_a_line_for_each_worker(rt: HostRuntime) -> Result<(), Fail> {
+    let words = [
+        "mcload",
+        "run",
+        "--readers",
+        "1",
+        "--lookups",
+        "5",
+        "--writes",
+        "0",
+        "--histogram",
+    ];
+    let mut output = Vec::new(rt.alloc());
+    let mut errors = Vec::new(rt.alloc());
+    let status = run_load(&rt, rt.alloc(), words.as_slice(), &mut output, &mut errors);
+    let before =
+        "lookups 5\nwrites 0\nsum ok\nwrong 0\nchanges behind: 0, 1 to 9, 10 to 99, 100 to 999, more\n\
+        writer calls/s 0 busy 0 behind 0 0 0 0 0\nreader 0 calls/s ";
+    let behind = " busy 0 behind 5 0 0 0 0\n";
+    assert!(rt; status == 0 && errors.is_empty());
+    assert!(rt; is_number_between(output.as_slice(), before.as_bytes(), behind.as_bytes()));
+    Ok(())
+}

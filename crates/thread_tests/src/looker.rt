@@ -2,22 +2,36 @@
 ghost use Rattle.std.specs.Prelude.{◌≡◌, IfOk};
 
 use crate::truth::is_true;
+use crate::waiting::is_set;
 use mc_cache::{Cache, Change, Reader, Reply};
 use std::alloc::{AllocError, Global};
+use std::sync::atomic::AtomicBool;
 
+/// Lookups beside the writer, and once it has ended.
 const LOOKUPS: usize = 2000;
+
+const LAST: usize = 64;
 
 /// One of 64 keys for each number. Each key comes once in 64 numbers, if the factor is odd.
 pub fn key_of(n: usize, factor: u64) -> u64 {
     (n as u64).wrapping_mul(factor) % 64
 }
 
-// Looks the keys up in turn, and writes down each answer.
-fn look_all(cache: &Cache<1>, reader: &mut Reader<1>, factor: u64, replies: &mut [Reply<1>])
+// Looks the keys up in turn, and writes down each answer; the last of them once the writer has ended, or none.
+fn look_all(
+    cache: &Cache<1>,
+    reader: &mut Reader<1>,
+    factor: u64,
+    ended: &AtomicBool,
+    replies: &mut [Reply<1>],
+)
     requires { reader.old.of ≡ cache.now }
     ensures { reader.new.of ≡ reader.old.of }
 {
     for n in 0..replies.len() {
+        if n == LOOKUPS && !is_set(ended) {
+            return;
+        }
         replies[n] = reader.get(cache, key_of(n, factor));
     }
 }
@@ -29,7 +43,7 @@ fn moment_of(reply: Reply<1>) -> Option<u64> {
     }
 }
 
-// Whether the answers are true of the history, and their moments don't fall.
+// Whether the answers are true of the history, their moments don't fall, and the last ones see all of it.
 fn are_true(history: &[Change<1>], factor: u64, replies: &[Reply<1>]) -> bool {
     let mut last = 0;
     for n in 0..replies.len() {
@@ -39,12 +53,12 @@ fn are_true(history: &[Change<1>], factor: u64, replies: &[Reply<1>]) -> bool {
         }
         last = at;
     }
-    true
+    last == history.len() as u64
 }
 
 // Room for all answers.
 fn unanswered(alloc: Global) -> Result<Vec<Reply<1>>, AllocError> {
-    vec![in alloc; Reply::Busy; LOOKUPS]
+    vec![in alloc; Reply::Busy; LOOKUPS + LAST]
 }
 
 #[derive(Drop)]
@@ -67,20 +81,21 @@ impl Looker {
         })
     }
 
-    /// Looks the keys up in turn.
-    pub fn look_all(mut self, cache: &Cache<1>) -> Looker
+    /// Looks the keys up in turn, and some once the writer has ended.
+    pub fn look_all(mut self, cache: &Cache<1>, ended: &AtomicBool) -> Looker
         requires { self.reader.of ≡ cache.now }
     {
         look_all(
             cache,
             &mut self.reader,
             self.factor,
+            ended,
             self.replies.as_mut_slice(),
         );
         self
     }
 
-    /// Whether the answers are true of the history, and their moments don't fall.
+    /// Whether the answers are true of the history, their moments don't fall, and the last ones see all of it.
     pub fn was_told_the_truth(&self, history: &[Change<1>]) -> bool {
         are_true(history, self.factor, self.replies.as_slice())
     }

@@ -17,4 +17,4 @@ returns-in-Ok g c =
 
 pub returns-in-Err : goal.returns-in-Err
 returns-in-Err g c =
-    inr (c.in-Err.why, subst (λ (l : Load). RefusesLoad l c.in-Err.why) c.load_for.ensures c.in-Err.ensures, Keeps-refl (g.W.Write.contents c.args.output.now), c.refuse.ensures.told, c.refuse.ensures.status)
+    inr (c.in-Err.why, subst (λ (l : Load). RefusesLoad (λ who call. ⊥) l c.in-Err.why) c.load_for.ensures c.in-Err.ensures, Keeps-refl (g.W.Write.contents c.args.output.now), c.refuse.ensures.told, c.refuse.ensures.status)

@@ -11,6 +11,7 @@ returns g c =
       readers = c.in-Ok.ensures.asked.1;
       layout = ap (λ (l : Layout). l.shape) c.in-Ok.ensures.cache;
       writing = subst (λ (o : Opening). IsWriting g.row.V o c.in-Ok-writing_of.writing) (ap (λ (w : WriterRecord). w.of) c.in-Ok.ensures.writer) c.in-Ok-writing_of.ensures.writing;
+      written = c.in-Ok-writing_of.ensures.written;
       empty = c.in-Ok-writing_of.ensures.empty;
       room = c.in-Ok-writing_of.ensures.room;
       many = c.in-Ok-lookings_of.ensures.len;

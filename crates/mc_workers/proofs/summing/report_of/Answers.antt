@@ -1,8 +1,12 @@
-use Rattle.std.proofs.Common.{rules, ℕ, length, ◌≡◌, ◌+◌, ◌*◌, [], ◌∷◌, ap, subst, sym, ◌∙◌, arith}
+use Rattle.std.proofs.Common.{rules, ℕ, get_or, ◌<◌, length, ◌≡◌, ◌+◌, ◌*◌, [], ◌∷◌, ap, subst, sym, ◌∙◌, arith}
 use Rattle.std.proofs.lemmas.List.{length-append}
+use Rattle.mc_words.specs.declared.shape.Shape.{Shape}
+use Rattle.mc_theory.specs.Lists.{IsLawful}
+use Rattle.mc_theory.proofs.Lists.Fronts.{state_holds}
 use Rattle.mc_shared.specs.Records.{WriterRecord}
-use Rattle.mc_workers.specs.Inside.Workers.{history_after}
-use Rattle.mc_workers.proofs.Readers.{ended_front, whole_front, ended_last, whole_last, more_lookups, few_lookups}
+use Rattle.mc_workers.specs.Loads.{AreTrue, HasMade, history_after}
+use Rattle.mc_workers.specs.declared.looking.Looking.{Looking}
+use Rattle.mc_workers.proofs.Readers.{ended_front, whole_front, ended_last, whole_last, first_less, some_element, more_lookups, few_lookups, rest_more}
 use Rattle.mc_workers.proofs.summing.report_of.Goals as goal
 
 pub check_reader-wrong-requires : goal.check_reader-wrong-requires
@@ -19,8 +23,8 @@ check_reader-wrong-requires g c =
             (
               ap (λ (w : WriterRecord). w.of) c.loop-looking.invariant.writer ∙ c.requires.writing.of,
               (
-                (ended_last o k c.loop-looking.lookings.items c.pop.new.self.items c.in-Some.looking c.in-Some.ensures.items c.loop-looking.invariant.ended).looking,
-                c.sorted-checker.ensures ∙ (c.as_slice.ensures.value ∙ (c.requires.writing.kept ∙ sym (ap (λ (w : WriterRecord). history_after g.row.V o w.acts) c.loop-looking.invariant.writer))),
+                (ended_last o c.args.load c.loop-looking.lookings.items c.pop.new.self.items c.in-Some.looking c.in-Some.ensures.items c.loop-looking.invariant.ended).looking,
+                c.sorted-checker.ensures ∙ (c.as_slice.ensures.value ∙ (c.requires.writing.kept ∙ sym (ap (λ (w : WriterRecord). history_after g.row.V o.layout.shape w.acts) c.loop-looking.invariant.writer))),
               ),
             ),
           ),
@@ -36,7 +40,7 @@ add-requires g c =
     let rest = c.pop.new.self.items in
     let x = c.in-Some.looking in
     let one : length xs ≡ length rest + 1 = ap length c.in-Some.ensures.items ∙ length-append rest (x ∷ []) in
-    let told = c.check_reader-wrong.ensures.tally ∙ (ended_last o k xs rest x c.in-Some.ensures.items c.loop-looking.invariant.ended).whole (whole_last xs rest x c.in-Some.ensures.items c.loop-looking.invariant.whole) in
+    let told = c.check_reader-wrong.ensures.tally ∙ (ended_last o c.args.load xs rest x c.in-Some.ensures.items c.loop-looking.invariant.ended).whole (whole_last xs rest x c.in-Some.ensures.items c.loop-looking.invariant.whole) in
     let sum : c.loop-looking.report.lookups + (length rest + 1) * k ≡ c.args.load.readers * k = subst (λ (n : ℕ). c.loop-looking.report.lookups + n * k ≡ c.args.load.readers * k) one c.loop-looking.invariant.lookups in
     record {
       many = omega (arith, told, few_lookups c.loop-looking.report.lookups (length rest) k c.args.load.readers (omega (arith, c.requires.len, c.requires.few)) (search rules) sum);
@@ -52,10 +56,12 @@ loop-looking-preserved g c =
     let rest = c.pop.new.self.items in
     let x = c.in-Some.looking in
     let one : length xs ≡ length rest + 1 = ap length c.in-Some.ensures.items ∙ length-append rest (x ∷ []) in
-    let told = c.check_reader-wrong.ensures.tally ∙ (ended_last o k xs rest x c.in-Some.ensures.items c.loop-looking.invariant.ended).whole (whole_last xs rest x c.in-Some.ensures.items c.loop-looking.invariant.whole) in
+    let told = c.check_reader-wrong.ensures.tally ∙ (ended_last o c.args.load xs rest x c.in-Some.ensures.items c.loop-looking.invariant.ended).whole (whole_last xs rest x c.in-Some.ensures.items c.loop-looking.invariant.whole) in
     let sum : c.loop-looking.report.lookups + (length rest + 1) * k ≡ c.args.load.readers * k = subst (λ (n : ℕ). c.loop-looking.report.lookups + n * k ≡ c.args.load.readers * k) one c.loop-looking.invariant.lookups in
+    let told_here : AreTrue (history_after g.row.V o.layout.shape c.args.writing.writer.acts) x.records.items =
+    subst (λ (w : WriterRecord). AreTrue (history_after g.row.V o.layout.shape w.acts) x.records.items) c.loop-looking.invariant.writer c.check_reader-wrong.ensures.told in
     record {
-      ended = ended_front o k xs rest x c.in-Some.ensures.items c.loop-looking.invariant.ended;
+      ended = ended_front o c.args.load xs rest x c.in-Some.ensures.items c.loop-looking.invariant.ended;
       whole = whole_front xs rest x c.in-Some.ensures.items c.loop-looking.invariant.whole;
       many = search rules;
       lookups = subst (λ (n : ℕ). n + length rest * k ≡ c.args.load.readers * k) (sym (c.add.ensures.lookups ∙ ap (λ (n : ℕ). c.loop-looking.report.lookups + n) told)) (more_lookups c.loop-looking.report.lookups (length rest) k (c.args.load.readers * k) sum);
@@ -64,4 +70,38 @@ loop-looking-preserved g c =
       writes = search rules;
       changes = search rules;
       writer = search rules;
+      front = first_less c.args.lookings.items xs rest x c.in-Some.ensures.items c.loop-looking.invariant.front;
+      told = rest_more (λ (k : Looking g.row.V). AreTrue (history_after g.row.V o.layout.shape c.args.writing.writer.acts) k.records.items) c.args.lookings.items xs rest x c.in-Some.ensures.items c.loop-looking.invariant.front told_here c.loop-looking.invariant.told;
+    }
+
+pub returns : goal.returns
+returns g c =
+    let sh = c.args.load.shape in
+    let w : WriterRecord = c.args.writing.writer in
+    let same = c.requires.shape.1 in
+    let h = history_after g.row.V sh w.acts in
+    let kept : c.args.writing.journal.items ≡ h = c.requires.writing.kept ∙ ap (λ (s : Shape). history_after g.row.V s w.acts) same in
+    let changes : c.loop-looking.report.changes ≡ length h = c.loop-looking.invariant.changes ∙ ap length (c.sorted-checker.ensures ∙ (c.as_slice.ensures.value ∙ kept)) in
+    let none_left : length c.loop-looking.lookings.items ≡ 0 = search rules in
+    record {
+      writer = w;
+      made = subst (λ (n : ℕ). HasMade g.row.V c.args.load n w) (sym c.loop-looking.invariant.writes) c.requires.written.made;
+      writes = c.loop-looking.invariant.writes;
+      changes = changes;
+      legal = (state_holds g.row.V sh w.acts c.requires.shape.0 (subst (λ (s : Shape). IsLawful g.row.V s w.acts) same c.requires.writing.lawful)).legal;
+      few = search rules;
+      readers = λ r low.
+          let under : r < length c.args.lookings.items = omega (arith, low, c.requires.len) in
+          let d = some_element c.args.lookings.items r under in
+          let end = c.requires.ended r d under in (
+            (get_or c.args.lookings.items r d).records.items,
+            record {
+              many = end.whole (c.requires.whole r d under);
+              drawn = end.keys;
+              told = subst (λ (s : Shape). AreTrue (history_after g.row.V s w.acts) (get_or c.args.lookings.items r d).records.items) same (c.loop-looking.invariant.told r d (omega (arith, none_left)) under);
+            },
+          );
+      lookups = search rules;
+      answers = c.loop-looking.invariant.answers;
+      wrong = c.loop-looking.invariant.wrong;
     }

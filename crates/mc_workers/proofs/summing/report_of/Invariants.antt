@@ -1,10 +1,13 @@
 use Rattle.std.proofs.Common.{◌≡◌, ◌+◌, ◌*◌, ◌≤◌, length}
+use Rattle.mc_workers.specs.Loads.{AreTrue, history_after}
+use Rattle.mc_workers.specs.Inside.Parted.{AreFirst, AreRest}
 use Rattle.mc_workers.specs.Inside.Workers.{AreWhole, HaveEnded}
+use Rattle.mc_workers.specs.declared.looking.Looking.{Looking}
 use Rattle.mc_workers.proofs.summing.report_of.Given as goal
 
 abbrev pub invariant-loop-looking : goal.invariant-loop-looking
 invariant-loop-looking g l = record {
-  ended : HaveEnded g.row.V l.fn.cache l.fn.load.lookups l.lookings.items;
+  ended : HaveEnded g.row.V l.fn.cache l.fn.load l.lookings.items;
   whole : AreWhole l.lookings.items;
   many : length l.lookings.items ≤ l.fn.load.readers;
   lookups : l.report.lookups + length l.lookings.items * l.fn.load.lookups ≡ l.fn.load.readers * l.fn.load.lookups;
@@ -13,6 +16,8 @@ invariant-loop-looking g l = record {
   writes : l.report.writes ≡ l.fn.load.writes;
   changes : l.report.changes ≡ length l.initial.checker;
   writer : l.writer ≡ l.fn.writing.writer;
+  front : AreFirst l.lookings.items l.fn.lookings.items;
+  told : AreRest (λ (k : Looking g.row.V). AreTrue (history_after g.row.V l.fn.cache.layout.shape l.fn.writing.writer.acts) k.records.items) l.lookings.items l.fn.lookings.items;
 }
 
 abbrev pub decreases-loop-looking : goal.decreases-loop-looking

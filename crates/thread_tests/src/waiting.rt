@@ -1,0 +1,15 @@
+//! Waiting for what another thread does.
+use std::sync::atomic::{AtomicBool, Ordering};
+
+/// How often a loop that waits turns at most.
+pub const TURNS: u32 = 1 << 26;
+
+/// Waits until the flag is set. Whether it was in time.
+pub fn is_set(flag: &AtomicBool) -> bool {
+    for _turn in 0..TURNS {
+        if flag.load(Ordering::SeqCst) {
+            return true;
+        }
+    }
+    false
+}
