@@ -1,18 +1,16 @@
 -- What a call of the writer changes of the map, by its answer.
-use Rattle.std.specs.Prelude.{ℕ, List, [], ◌∷◌, Some, None, Result, Ok, Err}
+use Rattle.std.specs.Prelude.{ℕ, List, [], ◌∷◌, Result, Ok, Err}
 use Rattle.mc_words.specs.declared.history.Change.{Change}
 use Rattle.mc_words.specs.declared.history.Change.TheVariants as change
 use Rattle.mc_plan.specs.declared.answer.Put.{Put}
-use Rattle.mc_plan.specs.declared.answer.Put.TheVariants.{Stored, Renewed}
+use Rattle.mc_cache.specs.Plain as plain
 use Rattle.mc_plan.specs.declared.answer.PutError.{PutError}
 use Rattle.mc_plan.specs.declared.answer.Remove.{Remove}
 use Rattle.mc_plan.specs.declared.answer.Remove.TheVariants.{Removed, NotThere}
 use Rattle.mc_plan.specs.declared.answer.Spent.{Spent}
 
 abbrev pub put_changes : {V : ℕ} → ℕ → List ℕ → Result Put PutError → List (Change V)
-put_changes k v (Ok (Stored at moves None)) = change.Put k v ∷ []
-put_changes k v (Ok (Stored at moves (Some other))) = change.Evict other ∷ change.Put k v ∷ []
-put_changes k v (Ok (Renewed at)) = change.Put k v ∷ []
+put_changes k v (Ok told) = plain.put_changes k v told
 put_changes k v (Err why) = []
 
 abbrev pub remove_changes : {V : ℕ} → ℕ → Result Remove Spent → List (Change V)

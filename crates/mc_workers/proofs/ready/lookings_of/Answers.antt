@@ -37,3 +37,13 @@ loop-reader-preserved g c =
           let more : length c.push.new.self.items ≡ length c.loop-reader.lookings.items + 1 = ap length c.in_ok-push.ensures.items ∙ length-append c.loop-reader.lookings.items (c.in_ok-looking_of.field-0 ∷ []) in
           omega (arith, one, more, c.loop-reader.invariant.many);
     }
+
+pub overflow_cast-number : goal.overflow_cast-number
+overflow_cast-number g c =
+    let all : length c.args.readers.items ≡ c.args.load.readers = ap length c.requires.fresh.1 ∙ new_length c.requires.fresh.0 c.args.load.readers in
+    grind (arith, common_steps)
+
+pub returns-clause-len : goal.returns-clause-len
+returns-clause-len g c =
+    let all : length c.args.readers.items ≡ c.args.load.readers = ap length c.requires.fresh.1 ∙ new_length c.requires.fresh.0 c.args.load.readers in
+    grind (arith, common_steps)
