@@ -1,11 +1,12 @@
 -- The notes of acts that are made while a reader makes no step.
-use Rattle.std.proofs.Common.{◌≡◌, ℕ, zero, suc, ◌+◌, ◌<◌, ◌≤◌, List, [], ◌∷◌, ◌++◌, length, length-append, ap, sym, subst, arith}
+use Rattle.std.proofs.Common.{◌≡◌, ℕ, zero, suc, ◌+◌, ◌<◌, ◌≤◌, List, [], ◌∷◌, ◌++◌, length, length-append, ap, sym, ◌∙◌, subst, arith}
 use mathlib.Core.Option.{some, some-injective, some-ne-none}
 use lib.ListN.{get_elem?}
+use Rattle.mc_theory.specs.Lists.{Made}
 use Rattle.mc_theory.specs.Readings.{Reading}
 use Rattle.mc_shared.specs.Views.{Note}
-use Rattle.mc_shared.specs.ExactFronts.{steps_by, StepsRise, made_by, StandAt}
-use Rattle.mc_shared.specs.ExactLaws.{IdleActsAreNoted}
+use Rattle.mc_shared.specs.ExactFronts.{steps_by, StepsRise, made_by, IsReading, StandAt, InOneOrder}
+use Rattle.mc_shared.specs.ExactLaws.{MeetingsAgree, IdleActsAreNoted}
 use Rattle.mc_shared.proofs.ExactSteps.{rise_end}
 use Rattle.mc_shared.proofs.ExactReadings.{load_stands}
 use Rattle.mc_shared.proofs.OrderedLookups.{stand_drop}
@@ -25,13 +26,20 @@ rise_at a f [] (y ∷ ys) g zero t r e = let same : steps_by a y ≡ steps_by a 
 rise_at a f [] (y ∷ ys) g (suc k) t r e = rise_at a (steps_by a y) [] ys g k t r.1 e
 rise_at a f (x ∷ xs) ts g k t r e = rise_at a (steps_by a x) xs ts g k t r.1 e
 
+-- where a reading stands, as a list of notes tells
+stood : (acts : List Made) (notes : List Note) (number : ℕ) (done rest : List Reading) (r : Reading) → InOneOrder acts notes number (done ++ r ∷ rest) → IsReading r.access → r.front ≡ made_by number (length done) notes
+stood acts notes number done rest r order reads =
+    let here : StandAt number notes (length done) (r ∷ rest) = subst (λ (j : ℕ). StandAt number notes j (r ∷ rest)) (omega arith) (stand_drop number 0 notes done (r ∷ rest) order.exact.fronts) in
+    load_stands r.access r.front (made_by number (length done) notes) reads here.0
+
+pub meetings_agree : MeetingsAgree
+meetings_agree acts later notes more number done rest r was is reads = sym (stood acts notes number done [] r was reads) ∙ stood later (notes ++ more) number done rest r is reads
+
 pub idle_acts_are_noted : IdleActsAreNoted
 idle_acts_are_noted acts later notes more number done marks last k note was is reads at =
     let n : ℕ = length done in
-    let old : StandAt number notes n (last ∷ marks) = subst (λ (j : ℕ). StandAt number notes j (last ∷ marks)) (omega arith) (stand_drop number 0 notes done (last ∷ marks) was.exact.fronts) in
-    let new : StandAt number (notes ++ more) n (last ∷ marks) = subst (λ (j : ℕ). StandAt number (notes ++ more) j (last ∷ marks)) (omega arith) (stand_drop number 0 (notes ++ more) done (last ∷ marks) is.exact.fronts) in
-    let here = load_stands last.access last.front (made_by number n notes) reads old.0 in
-    let there = load_stands last.access last.front (made_by number n (notes ++ more)) reads new.0 in
+    let here = stood acts notes number done marks last was reads in
+    let there = stood later (notes ++ more) number done marks last is reads in
     let none : made_by number n more ≡ 0 = omega (arith, here, there, made_parts number n notes more) in (
       omega (arith, made_later number n more k note none at, length-append done (last ∷ [])),
       rise_at number 0 notes more (length (done ++ last ∷ marks)) k note is.exact.rise at,

@@ -80,6 +80,12 @@ pub record IsLookedUp (V : ℕ) (sh : Shape) (k tries : ℕ) (acts acts' : List 
   pub whole : ends.done ++ last ∷ [] ≡ begins.done ++ rs
   pub later : IsFrontOf acts acts'
 
+-- two meetings of a reader with the writer speak of one order: a reading stands behind the same acts in both
+abbrev pub MeetingsAgree : Type 0
+MeetingsAgree =
+    (acts later : List Made) (notes more : List Note) (number : ℕ) (done rest : List Reading) (reading : Reading) → InOneOrder acts notes number (done ++ reading ∷ []) → InOneOrder later (notes ++ more) number (done ++ reading ∷ rest) → IsReading reading.access →
+    made_by number (length done) notes ≡ made_by number (length done) (notes ++ more)
+
 -- an act that was made between two meetings of a reader with the writer, between which the reader made no step, has in its note the
 -- number of entries of that reader, up to marks that it made after its last reading
 abbrev pub IdleActsAreNoted : Type 0

@@ -1,5 +1,5 @@
 //! The laws of the rule and of exact records, one function each. A body does nothing: what it ensures is the law.
-ghost use Rattle.mc_shared.specs.ExactLaws.{ReadingsAreNewest, ReadsAreEntries, LookupsAreInTime, LookupsStandInOrder, IdleActsAreNoted};
+ghost use Rattle.mc_shared.specs.ExactLaws.{ReadingsAreNewest, ReadsAreEntries, LookupsAreInTime, LookupsStandInOrder, MeetingsAgree, IdleActsAreNoted};
 
 /// Whatever step enters a reading in a reader's record, it is of the newest words: a reader that does not look breaks the rule.
 pub fn readings_are_newest()
@@ -19,6 +19,11 @@ pub fn lookups_are_in_time<const V: usize>()
 /// A lookup's reply is true at a moment between its first step and its last, in the order of all acts and of the reader's steps.
 pub fn lookups_stand_in_order<const V: usize>()
     ensures { LookupsStandInOrder V }
+{}
+
+/// Two meetings of a reader with the writer speak of one order.
+pub fn meetings_agree()
+    ensures { MeetingsAgree }
 {}
 
 /// An act that is made while a reader makes no step has the number of that reader's entries in its note.
