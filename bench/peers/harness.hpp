@@ -116,6 +116,7 @@ struct alignas(128) Tally {
 // One thread's work: a reader's, or a writer's that puts once in so many calls.
 template <class C> Tally work(C &map, const Options &options, uint64_t seed, bool puts, std::atomic<int> &waiting, std::atomic<bool> &over) {
     uint64_t first = options.workload == "miss" ? 1ull << 40 : 0, left = options.write_every;
+    uint64_t numbers = options.workload == "half" ? 2 * options.keys : options.keys;
     Draw draw(options.seed * 1000 + seed);
     Tally tally;
     map.enter();
@@ -124,7 +125,7 @@ template <class C> Tally work(C &map, const Options &options, uint64_t seed, boo
     double began = now(options.alone());
     while (!over) {
         for (uint64_t n = 0; n < 64; n++) {
-            uint64_t key = key_of(first + draw.below(options.keys));
+            uint64_t key = key_of(first + draw.below(numbers));
             if (puts && --left == 0) {
                 left = options.write_every;
                 tally.put(map, key, n);

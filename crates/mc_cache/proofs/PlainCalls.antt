@@ -26,6 +26,8 @@ use Rattle.mc_plan.specs.declared.answer.Spent.{Spent as RemoveSpent}
 use Rattle.mc_words.specs.Answers.{Quiet}
 use Rattle.mc_shared.specs.Records.{IsNewReader, Opening, ReaderRecord, WriterRecord}
 use Rattle.mc_shared.specs.Views.{IsFrontOf, layout_state, with_bit}
+use Rattle.mc_reader.specs.Records.{AreTrueAnswers, HaveLooked}
+use Rattle.mc_reader.proofs.ManyLookups.{grown}
 use Rattle.mc_writer.specs.WriterCalls.{HasCalled, HasGot, IsRested}
 use Rattle.mc_writer.proofs.Rests.{agrees_now, shape_is}
 use Rattle.mc_words.specs.Checks.{shape_of}
@@ -181,6 +183,17 @@ answered V o cells self seat after k reply table same of of' b true between =
       true = subst (λ (h : List (Change V)). IsTrueAnswer h k reply) is true;
       between = subst (λ (p : List (Change V) × List (Change V)). IsBetween (length p.0) (length p.1) reply) (λ i. (was i, is i)) between;
     }
+
+pub many_answered : (V : ℕ) (o cells : Opening) (self seat after : ReaderRecord) (ks : List ℕ) (replies : List (Reply V)) → cells ≡ o → seat ≡ self → self.of ≡ o → after.of ≡ seat.of → HaveLooked V cells.layout.shape ks seat after replies
+    → AreTrueAnswers (state_of V cells.layout.shape after.front).history (length (state_of V cells.layout.shape seat.front).history) (length (state_of V cells.layout.shape after.front).history) ks replies
+    → Begins (seen V self) (seen V after) × AreTrueAnswers (seen V after) (length (seen V self)) (length (seen V after)) ks replies
+many_answered V o cells self seat after ks replies table same of of' looked true =
+    let at : seat.of ≡ cells = ap (λ (r : ReaderRecord). r.of) same ∙ (of ∙ sym table) in
+    let was : (state_of V cells.layout.shape seat.front).history ≡ seen V self = sym (seen_is V cells seat at) ∙ ap (seen V) same in
+    let is : (state_of V cells.layout.shape after.front).history ≡ seen V after = sym (seen_is V cells after (of' ∙ at)) in (
+      subst (λ (p : List (Change V) × List (Change V)). Begins p.0 p.1) (λ i. (was i, is i)) (front_begins V cells.layout.shape seat.front after.front (grown V cells.layout.shape ks seat after replies looked).begins),
+      subst (λ (p : List (Change V) × List (Change V)). AreTrueAnswers p.1 (length p.0) (length p.1) ks replies) (λ i. (was i, is i)) true,
+    )
 
 pub met : (V : ℕ) (o : Opening) (self seat after : ReaderRecord) (writer beside : WriterRecord) → seat ≡ self → beside ≡ writer → self.of ≡ o → writer.of ≡ o → after.of ≡ seat.of → after.front ≡ beside.acts → IsFrontOf seat.front beside.acts
     → HasMet V (seen V self) (seen V after) (history V writer)

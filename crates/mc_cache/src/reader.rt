@@ -8,14 +8,14 @@ ghost use Rattle.mc_writer.specs.WriterCalls.{IsRested};
 ghost use Rattle.mc_shared.specs.Records.{reader_record};
 ghost use Rattle.mc_shared.specs.Views.{AreLawful, IsFrontOf};
 ghost use Rattle.mc_shared.specs.TableRule.{IsRecord};
-ghost use Rattle.mc_reader.specs.Records.{HasLooked};
+ghost use Rattle.mc_reader.specs.Records.{AreTrueAnswers, HasLooked, HaveLooked};
 ghost use Rattle.mc_cache.specs.Beside.{HasLookedBeside};
 ghost use Rattle.mc_cache.specs.Orders.{HasAnsweredInOrder};
-ghost use Rattle.mc_cache.specs.Plain.{HasAnswered, HasMet, TellsNow, history, seen};
+ghost use Rattle.mc_cache.specs.Plain.{Begins, HasAnswered, HasMet, TellsNow, history, seen};
 
 use crate::cache::Cache;
 use crate::writer::Writer;
-use mc_reader::get;
+use mc_reader::{get, get_many};
 use mc_shared::{ReaderSeat, catch, mark_unless_set};
 use mc_words::Reply;
 use mc_writer::look;
@@ -46,6 +46,20 @@ impl<const V: usize> Reader<V> {
         ensures plain { HasAnswered V (seen V self.old) (seen V self.new) key result }
     {
         get(&cache.cells, &mut self.seat, key)
+    }
+
+    /// What the cache holds of each of the keys: their lookups as by `get`, one after the other in the order of the keys. In a
+    /// large cache it is faster than they are, since the processor waits for the words of several keys at once.
+    /// Condition: the reader is one of this cache, and there are as many replies as keys.
+    pub fn get_many(&mut self, cache: &Cache<V>, keys: &[u64], replies: &mut [Reply<V>])
+        requires of { self.old.of ≡ cache.now }
+        requires many { length replies.old ≡ length keys.now }
+        ensures of { self.new.of ≡ self.old.of }
+        ensures looked { HaveLooked V cache.now.layout.shape keys.now self.old self.new replies.new }
+        ensures truth { AreTrueAnswers (state_of V cache.now.layout.shape self.new.front).history (length (state_of V cache.now.layout.shape self.old.front).history) (length (state_of V cache.now.layout.shape self.new.front).history) keys.now replies.new }
+        ensures plain { Begins (seen V self.old) (seen V self.new) × AreTrueAnswers (seen V self.new) (length (seen V self.old)) (length (seen V self.new)) keys.now replies.new }
+    {
+        get_many(&cache.cells, &mut self.seat, keys, replies);
     }
 
     /// What is always known of a reader: the front that it has seen is lawful, and each word that it read is the one that its

@@ -100,7 +100,7 @@ ends V sh k before after lookup reply layout recorded over w = record {
 }
 
 -- ---- the reply is true
-old_front : (V : ℕ) (sh : Shape) (xs ys : List Made) → IsFrontOf xs ys → front V sh ys (length xs) ≡ state_of V sh xs
+pub old_front : (V : ℕ) (sh : Shape) (xs ys : List Made) → IsFrontOf xs ys → front V sh ys (length xs) ≡ state_of V sh xs
 old_front V sh xs ys p = ap (λ (z : List Made). front V sh z (length xs)) p.1 ∙ (front_append V sh xs p.0 (length xs) (omega arith) ∙ front_all V sh xs (length xs) (omega arith))
 
 pub tells_true : (V : ℕ) (sh : Shape) (k : ℕ) (before after : ReaderRecord) (reply : Reply V) → IsShape sh → k < 2 ^ 64 → after.of.layout ≡ layout_of V sh → AreLawful after.of.layout after.front → HasLooked V sh k before after reply

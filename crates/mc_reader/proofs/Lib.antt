@@ -1,1 +1,3 @@
 pub mod Course
+pub mod ManyLookups
+pub mod Items

@@ -1,6 +1,7 @@
-//! One lookup of a running reader, in straight-line code over the stages of the lookup machine.
+//! One lookup of a running reader, in straight-line code over the stages of the lookup machine, and lookups of many keys, one
+//! after the other.
 //!
-//! The contract says that just a lookup's readings were added to the reader's record, and that its reply is true: it is
+//! The contract of one says that just a lookup's readings were added to the reader's record, and that its reply is true: it is
 //! what the map held at the front at which this lookup read the moment.
 //!
 //! ```text
@@ -12,7 +13,10 @@
 //! ```
 #![tactic(auto)]
 
+mod many_lookups;
 mod places;
 mod running_lookup;
+mod touches;
 
+pub use many_lookups::get_many;
 pub use running_lookup::get;

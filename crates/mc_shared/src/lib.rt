@@ -34,7 +34,7 @@ mod writer_steps;
 pub use cells::{Cells, close, open};
 pub use layout::Layout;
 pub use plays::{Known, NamesAccess, NamesAct, NamesItem, Ruling};
-pub use reader_calls::{catch, mark, mark_unless_set, read, read_at};
+pub use reader_calls::{catch, mark, mark_unless_set, read, read_at, touch};
 pub use seats::{ReaderSeat, WriterSeat};
 pub use words::Words;
 pub use writer_calls::{

@@ -1,6 +1,6 @@
 //! The readers' steps on shared words: one reading, one mark, and the meeting with the writer.
 ghost use Rattle.std.specs.Prelude.{◌≡◌, ◌<◌, [], ◌∷◌, ◌++◌, Some, IsSome};
-ghost use Rattle.mc_words.specs.Places.{moment, word_count};
+ghost use Rattle.mc_words.specs.Places.{all_words, moment, word_count};
 ghost use Rattle.mc_theory.specs.Lists.{state_of};
 ghost use Rattle.mc_theory.specs.Writes.{IsAccess, place_read};
 ghost use Rattle.mc_shared.specs.ExactFronts.{InOneOrder};
@@ -10,7 +10,7 @@ ghost use Rattle.mc_shared.specs.Records.{reader_record};
 
 use crate::catch_up::catch_up;
 use crate::cells::Cells;
-use crate::reader_steps::{mark_item, mark_item_unless_set, read_word};
+use crate::reader_steps::{mark_item, mark_item_unless_set, read_word, touch_word};
 use crate::seats::{ReaderSeat, WriterSeat};
 use mc_theory::Access;
 
@@ -51,6 +51,16 @@ pub fn read_at<const V: usize>(
     ensures one { ReadsOne (layout_of V cells.now.layout.shape) reader.old.front reader.old.done access result reader.new.front reader.new.done }
 {
     read_word(&cells.ruled, reader, access, place)
+}
+
+/// A load that enters no record, whose word proves nothing: it is on no seat. It brings the word into the processor's
+/// caches for a reading that comes later, and the word serves as a guess of what that reading will find.
+/// Condition: the place is one of the table.
+#[inline(always)]
+pub fn touch<const V: usize>(cells: &Cells<V>, place: usize) -> u64
+    requires place { place < all_words V cells.now.layout.shape }
+{
+    touch_word(&cells.ruled, place)
 }
 
 /// Sets the recency bit of an item: one `fetch_or`.

@@ -1,6 +1,6 @@
 //! The steps of a reader's seat.
 ghost use Rattle.std.specs.Prelude.{◌≡◌, ◌<◌, [], ◌∷◌, ◌++◌, Some};
-ghost use Rattle.mc_words.specs.Places.{word_count, recency_place};
+ghost use Rattle.mc_words.specs.Places.{all_words, word_count, recency_place};
 ghost use Rattle.mc_words.specs.Recency.{recency_bit};
 ghost use Rattle.mc_theory.specs.Writes.{place_read};
 ghost use Rattle.mc_shared.specs.Views.{reader_view, number_of, front_of, done_of};
@@ -54,6 +54,13 @@ pub(crate) fn read_word(
     let word = load_as_reader::<Brand>(ruled, &mut seat, access, place);
     reader.badge = seat.into_badge();
     word
+}
+
+/// A load that is on no seat, so that it enters no record and tells nothing.
+pub(crate) fn touch_word(ruled: &RuledWords, place: usize) -> u64
+    requires place { place < all_words ruled.now.layout.width ruled.now.layout.shape }
+{
+    ruled.table.shared.peek(place)
 }
 
 // A mark of a reader: the step that sets the bit.

@@ -28,9 +28,13 @@ fn task_of(options: &Options, number: u64) -> Task {
             Workload::Absent => 1 << 40,
             _ => 0,
         },
-        keys: options.keys,
+        numbers: match options.workload {
+            Workload::Half => options.keys.saturating_mul(2),
+            _ => options.keys,
+        },
         seed: u64::from(options.seed) * 1000 ^ number,
         time: options.time,
+        many: options.many,
         alone: options.readers == 0 || options.readers == 1 && options.writers == 0,
     }
 }
@@ -113,7 +117,7 @@ fn work<R: Threads + Sync + Clock + CpuClock>(
     Ok((looked?, written?))
 }
 
-/// Measures lookups and puts of keys that the cache holds, or lookups of keys that it doesn't hold.
+/// Measures lookups and puts of keys that the cache holds, or lookups of keys of which it holds none or half.
 pub(crate) fn measure<R: Threads + Sync + Files + AllocGlobal + Clock + CpuClock>(
     rt: &R,
     alloc: Global,

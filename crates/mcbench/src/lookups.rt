@@ -4,20 +4,32 @@ ghost use Rattle.std.specs.Prelude.{◌≡◌};
 use crate::keys::{Draw, key_of};
 use crate::stopwatch::Stopwatch;
 use crate::tally::Tally;
-use mc_cache::{Cache, Reader};
+use mc_cache::{Cache, Reader, Reply};
 use std::io;
 use std::time::{Clock, CpuClock, Duration};
+
+/// The most keys that a call looks up.
+const MOST: usize = 64;
 
 /// What a thread is to do.
 #[derive(Clone, Copy)]
 pub(crate) struct Task {
     /// The keys are those of so many numbers, from this one on.
     pub first: u64,
-    pub keys: u32,
+    pub numbers: u32,
     pub seed: u64,
     pub time: Duration,
     /// No other thread works.
     pub alone: bool,
+    /// So many keys are looked up by one call, and at most 64.
+    pub many: u32,
+}
+
+/// One of the keys.
+#[inline(always)]
+fn draw_key(task: Task, draw: &mut Draw) -> u64 {
+    let number = draw.below(task.numbers);
+    key_of(task.first.wrapping_add(number))
 }
 
 // Looks 1024 keys up.
@@ -29,8 +41,32 @@ fn look_often(cache: &Cache<4>, reader: &mut Reader<4>, task: Task, draw: &mut D
     let mut tally = Tally::default();
     let mut drawn = *draw;
     for _ in 0..1024 {
-        let number = drawn.below(task.keys);
-        tally.count_reply(reader.get(cache, key_of(task.first.wrapping_add(number))));
+        tally.count_reply(reader.get(cache, draw_key(task, &mut drawn)));
+    }
+    *draw = drawn;
+    tally
+}
+
+// Looks keys up by 64 calls. The keys of a call are drawn while the answers of the one before it are counted.
+#[inline(never)]
+fn look_many(cache: &Cache<4>, reader: &mut Reader<4>, task: Task, draw: &mut Draw) -> Tally
+    requires { reader.old.of ≡ cache.now }
+    ensures { reader.new.of ≡ reader.old.of }
+{
+    let mut tally = Tally::default();
+    let mut drawn = *draw;
+    let mut keys = [0u64; MOST];
+    let mut replies = [Reply::<4>::Busy; MOST];
+    let many = MOST.min(task.many as usize);
+    for n in 0..many {
+        keys[n] = draw_key(task, &mut drawn);
+    }
+    for _ in 0..64 {
+        reader.get_many(cache, &keys[..many], &mut replies[..many]);
+        for n in 0..many {
+            tally.count_reply(replies[n]);
+            keys[n] = draw_key(task, &mut drawn);
+        }
     }
     *draw = drawn;
     tally
@@ -53,7 +89,12 @@ pub(crate) fn look_on<R: Clock + CpuClock>(
         if spent >= task.time {
             return Ok(tally.over(spent));
         }
-        tally = tally.and(look_often(cache, &mut reader, task, &mut draw));
+        let looked = if task.many == 1 {
+            look_often(cache, &mut reader, task, &mut draw)
+        } else {
+            look_many(cache, &mut reader, task, &mut draw)
+        };
+        tally = tally.and(looked);
     }
     Ok(tally)
 }

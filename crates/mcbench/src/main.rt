@@ -26,7 +26,9 @@ fn run<R: Runtime + AllocGlobal + CpuClock + Threads + Sync>(rt: &R) -> io::Resu
     match options_of(alloc, words.as_slice()) {
         Ok(options) => {
             let report = match options.workload {
-                Workload::Present | Workload::Absent => beside::measure(rt, alloc, &options)?,
+                Workload::Present | Workload::Half | Workload::Absent => {
+                    beside::measure(rt, alloc, &options)?
+                }
                 _ => filling::measure(rt, alloc, &options)?,
             };
             println!(rt; "{report}")?;

@@ -13,6 +13,8 @@ pub(crate) enum Workload {
     Present,
     /// Threads look up keys that it doesn't hold.
     Absent,
+    /// Threads look up keys of which it holds half.
+    Half,
     /// Fresh keys are put into empty caches.
     Fill,
     /// Fresh keys are put into a full cache.
@@ -32,10 +34,12 @@ pub(crate) struct Options {
     /// Of so many calls of the writer one is a put.
     pub write_every: u32,
     pub seed: u32,
+    /// Keys that a call of a reader looks up.
+    pub many: u32,
 }
 
 /// The names of the workloads.
-const WORKLOADS: [&str; 6] = ["hit", "miss", "mixed", "fill", "evict", "load"];
+const WORKLOADS: [&str; 7] = ["hit", "half", "miss", "mixed", "fill", "evict", "load"];
 
 /// An option with one value.
 struct Row {
@@ -46,12 +50,12 @@ struct Row {
 }
 
 /// The options, in the order of the help.
-const ROWS: [Row; 8] = [
+const ROWS: [Row; 9] = [
     Row {
         name: "workload",
         takes: ValueParser::Names(&WORKLOADS),
         default: "hit",
-        help: "Keys that are there (hit, mixed) or not (miss); fresh keys into empty tables, into a full one, or until one is refused",
+        help: "Keys that are there (hit, mixed), half of them (half) or none (miss); fresh keys into empty tables, into a full one, or until one is refused",
     },
     Row {
         name: "seconds",
@@ -90,6 +94,12 @@ const ROWS: [Row; 8] = [
         help: "Threads that put keys",
     },
     Row {
+        name: "many",
+        takes: ValueParser::Signed(1, 64),
+        default: "1",
+        help: "Keys that a reader looks up by one call",
+    },
+    Row {
         name: "write-every",
         takes: ValueParser::Signed(1, 1_000_000),
         default: "1",
@@ -118,6 +128,7 @@ fn command<'a>(alloc: Global) -> Result<Command<'a>, AllocError> {
 
 fn workload_in(matches: &ArgMatches<'_>) -> Workload {
     match matches.get_str("workload") {
+        Some("half") => Workload::Half,
         Some("miss") => Workload::Absent,
         Some("fill") => Workload::Fill,
         Some("evict") => Workload::Evict,
@@ -143,6 +154,7 @@ pub(crate) fn options_of<S: AsStr>(alloc: Global, words: &[S]) -> Result<Options
         time: Duration::try_from_secs_f64(seconds).unwrap_or(Duration::ZERO),
         write_every: number_in(&matches, "write-every"),
         seed: number_in(&matches, "seed"),
+        many: number_in(&matches, "many"),
     })
 }
 

@@ -71,7 +71,7 @@ fn write_often(
     let mut drawn = *draw;
     let mut left = every;
     for n in 0..1024u64 {
-        let key = key_of(drawn.below(task.keys));
+        let key = key_of(drawn.below(task.numbers));
         left = left.wrapping_sub(1);
         if left == 0 {
             left = every;

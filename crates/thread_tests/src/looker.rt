@@ -12,6 +12,9 @@ const LOOKUPS: usize = 2000;
 
 const LAST: usize = 64;
 
+/// The most keys of one call.
+const MOST: usize = 48;
+
 /// One of 64 keys for each number. Each key comes once in 64 numbers, if the factor is odd.
 pub fn key_of(n: usize, factor: u64) -> u64 {
     (n as u64).wrapping_mul(factor) % 64
@@ -33,6 +36,23 @@ fn look_all(
             return;
         }
         replies[n] = reader.get(cache, key_of(n, factor));
+    }
+}
+
+// The same, by calls for many keys each, of which the last has fewer.
+fn look_all_by_many(cache: &Cache<1>, reader: &mut Reader<1>, factor: u64, replies: &mut [Reply<1>])
+    requires { reader.old.of ≡ cache.now }
+    ensures { reader.new.of ≡ reader.old.of }
+{
+    let mut keys = [0u64; MOST];
+    let mut first = 0;
+    for replies in replies.chunks_mut(MOST) {
+        let many = replies.len();
+        for n in 0..many {
+            keys[n] = key_of(first + n, factor);
+        }
+        reader.get_many(cache, &keys[..many], replies);
+        first += many;
     }
 }
 

@@ -1,0 +1,39 @@
+//! Lookups of many keys, whose words are touched ahead in a large table.
+ghost use Rattle.std.specs.Prelude.{◌≡◌, ◌≤◌, length};
+ghost use Rattle.mc_theory.specs.Lists.{state_of};
+ghost use Rattle.mc_reader.specs.Records.{AreTrueAnswers, HaveLooked};
+
+use crate::running_lookup::get;
+use crate::touches::{GROUP, touch_group};
+use mc_shared::{Cells, ReaderSeat};
+use mc_words::Reply;
+
+/// The buckets from which on words are touched ahead. In smaller tables most words lie in the processor's caches, and to
+/// touch them costs more than it saves.
+const LARGE: u32 = 131_072;
+
+/// What the table holds of each of the keys: a lookup for each, as by `get`, in the order of the keys. In a large table the
+/// processor waits for the words of several keys at once. It takes no memory.
+/// Condition: the seat is one of these words, and there are as many replies as keys.
+pub fn get_many<const V: usize>(
+    cells: &Cells<V>,
+    seat: &mut ReaderSeat,
+    keys: &[u64],
+    replies: &mut [Reply<V>],
+)
+    requires of { seat.old.of ≡ cells.now }
+    requires many { length replies.old ≡ length keys.now }
+    ensures of { seat.new.of ≡ seat.old.of }
+    ensures looked { HaveLooked V cells.now.layout.shape keys.now seat.old seat.new replies.new }
+    ensures truth { AreTrueAnswers (state_of V cells.now.layout.shape seat.new.front).history (length (state_of V cells.now.layout.shape seat.old.front).history) (length (state_of V cells.now.layout.shape seat.new.front).history) keys.now replies.new }
+{
+    let checked = cells.checked();
+    let large = checked.shape().buckets >= LARGE;
+    for i in 0..keys.len() {
+        if large && i % GROUP == 0 {
+            touch_group(cells, &keys[i..keys.len().min(i + GROUP)]);
+        }
+        replies[i] = get(cells, seat, keys[i]);
+    }
+    seat.known();
+}
