@@ -33,7 +33,7 @@ stood acts notes number done rest r order reads =
     load_stands r.access r.front (made_by number (length done) notes) reads here.0
 
 pub meetings_agree : MeetingsAgree
-meetings_agree acts later notes more number done rest r was is reads = sym (stood acts notes number done [] r was reads) ∙ stood later (notes ++ more) number done rest r is reads
+meetings_agree acts later notes more number done rest rest' r was is reads = sym (stood acts notes number done rest r was reads) ∙ stood later (notes ++ more) number done rest' r is reads
 
 pub idle_acts_are_noted : IdleActsAreNoted
 idle_acts_are_noted acts later notes more number done marks last k note was is reads at =

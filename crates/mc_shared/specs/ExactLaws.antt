@@ -83,7 +83,8 @@ pub record IsLookedUp (V : ℕ) (sh : Shape) (k tries : ℕ) (acts acts' : List 
 -- two meetings of a reader with the writer speak of one order: a reading stands behind the same acts in both
 abbrev pub MeetingsAgree : Type 0
 MeetingsAgree =
-    (acts later : List Made) (notes more : List Note) (number : ℕ) (done rest : List Reading) (reading : Reading) → InOneOrder acts notes number (done ++ reading ∷ []) → InOneOrder later (notes ++ more) number (done ++ reading ∷ rest) → IsReading reading.access →
+    (acts later : List Made) (notes more : List Note) (number : ℕ) (done rest rest' : List Reading) (r : Reading) →
+    InOneOrder acts notes number (done ++ r ∷ rest) → InOneOrder later (notes ++ more) number (done ++ r ∷ rest') → IsReading r.access →
     made_by number (length done) notes ≡ made_by number (length done) (notes ++ more)
 
 -- an act that was made between two meetings of a reader with the writer, between which the reader made no step, has in its note the
