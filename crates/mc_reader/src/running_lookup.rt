@@ -136,6 +136,7 @@ fn conclude<const V: usize>(
     ensures leads { Leads V cells.now.layout.shape seat.old lookup.old seat.new lookup.new }
     ensures stage { IsRestart (stage_of {V = V} lookup.new) }
 {
+    // The moment before the version: if the version still stands, the moment lies in the window in which nothing of the key changed.
     let at = read_next(cells, seat, lookup, Access::Moment, 0);
     lookup.after_moment(hit, at);
     let stripe = lookup.stripe();

@@ -1,5 +1,5 @@
 -- What a lookup tells is true, in plain words: the clause `plain` of `run_new`. What it means is in the definitions below, and in
--- those of the map that a history makes (`held`, `value_of`, `IsTrueAnswer`); no other of this project is needed.
+-- those of the map that a history makes (`map_value`, `value_of`, `IsTrueAnswer`); no other of this project is needed.
 --
 -- Events come one after the other: each is an act of the writer, or the beginning of a reader's lookup, or the next access of
 -- one. The acts change a map: the writer opens a deed on a key, writes words, and at the moment of the deed the map changes. A

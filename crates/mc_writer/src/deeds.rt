@@ -126,6 +126,7 @@ pub fn renew<const V: usize>(
     ensures due { (all : List Made) (due : List Act) → AreDue V cells.now.layout.shape all seat.old.acts (renew_acts key value.now i ++ due) → AreDue V cells.now.layout.shape all seat.new.acts due }
 {
     let items = cells.items_start();
+    // The value changes only while the version is odd: a lookup that reads words of both values sees the version changed.
     open(cells, seat, key, Deed::Renew);
     write_value(cells, seat, items, i, value);
     count(cells, seat);
@@ -154,10 +155,13 @@ pub fn fill<const V: usize>(
     let checked = cells.checked();
     let named = checked.slot_word(checked.tag(key), i);
     let items = cells.items_start();
+    // The key word of a reused item changes only while the new key's version is odd: whoever still reads the item for its
+    // old key finds another key there, and whoever looks for the new one looks again.
     open(cells, seat, key, Deed::Fill);
     word(cells, seat, items, i, 0, key);
     write_value(cells, seat, items, i, value);
     slot(cells, seat, place, named);
+    // The moment before the version: a lookup that finds the version even reads this moment or a later one.
     count(cells, seat);
     close(cells, seat);
 }
@@ -200,6 +204,7 @@ pub fn make_move<const V: usize>(
     ensures due { (all : List Made) (due : List Act) → AreDue V cells.now.layout.shape all seat.old.acts (move_acts key named from to ++ due) → AreDue V cells.now.layout.shape all seat.new.acts due }
 {
     open(cells, seat, key, Deed::Move);
+    // The new slot first: at no instant is the key in no slot.
     slot(cells, seat, to, named);
     slot(cells, seat, from, 0);
     close(cells, seat);

@@ -1,4 +1,4 @@
-//! Fresh keys, put into caches by one thread.
+//! Fresh keys, put into caches by one thread: into empty ones up to their capacity, or into a full one, which evicts.
 ghost use Rattle.std.specs.Prelude.{◌≡◌, IfOk};
 
 use crate::memory::resident;
