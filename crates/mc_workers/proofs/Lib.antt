@@ -1,3 +1,4 @@
 pub mod Histories
 pub mod Readers
+pub mod Totals
 pub mod Words
