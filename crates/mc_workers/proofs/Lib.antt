@@ -1,4 +1,5 @@
 pub mod Histories
 pub mod Readers
 pub mod FreshReaders
+pub mod Totals
 pub mod Words

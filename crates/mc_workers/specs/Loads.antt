@@ -1,8 +1,10 @@
 -- What a load reports, and why there may be no report.
-use Rattle.std.specs.Prelude.{ℕ, zero, suc, ◌≡◌, ◌+◌, ◌*◌, ◌^◌, ◌<◌, ◌≤◌, ◌⊎◌, All, List, [], length, slice_index_or}
+use Rattle.std.specs.Prelude.{ℕ, zero, suc, ◌≡◌, ◌+◌, ◌*◌, ◌^◌, ◌<◌, ◌≤◌, ◌⊎◌, All, Bool, true, false, count_by, sum_by, List, [], length, slice_index_or}
 use Rattle.mc_words.specs.History.{IsLegal, IsTrueAnswer}
 use Rattle.mc_words.specs.Shapes.{IsShape}
 use Rattle.mc_words.specs.declared.history.Change.{Change}
+use Rattle.mc_words.specs.declared.history.Reply.{Reply}
+use Rattle.mc_words.specs.declared.history.Reply.TheVariants as reply
 use Rattle.mc_words.specs.declared.shape.Shape.{Shape}
 use Rattle.mc_theory.specs.Lists.{Made, state_of}
 use Rattle.mc_plan.specs.declared.answer.Answer.{Answer}
@@ -39,17 +41,43 @@ pub record HasLookedUp {V : ℕ} (load : Load) (h : List (Change V)) (r : ℕ) (
 abbrev pub history_after : (V : ℕ) → Shape → List Made → List (Change V)
 history_after V sh acts = (state_of V sh acts).history
 
+-- the kinds of answers
+abbrev pub is_found : {V : ℕ} → Reply V → Bool
+is_found (reply.Found v at) = true
+is_found (reply.Absent at) = false
+is_found reply.Busy = false
+
+abbrev pub is_absent : {V : ℕ} → Reply V → Bool
+is_absent (reply.Found v at) = false
+is_absent (reply.Absent at) = true
+is_absent reply.Busy = false
+
+abbrev pub is_busy : {V : ℕ} → Reply V → Bool
+is_busy (reply.Found v at) = false
+is_busy (reply.Absent at) = false
+is_busy reply.Busy = true
+
+-- how many answers of all readers are of a kind
+abbrev pub total_of : {V : ℕ} → (Reply V → Bool) → List (List (Record V)) → ℕ
+total_of {V} kind answers = sum_by (λ (records : List (Record V)). count_by (λ (r : Record V). kind r.reply) records) answers
+
 -- the writer and the readers have made all their calls, no answer was wrong, and the totals add up
 pub record Reports (V : ℕ) (load : Load) (told : Report) : Type 0 where
   pub writer : WriterRecord
+  pub shape : writer.of.layout.shape ≡ load.shape
   pub made : HasMade V load told.writes writer
   pub writes : told.writes ≡ load.writes
   pub changes : told.changes ≡ length (history_after V load.shape writer.acts)
   pub legal : IsLegal load.shape.items (history_after V load.shape writer.acts)
   pub few : told.changes ≤ 2 * load.writes
-  pub readers : (r : ℕ) → r < load.readers → (records : List (Record V)) × HasLookedUp load (history_after V load.shape writer.acts) r records
+  pub answers : List (List (Record V))
+  pub readers : length answers ≡ load.readers
+  pub looked : (r : ℕ) (d : List (Record V)) → r < length answers → HasLookedUp load (history_after V load.shape writer.acts) r (slice_index_or answers r d)
+  pub found : told.found ≡ total_of is_found answers
+  pub absent : told.absent ≡ total_of is_absent answers
+  pub busy : told.busy ≡ total_of is_busy answers
   pub lookups : told.lookups ≡ load.readers * load.lookups
-  pub answers : told.found + told.absent + told.busy ≡ told.lookups
+  pub sum : told.found + told.absent + told.busy ≡ told.lookups
   pub wrong : told.wrong ≡ 0
 
 abbrev pub HasKeys : ℕ → Type 0

@@ -1,5 +1,6 @@
 //! What came of a load.
-ghost use Rattle.std.specs.Prelude.{◌≡◌, ◌+◌, ◌^◌, ◌<◌, length};
+ghost use Rattle.std.specs.Prelude.{◌≡◌, ◌+◌, ◌^◌, ◌<◌, count_by};
+ghost use Rattle.mc_workers.specs.Loads.{is_absent, is_busy, is_found};
 
 use mc_cache::Reply;
 use mc_check::Record;
@@ -23,7 +24,8 @@ pub struct Report {
 impl Report {
     /// Of a writer that has made so many calls and changes, and of no reader.
     pub(crate) fn none(writes: u64, changes: u64) -> Report
-        ensures counts { (result.lookups ≡ 0) × (result.found + result.absent + result.busy ≡ 0) × (result.wrong ≡ 0) }
+        ensures counts { (result.lookups ≡ 0) × (result.wrong ≡ 0) }
+        ensures answers { (result.found ≡ 0) × (result.absent ≡ 0) × (result.busy ≡ 0) }
         ensures writer { (result.writes ≡ writes) × (result.changes ≡ changes) }
     {
         Report {
@@ -44,6 +46,7 @@ impl Report {
         requires wrong { self.old.wrong + wrong < 2 ^ 64 }
         ensures lookups { self.new.lookups ≡ self.old.lookups + (tally.found + tally.absent + tally.busy) }
         ensures answers { self.new.found + self.new.absent + self.new.busy ≡ self.new.lookups }
+        ensures kinds { (self.new.found ≡ self.old.found + tally.found) × (self.new.absent ≡ self.old.absent + tally.absent) × (self.new.busy ≡ self.old.busy + tally.busy) }
         ensures wrong { self.new.wrong ≡ self.old.wrong + wrong }
         ensures writer { (self.new.writes ≡ self.old.writes) × (self.new.changes ≡ self.old.changes) }
     {
@@ -66,20 +69,38 @@ pub(crate) struct Tally {
 impl Tally {
     /// The answers of one reader.
     pub(crate) fn of<const V: usize>(records: &[Record<V>]) -> Tally
-        ensures { result.found + result.absent + result.busy ≡ length records.now }
+        ensures found { result.found ≡ count_by (λ r. is_found r.reply) records.now }
+        ensures absent { result.absent ≡ count_by (λ r. is_absent r.reply) records.now }
+        ensures busy { result.busy ≡ count_by (λ r. is_busy r.reply) records.now }
     {
-        let mut tally = Tally {
-            found: 0,
-            absent: 0,
-            busy: 0,
-        };
-        for n in 0..records.len() {
-            match records[n].reply {
-                Reply::Found { .. } => tally.found += 1,
-                Reply::Absent { .. } => tally.absent += 1,
-                Reply::Busy => tally.busy += 1,
-            }
+        let found = records
+            .iter()
+            .filter(
+                |record: &&Record<V>| -> bool
+                    ensures { result ≡ is_found record.entry.now.now.reply }
+                { matches!(record.reply, Reply::Found { .. }) },
+            )
+            .count();
+        let absent = records
+            .iter()
+            .filter(
+                |record: &&Record<V>| -> bool
+                    ensures { result ≡ is_absent record.entry.now.now.reply }
+                { matches!(record.reply, Reply::Absent { .. }) },
+            )
+            .count();
+        let busy = records
+            .iter()
+            .filter(
+                |record: &&Record<V>| -> bool
+                    ensures { result ≡ is_busy record.entry.now.now.reply }
+                { matches!(record.reply, Reply::Busy) },
+            )
+            .count();
+        Tally {
+            found: found as u64,
+            absent: absent as u64,
+            busy: busy as u64,
         }
-        tally
     }
 }

@@ -1,8 +1,8 @@
 //! What the readers were told is checked and added up.
-ghost use Rattle.std.specs.Prelude.{ℕ, ◌≡◌, ◌+◌, ◌*◌, ◌≤◌, length, vec_len};
+ghost use Rattle.std.specs.Prelude.{ℕ, ◌≡◌, ◌+◌, ◌*◌, ◌≤◌, count_by, vec_len};
 ghost use Rattle.mc_words.specs.Places.{IsWidth};
 ghost use Rattle.mc_words.specs.Shapes.{IsShape};
-ghost use Rattle.mc_workers.specs.Loads.{AreTrue, Reports, history_after};
+ghost use Rattle.mc_workers.specs.Loads.{AreTrue, Reports, history_after, is_absent, is_busy, is_found};
 ghost use Rattle.mc_workers.specs.Inside.Workers.{AreWhole, HasWritten, HaveEnded, IsLooking, IsWriting};
 
 use crate::asked::Load;
@@ -24,7 +24,9 @@ fn check_reader<const V: usize>(
     requires looking { IsLooking V cache.now looking }
     requires history { checker.now ≡ history_after V cache.now.layout.shape writer.old.acts }
     ensures writer { writer.new ≡ writer.old }
-    ensures tally { result.0.found + result.0.absent + result.0.busy ≡ length looking.entry.records.items }
+    ensures found { result.0.found ≡ count_by (λ r. is_found r.reply) looking.entry.records.items }
+    ensures absent { result.0.absent ≡ count_by (λ r. is_absent r.reply) looking.entry.records.items }
+    ensures busy { result.0.busy ≡ count_by (λ r. is_busy r.reply) looking.entry.records.items }
     ensures wrong { result.1 ≡ 0 }
     ensures told { AreTrue (history_after V cache.now.layout.shape writer.old.acts) looking.entry.records.items }
 {

@@ -1,0 +1,58 @@
+-- How many answers there are of each kind.
+use Rattle.std.proofs.Common.{ℕ, ◌≡◌, ◌+◌, Bool, List, [], ◌∷◌, ◌++◌, cond, length, map, ap, refl, sym, ◌∙◌, arith}
+use Rattle.std.specs.Prelude.{count_by, sum_by}
+use Rattle.std.proofs.lemmas.List.Sums.{sum_by-append, sum_by-cons}
+use Rattle.mc_words.specs.declared.history.Reply.{Reply}
+use Rattle.mc_words.specs.declared.history.Reply.TheVariants.{Found, Absent, Busy}
+use Rattle.mc_check.specs.declared.record.Record.{Record}
+use Rattle.mc_workers.specs.Loads.{is_absent, is_busy, is_found, total_of}
+use Rattle.mc_workers.specs.declared.looking.Looking.{Looking}
+
+-- how many answers of one reader are of a kind
+abbrev pub count_of : {V : ℕ} → (Reply V → Bool) → List (Record V) → ℕ
+count_of {V} kind records = count_by (λ (r : Record V). kind r.reply) records
+
+-- how many of all these readers
+abbrev pub counted : {V : ℕ} → (Reply V → Bool) → List (Looking V) → ℕ
+counted {V} kind ls = sum_by (λ (l : Looking V). count_of kind l.records.items) ls
+
+-- an answer is of one kind
+of_one_kind : {V : ℕ} (reply : Reply V) → cond (is_found reply) 1 0 + cond (is_absent reply) 1 0 + cond (is_busy reply) 1 0 ≡ 1
+of_one_kind (Found v at) = refl
+of_one_kind (Absent at) = refl
+of_one_kind Busy = refl
+
+-- so all are as many as the kinds together
+pub kinds_add_up : {V : ℕ} (records : List (Record V)) → count_of is_found records + count_of is_absent records + count_of is_busy records ≡ length records
+kinds_add_up [] = refl
+kinds_add_up {V} (r ∷ rs) =
+    let found = sum_by-cons (λ (x : Record V). cond (is_found x.reply) 1 0) r rs in
+    let absent = sum_by-cons (λ (x : Record V). cond (is_absent x.reply) 1 0) r rs in
+    let busy = sum_by-cons (λ (x : Record V). cond (is_busy x.reply) 1 0) r rs in
+    let one = of_one_kind r.reply in
+    let rest = kinds_add_up rs in omega (arith, found, absent, busy, one, rest)
+
+-- and so these counts add up to their number
+pub kinds_add : {V : ℕ} (found absent busy many : ℕ) (records : List (Record V)) → found ≡ count_of is_found records → absent ≡ count_of is_absent records → busy ≡ count_of is_busy records → length records ≡ many → found + absent + busy ≡ many
+kinds_add found absent busy many records f a b e = let all = kinds_add_up records in omega (arith, all, f, a, b, e)
+
+-- one reader is taken off
+pub counted_less : {V : ℕ} (kind : Reply V → Bool) (ls rest : List (Looking V)) (x : Looking V) → ls ≡ rest ++ x ∷ [] → counted kind ls ≡ counted kind rest + count_of kind x.records.items
+counted_less {V} kind ls rest x e =
+    let f : Looking V → ℕ = λ (l : Looking V). count_of kind l.records.items in
+    ap (λ (z : List (Looking V)). sum_by f z) e ∙ (sum_by-append f rest (x ∷ []) ∙ (let one = sum_by-cons f x [] in omega (arith, one)))
+
+-- the answers that the readers wrote down
+abbrev pub answers_of : {V : ℕ} → List (Looking V) → List (List (Record V))
+answers_of {V} ls = map (λ (l : Looking V). l.records.items) ls
+
+pub total_counted : {V : ℕ} (kind : Reply V → Bool) (ls : List (Looking V)) → counted kind ls ≡ total_of kind (answers_of ls)
+total_counted kind [] = refl
+total_counted {V} kind (l ∷ ls) =
+    let count : List (Record V) → ℕ = λ (records : List (Record V)). count_of kind records in
+    sum_by-cons (λ (k : Looking V). count k.records.items) l ls ∙ (ap (λ (n : ℕ). count l.records.items + n) (total_counted kind ls) ∙ sym (sum_by-cons count l.records.items (answers_of ls)))
+
+-- where there is no reader, nobody was told anything
+pub none_counted : {V : ℕ} (kind : Reply V → Bool) (ls : List (Looking V)) → length ls ≡ 0 → counted kind ls ≡ 0
+none_counted kind [] e = refl
+none_counted kind (l ∷ ls) e = absurd (omega (arith, e))
