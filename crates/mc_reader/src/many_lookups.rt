@@ -12,6 +12,9 @@ use mc_words::Reply;
 /// touch them costs more than it saves.
 const LARGE: u32 = 131_072;
 
+/// The keys from which on a group of them is touched ahead. With fewer too few loads are under way at once.
+const LEAST: usize = 8;
+
 /// What the table holds of each of the keys: a lookup for each, as by `get`, in the order of the keys. In a large table the
 /// processor waits for the words of several keys at once. It takes no memory.
 /// Condition: the seat is one of these words, and there are as many replies as keys.
@@ -30,7 +33,7 @@ pub fn get_many<const V: usize>(
     let checked = cells.checked();
     let large = checked.shape().buckets >= LARGE;
     for i in 0..keys.len() {
-        if large && i % GROUP == 0 {
+        if large && i % GROUP == 0 && keys.len() - i >= LEAST {
             touch_group(cells, &keys[i..keys.len().min(i + GROUP)]);
         }
         replies[i] = get(cells, seat, keys[i]);

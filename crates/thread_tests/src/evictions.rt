@@ -12,15 +12,17 @@ use std::thread;
 use std::thread::{Threads, join};
 
 /// Three items fewer than there are keys.
-const SHAPE: Shape = Shape {
-    buckets: 32,
-    items: 61,
-    stripes: 64,
-    depth: 5,
-    tries: 8,
-    limit: 1 << 62,
-    mix: Mix::Fmix,
-};
+fn shape(buckets: u32) -> Shape {
+    Shape {
+        buckets,
+        items: 61,
+        stripes: 64,
+        depth: 5,
+        tries: 8,
+        limit: 1 << 62,
+        mix: Mix::Fmix,
+    }
+}
 
 const WRITES: usize = 2000;
 
@@ -66,6 +68,7 @@ fn lookers_of(
     alloc: Global,
     cache: &Cache<1>,
     mut readers: Vec<Reader<1>>,
+    many: bool,
 ) -> Result<Vec<Looker>, AllocError>
     requires { All (λ r. r.of ≡ cache.now) readers.items }
     ensures { IfOk result (λ lookers. All (λ l. l.reader.of ≡ cache.now) lookers.items) }
@@ -74,7 +77,7 @@ fn lookers_of(
     let mut lookers = Vec::new(alloc);
     let mut factor = 1u64;
     while let Some(reader) = readers.pop() {
-        lookers.push(Looker::new(alloc, reader, factor)?)?;
+        lookers.push(Looker::new(alloc, reader, factor, many)?)?;
         factor = factor.wrapping_add(2);
     }
     Ok(lookers)
@@ -103,9 +106,14 @@ fn is_eviction(change: &Change<1>) -> bool {
 }
 
 // Whether keys were evicted, and what the writer and three readers told beside each other is true.
-fn are_answers_true<R: Threads + Sync>(rt: &R, alloc: Global) -> Result<bool, Fail> {
-    let (cache, mut writer, readers) = open::<1>(alloc, SHAPE, 3)?;
-    let lookers = lookers_of(alloc, &cache, readers)?;
+fn are_answers_true<R: Threads + Sync>(
+    rt: &R,
+    alloc: Global,
+    shape: Shape,
+    many: bool,
+) -> Result<bool, Fail> {
+    let (cache, mut writer, readers) = open::<1>(alloc, shape, 3)?;
+    let lookers = lookers_of(alloc, &cache, readers, many)?;
     let mut entries = vec![in alloc; Entry::Refused; WRITES]?;
     let ended = AtomicBool::new(false);
     let ((), looked) = join(
@@ -129,6 +137,17 @@ fn are_answers_true<R: Threads + Sync>(rt: &R, alloc: Global) -> Result<bool, Fa
 
 #[test]
 fn answers_beside_evictions_are_true(rt: HostRuntime) -> Result<(), Fail> {
-    assert!(rt; are_answers_true(&rt, rt.alloc())?);
+    assert!(rt; are_answers_true(&rt, rt.alloc(), shape(32), false)?);
+    Ok(())
+}
+
+/// The buckets from which on a call for many keys touches their words ahead.
+const LARGE: u32 = 131_072;
+
+#[test]
+fn answers_to_many_keys_beside_evictions_are_true(rt: HostRuntime) -> Result<(), Fail> {
+    let alloc = rt.alloc();
+    assert!(rt; are_answers_true(&rt, alloc, shape(32), true)?);
+    assert!(rt; are_answers_true(&rt, alloc, shape(LARGE), true)?);
     Ok(())
 }

@@ -1,4 +1,4 @@
-//! A reader that looks keys up in an order of its own, and what it was told.
+//! A reader that looks keys up in an order of its own, one or many by a call, and what it was told.
 ghost use Rattle.std.specs.Prelude.{◌≡◌, IfOk};
 
 use crate::truth::is_true;
@@ -12,8 +12,8 @@ const LOOKUPS: usize = 2000;
 
 const LAST: usize = 64;
 
-/// The most keys of one call.
-const MOST: usize = 48;
+/// The keys of a call for many.
+const MANY: usize = 48;
 
 /// One of 64 keys for each number. Each key comes once in 64 numbers, if the factor is odd.
 pub fn key_of(n: usize, factor: u64) -> u64 {
@@ -39,20 +39,34 @@ fn look_all(
     }
 }
 
-// The same, by calls for many keys each, of which the last has fewer.
-fn look_all_by_many(cache: &Cache<1>, reader: &mut Reader<1>, factor: u64, replies: &mut [Reply<1>])
+// The keys of the numbers from this one on.
+fn write_keys(first: usize, factor: u64, keys: &mut [u64]) {
+    for n in 0..keys.len() {
+        keys[n] = key_of(first.wrapping_add(n), factor);
+    }
+}
+
+// The same by calls for many keys, of which the last one waits for the writer's end.
+fn look_many(
+    cache: &Cache<1>,
+    reader: &mut Reader<1>,
+    factor: u64,
+    ended: &AtomicBool,
+    replies: &mut [Reply<1>],
+)
     requires { reader.old.of ≡ cache.now }
     ensures { reader.new.of ≡ reader.old.of }
 {
-    let mut keys = [0u64; MOST];
-    let mut first = 0;
-    for replies in replies.chunks_mut(MOST) {
-        let many = replies.len();
-        for n in 0..many {
-            keys[n] = key_of(first + n, factor);
+    let mut keys = [0u64; MANY];
+    for first in 0..replies.len() {
+        if first % MANY == 0 {
+            if first >= LOOKUPS && !is_set(ended) {
+                return;
+            }
+            let end = replies.len().min(first + MANY);
+            write_keys(first, factor, &mut keys);
+            reader.get_many(cache, &keys[..end - first], &mut replies[first..end]);
         }
-        reader.get_many(cache, &keys[..many], replies);
-        first += many;
     }
 }
 
@@ -85,18 +99,25 @@ fn unanswered(alloc: Global) -> Result<Vec<Reply<1>>, AllocError> {
 pub struct Looker {
     pub reader: Reader<1>,
     factor: u64,
+    many: bool,
     replies: Vec<Reply<1>>,
 }
 
 impl Looker {
-    /// A looker that has not looked yet, with room for all answers.
-    pub fn new(alloc: Global, reader: Reader<1>, factor: u64) -> Result<Looker, AllocError>
+    /// A looker that has not looked yet, with room for all answers. `many`: a call looks many keys up.
+    pub fn new(
+        alloc: Global,
+        reader: Reader<1>,
+        factor: u64,
+        many: bool,
+    ) -> Result<Looker, AllocError>
         ensures { IfOk result (λ l. l.reader ≡ reader) }
     {
         let replies = unanswered(alloc)?;
         Ok(Looker {
             reader,
             factor,
+            many,
             replies,
         })
     }
@@ -105,13 +126,12 @@ impl Looker {
     pub fn look_all(mut self, cache: &Cache<1>, ended: &AtomicBool) -> Looker
         requires { self.reader.of ≡ cache.now }
     {
-        look_all(
-            cache,
-            &mut self.reader,
-            self.factor,
-            ended,
-            self.replies.as_mut_slice(),
-        );
+        let replies = self.replies.as_mut_slice();
+        if self.many {
+            look_many(cache, &mut self.reader, self.factor, ended, replies);
+        } else {
+            look_all(cache, &mut self.reader, self.factor, ended, replies);
+        }
         self
     }
 
