@@ -14,7 +14,7 @@ value_fits V = omega arith
 -- and few words
 pub payload_few : (V : ℕ) → IsWidth V → payload V ≤ most_payload
 unfolding payload
-payload_few V width = width.most
+payload_few V width = omega (arith, width.most)
 
 -- a value has V words
 pub value_length : (V : ℕ) (xs : List ℕ) → length xs ≡ payload V → length (value_of V xs) ≡ V
