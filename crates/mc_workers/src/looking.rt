@@ -48,7 +48,7 @@ impl<const V: usize> Looking<V> {
     fn note<G: Gate>(&mut self, gate: &G, key: u64, reply: Reply<V>)
         requires number { self.old.number < 1024 }
         requires room { vec_len self.old.records + 1 ≤ vec_capacity self.old.records }
-        ensures looking { (o : Opening) → IsLooking V o self.old → IsTrueAnswer (history_after V o.layout.shape self.old.reader.front) key reply → IsLooking V o self.new }
+        ensures looking { (o : Opening) → IsLooking V o self.old → IsTrueAnswer (history_after V o.layout.shape self.old.reader.front) key reply.entry → IsLooking V o self.new }
         ensures drawn { (load : Load) → AreDrawn load self.old.number self.old.records.items → key ≡ drawn_key load (self.old.number + 1) (length self.old.records.items) → AreDrawn load self.old.number self.new.records.items }
         ensures len { length self.new.records.items ≡ length self.old.records.items + 1 }
         ensures capacity { vec_capacity self.old.records ≤ vec_capacity self.new.records }

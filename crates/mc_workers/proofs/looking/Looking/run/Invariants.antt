@@ -2,8 +2,8 @@ use Rattle.std.proofs.Common.{◌≡◌, ◌-◌, ◌≤◌, None, length, vec_c
 use Rattle.mc_workers.specs.Inside.Workers.{HasLookedUpDrawn, IsLooking}
 use Rattle.mc_workers.proofs.looking.Looking.run.Given as goal
 
-abbrev pub invariant-loop : goal.invariant-loop
-invariant-loop g l = record {
+abbrev pub invariant-loop-keys : goal.invariant-loop-keys
+invariant-loop-keys g l = record {
   looking : IsLooking g.row.V l.fn.cache l.self;
   drawn : HasLookedUpDrawn g.row.V l.fn.load l.self;
   len : length l.self.records.items ≤ l.fn.load.lookups;
@@ -12,5 +12,5 @@ invariant-loop g l = record {
   refused : l.self.refused ≡ None;
 }
 
-abbrev pub decreases-loop : goal.decreases-loop
-decreases-loop g l = l.fn.load.lookups - length l.self.records.items
+abbrev pub decreases-loop-keys : goal.decreases-loop-keys
+decreases-loop-keys g l = l.fn.load.lookups - length l.self.records.items
