@@ -1,10 +1,7 @@
 //! A reader at work.
 ghost use Rattle.std.specs.Prelude.{ℕ, ◌≡◌, ◌+◌, ◌^◌, ◌≤◌, ◌<◌, IfSome, None, Some, length, take, vec_len, vec_capacity};
-ghost use Rattle.mc_words.specs.History.{IsTrueAnswer};
 ghost use Rattle.mc_shared.specs.Records.{Opening};
-ghost use Rattle.mc_reader.specs.Records.{AreTrueAnswers};
-ghost use Rattle.mc_workers.specs.Draws.{drawn_key};
-ghost use Rattle.mc_workers.specs.Loads.{AreDrawn, history_after, most_at_once};
+ghost use Rattle.mc_workers.specs.Loads.{most_at_once};
 
 use crate::asked::Load;
 use crate::draws::Draws;
@@ -42,14 +39,14 @@ fn moment_of<const V: usize>(reply: &Reply<V>) -> Option<u64> {
 
 impl<const V: usize> Looking<V> {
     ghost use Rattle.mc_workers.specs.Inside.Drawn.{AreNext, HasDrawn};
-    ghost use Rattle.mc_workers.specs.Inside.Workers.{HasEnded, IsLooking, IsReady};
+    ghost use Rattle.mc_workers.specs.Inside.Workers.{AreNextOf, AreTrueNow, HasEnded, HasNotedDrawn, IsLooking, IsNextOf, IsReady, IsTrueNow};
 
     /// Writes one answer down, and tells the gate of it.
     fn note<G: Gate>(&mut self, gate: &G, key: u64, reply: Reply<V>)
         requires number { self.old.number < 1024 }
         requires room { vec_len self.old.records + 1 ≤ vec_capacity self.old.records }
-        ensures looking { (o : Opening) → IsLooking V o self.old → IsTrueAnswer (history_after V o.layout.shape self.old.reader.front) key reply.entry → IsLooking V o self.new }
-        ensures drawn { (load : Load) → AreDrawn load self.old.number self.old.records.items → key ≡ drawn_key load (self.old.number + 1) (length self.old.records.items) → AreDrawn load self.old.number self.new.records.items }
+        ensures looking { (o : Opening) → IsLooking V o self.old → IsTrueNow V o self.old key reply.entry → IsLooking V o self.new }
+        ensures drawn { (load : Load) → HasNotedDrawn V load self.old → IsNextOf V load self.old key → HasNotedDrawn V load self.new }
         ensures len { length self.new.records.items ≡ length self.old.records.items + 1 }
         ensures capacity { vec_capacity self.old.records ≤ vec_capacity self.new.records }
         ensures kept { (self.new.number ≡ self.old.number) × (self.new.refused ≡ self.old.refused) }
@@ -66,8 +63,8 @@ impl<const V: usize> Looking<V> {
         requires number { self.old.number < 1024 }
         requires many { length replies.now ≡ length keys.now }
         requires room { vec_len self.old.records + length keys.now ≤ vec_capacity self.old.records }
-        ensures looking { (o : Opening) (lo hi : ℕ) → IsLooking V o self.old → AreTrueAnswers (history_after V o.layout.shape self.old.reader.front) lo hi keys.now replies.now → IsLooking V o self.new }
-        ensures drawn { (load : Load) → AreDrawn load self.old.number self.old.records.items → AreNext load (self.old.number + 1) (length self.old.records.items) keys.now → AreDrawn load self.old.number self.new.records.items }
+        ensures looking { (o : Opening) → IsLooking V o self.old → AreTrueNow V o self.old keys.now replies.now → IsLooking V o self.new }
+        ensures drawn { (load : Load) → HasNotedDrawn V load self.old → AreNextOf V load self.old keys.now → HasNotedDrawn V load self.new }
         ensures len { length self.new.records.items ≡ length self.old.records.items + length keys.now }
         ensures capacity { vec_capacity self.old.records ≤ vec_capacity self.new.records }
         ensures kept { (self.new.number ≡ self.old.number) × (self.new.refused ≡ self.old.refused) }
@@ -91,7 +88,7 @@ impl<const V: usize> Looking<V> {
         requires many { length replies.old ≡ length keys.now }
         requires room { vec_len self.old.records + length keys.now ≤ vec_capacity self.old.records }
         ensures looking { IsLooking V cache.now self.new }
-        ensures drawn { (load : Load) → AreDrawn load self.old.number self.old.records.items → AreNext load (self.old.number + 1) (length self.old.records.items) keys.now → AreDrawn load self.old.number self.new.records.items }
+        ensures drawn { (load : Load) → HasNotedDrawn V load self.old → AreNextOf V load self.old keys.now → HasNotedDrawn V load self.new }
         ensures len { length self.new.records.items ≡ length self.old.records.items + length keys.now }
         ensures capacity { vec_capacity self.old.records ≤ vec_capacity self.new.records }
         ensures kept { (self.new.number ≡ self.old.number) × (self.new.refused ≡ self.old.refused) }

@@ -19,7 +19,7 @@ returns-else-keys-eq1-clause-looking g c =
     let before = c.args.self.now in
     let after = c.get_many.new.self in
     let begins = (grown g.row.V o.layout.shape c.args.keys.now before.reader after c.get_many.new.replies c.get_many.ensures.looked).begins in
-    c.note_all.ensures.looking o _ _ (record {
+    c.note_all.ensures.looking o (record {
       of = c.get_many.ensures.of ∙ c.requires.looking.of;
       told = told_later g.row.V o.layout.shape before.reader.front after.front before.records.items begins c.requires.looking.told;
-    }) c.get_many.ensures.truth
+    }) (_, _, c.get_many.ensures.truth)
