@@ -76,13 +76,7 @@ impl<const V: usize> Looking<V> {
     }
 
     /// Looks the keys up, by one call where they are several.
-    fn look<G: Gate>(
-        &mut self,
-        cache: &Cache<V>,
-        gate: &G,
-        keys: &[u64],
-        replies: &mut [Reply<V>],
-    )
+    fn look<G: Gate>(&mut self, cache: &Cache<V>, gate: &G, keys: &[u64], replies: &mut [Reply<V>])
         requires looking { IsLooking V cache.now self.old }
         requires number { self.old.number < 1024 }
         requires many { length replies.old ≡ length keys.now }

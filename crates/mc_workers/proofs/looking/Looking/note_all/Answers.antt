@@ -1,4 +1,4 @@
-use Rattle.std.proofs.Common.{ℕ, ◌≡◌, ◌+◌, ◌∙◌, arith, ap, ap₂, slice_index_or, subst, sym}
+use Rattle.std.proofs.Common.{ℕ, ◌+◌, ◌∙◌, arith, ap, ap₂, slice_index_or, subst, sym}
 use Rattle.mc_words.specs.History.{IsTrueAnswer}
 use Rattle.mc_words.specs.declared.history.Reply.{Reply}
 use Rattle.mc_shared.specs.Records.{ReaderRecord}

@@ -1,4 +1,4 @@
-use Rattle.std.proofs.Common.{ℕ, ◌≡◌, ◌+◌, ◌≤◌, length, vec_capacity}
+use Rattle.std.proofs.Common.{◌≡◌, ◌+◌, ◌≤◌, length, vec_capacity}
 use Rattle.mc_shared.specs.Records.{Opening}
 use Rattle.mc_workers.specs.Inside.Workers.{AreNextOf, AreTrueNow, HasNotedDrawn, IsLooking}
 use Rattle.mc_workers.specs.declared.asked.Load.{Load}
