@@ -15,4 +15,4 @@ mod load_told;
 pub use load_run::run_load;
 pub use mc_replay::{ReplayError, replay};
 pub use mc_step::run_step;
-pub use mc_workers::{Free, Gate, Load, LoadError, Record, Report, check, load};
+pub use mc_workers::{Free, Gate, Load, LoadError, Record, Report, check, load, load_many};

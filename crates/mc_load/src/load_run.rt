@@ -1,6 +1,7 @@
 //! The whole program `mcload`, over any streams.
 ghost use Rattle.std.specs.Prelude.{◌≡◌, ◌++◌, codes, false, map, true};
 ghost use Rattle.mc_step.specs.Streams.{Tells, stream};
+ghost use Rattle.mc_workers.specs.Loads.{MayAskAtOnce};
 ghost use Rattle.mc_load.specs.LoadPrograms.{Loads, RunsLoad, WritesLines, load_of, load_status, load_text, report_text};
 ghost use Rattle.mc_load.specs.Inside.Histograms.{AppendsSome};
 
@@ -9,7 +10,7 @@ use crate::load_told::{Lines, LoadRefusal};
 use mc_options::{LoadOptions, load_options_of};
 use mc_script::send;
 use mc_step::{FAILED, REFUSED, tell, tell_fault};
-use mc_workers::{Free, Load, LoadError, Meter, OpenError, Report, load};
+use mc_workers::{Free, Load, LoadError, Meter, OpenError, Report, load_many};
 use std::alloc::Global;
 use std::convert::AsStr;
 use std::fmt::{InlineText, Write as _};
@@ -121,9 +122,10 @@ fn run_plain<R: Threads + Sync, W: Write, E: Write>(
     output: &mut W,
     errors: &mut E,
 ) -> u8
+    requires { MayAskAtOnce options.many }
     ensures { RunsLoad options (stream (W.contents output.old) (W.contents output.new)) (stream (E.contents errors.old) (E.contents errors.new)) result }
 {
-    match load::<4, R, Free>(rt, alloc, load_for(options), &Free) {
+    match load_many::<4, R, Free>(rt, alloc, load_for(options), &Free, options.many) {
         Ok(report) => write_report(output, report),
         Err(why) => refuse(errors, why),
     }
@@ -138,10 +140,11 @@ fn run_measured<R: Threads + Sync + Clock, W: Write, E: Write>(
     output: &mut W,
     errors: &mut E,
 ) -> u8
-    requires { options.histogram ≡ true }
+    requires histogram { options.histogram ≡ true }
+    requires many { MayAskAtOnce options.many }
     ensures { RunsLoad options (stream (W.contents output.old) (W.contents output.new)) (stream (E.contents errors.old) (E.contents errors.new)) result }
 {
-    match load::<4, R, Meter<'_, R>>(rt, alloc, load_for(options), meter) {
+    match load_many::<4, R, Meter<'_, R>>(rt, alloc, load_for(options), meter, options.many) {
         Ok(report) => write_measured(alloc, output, report, meter, options.readers),
         Err(why) => refuse(errors, why),
     }

@@ -45,7 +45,8 @@ load_counts mixes =
 
 abbrev pub load_draws : List Rule
 load_draws =
-    option (codes "writes") (parser.Signed (pos 0) (pos 1048576)) (codes "2000")
+    option (codes "many") (parser.Signed (pos 1) (pos 64)) (codes "1")
+    ∷ option (codes "writes") (parser.Signed (pos 0) (pos 1048576)) (codes "2000")
     ∷ option (codes "keys") (parser.Unsigned 0 18446744073709551615) (codes "64")
     ∷ option (codes "seed") (parser.Unsigned 0 18446744073709551615) (codes "1")
     ∷ []
@@ -72,6 +73,7 @@ pub record SaysLoad (rows : List Row) (o : LoadOptions) : Type 0 where
   pub shape : SaysShape rows o.shape
   pub readers : option_and_then (number_in 0 4294967295) (first_of (codes "readers") rows) ≡ Some o.readers
   pub lookups : option_and_then (number_in 0 1048576) (first_of (codes "lookups") rows) ≡ Some o.lookups
+  pub many : option_and_then (number_in 1 64) (first_of (codes "many") rows) ≡ Some o.many
   pub writes : option_and_then (number_in 0 1048576) (first_of (codes "writes") rows) ≡ Some o.writes
   pub keys : option_and_then (number_in 0 18446744073709551615) (first_of (codes "keys") rows) ≡ Some o.keys
   pub seed : option_and_then (number_in 0 18446744073709551615) (first_of (codes "seed") rows) ≡ Some o.seed

@@ -19,6 +19,8 @@ pub struct LoadOptions {
     pub readers: u32,
     /// Of each reader, at most 2^20.
     pub lookups: u32,
+    /// Keys of each call of a reader, from 1 to 64.
+    pub many: u32,
     /// Calls of the writer, at most 2^20.
     pub writes: u32,
     pub keys: u64,
@@ -29,6 +31,9 @@ pub struct LoadOptions {
 
 /// The most lookups of a reader, and the most calls of the writer.
 const MOST_CALLS: u64 = 1_048_576;
+
+/// The most keys of a reader's call.
+const MOST_AT_ONCE: u64 = 64;
 
 /// What the help says of a run, behind the options.
 const RUNS: &str = "\
@@ -44,7 +49,7 @@ writes
   wrong 0";
 
 /// The options of `mcload` that have values, in the order of its help.
-fn load_rows<'a>() -> [OptionRow<'a>; 12]
+fn load_rows<'a>() -> [OptionRow<'a>; 13]
     ensures { (mixes : MixNames) × AreMixes mixes × (map row_rule result ≡ load_rules mixes) }
 {
     let size = value_parser!(u32);
@@ -106,6 +111,12 @@ fn load_rows<'a>() -> [OptionRow<'a>; 12]
             takes: calls,
             default: "2000",
             help: "Lookups of each reader, from 0 to 1048576",
+        },
+        OptionRow {
+            name: "many",
+            takes: ValueParser::Signed(1, 64),
+            default: "1",
+            help: "Keys that a reader looks up by one call, from 1 to 64",
         },
         OptionRow {
             name: "writes",
@@ -189,6 +200,7 @@ fn load_options_in(matches: &ArgMatches) -> Result<LoadOptions, &'static str>
     };
     let readers = number(matches, "readers", 0, MOST_SIZE)?;
     let lookups = number(matches, "lookups", 0, MOST_CALLS)?;
+    let many = number(matches, "many", 1, MOST_AT_ONCE)?;
     let writes = number(matches, "writes", 0, MOST_CALLS)?;
     let keys = number(matches, "keys", 0, u64::MAX)?;
     let seed = number(matches, "seed", 0, u64::MAX)?;
@@ -196,6 +208,7 @@ fn load_options_in(matches: &ArgMatches) -> Result<LoadOptions, &'static str>
         shape,
         readers: readers as u32,
         lookups: lookups as u32,
+        many: many as u32,
         writes: writes as u32,
         keys,
         seed,

@@ -83,6 +83,13 @@ pub record Reports (V : ℕ) (load : Load) (told : Report) : Type 0 where
 abbrev pub HasKeys : ℕ → Type 0
 HasKeys keys = (1 ≤ keys) × (keys ≤ 2 ^ 32)
 
+-- the most keys of a reader's call
+abbrev pub most_at_once : ℕ
+most_at_once = 64
+
+abbrev pub MayAskAtOnce : ℕ → Type 0
+MayAskAtOnce many = (1 ≤ many) × (many ≤ most_at_once)
+
 -- a call of the writer, which is worker 0, or of a reader
 abbrev pub IsCall : Load → ℕ → ℕ → Type 0
 IsCall load who call = (1 ≤ call) × (((who ≡ 0) × (call ≤ load.writes)) ⊎ ((1 ≤ who) × (who ≤ load.readers) × (call ≤ load.lookups)))

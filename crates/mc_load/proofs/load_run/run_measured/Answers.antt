@@ -11,7 +11,7 @@ returns-in-Ok g c =
     inl (
       c.in-Ok.report,
       subst (λ (l : Load). Reports 4 l c.in-Ok.report) c.load_for.ensures c.in-Ok.ensures,
-      subst (λ (b : Bool). WritesLines b (stream (g.W.Write.contents c.args.output.now) (g.W.Write.contents c.write_measured.new.output)) (report_text c.in-Ok.report) c.write_measured.result) (sym c.requires) c.write_measured.ensures,
+      subst (λ (b : Bool). WritesLines b (stream (g.W.Write.contents c.args.output.now) (g.W.Write.contents c.write_measured.new.output)) (report_text c.in-Ok.report) c.write_measured.result) (sym c.requires.histogram) c.write_measured.ensures,
       Keeps-refl (g.E.Write.contents c.args.errors.now),
     )
 
