@@ -2,7 +2,7 @@
 use Rattle.std.proofs.Common.{ℕ, List, subst, inl, inr}
 use Rattle.clap.specs.declared.error.kind.ErrorKind.{ErrorKind}
 use Rattle.mc_options.specs.LoadOptions.{HasLoadFault, IsLoadUnread}
-use Rattle.mc_step.specs.Streams.{Stream, TellsFault}
+use Rattle.mc_options.specs.Streams.{Stream, TellsFault}
 use Rattle.mc_load.specs.LoadPrograms.{Loads}
 use Rattle.mc_load.specs.LoadPrograms.Loads.{shows, faulty, out_of_memory}
 

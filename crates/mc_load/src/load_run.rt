@@ -1,14 +1,13 @@
 //! The whole program `mcload`, over any streams.
 ghost use Rattle.std.specs.Prelude.{◌≡◌, ◌++◌, codes, false, map, true};
-ghost use Rattle.mc_step.specs.Streams.{Tells, stream};
+ghost use Rattle.mc_options.specs.Streams.{Tells, stream};
 ghost use Rattle.mc_load.specs.LoadPrograms.{Loads, RunsLoad, WritesLines, load_of, load_status, load_text, report_text};
 ghost use Rattle.mc_load.specs.Inside.Histograms.{AppendsSome};
 
 use crate::histogram::histogram;
 use crate::load_told::{Lines, LoadRefusal};
-use mc_options::{LoadOptions, load_options_of};
+use mc_options::{FAILED, LoadOptions, REFUSED, load_options_of, tell, tell_fault};
 use mc_script::send;
-use mc_step::{FAILED, REFUSED, tell, tell_fault};
 use mc_workers::{Free, Load, LoadError, Meter, OpenError, Report, load};
 use std::alloc::Global;
 use std::convert::AsStr;
