@@ -8,6 +8,7 @@ use crate::histogram::histogram;
 use crate::load_told::{Lines, LoadRefusal};
 use mc_options::{FAILED, LoadOptions, REFUSED, load_options_of, tell, tell_fault};
 use mc_script::send;
+use mc_words::MOST_READERS;
 use mc_workers::{Free, Load, LoadError, Meter, OpenError, Report, load};
 use std::alloc::Global;
 use std::convert::AsStr;
@@ -15,9 +16,6 @@ use std::fmt::{InlineText, Write as _};
 use std::io::Write;
 use std::thread::Threads;
 use std::time::Clock;
-
-/// The most readers of a cache.
-const MOST_READERS: u32 = 1024;
 
 /// The most bytes of a report.
 const ROOM: usize = 128;

@@ -33,7 +33,8 @@ pub struct Books {
 }
 
 impl Books {
-    ghost use Rattle.mc_plan.specs.Clerks.{AreBooksOf, Call, IsSweeping};
+    ghost use Rattle.mc_plan.specs.WholeCalls.{Call};
+    ghost use Rattle.mc_plan.specs.Books.{AreBooksOf, IsSweeping};
     ghost use Rattle.mc_plan.specs.Deciding.{IsDecided, IsExchanged, IsFinished, IsFinishedNear, IsInserted, IsLackingKey, IsNear, IsRemovalDecided, IsReplaced};
     ghost use Rattle.mc_plan.specs.Decisions.{acts_of_moves};
     ghost use Rattle.mc_plan.specs.Inside.Clerks.{IsReplacing};

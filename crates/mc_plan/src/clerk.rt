@@ -41,7 +41,8 @@ pub struct Clerk<const V: usize> {
 
 impl<const V: usize> Clerk<V> {
     ghost use Rattle.mc_theory.specs.declared.act.Act.{Act};
-    ghost use Rattle.mc_plan.specs.Clerks.{Call, PutCall, RemoveCall, Knows, IsOn, HasCall, Answered, next_act, acts_left, shape_of_clerk};
+    ghost use Rattle.mc_plan.specs.WholeCalls.{Call, PutCall, RemoveCall, Answered};
+    ghost use Rattle.mc_plan.specs.Clerks.{Knows, IsOn, HasCall, next_act, acts_left, shape_of_clerk};
     ghost use Rattle.mc_plan.specs.Inside.Clerks.{HasEndedSweep};
     ghost use Rattle.mc_search.specs.Sweeps.{Swept, hand_acts};
 

@@ -29,6 +29,7 @@ fn moment_of<const V: usize>(reply: &Reply<V>) -> Option<u64> {
 }
 
 impl<const V: usize> Looking<V> {
+    ghost use Rattle.mc_words.specs.Readers.{most_readers};
     ghost use Rattle.mc_workers.specs.Inside.Workers.{HasEnded, HasLookedUpDrawn, IsLooking, IsReady};
 
     /// Looks one key up, writes the answer down, and tells its moment.
@@ -52,7 +53,7 @@ impl<const V: usize> Looking<V> {
     /// Makes the load's lookups, or fewer where the gate refuses a call.
     pub(crate) fn run<G: Gate>(&mut self, cache: &Cache<V>, gate: &G, load: Load)
         requires ready { IsReady V cache.now load self.old.number self.old }
-        requires number { self.old.number < 1024 }
+        requires number { self.old.number < most_readers }
         ensures ended { HasEnded V cache.now load self.old.number self.new }
         ensures refused { IfSome self.new.refused (λ call. G.may_refuse gate.now (self.old.number + 1) call) }
     {

@@ -5,7 +5,8 @@ use Rattle.mc_words.specs.Checks.{shape_of}
 use Rattle.mc_words.specs.Places.{moment, slot_number}
 use Rattle.mc_words.specs.Standing.{Stands, IsAbsent}
 use Rattle.mc_theory.specs.States.{State}
-use Rattle.mc_plan.specs.Clerks.{RemoveCall, AreBooksOf, quiet_of}
+use Rattle.mc_plan.specs.WholeCalls.{RemoveCall, quiet_of}
+use Rattle.mc_plan.specs.Books.{AreBooksOf}
 use Rattle.mc_plan.specs.declared.answer.Answer.TheVariants as answer
 use Rattle.mc_plan.specs.declared.answer.Remove.TheVariants as remove
 use Rattle.mc_plan.proofs.Calls.AfterPlan.{idle_planned, nothing_found, removal_planned, placed_in, moment_in}

@@ -3,7 +3,7 @@ use Rattle.mc_words.specs.Checks.{shape_of}
 use Rattle.mc_words.specs.Places.{item, moment, slot_number}
 use Rattle.mc_words.specs.Standing.{Stands}
 use Rattle.mc_theory.specs.States.{State}
-use Rattle.mc_plan.specs.Clerks.{Call, state_after_sweep}
+use Rattle.mc_plan.specs.WholeCalls.{Call, state_after_sweep}
 use Rattle.mc_search.specs.Paths.{IsCut}
 use Rattle.mc_plan.specs.Inside.Clerks.{IsReplacing}
 use Rattle.mc_plan.proofs.Calls.AfterPlan.{placed_in}

@@ -5,7 +5,8 @@ use Rattle.mc_words.specs.Standing.{Stands}
 use Rattle.mc_theory.specs.States.{State}
 use Rattle.mc_theory.specs.declared.act.Act.{Act}
 use Rattle.mc_theory.specs.declared.act.Act.TheVariants as act
-use Rattle.mc_plan.specs.Clerks.{Call, IsPlanned, IsSweepOf, state_after_sweep}
+use Rattle.mc_plan.specs.WholeCalls.{Call, IsSweepOf, state_after_sweep}
+use Rattle.mc_plan.specs.Books.{IsPlanned}
 use Rattle.mc_plan.specs.Inside.Clerks.{IsReplacing}
 use Rattle.mc_plan.specs.declared.answer.Answer.TheVariants as answer
 use Rattle.mc_plan.specs.declared.answer.Put.{Put}
