@@ -5,7 +5,7 @@ use Rattle.clap.specs.declared.error.kind.ErrorKind.{ErrorKind}
 use Rattle.mc_options.proofs.CommandLines.{number-bounds}
 use Rattle.mc_options.specs.LoadOptions.{GivesLoad, HasLoadFault, IsLoadUnread, load_texts}
 use Rattle.mc_options.specs.declared.load_options.LoadOptions.{LoadOptions}
-use Rattle.mc_step.specs.Streams.{Stream, TellsFault}
+use Rattle.mc_options.specs.Streams.{Stream, TellsFault}
 use Rattle.mc_load.specs.LoadPrograms.{Loads}
 use Rattle.mc_load.specs.LoadPrograms.Loads.{shows, faulty, out_of_memory}
 use Rattle.mc_workers.specs.Loads.{MayAskAtOnce}

@@ -1,15 +1,15 @@
 //! The whole program `mcload`, over any streams.
 ghost use Rattle.std.specs.Prelude.{◌≡◌, ◌++◌, codes, false, map, true};
-ghost use Rattle.mc_step.specs.Streams.{Tells, stream};
+ghost use Rattle.mc_options.specs.Streams.{Tells, stream};
 ghost use Rattle.mc_workers.specs.Loads.{MayAskAtOnce};
 ghost use Rattle.mc_load.specs.LoadPrograms.{Loads, RunsLoad, WritesLines, load_of, load_status, load_text, report_text};
 ghost use Rattle.mc_load.specs.Inside.Histograms.{AppendsSome};
 
 use crate::histogram::histogram;
 use crate::load_told::{Lines, LoadRefusal};
-use mc_options::{LoadOptions, load_options_of};
+use mc_options::{FAILED, LoadOptions, REFUSED, load_options_of, tell, tell_fault};
 use mc_script::send;
-use mc_step::{FAILED, REFUSED, tell, tell_fault};
+use mc_words::MOST_READERS;
 use mc_workers::{Free, Load, LoadError, Meter, OpenError, Report, load_many};
 use std::alloc::Global;
 use std::convert::AsStr;
@@ -17,9 +17,6 @@ use std::fmt::{InlineText, Write as _};
 use std::io::Write;
 use std::thread::Threads;
 use std::time::Clock;
-
-/// The most readers of a cache.
-const MOST_READERS: u32 = 1024;
 
 /// The most bytes of a report.
 const ROOM: usize = 128;

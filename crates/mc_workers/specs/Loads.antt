@@ -11,7 +11,8 @@ use Rattle.mc_plan.specs.declared.answer.Answer.{Answer}
 use Rattle.mc_shared.specs.Records.{WriterRecord}
 use Rattle.mc_writer.specs.WriterCalls.{HasCalled}
 use Rattle.mc_check.specs.declared.record.Record.{Record}
-use Rattle.mc_cache.specs.Openings.{HasReaders, RefusesOpening}
+use Rattle.mc_cache.specs.Openings.{RefusesOpening}
+use Rattle.mc_words.specs.Readers.{HasReaders}
 use Rattle.mc_workers.specs.Draws.{drawn_call, drawn_key}
 use Rattle.mc_workers.specs.declared.error.LoadError.{LoadError}
 use Rattle.mc_workers.specs.declared.error.LoadError.TheVariants as error

@@ -40,10 +40,11 @@ fn moment_of<const V: usize>(reply: &Reply<V>) -> Option<u64> {
 impl<const V: usize> Looking<V> {
     ghost use Rattle.mc_workers.specs.Inside.Drawn.{AreNext, HasDrawn};
     ghost use Rattle.mc_workers.specs.Inside.Workers.{AreNextOf, AreTrueNow, HasEnded, HasNotedDrawn, IsLooking, IsNextOf, IsReady, IsTrueNow};
+    ghost use Rattle.mc_words.specs.Readers.{most_readers};
 
     /// Writes one answer down, and tells the gate of it.
     fn note<G: Gate>(&mut self, gate: &G, key: u64, reply: Reply<V>)
-        requires number { self.old.number < 1024 }
+        requires number { self.old.number < most_readers }
         requires room { vec_len self.old.records + 1 ≤ vec_capacity self.old.records }
         ensures looking { (o : Opening) → IsLooking V o self.old → IsTrueNow V o self.old key reply.entry → IsLooking V o self.new }
         ensures drawn { (load : Load) → HasNotedDrawn V load self.old → IsNextOf V load self.old key → HasNotedDrawn V load self.new }
@@ -60,7 +61,7 @@ impl<const V: usize> Looking<V> {
 
     /// Writes the answers of one call down, and tells the gate of each.
     fn note_all<G: Gate>(&mut self, gate: &G, keys: &[u64], replies: &[Reply<V>])
-        requires number { self.old.number < 1024 }
+        requires number { self.old.number < most_readers }
         requires many { length replies.now ≡ length keys.now }
         requires room { vec_len self.old.records + length keys.now ≤ vec_capacity self.old.records }
         ensures looking { (o : Opening) → IsLooking V o self.old → AreTrueNow V o self.old keys.now replies.now → IsLooking V o self.new }
@@ -78,7 +79,7 @@ impl<const V: usize> Looking<V> {
     /// Looks the keys up, by one call where they are several.
     fn look<G: Gate>(&mut self, cache: &Cache<V>, gate: &G, keys: &[u64], replies: &mut [Reply<V>])
         requires looking { IsLooking V cache.now self.old }
-        requires number { self.old.number < 1024 }
+        requires number { self.old.number < most_readers }
         requires many { length replies.old ≡ length keys.now }
         requires room { vec_len self.old.records + length keys.now ≤ vec_capacity self.old.records }
         ensures looking { IsLooking V cache.now self.new }
@@ -100,7 +101,7 @@ impl<const V: usize> Looking<V> {
     /// Asks the gate for so many calls, up to one that it refuses, and draws the keys of those that it lets through: how many
     /// they are.
     fn ask<G: Gate>(&mut self, gate: &G, most: usize, keys: &mut [u64]) -> usize
-        requires number { self.old.number < 1024 }
+        requires number { self.old.number < most_readers }
         requires most { most ≤ length keys.old }
         requires few { vec_len self.old.records + most < 2 ^ 32 }
         ensures most { result ≤ most }
@@ -127,7 +128,7 @@ impl<const V: usize> Looking<V> {
     /// Makes the load's lookups, or fewer where the gate refuses a call. The calls before it are made.
     pub(crate) fn run<G: Gate>(&mut self, cache: &Cache<V>, gate: &G, load: Load)
         requires ready { IsReady V cache.now load self.old.number self.old }
-        requires number { self.old.number < 1024 }
+        requires number { self.old.number < most_readers }
         ensures ended { HasEnded V cache.now load self.old.number self.new }
         ensures refused { IfSome self.new.refused (λ call. G.may_refuse gate.now (self.old.number + 1) call) }
     {

@@ -3,7 +3,7 @@ use Rattle.std.proofs.KnownBytes.{Keeps-refl}
 use Rattle.mc_workers.specs.Loads.{RefusesLoad, Reports}
 use Rattle.mc_workers.specs.declared.asked.Load.{Load}
 use Rattle.mc_load.specs.LoadPrograms.{WritesLines, report_text}
-use Rattle.mc_step.specs.Streams.{stream}
+use Rattle.mc_options.specs.Streams.{stream}
 use Rattle.mc_load.proofs.load_run.run_measured.Goals as goal
 
 pub returns-in-Ok : goal.returns-in-Ok
