@@ -5,7 +5,7 @@ use Rattle.mc_words.specs.declared.shape.Shape.{Shape}
 use Rattle.mc_theory.specs.Lists.{state_of}
 use Rattle.mc_theory.specs.States.{opening}
 use Rattle.mc_theory.proofs.Lists.Fronts.{state_none}
-use Rattle.mc_plan.specs.Clerks.{AreBooksOf}
+use Rattle.mc_plan.specs.Books.{AreBooksOf}
 use Rattle.mc_plan.specs.declared.books.Books.{Books}
 use Rattle.mc_shared.specs.Records.{Opening, WriterRecord, writer_record}
 use Rattle.mc_shared.specs.Views.{layout_of}

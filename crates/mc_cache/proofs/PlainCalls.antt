@@ -14,7 +14,7 @@ use Rattle.mc_theory.specs.Lists.{IsLawful, Made, after_all, state_of}
 use Rattle.mc_theory.specs.Plain.{IsBetween}
 use Rattle.mc_theory.specs.States.{State, opening}
 use Rattle.mc_plan.specs.Calls.{PutAnswers, RemoveAnswers}
-use Rattle.mc_plan.specs.Clerks.{PutCall, RemoveCall, quiet_of}
+use Rattle.mc_plan.specs.WholeCalls.{PutCall, RemoveCall, quiet_of}
 use Rattle.mc_plan.specs.declared.answer.Answer.TheVariants as answer
 use Rattle.mc_plan.specs.declared.answer.Put.{Put}
 use Rattle.mc_plan.specs.declared.answer.Put.TheVariants.{Stored, Renewed}

@@ -1,12 +1,10 @@
 -- Why a cache is not opened.
-use Rattle.std.specs.Prelude.{ℕ, ◌≤◌}
+use Rattle.std.specs.Prelude.{ℕ}
+use Rattle.mc_words.specs.Readers.{HasReaders}
 use Rattle.mc_words.specs.Shapes.{IsShape, RefusesShape}
 use Rattle.mc_words.specs.declared.shape.Shape.{Shape}
 use Rattle.mc_cache.specs.declared.opening.OpenError.{OpenError}
 use Rattle.mc_cache.specs.declared.opening.OpenError.TheVariants as error
-
-abbrev pub HasReaders : ℕ → Type 0
-HasReaders readers = (1 ≤ readers) × (readers ≤ 1024)
 
 -- the first fault of what was asked for; where there is none, memory was refused
 abbrev pub RefusesOpening : Shape → ℕ → OpenError → Type 0

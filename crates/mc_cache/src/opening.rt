@@ -2,10 +2,11 @@
 ghost use Rattle.std.specs.Prelude.{◌≡◌, [], All, IfOk, MatchResult};
 ghost use Rattle.mc_words.specs.Checks.{shape_of};
 ghost use Rattle.mc_words.specs.Places.{IsWidth};
+ghost use Rattle.mc_words.specs.Readers.{HasReaders};
 ghost use Rattle.mc_words.specs.Shapes.{IsShape};
 ghost use Rattle.mc_shared.specs.Records.{IsNewReader, new_readers, writer_record};
 ghost use Rattle.mc_shared.specs.Views.{layout_of};
-ghost use Rattle.mc_cache.specs.Openings.{HasReaders, RefusesOpening};
+ghost use Rattle.mc_cache.specs.Openings.{RefusesOpening};
 ghost use Rattle.mc_cache.specs.Plain.{history, seen};
 
 use crate::cache::Cache;
@@ -13,7 +14,7 @@ use crate::reader::Reader;
 use crate::writer::Writer;
 use mc_plan::Books;
 use mc_shared::ReaderSeat;
-use mc_words::{Checked, NoMemory, Shape, ShapeError};
+use mc_words::{Checked, MOST_READERS, NoMemory, Shape, ShapeError};
 use std::alloc::{AllocError, Global};
 use thiserror::Error;
 
@@ -81,7 +82,7 @@ pub fn open<const V: usize>(
         Ok(checked) => checked,
         Err(why) => return Err(OpenError::Shape(why)),
     };
-    if readers == 0 || readers > 1024 {
+    if readers == 0 || readers > MOST_READERS {
         return Err(OpenError::Readers);
     }
     match open_checked::<V>(alloc, &checked, readers) {

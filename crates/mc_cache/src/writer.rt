@@ -4,7 +4,7 @@ ghost use Rattle.mc_theory.specs.Lists.{state_of};
 ghost use Rattle.mc_shared.specs.SeatFacts.{IsRun};
 ghost use Rattle.mc_cache.specs.Resting.{IsAtRest};
 ghost use Rattle.mc_cache.specs.Plain.{IsLegal, PutMeans, RemovalMeans, TellsNow, history};
-ghost use Rattle.mc_plan.specs.Clerks.{PutCall, RemoveCall};
+ghost use Rattle.mc_plan.specs.WholeCalls.{PutCall, RemoveCall};
 ghost use Rattle.mc_plan.specs.declared.answer.Answer.TheVariants as answer;
 ghost use Rattle.mc_writer.specs.WriterCalls.{HasCalled, HasGot};
 

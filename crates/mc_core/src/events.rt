@@ -7,6 +7,7 @@ ghost use Rattle.mc_theory.specs.Plain.{IsPlainlyTrue, events_made};
 ghost use Rattle.mc_theory.specs.Traces as traces;
 ghost use Rattle.mc_words.specs.Checks.{shape_of};
 ghost use Rattle.mc_words.specs.Places.{IsWidth};
+ghost use Rattle.mc_words.specs.Readers.{most_readers};
 
 use crate::outcome::Run;
 use crate::world::{World, WorldError};
@@ -47,7 +48,7 @@ pub fn run_new<const V: usize>(
     ensures plain { IfOk result (λ run. All (IsPlainlyTrue (events_made events.now run.stopped)) run.done.items) }
     ensures ran { IfOk result (λ run. (x : traces.Trace V) ×
         traces.HasRun V (shape_of checked.now) (traces.first_trace V (shape_of checked.now) readers) x events.now run.done.items run.stopped) }
-    ensures readers { IsErrOf result error.Readers ↔ ((readers ≡ 0) ⊎ (1024 < readers)) }
+    ensures readers { IsErrOf result error.Readers ↔ ((readers ≡ 0) ⊎ (most_readers < readers)) }
 {
     let mut world = World::new(alloc, checked, readers)?;
     let Ok(made) = run(alloc, &mut world, events) else {

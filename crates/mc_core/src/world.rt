@@ -4,13 +4,10 @@ ghost use Rattle.std.specs.Prelude.{◌≡◌, ◌<◌};
 use crate::parts::Parts;
 use crate::recency::recency_word;
 use mc_theory::{Event, Stepped, Unlawful};
-use mc_words::{Change, Checked};
+use mc_words::{Change, Checked, MOST_READERS};
 use std::alloc::Global;
 use std::marker::Model;
 use thiserror::Error;
-
-/// The most readers of a world.
-const MOST_READERS: u32 = 1024;
 
 /// Why no world is made.
 #[derive(Clone, Copy, Debug, PartialEq, Eq, Error)]
@@ -43,6 +40,7 @@ impl<const V: usize> World<V> {
     ghost use Rattle.std.specs.Prelude.{ℕ, ◌≡◌, ◌+◌, ◌-◌, ◌^◌, ◌<◌, ◌≤◌, ◌++◌, ◌↔◌, ◌⊎◌, All, IfOk, IfErr, IsErrOf, OnOk, OnErr, length, slice_index};
     ghost use Rattle.mc_words.specs.Checks.{shape_of};
     ghost use Rattle.mc_words.specs.Places.{IsWidth, all_words, word_count};
+    ghost use Rattle.mc_words.specs.Readers.{most_readers};
     ghost use Rattle.mc_words.specs.Shapes.{IsShape};
     ghost use Rattle.mc_core.specs.Packed.{HasBits};
     ghost use Rattle.mc_core.specs.Seen.{Shows, MayAct, state_after};
@@ -59,7 +57,7 @@ impl<const V: usize> World<V> {
     pub fn new(alloc: Global, checked: &Checked, readers: u32) -> Result<World<V>, WorldError>
         requires { IsWidth V }
         ensures ok { IfOk result (λ w. (w.shape ≡ shape_of checked.now) × Shows {V = V} w (traces.first_trace V (shape_of checked.now) readers)) }
-        ensures readers { IsErrOf result error.Readers ↔ ((readers ≡ 0) ⊎ (1024 < readers)) }
+        ensures readers { IsErrOf result error.Readers ↔ ((readers ≡ 0) ⊎ (most_readers < readers)) }
     {
         if readers == 0 || readers > MOST_READERS {
             return Err(WorldError::Readers);

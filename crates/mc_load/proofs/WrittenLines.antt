@@ -4,7 +4,7 @@ use Rattle.std.proofs.Math.Seq.{take-length}
 use Rattle.std.specs.Io.KnownBytes.{Appends}
 use Rattle.mc_load.specs.Inside.Histograms.{AppendsSome}
 use Rattle.mc_load.specs.LoadPrograms.{WritesLines}
-use Rattle.mc_step.specs.Streams.{Stream, stream}
+use Rattle.mc_options.specs.Streams.{Stream, stream}
 
 appends_both : (a b c : Option (List ℕ)) (xs ys : List ℕ) → Appends a b xs → Appends b c ys → Appends a c (xs ++ ys)
 appends_both None b c xs ys p q = tt

@@ -12,8 +12,9 @@ use Rattle.mc_workers.specs.declared.asked.Load.{Load}
 use Rattle.mc_workers.specs.declared.error.LoadError.{LoadError}
 use Rattle.mc_workers.specs.declared.error.LoadError.TheVariants as error
 use Rattle.mc_workers.specs.declared.report.Report.{Report}
-use Rattle.mc_step.specs.Streams.{IsShort, IsUntouched, Prints, Stream, Tells}
-use Rattle.mc_step.specs.ShapeTexts.{shape_text}
+use Rattle.mc_options.specs.Statuses.{failed, refused}
+use Rattle.mc_options.specs.Streams.{IsShort, IsUntouched, Prints, Stream, Tells}
+use Rattle.mc_options.specs.ShapeTexts.{shape_text}
 
 -- whether the answers add up to the lookups
 abbrev pub sum_text : Report → List ℕ
@@ -33,14 +34,14 @@ load_text error.NoMemory = codes "no memory"
 load_text error.Keys = codes "keys must be from 1 to 4294967296"
 load_text (error.Gate who call) = codes "gate"
 
--- what was asked for can't be: 2; it could not be done: 3
+-- the exit status of a load that is refused
 abbrev pub load_status : LoadError → ℕ
-load_status (error.Open (opening.Shape why)) = 2
-load_status (error.Open opening.Readers) = 2
-load_status (error.Open opening.NoMemory) = 3
-load_status error.NoMemory = 3
-load_status error.Keys = 2
-load_status (error.Gate who call) = 3
+load_status (error.Open (opening.Shape why)) = refused
+load_status (error.Open opening.Readers) = refused
+load_status (error.Open opening.NoMemory) = failed
+load_status error.NoMemory = failed
+load_status error.Keys = refused
+load_status (error.Gate who call) = failed
 
 -- the load that the options ask for
 abbrev pub load_of : LoadOptions → Load
@@ -49,7 +50,7 @@ load_of o = record { shape = o.shape; readers = o.readers; lookups = o.lookups; 
 -- the lines were written, and where more is asked for, bytes of which no clause speaks; or, where a write failed, a beginning of all that
 abbrev pub WritesLines : Bool → Stream → List ℕ → ℕ → Type 0
 WritesLines asked output text status =
-    (more : List ℕ) × (asked ≡ false → more ≡ []) × (((status ≡ 0) × Appends output.old output.new (text ++ 10 ∷ more)) ⊎ ((status ≡ 3) × ((n : ℕ) × Appends output.old output.new (take n (text ++ 10 ∷ more)))))
+    (more : List ℕ) × (asked ≡ false → more ≡ []) × (((status ≡ 0) × Appends output.old output.new (text ++ 10 ∷ more)) ⊎ ((status ≡ failed) × ((n : ℕ) × Appends output.old output.new (take n (text ++ 10 ∷ more)))))
 
 -- the load was made, with values of four words, and its report is written
 abbrev pub WritesReport : LoadOptions → Stream → Stream → ℕ → Type 0
@@ -72,5 +73,5 @@ IsLoadFaulty words = ((k : ErrorKind) × (k ≢ kind.DisplayHelp) × (k ≢ kind
 pub data Loads (words : List (List ℕ)) (output errors : Stream) (status : ℕ) : Type 0 where
   loads : (o : LoadOptions) → GivesLoad words o → RunsLoad o output errors status → Loads words output errors status
   shows : HasLoadFault words kind.DisplayHelp ⊎ HasLoadFault words kind.DisplayVersion → Prints errors status → Loads words output errors status
-  faulty : IsLoadFaulty words → IsUntouched output → status ≡ 2 → Loads words output errors status
+  faulty : IsLoadFaulty words → IsUntouched output → status ≡ refused → Loads words output errors status
   out_of_memory : IsShort output errors status → Loads words output errors status

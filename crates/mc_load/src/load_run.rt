@@ -1,24 +1,22 @@
 //! The whole program `mcload`, over any streams.
 ghost use Rattle.std.specs.Prelude.{◌≡◌, ◌++◌, codes, false, map, true};
-ghost use Rattle.mc_step.specs.Streams.{Tells, stream};
+ghost use Rattle.mc_options.specs.Streams.{Tells, stream};
+ghost use Rattle.mc_workers.specs.Loads.{MayAskAtOnce};
 ghost use Rattle.mc_load.specs.LoadPrograms.{Loads, RunsLoad, WritesLines, load_of, load_status, load_text, report_text};
 ghost use Rattle.mc_load.specs.Inside.Histograms.{AppendsSome};
 
 use crate::histogram::histogram;
 use crate::load_told::{Lines, LoadRefusal};
-use mc_options::{LoadOptions, load_options_of};
+use mc_options::{FAILED, LoadOptions, REFUSED, load_options_of, tell, tell_fault};
 use mc_script::send;
-use mc_step::{FAILED, REFUSED, tell, tell_fault};
-use mc_workers::{Free, Load, LoadError, Meter, OpenError, Report, load};
+use mc_words::MOST_READERS;
+use mc_workers::{Free, Load, LoadError, Meter, OpenError, Report, load_many};
 use std::alloc::Global;
 use std::convert::AsStr;
 use std::fmt::{InlineText, Write as _};
 use std::io::Write;
 use std::thread::Threads;
 use std::time::Clock;
-
-/// The most readers of a cache.
-const MOST_READERS: u32 = 1024;
 
 /// The most bytes of a report.
 const ROOM: usize = 128;
@@ -121,9 +119,10 @@ fn run_plain<R: Threads + Sync, W: Write, E: Write>(
     output: &mut W,
     errors: &mut E,
 ) -> u8
+    requires { MayAskAtOnce options.many }
     ensures { RunsLoad options (stream (W.contents output.old) (W.contents output.new)) (stream (E.contents errors.old) (E.contents errors.new)) result }
 {
-    match load::<4, R, Free>(rt, alloc, load_for(options), &Free) {
+    match load_many::<4, R, Free>(rt, alloc, load_for(options), &Free, options.many) {
         Ok(report) => write_report(output, report),
         Err(why) => refuse(errors, why),
     }
@@ -138,10 +137,11 @@ fn run_measured<R: Threads + Sync + Clock, W: Write, E: Write>(
     output: &mut W,
     errors: &mut E,
 ) -> u8
-    requires { options.histogram ≡ true }
+    requires histogram { options.histogram ≡ true }
+    requires many { MayAskAtOnce options.many }
     ensures { RunsLoad options (stream (W.contents output.old) (W.contents output.new)) (stream (E.contents errors.old) (E.contents errors.new)) result }
 {
-    match load::<4, R, Meter<'_, R>>(rt, alloc, load_for(options), meter) {
+    match load_many::<4, R, Meter<'_, R>>(rt, alloc, load_for(options), meter, options.many) {
         Ok(report) => write_measured(alloc, output, report, meter, options.readers),
         Err(why) => refuse(errors, why),
     }

@@ -2,7 +2,7 @@
 ghost use Rattle.std.specs.Prelude.{◌≡◌, ◌+◌, ◌==◌, ◌++◌, Some, codes};
 ghost use Rattle.mc_load.specs.LoadPrograms.{load_text, report_text};
 
-use mc_step::Refusal;
+use mc_options::Refusal;
 use mc_workers::{LoadError, OpenError, Report};
 use std::fmt;
 use std::fmt::Display;

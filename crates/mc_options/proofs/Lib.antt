@@ -1,3 +1,4 @@
 pub mod CommandLines
 pub mod CommandLineRows
 pub mod LoadCommandLines
+pub mod ToldLines

@@ -1,6 +1,5 @@
 -- What the words of a command line ask of `mcload`; the first of them is the program's own name, another is `run`.
-use Rattle.std.specs.Prelude.{◌≡◌, ◌≢◌, ◌⊎◌, ◌==◌, ℕ, Bool, true, false, pos, List, [], ◌∷◌, Option, Some, None, Result, map, codes, fold, option_and_then, if◌then◌else◌, MatchResult}
-use Rattle.std.specs.Borrow.{Bor}
+use Rattle.std.specs.Prelude.{◌≡◌, ◌⊎◌, Bool, true, false, pos, List, [], ◌∷◌, Option, Some, None, Result, map, codes, option_and_then, MatchResult}
 use Rattle.std.specs.Str.{bytes_eq}
 use Rattle.clap.specs.Words.{App, IsAmong, Kinds, Row, Rule, Text, fault_of, first_of, kind_of, matches_of, new_app, new_rule}
 use Rattle.clap.specs.Simple.{on_top}
@@ -9,7 +8,7 @@ use Rattle.clap.specs.declared.builder.value_parser.ValueParser.TheVariants as p
 use Rattle.clap.specs.declared.error.Error.{Error}
 use Rattle.clap.specs.declared.error.kind.ErrorKind.{ErrorKind}
 use Rattle.clap.specs.declared.error.kind.ErrorKind.TheVariants as kind
-use Rattle.mc_options.specs.Options.{AreMixes, MixNames, SaysShape, number_in, option, with_rules}
+use Rattle.mc_options.specs.Options.{AreMixes, MixNames, SaysShape, bounds, number_in, option, others, sizes, with_rules}
 use Rattle.mc_options.specs.declared.load_options.LoadOptions.{LoadOptions}
 
 -- ---- the options
@@ -22,30 +21,12 @@ AreCommands names = map (λ name. name.now) names.now ≡ codes "run" ∷ []
 abbrev pub command_rule : MixNames → Rule
 command_rule names = record (new_rule (codes "command")) { parser = Some (parser.Names names); required = true }
 
-abbrev pub load_sizes : List Rule
-load_sizes =
-    option (codes "buckets") (parser.Signed (pos 0) (pos 4294967295)) (codes "1024")
-    ∷ option (codes "items") (parser.Signed (pos 0) (pos 4294967295)) (codes "3072")
-    ∷ option (codes "stripes") (parser.Signed (pos 0) (pos 4294967295)) (codes "8192")
-    ∷ []
-
-abbrev pub load_bounds : List Rule
-load_bounds =
-    option (codes "depth") (parser.Signed (pos 0) (pos 255)) (codes "5")
-    ∷ option (codes "tries") (parser.Signed (pos 0) (pos 255)) (codes "8")
-    ∷ option (codes "limit") (parser.Unsigned 0 18446744073709551615) (codes "4611686018427387904")
-    ∷ []
-
-abbrev pub load_counts : MixNames → List Rule
-load_counts mixes =
-    option (codes "mix") (parser.Names mixes) (codes "fmix")
-    ∷ option (codes "readers") (parser.Signed (pos 0) (pos 4294967295)) (codes "3")
-    ∷ option (codes "lookups") (parser.Signed (pos 0) (pos 1048576)) (codes "2000")
-    ∷ []
-
+-- the options of `mcload` that have values and that `mcstep` has not
 abbrev pub load_draws : List Rule
 load_draws =
-    option (codes "writes") (parser.Signed (pos 0) (pos 1048576)) (codes "2000")
+    option (codes "lookups") (parser.Signed (pos 0) (pos 1048576)) (codes "2000")
+    ∷ option (codes "many") (parser.Signed (pos 1) (pos 64)) (codes "1")
+    ∷ option (codes "writes") (parser.Signed (pos 0) (pos 1048576)) (codes "2000")
     ∷ option (codes "keys") (parser.Unsigned 0 18446744073709551615) (codes "64")
     ∷ option (codes "seed") (parser.Unsigned 0 18446744073709551615) (codes "1")
     ∷ []
@@ -58,8 +39,11 @@ histogram_rule = record (new_rule (codes "histogram")) { long = Some (codes "his
 abbrev pub mcload_command : MixNames → App
 mcload_command commands = with_rules (on_top (λ s. record s { has_version = true }) (new_app (codes "mcload"))) (command_rule commands ∷ [])
 
+abbrev pub load_shared : MixNames → App → App
+load_shared mixes app = with_rules (with_rules (with_rules app (sizes (codes "1024") (codes "3072") (codes "8192"))) (bounds (codes "5") (codes "8"))) (others mixes (codes "fmix") (codes "3"))
+
 abbrev pub load_program : MixNames → MixNames → App
-load_program commands mixes = with_rules (with_rules (with_rules (with_rules (with_rules (mcload_command commands) load_sizes) load_bounds) (load_counts mixes)) load_draws) (histogram_rule ∷ [])
+load_program commands mixes = with_rules (with_rules (load_shared mixes (mcload_command commands)) load_draws) (histogram_rule ∷ [])
 
 -- ---- what their texts say
 
@@ -72,6 +56,7 @@ pub record SaysLoad (rows : List Row) (o : LoadOptions) : Type 0 where
   pub shape : SaysShape rows o.shape
   pub readers : option_and_then (number_in 0 4294967295) (first_of (codes "readers") rows) ≡ Some o.readers
   pub lookups : option_and_then (number_in 0 1048576) (first_of (codes "lookups") rows) ≡ Some o.lookups
+  pub many : option_and_then (number_in 1 64) (first_of (codes "many") rows) ≡ Some o.many
   pub writes : option_and_then (number_in 0 1048576) (first_of (codes "writes") rows) ≡ Some o.writes
   pub keys : option_and_then (number_in 0 18446744073709551615) (first_of (codes "keys") rows) ≡ Some o.keys
   pub seed : option_and_then (number_in 0 18446744073709551615) (first_of (codes "seed") rows) ≡ Some o.seed

@@ -32,26 +32,30 @@ AreMixes names = map (λ name. name.now) names.now ≡ codes "plain" ∷ codes "
 abbrev pub option : Text → ValueParser → Text → Rule
 option name takes default = record (new_rule name) { long = Some name; parser = Some takes; defaults = default ∷ [] }
 
-abbrev pub sizes : List Rule
-sizes =
-    option (codes "buckets") (parser.Signed (pos 0) (pos 4294967295)) (codes "4")
-    ∷ option (codes "items") (parser.Signed (pos 0) (pos 4294967295)) (codes "16")
-    ∷ option (codes "stripes") (parser.Signed (pos 0) (pos 4294967295)) (codes "1")
+-- the options that both programs have, each with its default
+abbrev pub sizes : Text → Text → Text → List Rule
+sizes buckets items stripes =
+    option (codes "buckets") (parser.Signed (pos 0) (pos 4294967295)) buckets
+    ∷ option (codes "items") (parser.Signed (pos 0) (pos 4294967295)) items
+    ∷ option (codes "stripes") (parser.Signed (pos 0) (pos 4294967295)) stripes
     ∷ []
 
-abbrev pub bounds : List Rule
-bounds =
-    option (codes "depth") (parser.Signed (pos 0) (pos 255)) (codes "2")
-    ∷ option (codes "tries") (parser.Signed (pos 0) (pos 255)) (codes "2")
+abbrev pub bounds : Text → Text → List Rule
+bounds depth tries =
+    option (codes "depth") (parser.Signed (pos 0) (pos 255)) depth
+    ∷ option (codes "tries") (parser.Signed (pos 0) (pos 255)) tries
     ∷ option (codes "limit") (parser.Unsigned 0 18446744073709551615) (codes "4611686018427387904")
     ∷ []
 
-abbrev pub others : MixNames → List Rule
-others mixes =
-    option (codes "mix") (parser.Names mixes) (codes "plain")
-    ∷ option (codes "readers") (parser.Signed (pos 0) (pos 4294967295)) (codes "2")
-    ∷ option (codes "words") (parser.Signed (pos 1) (pos 2)) (codes "1")
+abbrev pub others : MixNames → Text → Text → List Rule
+others mixes mix readers =
+    option (codes "mix") (parser.Names mixes) mix
+    ∷ option (codes "readers") (parser.Signed (pos 0) (pos 4294967295)) readers
     ∷ []
+
+-- the option of `mcstep` alone
+abbrev pub words_rule : Rule
+words_rule = option (codes "words") (parser.Signed (pos 1) (pos 2)) (codes "1")
 
 -- the command with these options after its own
 abbrev pub with_rules : App → List Rule → App
@@ -62,7 +66,8 @@ abbrev pub mcstep_command : App
 mcstep_command = on_top (λ s. record s { has_version = true }) (new_app (codes "mcstep"))
 
 abbrev pub program : MixNames → App
-program mixes = with_rules (with_rules (with_rules mcstep_command sizes) bounds) (others mixes)
+program mixes =
+    with_rules (with_rules (with_rules (with_rules mcstep_command (sizes (codes "4") (codes "16") (codes "1"))) (bounds (codes "2") (codes "2"))) (others mixes (codes "plain") (codes "2"))) (words_rule ∷ [])
 
 -- ---- what their texts say
 

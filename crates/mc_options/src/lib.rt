@@ -1,4 +1,4 @@
-//! The command lines of `mcstep` and `mcload`, read by `clap`.
+//! The command lines of `mcstep` and `mcload`, read by `clap`, and what the programs tell on standard error.
 //!
 //! ```text
 //! let options = options_of(alloc, &["mcstep", "--buckets", "8"])?;
@@ -8,6 +8,8 @@
 
 mod load_options;
 mod options;
+mod told;
 
 pub use load_options::{LoadOptions, load_options_of};
 pub use options::{Options, options_of};
+pub use told::{FAILED, REFUSED, Refusal, tell, tell_fault};

@@ -1,11 +1,13 @@
 //! The options of `mcload`.
 ghost use Rattle.std.specs.Prelude.{◌≡◌, false, IfOk, MatchResult, map};
 ghost use Rattle.clap.specs.Words.{app_of, first_of, found_of, rows_of, rule_of};
-ghost use Rattle.mc_options.specs.Inside.OptionRows.{load_rules, row_rule};
+ghost use Rattle.mc_options.specs.Inside.OptionRows.{row_rule, table_rules};
 ghost use Rattle.mc_options.specs.Options.{AreMixes, MixNames};
-ghost use Rattle.mc_options.specs.LoadOptions.{AreCommands, ReadsLoad, SaysLoad, command_rule, histogram_rule, is_given, load_program, mcload_command};
+ghost use Rattle.mc_options.specs.LoadOptions.{AreCommands, ReadsLoad, SaysLoad, command_rule, histogram_rule, is_given, load_draws, load_program, mcload_command};
 
-use crate::options::{MOST_SIZE, OptionRow, VERSION, number, refusal, shape_in, with_options};
+use crate::options::{
+    Defaults, MOST_SIZE, OptionRow, VERSION, number, refusal, shape_in, shared_rows, with_options,
+};
 use clap::builder::ValueParser;
 use clap::{Arg, ArgAction, ArgMatches, Command, Error, value_parser};
 use mc_words::Shape;
@@ -19,6 +21,8 @@ pub struct LoadOptions {
     pub readers: u32,
     /// Of each reader, at most 2^20.
     pub lookups: u32,
+    /// Keys of each call of a reader, from 1 to 64.
+    pub many: u32,
     /// Calls of the writer, at most 2^20.
     pub writes: u32,
     pub keys: u64,
@@ -29,6 +33,9 @@ pub struct LoadOptions {
 
 /// The most lookups of a reader, and the most calls of the writer.
 const MOST_CALLS: u64 = 1_048_576;
+
+/// The most keys of a reader's call.
+const MOST_AT_ONCE: u64 = 64;
 
 /// What the help says of a run, behind the options.
 const RUNS: &str = "\
@@ -43,69 +50,40 @@ writes
   sum ok
   wrong 0";
 
-/// The options of `mcload` that have values, in the order of its help.
-fn load_rows<'a>() -> [OptionRow<'a>; 12]
-    ensures { (mixes : MixNames) × AreMixes mixes × (map row_rule result ≡ load_rules mixes) }
+/// The options of `mcload` that `mcstep` has too.
+fn table_rows<'a>() -> [OptionRow<'a>; 8]
+    ensures { (mixes : MixNames) × AreMixes mixes × (map row_rule result ≡ table_rules mixes) }
 {
-    let size = value_parser!(u32);
-    let byte = value_parser!(u8);
+    let defaults = Defaults {
+        buckets: "1024",
+        items: "3072",
+        stripes: "8192",
+        depth: "5",
+        tries: "8",
+        mix: "fmix",
+        readers: "3",
+    };
+    shared_rows(defaults, "The most changes of key versions, from 0 to 2^62")
+}
+
+/// The other options of `mcload` that have values, in the order of its help.
+fn load_rows<'a>() -> [OptionRow<'a>; 5]
+    ensures { map row_rule result ≡ load_draws }
+{
     let word = value_parser!(u64);
     let calls = ValueParser::Signed(0, 1_048_576);
-    let names = ["plain", "fmix"].as_slice();
     [
-        OptionRow {
-            name: "buckets",
-            takes: size,
-            default: "1024",
-            help: "Buckets of four slots, a power of two from 2 to 1048576",
-        },
-        OptionRow {
-            name: "items",
-            takes: size,
-            default: "3072",
-            help: "The most keys, from 1 to four times the buckets",
-        },
-        OptionRow {
-            name: "stripes",
-            takes: size,
-            default: "8192",
-            help: "Version counters, a power of two from 1 to 65536",
-        },
-        OptionRow {
-            name: "depth",
-            takes: byte,
-            default: "5",
-            help: "The most keys that a put moves, from 0 to 8",
-        },
-        OptionRow {
-            name: "tries",
-            takes: byte,
-            default: "8",
-            help: "Tries of a lookup, from 1 to 64",
-        },
-        OptionRow {
-            name: "limit",
-            takes: word,
-            default: "4611686018427387904",
-            help: "The most changes of key versions, from 0 to 2^62",
-        },
-        OptionRow {
-            name: "mix",
-            takes: ValueParser::Names(names),
-            default: "fmix",
-            help: "How keys are mixed: not at all, or by MurmurHash3's finalizer",
-        },
-        OptionRow {
-            name: "readers",
-            takes: size,
-            default: "3",
-            help: "Readers, from 1 to 1024",
-        },
         OptionRow {
             name: "lookups",
             takes: calls,
             default: "2000",
             help: "Lookups of each reader, from 0 to 1048576",
+        },
+        OptionRow {
+            name: "many",
+            takes: ValueParser::Signed(1, 64),
+            default: "1",
+            help: "Keys that a reader looks up by one call, from 1 to 64",
         },
         OptionRow {
             name: "writes",
@@ -164,8 +142,10 @@ fn load_named<'a>(alloc: Global) -> Result<Command<'a>, AllocError>
 fn load_command<'a>(alloc: Global) -> Result<Command<'a>, AllocError>
     ensures { IfOk result (λ c. (commands : MixNames) × (mixes : MixNames) × AreCommands commands × AreMixes mixes × (app_of c ≡ load_program commands mixes)) }
 {
-    let rows = load_rows();
+    let rows = table_rows();
     let command = with_options(alloc, load_named(alloc)?, rows.as_slice())?;
+    let rows = load_rows();
+    let command = with_options(alloc, command, rows.as_slice())?;
     command.arg(histogram_arg(alloc))
 }
 
@@ -189,6 +169,7 @@ fn load_options_in(matches: &ArgMatches) -> Result<LoadOptions, &'static str>
     };
     let readers = number(matches, "readers", 0, MOST_SIZE)?;
     let lookups = number(matches, "lookups", 0, MOST_CALLS)?;
+    let many = number(matches, "many", 1, MOST_AT_ONCE)?;
     let writes = number(matches, "writes", 0, MOST_CALLS)?;
     let keys = number(matches, "keys", 0, u64::MAX)?;
     let seed = number(matches, "seed", 0, u64::MAX)?;
@@ -196,6 +177,7 @@ fn load_options_in(matches: &ArgMatches) -> Result<LoadOptions, &'static str>
         shape,
         readers: readers as u32,
         lookups: lookups as u32,
+        many: many as u32,
         writes: writes as u32,
         keys,
         seed,

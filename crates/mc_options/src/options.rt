@@ -5,8 +5,8 @@ ghost use Rattle.std.specs.Char.{is_ascii_digit};
 ghost use Rattle.std.specs.Result.{result_ok};
 ghost use Rattle.clap.specs.Words.{app_of, first_of, found_of, kind_of, rows_of, rule_of};
 ghost use Rattle.mc_words.specs.declared.shape.Shape.{Shape};
-ghost use Rattle.mc_options.specs.Inside.OptionRows.{program_rules, row_rule};
-ghost use Rattle.mc_options.specs.Options.{AreMixes, MixNames, Reads, Says, SaysShape, mix_in, mcstep_command, number_in, program, with_rules};
+ghost use Rattle.mc_options.specs.Inside.OptionRows.{row_rule, shape_rules, shared_rules};
+ghost use Rattle.mc_options.specs.Options.{AreMixes, MixNames, Reads, Says, SaysShape, mix_in, mcstep_command, number_in, program, with_rules, words_rule};
 
 use clap::builder::ValueParser;
 use clap::error::ErrorKind;
@@ -86,9 +86,21 @@ pub(crate) fn with_options<'a>(
     Ok(command)
 }
 
-/// The options of `mcstep`, in the order of its help.
-fn option_rows<'a>() -> [OptionRow<'a>; 9]
-    ensures { (mixes : MixNames) × AreMixes mixes × (map row_rule result ≡ program_rules mixes) }
+/// The defaults of the options that both programs have.
+#[derive(Clone, Copy)]
+pub(crate) struct Defaults<'a> {
+    pub(crate) buckets: &'a str,
+    pub(crate) items: &'a str,
+    pub(crate) stripes: &'a str,
+    pub(crate) depth: &'a str,
+    pub(crate) tries: &'a str,
+    pub(crate) mix: &'a str,
+    pub(crate) readers: &'a str,
+}
+
+/// The options that both programs have, in the order of their help, with these defaults. What the limit counts is the program's to say.
+pub(crate) fn shared_rows<'a>(defaults: Defaults<'a>, limit: &'a str) -> [OptionRow<'a>; 8]
+    ensures { (mixes : MixNames) × AreMixes mixes × (map row_rule result ≡ shared_rules mixes defaults.entry) }
 {
     let size = value_parser!(u32);
     let byte = value_parser!(u8);
@@ -97,58 +109,83 @@ fn option_rows<'a>() -> [OptionRow<'a>; 9]
         OptionRow {
             name: "buckets",
             takes: size,
-            default: "4",
+            default: defaults.buckets,
             help: "Buckets of four slots, a power of two from 2 to 1048576",
         },
         OptionRow {
             name: "items",
             takes: size,
-            default: "16",
+            default: defaults.items,
             help: "The most keys, from 1 to four times the buckets",
         },
         OptionRow {
             name: "stripes",
             takes: size,
-            default: "1",
+            default: defaults.stripes,
             help: "Version counters, a power of two from 1 to 65536",
         },
         OptionRow {
             name: "depth",
             takes: byte,
-            default: "2",
+            default: defaults.depth,
             help: "The most keys that a put moves, from 0 to 8",
         },
         OptionRow {
             name: "tries",
             takes: byte,
-            default: "2",
+            default: defaults.tries,
             help: "Tries of a lookup, from 1 to 64",
         },
         OptionRow {
             name: "limit",
             takes: value_parser!(u64),
             default: "4611686018427387904",
-            help: "The most changes of key versions in a script, from 0 to 2^62",
+            help: limit,
         },
         OptionRow {
             name: "mix",
             takes: ValueParser::Names(names),
-            default: "plain",
+            default: defaults.mix,
             help: "How keys are mixed: not at all, or by MurmurHash3's finalizer",
         },
         OptionRow {
             name: "readers",
             takes: size,
-            default: "2",
+            default: defaults.readers,
             help: "Readers, from 1 to 1024",
         },
-        OptionRow {
-            name: "words",
-            takes: ValueParser::Signed(1, 2),
-            default: "1",
-            help: "Words of a value, 1 or 2",
-        },
     ]
+}
+
+/// The options of `mcstep` that `mcload` has too.
+fn shape_rows<'a>() -> [OptionRow<'a>; 8]
+    ensures { (mixes : MixNames) × AreMixes mixes × (map row_rule result ≡ shape_rules mixes) }
+{
+    let defaults = Defaults {
+        buckets: "4",
+        items: "16",
+        stripes: "1",
+        depth: "2",
+        tries: "2",
+        mix: "plain",
+        readers: "2",
+    };
+    shared_rows(
+        defaults,
+        "The most changes of key versions in a script, from 0 to 2^62",
+    )
+}
+
+/// The option of `mcstep` alone.
+fn words_row<'a>() -> OptionRow<'a>
+    ensures { row_rule result ≡ words_rule }
+{
+    OptionRow {
+        name: "words",
+        takes: ValueParser::Signed(1, 2),
+        default: "1",
+        help: "Words of a value, 1 or 2",
+    }
 }
 
 /// The command without its options.
@@ -164,8 +201,9 @@ fn named<'a>(alloc: Global) -> Command<'a>
 fn command<'a>(alloc: Global) -> Result<Command<'a>, AllocError>
     ensures { IfOk result (λ c. (mixes : MixNames) × AreMixes mixes × (app_of c ≡ program mixes)) }
 {
-    let rows = option_rows();
-    with_options(alloc, named(alloc), rows.as_slice())
+    let rows = shape_rows();
+    let command = with_options(alloc, named(alloc), rows.as_slice())?;
+    command.arg(option(alloc, &words_row()))
 }
 
 fn are_digits(text: &str) -> bool

@@ -5,7 +5,8 @@ use Rattle.mc_words.specs.Checks.{shape_of}
 use Rattle.mc_words.specs.Places.{moment}
 use Rattle.mc_words.specs.Standing.{IsAbsent}
 use Rattle.mc_theory.specs.States.{State}
-use Rattle.mc_plan.specs.Clerks.{AreBooksOf, Call, IsPlanned, IsSweepOf, PutCall, RemoveCall, Waits, quiet_of, state_after_sweep}
+use Rattle.mc_plan.specs.WholeCalls.{Call, IsSweepOf, PutCall, RemoveCall, quiet_of, state_after_sweep}
+use Rattle.mc_plan.specs.Books.{AreBooksOf, IsPlanned, Waits}
 use Rattle.mc_plan.specs.Decisions.{exchange_acts, filling_acts, removal_acts, removal_told, renewal_acts, replacement_acts, storing_acts, storing_told}
 use Rattle.mc_plan.specs.declared.answer.Answer.TheVariants as answer
 use Rattle.mc_plan.specs.declared.answer.Put.TheVariants as put

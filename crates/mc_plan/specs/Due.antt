@@ -10,7 +10,8 @@ use Rattle.mc_theory.specs.Traces.{HasVersionSteps}
 use Rattle.mc_theory.specs.declared.act.Act.{Act}
 use Rattle.mc_theory.specs.declared.act.Act.TheVariants.{Hand}
 use Rattle.mc_search.specs.Sweeps.{Swept, hand_acts, next_item}
-use Rattle.mc_plan.specs.Clerks.{Answered, AreBooksOf, Call, IsPlanned, IsSweeping, IsSweepOf, state_after_sweep}
+use Rattle.mc_plan.specs.WholeCalls.{Answered, Call, IsSweepOf, state_after_sweep}
+use Rattle.mc_plan.specs.Books.{AreBooksOf, IsPlanned, IsSweeping}
 use Rattle.mc_plan.specs.Making.{as_made, state_after_acts}
 use Rattle.mc_plan.specs.declared.answer.Answer.{Answer}
 use Rattle.mc_plan.specs.declared.books.Books.{Books}

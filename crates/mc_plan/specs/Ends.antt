@@ -4,7 +4,7 @@ use Rattle.mc_words.specs.declared.shape.Shape.{Shape}
 use Rattle.mc_theory.specs.Lists.{Made}
 use Rattle.mc_theory.specs.States.{State}
 use Rattle.mc_plan.specs.declared.answer.Answer.{Answer}
-use Rattle.mc_plan.specs.Clerks.{Answered, Call}
+use Rattle.mc_plan.specs.WholeCalls.{Answered, Call}
 
 -- acts that are a whole call are the beginning of no other, whatever it answers
 abbrev pub CallsEndOnce : ℕ → Type 0

@@ -5,6 +5,8 @@ pub mod Puts
 pub mod Replacing
 pub mod Laws
 pub mod Calls
+pub mod WholeCalls
+pub mod Books
 pub mod Decisions
 pub mod Deciding
 pub mod Clerks

@@ -33,7 +33,8 @@ pub struct Books {
 }
 
 impl Books {
-    ghost use Rattle.mc_plan.specs.Clerks.{AreBooksOf, Call, IsSweeping};
+    ghost use Rattle.mc_plan.specs.WholeCalls.{Call};
+    ghost use Rattle.mc_plan.specs.Books.{AreBooksOf, IsSweeping};
     ghost use Rattle.mc_plan.specs.Deciding.{IsDecided, IsExchanged, IsFinished, IsFinishedNear, IsInserted, IsLackingKey, IsNear, IsRemovalDecided, IsReplaced};
     ghost use Rattle.mc_plan.specs.Decisions.{acts_of_moves};
     ghost use Rattle.mc_plan.specs.Inside.Clerks.{IsReplacing};
@@ -94,7 +95,6 @@ impl Books {
         ensures many { length self.new.decided.moves.items ≡ length path.now.places.items }
         ensures keys { AreKeys V (shape_of self.old.checked) (P.words peek.old) path.now.places.items }
         ensures books { self.new ≡ record self.old { version_steps = self.old.version_steps + (2 * length path.now.places.items + 2); decided = self.new.decided } }
-        ensures same { P.words peek.new ≡ P.words peek.old }
         ensures kept { peek.new ≡ peek.old }
     {
         path_moves::<V, P>(&self.checked, peek, path, &mut self.decided.moves);
@@ -115,7 +115,6 @@ impl Books {
         requires books { (s : State V) × AreBooksOf V self.old s × (P.words peek.old ≡ s.words) }
         ensures decided { (s : State V) → AreBooksOf V self.old s → P.words peek.old ≡ s.words → IsDecided V self.new key value.now s result }
         ensures shape { self.new.checked ≡ self.old.checked }
-        ensures same { P.words peek.new ≡ P.words peek.old }
         ensures kept { peek.new ≡ peek.old }
     {
         have_words(value);
@@ -146,7 +145,6 @@ impl Books {
         requires books { (s : State V) × IsLackingKey V self.old key s at × (P.words peek.old ≡ s.words) }
         ensures near { (s : State V) → IsLackingKey V self.old key s at → P.words peek.old ≡ s.words → IsNear V self.new key value.now s at result }
         ensures shape { self.new.checked ≡ self.old.checked }
-        ensures same { P.words peek.new ≡ P.words peek.old }
         ensures kept { peek.new ≡ peek.old }
     {
         have_words(value);
@@ -173,7 +171,6 @@ impl Books {
         requires books { (s : State V) × IsLackingKey V self.old key s at × (P.words peek.old ≡ s.words) }
         ensures inserted { (s : State V) → IsLackingKey V self.old key s at → P.words peek.old ≡ s.words → IsInserted V self.new key value.now s result }
         ensures shape { self.new.checked ≡ self.old.checked }
-        ensures same { P.words peek.new ≡ P.words peek.old }
         ensures kept { peek.new ≡ peek.old }
     {
         have_words(value);
@@ -197,7 +194,6 @@ impl Books {
         requires books { (call : Call) × (s : State V) × (rs : List Swept) × IsReplacing V self.old waiting call s rs item × (P.words peek.old ≡ s.words) }
         ensures replaced { (call : Call) (s : State V) (rs : List Swept) → IsReplacing V self.old waiting.entry call s rs item → P.words peek.old ≡ s.words → IsReplaced V self.new waiting.entry call s rs result }
         ensures shape { self.new.checked ≡ self.old.checked }
-        ensures same { P.words peek.new ≡ P.words peek.old }
         ensures kept { peek.new ≡ peek.old }
     {
         have_words(&waiting.value);
@@ -223,7 +219,6 @@ impl Books {
         requires over { (call : Call) × (s : State V) × (rs : List Swept) × IsSweeping V self.old waiting call s rs × IsOver (shape_of self.old.checked).items rs × (P.words peek.old ≡ s.words) }
         ensures finished { (call : Call) (s : State V) (rs : List Swept) → IsSweeping V self.old waiting.entry call s rs → IsOver (shape_of self.old.checked).items rs → P.words peek.old ≡ s.words → IsFinished V self.new waiting.entry call s rs result }
         ensures shape { self.new.checked ≡ self.old.checked }
-        ensures same { P.words peek.new ≡ P.words peek.old }
         ensures kept { peek.new ≡ peek.old }
     {
         self.hand = waiting.sweep.hand();
@@ -245,7 +240,6 @@ impl Books {
         requires near { waiting.now.path.places.items ≡ [] }
         ensures exchanged { (call : Call) (s : State V) (rs : List Swept) → IsReplacing V self.old waiting.now call s rs item → P.words peek.old ≡ s.words → IsExchanged V self.new waiting.now call s rs result }
         ensures shape { self.new.checked ≡ self.old.checked }
-        ensures same { P.words peek.new ≡ P.words peek.old }
         ensures kept { peek.new ≡ peek.old }
     {
         have_words(&waiting.value);
@@ -276,7 +270,6 @@ impl Books {
         requires near { waiting.now.path.places.items ≡ [] }
         ensures finished { (call : Call) (s : State V) (rs : List Swept) → IsSweeping V self.old waiting.now call s rs → IsOver (shape_of self.old.checked).items rs → P.words peek.old ≡ s.words → IsFinishedNear V self.new waiting.now call s rs result }
         ensures shape { self.new.checked ≡ self.old.checked }
-        ensures same { P.words peek.new ≡ P.words peek.old }
         ensures kept { peek.new ≡ peek.old }
     {
         self.hand = waiting.sweep.hand();
@@ -291,7 +284,6 @@ impl Books {
         requires books { (s : State V) × AreBooksOf V self.old s × (P.words peek.old ≡ s.words) }
         ensures decided { (s : State V) → AreBooksOf V self.old s → P.words peek.old ≡ s.words → IsRemovalDecided V self.new key s result }
         ensures shape { self.new.checked ≡ self.old.checked }
-        ensures same { P.words peek.new ≡ P.words peek.old }
         ensures kept { peek.new ≡ peek.old }
     {
         if self.is_spent(2) {

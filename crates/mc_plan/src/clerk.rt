@@ -41,7 +41,8 @@ pub struct Clerk<const V: usize> {
 
 impl<const V: usize> Clerk<V> {
     ghost use Rattle.mc_theory.specs.declared.act.Act.{Act};
-    ghost use Rattle.mc_plan.specs.Clerks.{Call, PutCall, RemoveCall, Knows, IsOn, HasCall, Answered, next_act, acts_left, shape_of_clerk};
+    ghost use Rattle.mc_plan.specs.WholeCalls.{Call, PutCall, RemoveCall, Answered};
+    ghost use Rattle.mc_plan.specs.Clerks.{Knows, IsOn, HasCall, next_act, acts_left, shape_of_clerk};
     ghost use Rattle.mc_plan.specs.Inside.Clerks.{HasEndedSweep};
     ghost use Rattle.mc_search.specs.Sweeps.{Swept, hand_acts};
 
@@ -66,7 +67,6 @@ impl<const V: usize> Clerk<V> {
         ensures on { (s : State V) → Knows V self.old s → P.words peek.old ≡ s.words → IsOn V self.new (PutCall key value.entry) s [] }
         ensures left { acts_left self.new ≤ 2 * (shape_of_clerk self.new).items + 64 }
         ensures shape { shape_of_clerk self.new ≡ shape_of_clerk self.old }
-        ensures same { P.words peek.new ≡ P.words peek.old }
         ensures kept { peek.new ≡ peek.old }
     {
         self.plan.clear();
@@ -83,7 +83,6 @@ impl<const V: usize> Clerk<V> {
         ensures on { (s : State V) → Knows V self.old s → P.words peek.old ≡ s.words → IsOn V self.new (RemoveCall key) s [] }
         ensures left { acts_left self.new ≤ 64 }
         ensures shape { shape_of_clerk self.new ≡ shape_of_clerk self.old }
-        ensures same { P.words peek.new ≡ P.words peek.old }
         ensures kept { peek.new ≡ peek.old }
     {
         self.plan.clear();
@@ -110,7 +109,6 @@ impl<const V: usize> Clerk<V> {
         ensures on { (call : Call) (s : State V) (rs : List Swept) → HasEndedSweep V self.old call s rs → P.words peek.old ≡ s.words → IsOn V self.new call s (hand_acts rs) }
         ensures left { acts_left self.new ≤ 64 }
         ensures shape { shape_of_clerk self.new ≡ shape_of_clerk self.old }
-        ensures same { P.words peek.new ≡ P.words peek.old }
         ensures kept { peek.new ≡ peek.old }
     {
         let stage = mem::replace(&mut self.stage, Stage::Idle);
@@ -127,7 +125,6 @@ impl<const V: usize> Clerk<V> {
         ensures on { (call : Call) (s : State V) (acts : List Made) (a : Act) → IsOn V self.old call s acts → next_act self.old ≡ Some a → P.words peek.old ≡ (after_all (shape_of_clerk self.old) s (acts ++ record { act = a; bit = word } ∷ [])).words → IsOn V self.new call s (acts ++ record { act = a; bit = word } ∷ []) }
         ensures left { acts_left self.new < acts_left self.old }
         ensures shape { shape_of_clerk self.new ≡ shape_of_clerk self.old }
-        ensures same { P.words peek.new ≡ P.words peek.old }
         ensures kept { peek.new ≡ peek.old }
     {
         match &mut self.stage {

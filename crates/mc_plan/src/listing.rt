@@ -4,7 +4,8 @@ ghost use Rattle.arrayvec.specs.ArrayVec.{array_vec_len};
 ghost use Rattle.mc_words.specs.Checks.{shape_of};
 ghost use Rattle.mc_words.specs.Places.{IsWidth};
 ghost use Rattle.mc_theory.specs.States.{State};
-ghost use Rattle.mc_plan.specs.Clerks.{AreBooksOf, Call, IsPlanned, IsSweepOf, IsSweeping, RemoveCall, state_after_sweep};
+ghost use Rattle.mc_plan.specs.WholeCalls.{Call, IsSweepOf, RemoveCall, state_after_sweep};
+ghost use Rattle.mc_plan.specs.Books.{AreBooksOf, IsPlanned, IsSweeping};
 ghost use Rattle.mc_plan.specs.Deciding.{IsLackingKey};
 ghost use Rattle.mc_plan.specs.Decisions.{removal_acts, renewal_acts, replacement_acts, storing_acts};
 ghost use Rattle.mc_plan.specs.Inside.Clerks.{IsStarted};
@@ -97,7 +98,6 @@ fn start_insert<const V: usize, P: Peek>(
     ensures started { (s : State V) → IsLackingKey V books.old key s at → P.words peek.old ≡ s.words → IsStarted V books.new plan.new.items key value.now s result }
     ensures fits { array_vec_len plan.new ≤ 64 }
     ensures shape { books.new.checked ≡ books.old.checked }
-    ensures same { P.words peek.new ≡ P.words peek.old }
     ensures kept { peek.new ≡ peek.old }
 {
     match books.insert::<V, P>(peek, key, value, at) {
@@ -124,7 +124,6 @@ pub(crate) fn start_put<const V: usize, P: Peek>(
     ensures started { (s : State V) → AreBooksOf V books.old s → P.words peek.old ≡ s.words → IsStarted V books.new plan.new.items key value.now s result }
     ensures fits { array_vec_len plan.new ≤ 64 }
     ensures shape { books.new.checked ≡ books.old.checked }
-    ensures same { P.words peek.new ≡ P.words peek.old }
     ensures kept { peek.new ≡ peek.old }
 {
     match books.decide::<V, P>(peek, key, value) {
@@ -149,7 +148,6 @@ pub(crate) fn finish_put<const V: usize, P: Peek>(
     ensures planned { (call : Call) (s : State V) (rs : List Swept) → IsSweeping V books.old waiting.entry call s rs → IsOver (shape_of books.old.checked).items rs → P.words peek.old ≡ s.words → IsPlanned V books.new plan.new.items call s (state_after_sweep V (shape_of books.old.checked) s rs) (answer.Put result) × IsSweepOf V (shape_of books.old.checked) s rs (answer.Put result) }
     ensures fits { array_vec_len plan.new ≤ 64 }
     ensures shape { books.new.checked ≡ books.old.checked }
-    ensures same { P.words peek.new ≡ P.words peek.old }
     ensures kept { peek.new ≡ peek.old }
 {
     let key = waiting.key;
@@ -172,7 +170,6 @@ pub(crate) fn start_removal<const V: usize, P: Peek>(
     ensures planned { (s : State V) → AreBooksOf V books.old s → P.words peek.old ≡ s.words → IsPlanned V books.new plan.new.items (RemoveCall key) s s (answer.Remove result) }
     ensures fits { array_vec_len plan.new ≤ 64 }
     ensures shape { books.new.checked ≡ books.old.checked }
-    ensures same { P.words peek.new ≡ P.words peek.old }
     ensures kept { peek.new ≡ peek.old }
 {
     let removal = books.decide_removal::<V, P>(peek, key);

@@ -36,7 +36,6 @@ fn key_in<const V: usize, P: Peek>(checked: &Checked, peek: &mut P, word: u64) -
     requires words { word_count V (shape_of checked.now) ≤ length (P.words peek.old) }
     requires named { NamesSome (shape_of checked.now) word }
     ensures value { result ≡ item V (shape_of checked.now) (P.words peek.old) (item_in word) 0 }
-    ensures same { P.words peek.new ≡ P.words peek.old }
     ensures kept { peek.new ≡ peek.old }
 {
     key_at::<V, P>(checked, peek, checked.item_in(word))
@@ -58,7 +57,6 @@ pub fn path_moves<const V: usize, P: Peek>(
     ensures moves { acts_of_moves moves.new.items ≡ moves_acts V (shape_of checked.now) (P.words peek.old) path.now.places.items path.now.hole }
     ensures many { length moves.new.items ≡ length path.now.places.items }
     ensures keys { AreKeys V (shape_of checked.now) (P.words peek.old) path.now.places.items }
-    ensures same { P.words peek.new ≡ P.words peek.old }
     ensures kept { peek.new ≡ peek.old }
 {
     moves.clear();
@@ -105,7 +103,6 @@ pub fn add_moves<const V: usize, P: Peek>(
     ensures items { acts.new.items ≡ acts.old.items ++ moves_acts V (shape_of checked.now) (P.words peek.old) path.now.places.items path.now.hole }
     ensures many { array_vec_len acts.new ≡ array_vec_len acts.old + 4 * length path.now.places.items }
     ensures keys { AreKeys V (shape_of checked.now) (P.words peek.old) path.now.places.items }
-    ensures same { P.words peek.new ≡ P.words peek.old }
     ensures kept { peek.new ≡ peek.old }
 {
     let mut moves = ArrayVec::new();
@@ -122,7 +119,6 @@ pub fn plan_moves<const V: usize, P: Peek>(checked: &Checked, peek: &mut P, path
     requires chain { (k : ℕ) × IsChain (shape_of checked.now) (P.words peek.old) k path.now.places.items path.now.hole }
     ensures items { result.items ≡ moves_acts V (shape_of checked.now) (P.words peek.old) path.now.places.items path.now.hole }
     ensures law { MakesRoom V (shape_of checked.now) (P.words peek.old) path.now.places.items path.now.hole result.items }
-    ensures same { P.words peek.new ≡ P.words peek.old }
     ensures kept { peek.new ≡ peek.old }
 {
     let mut acts = ArrayVec::new();

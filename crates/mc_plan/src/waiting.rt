@@ -26,7 +26,8 @@ pub struct Waiting<const V: usize> {
 }
 
 impl<const V: usize> Waiting<V> {
-    ghost use Rattle.mc_plan.specs.Clerks.{Call, IsSweeping, PutCall, Waits};
+    ghost use Rattle.mc_plan.specs.WholeCalls.{Call, PutCall};
+    ghost use Rattle.mc_plan.specs.Books.{IsSweeping, Waits};
     ghost use Rattle.mc_plan.specs.declared.books.Books.{Books};
     ghost use Rattle.mc_search.specs.Sweeps.{Swept, IsOver, next_item};
 

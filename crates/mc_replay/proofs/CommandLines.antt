@@ -8,7 +8,8 @@ use Rattle.mc_theory.specs.Lists.{state_of}
 use Rattle.mc_theory.specs.States.{State}
 use Rattle.mc_theory.specs.Traces.{Trace}
 use Rattle.mc_plan.specs.Clerks as clerks
-use Rattle.mc_plan.specs.Clerks.{Answered, Call, Knows, next_act, acts_left}
+use Rattle.mc_plan.specs.WholeCalls.{Answered, Call}
+use Rattle.mc_plan.specs.Clerks.{Knows, next_act, acts_left}
 use Rattle.mc_plan.specs.declared.answer.Answer.{Answer}
 use Rattle.mc_plan.specs.declared.clerk.Clerk.{Clerk}
 use Rattle.mc_replay.specs.declared.fault.Fault.{Fault}

@@ -16,7 +16,8 @@ use Rattle.mc_script.proofs.Lines.{lines-step, lines-nil, after_lines-step, afte
 use Rattle.mc_replay.specs.declared.fault.Fault.{Fault}
 use Rattle.mc_replay.specs.declared.fault.Fault.TheVariants.{ReadFailed, NoMemory, TooLong, NotACommand, BadNumber, NoSuchReader, StillRunning, NothingToStep, WriteFailed}
 use Rattle.mc_replay.specs.Replay.{Replay, first_replay, Does}
-use Rattle.mc_replay.specs.Scripts.{SaidDoes, IsTooLong, IsReaders, LineDoes, Plays, Stopped, StopsUndone, StopsRefused, StopsBy, StopsBefore, ReadsStopped, ReadsScript, ReplaysKnown}
+use Rattle.mc_words.specs.Readers.{HasReaders, most_readers}
+use Rattle.mc_replay.specs.Scripts.{SaidDoes, IsTooLong, LineDoes, Plays, Stopped, StopsUndone, StopsRefused, StopsBy, StopsBefore, ReadsStopped, ReadsScript, ReplaysKnown}
 use Rattle.mc_replay.specs.Faults.{fault_of}
 use Rattle.mc_replay.specs.Inside.Players.{DoneAs, HasRoom, IsRefusedAs, most_before, most_steps}
 use Rattle.mc_replay.specs.Inside.Steps.{DoesLine, PlaysLine, PlaysKnown, SoFar, KnownSoFar, is_wanting}
@@ -192,7 +193,7 @@ known_more V sh start (Some x) (Some y) (Some z) old new newer before s t so_far
     )
 
 -- the whole script was played
-pub replays_all : (V : ℕ) (sh : Shape) (readers : ℕ) (a b c old new newer : Option (List ℕ)) (before : ℕ) (s t : Replay V) → IsReaders readers → KnownSoFar V sh (first_replay V sh readers) a b old new before s
+pub replays_all : (V : ℕ) (sh : Shape) (readers : ℕ) (a b c old new newer : Option (List ℕ)) (before : ℕ) (s t : Replay V) → HasReaders readers → KnownSoFar V sh (first_replay V sh readers) a b old new before s
     → PlaysKnown V sh before s t b c new newer (Ok false) → ReplaysKnown V sh readers a c old newer (Ok tt)
 replays_all V sh readers None b c old new newer before s t many so_far plays = tt
 replays_all V sh readers (Some x) None c old new newer before s t many so_far plays = absurd so_far
@@ -277,7 +278,7 @@ stops_by V sh start x y rest old new newer before s t WriteFailed so_far reads p
 )
 
 -- the script stopped
-pub replays_part : (V : ℕ) (sh : Shape) (readers : ℕ) (a b c old new newer : Option (List ℕ)) (before : ℕ) (s t : Replay V) (fault : Fault) → IsReaders readers
+pub replays_part : (V : ℕ) (sh : Shape) (readers : ℕ) (a b c old new newer : Option (List ℕ)) (before : ℕ) (s t : Replay V) (fault : Fault) → HasReaders readers
     → KnownSoFar V sh (first_replay V sh readers) a b old new before s → PlaysKnown V sh before s t b c new newer (Err fault) → ReplaysKnown V sh readers a c old newer (Err (record { line = before + 1; fault = fault }))
 replays_part V sh readers None b c old new newer before s t fault many so_far plays = tt
 replays_part V sh readers (Some x) None c old new newer before s t fault many so_far plays = absurd so_far
@@ -302,15 +303,15 @@ replays_none V sh readers (Some x) old fault refused = (inl (refl, refl), inl (r
 
 -- ---- how many readers there may be
 -- the world was refused for its readers
-pub no_readers : {A : Type 0} (readers : ℕ) → (A ↔ ((readers ≡ 0) ⊎ (1024 < readers))) → A → IsReaders readers → ⊥
+pub no_readers : {A : Type 0} (readers : ℕ) → (A ↔ ((readers ≡ 0) ⊎ (most_readers < readers))) → A → HasReaders readers → ⊥
 no_readers readers is refused many = elim (is.0 refused) [
   | inl none ↦ omega (arith, many.0, none)
   | inr more ↦ omega (arith, many.1, more)
 ]
 
 -- it was not
-pub some_readers : {A : Type 0} (readers : ℕ) → (A ↔ ((readers ≡ 0) ⊎ (1024 < readers))) → (A → ⊥) → IsReaders readers
+pub some_readers : {A : Type 0} (readers : ℕ) → (A ↔ ((readers ≡ 0) ⊎ (most_readers < readers))) → (A → ⊥) → HasReaders readers
 some_readers readers is allowed =
     let some : readers ≢ 0 = λ none. allowed (is.1 (inl none)) in
-    let few : (1024 < readers) → ⊥ = λ more. allowed (is.1 (inr more)) in
+    let few : (most_readers < readers) → ⊥ = λ more. allowed (is.1 (inr more)) in
     (omega (arith, some), omega (arith, few))

@@ -20,7 +20,8 @@ use Rattle.mc_theory.specs.declared.act.Act.{Act}
 use Rattle.mc_theory.specs.declared.act.Act.TheVariants.{Open, Slot, Item, Moment, Close, Hand, Mark}
 use Rattle.mc_theory.specs.declared.event.Event.TheVariants as event
 use Rattle.mc_plan.specs.Clerks as clerks
-use Rattle.mc_plan.specs.Clerks.{Call, Answered, Knows, IsOn, next_act, acts_left}
+use Rattle.mc_plan.specs.WholeCalls.{Call, Answered}
+use Rattle.mc_plan.specs.Clerks.{Knows, IsOn, next_act, acts_left}
 use Rattle.mc_plan.specs.declared.answer.Answer.{Answer}
 use Rattle.mc_plan.specs.declared.clerk.Clerk.{Clerk}
 use Rattle.mc_plan.specs.declared.clerk.Stage.{Stage}

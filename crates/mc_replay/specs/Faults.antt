@@ -1,4 +1,4 @@
--- The numbers of the faults at which a script stops, and the exit status of each.
+-- The numbers of the faults at which a script stops.
 use Rattle.std.specs.Prelude.{ℕ, ◌==◌, if◌then◌else◌, Option, Some, None, Result, Ok, Err}
 use Rattle.mc_script.specs.declared.command.LineFault.{LineFault}
 use Rattle.mc_script.specs.declared.command.LineFault.TheVariants as said
@@ -22,18 +22,6 @@ fault_number WriteFailed = 9
 abbrev pub fault_at : ℕ → Option Fault
 fault_at n = if n == 1 then Some ReadFailed else (if n == 2 then Some NoMemory else (if n == 3 then Some TooLong else (if n == 4 then Some NotACommand else (if n == 5 then Some BadNumber else (if n == 6 then Some NoSuchReader else (if n == 7 then Some StillRunning else (if n == 8 then Some NothingToStep else (if n == 9 then Some WriteFailed else (None)))))))))
 
--- 2 where the script is at fault, 3 where the machine is
-abbrev pub status_of : Fault → ℕ
-status_of ReadFailed = 3
-status_of NoMemory = 3
-status_of TooLong = 2
-status_of NotACommand = 2
-status_of BadNumber = 2
-status_of NoSuchReader = 2
-status_of StillRunning = 2
-status_of NothingToStep = 2
-status_of WriteFailed = 3
-
 abbrev pub fault_of : LineFault → Fault
 fault_of said.NotACommand = NotACommand
 fault_of said.BadNumber = BadNumber
@@ -42,8 +30,3 @@ fault_of said.BadNumber = BadNumber
 abbrev pub as_replay_error : Result (Unit {0}) Stop → Result (Unit {0}) ReplayError
 as_replay_error (Ok u) = Ok u
 as_replay_error (Err stop) = Err (record { line = stop.line; number = fault_number stop.fault })
-
--- the exit status
-abbrev pub exit_of : Result (Unit {0}) Stop → ℕ
-exit_of (Ok u) = 0
-exit_of (Err stop) = status_of stop.fault

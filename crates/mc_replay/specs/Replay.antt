@@ -10,7 +10,7 @@ use Rattle.mc_theory.specs.States.{State}
 use Rattle.mc_theory.specs.Traces.{Trace, OpenLookup, Ended, IsTrueEnd, first_trace, Steps, StepsAll}
 use Rattle.mc_theory.specs.declared.act.Act.TheVariants.{Mark}
 use Rattle.mc_theory.specs.declared.event.Event.TheVariants as event
-use Rattle.mc_plan.specs.Clerks.{Call, PutCall, RemoveCall, Answered, quiet_of}
+use Rattle.mc_plan.specs.WholeCalls.{Call, PutCall, RemoveCall, Answered, quiet_of}
 use Rattle.mc_plan.specs.declared.answer.Answer.{Answer}
 use Rattle.mc_script.specs.declared.command.Command.{Command}
 use Rattle.mc_script.specs.declared.command.Command.TheVariants as command

@@ -2,6 +2,7 @@
 use Rattle.std.specs.Prelude.{◌≡◌, ℕ, ◌+◌, ◌-◌, ◌^◌, ◌<◌, ◌≤◌, ◌⊎◌, List, [], ◌∷◌, ◌++◌, length, take, Option, Some, None, Bool, true, Result, Ok, Err}
 use Rattle.std.specs.Io.KnownBytes.{Keeps, Appends}
 use Rattle.mc_words.specs.declared.shape.Shape.{Shape}
+use Rattle.mc_words.specs.Readers.{HasReaders}
 use Rattle.mc_script.specs.declared.command.Command.{Command}
 use Rattle.mc_script.specs.declared.command.LineFault.{LineFault}
 use Rattle.mc_script.specs.Commands.{command_in}
@@ -67,22 +68,18 @@ StopsBy V sh start lines old new line NoMemory = StopsUndone V sh start lines ol
 StopsBy V sh start lines old new line WriteFailed = StopsUnwritten V sh start lines old new line
 StopsBy V sh start lines old new line fault = StopsRefused V sh start lines old new line fault
 
--- how many readers there may be
-abbrev pub IsReaders : ℕ → Type 0
-IsReaders readers = (1 ≤ readers) × (readers ≤ 1024)
-
 -- no line was read, and nothing written: the number of readers is refused, or there is no memory for the table
 abbrev pub StopsBefore : ℕ → Option (List ℕ) → Option (List ℕ) → Fault → Type 0
-StopsBefore readers old new NoSuchReader = (IsReaders readers → ⊥) × Keeps old new
-StopsBefore readers old new NoMemory = IsReaders readers × Keeps old new
+StopsBefore readers old new NoSuchReader = (HasReaders readers → ⊥) × Keeps old new
+StopsBefore readers old new NoMemory = HasReaders readers × Keeps old new
 StopsBefore readers old new fault = ⊥
 
 -- what a replay of these lines writes, and where it stops; line 0 is that before any line
 abbrev pub Replays : (V : ℕ) → Shape → ℕ → List (List ℕ) → Option (List ℕ) → Option (List ℕ) → Result (Unit {0}) Stop → Type 0
-Replays V sh readers lines old new (Ok u) = IsReaders readers × ((text : List ℕ) × (t : Replay V) × Plays V sh 0 (first_replay V sh readers) lines text t × Appends old new text)
+Replays V sh readers lines old new (Ok u) = HasReaders readers × ((text : List ℕ) × (t : Replay V) × Plays V sh 0 (first_replay V sh readers) lines text t × Appends old new text)
 Replays V sh readers lines old new (Err stop) =
     ((stop.line ≡ 0) × StopsBefore readers old new stop.fault) ⊎
-    ((0 < stop.line) × IsReaders readers × StopsBy V sh (first_replay V sh readers) lines old new stop.line stop.fault)
+    ((0 < stop.line) × HasReaders readers × StopsBy V sh (first_replay V sh readers) lines old new stop.line stop.fault)
 
 -- of these bytes one line was read, with this result: what is left is what the reading of a line leaves
 abbrev pub ReadsLine : List ℕ → Option (List ℕ) → Result Bool ReadFault → Type 0

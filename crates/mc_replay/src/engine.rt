@@ -4,7 +4,8 @@ ghost use Rattle.mc_words.specs.Checks.{shape_of};
 ghost use Rattle.mc_words.specs.Places.{IsWidth};
 ghost use Rattle.mc_replay.specs.Faults.{as_replay_error};
 ghost use Rattle.mc_replay.specs.Replay.{Replay, first_replay};
-ghost use Rattle.mc_replay.specs.Scripts.{ReplaysKnown, IsReaders};
+ghost use Rattle.mc_replay.specs.Scripts.{ReplaysKnown};
+ghost use Rattle.mc_words.specs.Readers.{HasReaders};
 ghost use Rattle.mc_replay.specs.Inside.Players.{Fits, FitsStill, shape_of_player, most_before};
 ghost use Rattle.mc_replay.specs.Inside.Steps.{DoesLine, PlaysKnown, is_wanting};
 ghost use Rattle.mc_replay.specs.declared.fault.Stop.{Stop};
@@ -92,8 +93,8 @@ fn play_lines<const V: usize, R: BufRead, W: Write>(
     input: &mut R,
     output: &mut W,
 ) -> Result<(), Stop>
-    requires { (readers : ℕ) × IsReaders readers × Fits V player.old 0 (first_replay V (shape_of_player player.old) readers) }
-    ensures { (readers : ℕ) → IsReaders readers → Fits V player.old 0 (first_replay V (shape_of_player player.old) readers) → ReplaysKnown V (shape_of_player player.old) readers (R.remaining input.old) (R.remaining input.new) (W.contents output.old) (W.contents output.new) result }
+    requires { (readers : ℕ) × HasReaders readers × Fits V player.old 0 (first_replay V (shape_of_player player.old) readers) }
+    ensures { (readers : ℕ) → HasReaders readers → Fits V player.old 0 (first_replay V (shape_of_player player.old) readers) → ReplaysKnown V (shape_of_player player.old) readers (R.remaining input.old) (R.remaining input.new) (W.contents output.old) (W.contents output.new) result }
 {
     let mut text = String::new(alloc);
     'lines: for before in 0..u64::MAX {

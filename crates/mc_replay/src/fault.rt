@@ -1,6 +1,6 @@
 //! Why a script stops, and at which line.
 ghost use Rattle.std.specs.Prelude.{◌≡◌, Some};
-ghost use Rattle.mc_replay.specs.Faults.{fault_at, fault_number, status_of, fault_of};
+ghost use Rattle.mc_replay.specs.Faults.{fault_at, fault_number, fault_of};
 ghost use Rattle.mc_replay.specs.FaultTexts.{error_text, fault_text, refusal_text, stop_text};
 
 use mc_script::LineFault;
@@ -53,21 +53,6 @@ impl Fault {
             Fault::StillRunning => 7,
             Fault::NothingToStep => 8,
             Fault::WriteFailed => 9,
-        }
-    }
-
-    /// The exit status of a program that stops by it.
-    pub fn status(self) -> u8
-        ensures { result ≡ status_of self }
-    {
-        match self {
-            Fault::ReadFailed | Fault::NoMemory | Fault::WriteFailed => 3,
-            Fault::TooLong
-            | Fault::NotACommand
-            | Fault::BadNumber
-            | Fault::NoSuchReader
-            | Fault::StillRunning
-            | Fault::NothingToStep => 2,
         }
     }
 

@@ -5,7 +5,7 @@ ghost use Rattle.mc_words.specs.Places.{IsWidth};
 ghost use Rattle.mc_theory.specs.Traces as traces;
 ghost use Rattle.mc_plan.specs.Clerks.{next_act, acts_left};
 ghost use Rattle.mc_replay.specs.Replay.{Pending, first_replay};
-ghost use Rattle.mc_replay.specs.Scripts.{IsReaders};
+ghost use Rattle.mc_words.specs.Readers.{HasReaders};
 ghost use Rattle.mc_replay.specs.Inside.Players.{Begins, Completes, Fits, HasRoom, IsIdle, IsInCall, MakesAct, CallIsWhole, IsMarked, Looks, shape_of_player, bit_given, call_of, IsRefusedAs};
 ghost use Rattle.mc_replay.specs.declared.fault.Fault.TheVariants.{NoMemory};
 
@@ -44,7 +44,7 @@ impl<const V: usize> Player<V> {
         requires { IsWidth V }
         ensures fits { IfOk result (λ player. Fits V player 0 (first_replay V (shape_of checked.now) readers)) }
         ensures shape { IfOk result (λ player. shape_of_player player ≡ shape_of checked.now) }
-        ensures readers { OnOk result (IsReaders readers) }
+        ensures readers { OnOk result (HasReaders readers) }
         ensures refused { IfErr result (λ fault. IsRefusedAs readers fault) }
     {
         let world = match World::new(alloc, checked, readers) {

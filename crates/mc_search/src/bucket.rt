@@ -26,7 +26,6 @@ pub(crate) fn hole_in<P: Peek>(checked: &Checked, peek: &mut P, bucket: u32) -> 
     requires in_table { bucket < (shape_of checked.now).buckets }
     ensures found { MatchOption result (IsFull (shape_of checked.now) (P.words peek.old) bucket) (IsHoleIn (shape_of checked.now) (P.words peek.old) bucket) }
     ensures least { IfSome result (λ h. (j : ℕ) → j < h.slot → slot (shape_of checked.now) (P.words peek.old) (4 * bucket + j) ≢ 0) }
-    ensures same { P.words peek.new ≡ P.words peek.old }
     ensures kept { peek.new ≡ peek.old }
 {
     for slot in 0..4 {

@@ -51,7 +51,6 @@ fn hole_in_either<P: Peek>(
     ensures found { IfSome result (λ h. IsHoleIn (shape_of checked.now) (P.words peek.old) first h ⊎ IsHoleIn (shape_of checked.now) (P.words peek.old) second h) }
     ensures first { IfNone result (IsFull (shape_of checked.now) (P.words peek.old) first) }
     ensures second { IfNone result (IsFull (shape_of checked.now) (P.words peek.old) second) }
-    ensures same { P.words peek.new ≡ P.words peek.old }
     ensures kept { peek.new ≡ peek.old }
 {
     if let Some(hole) = hole_in(checked, peek, first) {

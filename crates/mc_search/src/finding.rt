@@ -27,7 +27,6 @@ fn find_in<const V: usize, P: Peek>(
     ensures found { IfSome result (λ r. Stands V (shape_of checked.now) (P.words peek.old) key (slot_number r.0) r.1) }
     ensures place { IfSome result (λ r. IsPlace (shape_of checked.now) r.0) }
     ensures none { IfNone result (IsNotAmong V (shape_of checked.now) (P.words peek.old) key bucket 4) }
-    ensures same { P.words peek.new ≡ P.words peek.old }
     ensures kept { peek.new ≡ peek.old }
 {
     for slot in 0..4 {
@@ -59,7 +58,6 @@ pub fn find<const V: usize, P: Peek>(
     ensures found { IfSome result (λ r. Stands V (shape_of checked.now) (P.words peek.old) key (slot_number r.0) r.1) }
     ensures place { IfSome result (λ r. IsPlace (shape_of checked.now) r.0) }
     ensures none { IfNone result (IsAbsent V (shape_of checked.now) (P.words peek.old) key) }
-    ensures same { P.words peek.new ≡ P.words peek.old }
     ensures kept { peek.new ≡ peek.old }
 {
     let tag = checked.tag(key);

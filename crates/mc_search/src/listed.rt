@@ -25,7 +25,6 @@ fn entry_at<const V: usize, P: Peek>(
     ensures stands { IfSome result (λ e. (q : ℕ) × Stands V (shape_of checked.now) (P.words peek.old) e.0 q item) }
     ensures value { (h : List (Change V)) → Agrees V (shape_of checked.now) (P.words peek.old) None h → IfSome result (λ e. map_value h e.0 ≡ Some e.1) }
     ensures none { IfNone result ((k q : ℕ) → Stands V (shape_of checked.now) (P.words peek.old) k q item → ⊥) }
-    ensures same { P.words peek.new ≡ P.words peek.old }
     ensures kept { peek.new ≡ peek.old }
 {
     let key = key_at::<V, P>(checked, peek, item);
@@ -46,7 +45,6 @@ fn list_entries<const V: usize, P: Peek>(
     requires width { IsWidth V }
     requires agrees { (h : List (Change V)) × Agrees V (shape_of checked.now) (P.words peek.old) None h }
     ensures entries { (h : List (Change V)) → Agrees V (shape_of checked.now) (P.words peek.old) None h → IfOk result (λ es. AreEntriesOf V h es.items) }
-    ensures same { P.words peek.new ≡ P.words peek.old }
     ensures kept { peek.new ≡ peek.old }
 {
     let mut entries = Vec::new(alloc);
@@ -68,7 +66,6 @@ pub fn entries<const V: usize, P: Peek>(
     requires width { IsWidth V }
     requires agrees { (h : List (Change V)) × Agrees V (shape_of checked.now) (P.words peek.old) None h }
     ensures entries { (h : List (Change V)) → Agrees V (shape_of checked.now) (P.words peek.old) None h → IfOk result (λ es. AreEntriesOf V h es.items) }
-    ensures same { P.words peek.new ≡ P.words peek.old }
     ensures kept { peek.new ≡ peek.old }
 {
     Ok(list_entries::<V, P>(alloc, checked, peek)?)

@@ -16,7 +16,6 @@ use mc_words::Checked;
 pub fn moment<P: Peek>(checked: &Checked, peek: &mut P) -> u64
     requires { 0 < length (P.words peek.old) }
     ensures value { result ≡ moment (P.words peek.old) }
-    ensures same { P.words peek.new ≡ P.words peek.old }
     ensures kept { peek.new ≡ peek.old }
 {
     peek.word(checked.moment_place())
@@ -28,7 +27,6 @@ fn value_at<const V: usize, P: Peek>(checked: &Checked, peek: &mut P, item: u32)
     requires words { word_count V (shape_of checked.now) ≤ length (P.words peek.old) }
     requires item { item < (shape_of checked.now).items }
     ensures value { HasValue V (shape_of checked.now) (P.words peek.old) item result }
-    ensures same { P.words peek.new ≡ P.words peek.old }
     ensures kept { peek.new ≡ peek.old }
 {
     let mut value = [0; V];
@@ -49,7 +47,6 @@ pub fn read<const V: usize, P: Peek>(
     ensures found { (h : List (Change V)) → Agrees V (shape_of checked.now) (P.words peek.old) None h → IfSome result (λ r. map_value h key ≡ Some r.1) }
     ensures item { IfSome result (λ r. (q : ℕ) × Stands V (shape_of checked.now) (P.words peek.old) key q r.0) }
     ensures none { (h : List (Change V)) → Agrees V (shape_of checked.now) (P.words peek.old) None h → IfNone result (map_value h key ≡ None) }
-    ensures same { P.words peek.new ≡ P.words peek.old }
     ensures kept { peek.new ≡ peek.old }
 {
     match find::<V, P>(checked, peek, key) {

@@ -41,7 +41,6 @@ fn expand<P: Peek>(
     ensures found { IfSome result (λ h. (k : ℕ) → IsSearching (shape_of checked.now) (P.words peek.old) k front queue.old.items → IsFound (shape_of checked.now) (P.words peek.old) k queue.new.items (length queue.new.items - 1) h) }
     ensures full { IfNone result (AreFull (shape_of checked.now) (P.words peek.old) queue.new.items) }
     ensures none { IfNone result ((k : ℕ) → IsSearching (shape_of checked.now) (P.words peek.old) k front queue.old.items → IsSearching (shape_of checked.now) (P.words peek.old) k (front + 1) queue.new.items) }
-    ensures same { P.words peek.new ≡ P.words peek.old }
     ensures kept { peek.new ≡ peek.old }
 {
     for slot in 0..4 {
@@ -84,7 +83,6 @@ pub(crate) fn search<P: Peek>(
     ensures size { length seen.new.items ≡ (shape_of checked.now).buckets }
     ensures found { IfSome result (λ h. (k : ℕ) → IsSearching (shape_of checked.now) (P.words peek.old) k 0 queue.old.items → IsFound (shape_of checked.now) (P.words peek.old) k queue.new.items (length queue.new.items - 1) h) }
     ensures none { IfNone result ((k : ℕ) → IsSearching (shape_of checked.now) (P.words peek.old) k 0 queue.old.items → NoChain (shape_of checked.now) (P.words peek.old) k (shape_of checked.now).depth) }
-    ensures same { P.words peek.new ≡ P.words peek.old }
     ensures kept { peek.new ≡ peek.old }
 {
     let depth = checked.shape().depth;

@@ -13,7 +13,6 @@ pub fn slot_at<P: Peek>(checked: &Checked, peek: &mut P, place: Place) -> u64
     requires words { HasSlots (shape_of checked.now) (P.words peek.old) }
     requires place { IsPlace (shape_of checked.now) place }
     ensures value { result ≡ slot (shape_of checked.now) (P.words peek.old) (slot_number place) }
-    ensures same { P.words peek.new ≡ P.words peek.old }
     ensures kept { peek.new ≡ peek.old }
 {
     peek.word(checked.slot_place(place))
@@ -28,7 +27,6 @@ pub fn word_at<const V: usize, P: Peek>(checked: &Checked, peek: &mut P, i: u32,
     requires item { i < (shape_of checked.now).items }
     requires word { j ≤ payload V }
     ensures value { result ≡ item V (shape_of checked.now) (P.words peek.old) i j }
-    ensures same { P.words peek.new ≡ P.words peek.old }
     ensures kept { peek.new ≡ peek.old }
 {
     peek.word(checked.item_place::<V>(i, j))
@@ -40,7 +38,6 @@ pub fn key_at<const V: usize, P: Peek>(checked: &Checked, peek: &mut P, i: u32) 
     requires words { word_count V (shape_of checked.now) ≤ length (P.words peek.old) }
     requires item { i < (shape_of checked.now).items }
     ensures value { result ≡ item V (shape_of checked.now) (P.words peek.old) i 0 }
-    ensures same { P.words peek.new ≡ P.words peek.old }
     ensures kept { peek.new ≡ peek.old }
 {
     word_at::<V, P>(checked, peek, i, 0)

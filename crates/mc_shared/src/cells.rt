@@ -2,6 +2,7 @@
 ghost use Rattle.std.specs.Prelude.{◌≡◌, ◌^◌, ◌<◌, ◌≤◌, ℕ, [], IfOk, All, length, slice_index};
 ghost use Rattle.mc_words.specs.Checks.{shape_of};
 ghost use Rattle.mc_words.specs.Places.{IsWidth, all_words, item_place, word_count};
+ghost use Rattle.mc_words.specs.Readers.{HasReaders};
 ghost use Rattle.mc_theory.specs.Lists.{state_of};
 ghost use Rattle.mc_shared.specs.Views.{layout_of};
 ghost use Rattle.mc_shared.specs.Records.{writer_record, new_readers, IsNewReader};
@@ -63,7 +64,7 @@ pub fn open<const V: usize>(
     readers: u32,
 ) -> Result<(Cells<V>, WriterSeat, Vec<ReaderSeat>), NoMemory>
     requires width { IsWidth V }
-    requires readers { (1 ≤ readers) × (readers ≤ 1024) }
+    requires readers { HasReaders readers }
     ensures cells { IfOk result (λ r. r.0.layout ≡ layout_of V (shape_of checked.now)) }
     ensures writer { IfOk result (λ r. r.1 ≡ writer_record r.0 [] []) }
     ensures readers { IfOk result (λ r. r.2.items ≡ new_readers r.0 readers) }

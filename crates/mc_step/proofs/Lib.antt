@@ -1,2 +1,1 @@
-pub mod ToldLines
 pub mod WholeRuns

@@ -7,7 +7,7 @@ use Rattle.mc_words.specs.Checks.{shape_of}
 use Rattle.mc_words.specs.Shapes.{IsShape}
 use Rattle.mc_options.specs.declared.options.Options.{Options}
 use Rattle.mc_options.specs.Options.{HasFault, IsUnread}
-use Rattle.mc_step.specs.Streams.{Stream, IsUntouched, TellsFault}
+use Rattle.mc_options.specs.Streams.{Stream, IsUntouched, TellsFault}
 use Rattle.mc_step.specs.Programs.{Ends, RunsOptions, Runs}
 use Rattle.mc_step.specs.Programs.Runs.{prints, refuses, is_short}
 

@@ -1,3 +1,1 @@
-pub mod ShapeTexts
-pub mod Streams
 pub mod Programs

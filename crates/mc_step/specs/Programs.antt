@@ -3,19 +3,38 @@ use Rattle.std.specs.Prelude.{◌≡◌, ℕ, ◌⊎◌, ◌++◌, List, codes, 
 use Rattle.mc_words.specs.declared.shape.Shape.{Shape}
 use Rattle.mc_words.specs.declared.shape.ShapeError.{ShapeError}
 use Rattle.mc_words.specs.Shapes.{IsShape, RefusesShape}
+use Rattle.mc_replay.specs.declared.fault.Fault.{Fault}
+use Rattle.mc_replay.specs.declared.fault.Fault.TheVariants as fault
 use Rattle.mc_replay.specs.declared.fault.Stop.{Stop}
 use Rattle.mc_options.specs.declared.options.Options.{Options}
-use Rattle.mc_replay.specs.Faults.{exit_of}
 use Rattle.mc_options.specs.Options.{GivesOptions, AsksHelp, AsksVersion, IsFaulty}
 use Rattle.mc_replay.specs.Scripts.{ReplaysKnown}
 use Rattle.mc_replay.specs.FaultTexts.{stop_text}
-use Rattle.mc_step.specs.ShapeTexts.{shape_text}
-use Rattle.mc_step.specs.Streams.{Stream, IsUntouched, Tells, Prints, IsShort}
+use Rattle.mc_options.specs.ShapeTexts.{shape_text}
+use Rattle.mc_options.specs.Statuses.{failed, refused}
+use Rattle.mc_options.specs.Streams.{Stream, IsUntouched, Tells, Prints, IsShort}
 
 -- what is told of the end of a replay
 abbrev pub TellsEnd : Stream → Result (Unit {0}) Stop → Type 0
 TellsEnd errors (Ok u) = IsUntouched errors
 TellsEnd errors (Err stop) = Tells errors (stop_text stop)
+
+-- the exit status of a fault: either the script is to blame, or memory and the streams are
+abbrev pub status_of : Fault → ℕ
+status_of fault.ReadFailed = failed
+status_of fault.NoMemory = failed
+status_of fault.TooLong = refused
+status_of fault.NotACommand = refused
+status_of fault.BadNumber = refused
+status_of fault.NoSuchReader = refused
+status_of fault.StillRunning = refused
+status_of fault.NothingToStep = refused
+status_of fault.WriteFailed = failed
+
+-- the exit status of a replay
+abbrev pub exit_of : Result (Unit {0}) Stop → ℕ
+exit_of (Ok u) = 0
+exit_of (Err stop) = status_of stop.fault
 
 -- all is that of one replay over a table of this shape, with so many readers
 abbrev pub Ends : ℕ → Shape → ℕ → Stream → Stream → Stream → ℕ → Type 0
@@ -24,7 +43,7 @@ Ends V sh readers input output errors status = (r : Result (Unit {0}) Stop) × R
 -- the shape is refused, and nothing is replayed
 abbrev pub IsRefused : Shape → Stream → Stream → Stream → ℕ → Type 0
 IsRefused sh input output errors status =
-    (e : ShapeError) × RefusesShape sh e × IsUntouched input × IsUntouched output × Tells errors (codes "refused: " ++ shape_text e) × (status ≡ 2)
+    (e : ShapeError) × RefusesShape sh e × IsUntouched input × IsUntouched output × Tells errors (codes "refused: " ++ shape_text e) × (status ≡ refused)
 
 -- a run with these options: a replay over their shape, or its refusal
 abbrev pub RunsOptions : Options → Stream → Stream → Stream → ℕ → Type 0
@@ -35,5 +54,5 @@ RunsOptions o input output errors status =
 pub data Runs (words : List (List ℕ)) (input output errors : Stream) (status : ℕ) : Type 0 where
   runs : (o : Options) → GivesOptions words o → RunsOptions o input output errors status → Runs words input output errors status
   prints : AsksHelp words ⊎ AsksVersion words → IsUntouched input → Prints errors status → Runs words input output errors status
-  refuses : IsFaulty words → IsUntouched input → IsUntouched output → status ≡ 2 → Runs words input output errors status
+  refuses : IsFaulty words → IsUntouched input → IsUntouched output → status ≡ refused → Runs words input output errors status
   is_short : IsUntouched input → IsShort output errors status → Runs words input output errors status

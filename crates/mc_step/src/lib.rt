@@ -1,4 +1,4 @@
-//! The body of the program `mcstep`, over any streams, and what the programs tell on standard error.
+//! The body of the program `mcstep`, over any streams.
 //!
 //! `run_step` reads the words of the command line, replays the script over a table of the shape that they ask for, and
 //! tells a fault on standard error. The replay is a crate of its own.
@@ -9,7 +9,5 @@
 #![tactic(auto)]
 
 mod step;
-mod told;
 
 pub use step::run_step;
-pub use told::{FAILED, REFUSED, Refusal, tell, tell_fault};

@@ -1,17 +1,31 @@
 //! The whole program `mcstep`, over any streams.
-ghost use Rattle.std.specs.Prelude.{◌≤◌, map};
+ghost use Rattle.std.specs.Prelude.{◌≡◌, ◌≤◌, map};
 ghost use Rattle.mc_words.specs.Checks.{shape_of};
 ghost use Rattle.mc_words.specs.Places.{IsWidth};
-ghost use Rattle.mc_step.specs.Streams.{stream};
-ghost use Rattle.mc_step.specs.Programs.{Ends, RunsOptions, Runs};
+ghost use Rattle.mc_options.specs.Streams.{stream};
+ghost use Rattle.mc_step.specs.Programs.{Ends, RunsOptions, Runs, status_of};
 
-use crate::told::{REFUSED, Refusal, tell, tell_fault};
-use mc_options::{Options, options_of};
-use mc_replay::play;
+use mc_options::{FAILED, Options, REFUSED, Refusal, options_of, tell, tell_fault};
+use mc_replay::{Fault, play};
 use mc_words::Checked;
 use std::alloc::Global;
 use std::convert::AsStr;
 use std::io::{BufRead, Write};
+
+/// The exit status of a replay that stops by a fault.
+fn status_of(fault: Fault) -> u8
+    ensures { result ≡ status_of fault }
+{
+    match fault {
+        Fault::ReadFailed | Fault::NoMemory | Fault::WriteFailed => FAILED,
+        Fault::TooLong
+        | Fault::NotACommand
+        | Fault::BadNumber
+        | Fault::NoSuchReader
+        | Fault::StillRunning
+        | Fault::NothingToStep => REFUSED,
+    }
+}
 
 /// Replays the script, and tells where it stopped.
 fn run_script<const V: usize, R: BufRead, W: Write, E: Write>(
@@ -30,7 +44,7 @@ fn run_script<const V: usize, R: BufRead, W: Write, E: Write>(
         Ok(()) => 0,
         Err(stop) => {
             tell(errors, stop);
-            stop.fault.status()
+            status_of(stop.fault)
         }
     }
 }

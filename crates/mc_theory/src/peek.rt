@@ -9,6 +9,5 @@ pub trait Peek {
     fn word(&mut self, n: usize) -> u64
         requires { n < length (words self.old) }
         ensures value { result ≡ slice_index (words self.old) n }
-        ensures same { words self.new ≡ words self.old }
         ensures kept { self.new ≡ self.old };
 }

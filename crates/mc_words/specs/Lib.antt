@@ -8,3 +8,4 @@ pub mod Standing
 pub mod Chains
 pub mod Answers
 pub mod Sizing
+pub mod Readers

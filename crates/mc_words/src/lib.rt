@@ -18,6 +18,7 @@ mod item;
 mod mix;
 mod no_memory;
 mod place;
+mod readers;
 mod shape;
 mod sizing;
 
@@ -27,4 +28,5 @@ pub use item::{item_stride, payload_words};
 pub use mix::Mix;
 pub use no_memory::NoMemory;
 pub use place::Place;
+pub use readers::MOST_READERS;
 pub use shape::{Shape, ShapeError};

@@ -1,5 +1,5 @@
 -- The readers of a new table, one after the other from the last.
-use Rattle.std.proofs.Common.{ℕ, zero, suc, ◌≡◌, ◌+◌, List, [], ◌∷◌, ◌++◌, length, length-append, drop, get_or, refl, ap, sym, ◌∙◌, arith}
+use Rattle.std.proofs.Common.{ℕ, zero, suc, ◌≡◌, List, [], ◌∷◌, ◌++◌, length, length-append, drop, get_or, refl, ap, sym, ◌∙◌, arith}
 use Rattle.mc_shared.specs.Records.{Opening, ReaderRecord, reader_record, new_readers}
 
 pub new_length : (o : Opening) (n : ℕ) → length (new_readers o n) ≡ n

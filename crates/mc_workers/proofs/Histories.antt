@@ -16,7 +16,7 @@ use Rattle.mc_theory.specs.States.{State, opening}
 use Rattle.mc_theory.proofs.Lists.Fronts.{lawful_push, state_append, state_none, state_push}
 use Rattle.mc_theory.proofs.Lists.Histories.{history_all}
 use Rattle.mc_plan.specs.Calls.{PutAnswers, RemoveAnswers}
-use Rattle.mc_plan.specs.Clerks.{PutCall, RemoveCall, quiet_of}
+use Rattle.mc_plan.specs.WholeCalls.{PutCall, RemoveCall, quiet_of}
 use Rattle.mc_plan.specs.declared.answer.Answer.{Answer}
 use Rattle.mc_plan.specs.declared.answer.Answer.TheVariants as answer
 use Rattle.mc_plan.specs.declared.answer.Put.{Put}

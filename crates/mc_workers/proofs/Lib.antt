@@ -1,3 +1,4 @@
+pub mod Batches
 pub mod Histories
 pub mod Readers
 pub mod FreshReaders

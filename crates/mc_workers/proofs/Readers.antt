@@ -4,9 +4,9 @@ use Rattle.std.specs.Prelude.{IfSome}
 use Rattle.std.proofs.Math.Nat.{eq-or-lt_of_le, mul-le-mul_right}
 use Rattle.std.proofs.Math.Seq.{get_or-append_seam}
 use Rattle.std.proofs.lemmas.List.{get_or_append_left, length-append}
+use Rattle.mc_words.specs.Readers.{HasReaders, most_readers}
 use Rattle.mc_words.specs.Shapes.{IsShape}
 use Rattle.mc_shared.specs.Records.{Opening}
-use Rattle.mc_cache.specs.Openings.{HasReaders}
 use Rattle.mc_workers.specs.Loads.{HasKeys, IsCall, RefusesLoad}
 use Rattle.mc_workers.specs.Inside.Parted.{AreFirst, AreRest}
 use Rattle.mc_workers.specs.Inside.Refusals.{AreRefusedBy, IsFirstRefusal, IsFirstRefused}
@@ -65,7 +65,7 @@ pub more_lookups : (sum n k total : ℕ) → sum + (n + 1) * k ≡ total → sum
 more_lookups sum n k total e = omega (arith, e)
 
 -- there are fewer lookups in all than a word counts
-pub few_lookups : (sum n k readers : ℕ) → readers ≤ 1024 → k < 2 ^ 32 → sum + (n + 1) * k ≡ readers * k → sum + k < 2 ^ 64
+pub few_lookups : (sum n k readers : ℕ) → readers ≤ most_readers → k < 2 ^ 32 → sum + (n + 1) * k ≡ readers * k → sum + k < 2 ^ 64
 few_lookups sum n k readers few small e = omega (arith, e, mul-le-mul_right k few)
 
 -- the call that the gate refused is one of the reader's

@@ -2,8 +2,8 @@
 use Rattle.std.specs.Prelude.{ℕ, ◌+◌, ◌*◌, ◌%◌, ◌==◌, replicate, if◌then◌else◌}
 use Rattle.rand_pcg.specs.Lcg.{Lcg, advance, increment_of, started}
 use Rattle.rand_pcg.specs.Pcg.{multiplier_64, pcg32}
-use Rattle.mc_plan.specs.Clerks.{Call}
-use Rattle.mc_plan.specs.Clerks.Call.{PutCall, RemoveCall}
+use Rattle.mc_plan.specs.WholeCalls.{Call}
+use Rattle.mc_plan.specs.WholeCalls.Call.{PutCall, RemoveCall}
 use Rattle.mc_workers.specs.declared.asked.Load.{Load}
 
 -- the generator of a worker, which is that of the load's seed on the worker's stream, once it has given n words

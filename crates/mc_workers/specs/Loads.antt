@@ -11,7 +11,8 @@ use Rattle.mc_plan.specs.declared.answer.Answer.{Answer}
 use Rattle.mc_shared.specs.Records.{WriterRecord}
 use Rattle.mc_writer.specs.WriterCalls.{HasCalled}
 use Rattle.mc_check.specs.declared.record.Record.{Record}
-use Rattle.mc_cache.specs.Openings.{HasReaders, RefusesOpening}
+use Rattle.mc_cache.specs.Openings.{RefusesOpening}
+use Rattle.mc_words.specs.Readers.{HasReaders}
 use Rattle.mc_workers.specs.Draws.{drawn_call, drawn_key}
 use Rattle.mc_workers.specs.declared.error.LoadError.{LoadError}
 use Rattle.mc_workers.specs.declared.error.LoadError.TheVariants as error
@@ -82,6 +83,13 @@ pub record Reports (V : ℕ) (load : Load) (told : Report) : Type 0 where
 
 abbrev pub HasKeys : ℕ → Type 0
 HasKeys keys = (1 ≤ keys) × (keys ≤ 2 ^ 32)
+
+-- the most keys of a reader's call
+abbrev pub most_at_once : ℕ
+most_at_once = 64
+
+abbrev pub MayAskAtOnce : ℕ → Type 0
+MayAskAtOnce many = (1 ≤ many) × (many ≤ most_at_once)
 
 -- a call of the writer, which is worker 0, or of a reader
 abbrev pub IsCall : Load → ℕ → ℕ → Type 0

@@ -2,7 +2,8 @@
 //!
 //! `load` opens a cache, starts one thread for the writer and one for each reader, and draws the calls of each. Every answer is
 //! written down. When all have ended, the answers are compared with the map after the changes that each of them names. A `Gate`
-//! is asked before each call and told of each answer, so that a test can hold workers back.
+//! is asked before each call and told of each answer, so that a test can hold workers back. `load_many` is the same with readers
+//! that look many keys up by a call.
 //!
 //! ```text
 //! let report = load::<4, R, Free>(rt, alloc, load, &Free)?;
@@ -31,4 +32,4 @@ pub use mc_cache::OpenError;
 pub use mc_check::{Record, check};
 pub use meter::{DELAYS, Figures, Meter};
 pub use report::Report;
-pub use work::load;
+pub use work::{load, load_many};

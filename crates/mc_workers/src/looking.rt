@@ -1,5 +1,7 @@
 //! A reader at work.
-ghost use Rattle.std.specs.Prelude.{ℕ, ◌≡◌, ◌+◌, ◌≤◌, ◌<◌, IfSome, None, length, vec_len, vec_capacity};
+ghost use Rattle.std.specs.Prelude.{ℕ, ◌≡◌, ◌+◌, ◌^◌, ◌≤◌, ◌<◌, IfSome, None, Some, length, take, vec_len, vec_capacity};
+ghost use Rattle.mc_shared.specs.Records.{Opening};
+ghost use Rattle.mc_workers.specs.Loads.{most_at_once};
 
 use crate::asked::Load;
 use crate::draws::Draws;
@@ -7,17 +9,24 @@ use crate::gate::Gate;
 use mc_cache::{Cache, Reader, Reply};
 use mc_check::Record;
 
+/// The most keys of one call.
+const MOST_AT_ONCE: usize = 64;
+
 /// A reader, what it draws, and what it was told.
 #[derive(Drop)]
 pub(crate) struct Looking<const V: usize> {
     pub(crate) reader: Reader<V>,
     pub(crate) number: u32,
+    /// How many keys it asks for at once.
+    pub(crate) many: u32,
     pub(crate) draws: Draws,
     pub(crate) records: Vec<Record<V>>,
     /// The call that the gate refused.
     pub(crate) refused: Option<u64>,
     ghost some_words: { 1 ≤ V },
     ghost most_words: { V ≤ 8 },
+    ghost some_keys: { 1 ≤ many },
+    ghost most_keys: { many ≤ most_at_once },
 }
 
 /// The moment of a reply.
@@ -29,42 +38,111 @@ fn moment_of<const V: usize>(reply: &Reply<V>) -> Option<u64> {
 }
 
 impl<const V: usize> Looking<V> {
-    ghost use Rattle.mc_workers.specs.Inside.Workers.{HasEnded, HasLookedUpDrawn, IsLooking, IsReady};
+    ghost use Rattle.mc_workers.specs.Inside.Drawn.{AreNext, HasDrawn};
+    ghost use Rattle.mc_workers.specs.Inside.Workers.{AreNextOf, AreTrueNow, HasEnded, HasNotedDrawn, IsLooking, IsNextOf, IsReady, IsTrueNow};
+    ghost use Rattle.mc_words.specs.Readers.{most_readers};
 
-    /// Looks one key up, writes the answer down, and tells its moment.
-    fn look(&mut self, cache: &Cache<V>) -> Option<u64>
-        requires looking { IsLooking V cache.now self.old }
+    /// Writes one answer down, and tells the gate of it.
+    fn note<G: Gate>(&mut self, gate: &G, key: u64, reply: Reply<V>)
+        requires number { self.old.number < most_readers }
         requires room { vec_len self.old.records + 1 ≤ vec_capacity self.old.records }
-        ensures looking { IsLooking V cache.now self.new }
-        ensures drawn { (load : Load) → HasLookedUpDrawn V load self.old → HasLookedUpDrawn V load self.new }
+        ensures looking { (o : Opening) → IsLooking V o self.old → IsTrueNow V o self.old key reply.entry → IsLooking V o self.new }
+        ensures drawn { (load : Load) → HasNotedDrawn V load self.old → IsNextOf V load self.old key → HasNotedDrawn V load self.new }
         ensures len { length self.new.records.items ≡ length self.old.records.items + 1 }
         ensures capacity { vec_capacity self.old.records ≤ vec_capacity self.new.records }
         ensures kept { (self.new.number ≡ self.old.number) × (self.new.refused ≡ self.old.refused) }
+        ensures others { (self.new.reader ≡ self.old.reader) × (self.new.draws ≡ self.old.draws) }
     {
-        let key = self.draws.key();
-        let reply = self.reader.get(cache, key);
         let at = moment_of(&reply);
         let reader = self.number;
         let _ = self.records.push(Record { reader, key, reply });
-        at
+        gate.after(reader + 1, self.records.len() as u64, at);
     }
 
-    /// Makes the load's lookups, or fewer where the gate refuses a call.
+    /// Writes the answers of one call down, and tells the gate of each.
+    fn note_all<G: Gate>(&mut self, gate: &G, keys: &[u64], replies: &[Reply<V>])
+        requires number { self.old.number < most_readers }
+        requires many { length replies.now ≡ length keys.now }
+        requires room { vec_len self.old.records + length keys.now ≤ vec_capacity self.old.records }
+        ensures looking { (o : Opening) → IsLooking V o self.old → AreTrueNow V o self.old keys.now replies.now → IsLooking V o self.new }
+        ensures drawn { (load : Load) → HasNotedDrawn V load self.old → AreNextOf V load self.old keys.now → HasNotedDrawn V load self.new }
+        ensures len { length self.new.records.items ≡ length self.old.records.items + length keys.now }
+        ensures capacity { vec_capacity self.old.records ≤ vec_capacity self.new.records }
+        ensures kept { (self.new.number ≡ self.old.number) × (self.new.refused ≡ self.old.refused) }
+        ensures draws { self.new.draws ≡ self.old.draws }
+    {
+        for n in 0..keys.len() {
+            self.note(gate, keys[n], replies[n]);
+        }
+    }
+
+    /// Looks the keys up, by one call where they are several.
+    fn look<G: Gate>(&mut self, cache: &Cache<V>, gate: &G, keys: &[u64], replies: &mut [Reply<V>])
+        requires looking { IsLooking V cache.now self.old }
+        requires number { self.old.number < most_readers }
+        requires many { length replies.old ≡ length keys.now }
+        requires room { vec_len self.old.records + length keys.now ≤ vec_capacity self.old.records }
+        ensures looking { IsLooking V cache.now self.new }
+        ensures drawn { (load : Load) → HasNotedDrawn V load self.old → AreNextOf V load self.old keys.now → HasNotedDrawn V load self.new }
+        ensures len { length self.new.records.items ≡ length self.old.records.items + length keys.now }
+        ensures capacity { vec_capacity self.old.records ≤ vec_capacity self.new.records }
+        ensures kept { (self.new.number ≡ self.old.number) × (self.new.refused ≡ self.old.refused) }
+        ensures draws { self.new.draws ≡ self.old.draws }
+    {
+        if keys.len() == 1 {
+            let reply = self.reader.get(cache, keys[0]);
+            self.note(gate, keys[0], reply);
+        } else {
+            self.reader.get_many(cache, keys, replies);
+            self.note_all(gate, keys, replies);
+        }
+    }
+
+    /// Asks the gate for so many calls, up to one that it refuses, and draws the keys of those that it lets through: how many
+    /// they are.
+    fn ask<G: Gate>(&mut self, gate: &G, most: usize, keys: &mut [u64]) -> usize
+        requires number { self.old.number < most_readers }
+        requires most { most ≤ length keys.old }
+        requires few { vec_len self.old.records + most < 2 ^ 32 }
+        ensures most { result ≤ most }
+        ensures len { length keys.new ≡ length keys.old }
+        ensures drawn { (load : Load) (who n : ℕ) → HasDrawn load who n self.old.draws → HasDrawn load who (n + result) self.new.draws }
+        ensures keys { (load : Load) (who n : ℕ) → HasDrawn load who n self.old.draws → AreNext load who n (take result keys.new) }
+        ensures kept { (self.new.reader ≡ self.old.reader) × (self.new.records ≡ self.old.records) × (self.new.number ≡ self.old.number) }
+        ensures through { result ≡ most → self.new.refused ≡ self.old.refused }
+        ensures cut { result < most → self.new.refused ≡ Some (vec_len self.old.records + result + 1) }
+        ensures refused { result < most → G.may_refuse gate.now (self.old.number + 1) (vec_len self.old.records + result + 1) }
+    {
+        let who = self.number + 1;
+        for n in 0..most {
+            let call = self.records.len() as u64 + n as u64 + 1;
+            if !gate.before(who, call) {
+                self.refused = Some(call);
+                return n;
+            }
+            keys[n] = self.draws.key();
+        }
+        most
+    }
+
+    /// Makes the load's lookups, or fewer where the gate refuses a call. The calls before it are made.
     pub(crate) fn run<G: Gate>(&mut self, cache: &Cache<V>, gate: &G, load: Load)
         requires ready { IsReady V cache.now load self.old.number self.old }
-        requires number { self.old.number < 1024 }
+        requires number { self.old.number < most_readers }
         ensures ended { HasEnded V cache.now load self.old.number self.new }
         ensures refused { IfSome self.new.refused (λ call. G.may_refuse gate.now (self.old.number + 1) call) }
     {
-        let who = self.number + 1;
-        for n in 0..load.lookups {
-            let call = u64::from(n) + 1;
-            if !gate.before(who, call) {
-                self.refused = Some(call);
+        let mut keys = [0; MOST_AT_ONCE];
+        let mut replies = [Reply::Busy; MOST_AT_ONCE];
+        let many = self.many as usize;
+        let lookups = load.lookups as usize;
+        while self.records.len() < lookups {
+            let most = many.min(lookups - self.records.len());
+            let through = self.ask(gate, most, &mut keys);
+            self.look(cache, gate, &keys[..through], &mut replies[..through]);
+            if through < most {
                 return;
             }
-            let at = self.look(cache);
-            gate.after(who, call, at);
         }
     }
 }

@@ -2,7 +2,7 @@
 ghost use Rattle.std.specs.Prelude.{ℕ, ◌≡◌, ◌+◌, ◌*◌, ◌^◌, ◌<◌, ◌≤◌, [], IfOk, MatchResult, vec_len, vec_capacity};
 ghost use Rattle.mc_words.specs.Places.{IsWidth};
 ghost use Rattle.mc_shared.specs.Records.{Opening, new_readers};
-ghost use Rattle.mc_workers.specs.Loads.{HasKeys, RefusesLoad};
+ghost use Rattle.mc_workers.specs.Loads.{HasKeys, MayAskAtOnce, RefusesLoad};
 ghost use Rattle.mc_workers.specs.Inside.Beginnings.{CanBegin};
 ghost use Rattle.mc_workers.specs.Inside.Workers.{AreReady, HasWritten, IsReady, IsWriting};
 
@@ -49,11 +49,13 @@ fn writing_of<const V: usize>(
 fn looking_of<const V: usize>(
     alloc: Global,
     load: Load,
+    many: u32,
     reader: Reader<V>,
     number: u32,
 ) -> Result<Looking<V>, AllocError>
     requires width { IsWidth V }
     requires keys { 1 ≤ load.keys }
+    requires many { MayAskAtOnce many }
     requires few { number + 1 < 2 ^ 32 }
     ensures { IfOk result (λ l. IsReady V reader.entry.of load number l) }
 {
@@ -62,6 +64,7 @@ fn looking_of<const V: usize>(
     Ok(Looking {
         reader,
         number,
+        many,
         draws,
         records,
         refused: None,
@@ -72,10 +75,12 @@ fn looking_of<const V: usize>(
 fn lookings_of<const V: usize>(
     alloc: Global,
     load: Load,
+    many: u32,
     mut readers: Vec<Reader<V>>,
 ) -> Result<Vec<Looking<V>>, AllocError>
     requires width { IsWidth V }
     requires keys { 1 ≤ load.keys }
+    requires many { MayAskAtOnce many }
     requires fresh { (o : Opening) × (readers.items ≡ new_readers o load.readers) }
     ensures len { IfOk result (λ ls. vec_len ls ≡ load.readers) }
     ensures ready { (o : Opening) → readers.entry.items ≡ new_readers o load.readers → IfOk result (λ ls. AreReady V o load ls.items) }
@@ -83,15 +88,20 @@ fn lookings_of<const V: usize>(
     let mut lookings = Vec::new(alloc);
     while let Some(reader) = readers.pop() {
         let number = lookings.len() as u32;
-        lookings.push(looking_of(alloc, load, reader, number)?)?;
+        lookings.push(looking_of(alloc, load, many, reader, number)?)?;
     }
     Ok(lookings)
 }
 
-/// Opens a cache and makes its workers ready.
-pub(crate) fn make_ready<const V: usize>(alloc: Global, load: Load) -> Result<Workers<V>, LoadError>
+/// Opens a cache and makes its workers ready. A reader asks for so many keys at once.
+pub(crate) fn make_ready<const V: usize>(
+    alloc: Global,
+    load: Load,
+    many: u32,
+) -> Result<Workers<V>, LoadError>
     requires width { IsWidth V }
     requires keys { HasKeys load.keys }
+    requires many { MayAskAtOnce many }
     ensures { MatchResult result (CanBegin load) (RefusesLoad (λ _ _. ⊥) load) }
 {
     let (cache, writer, readers) = match open::<V>(alloc, load.shape, load.readers) {
@@ -101,7 +111,7 @@ pub(crate) fn make_ready<const V: usize>(alloc: Global, load: Load) -> Result<Wo
     let Ok(writing) = writing_of(alloc, load, writer) else {
         return Err(LoadError::NoMemory);
     };
-    let Ok(lookings) = lookings_of(alloc, load, readers) else {
+    let Ok(lookings) = lookings_of(alloc, load, many, readers) else {
         return Err(LoadError::NoMemory);
     };
     Ok(Workers {

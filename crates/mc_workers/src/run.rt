@@ -1,6 +1,7 @@
 //! The workers run, each in a thread of its own.
 ghost use Rattle.std.specs.Prelude.{ℕ, ◌≡◌, ◌+◌, ◌*◌, ◌≤◌, ◌<◌, IfNone, IfSome, length, vec_len, vec_capacity};
 ghost use Rattle.std.specs.Thread.{IsSync};
+ghost use Rattle.mc_words.specs.Readers.{most_readers};
 ghost use Rattle.mc_workers.specs.Inside.Refusals.{AreRefusedBy, IsFirstRefusal};
 ghost use Rattle.mc_workers.specs.Inside.Workers.{AreReady, AreWhole, HasEnded, HasWritten, HaveEnded, IsReady, IsWriting};
 
@@ -21,7 +22,7 @@ fn look_all<const V: usize, R: Threads + Sync, G: Gate>(
     lookings: &mut Vec<Looking<V>>,
 )
     requires some { 0 < vec_len lookings.old }
-    requires few { vec_len lookings.old ≤ 1024 }
+    requires few { vec_len lookings.old ≤ most_readers }
     requires ready { AreReady V cache.now load lookings.old.items }
     ensures len { vec_len lookings.new ≡ vec_len lookings.old }
     ensures ended { HaveEnded V cache.now load lookings.new.items }
@@ -29,7 +30,7 @@ fn look_all<const V: usize, R: Threads + Sync, G: Gate>(
 {
     let threads = lookings.len();
     let look = |_reader: usize, looking: &mut Looking<V>|
-        requires { IsReady V cache.now load looking.now.number looking.now × (looking.now.number < 1024) }
+        requires { IsReady V cache.now load looking.now.number looking.now × (looking.now.number < most_readers) }
         ensures ended { HasEnded V cache.entry.now load looking.entry.now.number looking.exit.now }
         ensures refused { IfSome looking.exit.now.refused (λ call. G.may_refuse gate.entry.now (looking.entry.now.number + 1) call) }
     { looking.run(cache, gate, load) };
@@ -46,7 +47,7 @@ pub(crate) fn run_all<const V: usize, R: Threads + Sync, G: Gate>(
     lookings: &mut Vec<Looking<V>>,
 ) -> Option<u64>
     requires some { 0 < vec_len lookings.old }
-    requires few { vec_len lookings.old ≤ 1024 }
+    requires few { vec_len lookings.old ≤ most_readers }
     requires ready { AreReady V cache.now load lookings.old.items }
     requires shape { cache.now.layout.shape ≡ load.shape }
     requires writing { IsWriting V cache.now writing.old }
@@ -70,7 +71,7 @@ pub(crate) fn run_all<const V: usize, R: Threads + Sync, G: Gate>(
             ensures refused { IfSome result (λ call. (1 ≤ call) × (call ≤ load.writes) × G.may_refuse gate.entry.now 0 call) }
         { writing.run(cache, gate, load) },
         &mut ||
-            requires { IsSync R.row × (0 < vec_len lookings.now) × (vec_len lookings.now ≤ 1024) × AreReady V cache.now load lookings.now.items }
+            requires { IsSync R.row × (0 < vec_len lookings.now) × (vec_len lookings.now ≤ most_readers) × AreReady V cache.now load lookings.now.items }
             ensures ended { (vec_len lookings.exit.now ≡ vec_len lookings.entry.now) × HaveEnded V cache.entry.now load lookings.exit.now.items }
             ensures refused { AreRefusedBy (G.may_refuse gate.entry.now) lookings.exit.now.items }
         { look_all(rt, gate, load, cache, lookings) },
@@ -80,7 +81,7 @@ pub(crate) fn run_all<const V: usize, R: Threads + Sync, G: Gate>(
 
 /// The first reader's call that the gate refused.
 pub(crate) fn first_refusal<const V: usize>(lookings: &[Looking<V>]) -> Option<LoadError>
-    requires { length lookings.now ≤ 1024 }
+    requires { length lookings.now ≤ most_readers }
     ensures none { IfNone result (AreWhole lookings.now) }
     ensures some { IfSome result (IsFirstRefusal lookings.now) }
 {

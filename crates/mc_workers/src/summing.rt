@@ -1,6 +1,7 @@
 //! What the readers were told is checked and added up.
 ghost use Rattle.std.specs.Prelude.{ℕ, ◌≡◌, ◌+◌, ◌*◌, ◌≤◌, count_by, vec_len};
 ghost use Rattle.mc_words.specs.Places.{IsWidth};
+ghost use Rattle.mc_words.specs.Readers.{most_readers};
 ghost use Rattle.mc_words.specs.Shapes.{IsShape};
 ghost use Rattle.mc_workers.specs.Loads.{AreTrue, Reports, history_after, is_absent, is_busy, is_found};
 ghost use Rattle.mc_workers.specs.Inside.Workers.{AreWhole, HasWritten, HaveEnded, IsLooking, IsWriting};
@@ -54,7 +55,7 @@ pub(crate) fn report_of<const V: usize>(
     requires written { HasWritten V load load.writes writing }
     requires journal { vec_len writing.journal ≤ 2 * load.writes }
     requires len { vec_len lookings ≡ load.readers }
-    requires few { vec_len lookings ≤ 1024 }
+    requires few { vec_len lookings ≤ most_readers }
     requires ended { HaveEnded V cache.now load lookings.items }
     requires whole { AreWhole lookings.items }
     ensures { Reports V load result }

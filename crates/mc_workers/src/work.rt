@@ -1,7 +1,7 @@
 //! A load.
 ghost use Rattle.std.specs.Prelude.{MatchResult};
 ghost use Rattle.mc_words.specs.Places.{IsWidth};
-ghost use Rattle.mc_workers.specs.Loads.{HasKeys, RefusesLoad, Reports};
+ghost use Rattle.mc_workers.specs.Loads.{HasKeys, MayAskAtOnce, RefusesLoad, Reports};
 ghost use Rattle.mc_workers.specs.Inside.Beginnings.{CanBegin};
 
 use crate::asked::Load;
@@ -55,10 +55,28 @@ pub fn load<const V: usize, R: Threads + Sync, G: Gate>(
     requires width { IsWidth V }
     ensures { MatchResult result (Reports V load) (RefusesLoad (G.may_refuse gate.now) load) }
 {
+    load_many::<V, R, G>(rt, alloc, load, gate, 1)
+}
+
+/// The same, but that a reader looks so many keys up by one call of `Reader::get_many`, in the order in which it draws them. The
+/// gate is asked for each of them before that call, and is told of each answer behind it. Where it refuses one, those before it
+/// are still looked up.
+/// Condition: a value has from 1 to 8 words, and `many` is from 1 to 64.
+pub fn load_many<const V: usize, R: Threads + Sync, G: Gate>(
+    rt: &R,
+    alloc: Global,
+    load: Load,
+    gate: &G,
+    many: u32,
+) -> Result<Report, LoadError>
+    requires width { IsWidth V }
+    requires many { MayAskAtOnce many }
+    ensures { MatchResult result (Reports V load) (RefusesLoad (G.may_refuse gate.now) load) }
+{
     if load.keys == 0 || load.keys > 1 << 32 {
         return Err(LoadError::Keys);
     }
-    match make_ready::<V>(alloc, load) {
+    match make_ready::<V>(alloc, load, many) {
         Ok(workers) => run_workers(rt, alloc, load, gate, workers),
         Err(why) => Err(why),
     }

@@ -1,6 +1,6 @@
 //! The writer at work.
 ghost use Rattle.std.specs.Prelude.{ℕ, ◌≡◌, ◌+◌, ◌*◌, ◌≤◌, IfNone, IfSome, vec_len, vec_capacity};
-ghost use Rattle.mc_plan.specs.Clerks.Call.{PutCall, RemoveCall};
+ghost use Rattle.mc_plan.specs.WholeCalls.Call.{PutCall, RemoveCall};
 ghost use Rattle.mc_plan.specs.declared.answer.Answer.{Answer};
 ghost use Rattle.mc_writer.specs.WriterCalls.{HasCalled};
 

@@ -10,7 +10,7 @@ use Rattle.mc_theory.specs.Phases.{Phase, Quiet}
 use Rattle.mc_theory.specs.States.{State}
 use Rattle.mc_theory.specs.declared.act.Act.TheVariants.{Mark}
 use Rattle.mc_theory.proofs.Lists.Fronts.{state_push}
-use Rattle.mc_plan.specs.Clerks.{AreBooksOf}
+use Rattle.mc_plan.specs.Books.{AreBooksOf}
 use Rattle.mc_plan.specs.declared.books.Books.{Books}
 use Rattle.mc_plan.proofs.Deeds.QuietStates.{agrees_quiet}
 use Rattle.mc_shared.specs.Records.{Opening, WriterRecord, HasActed}

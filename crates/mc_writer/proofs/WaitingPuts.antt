@@ -7,7 +7,8 @@ use Rattle.mc_theory.specs.States.{State}
 use Rattle.mc_theory.specs.declared.act.Act.{Act}
 use Rattle.mc_theory.proofs.Lists.Fronts.{state_append}
 use Rattle.mc_search.specs.Sweeps.{hand_acts}
-use Rattle.mc_plan.specs.Clerks.{IsPlanned, IsSweepOf, IsSweeping, PutCall, state_after_sweep}
+use Rattle.mc_plan.specs.WholeCalls.{IsSweepOf, PutCall, state_after_sweep}
+use Rattle.mc_plan.specs.Books.{IsPlanned, IsSweeping}
 use Rattle.mc_plan.specs.Due.{AreDue}
 use Rattle.mc_plan.specs.Making.{as_made}
 use Rattle.mc_plan.specs.declared.answer.Answer.{Answer}

@@ -5,7 +5,8 @@ use Rattle.mc_words.specs.Checks.{shape_of}
 use Rattle.mc_theory.specs.Lists.{Made, state_of}
 use Rattle.mc_theory.specs.declared.act.Act.{Act}
 use Rattle.mc_search.specs.Sweeps.{Swept, hand_acts}
-use Rattle.mc_plan.specs.Clerks.{AreBooksOf, Call, IsPlanned, IsSweeping, IsSweepOf, state_after_sweep}
+use Rattle.mc_plan.specs.WholeCalls.{Call, IsSweepOf, state_after_sweep}
+use Rattle.mc_plan.specs.Books.{AreBooksOf, IsPlanned, IsSweeping}
 use Rattle.mc_plan.specs.declared.waiting.Waiting.{Waiting}
 use Rattle.mc_plan.specs.Due.{AreDue}
 use Rattle.mc_plan.specs.Making.{as_made}

@@ -9,7 +9,8 @@ use Rattle.mc_words.specs.declared.history.Reply.TheVariants.{Found, Absent, Bus
 use Rattle.mc_theory.specs.Lists.{Made, state_of}
 use Rattle.mc_theory.specs.States.{State}
 use Rattle.mc_theory.specs.declared.act.Act.TheVariants.{Mark}
-use Rattle.mc_plan.specs.Clerks.{AreBooksOf, Answered, Call}
+use Rattle.mc_plan.specs.WholeCalls.{Answered, Call}
+use Rattle.mc_plan.specs.Books.{AreBooksOf}
 use Rattle.mc_plan.specs.declared.answer.Answer.{Answer}
 use Rattle.mc_plan.specs.declared.books.Books.{Books}
 use Rattle.mc_shared.specs.Records.{WriterRecord, NotesGrow}

@@ -1,7 +1,7 @@
 //! The writer's removal.
 ghost use Rattle.std.specs.Prelude.{◌≡◌};
 ghost use Rattle.mc_theory.specs.Lists.{state_of};
-ghost use Rattle.mc_plan.specs.Clerks.{RemoveCall};
+ghost use Rattle.mc_plan.specs.WholeCalls.{RemoveCall};
 ghost use Rattle.mc_plan.specs.Deciding.{IsRemovalDecided};
 ghost use Rattle.mc_plan.specs.declared.answer.Answer.TheVariants as answer;
 ghost use Rattle.mc_writer.specs.WriterCalls.{HasCalled, IsRested};

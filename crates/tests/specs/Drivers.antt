@@ -7,7 +7,8 @@ use Rattle.mc_theory.specs.States.{State}
 use Rattle.mc_theory.specs.declared.act.Act.{Act}
 use Rattle.mc_theory.specs.declared.act.Act.TheVariants.{Open}
 use Rattle.mc_plan.specs.declared.clerk.Clerk.{Clerk}
-use Rattle.mc_plan.specs.Clerks.{Call, Knows, IsOn, shape_of_clerk}
+use Rattle.mc_plan.specs.WholeCalls.{Call}
+use Rattle.mc_plan.specs.Clerks.{Knows, IsOn, shape_of_clerk}
 
 -- the key of the last open
 abbrev pub key_after : ℕ → Act → ℕ

@@ -2,7 +2,7 @@
 //!
 //! The expected numbers come from a reckoning of its own: the generator's words, and a plain map.
 use crate::late_gate::Late;
-use mc_load::{Gate, Load, LoadError, load};
+use mc_load::{Gate, Load, LoadError, load, load_many};
 use mc_words::{Mix, Shape};
 use std::sync::atomic::{AtomicU64, Ordering};
 use std::test::Fail;
@@ -62,14 +62,40 @@ fn calls_and_keys_are_those_that_are_drawn(rt: HostRuntime) -> Result<(), Fail> 
 }
 
 #[test]
+fn many_keys_of_a_call_are_those_that_are_drawn(rt: HostRuntime) -> Result<(), Fail> {
+    for (late, many, due) in [
+        (asked(1, 2, 500, 1000, 64), 32, [967, 928, 72]),
+        (asked(2, 2, 500, 1000, 64), 64, [972, 902, 98]),
+        (asked(3, 2, 500, 1000, 64), 49, [976, 888, 112]),
+        (asked(1, 3, 2000, 2000, 1000), 7, [1864, 4533, 1467]),
+    ] {
+        let gate = Late::new(late.writes, 4, 0);
+        let report = load_many::<4, _, _>(&rt, rt.alloc(), late, &gate, many)?;
+        let told = [report.changes, report.found, report.absent];
+        assert!(rt; told == due, "calls for {many} keys");
+        let lookups = u64::from(late.readers) * u64::from(late.lookups);
+        let calls = [u64::from(late.writes), lookups, lookups];
+        assert!(rt; gate.calls() == calls, "each lookup passes the gate, calls for {many} keys");
+    }
+    Ok(())
+}
+
+#[test]
 fn the_least_worker_is_told_that_the_gate_refused(rt: HostRuntime) -> Result<(), Fail> {
-    for (first, call, answered) in [(0, 3, [2, 4]), (1, 2, [40, 2]), (2, 50, [40, 99])] {
+    for (many, first, call, answered) in [
+        (1, 0, 3, [2, 4]),
+        (1, 1, 2, [40, 2]),
+        (1, 2, 50, [40, 99]),
+        (32, 0, 3, [2, 4]),
+        (32, 1, 2, [40, 2]),
+        (32, 2, 50, [40, 99]),
+    ] {
         let gate = Late::new(40, first, call);
-        let told = load::<4, _, _>(&rt, rt.alloc(), asked(1, 2, 50, 40, 64), &gate);
+        let told = load_many::<4, _, _>(&rt, rt.alloc(), asked(1, 2, 50, 40, 64), &gate, many);
         let due = LoadError::Gate { who: first, call };
-        assert!(rt; told == Err(due), "worker {first}");
+        assert!(rt; told == Err(due), "worker {first}, calls for {many} keys");
         let [writes, _, lookups] = gate.calls();
-        assert!(rt; [writes, lookups] == answered, "the others go on");
+        assert!(rt; [writes, lookups] == answered, "the others go on, calls for {many} keys");
     }
     Ok(())
 }

@@ -10,7 +10,7 @@ use Rattle.mc_theory.specs.States.{State}
 use Rattle.mc_theory.specs.declared.act.Act.{Act}
 use Rattle.mc_theory.specs.declared.act.Act.TheVariants.{Open, Slot, Item, Moment, Close, Hand, Mark}
 use Rattle.mc_search.specs.Sweeps.{Swept, hand_acts}
-use Rattle.mc_plan.specs.Clerks.{AreOfDeeds, IsOfDeed, acts_of}
+use Rattle.mc_plan.specs.WholeCalls.{AreOfDeeds, IsOfDeed, acts_of}
 
 -- ---- version changes
 -- they never fall

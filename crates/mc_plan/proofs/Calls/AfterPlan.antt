@@ -25,7 +25,8 @@ use Rattle.mc_plan.specs.declared.decision.Storing.{Storing}
 use Rattle.mc_plan.specs.declared.books.Books.{Books}
 use Rattle.mc_search.specs.declared.free.FreeItems.{FreeItems}
 use Rattle.mc_search.specs.declared.path.Path.{Path}
-use Rattle.mc_plan.specs.Clerks.{Call, PutCall, RemoveCall, Means, Marks, AreOfDeeds, AreBooksOf, IsPlanned, quiet_of}
+use Rattle.mc_plan.specs.WholeCalls.{Call, PutCall, RemoveCall, Means, Marks, AreOfDeeds, quiet_of}
+use Rattle.mc_plan.specs.Books.{AreBooksOf, IsPlanned}
 use Rattle.mc_search.specs.Free.{IsConsistent, IsFreeIn, TakesFree, GivesBack}
 use Rattle.mc_plan.specs.Laws.{IsValue}
 use Rattle.mc_plan.specs.Making.{IsQuiet, state_after_acts}

@@ -19,7 +19,8 @@ use Rattle.mc_plan.specs.declared.answer.Put.TheVariants as put
 use Rattle.mc_plan.specs.declared.answer.PutError.TheVariants as why
 use Rattle.mc_plan.specs.declared.books.Books.{Books}
 use Rattle.mc_plan.specs.declared.waiting.Waiting.{Waiting}
-use Rattle.mc_plan.specs.Clerks.{Call, PutCall, Means, AreOfDeeds, AreBooksOf, IsPlanned, IsSweeping, IsSweepOf, quiet_of, state_after_sweep}
+use Rattle.mc_plan.specs.WholeCalls.{Call, PutCall, Means, AreOfDeeds, IsSweepOf, quiet_of, state_after_sweep}
+use Rattle.mc_plan.specs.Books.{AreBooksOf, IsPlanned, IsSweeping}
 use Rattle.mc_plan.specs.Inside.Clerks.{IsReplacing}
 use Rattle.mc_plan.specs.Making.{IsQuiet, Makes, state_after_acts}
 use Rattle.mc_search.specs.Kept.{KeepsNamed}

@@ -5,7 +5,9 @@ use Rattle.std.proofs.lemmas.List.{map-append, length-map, take-append-drop}
 use Rattle.mc_theory.specs.Lists.{Made}
 use Rattle.mc_theory.specs.States.{State}
 use Rattle.mc_theory.specs.declared.act.Act.{Act}
-use Rattle.mc_plan.specs.Clerks.{Answered, Call, IsAtStage, IsOn, IsSweeping, MakesPlan, acts_of, next_act, next_in, shape_of_clerk}
+use Rattle.mc_plan.specs.WholeCalls.{Answered, Call, acts_of}
+use Rattle.mc_plan.specs.Books.{IsSweeping}
+use Rattle.mc_plan.specs.Clerks.{IsAtStage, IsOn, MakesPlan, next_act, next_in, shape_of_clerk}
 use Rattle.mc_plan.specs.Making.{as_made}
 use Rattle.mc_search.specs.Sweeps.{Swept, HasSwept, hand_acts, next_item}
 use Rattle.mc_plan.specs.declared.answer.Answer.{Answer}

@@ -10,7 +10,8 @@ use Rattle.mc_theory.specs.declared.act.Act.{Act}
 use Rattle.mc_theory.specs.declared.act.Act.TheVariants.{Hand}
 use Rattle.mc_theory.proofs.Lists.Fronts.{state_append, state_push}
 use Rattle.mc_search.specs.Sweeps.{hand_acts, next_item}
-use Rattle.mc_plan.specs.Clerks.{Answered, AreBooksOf, IsPlanned, IsSweepOf, state_after_sweep}
+use Rattle.mc_plan.specs.WholeCalls.{Answered, IsSweepOf, state_after_sweep}
+use Rattle.mc_plan.specs.Books.{AreBooksOf, IsPlanned}
 use Rattle.mc_plan.specs.Due.{AreDue, PlansAreDue, DueActsCanBeMade, SweepsCanRead, PlansEndCalls}
 use Rattle.mc_plan.specs.Making.{as_made, state_after_acts}
 use Rattle.mc_plan.proofs.Calls.CanEnd.{acts_made}

@@ -23,7 +23,7 @@ use Rattle.mc_plan.specs.declared.answer.PutError.TheVariants as why
 use Rattle.mc_plan.specs.declared.answer.Remove.{Remove}
 use Rattle.mc_plan.specs.declared.answer.Remove.TheVariants as remove
 use Rattle.mc_plan.specs.declared.answer.Spent.{Spent}
-use Rattle.mc_plan.specs.Clerks.{Answered, AreOfDeeds, Call, PutCall, RemoveCall, Marks, acts_of, quiet_of}
+use Rattle.mc_plan.specs.WholeCalls.{Answered, AreOfDeeds, Call, PutCall, RemoveCall, Marks, acts_of, quiet_of}
 use Rattle.mc_plan.specs.Ends.{CallsEndOnce}
 use Rattle.mc_plan.proofs.Calls.CanEnd.{many_acts}
 use Rattle.mc_plan.proofs.Calls.ActKinds.{Each, IsUnmarked, IsUnswept, deeds_after, deeds_cost, deeds_unmarked, deeds_unswept, each_then, hands_unmarked, mark_ends, same_sweep}

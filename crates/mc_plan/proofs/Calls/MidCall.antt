@@ -26,7 +26,9 @@ use Rattle.mc_plan.specs.declared.books.Books.{Books}
 use Rattle.mc_plan.specs.declared.clerk.Clerk.{Clerk}
 use Rattle.mc_plan.specs.declared.clerk.Stage.{Stage}
 use Rattle.mc_plan.specs.declared.clerk.Stage.TheVariants.{Idle, Sweeping, Planned}
-use Rattle.mc_plan.specs.Clerks.{Answered, AreBooksOf, Call, PutCall, RemoveCall, IsAtStage, IsOfDeed, AreOfDeeds, IsOn, IsPlanned, HasCall, IsSweepOf, Knows, MakesPlan, Means, Marks, StageHasCall, acts_of, next_act, next_in, shape_of_clerk, state_after_sweep}
+use Rattle.mc_plan.specs.WholeCalls.{Answered, Call, PutCall, RemoveCall, IsOfDeed, AreOfDeeds, IsSweepOf, Means, Marks, acts_of, state_after_sweep}
+use Rattle.mc_plan.specs.Books.{AreBooksOf, IsPlanned}
+use Rattle.mc_plan.specs.Clerks.{IsAtStage, IsOn, HasCall, Knows, MakesPlan, StageHasCall, next_act, next_in, shape_of_clerk}
 use Rattle.mc_plan.specs.Making.{IsQuiet, as_made, state_after_acts}
 use Rattle.mc_search.specs.Sweeps.{Swept, hand_acts}
 

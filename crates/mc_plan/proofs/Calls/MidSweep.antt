@@ -17,7 +17,9 @@ use Rattle.mc_plan.specs.declared.clerk.Stage.TheVariants.{Sweeping}
 use Rattle.mc_search.specs.declared.path.Path.{Path}
 use Rattle.mc_search.specs.declared.sweep.Sweep.{Sweep}
 use Rattle.mc_plan.specs.declared.waiting.Waiting.{Waiting}
-use Rattle.mc_plan.specs.Clerks.{Call, IsAtStage, IsOn, IsSweeping, Waits, hand_of, next_act, next_in, shape_of_clerk, state_after_sweep}
+use Rattle.mc_plan.specs.WholeCalls.{Call, state_after_sweep}
+use Rattle.mc_plan.specs.Books.{IsSweeping, Waits}
+use Rattle.mc_plan.specs.Clerks.{IsAtStage, IsOn, hand_of, next_act, next_in, shape_of_clerk}
 use Rattle.mc_search.specs.Sweeps.{Swept, HasSwept, hand_acts, next_item}
 use Rattle.mc_search.proofs.SweepReadings.{next_parts, next_some}
 use Rattle.mc_plan.proofs.Puts.NamedItems.{full_has_none}

@@ -13,7 +13,9 @@ use Rattle.mc_plan.specs.declared.waiting.Start.TheVariants as start
 use Rattle.mc_plan.specs.declared.waiting.Waiting.{Waiting}
 use Rattle.mc_plan.specs.Making.{IsQuiet}
 use Rattle.mc_search.specs.Sweeps.{Swept, IsOver, victim_of}
-use Rattle.mc_plan.specs.Clerks.{Call, PutCall, shape_of_clerk, IsSweepOf, IsPlanned, Waits, IsSweeping}
+use Rattle.mc_plan.specs.WholeCalls.{Call, PutCall, IsSweepOf}
+use Rattle.mc_plan.specs.Books.{IsPlanned, Waits, IsSweeping}
+use Rattle.mc_plan.specs.Clerks.{shape_of_clerk}
 
 -- how a put starts: it is planned, or it waits for an item
 abbrev pub IsStarted : (V : ℕ) → Books → List Act → ℕ → List ℕ → State V → Start → Type 0

@@ -10,7 +10,9 @@ use Rattle.mc_theory.specs.declared.act.Act.TheVariants.{Mark}
 use Rattle.mc_theory.specs.declared.event.Stepped.{Stepped}
 use Rattle.mc_theory.specs.declared.event.Stepped.TheVariants as stepped
 use Rattle.mc_plan.specs.Clerks as clerks
-use Rattle.mc_plan.specs.Clerks.{Call, Answered, Knows, IsOn, next_act, acts_left}
+use Rattle.mc_plan.specs.WholeCalls as whole
+use Rattle.mc_plan.specs.WholeCalls.{Call, Answered}
+use Rattle.mc_plan.specs.Clerks.{Knows, IsOn, next_act, acts_left}
 use Rattle.mc_plan.specs.declared.answer.Answer.{Answer}
 use Rattle.mc_replay.specs.declared.fault.Fault.{Fault}
 use Rattle.mc_replay.specs.declared.fault.Fault.TheVariants.{ReadFailed, NoMemory, NoSuchReader, WriteFailed}
@@ -18,7 +20,7 @@ use Rattle.mc_replay.specs.declared.player.Call as asked
 use Rattle.mc_replay.specs.declared.player.Call.TheVariants as asked_as
 use Rattle.mc_replay.specs.declared.player.Player.{Player}
 use Rattle.mc_replay.specs.Replay.{Replay, Pending, pending, WriterMakes, LooksUp, ActDoes}
-use Rattle.mc_replay.specs.Scripts.{IsReaders}
+use Rattle.mc_words.specs.Readers.{HasReaders}
 
 abbrev pub shape_of_player : {V : ℕ} → Player V → Shape
 shape_of_player player = player.world.shape
@@ -81,8 +83,8 @@ with_acts p acts = record { call = p.call; from = p.from; acts = p.acts ++ acts 
 
 -- the call that is asked for, as a clerk's definitions name it
 abbrev pub call_of : {V : ℕ} → asked.Call V → Call
-call_of (asked_as.Put k v) = clerks.PutCall k v
-call_of (asked_as.Remove k) = clerks.RemoveCall k
+call_of (asked_as.Put k v) = whole.PutCall k v
+call_of (asked_as.Remove k) = whole.RemoveCall k
 
 -- a call began, or is answered where it needs no act
 abbrev pub BeginsAs : (V : ℕ) → Shape → Player V → ℕ → Call → Trace V → Option Answer → Type 0
@@ -147,8 +149,8 @@ pub record ReadsSoFar (V : ℕ) (player : Player V) (most r n : ℕ) (m : Replay
 
 -- why nothing was opened
 abbrev pub IsRefusedAs : ℕ → Fault → Type 0
-IsRefusedAs readers NoSuchReader = IsReaders readers → ⊥
-IsRefusedAs readers NoMemory = IsReaders readers
+IsRefusedAs readers NoSuchReader = HasReaders readers → ⊥
+IsRefusedAs readers NoMemory = HasReaders readers
 IsRefusedAs readers fault = ⊥
 
 -- the bit that an event gave; most give none

@@ -1,7 +1,7 @@
 -- A cache and workers over it that may begin.
 use Rattle.std.specs.Prelude.{ℕ, ◌≡◌, ◌*◌, ◌≤◌, vec_capacity, vec_len}
 use Rattle.mc_words.specs.Shapes.{IsShape}
-use Rattle.mc_cache.specs.Openings.{HasReaders}
+use Rattle.mc_words.specs.Readers.{HasReaders}
 use Rattle.mc_workers.specs.declared.asked.Load.{Load}
 use Rattle.mc_workers.specs.declared.ready.Workers.{Workers}
 use Rattle.mc_workers.specs.Inside.Workers.{AreReady, HasWritten, IsWriting}

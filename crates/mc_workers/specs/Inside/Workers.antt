@@ -1,9 +1,13 @@
 -- The writer and the readers at work, between two calls.
 use Rattle.std.specs.Prelude.{ℕ, ◌≡◌, ◌+◌, ◌*◌, ◌≤◌, ◌<◌, All, List, None, IfSome, length, slice_index_or, vec_capacity, vec_len}
+use Rattle.mc_words.specs.History.{IsTrueAnswer}
+use Rattle.mc_words.specs.declared.history.Reply.{Reply}
 use Rattle.mc_theory.specs.Lists.{IsLawful}
 use Rattle.mc_shared.specs.Records.{Opening}
+use Rattle.mc_reader.specs.Records.{AreTrueAnswers}
+use Rattle.mc_workers.specs.Draws.{drawn_key}
 use Rattle.mc_workers.specs.Loads.{AreDrawn, AreTrue, HasMade, history_after}
-use Rattle.mc_workers.specs.Inside.Drawn.{HasDrawn}
+use Rattle.mc_workers.specs.Inside.Drawn.{AreNext, HasDrawn}
 use Rattle.mc_workers.specs.declared.asked.Load.{Load}
 use Rattle.mc_workers.specs.declared.looking.Looking.{Looking}
 use Rattle.mc_workers.specs.declared.writing.Writing.{Writing}
@@ -24,10 +28,28 @@ pub record IsLooking (V : ℕ) (o : Opening) (l : Looking V) : Type 0 where
   pub of : l.reader.of ≡ o
   pub told : AreTrue (history_after V o.layout.shape l.reader.front) l.records.items
 
--- the reader has looked up the keys that were drawn
+-- the keys that the reader has written down are those that were drawn
+abbrev pub HasNotedDrawn : (V : ℕ) → Load → Looking V → Type 0
+HasNotedDrawn V load l = AreDrawn load l.number l.records.items
+
+-- and it has drawn no others
 pub record HasLookedUpDrawn (V : ℕ) (load : Load) (l : Looking V) : Type 0 where
   pub drawn : HasDrawn load (l.number + 1) (length l.records.items) l.draws
-  pub keys : AreDrawn load l.number l.records.items
+  pub keys : HasNotedDrawn V load l
+
+-- this key is drawn for its next lookup, these for its next ones
+abbrev pub IsNextOf : (V : ℕ) → Load → Looking V → ℕ → Type 0
+IsNextOf V load l key = key ≡ drawn_key load (l.number + 1) (length l.records.items)
+
+abbrev pub AreNextOf : (V : ℕ) → Load → Looking V → List ℕ → Type 0
+AreNextOf V load l keys = AreNext load (l.number + 1) (length l.records.items) keys
+
+-- an answer, or answers, that are true of the history that it has seen
+abbrev pub IsTrueNow : (V : ℕ) → Opening → Looking V → ℕ → Reply V → Type 0
+IsTrueNow V o l key reply = IsTrueAnswer (history_after V o.layout.shape l.reader.front) key reply
+
+abbrev pub AreTrueNow : (V : ℕ) → Opening → Looking V → List ℕ → List (Reply V) → Type 0
+AreTrueNow V o l keys replies = (lo hi : ℕ) × AreTrueAnswers (history_after V o.layout.shape l.reader.front) lo hi keys replies
 
 -- reader n may begin: there is room for what it will be told
 pub record IsReady (V : ℕ) (o : Opening) (load : Load) (n : ℕ) (l : Looking V) : Type 0 where

@@ -3,7 +3,8 @@ use Rattle.std.specs.Prelude.{◌≡◌, ℕ, List, ◌++◌}
 use Rattle.mc_words.specs.declared.shape.Shape.{Shape}
 use Rattle.mc_theory.specs.Lists.{state_of}
 use Rattle.mc_search.specs.Sweeps.{Swept, hand_acts}
-use Rattle.mc_plan.specs.Clerks.{Call, IsSweeping}
+use Rattle.mc_plan.specs.WholeCalls.{Call}
+use Rattle.mc_plan.specs.Books.{IsSweeping}
 use Rattle.mc_plan.specs.declared.books.Books.{Books}
 use Rattle.mc_plan.specs.declared.waiting.Waiting.{Waiting}
 use Rattle.mc_shared.specs.Records.{WriterRecord, NotesGrow}

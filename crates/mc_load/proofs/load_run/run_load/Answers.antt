@@ -1,7 +1,7 @@
 use Rattle.std.proofs.Common.{map}
 use Rattle.clap.specs.Words.{kind_of}
 use Rattle.mc_load.specs.LoadPrograms.Loads.{loads}
-use Rattle.mc_load.proofs.LoadRuns.{load_fault}
+use Rattle.mc_load.proofs.LoadRuns.{few_at_once, load_fault}
 use Rattle.mc_load.proofs.load_run.run_load.Goals as goal
 
 pub returns-in-Err : goal.returns-in-Err
@@ -12,3 +12,9 @@ returns-in-Ok-new g c = loads c.in-Ok.options c.in-Ok.ensures c.run_measured.ens
 
 pub returns : goal.returns
 returns g c = loads c.in-Ok.options c.in-Ok.ensures c.run_plain.ensures
+
+pub run_measured-requires : goal.run_measured-requires
+run_measured-requires g c = (_, few_at_once (map g.S.AsStr.text c.args.words.now) c.in-Ok.options c.in-Ok.ensures)
+
+pub run_plain-requires : goal.run_plain-requires
+run_plain-requires g c = few_at_once (map g.S.AsStr.text c.args.words.now) c.in-Ok.options c.in-Ok.ensures

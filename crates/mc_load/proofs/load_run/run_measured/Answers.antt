@@ -3,7 +3,7 @@ use Rattle.std.proofs.KnownBytes.{Keeps-refl}
 use Rattle.mc_workers.specs.Loads.{RefusesLoad, Reports}
 use Rattle.mc_workers.specs.declared.asked.Load.{Load}
 use Rattle.mc_load.specs.LoadPrograms.{WritesLines, report_text}
-use Rattle.mc_step.specs.Streams.{stream}
+use Rattle.mc_options.specs.Streams.{stream}
 use Rattle.mc_load.proofs.load_run.run_measured.Goals as goal
 
 pub returns-in-Ok : goal.returns-in-Ok
@@ -11,7 +11,7 @@ returns-in-Ok g c =
     inl (
       c.in-Ok.report,
       subst (λ (l : Load). Reports 4 l c.in-Ok.report) c.load_for.ensures c.in-Ok.ensures,
-      subst (λ (b : Bool). WritesLines b (stream (g.W.Write.contents c.args.output.now) (g.W.Write.contents c.write_measured.new.output)) (report_text c.in-Ok.report) c.write_measured.result) (sym c.requires) c.write_measured.ensures,
+      subst (λ (b : Bool). WritesLines b (stream (g.W.Write.contents c.args.output.now) (g.W.Write.contents c.write_measured.new.output)) (report_text c.in-Ok.report) c.write_measured.result) (sym c.requires.histogram) c.write_measured.ensures,
       Keeps-refl (g.E.Write.contents c.args.errors.now),
     )
 

@@ -3,7 +3,7 @@ use Rattle.std.proofs.KnownBytes.{Keeps-refl}
 use Rattle.mc_workers.specs.Loads.{RefusesLoad, Reports}
 use Rattle.mc_workers.specs.declared.asked.Load.{Load}
 use Rattle.mc_load.specs.LoadPrograms.{report_text}
-use Rattle.mc_step.specs.Streams.{stream}
+use Rattle.mc_options.specs.Streams.{stream}
 use Rattle.mc_load.proofs.WrittenLines.{lines_only}
 use Rattle.mc_load.proofs.load_run.run_plain.Goals as goal
 

@@ -1,7 +1,7 @@
 use Rattle.std.proofs.Common.{[], ◌∙◌, Some, inl, inr, refl, rules}
 use Rattle.mc_load.specs.LoadPrograms.{report_text}
-use Rattle.mc_step.specs.Streams.{stream}
-use Rattle.mc_step.proofs.ToldLines.{told, written}
+use Rattle.mc_options.specs.Streams.{stream}
+use Rattle.mc_options.proofs.ToldLines.{told, written}
 use Rattle.mc_load.proofs.load_run.write_report.Goals as goal
 
 pub returns-then-all : goal.returns-then-all

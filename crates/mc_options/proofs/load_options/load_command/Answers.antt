@@ -8,7 +8,9 @@ use Rattle.mc_options.proofs.load_options.load_command.Goals as goal
 pub returns : goal.returns
 returns c =
     let named = c.in_ok-load_named.ensures in
-    let mixes = c.load_rows-rows.ensures in
+    let mixes = c.table_rows-rows.ensures in
     let rows = ap (map row_rule) c.as_slice.ensures ∙ mixes.2 in
-    let filled = c.in_ok-command.ensures ∙ ap₂ with_rules named.2 rows in
+    let shared = c.in_ok-command.ensures ∙ ap₂ with_rules named.2 rows in
+    let own = ap (map row_rule) c.as_slice-2.ensures ∙ c.load_rows-rows.ensures in
+    let filled = c.in_ok-command-2.ensures ∙ ap₂ with_rules shared own in
     IfOk-weaker c.arg.result _ _ (λ r added. (named.0, mixes.0, named.1, mixes.1, added.shape c.histogram_arg.ensures.local ∙ ap₂ with_rule filled c.histogram_arg.ensures.rule)) c.arg.ensures

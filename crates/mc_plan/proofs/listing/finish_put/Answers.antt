@@ -3,7 +3,8 @@ use Rattle.std.proofs.Common.{◌≡◌, ◌<◌, List, [], Some, Ok, Err, Resul
 use Rattle.mc_words.specs.Checks.{shape_of}
 use Rattle.mc_words.specs.declared.shape.Shape.{Shape}
 use Rattle.mc_theory.specs.declared.act.Act.{Act}
-use Rattle.mc_plan.specs.Clerks.{IsPlanned, IsSweepOf, state_after_sweep}
+use Rattle.mc_plan.specs.WholeCalls.{IsSweepOf, state_after_sweep}
+use Rattle.mc_plan.specs.Books.{IsPlanned}
 use Rattle.mc_plan.specs.declared.answer.Answer.TheVariants as answer
 use Rattle.mc_plan.specs.declared.answer.Put.{Put}
 use Rattle.mc_plan.specs.declared.answer.PutError.{PutError}

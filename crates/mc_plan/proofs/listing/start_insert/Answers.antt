@@ -2,7 +2,8 @@ use Rattle.mc_plan.specs.declared.decision.Storing.{Storing}
 use Rattle.std.proofs.Common.{List, [], None, Ok, refl, sym, subst}
 use Rattle.mc_words.specs.Checks.{shape_of}
 use Rattle.mc_theory.specs.declared.act.Act.{Act}
-use Rattle.mc_plan.specs.Clerks.{IsPlanned, IsSweepOf, PutCall}
+use Rattle.mc_plan.specs.WholeCalls.{IsSweepOf, PutCall}
+use Rattle.mc_plan.specs.Books.{IsPlanned}
 use Rattle.mc_plan.specs.Decisions.{storing_acts, storing_told}
 use Rattle.mc_plan.specs.declared.answer.Answer.TheVariants as answer
 use Rattle.mc_plan.specs.declared.answer.Put.{Put}

@@ -1,6 +1,7 @@
 use Rattle.std.proofs.Common.{List, Result, sym, subst}
 use Rattle.mc_theory.specs.declared.act.Act.{Act}
-use Rattle.mc_plan.specs.Clerks.{IsPlanned, RemoveCall}
+use Rattle.mc_plan.specs.WholeCalls.{RemoveCall}
+use Rattle.mc_plan.specs.Books.{IsPlanned}
 use Rattle.mc_plan.specs.Decisions.{removal_acts}
 use Rattle.mc_plan.specs.declared.answer.Answer.TheVariants as answer
 use Rattle.mc_plan.specs.declared.answer.Remove.{Remove}

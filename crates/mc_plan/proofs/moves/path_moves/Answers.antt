@@ -44,7 +44,7 @@ loop-n-preserved g c =
     let at : get_or c.deref.result.now m blank ≡ p = ap (λ (xs : List Place). get_or xs m blank) c.deref.ensures.0 in
     let word : c.slot_at-word.result ≡ slot sh w (slot_number p) = rw (← old.same, ← at) c.slot_at-word.ensures.value in
     let key : c.key_in-key.result ≡ item g.row.V sh w (item_in (slot sh w (slot_number p))) 0 =
-    rw (← word, ← old.same, ← c.slot_at-word.ensures.same) c.key_in-key.ensures.value in
+    rw (← word, ← old.same, ← (ap g.P.Peek.words c.slot_at-word.ensures.kept)) c.key_in-key.ensures.value in
     let move : Move = record { key = c.key_in-key.result; word = c.slot_at-word.result; from = get_or c.deref.result.now m blank; to = c.loop-n.to } in
     let pushed : acts_of_moves c.push.new.self.items ≡ acts_of_moves c.loop-n.moves.items ++ move_acts c.key_in-key.result c.slot_at-word.result p c.loop-n.to =
     ap acts_of_moves c.push.ensures.items ∙ moves_push c.loop-n.moves.items move ∙ ap (λ (q : Place). acts_of_moves c.loop-n.moves.items ++ move_acts c.key_in-key.result c.slot_at-word.result q c.loop-n.to) at in
@@ -53,7 +53,7 @@ loop-n-preserved g c =
     let made : IsMadeFrom g.row.V sh w [] (acts_of_moves c.push.new.self.items) (drop m ps) hole p = rw (path_from ps m n blank next below) after in
     record {
       within = omega (arith, old.within);
-      same = c.key_in-key.ensures.same ∙ c.slot_at-word.ensures.same ∙ old.same;
+      same = ap g.P.Peek.words (c.key_in-key.ensures.kept ∙ c.slot_at-word.ensures.kept) ∙ old.same;
       kept = c.key_in-key.ensures.kept ∙ c.slot_at-word.ensures.kept ∙ old.kept;
       many = omega (arith, c.push.ensures.len, old.many, next);
       items = made.items;

@@ -20,5 +20,5 @@ returns-clause-none g c =
     (λ none. absent_from-buckets g.row.V sh w k c.requires.placed
     (subst (λ (b : ℕ). IsNotAmong g.row.V sh w k b 4) c.first-first.ensures.bucket c.in_default.ensures.none)
     (subst (λ (b : ℕ). IsNotAmong g.row.V sh w k b 4) second
-    (subst (λ (v : List ℕ). IsNotAmong g.row.V sh v k c.alt-second.result 4) c.in_default.ensures.same none)))
+    (subst (λ (v : List ℕ). IsNotAmong g.row.V sh v k c.alt-second.result 4) (ap g.P.Peek.words c.in_default.ensures.kept) none)))
     c.find_in-2.ensures.none

@@ -13,13 +13,13 @@ loop-slot-preserved g c =
     let read = c.slot_at-word.ensures in
     elim c.match-tag_match.branch [
       | in-Some+else-stored-key u ↦ record {
-        same = ap words u.peek-is ∙ u.key_at-stored.ensures.same ∙ read.same ∙ c.loop-slot.invariant.same;
+        same = ap words (u.peek-is ∙ u.key_at-stored.ensures.kept ∙ read.kept) ∙ c.loop-slot.invariant.same;
         kept = u.peek-is ∙ u.key_at-stored.ensures.kept ∙ read.kept ∙ c.loop-slot.invariant.kept;
         none = below_more _ _ c.loop-slot.invariant.none
-            (not_at-other g.row.V sh w (words c.loop-slot.peek) (words c.slot_at-word.new.peek) c.args.key _ c.slot_at-word.result _ _ c.args.checked.now.sound c.loop-slot.invariant.same read.value (u.in-Some.ensures (tag_of sh c.args.key) c.requires.base) read.same u.key_at-stored.ensures.value u.if-stored-key.false);
+            (not_at-other g.row.V sh w (words c.loop-slot.peek) (words c.slot_at-word.new.peek) c.args.key _ c.slot_at-word.result _ _ c.args.checked.now.sound c.loop-slot.invariant.same read.value (u.in-Some.ensures (tag_of sh c.args.key) c.requires.base) (ap words read.kept) u.key_at-stored.ensures.value u.if-stored-key.false);
       }
       | in_default u ↦ record {
-        same = ap words u.peek-is ∙ read.same ∙ c.loop-slot.invariant.same;
+        same = ap words (u.peek-is ∙ read.kept) ∙ c.loop-slot.invariant.same;
         kept = u.peek-is ∙ read.kept ∙ c.loop-slot.invariant.kept;
         none = below_more _ _ c.loop-slot.invariant.none
             (not_at-none g.row.V sh w (words c.loop-slot.peek) c.args.key _ c.slot_at-word.result c.loop-slot.invariant.same read.value (u.in_default.ensures (tag_of sh c.args.key) c.requires.base));
@@ -32,4 +32,4 @@ returns-then-stored-key-clause-found g c =
     let words = g.P.Peek.words in
     let read = c.slot_at-word.ensures in
     let names = c.in-Some.ensures {u = tt} (tag_of sh c.args.key) c.requires.base in
-    stands_at g.row.V sh (words c.args.peek.now) (words c.loop-slot.peek) (words c.slot_at-word.new.peek) c.args.key _ c.slot_at-word.result _ _ (omega arith) (omega (arith, c.requires.in_table)) c.loop-slot.invariant.same read.value names read.same c.key_at-stored.ensures.value c.if-stored-key.true
+    stands_at g.row.V sh (words c.args.peek.now) (words c.loop-slot.peek) (words c.slot_at-word.new.peek) c.args.key _ c.slot_at-word.result _ _ (omega arith) (omega (arith, c.requires.in_table)) c.loop-slot.invariant.same read.value names (ap words read.kept) c.key_at-stored.ensures.value c.if-stored-key.true

@@ -1,4 +1,4 @@
-use Rattle.std.proofs.Common.{ℕ, List, None, sym, subst}
+use Rattle.std.proofs.Common.{ℕ, List, None, sym, subst, ap}
 use Rattle.mc_words.specs.Checks.{shape_of}
 use Rattle.mc_words.specs.Standing.{Agrees, Stands}
 use Rattle.mc_search.proofs.EntryLists.{if_none_any, stood_elsewhere, unstood}
@@ -11,7 +11,7 @@ returns-in_err-found-clause-none g c =
     let w = g.P.Peek.words c.args.peek.now in
     let h = c.requires.agrees.0 in
     let agrees = c.requires.agrees.1 in
-    let none = c.in_err-found.ensures.none h (subst (λ (ws : List ℕ). Agrees V sh ws None h) (sym c.key_at-key.ensures.same) agrees) in
+    let none = c.in_err-found.ensures.none h (subst (λ (ws : List ℕ). Agrees V sh ws None h) (sym (ap g.P.Peek.words c.key_at-key.ensures.kept)) agrees) in
     if_none_any c.from_residual.result ((k q : ℕ) → Stands V sh w k q c.args.item → ⊥) (unstood V sh w h c.key_at-key.result c.args.item agrees c.key_at-key.ensures.value none)
 
 pub returns-else-found-item-clause-none : goal.returns-else-found-item-clause-none
@@ -21,4 +21,4 @@ returns-else-found-item-clause-none g c =
     let w = g.P.Peek.words c.args.peek.now in
     let there = c.in_ok-found.ensures.item in
     stood_elsewhere V sh w c.requires.agrees.0 c.key_at-key.result c.args.item there.0 c.in_ok-found.found c.requires.agrees.1 c.key_at-key.ensures.value
-    (subst (λ (ws : List ℕ). Stands V sh ws c.key_at-key.result there.0 c.in_ok-found.found) c.key_at-key.ensures.same there.1) c.if-found-item.false
+    (subst (λ (ws : List ℕ). Stands V sh ws c.key_at-key.result there.0 c.in_ok-found.found) (ap g.P.Peek.words c.key_at-key.ensures.kept) there.1) c.if-found-item.false

@@ -1,4 +1,4 @@
-use Rattle.std.proofs.Common.{List, subst}
+use Rattle.std.proofs.Common.{List, subst, ap}
 use Rattle.std.specs.Prelude.{ℕ}
 use Rattle.mc_words.specs.Checks.{shape_of}
 use Rattle.mc_words.specs.History.{map_value}
@@ -16,7 +16,7 @@ returns-in-Some-clause-found g c h agrees =
     let V = g.row.V in
     let sh = shape_of c.args.checked.now in
     let w = g.P.Peek.words c.args.peek.now in
-    let value = subst (λ (x : List ℕ). HasValue V sh x c.in-Some.item c.value_at.result) c.find.ensures.same c.value_at.ensures.value in
+    let value = subst (λ (x : List ℕ). HasValue V sh x c.in-Some.item c.value_at.result) (ap g.P.Peek.words c.find.ensures.kept) c.value_at.ensures.value in
     held_value V sh w c.args.key (slot_number c.in-Some.field-0-0) c.in-Some.item c.value_at.result (map_value h c.args.key) (agrees.keys c.args.key (λ e. cc)) c.in-Some.ensures.found value
 
 pub returns-in-None-clause-none : goal.returns-in-None-clause-none

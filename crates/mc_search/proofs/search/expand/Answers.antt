@@ -19,7 +19,7 @@ bucket g c = bucket_read (shape_of c.args.checked.now) (g.P.Peek.words c.args.pe
 
 -- the words are the same after the read
 same : (g : Over) (c : After-add g) → g.P.Peek.words c.slot_at-word.new.peek ≡ g.P.Peek.words c.args.peek.now
-same g c = c.slot_at-word.ensures.same ∙ c.loop-slot.invariant.same
+same g c = ap g.P.Peek.words c.slot_at-word.ensures.kept ∙ c.loop-slot.invariant.same
 
 -- and so is the view
 kept : (g : Over) (c : After-add g) → c.slot_at-word.new.peek ≡ c.args.peek.now
@@ -47,7 +47,7 @@ loop-slot-preserved g c =
     λ k s. expanding-added sh w k c.args.front c.args.entry c.loop-slot.slot b q r c.add.result (c.loop-slot.invariant.expanding k s) c.loop-slot-test.true (taken g a) c.requires.shallow (bucket g a) c.add.ensures.added in
     elim c.if-add.branch [
       | then-add+in_default u ↦ record {
-        same = ap words u.peek-is ∙ u.in_default.ensures.same ∙ same g a;
+        same = ap words u.peek-is ∙ ap g.P.Peek.words u.in_default.ensures.kept ∙ same g a;
         kept = u.peek-is ∙ u.in_default.ensures.kept ∙ kept g a;
         queue = c.add.ensures.queue;
         room = c.add.ensures.room;

@@ -18,7 +18,7 @@ pub looking_of-requires : goal.looking_of-requires
 looking_of-requires g c =
     let all : length c.args.readers.items ≡ c.args.load.readers = ap length c.requires.fresh.1 ∙ new_length c.requires.fresh.0 c.args.load.readers in
     let one : length c.loop-reader.readers.items ≡ length c.pop.new.self.items + 1 = ap length c.in-Some.ensures.items ∙ length-append c.pop.new.self.items (c.in-Some.reader ∷ []) in
-    (omega arith, (omega arith, (c.requires.width, (c.requires.keys, omega (arith, all, one, c.loop-reader.invariant.many, c.len-number.ensures)))))
+    (omega arith, (omega arith, (c.requires.width, (c.requires.keys, (c.requires.many, omega (arith, all, one, c.loop-reader.invariant.many, c.len-number.ensures))))))
 
 pub loop-reader-preserved : goal.loop-reader-preserved
 loop-reader-preserved g c =

@@ -1,4 +1,4 @@
-use Rattle.std.proofs.Common.{ℕ, ◌≡◌, ◌+◌, [], length}
+use Rattle.std.proofs.Common.{◌≡◌, ◌+◌, length}
 use Rattle.mc_shared.specs.Records.{Opening, new_readers}
 use Rattle.mc_workers.specs.Inside.Workers.{AreReady}
 use Rattle.mc_workers.proofs.ready.lookings_of.Given as goal

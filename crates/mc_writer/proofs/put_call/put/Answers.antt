@@ -1,7 +1,7 @@
 use Rattle.std.proofs.Common.{◌∙◌, Ok, Err, ap, refl, sym}
 use Rattle.mc_words.specs.Checks.{shape_of}
 use Rattle.mc_words.specs.declared.shape.Shape.{Shape}
-use Rattle.mc_plan.specs.Clerks.{PutCall}
+use Rattle.mc_plan.specs.WholeCalls.{PutCall}
 use Rattle.mc_plan.specs.Decisions.{renewal_acts}
 use Rattle.mc_plan.specs.declared.answer.Answer.TheVariants as answer
 use Rattle.mc_plan.specs.declared.answer.Put.TheVariants as put

@@ -2,7 +2,8 @@ use Rattle.std.proofs.Common.{◌≡◌, ◌∙◌, Ok, Err, None, ap, refl, sym
 use Rattle.mc_words.specs.Checks.{shape_of}
 use Rattle.mc_words.specs.declared.shape.Shape.{Shape}
 use Rattle.mc_theory.specs.Lists.{state_of}
-use Rattle.mc_plan.specs.Clerks.{PutCall, IsPlanned}
+use Rattle.mc_plan.specs.WholeCalls.{PutCall}
+use Rattle.mc_plan.specs.Books.{IsPlanned}
 use Rattle.mc_plan.specs.Decisions.{storing_acts, storing_told}
 use Rattle.mc_plan.specs.declared.answer.Answer.TheVariants as answer
 use Rattle.mc_plan.specs.declared.answer.Put.{Put}

@@ -2,7 +2,7 @@ use Rattle.std.proofs.Common.{◌∙◌, [], Ok, ap, refl, sym, arith}
 use Rattle.mc_words.specs.Checks.{shape_of}
 use Rattle.mc_words.specs.declared.shape.Shape.{Shape}
 use Rattle.mc_theory.specs.Lists.{state_of}
-use Rattle.mc_plan.specs.Clerks.{RemoveCall}
+use Rattle.mc_plan.specs.WholeCalls.{RemoveCall}
 use Rattle.mc_plan.specs.Plans.{remove_acts}
 use Rattle.mc_plan.specs.declared.answer.Answer.TheVariants as answer
 use Rattle.mc_plan.specs.declared.answer.Remove.TheVariants as remove

@@ -1,5 +1,5 @@
 use Rattle.std.proofs.Common.{◌≡◌}
-use Rattle.mc_plan.specs.Clerks.{Call}
+use Rattle.mc_plan.specs.WholeCalls.{Call}
 use Rattle.mc_shared.specs.Records.{WriterRecord}
 use Rattle.mc_writer.specs.Inside.Turns.{HasTurned}
 use Rattle.mc_writer.proofs.sweep.turn_round.Given as goal

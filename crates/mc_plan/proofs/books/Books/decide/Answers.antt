@@ -6,7 +6,8 @@ use Rattle.mc_words.specs.Checks.{shape_of}
 use Rattle.mc_words.specs.Places.{slot_number}
 use Rattle.mc_words.specs.Standing.{Stands, IsAbsent}
 use Rattle.mc_theory.specs.States.{State}
-use Rattle.mc_plan.specs.Clerks.{PutCall, AreBooksOf, quiet_of}
+use Rattle.mc_plan.specs.WholeCalls.{PutCall, quiet_of}
+use Rattle.mc_plan.specs.Books.{AreBooksOf}
 use Rattle.mc_plan.specs.declared.answer.Answer.TheVariants as answer
 use Rattle.mc_plan.specs.declared.answer.PutError.TheVariants as why
 use Rattle.mc_plan.proofs.Calls.AfterPlan.{idle_planned, renewal_planned, placed_in, moment_in}
@@ -27,14 +28,14 @@ unspent g c s old spent =
 
 pub find-requires-clause-placed : goal.find-requires-clause-placed
 find-requires-clause-placed g c =
-    placed_in g.row.V c.args.self.now c.requires.books.0 _ c.requires.books.1 (c.moment-at.ensures.same ∙ c.requires.books.2) c.args.key
+    placed_in g.row.V c.args.self.now c.requires.books.0 _ c.requires.books.1 (ap g.P.Peek.words c.moment-at.ensures.kept ∙ c.requires.books.2) c.args.key
 
 pub returns-in-Some-clause-decided : goal.returns-in-Some-clause-decided
 returns-in-Some-clause-decided g c s old same =
     let V = g.row.V in
     let b = c.args.self.now in
     let q = slot_number c.in-Some.field-0-0 in
-    let stands = subst (λ (x : List ℕ). Stands V (shape_of b.checked) x c.args.key q c.in-Some.item) (c.moment-at.ensures.same ∙ same) c.in-Some.ensures.found in
+    let stands = subst (λ (x : List ℕ). Stands V (shape_of b.checked) x c.args.key q c.in-Some.item) (ap g.P.Peek.words c.moment-at.ensures.kept ∙ same) c.in-Some.ensures.found in
     let not_spent = unspent g (goal.at.returns-in-Some-clause-decided g c).Else-is_spent s old in
     let at = moment_in V b s (g.P.Peek.words c.args.peek.now) old same (c.moment-at.result + 1) (ap (λ (n : ℕ). n + 1) c.moment-at.ensures.value) in
     renewal_planned V b c.args.key c.args.value.now c.in-Some.item (c.moment-at.result + 1) s q b.checked.sound (omega arith) (c.told-value, c.have_words.ensures.words) old stands not_spent (omega (arith, not_spent)) at
@@ -43,7 +44,7 @@ pub returns-in-None-clause-decided : goal.returns-in-None-clause-decided
 returns-in-None-clause-decided g c s old same =
     let V = g.row.V in
     let b = c.args.self.now in
-    let absent = subst (λ (x : List ℕ). IsAbsent V (shape_of b.checked) x c.args.key) (c.moment-at.ensures.same ∙ same) c.in-None.ensures.none in
+    let absent = subst (λ (x : List ℕ). IsAbsent V (shape_of b.checked) x c.args.key) (ap g.P.Peek.words c.moment-at.ensures.kept ∙ same) c.in-None.ensures.none in
     record {
       known = old;
       unspent = unspent g (goal.at.returns-in-None-clause-decided g c).Else-is_spent s old;

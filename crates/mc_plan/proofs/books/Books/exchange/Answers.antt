@@ -3,7 +3,7 @@ use Rattle.mc_words.specs.Checks.{shape_of}
 use Rattle.mc_words.specs.Places.{item, moment, slot_number}
 use Rattle.mc_words.specs.Standing.{Stands}
 use Rattle.mc_theory.specs.States.{State}
-use Rattle.mc_plan.specs.Clerks.{Call, state_after_sweep}
+use Rattle.mc_plan.specs.WholeCalls.{Call, state_after_sweep}
 use Rattle.mc_search.specs.Paths.{IsCut}
 use Rattle.mc_plan.specs.Inside.Clerks.{IsReplacing}
 use Rattle.mc_plan.proofs.Calls.AfterPlan.{placed_in}
@@ -24,21 +24,21 @@ victim_at : (g : Over) (c : After-key_at-evicted g) (call : Call) (s : State g.r
 victim_at g c call s rs on same =
     let V = g.row.V in
     let sh = shape_of c.args.self.now.checked in
-    let is : c.key_at-evicted.result ≡ item V sh s.words c.args.item 0 = c.key_at-evicted.ensures.value ∙ ap (λ (w : List ℕ). item V sh w c.args.item 0) (c.moment-at.ensures.same ∙ same) in
+    let is : c.key_at-evicted.result ≡ item V sh s.words c.args.item 0 = c.key_at-evicted.ensures.value ∙ ap (λ (w : List ℕ). item V sh w c.args.item 0) (ap g.P.Peek.words c.moment-at.ensures.kept ∙ same) in
     let there = (victim_stands V c.args.self.now c.args.waiting.now call s rs c.args.item on).1 in
     (there.0, subst (λ (k : ℕ). Stands V sh s.words k there.0 c.args.item) (sym is) there.1)
 
 pub find-requires-clause-placed : goal.find-requires-clause-placed
 find-requires-clause-placed g c =
     let r = c.requires.books in
-    placed_in g.row.V (record c.args.self.now { hand = r.3.before }) r.1 _ r.3.sweeping.waits.known (c.key_at-evicted.ensures.same ∙ c.moment-at.ensures.same ∙ r.4) c.key_at-evicted.result
+    placed_in g.row.V (record c.args.self.now { hand = r.3.before }) r.1 _ r.3.sweeping.waits.known (ap g.P.Peek.words (c.key_at-evicted.ensures.kept ∙ c.moment-at.ensures.kept) ∙ r.4) c.key_at-evicted.result
 
 pub unreachable-requires : goal.unreachable-requires
 unreachable-requires g c =
     let r = c.requires.books in
     let sh = shape_of c.args.self.now.checked in
     let there = victim_at g (goal.at.unreachable-requires g c).After-key_at-evicted r.0 r.1 r.2 r.3 r.4 in
-    let now = c.key_at-evicted.ensures.same ∙ c.moment-at.ensures.same ∙ r.4 in
+    let now = ap g.P.Peek.words (c.key_at-evicted.ensures.kept ∙ c.moment-at.ensures.kept) ∙ r.4 in
     c.in_default.ensures.none there.0 c.args.item (subst (λ (w : List ℕ). Stands g.row.V sh w c.key_at-evicted.result there.0 c.args.item) (sym now) there.1)
 
 pub returns-clause-exchanged : goal.returns-clause-exchanged
@@ -53,7 +53,7 @@ returns-clause-exchanged g c call s rs on same =
     let ps = waiting.path.places.items in
     let mid = state_after_sweep V sh s rs in
     let back : s.words ≡ mid.words = sym (swept_still V sh s rs).words in
-    let read = c.key_at-evicted.ensures.same ∙ c.moment-at.ensures.same ∙ same in
+    let read = ap g.P.Peek.words (c.key_at-evicted.ensures.kept ∙ c.moment-at.ensures.kept) ∙ same in
     let there = victim_at g (goal.at.returns-clause-exchanged g c).After-key_at-evicted call s rs on same in
     let found = subst (λ (w : List ℕ). Stands V sh w e (slot_number p) c.in-Some.field-0-1) read c.in-Some.ensures.found in
     let one = one_item V sh s e there.0 i (slot_number p) c.in-Some.field-0-1 on.sweeping.waits.known.quiet there.1 found in

@@ -3,7 +3,8 @@ use Rattle.mc_words.specs.Checks.{shape_of}
 use Rattle.mc_words.specs.declared.shape.Shape.{Shape}
 use Rattle.mc_theory.specs.declared.act.Act.{Act}
 use Rattle.mc_theory.specs.declared.act.Act.TheVariants as act
-use Rattle.mc_plan.specs.Clerks.{PutCall, IsPlanned, Waits}
+use Rattle.mc_plan.specs.WholeCalls.{PutCall}
+use Rattle.mc_plan.specs.Books.{IsPlanned, Waits}
 use Rattle.mc_plan.specs.Decisions.{storing_acts, storing_told}
 use Rattle.mc_plan.specs.declared.answer.Answer.TheVariants as answer
 use Rattle.mc_plan.specs.declared.answer.Put.{Put}

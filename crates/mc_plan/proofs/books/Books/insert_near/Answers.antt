@@ -1,6 +1,6 @@
 use Rattle.std.proofs.Common.{◌<◌, arith}
 use Rattle.mc_words.specs.Checks.{shape_of}
-use Rattle.mc_plan.specs.Clerks.{Waits}
+use Rattle.mc_plan.specs.Books.{Waits}
 use Rattle.mc_search.specs.Paths.{direct_path}
 use Rattle.mc_search.proofs.TakenItems.{free_below}
 use Rattle.mc_plan.proofs.Calls.AfterPlan.{books_still, stored_planned, least_in}

@@ -5,7 +5,8 @@ use Rattle.mc_words.specs.Standing.{Stands}
 use Rattle.mc_theory.specs.States.{State}
 use Rattle.mc_theory.specs.declared.act.Act.{Act}
 use Rattle.mc_theory.specs.declared.act.Act.TheVariants as act
-use Rattle.mc_plan.specs.Clerks.{Call, IsPlanned, IsSweepOf, state_after_sweep}
+use Rattle.mc_plan.specs.WholeCalls.{Call, IsSweepOf, state_after_sweep}
+use Rattle.mc_plan.specs.Books.{IsPlanned}
 use Rattle.mc_plan.specs.Inside.Clerks.{IsReplacing}
 use Rattle.mc_plan.specs.declared.answer.Answer.TheVariants as answer
 use Rattle.mc_plan.specs.declared.answer.Put.{Put}
@@ -38,21 +39,21 @@ victim_at : (g : Over) (c : After-key_at-evicted g) (call : Call) (s : State g.r
 victim_at g c call s rs on same =
     let V = g.row.V in
     let sh = shape_of c.args.self.now.checked in
-    let is : c.key_at-evicted.result ≡ item V sh s.words c.args.item 0 = c.key_at-evicted.ensures.value ∙ ap (λ (w : List ℕ). item V sh w c.args.item 0) (c.moment-at.ensures.same ∙ same) in
+    let is : c.key_at-evicted.result ≡ item V sh s.words c.args.item 0 = c.key_at-evicted.ensures.value ∙ ap (λ (w : List ℕ). item V sh w c.args.item 0) (ap g.P.Peek.words c.moment-at.ensures.kept ∙ same) in
     let there = (victim_stands V c.args.self.now c.args.waiting call s rs c.args.item on).1 in
     (there.0, subst (λ (k : ℕ). Stands V sh s.words k there.0 c.args.item) (sym is) there.1)
 
 pub find-requires-clause-placed : goal.find-requires-clause-placed
 find-requires-clause-placed g c =
     let r = c.requires.books in
-    placed_in g.row.V (record c.args.self.now { hand = r.3.before }) r.1 _ r.3.sweeping.waits.known (c.key_at-evicted.ensures.same ∙ c.moment-at.ensures.same ∙ r.4) c.key_at-evicted.result
+    placed_in g.row.V (record c.args.self.now { hand = r.3.before }) r.1 _ r.3.sweeping.waits.known (ap g.P.Peek.words (c.key_at-evicted.ensures.kept ∙ c.moment-at.ensures.kept) ∙ r.4) c.key_at-evicted.result
 
 pub unreachable-requires : goal.unreachable-requires
 unreachable-requires g c =
     let r = c.requires.books in
     let sh = shape_of c.args.self.now.checked in
     let there = victim_at g (goal.at.unreachable-requires g c).After-key_at-evicted r.0 r.1 r.2 r.3 r.4 in
-    let now = c.key_at-evicted.ensures.same ∙ c.moment-at.ensures.same ∙ r.4 in
+    let now = ap g.P.Peek.words (c.key_at-evicted.ensures.kept ∙ c.moment-at.ensures.kept) ∙ r.4 in
     c.in_default.ensures.none there.0 c.args.item (subst (λ (w : List ℕ). Stands g.row.V sh w c.key_at-evicted.result there.0 c.args.item) (sym now) there.1)
 
 pub store-requires-clause-filled : goal.store-requires-clause-filled
@@ -60,7 +61,7 @@ store-requires-clause-filled g c =
     let V = g.row.V in
     let r = c.requires.books in
     let b : Books = record c.args.self.now { hand = r.3.before } in
-    let now = c.find.ensures.same ∙ c.key_at-evicted.ensures.same ∙ c.moment-at.ensures.same in
+    let now = ap g.P.Peek.words (c.find.ensures.kept ∙ c.key_at-evicted.ensures.kept ∙ c.moment-at.ensures.kept) in
     subst (λ (w : List ℕ). IsFilled (shape_of b.checked) w) (sym now) (filled_in V b r.1 _ r.3.sweeping.waits.known r.4)
 
 pub store-requires-clause-taken : goal.store-requires-clause-taken
@@ -69,7 +70,7 @@ store-requires-clause-taken g c =
     let sh = shape_of c.args.self.now.checked in
     let path = c.args.waiting.path in
     let kept = c.cut_at-path.result.places.items in
-    let now = c.find.ensures.same ∙ c.key_at-evicted.ensures.same ∙ c.moment-at.ensures.same in
+    let now = ap g.P.Peek.words (c.find.ensures.kept ∙ c.key_at-evicted.ensures.kept ∙ c.moment-at.ensures.kept) in
     let was = chain_taken sh r.1.words c.args.waiting.key path.places.items path.hole r.3.sweeping.waits.least.chain in
     subst (λ (w : List ℕ). AreTaken sh w kept) (sym (now ∙ r.4)) (cut_taken sh r.1.words c.in-Some.victim path.places.items path.hole kept c.cut_at-path.result.hole c.cut_at-path.ensures.cut was)
 
@@ -89,8 +90,8 @@ returns-clause-replaced g c call s rs on same =
     let storing = c.store.new.self.decided in
     let mid = state_after_sweep V sh s rs in
     let back : s.words ≡ mid.words = sym (swept_still V sh s rs).words in
-    let read = c.key_at-evicted.ensures.same ∙ c.moment-at.ensures.same ∙ same in
-    let now = c.find.ensures.same ∙ read ∙ back in
+    let read = ap g.P.Peek.words (c.key_at-evicted.ensures.kept ∙ c.moment-at.ensures.kept) ∙ same in
+    let now = ap g.P.Peek.words c.find.ensures.kept ∙ read ∙ back in
     let there = victim_at g (goal.at.returns-clause-replaced g c).After-key_at-evicted call s rs on same in
     let found = subst (λ (w : List ℕ). Stands V sh w e (slot_number p) c.in-Some.field-0-1) read c.in-Some.ensures.found in
     let one = one_item V sh s e there.0 i (slot_number p) c.in-Some.field-0-1 on.sweeping.waits.known.quiet there.1 found in

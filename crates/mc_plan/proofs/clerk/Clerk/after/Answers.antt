@@ -5,7 +5,8 @@ use Rattle.std.specs.Prelude.{slice_get}
 use Rattle.mc_theory.specs.Lists.{Made}
 use Rattle.mc_theory.specs.States.{State}
 use Rattle.mc_theory.specs.declared.act.Act.{Act}
-use Rattle.mc_plan.specs.Clerks.{Call, IsAtStage, IsOn, acts_left, left_in, next_act, next_in, shape_of_clerk}
+use Rattle.mc_plan.specs.WholeCalls.{Call}
+use Rattle.mc_plan.specs.Clerks.{IsAtStage, IsOn, acts_left, left_in, next_act, next_in, shape_of_clerk}
 use Rattle.mc_plan.specs.Inside.Clerks.{HasEndedSweep}
 use Rattle.mc_plan.specs.declared.clerk.Stage.{Stage}
 use Rattle.mc_plan.specs.declared.clerk.Stage.TheVariants.{Sweeping}

@@ -1,7 +1,8 @@
 use Rattle.std.proofs.Common.{◌≡◌, ◌+◌, ap, arith, refl, subst, sym}
 use Rattle.mc_words.specs.declared.shape.Shape.{Shape}
 use Rattle.mc_words.specs.Checks.{shape_of}
-use Rattle.mc_plan.specs.Clerks.{PutCall, acts_left, left_in}
+use Rattle.mc_plan.specs.WholeCalls.{PutCall}
+use Rattle.mc_plan.specs.Clerks.{acts_left, left_in}
 use Rattle.mc_plan.specs.Inside.Clerks.{IsStarted}
 use Rattle.mc_plan.specs.Making.{IsQuiet}
 use Rattle.mc_plan.specs.declared.answer.Answer.TheVariants as answer

@@ -1,7 +1,7 @@
 use Rattle.std.proofs.Common.{◌≡◌, arith, refl, ap, sym, subst}
 use Rattle.mc_theory.specs.Lists.{state_of}
 use Rattle.mc_theory.specs.States.{State}
-use Rattle.mc_plan.specs.Clerks.{PutCall, RemoveCall}
+use Rattle.mc_plan.specs.WholeCalls.{PutCall, RemoveCall}
 use Rattle.mc_replay.specs.Inside.Players.{shape_of_player, call_of, IsInCall}
 use Rattle.mc_replay.specs.Replay.{pending}
 use Rattle.mc_replay.specs.declared.player.Call.{Call}

@@ -1,7 +1,7 @@
 use Rattle.std.proofs.Common.{arith}
 use Rattle.std.proofs.lemmas.Result.{IfOk-weaker}
 use Rattle.mc_theory.specs.Lists.{state_of}
-use Rattle.mc_plan.specs.Clerks.{Call}
+use Rattle.mc_plan.specs.WholeCalls.{Call}
 use Rattle.mc_replay.specs.Inside.Players.{shape_of_player, call_of}
 use Rattle.mc_replay.specs.Replay.{pending}
 use Rattle.mc_replay.specs.declared.player.Player.{Player}

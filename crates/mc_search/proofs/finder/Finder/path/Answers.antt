@@ -20,7 +20,7 @@ found : (g : Over) (c : In-Some-found g) → IsFound (shape_of c.self.inside.che
 found g c =
     let sh = shape_of c.self.inside.checked in
     let q = c.search-found.new.queue.items in
-    subst (λ (v : List ℕ). IsFound sh v c.args.key q (length q - 1) c.in-Some-found.hole) c.in_default.ensures.same
+    subst (λ (v : List ℕ). IsFound sh v c.args.key q (length q - 1) c.in-Some-found.hole) (ap g.P.Peek.words c.in_default.ensures.kept)
     (c.in-Some-found.ensures.found c.args.key (c.start.ensures.searching sh (g.P.Peek.words c.hole_in_either.new.peek) c.args.key c.first-first.ensures.bucket (second g (goal.at.In-Some-found g c).After-alt-second)))
 
 -- the way back from there

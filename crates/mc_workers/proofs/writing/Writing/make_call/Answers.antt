@@ -1,8 +1,8 @@
 use Rattle.std.proofs.Common.{rules, ℕ, ◌≡◌, ◌+◌, ◌*◌, ◌%◌, IsTrue, ap, arith, subst, sym, ◌∙◌}
 use Rattle.std.specs.Prelude.{replicate}
 use Rattle.mc_words.specs.declared.shape.Shape.{Shape}
-use Rattle.mc_plan.specs.Clerks.{Call}
-use Rattle.mc_plan.specs.Clerks.Call.{PutCall, RemoveCall}
+use Rattle.mc_plan.specs.WholeCalls.{Call}
+use Rattle.mc_plan.specs.WholeCalls.Call.{PutCall, RemoveCall}
 use Rattle.mc_writer.specs.WriterCalls.{HasCalled}
 use Rattle.mc_workers.specs.Draws.{drawn_call, drawn_key, drawn_word}
 use Rattle.mc_workers.specs.Inside.Drawn.{HasDrawn}

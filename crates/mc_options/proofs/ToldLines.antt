@@ -7,7 +7,7 @@ use Rattle.std.specs.Fmt.{WritesText, with_newline}
 use Rattle.std.specs.Fmt.InlineText.{inline_text, IsIntact, AppendsIfIntact}
 use Rattle.std.specs.declared.fmt.InlineText.{InlineText}
 use Rattle.std.proofs.Math.Seq.{take-length}
-use Rattle.mc_step.specs.Streams.{Stream, Tells}
+use Rattle.mc_options.specs.Streams.{Stream, Tells}
 
 -- parts written one after the other append all of them
 appended : {n : ℕ} (a : InlineText n) (parts : List (List ℕ)) (b : InlineText n) → FoldsTo AppendsIfIntact a parts b → IsIntact a → inline_text b ≡ inline_text a ++ concat parts

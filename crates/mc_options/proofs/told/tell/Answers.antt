@@ -1,7 +1,7 @@
 use Rattle.std.proofs.Common.{◌∙◌, rules}
-use Rattle.mc_step.specs.Streams.{stream}
-use Rattle.mc_step.proofs.ToldLines.{told}
-use Rattle.mc_step.proofs.told.tell.Goals as goal
+use Rattle.mc_options.specs.Streams.{stream}
+use Rattle.mc_options.proofs.ToldLines.{told}
+use Rattle.mc_options.proofs.told.tell.Goals as goal
 
 pub returns-then-is_ok : goal.returns-then-is_ok
 returns-then-is_ok g c =

@@ -1,8 +1,8 @@
 //! What the programs tell on standard error.
 ghost use Rattle.std.specs.Prelude.{◌++◌, IfSome, Some, codes};
 ghost use Rattle.clap.specs.Words.{kind_of};
-ghost use Rattle.mc_step.specs.Streams.{stream, Tells, TellsFault};
-ghost use Rattle.mc_step.specs.ShapeTexts.{shape_text};
+ghost use Rattle.mc_options.specs.Streams.{stream, Tells, TellsFault};
+ghost use Rattle.mc_options.specs.ShapeTexts.{shape_text};
 
 use clap::Error;
 use clap::error::ErrorKind;

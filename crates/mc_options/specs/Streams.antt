@@ -3,6 +3,7 @@ use Rattle.std.specs.Prelude.{◌≡◌, ◌≢◌, ℕ, ◌⊎◌, ◌++◌, �
 use Rattle.std.specs.Io.KnownBytes.{Keeps, Appends}
 use Rattle.clap.specs.declared.error.kind.ErrorKind.{ErrorKind}
 use Rattle.clap.specs.declared.error.kind.ErrorKind.TheVariants as kind
+use Rattle.mc_options.specs.Statuses.{failed, refused}
 
 -- the bytes that a reader has left, or that a writer holds, where they are known: before a run and after it
 pub record Stream : Type 0 where
@@ -22,15 +23,15 @@ Tells errors text = (n : ℕ) × Appends errors.old errors.new (take n (text ++ 
 
 -- the help or the version is printed; of its text no clause speaks
 abbrev pub Prints : Stream → ℕ → Type 0
-Prints errors status = IsUntouched errors × ((status ≡ 0) ⊎ (status ≡ 3))
+Prints errors status = IsUntouched errors × ((status ≡ 0) ⊎ (status ≡ failed))
 
 -- memory was short, and nothing is written but that line
 abbrev pub IsShort : Stream → Stream → ℕ → Type 0
-IsShort output errors status = IsUntouched output × Tells errors (codes "refused: no memory") × (status ≡ 3)
+IsShort output errors status = IsUntouched output × Tells errors (codes "refused: no memory") × (status ≡ failed)
 
 -- what comes of words that give no options, by the kind of their fault; the text of a fault is the library's
 abbrev pub TellsFault : ErrorKind → Stream → Stream → ℕ → Type 0
 TellsFault k output errors status =
     ((k ≡ kind.OutOfMemory) × IsShort output errors status) ⊎
     ((((k ≡ kind.DisplayHelp) ⊎ (k ≡ kind.DisplayVersion)) × Prints errors status) ⊎
-    ((k ≢ kind.OutOfMemory) × (k ≢ kind.DisplayHelp) × (k ≢ kind.DisplayVersion) × IsUntouched output × (status ≡ 2)))
+    ((k ≢ kind.OutOfMemory) × (k ≢ kind.DisplayHelp) × (k ≢ kind.DisplayVersion) × IsUntouched output × (status ≡ refused)))
