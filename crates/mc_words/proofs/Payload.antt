@@ -1,10 +1,10 @@
 -- The value of an item, and the words of which it is the first: the value, and then the stamp.
-use Rattle.std.proofs.Common.{ℕ, ◌≡◌, ◌+◌, ◌<◌, ◌≤◌, List, [], ◌∷◌, ◌++◌, length, take, refl, sym, ◌∙◌, subst, inl, inr, arith, length-append}
+use Rattle.std.proofs.Common.{ℕ, ◌≡◌, ◌+◌, ◌<◌, ◌≤◌, List, [], ◌∷◌, ◌++◌, length, take, refl, sym, ◌∙◌, ap, subst, inl, inr, arith, length-append}
 use Rattle.std.proofs.Math.Seq.{take-append_seam}
 use Rattle.std.proofs.lemmas.Bool.{cases_eq}
 use Rattle.std.proofs.lemmas.List.{ext_get_or, length-take-le, get_or-take, get_or_push, get_or_append_left}
 use Rattle.mc_words.specs.History.{since_of, value_of}
-use Rattle.mc_words.specs.Places.{payload, most_payload, IsWidth}
+use Rattle.mc_words.specs.Places.{item, payload, most_payload, IsWidth}
 use Rattle.mc_words.specs.Standing.{HasPayload, HasValue}
 use Rattle.mc_words.specs.declared.shape.Shape.{Shape}
 
@@ -45,6 +45,18 @@ whole_payload V n xs whole is =
           let less : j < V = omega (arith, l, ne, all, many) in
           get_or_append_left (value_of V xs) (n ∷ []) 0 j (omega (arith, less, many)) ∙ get_or-take V xs j 0 less
     ])
+
+-- an item that has this value and this stamp
+pub payload_from : (V : ℕ) (sh : Shape) (w : List ℕ) (i n : ℕ) (v : List ℕ) → HasValue V sh w i v → item V sh w i (payload V) ≡ n → HasPayload V sh w i (v ++ n ∷ [])
+payload_from V sh w i n v has is =
+    let all = length-append v (n ∷ []) in
+    (omega (arith, all, has.0, payload_is V), λ j l.
+        elim (cases_eq j V) [
+          | inl e ↦ ap (item V sh w i) (omega (arith, e, payload_is V)) ∙ is ∙ sym (get_or_push v n 0 j (omega (arith, e, has.0)))
+          | inr ne ↦
+              let less : j < length v = omega (arith, l, ne, all, has.0) in
+              has.1 j less ∙ sym (get_or_append_left v (n ∷ []) 0 j less)
+        ])
 
 -- an item that has these words has the value in them
 pub value_in : (V : ℕ) (sh : Shape) (w : List ℕ) (i : ℕ) (xs : List ℕ) → HasPayload V sh w i xs → HasValue V sh w i (value_of V xs)

@@ -1,6 +1,7 @@
 -- Changes, the map after them, which histories are legal, and which answers are true.
 use Rattle.std.specs.Prelude.{ℕ, ◌≡◌, ◌≤◌, ◌==◌, ◌<◌, ◌+◌, ◌^◌, All, if◌then◌else◌, List, [], ◌∷◌, ◌++◌, length, take, slice_index, Option, Some, None, IsSome}
 use Rattle.std.specs.Map.{lookup}
+use Rattle.std.specs.Option.{option_map}
 use Rattle.mc_words.specs.declared.history.Change.{Change}
 use Rattle.mc_words.specs.declared.history.Change.TheVariants.{Put, Remove, Evict}
 use Rattle.mc_words.specs.declared.history.Reply.{Reply}
@@ -23,9 +24,21 @@ abbrev pub map_from : {V : ℕ} → ℕ → List (ℕ × List ℕ) → List (Cha
 map_from n m [] = m
 map_from n m (c ∷ cs) = map_from (n + 1) (map_after n m c) cs
 
+-- the value in the words that an item keeps behind its key: the first V of them
+abbrev pub value_of : ℕ → List ℕ → List ℕ
+value_of V xs = take V xs
+
+-- the stamp in them: the word behind the value, the moment of the key's last put
+abbrev pub since_of : ℕ → List ℕ → ℕ
+since_of V xs = slice_index xs V
+
 -- what the map of the history holds of the key: a payload
 unfoldable pub map_value : {V : ℕ} → List (Change V) → ℕ → Option (List ℕ)
 map_value h k = lookup (λ q. k == q) (map_from 1 [] h)
+
+-- the value in it, without the stamp
+abbrev pub value_held : {V : ℕ} → List (Change V) → ℕ → Option (List ℕ)
+value_held {V} h k = option_map (value_of V) (map_value h k)
 
 -- how many keys the map of the history has
 unfoldable pub key_count : {V : ℕ} → List (Change V) → ℕ
@@ -48,14 +61,6 @@ IsLegal c h = LegalFrom c 1 [] h
 -- a key or a word of a value
 abbrev pub IsWord : ℕ → Type 0
 IsWord x = x < 2 ^ 64
-
--- the value in the words that an item keeps behind its key: the first V of them
-abbrev pub value_of : ℕ → List ℕ → List ℕ
-value_of V xs = take V xs
-
--- the stamp in them: the word behind the value, the moment of the key's last put
-abbrev pub since_of : ℕ → List ℕ → ℕ
-since_of V xs = slice_index xs V
 
 -- the numbers of a change are in their ranges
 abbrev pub IsChange : {V : ℕ} → Change V → Type 0
