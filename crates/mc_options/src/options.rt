@@ -1,7 +1,5 @@
 //! The options of `mcstep`.
 ghost use Rattle.std.specs.Prelude.{◌≡◌, ◌⊎◌, false, IfOk, MatchResult, codes, map, option_and_then};
-ghost use Rattle.std.specs.List.{list_all};
-ghost use Rattle.std.specs.Char.{is_ascii_digit};
 ghost use Rattle.std.specs.Result.{result_ok};
 ghost use Rattle.clap.specs.Words.{app_of, first_of, found_of, kind_of, rows_of, rule_of};
 ghost use Rattle.mc_words.specs.declared.shape.Shape.{Shape};
@@ -11,6 +9,7 @@ ghost use Rattle.mc_options.specs.Options.{AreMixes, MixNames, Reads, Says, Says
 use clap::builder::ValueParser;
 use clap::error::ErrorKind;
 use clap::{Arg, ArgMatches, Command, Error, value_parser};
+use mc_script::are_digits;
 use mc_words::{Mix, Shape};
 use std::alloc::{AllocError, Global};
 use std::convert::AsStr;
@@ -206,17 +205,11 @@ fn command<'a>(alloc: Global) -> Result<Command<'a>, AllocError>
     command.arg(option(alloc, &words_row()))
 }
 
-fn are_digits(text: &str) -> bool
-    ensures { result ≡ list_all is_ascii_digit text.now }
-{
-    text.as_bytes().iter().all(|b| b.is_ascii_digit())
-}
-
 /// The number that a text of decimal digits says, where it lies between the bounds.
 fn number_in(text: &str, least: u64, most: u64) -> Option<u64>
     ensures { result ≡ number_in least most text.now }
 {
-    if text.is_empty() || !are_digits(text) {
+    if text.is_empty() || !are_digits(text.as_bytes()) {
         return None;
     }
     match text.parse::<u64>() {
