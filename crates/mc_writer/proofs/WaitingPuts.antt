@@ -22,7 +22,7 @@ use Rattle.mc_writer.specs.Inside.Pens.{HasMade, IsDue, IsSamePen, state_at}
 use Rattle.mc_writer.specs.Inside.Turns.{HasTurned}
 use Rattle.mc_writer.specs.WriterCalls.{HasCalled, IsRested}
 use Rattle.mc_writer.specs.declared.pen.Pen.{Pen}
-use Rattle.mc_writer.proofs.Pens.{made_none, plan_is_due, same_then}
+use Rattle.mc_writer.proofs.Pens.{made_none, plan_is_due}
 use Rattle.mc_writer.proofs.WholeCalls.{called_swept}
 
 -- before the hand has turned
@@ -44,7 +44,7 @@ words_there V p mid b waiting key value same t =
 module _ (V : ℕ) (p mid q : Pen V) (b0 b1 : Books) (waiting : Waiting V) (key : ℕ) (value : List ℕ) (layout : p.cells.now.layout ≡ layout_of V (shape_of b0.checked)) (still : IsSamePen V p mid)
     (t : HasTurned V p.cells.now.layout.shape b0 waiting (PutCall key value) p.seat.now mid.seat.now) (same : q ≡ mid) (kept : b1.checked ≡ b0.checked) where
   -- the state after the sweep
-  pub swept : Shape → State V
+  abbrev pub swept : Shape → State V
   swept sh = state_after_sweep V sh (state_at V p) t.readings
 
   shape_was : shape_of b0.checked ≡ p.cells.now.layout.shape

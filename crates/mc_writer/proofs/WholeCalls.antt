@@ -31,6 +31,13 @@ called_now V sh b plan call told before after layout shape of acts notes sweeps 
       },
     )
 
+-- the books that decided are of the pen's table
+pub layout_kept : (V : ℕ) (pen : Pen V) (b0 b : Books) → pen.cells.now.layout ≡ layout_of V (shape_of b0.checked) → b.checked ≡ b0.checked → pen.cells.now.layout ≡ layout_of V (shape_of b.checked)
+layout_kept V pen b0 b layout kept = layout ∙ ap (λ (x : Shape). layout_of V x) (ap shape_of (sym kept))
+
+pub layout_rested : (V : ℕ) (pen : Pen V) (b0 b : Books) → IsRested V b0 pen.seat.now → b.checked ≡ b0.checked → pen.cells.now.layout ≡ layout_of V (shape_of b.checked)
+layout_rested V pen b0 b rested kept = layout_kept V pen b0 b (sym (ap (λ (o : Opening). o.layout) pen.of) ∙ rested.layout) kept
+
 module _ (V : ℕ) (pen : Pen V) (b : Books) (call : Call) (told : Answer) (layout : pen.cells.now.layout ≡ layout_of V (shape_of b.checked)) where
   shape_now : shape_of b.checked ≡ pen.cells.now.layout.shape
   shape_now = sym (ap (λ (l : Layout). l.shape) layout)

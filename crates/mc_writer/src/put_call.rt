@@ -122,7 +122,7 @@ impl<'a, const V: usize> Pen<'a, V> {
     }
 }
 
-// A put of a key that is not there, to its end.
+// A put to its end: first of a key that is not there.
 impl<'a, const V: usize> Pen<'a, V> {
     ghost use Rattle.mc_writer.specs.Inside.Pens.{IsSamePen, state_at};
 
@@ -237,6 +237,24 @@ impl<'a, const V: usize> Pen<'a, V> {
             Nearby::Far => self.put_far(books, key, value, at),
         }
     }
+
+    /// Puts a key, whether it is there or not.
+    #[inline(always)]
+    fn put(&mut self, books: &mut Books, key: u64, value: &[u64; V]) -> Result<Put, PutError>
+        requires rested { IsRested V books.old self.old.seat.now }
+        ensures same { IsSamePen V self.old self.new }
+        ensures called { HasCalled V self.old.cells.now.layout.shape (PutCall key value.now) self.old.seat.now self.new.seat.now (answer.Put result) }
+        ensures rested { IsRested V books.new self.new.seat.now }
+    {
+        match self.decide(books, key, value) {
+            Decision::Refuse(why) => Err(why),
+            Decision::Renew { item, at } => {
+                self.make_renewal(key, value, item);
+                Ok(Put::Renewed { at })
+            }
+            Decision::Insert { at } => self.put_new(books, key, value, at),
+        }
+    }
 }
 
 /// Puts a key: the acts that are made are a whole call, and the answer is a true one of it.
@@ -254,12 +272,5 @@ pub fn put<const V: usize>(
     ensures rested { IsRested V books.new seat.new }
 {
     let mut pen = Pen { cells, seat };
-    match pen.decide(books, key, value) {
-        Decision::Refuse(why) => Err(why),
-        Decision::Renew { item, at } => {
-            pen.make_renewal(key, value, item);
-            Ok(Put::Renewed { at })
-        }
-        Decision::Insert { at } => pen.put_new(books, key, value, at),
-    }
+    pen.put(books, key, value)
 }

@@ -11,7 +11,7 @@ use mc_shared::{Cells, WriterSeat};
 use mc_theory::Deed;
 
 impl<'a, const V: usize> Pen<'a, V> {
-    ghost use Rattle.mc_writer.specs.Inside.Pens.{state_at};
+    ghost use Rattle.mc_writer.specs.Inside.Pens.{IsSamePen, state_at};
 
     // Decides a removal.
     fn decide_removal(&mut self, books: &mut Books, key: u64) -> Removal
@@ -21,6 +21,24 @@ impl<'a, const V: usize> Pen<'a, V> {
         ensures shape { books.new.checked ≡ books.old.checked }
     {
         books.decide_removal::<V, Pen<V>>(self, key)
+    }
+
+    // Takes a key out, if it is there.
+    #[inline(always)]
+    fn remove(&mut self, books: &mut Books, key: u64) -> Result<Remove, Spent>
+        requires rested { IsRested V books.old self.old.seat.now }
+        ensures same { IsSamePen V self.old self.new }
+        ensures called { HasCalled V self.old.cells.now.layout.shape (RemoveCall key) self.old.seat.now self.new.seat.now (answer.Remove result) }
+        ensures rested { IsRested V books.new self.new.seat.now }
+    {
+        match self.decide_removal(books, key) {
+            Removal::Refuse(spent) => Err(spent),
+            Removal::TakeOut { place, at } => {
+                self.take_out(key, Deed::Remove, place);
+                Ok(Remove::Removed { at })
+            }
+            Removal::Leave { at } => Ok(Remove::NotThere { at }),
+        }
     }
 }
 
@@ -37,12 +55,5 @@ pub fn remove<const V: usize>(
     ensures rested { IsRested V books.new seat.new }
 {
     let mut pen = Pen { cells, seat };
-    match pen.decide_removal(books, key) {
-        Removal::Refuse(spent) => Err(spent),
-        Removal::TakeOut { place, at } => {
-            pen.take_out(key, Deed::Remove, place);
-            Ok(Remove::Removed { at })
-        }
-        Removal::Leave { at } => Ok(Remove::NotThere { at }),
-    }
+    pen.remove(books, key)
 }

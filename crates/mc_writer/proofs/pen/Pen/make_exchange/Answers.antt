@@ -12,8 +12,7 @@ take_out-requires g c = (omega arith, first_due g.row.V (evict_acts c.args.excha
 pub make_filling-requires : goal.make_filling-requires
 make_filling-requires g c =
     let shape = sym (shape_kept c.take_out.ensures.made.same) in
-    let due = rest_due (filling_acts c.args.self.now.cells.now.layout.shape c.args.key c.args.value.now c.args.exchange.item c.args.exchange.place) c.take_out.ensures.made c.requires.due in
-    (
+    let due = rest_due (filling_acts c.args.self.now.cells.now.layout.shape c.args.key c.args.value.now c.args.exchange.item c.args.exchange.place) c.take_out.ensures.made c.requires.due in (
       omega arith,
       (
         omega (arith, c.requires.width.most),

@@ -12,8 +12,7 @@ take_out-requires g c = (omega arith, first_due g.row.V (evict_acts c.args.repla
 pub make_storing-requires : goal.make_storing-requires
 make_storing-requires g c =
     let shape = sym (shape_kept c.take_out.ensures.made.same) in
-    let due = rest_due (storing_acts c.args.self.now.cells.now.layout.shape c.args.key c.args.value.now c.args.storing.now) c.take_out.ensures.made c.requires.due in
-    (
+    let due = rest_due (storing_acts c.args.self.now.cells.now.layout.shape c.args.key c.args.value.now c.args.storing.now) c.take_out.ensures.made c.requires.due in (
       omega arith,
       (
         omega (arith, c.requires.width.most),

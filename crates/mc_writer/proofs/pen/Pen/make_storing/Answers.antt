@@ -28,8 +28,7 @@ fill-requires g c =
     let storing = c.args.storing.now in
     let shape = sym (shape_kept c.make_moves.ensures.made.same) in
     let due = rest_due (filling_acts pen.cells.now.layout.shape c.args.key c.args.value.now storing.item storing.place) (moved g (goal.at.fill-requires g c).After-make_moves) c.requires.due in
-    let fills = first_due g.row.V (fill_acts pen.cells.now.layout.shape c.args.key c.args.value.now storing.item storing.place) (act.Mark storing.item ∷ []) _ due in
-    (
+    let fills = first_due g.row.V (fill_acts pen.cells.now.layout.shape c.args.key c.args.value.now storing.item storing.place) (act.Mark storing.item ∷ []) _ due in (
       omega arith,
       (
         omega (arith, c.requires.width),

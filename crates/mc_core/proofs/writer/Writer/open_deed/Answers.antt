@@ -1,4 +1,4 @@
-use Rattle.mc_core.proofs.writer.Writer.open.Goals as goal
+use Rattle.mc_core.proofs.writer.Writer.open_deed.Goals as goal
 use Rattle.std.proofs.Common.{arith, refl}
 use Rattle.mc_core.specs.Inside.Writers.{shape_of_writer, words_of_writer}
 use Rattle.mc_theory.specs.declared.act.Act.TheVariants as act

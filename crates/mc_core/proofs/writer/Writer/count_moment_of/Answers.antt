@@ -1,4 +1,4 @@
-use Rattle.mc_core.proofs.writer.Writer.count.Goals as goal
+use Rattle.mc_core.proofs.writer.Writer.count_moment_of.Goals as goal
 use Rattle.std.proofs.Common.{arith, refl, ap, sym, ◌∙◌, ◌++◌, List}
 use Rattle.mc_words.proofs.Places.{slot-with_moment}
 use Rattle.mc_words.specs.declared.history.Change.{Change}

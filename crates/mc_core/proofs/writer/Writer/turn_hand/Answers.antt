@@ -1,11 +1,11 @@
-use Rattle.mc_core.proofs.writer.Writer.turn.Goals as goal
+use Rattle.mc_core.proofs.writer.Writer.turn_hand.Goals as goal
 use Rattle.std.proofs.Common.{arith, refl, ◌∙◌, ◌≡◌, ◌≢◌, ◌+◌, ◌%◌, ◌⊎◌, Some, None, inl, inr}
 use Rattle.mc_core.specs.Inside.Writers.{shape_of_writer}
 use Rattle.mc_theory.specs.declared.act.Act.TheVariants as act
 use Rattle.mc_core.specs.declared.progress.Progress.TheVariants as progress
 use Rattle.mc_theory.proofs.Lists.HandTurns.{turn_over, turn_on}
 use Rattle.mc_core.proofs.MadeActs.{made, cleared_by}
-use Rattle.mc_core.proofs.writer.Writer.turn.Goals.{then-next-shape, else-next-shape, then-bit-eq0, else-bit-eq0}
+use Rattle.mc_core.proofs.writer.Writer.turn_hand.Goals.{then-next-shape, else-next-shape, then-bit-eq0, else-bit-eq0}
 
 pub returns : goal.returns
 returns g c =
