@@ -2,8 +2,6 @@ use Rattle.std.proofs.Common.{◌≡◌, ap, sym, ◌∙◌, subst}
 use Rattle.mc_shared.specs.ExactFronts.{InOneOrder}
 use Rattle.mc_shared.specs.Records.{Opening, WriterRecord, ReaderRecord, reader_record}
 use Rattle.mc_shared.specs.SeatFacts.{IsRun}
-use Rattle.mc_shared.specs.Views.{layout_state}
-use Rattle.mc_words.specs.Places.{moment}
 use Rattle.mc_cache.proofs.OrderedAnswers.{answered_in_order}
 use Rattle.mc_cache.proofs.PlainCalls.{met, moment_in, moment_met}
 use Rattle.mc_cache.proofs.reader.Reader.catch_up.Goals as goal
