@@ -19,10 +19,10 @@ use Rattle.mc_shared.proofs.GrownNotes.{grow_self, grow_trans}
 use Rattle.mc_shared.specs.Views.{layout_of}
 use Rattle.mc_shared.specs.declared.layout.Layout.{Layout}
 use Rattle.mc_writer.specs.Inside.Pens.{HasMade, IsDue, IsSamePen, state_at}
-use Rattle.mc_writer.specs.Inside.Turns.{HasTurned}
+use Rattle.mc_writer.specs.Inside.Turns.{HasTurned, IsTurned}
 use Rattle.mc_writer.specs.WriterCalls.{HasCalled, IsRested}
 use Rattle.mc_writer.specs.declared.pen.Pen.{Pen}
-use Rattle.mc_writer.proofs.Pens.{made_none, plan_is_due}
+use Rattle.mc_writer.proofs.Pens.{made_none, plan_is_due, shape_kept}
 use Rattle.mc_writer.proofs.WholeCalls.{called_swept}
 
 -- before the hand has turned
@@ -35,7 +35,11 @@ words_still V sh b waiting key value before mid t =
     ap (λ (xs : List Made). (state_of V sh xs).words) t.acts
     ∙ (ap (λ (s : State V). s.words) (state_append V sh before.acts (hand_acts t.readings)) ∙ (swept_still V sh (state_of V sh before.acts) t.readings).words)
 
--- the same, where the hand is
+-- what the hand has read, told of the table as it was
+pub turned_there : (V : ℕ) (p mid : Pen V) (b : Books) (waiting : Waiting V) (key : ℕ) (value : List ℕ) → IsSamePen V p mid → IsTurned V b waiting (PutCall key value) p.seat.now mid → HasTurned V p.cells.now.layout.shape b waiting (PutCall key value) p.seat.now mid.seat.now
+turned_there V p mid b waiting key value same t = subst (λ (sh : Shape). HasTurned V sh b waiting (PutCall key value) p.seat.now mid.seat.now) (shape_kept same) t
+
+-- the words where the hand is
 pub words_there : (V : ℕ) (p mid : Pen V) (b : Books) (waiting : Waiting V) (key : ℕ) (value : List ℕ) → IsSamePen V p mid → HasTurned V p.cells.now.layout.shape b waiting (PutCall key value) p.seat.now mid.seat.now → (state_at V mid).words ≡ (state_at V p).words
 words_there V p mid b waiting key value same t =
     ap (λ c. (state_of V c.now.layout.shape mid.seat.now.acts).words) same.cells ∙ words_still V p.cells.now.layout.shape b waiting key value p.seat.now mid.seat.now t

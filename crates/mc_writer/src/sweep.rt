@@ -6,14 +6,14 @@ ghost use Rattle.mc_search.specs.Sweeps.{Swept, IsOver, next_item};
 ghost use Rattle.mc_plan.specs.Clerks.{Call, IsSweeping};
 ghost use Rattle.mc_plan.specs.Deciding.{IsFinished, IsFinishedNear};
 ghost use Rattle.mc_shared.specs.Records.{WriterRecord};
-ghost use Rattle.mc_writer.specs.Inside.Turns.{HasTurned};
 
 use crate::pen::Pen;
 use mc_plan::{Books, Exchange, PutError, Replacement, Waiting};
 use mc_shared::turn_hand;
 
 impl<'a, const V: usize> Pen<'a, V> {
-    ghost use Rattle.mc_writer.specs.Inside.Pens.{IsSamePen, state_at};
+    ghost use Rattle.mc_writer.specs.Inside.Pens.{IsSamePen};
+    ghost use Rattle.mc_writer.specs.Inside.Turns.{IsSwept, IsTurned};
 
     /// Decides the rest of a put whose sweep is over.
     pub(crate) fn finish(
@@ -21,9 +21,9 @@ impl<'a, const V: usize> Pen<'a, V> {
         books: &mut Books,
         waiting: Waiting<V>,
     ) -> Result<Replacement, PutError>
-        requires over { (call : Call) × (s : State V) × (rs : List Swept) × IsSweeping V books.old waiting call s rs × IsOver (shape_of books.old.checked).items rs × ((state_at V self.old).words ≡ s.words) }
+        requires over { (call : Call) × (s : State V) × (rs : List Swept) × IsSwept V books.old waiting call s rs self.old }
         ensures pen { self.new ≡ self.old }
-        ensures finished { (call : Call) (s : State V) (rs : List Swept) → IsSweeping V books.old waiting.entry call s rs → IsOver (shape_of books.old.checked).items rs → (state_at V self.old).words ≡ s.words → IsFinished V books.new waiting.entry call s rs result }
+        ensures finished { (call : Call) (s : State V) (rs : List Swept) → IsSwept V books.old waiting.entry call s rs self.old → IsFinished V books.new waiting.entry call s rs result }
         ensures shape { books.new.checked ≡ books.old.checked }
     {
         books.finish::<V, Pen<V>>(self, waiting)
@@ -36,10 +36,10 @@ impl<'a, const V: usize> Pen<'a, V> {
         books: &mut Books,
         waiting: &Waiting<V>,
     ) -> Result<Exchange, PutError>
-        requires over { (call : Call) × (s : State V) × (rs : List Swept) × IsSweeping V books.old waiting.now call s rs × IsOver (shape_of books.old.checked).items rs × ((state_at V self.old).words ≡ s.words) }
+        requires over { (call : Call) × (s : State V) × (rs : List Swept) × IsSwept V books.old waiting.now call s rs self.old }
         requires near { waiting.now.path.places.items ≡ [] }
         ensures pen { self.new ≡ self.old }
-        ensures finished { (call : Call) (s : State V) (rs : List Swept) → IsSweeping V books.old waiting.now call s rs → IsOver (shape_of books.old.checked).items rs → (state_at V self.old).words ≡ s.words → IsFinishedNear V books.new waiting.now call s rs result }
+        ensures finished { (call : Call) (s : State V) (rs : List Swept) → IsSwept V books.old waiting.now call s rs self.old → IsFinishedNear V books.new waiting.now call s rs result }
         ensures shape { books.new.checked ≡ books.old.checked }
     {
         books.finish_near::<V, Pen<V>>(self, waiting)
@@ -49,9 +49,9 @@ impl<'a, const V: usize> Pen<'a, V> {
     fn turn_hand(&mut self, books: &Books, waiting: &mut Waiting<V>, i: u32)
         requires shape { shape_of books.now.checked ≡ self.old.cells.now.layout.shape }
         requires next { next_item waiting.old.sweep ≡ Some i }
-        requires turned { (call : Call) × (before : WriterRecord) × HasTurned V self.old.cells.now.layout.shape books.now waiting.old call before self.old.seat.now }
+        requires turned { (call : Call) × (before : WriterRecord) × IsTurned V books.now waiting.old call before self.old }
         ensures same { IsSamePen V self.old self.new }
-        ensures turned { (call : Call) (before : WriterRecord) → HasTurned V self.old.cells.now.layout.shape books.now waiting.old call before self.old.seat.now → HasTurned V self.old.cells.now.layout.shape books.now waiting.new call before self.new.seat.now }
+        ensures turned { (call : Call) (before : WriterRecord) → IsTurned V books.now waiting.old call before self.old → IsTurned V books.now waiting.new call before self.new }
         ensures left { waiting.new.sweep.left < waiting.old.sweep.left }
         ensures key { waiting.new.key ≡ waiting.old.key }
         ensures path { waiting.new.path ≡ waiting.old.path }
@@ -65,9 +65,9 @@ impl<'a, const V: usize> Pen<'a, V> {
     /// Reads bits until the sweep is over.
     pub(crate) fn turn_round(&mut self, books: &Books, waiting: &mut Waiting<V>)
         requires shape { shape_of books.now.checked ≡ self.old.cells.now.layout.shape }
-        requires turned { (call : Call) × (before : WriterRecord) × HasTurned V self.old.cells.now.layout.shape books.now waiting.old call before self.old.seat.now }
+        requires turned { (call : Call) × (before : WriterRecord) × IsTurned V books.now waiting.old call before self.old }
         ensures same { IsSamePen V self.old self.new }
-        ensures turned { (call : Call) (before : WriterRecord) → HasTurned V self.old.cells.now.layout.shape books.now waiting.old call before self.old.seat.now → HasTurned V self.old.cells.now.layout.shape books.now waiting.new call before self.new.seat.now }
+        ensures turned { (call : Call) (before : WriterRecord) → IsTurned V books.now waiting.old call before self.old → IsTurned V books.now waiting.new call before self.new }
         ensures over { (call : Call) (s : State V) (rs : List Swept) → IsSweeping V books.now waiting.new call s rs → IsOver (shape_of books.now.checked).items rs }
         ensures key { waiting.new.key ≡ waiting.old.key }
         ensures path { waiting.new.path ≡ waiting.old.path }

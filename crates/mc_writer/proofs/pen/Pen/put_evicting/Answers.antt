@@ -10,7 +10,7 @@ use Rattle.mc_writer.specs.Inside.Pens.{HasMade, IsDue, IsSamePen, state_at}
 use Rattle.mc_writer.specs.WriterCalls.{HasCalled, IsRested}
 use Rattle.mc_writer.specs.declared.pen.Pen.{Pen}
 use Rattle.mc_writer.proofs.Pens.{same_then}
-use Rattle.mc_writer.proofs.WaitingPuts.{none_due, plan_due, plan_made, shape_now, shape_there, still_same, unturned, words_there}
+use Rattle.mc_writer.proofs.WaitingPuts.{none_due, plan_due, plan_made, shape_now, shape_there, still_same, turned_there, unturned, words_there}
 use Rattle.mc_writer.proofs.pen.Pen.put_evicting.Goals as goal
 use Rattle.mc_writer.proofs.pen.Pen.put_evicting.Goals.{After-make_exchange}
 use Rattle.mc_writer.proofs.pen.Pen.put_evicting.Given.{Over}
@@ -23,10 +23,10 @@ finish_near-requires g c =
     let key = c.args.key in
     let value = c.args.value.now in
     let s = state_at V pen in
-    let t = c.turn_round.ensures.turned (PutCall key value) pen.seat.now (unturned V sh c.args.books.now c.new-waiting.result key value pen.seat.now (c.new-waiting.ensures.sweeping s (subst (λ (p : Path). Waits V c.args.books.now key s p) (sym c.direct.ensures) c.requires.waits))) in
+    let t = turned_there V pen c.turn_round.new.self c.args.books.now c.turn_round.new.waiting key value c.turn_round.ensures.same (c.turn_round.ensures.turned (PutCall key value) pen.seat.now (unturned V sh c.args.books.now c.new-waiting.result key value pen.seat.now (c.new-waiting.ensures.sweeping s (subst (λ (p : Path). Waits V c.args.books.now key s p) (sym c.direct.ensures) c.requires.waits)))) in
     let over = c.turn_round.ensures.over (PutCall key value) s t.readings t.sweeping in
     let words = words_there V pen c.turn_round.new.self c.args.books.now c.turn_round.new.waiting key value c.turn_round.ensures.same t in
-    (omega arith, (search rules, ((PutCall key value, s, t.readings, t.sweeping, over, words), ap (λ (p : Path). p.places.items) (c.turn_round.ensures.path ∙ (c.new-waiting.ensures.path ∙ c.direct.ensures)))))
+    (omega arith, (search rules, ((PutCall key value, s, t.readings, (t.sweeping, over, words)), ap (λ (p : Path). p.places.items) (c.turn_round.ensures.path ∙ (c.new-waiting.ensures.path ∙ c.direct.ensures)))))
 
 pub returns-in-Err-clause-same : goal.returns-in-Err-clause-same
 returns-in-Err-clause-same g c = subst (λ (x : Pen g.row.V). IsSamePen g.row.V c.args.self.now x) (sym c.finish_near.ensures.pen) c.turn_round.ensures.same
@@ -39,10 +39,10 @@ returns-in-Err-clause-called g c =
     let key = c.args.key in
     let value = c.args.value.now in
     let s = state_at V pen in
-    let t = c.turn_round.ensures.turned (PutCall key value) pen.seat.now (unturned V sh c.args.books.now c.new-waiting.result key value pen.seat.now (c.new-waiting.ensures.sweeping s (subst (λ (p : Path). Waits V c.args.books.now key s p) (sym c.direct.ensures) c.requires.waits))) in
+    let t = turned_there V pen c.turn_round.new.self c.args.books.now c.turn_round.new.waiting key value c.turn_round.ensures.same (c.turn_round.ensures.turned (PutCall key value) pen.seat.now (unturned V sh c.args.books.now c.new-waiting.result key value pen.seat.now (c.new-waiting.ensures.sweeping s (subst (λ (p : Path). Waits V c.args.books.now key s p) (sym c.direct.ensures) c.requires.waits)))) in
     let over = c.turn_round.ensures.over (PutCall key value) s t.readings t.sweeping in
     let words = words_there V pen c.turn_round.new.self c.args.books.now c.turn_round.new.waiting key value c.turn_round.ensures.same t in
-    let f = c.in-Err.ensures.finished (PutCall key value) s t.readings t.sweeping over words in
+    let f = c.in-Err.ensures.finished (PutCall key value) s t.readings (t.sweeping, over, words) in
     (none_due V pen c.turn_round.new.self c.finish_near.new.self c.args.books.now c.finish_near.new.books c.turn_round.new.waiting key value c.requires.layout c.turn_round.ensures.same t c.finish_near.ensures.pen c.finish_near.ensures.shape (answer.Put (Err c.in-Err.why)) f.0 f.1).0
 
 pub returns-in-Err-clause-rested : goal.returns-in-Err-clause-rested
@@ -53,10 +53,10 @@ returns-in-Err-clause-rested g c =
     let key = c.args.key in
     let value = c.args.value.now in
     let s = state_at V pen in
-    let t = c.turn_round.ensures.turned (PutCall key value) pen.seat.now (unturned V sh c.args.books.now c.new-waiting.result key value pen.seat.now (c.new-waiting.ensures.sweeping s (subst (λ (p : Path). Waits V c.args.books.now key s p) (sym c.direct.ensures) c.requires.waits))) in
+    let t = turned_there V pen c.turn_round.new.self c.args.books.now c.turn_round.new.waiting key value c.turn_round.ensures.same (c.turn_round.ensures.turned (PutCall key value) pen.seat.now (unturned V sh c.args.books.now c.new-waiting.result key value pen.seat.now (c.new-waiting.ensures.sweeping s (subst (λ (p : Path). Waits V c.args.books.now key s p) (sym c.direct.ensures) c.requires.waits)))) in
     let over = c.turn_round.ensures.over (PutCall key value) s t.readings t.sweeping in
     let words = words_there V pen c.turn_round.new.self c.args.books.now c.turn_round.new.waiting key value c.turn_round.ensures.same t in
-    let f = c.in-Err.ensures.finished (PutCall key value) s t.readings t.sweeping over words in
+    let f = c.in-Err.ensures.finished (PutCall key value) s t.readings (t.sweeping, over, words) in
     (none_due V pen c.turn_round.new.self c.finish_near.new.self c.args.books.now c.finish_near.new.books c.turn_round.new.waiting key value c.requires.layout c.turn_round.ensures.same t c.finish_near.ensures.pen c.finish_near.ensures.shape (answer.Put (Err c.in-Err.why)) f.0 f.1).1
 
 pub make_exchange-requires : goal.make_exchange-requires
@@ -67,10 +67,10 @@ make_exchange-requires g c =
     let key = c.args.key in
     let value = c.args.value.now in
     let s = state_at V pen in
-    let t = c.turn_round.ensures.turned (PutCall key value) pen.seat.now (unturned V sh c.args.books.now c.new-waiting.result key value pen.seat.now (c.new-waiting.ensures.sweeping s (subst (λ (p : Path). Waits V c.args.books.now key s p) (sym c.direct.ensures) c.requires.waits))) in
+    let t = turned_there V pen c.turn_round.new.self c.args.books.now c.turn_round.new.waiting key value c.turn_round.ensures.same (c.turn_round.ensures.turned (PutCall key value) pen.seat.now (unturned V sh c.args.books.now c.new-waiting.result key value pen.seat.now (c.new-waiting.ensures.sweeping s (subst (λ (p : Path). Waits V c.args.books.now key s p) (sym c.direct.ensures) c.requires.waits)))) in
     let over = c.turn_round.ensures.over (PutCall key value) s t.readings t.sweeping in
     let words = words_there V pen c.turn_round.new.self c.args.books.now c.turn_round.new.waiting key value c.turn_round.ensures.same t in
-    let f = c.in-Ok.ensures.finished (PutCall key value) s t.readings t.sweeping over words in
+    let f = c.in-Ok.ensures.finished (PutCall key value) s t.readings (t.sweeping, over, words) in
     let r = c.in-Ok.exchange in
     let b = c.finish_near.new.books in
     let shape = shape_now V pen c.turn_round.new.self c.finish_near.new.self c.args.books.now c.finish_near.new.books c.turn_round.new.waiting key value c.requires.layout c.turn_round.ensures.same t c.finish_near.ensures.pen c.finish_near.ensures.shape in
@@ -91,10 +91,10 @@ replaced g c =
     let key = c.args.key in
     let value = c.args.value.now in
     let s = state_at V pen in
-    let t = c.turn_round.ensures.turned (PutCall key value) pen.seat.now (unturned V sh c.args.books.now c.new-waiting.result key value pen.seat.now (c.new-waiting.ensures.sweeping s (subst (λ (p : Path). Waits V c.args.books.now key s p) (sym c.direct.ensures) c.requires.waits))) in
+    let t = turned_there V pen c.turn_round.new.self c.args.books.now c.turn_round.new.waiting key value c.turn_round.ensures.same (c.turn_round.ensures.turned (PutCall key value) pen.seat.now (unturned V sh c.args.books.now c.new-waiting.result key value pen.seat.now (c.new-waiting.ensures.sweeping s (subst (λ (p : Path). Waits V c.args.books.now key s p) (sym c.direct.ensures) c.requires.waits)))) in
     let over = c.turn_round.ensures.over (PutCall key value) s t.readings t.sweeping in
     let words = words_there V pen c.turn_round.new.self c.args.books.now c.turn_round.new.waiting key value c.turn_round.ensures.same t in
-    let f = c.in-Ok.ensures.finished (PutCall key value) s t.readings t.sweeping over words in
+    let f = c.in-Ok.ensures.finished (PutCall key value) s t.readings (t.sweeping, over, words) in
     let r = c.in-Ok.exchange in
     let b = c.finish_near.new.books in
     let shape = shape_now V pen c.turn_round.new.self c.finish_near.new.self c.args.books.now c.finish_near.new.books c.turn_round.new.waiting key value c.requires.layout c.turn_round.ensures.same t c.finish_near.ensures.pen c.finish_near.ensures.shape in

@@ -10,7 +10,7 @@ use Rattle.mc_writer.specs.Inside.Pens.{HasMade, IsDue, IsSamePen, state_at}
 use Rattle.mc_writer.specs.WriterCalls.{HasCalled, IsRested}
 use Rattle.mc_writer.specs.declared.pen.Pen.{Pen}
 use Rattle.mc_writer.proofs.Pens.{same_then}
-use Rattle.mc_writer.proofs.WaitingPuts.{none_due, plan_due, plan_made, shape_now, shape_there, still_same, unturned, words_there}
+use Rattle.mc_writer.proofs.WaitingPuts.{none_due, plan_due, plan_made, shape_now, shape_there, still_same, turned_there, unturned, words_there}
 use Rattle.mc_writer.proofs.pen.Pen.put_waiting.Goals as goal
 use Rattle.mc_writer.proofs.pen.Pen.put_waiting.Goals.{After-told}
 use Rattle.mc_writer.proofs.pen.Pen.put_waiting.Given.{Over}
@@ -23,10 +23,10 @@ finish-requires g c =
     let key = c.args.key in
     let value = c.args.value.now in
     let s = state_at V pen in
-    let t = c.turn_round.ensures.turned (PutCall key value) pen.seat.now (unturned V sh c.args.books.now c.new-waiting.result key value pen.seat.now (c.new-waiting.ensures.sweeping s c.requires.waits)) in
+    let t = turned_there V pen c.turn_round.new.self c.args.books.now c.turn_round.new.waiting key value c.turn_round.ensures.same (c.turn_round.ensures.turned (PutCall key value) pen.seat.now (unturned V sh c.args.books.now c.new-waiting.result key value pen.seat.now (c.new-waiting.ensures.sweeping s c.requires.waits))) in
     let over = c.turn_round.ensures.over (PutCall key value) s t.readings t.sweeping in
     let words = words_there V pen c.turn_round.new.self c.args.books.now c.turn_round.new.waiting key value c.turn_round.ensures.same t in
-    (omega arith, (search rules, (PutCall key value, s, t.readings, t.sweeping, over, words)))
+    (omega arith, (search rules, (PutCall key value, s, t.readings, (t.sweeping, over, words))))
 
 pub returns-in-Err-clause-same : goal.returns-in-Err-clause-same
 returns-in-Err-clause-same g c = subst (λ (x : Pen g.row.V). IsSamePen g.row.V c.args.self.now x) (sym c.finish.ensures.pen) c.turn_round.ensures.same
@@ -39,10 +39,10 @@ returns-in-Err-clause-called g c =
     let key = c.args.key in
     let value = c.args.value.now in
     let s = state_at V pen in
-    let t = c.turn_round.ensures.turned (PutCall key value) pen.seat.now (unturned V sh c.args.books.now c.new-waiting.result key value pen.seat.now (c.new-waiting.ensures.sweeping s c.requires.waits)) in
+    let t = turned_there V pen c.turn_round.new.self c.args.books.now c.turn_round.new.waiting key value c.turn_round.ensures.same (c.turn_round.ensures.turned (PutCall key value) pen.seat.now (unturned V sh c.args.books.now c.new-waiting.result key value pen.seat.now (c.new-waiting.ensures.sweeping s c.requires.waits))) in
     let over = c.turn_round.ensures.over (PutCall key value) s t.readings t.sweeping in
     let words = words_there V pen c.turn_round.new.self c.args.books.now c.turn_round.new.waiting key value c.turn_round.ensures.same t in
-    let f = c.in-Err.ensures.finished (PutCall key value) s t.readings t.sweeping over words in
+    let f = c.in-Err.ensures.finished (PutCall key value) s t.readings (t.sweeping, over, words) in
     (none_due V pen c.turn_round.new.self c.finish.new.self c.args.books.now c.finish.new.books c.turn_round.new.waiting key value c.requires.layout c.turn_round.ensures.same t c.finish.ensures.pen c.finish.ensures.shape (answer.Put (Err c.in-Err.why)) f.0 f.1).0
 
 pub returns-in-Err-clause-rested : goal.returns-in-Err-clause-rested
@@ -53,10 +53,10 @@ returns-in-Err-clause-rested g c =
     let key = c.args.key in
     let value = c.args.value.now in
     let s = state_at V pen in
-    let t = c.turn_round.ensures.turned (PutCall key value) pen.seat.now (unturned V sh c.args.books.now c.new-waiting.result key value pen.seat.now (c.new-waiting.ensures.sweeping s c.requires.waits)) in
+    let t = turned_there V pen c.turn_round.new.self c.args.books.now c.turn_round.new.waiting key value c.turn_round.ensures.same (c.turn_round.ensures.turned (PutCall key value) pen.seat.now (unturned V sh c.args.books.now c.new-waiting.result key value pen.seat.now (c.new-waiting.ensures.sweeping s c.requires.waits))) in
     let over = c.turn_round.ensures.over (PutCall key value) s t.readings t.sweeping in
     let words = words_there V pen c.turn_round.new.self c.args.books.now c.turn_round.new.waiting key value c.turn_round.ensures.same t in
-    let f = c.in-Err.ensures.finished (PutCall key value) s t.readings t.sweeping over words in
+    let f = c.in-Err.ensures.finished (PutCall key value) s t.readings (t.sweeping, over, words) in
     (none_due V pen c.turn_round.new.self c.finish.new.self c.args.books.now c.finish.new.books c.turn_round.new.waiting key value c.requires.layout c.turn_round.ensures.same t c.finish.ensures.pen c.finish.ensures.shape (answer.Put (Err c.in-Err.why)) f.0 f.1).1
 
 pub make_replacement-requires : goal.make_replacement-requires
@@ -67,10 +67,10 @@ make_replacement-requires g c =
     let key = c.args.key in
     let value = c.args.value.now in
     let s = state_at V pen in
-    let t = c.turn_round.ensures.turned (PutCall key value) pen.seat.now (unturned V sh c.args.books.now c.new-waiting.result key value pen.seat.now (c.new-waiting.ensures.sweeping s c.requires.waits)) in
+    let t = turned_there V pen c.turn_round.new.self c.args.books.now c.turn_round.new.waiting key value c.turn_round.ensures.same (c.turn_round.ensures.turned (PutCall key value) pen.seat.now (unturned V sh c.args.books.now c.new-waiting.result key value pen.seat.now (c.new-waiting.ensures.sweeping s c.requires.waits))) in
     let over = c.turn_round.ensures.over (PutCall key value) s t.readings t.sweeping in
     let words = words_there V pen c.turn_round.new.self c.args.books.now c.turn_round.new.waiting key value c.turn_round.ensures.same t in
-    let f = c.in-Ok.ensures.finished (PutCall key value) s t.readings t.sweeping over words in
+    let f = c.in-Ok.ensures.finished (PutCall key value) s t.readings (t.sweeping, over, words) in
     let r = c.in-Ok.replacement in
     let d = c.decided-storing.result.now in
     let b = c.finish.new.books in
@@ -94,10 +94,10 @@ replaced g c =
     let key = c.args.key in
     let value = c.args.value.now in
     let s = state_at V pen in
-    let t = c.turn_round.ensures.turned (PutCall key value) pen.seat.now (unturned V sh c.args.books.now c.new-waiting.result key value pen.seat.now (c.new-waiting.ensures.sweeping s c.requires.waits)) in
+    let t = turned_there V pen c.turn_round.new.self c.args.books.now c.turn_round.new.waiting key value c.turn_round.ensures.same (c.turn_round.ensures.turned (PutCall key value) pen.seat.now (unturned V sh c.args.books.now c.new-waiting.result key value pen.seat.now (c.new-waiting.ensures.sweeping s c.requires.waits))) in
     let over = c.turn_round.ensures.over (PutCall key value) s t.readings t.sweeping in
     let words = words_there V pen c.turn_round.new.self c.args.books.now c.turn_round.new.waiting key value c.turn_round.ensures.same t in
-    let f = c.in-Ok.ensures.finished (PutCall key value) s t.readings t.sweeping over words in
+    let f = c.in-Ok.ensures.finished (PutCall key value) s t.readings (t.sweeping, over, words) in
     let r = c.in-Ok.replacement in
     let d = c.decided-storing.result.now in
     let b = c.finish.new.books in
