@@ -135,6 +135,16 @@ moment_tells V books self seat n same rested e =
     let wide : seat.of.layout.width ≡ V = ap (λ (l : Layout). l.width) rested.layout in
     e ∙ ap (λ (w : ℕ). moment (state_of w seat.of.layout.shape seat.acts).words) wide ∙ (agrees_now V seat.of books seat refl rested).at_moment ∙ ap (λ (w : WriterRecord). length (history V w)) same
 
+-- the moment that the words hold, which a reader finds where it meets the writer
+pub moment_met : (V : ℕ) (o cells : Opening) (books : Books) (self seat : WriterRecord) (n : ℕ) → cells ≡ o → seat ≡ self → self.of ≡ o → IsRested V books seat → n ≡ moment (state_of V cells.layout.shape seat.acts).words → n ≡ length (state_of V o.layout.shape self.acts).history
+moment_met V o cells books self seat n here same of rested e =
+    let at : seat.of ≡ o = ap (λ (w : WriterRecord). w.of) same ∙ of in
+    e ∙ ap (λ (x : Opening). moment (state_of V x.layout.shape seat.acts).words) here ∙ (agrees_now V o books seat at rested).at_moment ∙ ap (λ (w : WriterRecord). length (state_of V o.layout.shape w.acts).history) same
+
+pub moment_in : (V : ℕ) (o : Opening) (self : WriterRecord) (n : ℕ) → self.of ≡ o → n ≡ length (state_of V o.layout.shape self.acts).history → n ≡ length (history V self)
+unfolding history
+moment_in V o self n of e = e ∙ ap (λ (x : Opening). length (state_of V x.layout.shape self.acts).history) (sym of)
+
 -- ---- a writer between two calls
 pub rests_now : (V : ℕ) (books : Books) (self seat : WriterRecord) → seat ≡ self → IsRested V books seat → IsAtRest V self
 rests_now V books self seat same rested =

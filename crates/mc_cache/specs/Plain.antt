@@ -1,7 +1,7 @@
 -- What the calls of a cache mean for whoever uses it: the clauses `plain`. Of the table they name no word: they speak of two
 -- histories, which are lists of changes of a map. The writer's has every change that was made. A reader's is the part of it that
 -- the reader is known to have seen.
-use Rattle.std.specs.Prelude.{ℕ, ◌≡◌, List, [], ◌∷◌, ◌++◌, length, Option, Some, None, IsSome, Result, Ok, Err}
+use Rattle.std.specs.Prelude.{ℕ, ◌≡◌, List, [], ◌∷◌, ◌++◌, length, Some, None, IsSome, Result, Ok, Err}
 pub use Rattle.mc_words.specs.History.{map_value, IsLegal, IsTrueAnswer}
 pub use Rattle.mc_theory.specs.Plain.{IsBetween}
 pub use Rattle.mc_search.specs.Entries.{AreEntriesOf}

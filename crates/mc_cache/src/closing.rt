@@ -12,7 +12,7 @@ use mc_plan::Books;
 use mc_search::entries;
 use mc_shared::{Cells, WriterSeat};
 use mc_words::NoMemory;
-use mc_writer::Lens;
+use mc_writer::Pen;
 use std::alloc::Global;
 
 /// A cache that could not be closed, as its entries can't be stored. It is as it was.
@@ -36,8 +36,8 @@ fn list_beside<const V: usize>(
     ensures seat { seat.new ≡ seat.old }
 {
     let checked = cells.checked();
-    let mut lens = Lens { cells, seat };
-    entries::<V, Lens<V>>(alloc, checked, &mut lens)
+    let mut pen = Pen { cells, seat };
+    entries::<V, Pen<V>>(alloc, checked, &mut pen)
 }
 
 impl<const V: usize> Cache<V> {

@@ -82,10 +82,10 @@ impl<const V: usize> Reader<V> {
         ensures moment { result ≡ length (state_of V cache.now.layout.shape writer.old.acts).history }
         ensures plain { HasMet V (seen V self.old) (seen V self.new) (history V writer.old) × (result ≡ length (history V writer.old)) }
     {
-        catch(&cache.cells, &mut self.seat, &mut writer.seat);
+        let at = catch(&cache.cells, &mut self.seat, &mut writer.seat);
         writer.seat.known();
         self.seat.known();
-        writer.seat.moment()
+        at
     }
 
     /// What the cache holds of the key at the writer's moment, never `Busy`. A hit marks the key's item.

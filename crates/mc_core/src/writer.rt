@@ -87,12 +87,12 @@ impl<const V: usize> Writer<V> {
         ensures full { OnErr result (room_of {V = V} self.old ≡ 0) }
     {
         match act {
-            Act::Open(key, deed) => self.open(key, deed),
+            Act::Open(key, deed) => self.open_deed(key, deed),
             Act::Slot(place, word) => self.write_slot(place, word),
             Act::Item(i, j, word) => self.write_item(i, j, word),
-            Act::Moment => return self.count_change(),
+            Act::Moment => return self.count_moment(),
             Act::Close => self.close_deed(),
-            Act::Hand(i) => self.turn(i, bit),
+            Act::Hand(i) => self.turn_hand(i, bit),
             Act::Mark(_) => {}
         }
         Ok(())

@@ -21,6 +21,16 @@ AreCommands names = map (λ name. name.now) names.now ≡ codes "run" ∷ []
 abbrev pub command_rule : MixNames → Rule
 command_rule names = record (new_rule (codes "command")) { parser = Some (parser.Names names); required = true }
 
+-- the options that both programs have, with the defaults of `mcload`
+abbrev pub load_sizes : List Rule
+load_sizes = sizes (codes "1024") (codes "3072") (codes "8192")
+
+abbrev pub load_bounds : List Rule
+load_bounds = bounds (codes "5") (codes "8")
+
+abbrev pub load_others : MixNames → List Rule
+load_others mixes = others mixes (codes "fmix") (codes "3")
+
 -- the options of `mcload` that have values and that `mcstep` has not
 abbrev pub load_draws : List Rule
 load_draws =
@@ -39,11 +49,9 @@ histogram_rule = record (new_rule (codes "histogram")) { long = Some (codes "his
 abbrev pub mcload_command : MixNames → App
 mcload_command commands = with_rules (on_top (λ s. record s { has_version = true }) (new_app (codes "mcload"))) (command_rule commands ∷ [])
 
-abbrev pub load_shared : MixNames → App → App
-load_shared mixes app = with_rules (with_rules (with_rules app (sizes (codes "1024") (codes "3072") (codes "8192"))) (bounds (codes "5") (codes "8"))) (others mixes (codes "fmix") (codes "3"))
-
 abbrev pub load_program : MixNames → MixNames → App
-load_program commands mixes = with_rules (with_rules (load_shared mixes (mcload_command commands)) load_draws) (histogram_rule ∷ [])
+load_program commands mixes =
+    with_rules (with_rules (with_rules (with_rules (with_rules (mcload_command commands) load_sizes) load_bounds) (load_others mixes)) load_draws) (histogram_rule ∷ [])
 
 -- ---- what their texts say
 

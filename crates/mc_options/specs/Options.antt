@@ -53,6 +53,16 @@ others mixes mix readers =
     ∷ option (codes "readers") (parser.Signed (pos 0) (pos 4294967295)) readers
     ∷ []
 
+-- with the defaults of `mcstep`
+abbrev pub step_sizes : List Rule
+step_sizes = sizes (codes "4") (codes "16") (codes "1")
+
+abbrev pub step_bounds : List Rule
+step_bounds = bounds (codes "2") (codes "2")
+
+abbrev pub step_others : MixNames → List Rule
+step_others mixes = others mixes (codes "plain") (codes "2")
+
 -- the option of `mcstep` alone
 abbrev pub words_rule : Rule
 words_rule = option (codes "words") (parser.Signed (pos 1) (pos 2)) (codes "1")
@@ -66,8 +76,7 @@ abbrev pub mcstep_command : App
 mcstep_command = on_top (λ s. record s { has_version = true }) (new_app (codes "mcstep"))
 
 abbrev pub program : MixNames → App
-program mixes =
-    with_rules (with_rules (with_rules (with_rules mcstep_command (sizes (codes "4") (codes "16") (codes "1"))) (bounds (codes "2") (codes "2"))) (others mixes (codes "plain") (codes "2"))) (words_rule ∷ [])
+program mixes = with_rules (with_rules (with_rules (with_rules mcstep_command step_sizes) step_bounds) (step_others mixes)) (words_rule ∷ [])
 
 -- ---- what their texts say
 

@@ -1,7 +1,7 @@
 //! The options of `mcload`.
 ghost use Rattle.std.specs.Prelude.{◌≡◌, false, IfOk, MatchResult, map};
 ghost use Rattle.clap.specs.Words.{app_of, first_of, found_of, rows_of, rule_of};
-ghost use Rattle.mc_options.specs.Inside.OptionRows.{row_rule, table_rules};
+ghost use Rattle.mc_options.specs.Inside.OptionRows.{row_rule, shared_load_rules};
 ghost use Rattle.mc_options.specs.Options.{AreMixes, MixNames};
 ghost use Rattle.mc_options.specs.LoadOptions.{AreCommands, ReadsLoad, SaysLoad, command_rule, histogram_rule, is_given, load_draws, load_program, mcload_command};
 
@@ -51,8 +51,8 @@ writes
   wrong 0";
 
 /// The options of `mcload` that `mcstep` has too.
-fn table_rows<'a>() -> [OptionRow<'a>; 8]
-    ensures { (mixes : MixNames) × AreMixes mixes × (map row_rule result ≡ table_rules mixes) }
+fn shared_load_rows<'a>() -> [OptionRow<'a>; 8]
+    ensures { (mixes : MixNames) × AreMixes mixes × (map row_rule result ≡ shared_load_rules mixes) }
 {
     let defaults = Defaults {
         buckets: "1024",
@@ -142,7 +142,7 @@ fn load_named<'a>(alloc: Global) -> Result<Command<'a>, AllocError>
 fn load_command<'a>(alloc: Global) -> Result<Command<'a>, AllocError>
     ensures { IfOk result (λ c. (commands : MixNames) × (mixes : MixNames) × AreCommands commands × AreMixes mixes × (app_of c ≡ load_program commands mixes)) }
 {
-    let rows = table_rows();
+    let rows = shared_load_rows();
     let command = with_options(alloc, load_named(alloc)?, rows.as_slice())?;
     let rows = load_rows();
     let command = with_options(alloc, command, rows.as_slice())?;

@@ -1,16 +1,15 @@
 //! The options of `mcstep`.
 ghost use Rattle.std.specs.Prelude.{◌≡◌, ◌⊎◌, false, IfOk, MatchResult, codes, map, option_and_then};
-ghost use Rattle.std.specs.List.{list_all};
-ghost use Rattle.std.specs.Char.{is_ascii_digit};
 ghost use Rattle.std.specs.Result.{result_ok};
 ghost use Rattle.clap.specs.Words.{app_of, first_of, found_of, kind_of, rows_of, rule_of};
 ghost use Rattle.mc_words.specs.declared.shape.Shape.{Shape};
-ghost use Rattle.mc_options.specs.Inside.OptionRows.{row_rule, shape_rules, shared_rules};
+ghost use Rattle.mc_options.specs.Inside.OptionRows.{row_rule, step_rules, shared_rules};
 ghost use Rattle.mc_options.specs.Options.{AreMixes, MixNames, Reads, Says, SaysShape, mix_in, mcstep_command, number_in, program, with_rules, words_rule};
 
 use clap::builder::ValueParser;
 use clap::error::ErrorKind;
 use clap::{Arg, ArgMatches, Command, Error, value_parser};
+use mc_script::are_digits;
 use mc_words::{Mix, Shape};
 use std::alloc::{AllocError, Global};
 use std::convert::AsStr;
@@ -158,8 +157,8 @@ pub(crate) fn shared_rows<'a>(defaults: Defaults<'a>, limit: &'a str) -> [Option
 }
 
 /// The options of `mcstep` that `mcload` has too.
-fn shape_rows<'a>() -> [OptionRow<'a>; 8]
-    ensures { (mixes : MixNames) × AreMixes mixes × (map row_rule result ≡ shape_rules mixes) }
+fn step_rows<'a>() -> [OptionRow<'a>; 8]
+    ensures { (mixes : MixNames) × AreMixes mixes × (map row_rule result ≡ step_rules mixes) }
 {
     let defaults = Defaults {
         buckets: "4",
@@ -201,22 +200,16 @@ fn named<'a>(alloc: Global) -> Command<'a>
 fn command<'a>(alloc: Global) -> Result<Command<'a>, AllocError>
     ensures { IfOk result (λ c. (mixes : MixNames) × AreMixes mixes × (app_of c ≡ program mixes)) }
 {
-    let rows = shape_rows();
+    let rows = step_rows();
     let command = with_options(alloc, named(alloc), rows.as_slice())?;
     command.arg(option(alloc, &words_row()))
-}
-
-fn are_digits(text: &str) -> bool
-    ensures { result ≡ list_all is_ascii_digit text.now }
-{
-    text.as_bytes().iter().all(|b| b.is_ascii_digit())
 }
 
 /// The number that a text of decimal digits says, where it lies between the bounds.
 fn number_in(text: &str, least: u64, most: u64) -> Option<u64>
     ensures { result ≡ number_in least most text.now }
 {
-    if text.is_empty() || !are_digits(text) {
+    if text.is_empty() || !are_digits(text.as_bytes()) {
         return None;
     }
     match text.parse::<u64>() {

@@ -21,4 +21,5 @@ mod words;
 
 pub use command::{Command, LineFault, parse};
 pub use line::{LONGEST, Line, ReadFault, read_line};
+pub use number::are_digits;
 pub use output::send;

@@ -13,7 +13,8 @@ use std::str;
 /// The most digits of a number.
 const MOST_DIGITS: usize = 20;
 
-fn are_digits(word: &[u8]) -> bool
+/// Whether the bytes are decimal digits alone.
+pub fn are_digits(word: &[u8]) -> bool
     ensures { result ≡ list_all is_ascii_digit word.now }
 {
     word.iter().all(|b| b.is_ascii_digit())

@@ -76,6 +76,5 @@ word_written l acts m n x k may w below =
     (lies l acts m.act n x may w)
 
 -- word j of an item, from where the items begin
-pub item_from : (V : ℕ) (sh : Shape) (items i j : ℕ) → items ≡ item_place V sh 0 0 → item_place V sh i j ≡ items + i * (V + 1) + j
-unfolding payload
-item_from V sh items i j e = let c : i * (1 + V) ≡ i * (V + 1) = ap (λ (n : ℕ). i * n) (omega arith) in omega (arith, c, e)
+pub item_from : (V : ℕ) (sh : Shape) (items i j : ℕ) → items ≡ item_place V sh 0 0 → item_place V sh i j ≡ items + i * (1 + payload V) + j
+item_from V sh items i j e = omega (arith, e)

@@ -1,5 +1,5 @@
 //! The shared words of a table whose values have `V` words: they are opened, and closed.
-ghost use Rattle.std.specs.Prelude.{◌≡◌, ◌^◌, ◌<◌, ◌≤◌, ℕ, [], IfOk, All, length, slice_index};
+ghost use Rattle.std.specs.Prelude.{◌≡◌, ◌^◌, ◌<◌, ℕ, [], IfOk, All, length, slice_index};
 ghost use Rattle.mc_words.specs.Checks.{shape_of};
 ghost use Rattle.mc_words.specs.Places.{IsWidth, all_words, item_place, word_count};
 ghost use Rattle.mc_words.specs.Readers.{HasReaders};

@@ -7,12 +7,12 @@
 //!
 //! ```text
 //! let (cells, mut writer, mut readers) = open::<1>(alloc, &checked, 1)?;
-//! begin_deed(&cells, &mut writer, key, Deed::Fill);
+//! open_deed(&cells, &mut writer, key, Deed::Fill);
 //! write_item(&cells, &mut writer, 0, 0, key);
 //! write_item(&cells, &mut writer, 0, 1, 7);
 //! write_slot(&cells, &mut writer, place, checked.slot_word(checked.tag(key), 0));
 //! count_moment(&cells, &mut writer);
-//! end_deed(&cells, &mut writer);
+//! close_deed(&cells, &mut writer);
 //! let at = read(&cells, &mut reader, Access::Moment);    // on a seat out of `readers`, in any thread
 //! ```
 #![tactic(auto)]
@@ -38,6 +38,6 @@ pub use reader_calls::{catch, mark, mark_unless_set, read, read_at, touch};
 pub use seats::{ReaderSeat, WriterSeat};
 pub use words::Words;
 pub use writer_calls::{
-    begin_deed, count_moment, end_deed, fetch, perform, set_mark, set_mark_unless_set, turn_hand,
+    close_deed, count_moment, fetch, open_deed, perform, set_mark, set_mark_unless_set, turn_hand,
     write_item, write_item_from, write_slot,
 };

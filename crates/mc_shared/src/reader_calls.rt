@@ -10,7 +10,7 @@ ghost use Rattle.mc_shared.specs.Records.{reader_record};
 
 use crate::catch_up::catch_up;
 use crate::cells::Cells;
-use crate::reader_steps::{mark_item, mark_item_unless_set, read_word, touch_word};
+use crate::reader_steps::{mark_on_words, mark_unless_set_on_words, read_word, touch_word};
 use crate::seats::{ReaderSeat, WriterSeat};
 use mc_theory::Access;
 
@@ -71,7 +71,7 @@ pub fn mark<const V: usize>(cells: &Cells<V>, reader: &mut ReaderSeat, i: u32)
     ensures { reader.new ≡ reader_record reader.old.of reader.old.number reader.old.front (reader.old.done ++ mark_at i reader.old.front ∷ []) }
 {
     let place = cells.checked.recency_place::<V>(i);
-    mark_item(&cells.ruled, reader, i, place, cells.checked.recency_bit(i));
+    mark_on_words(&cells.ruled, reader, i, place, cells.checked.recency_bit(i));
 }
 
 /// The same as `mark`. Where the bit is set already, the load that finds it so is the mark, and nothing is written.
@@ -81,7 +81,7 @@ pub fn mark_unless_set<const V: usize>(cells: &Cells<V>, reader: &mut ReaderSeat
     ensures { reader.new ≡ reader_record reader.old.of reader.old.number reader.old.front (reader.old.done ++ mark_at i reader.old.front ∷ []) }
 {
     let place = cells.checked.recency_place::<V>(i);
-    mark_item_unless_set(&cells.ruled, reader, i, place, cells.checked.recency_bit(i));
+    mark_unless_set_on_words(&cells.ruled, reader, i, place, cells.checked.recency_bit(i));
 }
 
 /// Shows the reader all acts of the writer, and gives the moment. Condition: both seats are those of these words.

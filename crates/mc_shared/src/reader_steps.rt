@@ -64,7 +64,7 @@ pub(crate) fn touch_word(ruled: &RuledWords, place: usize) -> u64
 }
 
 // A mark of a reader: the step that sets the bit.
-fn set_bit_as_reader<J: NamesItem>(
+fn mark_as_reader<J: NamesItem>(
     ruled: &RuledWords,
     seat: &mut Seat<(), Known>,
     item: u32,
@@ -88,7 +88,7 @@ fn set_bit_as_reader<J: NamesItem>(
 
 // A mark of a reader. Where the bit is set, the load that found it so is the mark: it leaves what the step that sets the
 // bit would have left, at the same instant. Where it is clear, that step is made.
-fn notice_as_reader<J: NamesItem>(
+fn mark_unless_set_as_reader<J: NamesItem>(
     ruled: &RuledWords,
     seat: &mut Seat<(), Known>,
     item: u32,
@@ -105,12 +105,12 @@ fn notice_as_reader<J: NamesItem>(
 {
     let found = ruled.table.shared.load::<MarksIfSet<J>>(seat, place);
     if (found >> bit) & 1 == 0 {
-        set_bit_as_reader::<J>(ruled, seat, item, place, bit);
+        mark_as_reader::<J>(ruled, seat, item, place, bit);
     }
 }
 
 /// Marks an item, whose recency bit is this one of the word at this place.
-pub(crate) fn mark_item(
+pub(crate) fn mark_on_words(
     ruled: &RuledWords,
     reader: &mut ReaderSeat,
     item: u32,
@@ -124,12 +124,12 @@ pub(crate) fn mark_item(
     ensures { reader.new ≡ reader_record reader.old.of reader.old.number reader.old.front (reader.old.done ++ mark_at item reader.old.front ∷ []) }
 {
     let mut seat = mem::replace(&mut reader.badge, Badge::blank()).into_seat::<()>();
-    set_bit_as_reader::<Brand>(ruled, &mut seat, item, place, bit);
+    mark_as_reader::<Brand>(ruled, &mut seat, item, place, bit);
     reader.badge = seat.into_badge();
 }
 
 /// The same, with nothing written where the bit is set already.
-pub(crate) fn mark_item_unless_set(
+pub(crate) fn mark_unless_set_on_words(
     ruled: &RuledWords,
     reader: &mut ReaderSeat,
     item: u32,
@@ -143,6 +143,6 @@ pub(crate) fn mark_item_unless_set(
     ensures { reader.new ≡ reader_record reader.old.of reader.old.number reader.old.front (reader.old.done ++ mark_at item reader.old.front ∷ []) }
 {
     let mut seat = mem::replace(&mut reader.badge, Badge::blank()).into_seat::<()>();
-    notice_as_reader::<Brand>(ruled, &mut seat, item, place, bit);
+    mark_unless_set_as_reader::<Brand>(ruled, &mut seat, item, place, bit);
     reader.badge = seat.into_badge();
 }

@@ -11,15 +11,15 @@ ghost use Rattle.mc_shared.specs.Records.{HasActed};
 use crate::cells::Cells;
 use crate::seats::WriterSeat;
 use crate::writer_steps::{
-    close_deed, count_change, fetch_word, mark_unless_word_set, mark_word, open_deed, sweep_word,
-    write_word,
+    close_deed_on_words, count_moment_on_words, fetch_word, open_deed_on_words, set_mark_on_words,
+    set_mark_unless_set_on_words, turn_hand_on_words, write_word,
 };
 use mc_theory::{Act, Deed};
-use mc_words::Place;
+use mc_words::{Place, payload_words};
 
 /// Opens a deed on a key: a load of its version, and a store of one more.
 /// Condition: the seat is that of these words, the act is allowed now, and leaves room for its close within the limit.
-pub fn begin_deed<const V: usize>(cells: &Cells<V>, writer: &mut WriterSeat, key: u64, deed: Deed)
+pub fn open_deed<const V: usize>(cells: &Cells<V>, writer: &mut WriterSeat, key: u64, deed: Deed)
     requires of { writer.old.of ≡ cells.now }
     requires allowed { IsAllowed cells.now.layout.shape (state_of V cells.now.layout.shape writer.old.acts) (Open key deed) }
     requires limit { HasVersionSteps cells.now.layout.shape.limit (state_of V cells.now.layout.shape writer.old.acts).version_steps (Open key deed) }
@@ -27,7 +27,7 @@ pub fn begin_deed<const V: usize>(cells: &Cells<V>, writer: &mut WriterSeat, key
 {
     let checked = &cells.checked;
     let place = checked.version_place(checked.stripe(key));
-    open_deed(&cells.ruled, writer, key, deed, place);
+    open_deed_on_words(&cells.ruled, writer, key, deed, place);
 }
 
 /// Writes a slot word: one store. Condition: the seat is that of these words, and the act is allowed now.
@@ -80,7 +80,7 @@ pub fn write_item_from<const V: usize>(
     requires allowed { IsAllowed cells.now.layout.shape (state_of V cells.now.layout.shape writer.old.acts) (Item i j word) }
     ensures acted { HasActed writer.old writer.new (Item i j word) 0 }
 {
-    let at = items + i as usize * (V + 1) + usize::from(j);
+    let at = items + i as usize * (1 + payload_words::<V>()) + usize::from(j);
     write_word(&cells.ruled, writer, Act::Item(i, j, word), at, word);
 }
 
@@ -91,17 +91,17 @@ pub fn count_moment<const V: usize>(cells: &Cells<V>, writer: &mut WriterSeat)
     requires allowed { IsAllowed cells.now.layout.shape (state_of V cells.now.layout.shape writer.old.acts) Moment }
     ensures acted { HasActed writer.old writer.new Moment 0 }
 {
-    count_change(&cells.ruled, writer);
+    count_moment_on_words(&cells.ruled, writer);
 }
 
 /// Closes the deed that runs: one store of its version.
 /// Condition: the seat is that of these words, and the act is allowed now.
-pub fn end_deed<const V: usize>(cells: &Cells<V>, writer: &mut WriterSeat)
+pub fn close_deed<const V: usize>(cells: &Cells<V>, writer: &mut WriterSeat)
     requires of { writer.old.of ≡ cells.now }
     requires allowed { IsAllowed cells.now.layout.shape (state_of V cells.now.layout.shape writer.old.acts) Close }
     ensures acted { HasActed writer.old writer.new Close 0 }
 {
-    close_deed(&cells.ruled, writer);
+    close_deed_on_words(&cells.ruled, writer);
 }
 
 /// Sets the recency bit of an item: one `fetch_or`.
@@ -113,7 +113,7 @@ pub fn set_mark<const V: usize>(cells: &Cells<V>, writer: &mut WriterSeat, i: u3
 {
     writer.known();
     let place = cells.checked.recency_place::<V>(i);
-    mark_word(&cells.ruled, writer, i, place, cells.checked.recency_bit(i));
+    set_mark_on_words(&cells.ruled, writer, i, place, cells.checked.recency_bit(i));
 }
 
 /// The same as `set_mark`. Where the bit is set already, the load that finds it so is the mark, and nothing is written.
@@ -124,7 +124,7 @@ pub fn set_mark_unless_set<const V: usize>(cells: &Cells<V>, writer: &mut Writer
 {
     writer.known();
     let place = cells.checked.recency_place::<V>(i);
-    mark_unless_word_set(&cells.ruled, writer, i, place, cells.checked.recency_bit(i));
+    set_mark_unless_set_on_words(&cells.ruled, writer, i, place, cells.checked.recency_bit(i));
 }
 
 /// Reads the recency bit of the item at which the hand stands, and clears it: one `fetch_and`.
@@ -136,7 +136,7 @@ pub fn turn_hand<const V: usize>(cells: &Cells<V>, writer: &mut WriterSeat, i: u
 {
     writer.known();
     let place = cells.checked.recency_place::<V>(i);
-    sweep_word(&cells.ruled, writer, i, place, cells.checked.recency_bit(i))
+    turn_hand_on_words(&cells.ruled, writer, i, place, cells.checked.recency_bit(i))
 }
 
 /// Makes one act. It gives the bit that the hand read, else 0.
@@ -149,11 +149,11 @@ pub fn perform<const V: usize>(cells: &Cells<V>, writer: &mut WriterSeat, act: A
     ensures bit { IsStored act → result ≡ 0 }
 {
     match act {
-        Act::Open(key, deed) => begin_deed(cells, writer, key, deed),
+        Act::Open(key, deed) => open_deed(cells, writer, key, deed),
         Act::Slot(place, word) => write_slot(cells, writer, place, word),
         Act::Item(i, j, word) => write_item(cells, writer, i, j, word),
         Act::Moment => count_moment(cells, writer),
-        Act::Close => end_deed(cells, writer),
+        Act::Close => close_deed(cells, writer),
         Act::Mark(i) => set_mark(cells, writer, i),
         Act::Hand(i) => return turn_hand(cells, writer, i),
     }

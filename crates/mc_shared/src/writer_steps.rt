@@ -65,7 +65,7 @@ fn store_as_writer<J: NamesAct>(
 }
 
 // A step of the writer that clears one bit of a word and makes the act of the hand. It gives the bit that it found.
-fn clear_bit_as_writer<J: NamesAct>(
+fn turn_hand_as_writer<J: NamesAct>(
     ruled: &RuledWords,
     seat: &mut Seat<(), Known>,
     item: u32,
@@ -91,7 +91,7 @@ fn clear_bit_as_writer<J: NamesAct>(
 }
 
 // A step of the writer that sets one bit of a word and makes a mark.
-fn set_bit_as_writer<J: NamesAct>(
+fn set_mark_as_writer<J: NamesAct>(
     ruled: &RuledWords,
     seat: &mut Seat<(), Known>,
     item: u32,
@@ -116,7 +116,7 @@ fn set_bit_as_writer<J: NamesAct>(
 }
 
 // The writer's mark. Where the bit is set, the load that found it so is the mark. Where it is clear, the step that sets it is made.
-fn notice_as_writer<J: NamesAct>(
+fn set_mark_unless_set_as_writer<J: NamesAct>(
     ruled: &RuledWords,
     seat: &mut Seat<(), Known>,
     item: u32,
@@ -135,7 +135,7 @@ fn notice_as_writer<J: NamesAct>(
 {
     let found = ruled.table.shared.load::<MakesMarkIfSet<J>>(seat, place);
     if (found >> bit) & 1 == 0 {
-        set_bit_as_writer::<J>(ruled, seat, item, place, bit);
+        set_mark_as_writer::<J>(ruled, seat, item, place, bit);
     }
 }
 
@@ -157,7 +157,7 @@ pub(crate) fn write_word(
 }
 
 /// Opens a deed. The key's version lies at this place.
-pub(crate) fn open_deed(
+pub(crate) fn open_deed_on_words(
     ruled: &RuledWords,
     writer: &mut WriterSeat,
     key: u64,
@@ -177,7 +177,7 @@ pub(crate) fn open_deed(
 }
 
 /// Counts the change of the deed.
-pub(crate) fn count_change(ruled: &RuledWords, writer: &mut WriterSeat)
+pub(crate) fn count_moment_on_words(ruled: &RuledWords, writer: &mut WriterSeat)
     requires of { writer.old.of ≡ ruled.now }
     requires allowed { IsAllowed ruled.now.layout.shape (layout_state ruled.now.layout writer.old.acts) Moment }
     ensures { HasActed writer.old writer.new Moment 0 }
@@ -188,7 +188,7 @@ pub(crate) fn count_change(ruled: &RuledWords, writer: &mut WriterSeat)
 }
 
 /// Closes the deed that runs.
-pub(crate) fn close_deed(ruled: &RuledWords, writer: &mut WriterSeat)
+pub(crate) fn close_deed_on_words(ruled: &RuledWords, writer: &mut WriterSeat)
     requires of { writer.old.of ≡ ruled.now }
     requires allowed { IsAllowed ruled.now.layout.shape (layout_state ruled.now.layout writer.old.acts) Close }
     ensures { HasActed writer.old writer.new Close 0 }
@@ -198,7 +198,7 @@ pub(crate) fn close_deed(ruled: &RuledWords, writer: &mut WriterSeat)
 }
 
 /// Reads the bit of the item at which the hand stands, and clears it.
-pub(crate) fn sweep_word(
+pub(crate) fn turn_hand_on_words(
     ruled: &RuledWords,
     writer: &mut WriterSeat,
     item: u32,
@@ -211,11 +211,11 @@ pub(crate) fn sweep_word(
     requires bit { (bit ≡ recency_bit item) × (bit < 64) }
     ensures { HasActed writer.old writer.new (Hand item) result }
 {
-    clear_bit_as_writer::<Brand>(ruled, &mut writer.seat, item, place, bit)
+    turn_hand_as_writer::<Brand>(ruled, &mut writer.seat, item, place, bit)
 }
 
 /// Sets the bit of an item.
-pub(crate) fn mark_word(
+pub(crate) fn set_mark_on_words(
     ruled: &RuledWords,
     writer: &mut WriterSeat,
     item: u32,
@@ -228,11 +228,11 @@ pub(crate) fn mark_word(
     requires bit { (bit ≡ recency_bit item) × (bit < 64) }
     ensures { HasActed writer.old writer.new (Mark item) 0 }
 {
-    set_bit_as_writer::<Brand>(ruled, &mut writer.seat, item, place, bit);
+    set_mark_as_writer::<Brand>(ruled, &mut writer.seat, item, place, bit);
 }
 
 /// The same, with nothing written where the bit is set already.
-pub(crate) fn mark_unless_word_set(
+pub(crate) fn set_mark_unless_set_on_words(
     ruled: &RuledWords,
     writer: &mut WriterSeat,
     item: u32,
@@ -245,5 +245,5 @@ pub(crate) fn mark_unless_word_set(
     requires bit { (bit ≡ recency_bit item) × (bit < 64) }
     ensures { HasActed writer.old writer.new (Mark item) 0 }
 {
-    notice_as_writer::<Brand>(ruled, &mut writer.seat, item, place, bit);
+    set_mark_unless_set_as_writer::<Brand>(ruled, &mut writer.seat, item, place, bit);
 }

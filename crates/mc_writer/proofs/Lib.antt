@@ -1,4 +1,5 @@
 pub mod Due
+pub mod Pens
 pub mod WholeCalls
 pub mod Rests
 pub mod WaitingPuts

@@ -29,15 +29,15 @@ pub record IsRested (V : ℕ) (books : Books) (seat : WriterRecord) : Type 0 whe
   pub layout : seat.of.layout ≡ layout_of V (shape_of books.checked)
   pub known : AreBooksOf V books (state_of V (shape_of books.checked) seat.acts)
 
--- the reply is what the map holds of the key at the end of the history; the last act marks the item of a hit, and a miss makes no act
-abbrev pub RepliesNow : (V : ℕ) → Shape → ℕ → State V → List Made → List Made → Reply V → Type 0
-RepliesNow V sh k s acts acts' (Found v at) =
-    (map_value s.history k ≡ Some v) × (at ≡ length s.history) × ((q : ℕ) × (i : ℕ) × Stands V sh s.words k q i × (acts' ≡ acts ++ with_bit (Mark i) 0 ∷ []))
-RepliesNow V sh k s acts acts' (Absent at) = (map_value s.history k ≡ None) × (at ≡ length s.history) × (acts' ≡ acts)
-RepliesNow V sh k s acts acts' Busy = ⊥
+-- the reply is what the map holds of the key at the end of the history; what was done grew by a mark of the item of a hit, and a miss does nothing
+abbrev pub RepliesNow : {A : Type 0} (V : ℕ) → Shape → ℕ → State V → (ℕ → A) → List A → List A → Reply V → Type 0
+RepliesNow V sh k s mark done done' (Found v at) =
+    (map_value s.history k ≡ Some v) × (at ≡ length s.history) × ((q : ℕ) × (i : ℕ) × Stands V sh s.words k q i × (done' ≡ done ++ mark i ∷ []))
+RepliesNow V sh k s mark done done' (Absent at) = (map_value s.history k ≡ None) × (at ≡ length s.history) × (done' ≡ done)
+RepliesNow V sh k s mark done done' Busy = ⊥
 
 -- a key was looked up by the writer
 pub record HasGot (V : ℕ) (sh : Shape) (k : ℕ) (before after : WriterRecord) (reply : Reply V) : Type 0 where
   pub of : after.of ≡ before.of
   pub notes : NotesGrow before.notes after.notes
-  pub replies : RepliesNow V sh k (state_of V sh before.acts) before.acts after.acts reply
+  pub replies : RepliesNow V sh k (state_of V sh before.acts) (λ i. with_bit (Mark i) 0) before.acts after.acts reply

@@ -5,7 +5,7 @@ ghost use Rattle.mc_words.specs.History.{map_value};
 ghost use Rattle.mc_words.specs.Standing.{Stands};
 ghost use Rattle.mc_writer.specs.WriterCalls.{HasGot, IsRested};
 
-use crate::lens::Lens;
+use crate::pen::Pen;
 use mc_plan::Books;
 use mc_search::read;
 use mc_shared::{Cells, WriterSeat, set_mark_unless_set};
@@ -27,8 +27,8 @@ pub fn look<const V: usize>(
 {
     let _books = books;
     let checked = cells.checked();
-    let mut lens = Lens { cells, seat };
-    read::<V, Lens<V>>(checked, &mut lens, key)
+    let mut pen = Pen { cells, seat };
+    read::<V, Pen<V>>(checked, &mut pen, key)
 }
 
 /// What the map holds of the key now, never `Busy`. A hit marks the key's item.

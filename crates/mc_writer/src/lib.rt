@@ -13,12 +13,12 @@
 
 mod deeds;
 mod get_call;
-mod lens;
+mod pen;
 mod put_call;
 mod remove_call;
 mod sweep;
 
 pub use get_call::{get, look};
-pub use lens::Lens;
+pub use pen::Pen;
 pub use put_call::put;
 pub use remove_call::remove;

@@ -2,7 +2,7 @@
 #![tactic(auto)]
 
 mod beside;
-mod filling;
+mod fresh_puts;
 mod keys;
 mod lookups;
 mod memory;
@@ -26,10 +26,10 @@ fn run<R: Runtime + AllocGlobal + CpuClock + Threads + Sync>(rt: &R) -> io::Resu
     match options_of(alloc, words.as_slice()) {
         Ok(options) => {
             let report = match options.workload {
-                Workload::Present | Workload::Half | Workload::Absent => {
+                Workload::Mixed | Workload::Half | Workload::Absent => {
                     beside::measure(rt, alloc, &options)?
                 }
-                _ => filling::measure(rt, alloc, &options)?,
+                _ => fresh_puts::measure(rt, alloc, &options)?,
             };
             println!(rt; "{report}")?;
             Ok(0)

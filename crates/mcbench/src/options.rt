@@ -10,7 +10,7 @@ use std::time::Duration;
 #[derive(Clone, Copy)]
 pub(crate) enum Workload {
     /// Threads look up, or put, keys that the cache holds.
-    Present,
+    Mixed,
     /// Threads look up keys that it doesn't hold.
     Absent,
     /// Threads look up keys of which it holds half.
@@ -133,7 +133,7 @@ fn workload_in(matches: &ArgMatches<'_>) -> Workload {
         Some("fill") => Workload::Fill,
         Some("evict") => Workload::Evict,
         Some("load") => Workload::Load,
-        _ => Workload::Present,
+        _ => Workload::Mixed,
     }
 }
 

@@ -20,7 +20,7 @@ use std::alloc::AllocError;
 
 impl<const V: usize> Writer<V> {
     /// Opens a deed on a key.
-    pub(crate) fn open(&mut self, key: u64, deed: Deed)
+    pub(crate) fn open_deed(&mut self, key: u64, deed: Deed)
         requires used { UsedWell {V = V} self.old.table }
         requires version { version (words_of_writer {V = V} self.old) (stripe_of (shape_of_writer {V = V} self.old) key) < 2 ^ 64 - 1 }
         requires version_steps { self.old.version_steps < 2 ^ 64 - 1 }
@@ -33,7 +33,7 @@ impl<const V: usize> Writer<V> {
     }
 
     /// Ends the deed on a key.
-    fn close(&mut self, key: u64)
+    fn close_deed_of(&mut self, key: u64)
         requires running { self.old.progress ≡ Progress.Closing key }
         requires used { UsedWell {V = V} self.old.table }
         requires version { version (words_of_writer {V = V} self.old) (stripe_of (shape_of_writer {V = V} self.old) key) < 2 ^ 64 - 1 }
@@ -46,7 +46,7 @@ impl<const V: usize> Writer<V> {
     }
 
     /// Turns the hand past an item whose bit was read.
-    pub(crate) fn turn(&mut self, i: u32, bit: u64)
+    pub(crate) fn turn_hand(&mut self, i: u32, bit: u64)
         requires quiet { self.old.progress ≡ Progress.Quiet }
         requires item { i < (shape_of_writer {V = V} self.old).items }
         requires used { UsedWell {V = V} self.old.table }
@@ -122,12 +122,12 @@ impl<const V: usize> Writer<V> {
         ensures { (bit : ℕ) → IsMade {V = V} self.old self.new Act.Close bit }
     {
         if let Progress::Closing(key) = self.progress {
-            self.close(key);
+            self.close_deed_of(key);
         }
     }
 
     /// Counts a change, for which memory may be wanting.
-    fn count(&mut self, key: u64, change: Change<V>) -> Result<(), AllocError>
+    fn count_moment_of(&mut self, key: u64, change: Change<V>) -> Result<(), AllocError>
         requires moment { moment (words_of_writer {V = V} self.old) < 2 ^ 64 - 1 }
         requires used { UsedWell {V = V} self.old.table }
         requires change { change_of {V = V} (state_in {V = V} self.old).phase ≡ change ∷ [] }
@@ -143,7 +143,7 @@ impl<const V: usize> Writer<V> {
     }
 
     /// Counts the change of the running deed.
-    pub(crate) fn count_change(&mut self) -> Result<(), AllocError>
+    pub(crate) fn count_moment(&mut self) -> Result<(), AllocError>
         requires moment { moment (words_of_writer {V = V} self.old) < 2 ^ 64 - 1 }
         requires used { UsedWell {V = V} self.old.table }
         requires may { IsAllowed (shape_of_writer {V = V} self.old) (state_in {V = V} self.old) Act.Moment }
@@ -152,10 +152,10 @@ impl<const V: usize> Writer<V> {
         ensures full { OnErr result (room_of {V = V} self.old ≡ 0) }
     {
         match self.progress {
-            Progress::Placed(key, _) => self.count(key, Change::Put(key, self.written.value())),
-            Progress::Renewing(key, _) => self.count(key, Change::Put(key, self.written.value())),
-            Progress::Removed(key, true) => self.count(key, Change::Evict(key)),
-            Progress::Removed(key, false) => self.count(key, Change::Remove(key)),
+            Progress::Placed(key, _) => self.count_moment_of(key, Change::Put(key, self.written.value())),
+            Progress::Renewing(key, _) => self.count_moment_of(key, Change::Put(key, self.written.value())),
+            Progress::Removed(key, true) => self.count_moment_of(key, Change::Evict(key)),
+            Progress::Removed(key, false) => self.count_moment_of(key, Change::Remove(key)),
             _ => Ok(()),
         }
     }

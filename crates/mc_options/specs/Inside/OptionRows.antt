@@ -1,7 +1,8 @@
 -- The rules that the tables of options make.
-use Rattle.std.specs.Prelude.{List, ◌++◌, codes}
+use Rattle.std.specs.Prelude.{List, ◌++◌}
 use Rattle.clap.specs.Words.{Rule}
-use Rattle.mc_options.specs.Options.{MixNames, bounds, option, others, sizes}
+use Rattle.mc_options.specs.LoadOptions.{load_bounds, load_others, load_sizes}
+use Rattle.mc_options.specs.Options.{MixNames, bounds, option, others, sizes, step_bounds, step_others, step_sizes}
 use Rattle.mc_options.specs.declared.options.Defaults.{Defaults}
 use Rattle.mc_options.specs.declared.options.OptionRow.{OptionRow}
 
@@ -14,9 +15,9 @@ abbrev pub shared_rules : MixNames → Defaults → List Rule
 shared_rules mixes d = sizes d.buckets.now d.items.now d.stripes.now ++ bounds d.depth.now d.tries.now ++ others mixes d.mix.now d.readers.now
 
 -- those of `mcstep`
-abbrev pub shape_rules : MixNames → List Rule
-shape_rules mixes = sizes (codes "4") (codes "16") (codes "1") ++ bounds (codes "2") (codes "2") ++ others mixes (codes "plain") (codes "2")
+abbrev pub step_rules : MixNames → List Rule
+step_rules mixes = step_sizes ++ step_bounds ++ step_others mixes
 
 -- those of `mcload`
-abbrev pub table_rules : MixNames → List Rule
-table_rules mixes = sizes (codes "1024") (codes "3072") (codes "8192") ++ bounds (codes "5") (codes "8") ++ others mixes (codes "fmix") (codes "3")
+abbrev pub shared_load_rules : MixNames → List Rule
+shared_load_rules mixes = load_sizes ++ load_bounds ++ load_others mixes

@@ -8,7 +8,7 @@ use Rattle.mc_options.proofs.load_options.load_command.Goals as goal
 pub returns : goal.returns
 returns c =
     let named = c.in_ok-load_named.ensures in
-    let mixes = c.table_rows-rows.ensures in
+    let mixes = c.shared_load_rows-rows.ensures in
     let rows = ap (map row_rule) c.as_slice.ensures ∙ mixes.2 in
     let shared = c.in_ok-command.ensures ∙ ap₂ with_rules named.2 rows in
     let own = ap (map row_rule) c.as_slice-2.ensures ∙ c.load_rows-rows.ensures in

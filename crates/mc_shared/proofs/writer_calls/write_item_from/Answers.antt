@@ -16,4 +16,4 @@ write_word-requires-clause-writes g c =
     let layout = c.cells.invariant.0 in
     let start : items ≡ item_place V sh 0 0 = c.requires.items.0 ∙ ap (λ (l : Layout). item_place V l.shape 0 0) (ap (λ (o : Opening). o.layout) (sym c.cells.view_is) ∙ layout) in
     ap (λ (n : ℕ). Some (n, c.args.word))
-    (ap (λ (l : Layout). item_place l.width l.shape i j) layout ∙ item_from V sh items i j start ∙ ap (λ (n : ℕ). items + i * (V + 1) + n) (sym c.from.ensures))
+    (ap (λ (l : Layout). item_place l.width l.shape i j) layout ∙ item_from V sh items i j start ∙ ap (λ (n : ℕ). items + i * (1 + n) + j) (sym c.payload_words.ensures.count) ∙ ap (λ (n : ℕ). items + i * (1 + c.payload_words.result) + n) (sym c.from.ensures))

@@ -1,6 +1,6 @@
-use Rattle.std.proofs.Common.{◌≡◌, Some, None, ap, refl, subst, sym, ◌∙◌}
+use Rattle.std.proofs.Common.{◌≡◌, Some, None, ap, subst, sym, ◌∙◌}
 use Rattle.mc_words.specs.declared.history.Reply.{Reply}
-use Rattle.mc_shared.specs.Records.{ReaderRecord, WriterRecord}
+use Rattle.mc_shared.specs.Records.{ReaderRecord}
 use Rattle.mc_cache.specs.Plain.{TellsNow, history, seen}
 use Rattle.mc_cache.proofs.PlainCalls.{held_now, met_still}
 use Rattle.mc_cache.proofs.reader.Reader.get_beside.Goals as goal

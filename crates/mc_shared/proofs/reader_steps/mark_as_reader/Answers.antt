@@ -1,0 +1,29 @@
+use Rattle.std.proofs.Common.{◌≡◌, ℕ, ◌*◌, ◌%◌, ◌^◌, ap, refl, sym, ◌∙◌, subst, ◌<◌, arith}
+use mathlib.Core.Option.{none}
+use Rattle.atomic_table.specs.Table.{step}
+use Rattle.mc_words.specs.Places.{recency_place}
+use Rattle.mc_words.specs.Recency.{recency_bit}
+use Rattle.mc_shared.specs.Records.{Opening}
+use Rattle.mc_shared.specs.Inside.Steps.{only}
+use Rattle.mc_shared.proofs.PackedBits.{recency_below, shifted}
+use Rattle.mc_shared.proofs.EachStep.{marks_as}
+use Rattle.mc_shared.proofs.SeatViews.{marked_is, all_of}
+use Rattle.mc_shared.proofs.reader_steps.mark_as_reader.Goals as goal
+
+pub fetch_or-requires : goal.fetch_or-requires
+fetch_or-requires g c =
+    let v = c.ruled.view_is in
+    let same = ap (λ (o : Opening). o.layout) v in
+    let l = c.args.ruled.now.layout in
+    let item = c.requires.item.0 in
+    let within : g.J.NamesItem.item < l.shape.items = subst (λ n. n < l.shape.items) (sym item) c.requires.item.1 in
+    let here : c.args.place ≡ recency_place l.width l.shape g.J.NamesItem.item = c.requires.place ∙ ap (recency_place l.width l.shape) (sym item) in
+    let mask : 1 * 2 ^ c.args.bit % 2 ^ 64 ≡ only g.J.NamesItem.item = shifted c.args.bit c.requires.bit.1 ∙ ap (λ (b : ℕ). 2 ^ b) (c.requires.bit.0 ∙ ap recency_bit (sym item)) in
+    let below = recency_below l.width l.shape g.J.NamesItem.item within in (
+      ap (λ (o : Opening). o.table) (c.requires.of ∙ sym v),
+      rw (c.ruled.invariant.words ∙ ap all_of same) (omega (arith, here, below)),
+      marks_as _ _ same _ _ _ c.requires.seat g.J.NamesItem.item _ _ (λ w. w) (step 0 c.args.place 0 0 none) within mask here,
+    )
+
+pub returns-clause-one : goal.returns-clause-one
+returns-clause-one g c = marked_is c.args.ruled.now.layout c.args.seat.now.me c.args.seat.now.me _ g.J.NamesItem.item c.args.item c.requires.item.0 refl c.requires.seat c.fetch_or.ensures.2

@@ -1,0 +1,16 @@
+use Rattle.std.proofs.Common.{arith, [], ◌∷◌}
+use Rattle.mc_theory.specs.declared.act.Act.TheVariants as act
+use Rattle.mc_plan.specs.Plans.{fill_acts}
+use Rattle.mc_writer.proofs.Pens.{first_due, made_then, rest_due}
+use Rattle.mc_writer.proofs.pen.Pen.make_filling.Goals as goal
+
+pub fill-requires : goal.fill-requires
+fill-requires g c =
+    let sh = c.args.self.now.cells.now.layout.shape in
+    (omega arith, (omega (arith, c.requires.width), (c.requires.width, (c.requires.item, first_due g.row.V (fill_acts sh c.args.key c.args.value.now c.args.item c.args.place) (act.Mark c.args.item ∷ []) _ c.requires.due))))
+
+pub set_mark_unless_set-requires : goal.set_mark_unless_set-requires
+set_mark_unless_set-requires g c = (omega arith, rest_due (act.Mark c.args.item ∷ []) c.fill.ensures.made c.requires.due)
+
+pub returns : goal.returns
+returns g c = record { made = made_then c.fill.ensures.made c.set_mark_unless_set.ensures.made }

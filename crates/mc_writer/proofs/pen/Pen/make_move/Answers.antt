@@ -1,0 +1,30 @@
+use Rattle.std.proofs.Common.{arith, [], ◌∷◌}
+use Rattle.mc_theory.specs.declared.act.Act.TheVariants as act
+use Rattle.mc_theory.specs.declared.act.Deed.TheVariants as deed
+use Rattle.mc_writer.proofs.Pens.{first_due, made_then, rest_due}
+use Rattle.mc_writer.proofs.pen.Pen.make_move.Goals as goal
+
+pub open_deed-requires : goal.open_deed-requires
+open_deed-requires g c =
+    (omega arith, first_due g.row.V (act.Open c.args.key deed.Move ∷ []) _ _ c.requires.due)
+
+pub write_slot-requires : goal.write_slot-requires
+write_slot-requires g c =
+    let d1 = rest_due _ c.open_deed.ensures.made c.requires.due in
+    (omega arith, first_due g.row.V (act.Slot c.args.to c.args.named ∷ []) _ _ d1)
+
+pub write_slot-requires-2 : goal.write_slot-requires-2
+write_slot-requires-2 g c =
+    let d1 = rest_due _ c.open_deed.ensures.made c.requires.due in
+    let d2 = rest_due _ c.write_slot.ensures.made d1 in
+    (omega arith, first_due g.row.V (act.Slot c.args.from 0 ∷ []) _ _ d2)
+
+pub close_deed-requires : goal.close_deed-requires
+close_deed-requires g c =
+    let d1 = rest_due _ c.open_deed.ensures.made c.requires.due in
+    let d2 = rest_due _ c.write_slot.ensures.made d1 in
+    let d3 = rest_due _ c.write_slot-2.ensures.made d2 in
+    (omega arith, first_due g.row.V (act.Close ∷ []) _ _ d3)
+
+pub returns : goal.returns
+returns g c = record { made = made_then c.open_deed.ensures.made (made_then c.write_slot.ensures.made (made_then c.write_slot-2.ensures.made c.close_deed.ensures.made)) }
