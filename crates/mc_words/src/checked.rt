@@ -168,7 +168,19 @@ impl Checked {
         requires word { j ≤ payload V }
         ensures { result ≡ item_place V (shape_of self.now) i j }
     {
-        self.items_place() + i as usize * item_stride::<V>() + usize::from(j)
+        self.item_from::<V>(self.items_place(), i, j)
+    }
+
+    /// The same, for a caller that has worked out where the items begin. Condition: there they begin, and a value has from 1
+    /// to 8 words.
+    #[inline(always)]
+    pub fn item_from<const V: usize>(&self, items: usize, i: u32, j: u8) -> usize
+        requires width { IsWidth V }
+        requires items { items ≡ item_place V (shape_of self.now) 0 0 }
+        ensures { result ≡ item_place V (shape_of self.now) i j }
+    {
+        let _ = self;
+        items + i as usize * item_stride::<V>() + usize::from(j)
     }
 
     /// Where the recency words begin: how many words the moment, the versions, the slots and the items have.
