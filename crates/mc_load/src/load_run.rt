@@ -119,7 +119,7 @@ fn run_plain<R: Threads + Sync, W: Write, E: Write>(
     output: &mut W,
     errors: &mut E,
 ) -> u8
-    requires { MayAskAtOnce options.many }
+    requires many { MayAskAtOnce options.many }
     ensures { RunsLoad options (stream (W.contents output.old) (W.contents output.new)) (stream (E.contents errors.old) (E.contents errors.new)) result }
 {
     match load_many::<4, R, Free>(rt, alloc, load_for(options), &Free, options.many) {

@@ -75,7 +75,10 @@ fn many_keys_of_a_call_are_those_that_are_drawn(rt: HostRuntime) -> Result<(), F
         assert!(rt; told == due, "calls for {many} keys");
         let lookups = u64::from(late.readers) * u64::from(late.lookups);
         let calls = [u64::from(late.writes), lookups, lookups];
-        assert!(rt; gate.calls() == calls, "each lookup passes the gate, calls for {many} keys");
+        assert!(rt;
+            gate.calls() == calls,
+            "each lookup passes the gate, calls for {many} keys"
+        );
     }
     Ok(())
 }
@@ -95,7 +98,10 @@ fn the_least_worker_is_told_that_the_gate_refused(rt: HostRuntime) -> Result<(),
         let due = LoadError::Gate { who: first, call };
         assert!(rt; told == Err(due), "worker {first}, calls for {many} keys");
         let [writes, _, lookups] = gate.calls();
-        assert!(rt; [writes, lookups] == answered, "the others go on, calls for {many} keys");
+        assert!(rt;
+            [writes, lookups] == answered,
+            "the others go on, calls for {many} keys"
+        );
     }
     Ok(())
 }

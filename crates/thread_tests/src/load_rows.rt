@@ -39,7 +39,9 @@ fn readers_ask_for_many_keys_at_once(rt: HostRuntime) -> Result<(), Fail> {
     let lines = "lookups 300\nwrites 2000\nsum ok\nwrong 0\n";
     assert!(rt; tells(&rt, rt.alloc(), words.as_slice(), lines, "", 0));
     for many in ["0", "65"] {
-        let told = format!(in rt.alloc(); "error: invalid value '{many}' for '--many <many>': {many} is not in 1..=64\n\nFor more information, try '--help'.\n")?;
+        let told = format!(in rt.alloc();
+            "error: invalid value '{many}' for '--many <many>': {many} is not in 1..=64\n\nFor more information, try '--help'.\n"
+        )?;
         let words = ["mcload", "run", "--many", many];
         assert!(rt; tells(&rt, rt.alloc(), words.as_slice(), "", told.as_str(), 2));
     }

@@ -152,8 +152,14 @@ impl<const V: usize> Writer<V> {
         ensures full { OnErr result (room_of {V = V} self.old ≡ 0) }
     {
         match self.progress {
-            Progress::Placed(key, _) => self.count_moment_of(key, Change::Put(key, self.written.value())),
-            Progress::Renewing(key, _) => self.count_moment_of(key, Change::Put(key, self.written.value())),
+            Progress::Placed(key, _) => self.count_moment_of(
+                key,
+                Change::Put(key, self.written.value()),
+            ),
+            Progress::Renewing(key, _) => self.count_moment_of(
+                key,
+                Change::Put(key, self.written.value()),
+            ),
             Progress::Removed(key, true) => self.count_moment_of(key, Change::Evict(key)),
             Progress::Removed(key, false) => self.count_moment_of(key, Change::Remove(key)),
             _ => Ok(()),

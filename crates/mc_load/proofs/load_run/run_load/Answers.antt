@@ -13,8 +13,8 @@ returns-in-Ok-new g c = loads c.in-Ok.options c.in-Ok.ensures c.run_measured.ens
 pub returns : goal.returns
 returns g c = loads c.in-Ok.options c.in-Ok.ensures c.run_plain.ensures
 
-pub run_measured-requires : goal.run_measured-requires
-run_measured-requires g c = (_, few_at_once (map g.S.AsStr.text c.args.words.now) c.in-Ok.options c.in-Ok.ensures)
+pub run_measured-requires-clause-many : goal.run_measured-requires-clause-many
+run_measured-requires-clause-many g c κs lives = few_at_once (map g.S.AsStr.text c.args.words.now) c.in-Ok.options c.in-Ok.ensures
 
-pub run_plain-requires : goal.run_plain-requires
-run_plain-requires g c = few_at_once (map g.S.AsStr.text c.args.words.now) c.in-Ok.options c.in-Ok.ensures
+pub run_plain-requires-clause-many : goal.run_plain-requires-clause-many
+run_plain-requires-clause-many g c κs lives = few_at_once (map g.S.AsStr.text c.args.words.now) c.in-Ok.options c.in-Ok.ensures

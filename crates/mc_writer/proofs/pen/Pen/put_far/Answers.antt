@@ -56,8 +56,7 @@ make_storing-requires g c =
     (subst (λ (d : Storing). IsPlanned V b (storing_acts (shape_of b.checked) c.args.key c.args.value.now d) call s s (answer.Put (Ok (storing_told d None)))) (sym c.decided-storing.ensures) c.in-Store.ensures.inserted.1) in
     let due = due_now V pen b call told layout (storing_acts sh c.args.key c.args.value.now storing) planned in
     let within = subst (λ (d : Storing). d.item < sh.items) (sym c.decided-storing.ensures) (subst (λ (z : Shape). b.decided.item < z.items) shape c.in-Store.ensures.inserted.0) in
-    let same = sym c.decide_insert.ensures.pen in
-    (
+    let same = sym c.decide_insert.ensures.pen in (
       omega arith,
       (
         omega (arith, c.requires.lacks.known.width.most),
