@@ -253,12 +253,18 @@ fn store_all(clerk: &mut Clerk<1>, driver: &mut Driver, keys: &[u64]) -> bool
     true
 }
 
+/// An item, its value, and the moment of its key's last put.
+type Entry = (u32, u64, u64);
+
 /// What the words say of the key, and the length of the history.
-fn look_up(clerk: &Clerk<1>, driver: &Driver, key: u64) -> (Option<(u32, [u64; 1])>, u64)
+fn look_up(clerk: &Clerk<1>, driver: &Driver, key: u64) -> (Option<Entry>, u64)
     requires { IsBeside clerk.now (shape_of driver.now.checked) driver.now.words.items }
 {
     let mut look = Look(driver.words.as_slice());
-    let entry = read::<1, Look>(&driver.checked, &mut look, key);
+    let entry = match read::<1, Look>(&driver.checked, &mut look, key) {
+        None => None,
+        Some(held) => Some((held.item, held.value[0], held.since)),
+    };
     (entry, moment(&driver.checked, &mut look))
 }
 
@@ -267,7 +273,7 @@ fn shows(
     clerk: &Clerk<1>,
     driver: &Driver,
     key: u64,
-    entry: Option<(u32, [u64; 1])>,
+    entry: Option<Entry>,
     at: u64,
 ) -> bool
     requires { IsBeside clerk.now (shape_of driver.now.checked) driver.now.words.items }
@@ -292,8 +298,8 @@ fn a_key_moves_to_make_room(rt: HostRuntime) -> Result<(), Fail> {
     let (mut clerk, mut driver) = start(rt.alloc(), &checked)?;
     assert!(rt; store_all(&mut clerk, &mut driver, &FULL));
     assert!(rt; put_tells(&mut clerk, &mut driver, 28, 5, stored(9, 1)));
-    assert!(rt; shows(&clerk, &driver, 28, Some((8, [5])), 9));
-    assert!(rt; shows(&clerk, &driver, FULL[0], Some((0, [FULL[0]])), 9));
+    assert!(rt; shows(&clerk, &driver, 28, Some((8, 5, 9)), 9));
+    assert!(rt; shows(&clerk, &driver, FULL[0], Some((0, FULL[0], 1)), 9));
     assert!(rt; shows(&clerk, &driver, 32, None, 9));
     Ok(())
 }
@@ -308,7 +314,7 @@ fn an_item_is_given_back_and_taken_again(rt: HostRuntime) -> Result<(), Fail> {
     assert!(rt; put_tells(&mut clerk, &mut driver, 2, 5, stored(4, 0)));
     let renewed = Answer::Put(Ok(Put::Renewed { at: 5 }));
     assert!(rt; put_tells(&mut clerk, &mut driver, 2, 9, renewed));
-    assert!(rt; shows(&clerk, &driver, 2, Some((0, [9])), 5));
+    assert!(rt; shows(&clerk, &driver, 2, Some((0, 9, 5)), 5));
     Ok(())
 }
 
@@ -326,6 +332,6 @@ fn the_first_item_without_a_mark_is_taken(rt: HostRuntime) -> Result<(), Fail> {
     assert!(rt; shows(&clerk, &driver, 0, None, 5));
     let _ = driver.swap(1, 1);
     assert!(rt; put_tells(&mut clerk, &mut driver, 4, 4, replaced(7, 0, 2)));
-    assert!(rt; shows(&clerk, &driver, 4, Some((2, [4])), 7));
+    assert!(rt; shows(&clerk, &driver, 4, Some((2, 4, 7)), 7));
     Ok(())
 }
