@@ -36,7 +36,7 @@ pub record IsLackingKey (V : ℕ) (books : Books) (k : ℕ) (s : State V) (at : 
 abbrev pub IsDecided : (V : ℕ) → Books → ℕ → List ℕ → State V → Decision → Type 0
 IsDecided V books k v s (decision.Refuse why) =
     IsPlanned V books [] (PutCall k v) s s (answer.Put (Err why)) × IsSweepOf V (shape_of books.checked) s [] (answer.Put (Err why))
-IsDecided V books k v s (decision.Renew item at) = IsPlanned V books (renewal_acts k v item) (PutCall k v) s s (answer.Put (Ok (put.Renewed at)))
+IsDecided V books k v s (decision.Renew item at) = IsPlanned V books (renewal_acts k v at item) (PutCall k v) s s (answer.Put (Ok (put.Renewed at)))
 IsDecided V books k v s (decision.Insert at) = IsLackingKey V books k s at
 
 -- the put of a new key in state s is decided: the acts of its plan and its answer, or the path with which it waits
@@ -50,7 +50,7 @@ IsInserted V books k v s (insertion.Wait path) = Waits V books k s path
 -- the same, as far as the key's two buckets tell
 abbrev pub IsNear : (V : ℕ) → Books → ℕ → List ℕ → State V → ℕ → Nearby → Type 0
 IsNear V books k v s at (nearby.Fill item place) =
-    (item < (shape_of books.checked).items) × IsPlanned V books (filling_acts (shape_of books.checked) k v item place) (PutCall k v) s s (answer.Put (Ok (put.Stored at 0 None)))
+    (item < (shape_of books.checked).items) × IsPlanned V books (filling_acts (shape_of books.checked) k v at item place) (PutCall k v) s s (answer.Put (Ok (put.Stored at 0 None)))
 IsNear V books k v s at (nearby.Wait hole) = Waits V books k s (direct_path hole)
 IsNear V books k v s at nearby.Far = IsLackingKey V books k s at
 

@@ -25,13 +25,13 @@ use mc_theory::{Act, Peek};
 use mc_words::Checked;
 
 /// Adds the acts of a renewal, and the mark of its item.
-fn add_renewal<const V: usize>(acts: &mut Plan, key: u64, value: &[u64; V], item: u32)
+fn add_renewal<const V: usize>(acts: &mut Plan, key: u64, value: &[u64; V], at: u64, item: u32)
     requires width { IsWidth V }
     requires room { array_vec_len acts.old ≤ 4 }
-    ensures items { acts.new.items ≡ acts.old.items ++ renewal_acts key value.now item }
+    ensures items { acts.new.items ≡ acts.old.items ++ renewal_acts key value.now at item }
     ensures fits { array_vec_len acts.new ≤ 64 }
 {
-    add_renew(acts, key, value, item);
+    add_renew(acts, key, value, at, item);
     acts.push(Act::Mark(item));
 }
 
@@ -50,7 +50,15 @@ fn add_storing<const V: usize>(
     ensures fits { array_vec_len acts.new ≤ 64 }
 {
     push_moves(acts, storing.moves.as_slice());
-    add_fill(checked, acts, key, value, storing.item, storing.place);
+    add_fill(
+        checked,
+        acts,
+        key,
+        value,
+        storing.at,
+        storing.item,
+        storing.place,
+    );
     acts.push(Act::Mark(storing.item));
 }
 
@@ -129,7 +137,7 @@ pub(crate) fn start_put<const V: usize, P: Peek>(
     match books.decide::<V, P>(peek, key, value) {
         Decision::Refuse(why) => Start::Planned(Err(why)),
         Decision::Renew { item, at } => {
-            add_renewal(plan, key, value, item);
+            add_renewal(plan, key, value, at, item);
             Start::Planned(Ok(Put::Renewed { at }))
         }
         Decision::Insert { at } => start_insert::<V, P>(books, peek, plan, key, value, at),
