@@ -26,7 +26,7 @@ use Rattle.mc_plan.specs.declared.decision.Storing.{Storing}
 use Rattle.mc_plan.specs.declared.books.Books.{Books}
 use Rattle.mc_search.specs.declared.free.FreeItems.{FreeItems}
 use Rattle.mc_search.specs.declared.path.Path.{Path}
-use Rattle.mc_plan.specs.WholeCalls.{Call, PutCall, RemoveCall, Means, Marks, AreOfDeeds, quiet_of}
+use Rattle.mc_plan.specs.WholeCalls.{Call, PutCall, RemoveCall, Means, Marks, MarksLast, AreOfDeeds, quiet_of}
 use Rattle.mc_plan.specs.Books.{AreBooksOf, IsPlanned}
 use Rattle.mc_search.specs.Free.{IsConsistent, IsFreeIn, TakesFree, GivesBack}
 use Rattle.mc_plan.specs.Laws.{IsValue}
@@ -124,31 +124,36 @@ free_kept V b s x old kept = record {
   named = λ i l f. let n = old.named i l f in (n.0, kept_named (shape_of b.checked) s.words x n.0 i kept n.1);
 }
 
-pub renewal_planned : (V : ℕ) (b : Books) (k : ℕ) (v : List ℕ) (i at : ℕ) (s : State V) (q : ℕ) → IsShape (shape_of b.checked) → IsWord k → IsValue V v → AreBooksOf V b s → Stands V (shape_of b.checked) s.words k q i
-    → (PutIsSpent (shape_of b.checked) (quiet_of s) → ⊥) → s.version_steps + 2 ≤ (shape_of b.checked).limit → at ≡ moment s.words + 1
-    → IsPlanned V (record b { version_steps = b.version_steps + 2 }) (renew_acts k v at i ++ Mark i ∷ []) (PutCall k v) s s (answer.Put (Ok (put.Renewed at)))
-renewal_planned V b k v i at s q shape key value old stands unspent limit is =
+-- what a renewal makes of the table is what the answer means, whatever the call
+abbrev TellsRenewal : (V : ℕ) → Shape → Call → Answer → State V → ℕ → List ℕ → ℕ → Type 0
+TellsRenewal V sh call told s k v at = (t : State V) → means.Grows V (quiet_of s) (quiet_of t) (Put k v ∷ []) 2 → t.hand ≡ s.hand → at ≡ length t.history → Means sh call told s t
+
+pub renewal_made : (V : ℕ) (b : Books) (k : ℕ) (v : List ℕ) (i at : ℕ) (s : State V) (q : ℕ) (call : Call) (told : Answer) → IsShape (shape_of b.checked) → IsWord k → IsValue V v → AreBooksOf V b s → Stands V (shape_of b.checked) s.words k q i
+    → s.version_steps + 2 ≤ (shape_of b.checked).limit → at ≡ moment s.words + 1 → TellsRenewal V (shape_of b.checked) call told s k v at → ((w : List ℕ) (acts : List Act) → MarksLast V (shape_of b.checked) w k acts → Marks V (shape_of b.checked) w call told acts)
+    → IsPlanned V (record b { version_steps = b.version_steps + 2 }) (renew_acts k v at i ++ Mark i ∷ []) call s s told
+renewal_made V b k v i at s q call told shape key value old stands limit is tells marks =
     let sh = shape_of b.checked in
     let acts = renew_acts k v at i in
     let t = state_after_acts V sh s acts in
     let law = renews V sh k v at i shape key value.0 value.1 (next_word V b s at old (omega (arith, is))) s q old.quiet stands is in
     let makes = law.0 in
     let walk = marked V sh s acts (Put k v ∷ []) 2 i makes stands.names.in_items in
-    let told = answer.Put (Ok (put.Renewed at)) in
-    let renewed : means.Renews V sh (quiet_of s) (quiet_of t) k v at = record {
-      unspent = unspent;
-      present = stands_held V sh s k q i old.quiet stands;
-      grows = record { history = makes.history; version_steps = makes.version_steps };
-      hand = makes.hand;
-      moment = moment_after V s t at (Put k v) sh old.quiet makes.history is;
-    } in
+    let renewed = tells t (record { history = makes.history; version_steps = makes.version_steps }) makes.hand (moment_after V s t at (Put k v) sh old.quiet makes.history is) in
     let ends : Ends V b s t 2 = record { quiet = makes.quiet; version_steps = makes.version_steps; hand = makes.hand; limit = limit } in
     record {
       allowed = walk.allowed;
-      means = subst (λ (x : State V). Means sh (PutCall k v) told s x) (sym walk.leads) renewed;
-      marks = record { before = acts; slot = q; item = i; last = refl; deeds = deeds_renew k v at i; stands = subst (λ (x : State V). Stands V sh x.words k q i) (sym walk.leads) law.1 };
+      means = subst (λ (x : State V). Means sh call told s x) (sym walk.leads) renewed;
+      marks = marks _ _ (record { before = acts; slot = q; item = i; last = refl; deeds = deeds_renew k v at i; stands = subst (λ (x : State V). Stands V sh x.words k q i) (sym walk.leads) law.1 });
       ends = subst (λ (x : State V). AreBooksOf V (record b { version_steps = b.version_steps + 2 }) x) (sym walk.leads) (books_after V b s t 2 b.free old ends (free_kept V b s t.words old law.2));
     }
+
+pub renewal_planned : (V : ℕ) (b : Books) (k : ℕ) (v : List ℕ) (i at : ℕ) (s : State V) (q : ℕ) → IsShape (shape_of b.checked) → IsWord k → IsValue V v → AreBooksOf V b s → Stands V (shape_of b.checked) s.words k q i
+    → (PutIsSpent (shape_of b.checked) (quiet_of s) → ⊥) → s.version_steps + 2 ≤ (shape_of b.checked).limit → at ≡ moment s.words + 1
+    → IsPlanned V (record b { version_steps = b.version_steps + 2 }) (renew_acts k v at i ++ Mark i ∷ []) (PutCall k v) s s (answer.Put (Ok (put.Renewed at)))
+renewal_planned V b k v i at s q shape key value old stands unspent limit is =
+    renewal_made V b k v i at s q (PutCall k v) (answer.Put (Ok (put.Renewed at))) shape key value old stands limit is
+    (λ t grows hand now. record { unspent = unspent; present = stands_held V (shape_of b.checked) s k q i old.quiet stands; grows = grows; hand = hand; moment = now })
+    (λ w acts m. m)
 
 -- ---- a removal
 free_given : (V : ℕ) (b : Books) (s : State V) (x : List ℕ) (free : FreeItems) (i : ℕ) → AreBooksOf V b s → IsConsistent free → free.items ≡ b.free.items → GivesBack b.free free i → GivesItem (shape_of b.checked) s.words x i → FreeAfter V b free x
