@@ -53,16 +53,6 @@ impl<const V: usize> Cells<V> {
     {
         self.checked.item_place::<V>(0, 0)
     }
-
-    /// Where a word of an item lies, for a caller that has worked out where the items begin. Word 0 is the key, then come
-    /// the value and the stamp. Condition: there the items begin.
-    #[inline(always)]
-    pub fn item_from(&self, items: usize, i: u32, j: u8) -> usize
-        requires { items ≡ item_place V self.now.layout.shape 0 0 }
-        ensures { result ≡ item_place V self.now.layout.shape i j }
-    {
-        self.checked.item_from::<V>(items, i, j)
-    }
 }
 
 /// A table with empty records, and as many readers' seats as are asked for, with the numbers from 0 on. `Err(NoMemory)` where the words or the seats can't be stored.

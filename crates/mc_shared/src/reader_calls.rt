@@ -17,6 +17,7 @@ use mc_words::payload_words;
 
 /// One reading: a load of the word of the access.
 /// Condition: the seat is one of these words, and the access is one of the table and no mark.
+#[tactic(auto, using(mc_words::proofs::Payload::value_fits))]
 pub fn read<const V: usize>(cells: &Cells<V>, reader: &mut ReaderSeat, access: Access) -> u64
     requires of { reader.old.of ≡ cells.now }
     requires access { IsAccess V cells.now.layout.shape access }

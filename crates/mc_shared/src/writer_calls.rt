@@ -80,7 +80,7 @@ pub fn write_item_from<const V: usize>(
     requires allowed { IsAllowed cells.now.layout.shape (state_of V cells.now.layout.shape writer.old.acts) (Item i j word) }
     ensures acted { HasActed writer.old writer.new (Item i j word) 0 }
 {
-    let at = cells.item_from(items, i, j);
+    let at = cells.checked.item_from::<V>(items, i, j);
     write_word(&cells.ruled, writer, Act::Item(i, j, word), at, word);
 }
 
