@@ -32,7 +32,7 @@ Begins {V} h h' = (more : List (Change V)) × (h' ≡ h ++ more)
 
 -- the reply is what the map of the history holds of the key, at its end
 abbrev pub TellsNow : {V : ℕ} → List (Change V) → ℕ → Reply V → Type 0
-TellsNow h k (Found v at) = (map_value h k ≡ Some v) × (at ≡ length h)
+TellsNow h k (Found v at since) = (map_value h k ≡ Some (v ++ since ∷ [])) × (at ≡ length h)
 TellsNow h k (Absent at) = (map_value h k ≡ None) × (at ≡ length h)
 TellsNow h k Busy = ⊥
 
@@ -52,11 +52,11 @@ abbrev pub moment_of : Put → ℕ
 moment_of (Stored at moves evicted) = at
 moment_of (Renewed at) = at
 
--- from the one history a put has made the other, in which the key has the value
+-- from the one history a put has made the other, in which the key has the value, and as its stamp the moment of this put
 pub record HasPut (V : ℕ) (h h' : List (Change V)) (k : ℕ) (v : List ℕ) (told : Put) : Type 0 where
   pub was : WasThere h k told
   pub grew : h' ≡ h ++ put_changes k v told
-  pub holds : map_value h' k ≡ Some v
+  pub holds : map_value h' k ≡ Some (v ++ moment_of told ∷ [])
   pub at : moment_of told ≡ length h'
 
 -- what the answer of a put means: a refused one has changed nothing

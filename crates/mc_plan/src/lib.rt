@@ -30,11 +30,13 @@ mod take_out;
 mod value;
 mod waiting;
 
-pub use answer::{Answer, Put, PutError, Remove, Spent};
+pub use answer::{Answer, IfError, Put, PutError, Remove, Spent};
 use arrayvec::ArrayVec;
 pub use books::Books;
 pub use clerk::Clerk;
-pub use decision::{Decision, Exchange, Insertion, Move, Nearby, Removal, Replacement, Storing};
+pub use decision::{
+    Decision, Exchange, Insertion, Move, Nearby, Removal, Renewal, Replacement, Storing,
+};
 pub use fill::{add_fill, plan_fill};
 pub use mc_search::{Finder, NoMemory, Path, Peek, Sweep, find, moment, read};
 use mc_theory::Act;

@@ -11,7 +11,7 @@ pub fn put_and_get(
     reader: &mut Reader<1>,
 ) -> Option<Reply<1>>
     requires of { (writer.old.of ≡ cache.now) × (reader.old.of ≡ cache.now) }
-    ensures { IfSome result (λ r. (at : ℕ) × (r ≡ Found (70 ∷ []) at)) }
+    ensures { IfSome result (λ r. (at : ℕ) × (since : ℕ) × (r ≡ Found (70 ∷ []) at since)) }
 {
     match writer.put(cache, 7, [70]) {
         Ok(_) => {
@@ -29,7 +29,7 @@ pub fn get_between_meetings(
     reader: &mut Reader<1>,
 ) -> Option<Reply<1>>
     requires of { (writer.old.of ≡ cache.now) × (reader.old.of ≡ cache.now) }
-    ensures { IfSome result (λ r. (r ≡ Busy) ⊎ ((at : ℕ) × (r ≡ Found (70 ∷ []) at))) }
+    ensures { IfSome result (λ r. (r ≡ Busy) ⊎ ((at : ℕ) × (since : ℕ) × (r ≡ Found (70 ∷ []) at since))) }
 {
     laws::history_laws::<1>();
     match writer.put(cache, 7, [70]) {
