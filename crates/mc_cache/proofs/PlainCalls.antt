@@ -14,9 +14,11 @@ use Rattle.mc_theory.proofs.Lists.Histories.{history_all}
 use Rattle.mc_theory.specs.Lists.{IsLawful, Made, after_all, state_of}
 use Rattle.mc_theory.specs.Plain.{IsBetween}
 use Rattle.mc_theory.specs.States.{State, opening}
-use Rattle.mc_plan.specs.Calls.{PutAnswers, RemoveAnswers}
-use Rattle.mc_plan.specs.WholeCalls.{PutCall, RemoveCall, quiet_of}
+use Rattle.mc_plan.specs.Calls.{IfAnswers, PutAnswers, RemoveAnswers}
+use Rattle.mc_plan.specs.WholeCalls.{PutCall, PutIfCall, RemoveCall, quiet_of}
 use Rattle.mc_plan.specs.declared.answer.Answer.TheVariants as answer
+use Rattle.mc_plan.specs.declared.answer.IfError.{IfError}
+use Rattle.mc_plan.specs.declared.answer.IfError.TheVariants as why
 use Rattle.mc_plan.specs.declared.answer.Put.{Put}
 use Rattle.mc_plan.specs.declared.answer.Put.TheVariants.{Stored, Renewed}
 use Rattle.mc_plan.specs.declared.answer.PutError.{PutError}
@@ -41,7 +43,7 @@ use Rattle.mc_plan.specs.declared.books.Books.{Books}
 use Rattle.mc_words.specs.Places.{moment}
 use Rattle.mc_theory.specs.declared.act.Act.TheVariants.{Mark}
 use Rattle.mc_shared.specs.declared.layout.Layout.{Layout}
-use Rattle.mc_cache.specs.Plain.{Begins, HasAnswered, HasMet, PutMeans, RemovalMeans, TellsNow, history, seen}
+use Rattle.mc_cache.specs.Plain.{Begins, HasAnswered, HasMet, PutIfMeans, PutMeans, RemovalMeans, TellsNow, history, seen}
 
 -- ---- the states before a call and after it
 -- a put's key has the value after it, and the moment of the put behind it
@@ -71,6 +73,17 @@ put_answer_means V sh s t k v (Ok (Renewed at)) a = record {
 put_answer_means V sh s t k v (Err NoPath) a = ap (λ (q : Quiet V). q.history) a.unchanged
 put_answer_means V sh s t k v (Err AllRecent) a = ap (λ (q : Quiet V). q.history) a.unchanged
 put_answer_means V sh s t k v (Err Spent) a = ap (λ (q : Quiet V). q.history) a.1
+
+if_answer_means : (V : ℕ) (sh : Shape) (s t : State V) (k since : ℕ) (v : List ℕ) (told : Result ℕ IfError) → IfAnswers sh (quiet_of s) k since v told (quiet_of t) → PutIfMeans V s.history t.history k since v told
+if_answer_means V sh s t k since v (Ok at) a = record {
+  was = (a.value, a.held, a.size);
+  grew = a.grows.history;
+  holds = put_holds s.history t.history k at v a.grows.history a.moment;
+  at_end = a.moment;
+}
+if_answer_means V sh s t k since v (Err why.Spent) a = ap (λ (q : Quiet V). q.history) a.1
+if_answer_means V sh s t k since v (Err (why.NotThere at)) a = (a.absent, ap (λ (q : Quiet V). q.history) a.unchanged, a.moment)
+if_answer_means V sh s t k since v (Err (why.Changed stands)) a = ((a.value, a.held, a.size), a.other, ap (λ (q : Quiet V). q.history) a.unchanged)
 
 removal_answer_means : (V : ℕ) (sh : Shape) (s t : State V) (k : ℕ) (told : Result Remove RemoveSpent) → RemoveAnswers sh (quiet_of s) k told (quiet_of t) → RemovalMeans V s.history t.history k told
 removal_answer_means V sh s t k (Ok (Removed at)) a = (a.present, a.grows.history, ap (λ (h : List (Change V)). map_value h k) a.grows.history ∙ held-remove s.history k, a.moment)
@@ -106,6 +119,12 @@ module _ (V : ℕ) (o cells : Opening) (self seat : WriterRecord) (table : cells
       let s = state_of V cells.layout.shape seat.acts in
       subst (λ (p : List (Change V) × List (Change V)). PutMeans V p.0 p.1 k v told) (λ i. (sym history_before i, sym (history_called after h.made h.of h.acts) i))
       (put_answer_means V cells.layout.shape s (after_all cells.layout.shape s h.made) k v told h.answered.means)
+
+  pub put_if_means : (after : WriterRecord) (k since : ℕ) (v : List ℕ) (told : Result ℕ IfError) → HasCalled V cells.layout.shape (PutIfCall k since v) seat after (answer.PutIf told) → PutIfMeans V (history V self) (history V after) k since v told
+  put_if_means after k since v told h =
+      let s = state_of V cells.layout.shape seat.acts in
+      subst (λ (p : List (Change V) × List (Change V)). PutIfMeans V p.0 p.1 k since v told) (λ i. (sym history_before i, sym (history_called after h.made h.of h.acts) i))
+      (if_answer_means V cells.layout.shape s (after_all cells.layout.shape s h.made) k since v told h.answered.means)
 
   pub removal_means : (after : WriterRecord) (k : ℕ) (told : Result Remove RemoveSpent) → HasCalled V cells.layout.shape (RemoveCall k) seat after (answer.Remove told) → RemovalMeans V (history V self) (history V after) k told
   removal_means after k told h =

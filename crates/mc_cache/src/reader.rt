@@ -15,6 +15,7 @@ ghost use Rattle.mc_cache.specs.Plain.{Begins, HasAnswered, HasMet, TellsNow, hi
 
 use crate::cache::Cache;
 use crate::writer::Writer;
+use mc_plan::Held;
 use mc_reader::{get, get_many};
 use mc_shared::{ReaderSeat, catch, mark_unless_set};
 use mc_words::Reply;
