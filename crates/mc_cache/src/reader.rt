@@ -15,7 +15,6 @@ ghost use Rattle.mc_cache.specs.Plain.{Begins, HasAnswered, HasMet, TellsNow, hi
 
 use crate::cache::Cache;
 use crate::writer::Writer;
-use mc_plan::Held;
 use mc_reader::{get, get_many};
 use mc_shared::{ReaderSeat, catch, mark_unless_set};
 use mc_words::Reply;
@@ -100,8 +99,10 @@ impl<const V: usize> Reader<V> {
     {
         let at = self.catch_up(cache, writer);
         match look(&cache.cells, &mut writer.seat, &writer.books, key) {
-            Some(Held { item, value, since }) => {
-                mark_unless_set(&cache.cells, &mut self.seat, item);
+            Some(held) => {
+                let value = held.value;
+                let since = held.since;
+                mark_unless_set(&cache.cells, &mut self.seat, held.item);
                 Reply::Found { value, at, since }
             }
             None => Reply::Absent { at },
