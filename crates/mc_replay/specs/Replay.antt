@@ -148,8 +148,8 @@ abbrev pub Does : {V : ℕ} → Shape → Replay V → Command V → List ℕ �
 Does sh s (command.Put k v) text fault t = CallDoes sh s (PutCall k v) text fault t
 Does sh s (command.PutIf k since v) text fault t = CallDoes sh s (PutIfCall k since v) text fault t
 Does sh s (command.Remove k) text fault t = CallDoes sh s (RemoveCall k) text fault t
-Does {V} sh s (command.Get k) text fault t = GetDoes sh s k (reply_line {V}) text fault t
-Does {V} sh s (command.Stamp k) text fault t = GetDoes sh s k (stamp_line {V}) text fault t
+Does {V} sh s (command.Get k) text fault t = GetDoes sh s k (reply_line {V = V}) text fault t
+Does {V} sh s (command.Stamp k) text fault t = GetDoes sh s k (stamp_line {V = V}) text fault t
 Does sh s (command.BeginPut k v) text fault t = BeginDoes sh s (PutCall k v) text fault t
 Does sh s (command.BeginPutIf k since v) text fault t = BeginDoes sh s (PutIfCall k since v) text fault t
 Does sh s (command.BeginRemove k) text fault t = BeginDoes sh s (RemoveCall k) text fault t

@@ -42,9 +42,9 @@ reply_text Busy = codes "busy"
 
 -- a reply with the moment of the key's last put
 abbrev pub stamp_text : {V : ℕ} → Reply V → List ℕ
-stamp_text {V} (Found value at since) = reply_text {V} (Found value at since) ++ codes " since " ++ decimal since
-stamp_text {V} (Absent at) = reply_text {V} (Absent at)
-stamp_text {V} Busy = reply_text {V} Busy
+stamp_text {V} (Found value at since) = reply_text {V = V} (Found value at since) ++ codes " since " ++ decimal since
+stamp_text {V} (Absent at) = reply_text {V = V} (Absent at)
+stamp_text {V} Busy = reply_text {V = V} Busy
 
 -- a reader's lookup that has ended
 abbrev pub done_text : {V : ℕ} → Done V → List ℕ
