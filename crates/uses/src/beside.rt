@@ -13,6 +13,7 @@ pub fn put_and_get(
     requires of { (writer.old.of ≡ cache.now) × (reader.old.of ≡ cache.now) }
     ensures { IfSome result (λ r. (at : ℕ) × (since : ℕ) × (r ≡ Found (70 ∷ []) at since)) }
 {
+    laws::history_laws::<1>();
     match writer.put(cache, 7, [70]) {
         Ok(_) => {
             reader.catch_up(cache, writer);
