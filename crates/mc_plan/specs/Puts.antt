@@ -35,10 +35,11 @@ pub record TakesItem (sh : Shape) (w later : List ℕ) (i : ℕ) : Type 0 where
 abbrev pub put_acts : ℕ → Shape → List ℕ → ℕ → List ℕ → ℕ → ℕ → List Place → Place → List Act
 put_acts V sh w k v at i places hole = moves_acts V sh w places hole ++ fill_acts sh k v at i (first_place places hole)
 
--- from each quiet state in which the key can be put, they put it: two version changes more than for the moves
+-- from each quiet state in which the key can be put, and whose next moment is the stamp, they put it: two version changes more than for the moves
 abbrev pub PutsMakeRoom : ℕ → Type 0
 PutsMakeRoom V =
-    (sh : Shape) (s : State V) (k : ℕ) (v : List ℕ) (at i : ℕ) (places : List Place) (hole : Place) → IsShape sh → IsWord k → IsValue V v → IsWord at → IsQuiet V sh s → CanPut V sh s.words k i places hole → at ≡ moment s.words + 1 →
+    (sh : Shape) (s : State V) (k : ℕ) (v : List ℕ) (at i : ℕ) (places : List Place) (hole : Place) →
+    IsShape sh → IsWord k → IsValue V v → IsWord at → IsQuiet V sh s → CanPut V sh s.words k i places hole → at ≡ moment s.words + 1 →
     Makes V sh s (put_acts V sh s.words k v at i places hole) (Put k v ∷ []) (2 * length places + 2) ×
     Stands V sh (state_after_acts V sh s (put_acts V sh s.words k v at i places hole)).words k (slot_number (first_place places hole)) i ×
     TakesItem sh s.words (state_after_acts V sh s (put_acts V sh s.words k v at i places hole)).words i

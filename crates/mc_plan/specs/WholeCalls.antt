@@ -1,5 +1,5 @@
 -- Whole calls of a writer: their acts, and what their answers mean.
-use Rattle.std.specs.Prelude.{ℕ, ◌≡◌, ◌+◌, ◌*◌, List, [], ◌∷◌, ◌++◌, map, length, Some, None, Ok, Err}
+use Rattle.std.specs.Prelude.{ℕ, ◌≡◌, ◌*◌, List, [], ◌∷◌, ◌++◌, map, length, Some, None, Ok, Err}
 use Rattle.mc_words.specs.declared.shape.Shape.{Shape}
 use Rattle.mc_words.specs.Answers.{Quiet}
 use Rattle.mc_words.specs.Standing.{Stands}

@@ -1,5 +1,5 @@
 -- A renewal is allowed act by act, and puts the new value.
-use Rattle.std.proofs.Common.{ℕ, zero, suc, ◌≡◌, ◌+◌, ◌^◌, ◌<◌, ◌≤◌, ◌∙◌, List, [], ◌∷◌, ◌++◌, Option, None, All, ap, refl, sym, subst, length, arith, append_assoc, append-nil, length-append}
+use Rattle.std.proofs.Common.{ℕ, zero, suc, ◌≡◌, ◌+◌, ◌^◌, ◌<◌, ◌∙◌, List, [], ◌∷◌, ◌++◌, Option, None, All, ap, refl, sym, subst, length, arith, append_assoc, append-nil, length-append}
 use Rattle.mc_words.specs.History.{value_of}
 use Rattle.mc_words.specs.declared.history.Change.{Change}
 use Rattle.mc_words.specs.declared.history.Change.TheVariants.{Put}
