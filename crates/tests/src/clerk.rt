@@ -9,7 +9,7 @@ ghost use Rattle.tests.specs.Drivers.{key_after, IsBeside, IsMaking};
 
 use crate::shapes::checked;
 use mc_core::Act;
-use mc_plan::{Answer, Clerk, NoMemory, Peek, Put, PutError, Remove, moment, read};
+use mc_plan::{Answer, Clerk, IfError, NoMemory, Peek, Put, PutError, Remove, moment, read};
 use mc_words::{Checked, payload_words};
 use std::alloc::{AllocError, Global};
 use std::mem;
@@ -184,6 +184,21 @@ fn put(clerk: &mut Clerk<1>, driver: &mut Driver, key: u64, value: u64) -> Optio
     run(clerk, driver)
 }
 
+/// A put on a condition.
+fn put_if(
+    clerk: &mut Clerk<1>,
+    driver: &mut Driver,
+    key: u64,
+    since: u64,
+    value: u64,
+) -> Option<Answer>
+    requires { IsBeside clerk.old (shape_of driver.old.checked) driver.old.words.items }
+    ensures beside { IfSome result (λ a. IsBeside clerk.new (shape_of driver.new.checked) driver.new.words.items) }
+{
+    clerk.put_if(&mut Look(driver.words.as_slice()), key, since, [value]);
+    run(clerk, driver)
+}
+
 fn remove(clerk: &mut Clerk<1>, driver: &mut Driver, key: u64) -> Option<Answer>
     requires { IsBeside clerk.old (shape_of driver.old.checked) driver.old.words.items }
     ensures beside { IfSome result (λ a. IsBeside clerk.new (shape_of driver.new.checked) driver.new.words.items) }
@@ -207,6 +222,24 @@ fn put_tells(
         return false;
     };
     answer == wanted
+}
+
+/// Puts a key on a condition, and tells whether each act was made, and the answer is this one.
+fn put_if_tells(
+    clerk: &mut Clerk<1>,
+    driver: &mut Driver,
+    key: u64,
+    since: u64,
+    value: u64,
+    wanted: Result<u64, IfError>,
+) -> bool
+    requires { IsBeside clerk.old (shape_of driver.old.checked) driver.old.words.items }
+    ensures beside { IsTrue result → IsBeside clerk.new (shape_of driver.new.checked) driver.new.words.items }
+{
+    let Some(answer) = put_if(clerk, driver, key, since, value) else {
+        return false;
+    };
+    answer == Answer::PutIf(wanted)
 }
 
 /// Removes a key, and tells whether each act was made, and the answer is this one.
@@ -269,13 +302,7 @@ fn look_up(clerk: &Clerk<1>, driver: &Driver, key: u64) -> (Option<Entry>, u64)
 }
 
 /// Whether the words say this of the key, and the history is so long.
-fn shows(
-    clerk: &Clerk<1>,
-    driver: &Driver,
-    key: u64,
-    entry: Option<Entry>,
-    at: u64,
-) -> bool
+fn shows(clerk: &Clerk<1>, driver: &Driver, key: u64, entry: Option<Entry>, at: u64) -> bool
     requires { IsBeside clerk.now (shape_of driver.now.checked) driver.now.words.items }
 {
     look_up(clerk, driver, key) == (entry, at)
@@ -333,5 +360,20 @@ fn the_first_item_without_a_mark_is_taken(rt: HostRuntime) -> Result<(), Fail> {
     let _ = driver.swap(1, 1);
     assert!(rt; put_tells(&mut clerk, &mut driver, 4, 4, replaced(7, 0, 2)));
     assert!(rt; shows(&clerk, &driver, 4, Some((2, 4, 7)), 7));
+    Ok(())
+}
+
+#[test]
+fn a_key_is_put_while_its_stamp_is_the_one_asked_for(rt: HostRuntime) -> Result<(), Fail> {
+    let checked = checked(4, 16, 2)?;
+    let (mut clerk, mut driver) = start(rt.alloc(), &checked)?;
+    assert!(rt; put_tells(&mut clerk, &mut driver, 0, 7, stored(1, 0)));
+    assert!(rt; put_tells(&mut clerk, &mut driver, 1, 8, stored(2, 0)));
+    assert!(rt; put_if_tells(&mut clerk, &mut driver, 0, 1, 9, Ok(3)));
+    let changed = Err(IfError::Changed { since: 3 });
+    assert!(rt; put_if_tells(&mut clerk, &mut driver, 0, 1, 10, changed));
+    let gone = Err(IfError::NotThere { at: 3 });
+    assert!(rt; put_if_tells(&mut clerk, &mut driver, 5, 0, 1, gone));
+    assert!(rt; shows(&clerk, &driver, 0, Some((0, 9, 3)), 3));
     Ok(())
 }
