@@ -37,9 +37,11 @@ slots_for_in sh k s =
     let one : first_of sh k < sh.buckets = first_of-lt sh k s in
     slots_in sh (first_of sh k) (slots_of (second_of sh k)) one (slots_in sh (second_of sh k) [] (alternate-lt sh (first_of sh k) (tag_of sh k) s one) tt)
 
+-- a slot that none of a bucket's slots is lies in another bucket
 none_in : (q b : ℕ) (ps : List Place) → NoneIs q (slots_of b ++ ps) → q / 4 ≢ b
 none_in q b ps h e = omega arith
 
+-- none of more slots is none of the last of them
 none_after : (q b : ℕ) (ps : List Place) → NoneIs q (slots_of b ++ ps) → NoneIs q ps
 none_after q b ps h = h.1.1.1.1
 
@@ -55,6 +57,7 @@ abbrev pub told_of : Option ℕ → List ℕ → Option (List ℕ)
 told_of None v = None
 told_of (Some i) v = Some v
 
+-- what was read within a window is what the map held then
 hit_told : (V : ℕ) (sh : Shape) (acts : List Made) (k f g d b c e : ℕ) (hit : Option ℕ) (v : List ℕ) (scan values : List Reading) → IsShape sh → Window V sh acts k f g → k < 2 ^ 64 → f ≤ d → b ≤ g → f ≤ c → e ≤ g → f ≤ g → AreRead V sh acts scan → RiseTo d scan b → Scans sh k (slots_for sh k) scan hit → AreRead V sh acts values → RiseTo c values e → ReadsHit V hit values v → map_value (front V sh acts f).history k ≡ told_of hit v
 hit_told V sh acts k f g d b c e None v scan values shape w key_in fd bg fc eg fg scan_read scan_rise scans values_read values_rise reads =
     held_from_absent V sh (front V sh acts f).words k (map_value (front V sh acts f).history k) (w.agrees f (omega arith) fg) (λ q i st.
@@ -76,6 +79,7 @@ hit_told V sh acts k f g d b c e (Some i) v scan values shape w key_in fd bg fc 
     val.1 m (omega (arith, reads.0, val.0))) in
     here.1 ∙ ap Some (sym same)
 
+-- a reply that tells what the map held at a moment is true
 answer_true : {V : ℕ} (h : List (Change V)) (k at lo hi : ℕ) (hit : Option ℕ) (v : List ℕ) → at ≤ length h → map_value (take at h) k ≡ told_of hit v → lo ≤ at → at ≤ hi → IsTrueAnswer h k (reply_of {V = V} hit v at) × IsBetween lo hi (reply_of {V = V} hit v at)
 answer_true h k at lo hi None v a b c d = ((a, b), (c, d))
 answer_true h k at lo hi (Some i) v a b c d = ((a, b), (c, d))
@@ -114,6 +118,7 @@ try_true V sh acts k d e rs hit v x at shape lawful key_in within read rise t =
     answer_true (state_of V sh acts).history k at (length (front V sh acts d).history) (length (front V sh acts e).history) hit v size
     (ap (λ y. map_value y k) told ∙ kept ∙ truth) low high
 
+-- what lies between two moments lies between wider ones
 wider : {V : ℕ} (r : Reply V) (a b c d : ℕ) → a ≤ b → c ≤ d → IsBetween b c r → IsBetween a d r
 wider (Found v at) a b c d x y h = (omega arith, omega arith)
 wider (Absent at) a b c d x y h = (omega arith, omega arith)
