@@ -35,6 +35,7 @@ allowed_after : (V : ℕ) (sh : Shape) (s : State V) (xs ys : List Made) → Are
 allowed_after V sh s [] ys may = may
 allowed_after V sh s (x ∷ xs) ys may = allowed_after V sh (after_act sh s x.act x.bit) xs ys may.1
 
+-- the acts of two lists, one after the other
 acts_then : (xs ys : List Made) → acts_of (xs ++ ys) ≡ acts_of xs ++ acts_of ys
 acts_then xs ys = map-append (λ (m : Made). m.act) xs ys
 
@@ -43,6 +44,7 @@ none_made : (ms : List Made) → acts_of ms ≡ [] → ms ≡ []
 none_made [] same = refl
 none_made (m ∷ ms) same = absurd (cc same)
 
+-- a list that is empty has no second part
 none_after : (xs ys : List Made) → xs ++ ys ≡ [] → ys ≡ []
 none_after [] ys same = same
 none_after (x ∷ xs) ys same = absurd (cc same)
@@ -66,6 +68,7 @@ deeds_marked rs others deeds = record {
   one = omega arith;
 }
 
+-- so it is with a call whose marks are right
 ends_marked : (V : ℕ) (sh : Shape) (w : List ℕ) (call : Call) (told : Answer) (rs : List Swept) (others : List Act) → Marks V sh w call told others → EndsMarked (acts_of (hand_acts rs) ++ others)
 ends_marked V sh w (PutCall k v) (answer.Put (Ok put)) rs others marks = record {
   front = acts_of (hand_acts rs) ++ marks.before;
@@ -152,6 +155,7 @@ removed_once V sh k s acts more at after one two =
 absent_present : (o : Option (List ℕ)) → o ≡ None → IsSome o → ⊥
 absent_present o none some = false≢true (subst (λ (p : Option (List ℕ)). IsSome p) none some)
 
+-- a least chain is not within a depth that has no chain
 chain_within : (sh : Shape) (w : List ℕ) (k depth count : ℕ) → NoChain sh w k depth → IsLeastLength sh w k count → count ≤ depth → ⊥
 chain_within sh w k depth count none least within =
     let past = none least.places least.hole least.chain in
@@ -176,6 +180,7 @@ put_once V sh k v s acts more (Err why.Spent) (Ok (put.Stored at moves (Some evi
 put_once V sh k v s acts more (Err why.Spent) (Ok (put.Stored at moves None)) one two = absurd (two.means.unspent one.means.0)
 put_once V sh k v s acts more (Err why.Spent) (Ok (put.Renewed at)) one two = absurd (two.means.unspent one.means.0)
 
+-- a removal that has been answered makes no more acts
 remove_once : (V : ℕ) (sh : Shape) (k : ℕ) (s : State V) (acts more : List Made) (a b : Result Remove Spent) → Answered V sh (RemoveCall k) s acts (answer.Remove a) → Answered V sh (RemoveCall k) s (acts ++ more) (answer.Remove b) → more ≡ []
 remove_once V sh k s acts more a (Ok (remove.NotThere at)) one two = still_once V sh (RemoveCall k) s acts more (answer.Remove (Ok (remove.NotThere at))) two two.marks two.means.unchanged two.sweeps
 remove_once V sh k s acts more a (Err spent) one two = still_once V sh (RemoveCall k) s acts more (answer.Remove (Err spent)) two two.marks two.means.1 two.sweeps

@@ -45,9 +45,11 @@ before_slot V sh w k v i = valued V sh (with_item V sh (with_bump sh w k) i 0 k)
 abbrev filled : ℕ → Shape → List ℕ → ℕ → List ℕ → ℕ → Place → List ℕ
 filled V sh w k v i p = ended sh (with_slot sh (before_slot V sh w k v i) (slot_number p) (slot_word (tag_of sh k) i)) k
 
+-- no slot has changed before the new one is written
 slot-before : (V : ℕ) (sh : Shape) (w : List ℕ) (k : ℕ) (v : List ℕ) (i q : ℕ) → IsShape sh → q < 4 * sh.buckets → slot sh (before_slot V sh w k v i) q ≡ slot sh w q
 slot-before V sh w k v i q s l = slot-valued V sh _ i 1 q v l ∙ slot-with_item V sh _ i 0 k q l ∙ slot-bumped sh w k q s
 
+-- the acts of a fill, one by one, from a quiet state
 fill_walk : (V : ℕ) (sh : Shape) (w : List ℕ) (hand : ℕ) (cleared : Option ℕ) (h : List (Change V)) (c k : ℕ) (v : List ℕ) (i : ℕ) (p : Place) → IsShape sh → k < 2 ^ 64 → length v ≡ V → All (λ x. x < 2 ^ 64) v → CanFill V sh w k i p
     → Walk V sh (state V w Quiet hand cleared h c) (fill_acts sh k v i p) (state V (filled V sh w k v i p) Quiet hand None (h ++ Put k (value_of V v) ∷ []) (c + 1 + 1))
 fill_walk V sh w hand cleared h c k v i p s key many all can =
