@@ -42,7 +42,8 @@ impl<const V: usize> Reader<V> {
         requires of { self.old.of ≡ cache.now }
         ensures looked { HasLooked V cache.now.layout.shape key self.old self.new result }
         ensures truth { IsTrueAnswer (state_of V cache.now.layout.shape self.new.front).history key result }
-        ensures between { IsBetween (length (state_of V cache.now.layout.shape self.old.front).history) (length (state_of V cache.now.layout.shape self.new.front).history) result }
+        ensures between { IsBetween (length (state_of V cache.now.layout.shape self.old.front).history)
+            (length (state_of V cache.now.layout.shape self.new.front).history) result }
         ensures plain { HasAnswered V (seen V self.old) (seen V self.new) key result }
     {
         get(&cache.cells, &mut self.seat, key)
@@ -56,8 +57,11 @@ impl<const V: usize> Reader<V> {
         requires many { length replies.old ≡ length keys.now }
         ensures of { self.new.of ≡ self.old.of }
         ensures looked { HaveLooked V cache.now.layout.shape keys.now self.old self.new replies.new }
-        ensures truth { AreTrueAnswers (state_of V cache.now.layout.shape self.new.front).history (length (state_of V cache.now.layout.shape self.old.front).history) (length (state_of V cache.now.layout.shape self.new.front).history) keys.now replies.new }
-        ensures plain { Begins (seen V self.old) (seen V self.new) × AreTrueAnswers (seen V self.new) (length (seen V self.old)) (length (seen V self.new)) keys.now replies.new }
+        ensures truth { AreTrueAnswers (state_of V cache.now.layout.shape self.new.front).history
+            (length (state_of V cache.now.layout.shape self.old.front).history)
+            (length (state_of V cache.now.layout.shape self.new.front).history) keys.now replies.new }
+        ensures plain { Begins (seen V self.old) (seen V self.new) × AreTrueAnswers (seen V self.new)
+            (length (seen V self.old)) (length (seen V self.new)) keys.now replies.new }
     {
         get_many(&cache.cells, &mut self.seat, keys, replies);
     }

@@ -10,6 +10,7 @@ use Rattle.mc_theory.specs.declared.act.Act.{Act}
 use Rattle.mc_core.specs.declared.progress.Progress.{Progress}
 use Rattle.mc_core.specs.declared.written.Written.{Written}
 
+-- what may be done where the progress is told in another way
 pub may_at : (V : ℕ) (sh : Shape) (w : List ℕ) (hand : ℕ) (cleared : Option ℕ) (xs : Written V) (p q : Progress) (a : Act) → p ≡ q → MayFrom V sh w hand cleared (phase_at {V = V} xs p) a → MayFrom V sh w hand cleared (phase_at {V = V} xs q) a
 may_at V sh w hand cleared xs p q a e m = subst (λ (y : Progress). MayFrom V sh w hand cleared (phase_at {V = V} xs y) a) e m
 
@@ -23,6 +24,7 @@ only_one V sh w k q i p g only here r named =
 abbrev pub Found : ℕ → Shape → List ℕ → ℕ → Option ℕ → Type 0
 Found V sh w k o = MatchOption o (IsAbsent V sh w k) (λ i. (q : ℕ) × Stands V sh w k q i)
 
+-- an item was found just where the key stands somewhere
 pub found_any : (V : ℕ) (sh : Shape) (w : List ℕ) (k : ℕ) (o : Option ℕ) (b : Bool) → Found V sh w k o → b ≡ is_some o → IsTrue b ↔ IsPresent V sh w k
 found_any V sh w k (Some i) b at is = (λ h. (at.0, i, at.1), λ here. is)
 found_any V sh w k None b none is = (λ h. absurd (false≢true (sym is ∙ h)), λ here. absurd (none here.0 here.1 here.2))

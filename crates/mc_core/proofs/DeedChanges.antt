@@ -27,5 +27,6 @@ change_renewing V xs p k n v e all value =
 pub closing_placed : (V : ℕ) (xs : Written V) (p : Progress) (k i : ℕ) → p ≡ progress.Placed k i → phase_after (phase_at {V = V} xs p) Moment ≡ Closing k
 closing_placed V xs p k i e = subst (λ (y : Progress). phase_after (phase_at {V = V} xs y) Moment ≡ Closing k) (sym e) refl
 
+-- counting the moment of a renewal makes it close
 pub closing_renewing : (V : ℕ) (xs : Written V) (p : Progress) (k n : ℕ) → p ≡ progress.Renewing k n → phase_after (phase_at {V = V} xs p) Moment ≡ Closing k
 closing_renewing V xs p k n e = subst (λ (y : Progress). phase_after (phase_at {V = V} xs y) Moment ≡ Closing k) (sym e) refl

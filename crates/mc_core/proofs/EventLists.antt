@@ -26,6 +26,7 @@ abbrev pub done_of : {V : ℕ} → Stepped V → List (Done V)
 done_of (stepped.Done done) = done ∷ []
 done_of _ = []
 
+-- a writer's act ends no lookup
 act_tells_none : (V bit : ℕ) (a : Act) → done_of {V = V} (given_of {V = V} bit a) ≡ []
 act_tells_none V bit (act.Hand i) = refl
 act_tells_none V bit (act.Open k d) = refl
@@ -38,6 +39,7 @@ act_tells_none V bit (act.Mark i) = refl
 abbrev pub Tells : {V : ℕ} → Trace V → Trace V → List (Done V) → Type 0
 Tells {V} w x done = (ended : List (Ended V)) × (x.ended ≡ w.ended ++ ended) × (done ≡ map (λ e. e.told) ended)
 
+-- what ends no lookup tells nothing
 tells_none : {V : ℕ} (w x : Trace V) (done : List (Done V)) → x.ended ≡ w.ended → done ≡ [] → Tells {V = V} w x done
 tells_none {V} w x done same none = ([], same ∙ sym (append-nil w.ended), none)
 

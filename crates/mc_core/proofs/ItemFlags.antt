@@ -19,6 +19,7 @@ downs_up (true ∷ xs) zero l e = absurd (false≢true (sym e))
 downs_up (false ∷ xs) (suc i) l e = let rest = downs_up xs i (omega arith) e in omega (arith, rest)
 downs_up (true ∷ xs) (suc i) l e = downs_up xs i (omega arith) e
 
+-- a flag that is lowered is one more that is down
 pub downs_down : (xs : List Bool) (i : ℕ) → i < length xs → get_or xs i false ≡ true → downs (slice_set xs i false) ≡ downs xs + 1
 downs_down [] i l e = absurd (omega arith)
 downs_down (true ∷ xs) zero l e = refl
@@ -26,6 +27,7 @@ downs_down (false ∷ xs) zero l e = absurd (false≢true e)
 downs_down (false ∷ xs) (suc i) l e = let rest = downs_down xs i (omega arith) e in omega (arith, rest)
 downs_down (true ∷ xs) (suc i) l e = downs_down xs i (omega arith) e
 
+-- no more flags are down than there are
 pub downs_most : (xs : List Bool) → downs xs ≤ length xs
 downs_most [] = omega arith
 downs_most (true ∷ xs) = let rest = downs_most xs in omega (arith, rest)
@@ -44,6 +46,7 @@ down_of sh w flags free i u l none =
 pub names_on : (sh : Shape) (w : List ℕ) (p x q g : ℕ) → q ≢ p → NamesItem sh w q g → NamesItem sh (with_slot sh w p x) q g
 names_on sh w p x q g ne a = moved_names sh w (with_slot sh w p x) q g (slot-with_slot_other sh w p x q ne) a
 
+-- and no other slot names more than it did
 pub names_back : (sh : Shape) (w : List ℕ) (p x q g : ℕ) → q ≢ p → NamesItem sh (with_slot sh w p x) q g → NamesItem sh w q g
 names_back sh w p x q g ne a = moved_names sh (with_slot sh w p x) w q g (sym (slot-with_slot_other sh w p x q ne)) a
 
@@ -52,6 +55,7 @@ pub names_new : (sh : Shape) (w : List ℕ) (p x tag i g : ℕ) → IsShape sh �
 names_new sh w p x tag i g s l below e a =
     (slot_word-parts a.tag tag g i (omega (arith, a.in_items, s.items.1, s.buckets.1)) (omega (arith, below, s.items.1, s.buckets.1)) (sym a.word ∙ slot-with_slot_same sh w p x l ∙ e)).1
 
+-- a slot that was cleared names nothing
 pub names_none : (sh : Shape) (w : List ℕ) (p x g : ℕ) → 1 + sh.stripes + p < length w → x ≡ 0 → NamesItem sh (with_slot sh w p x) p g → ⊥
 names_none sh w p x g l e a = empty_names_none sh (with_slot sh w p x) p g (slot-with_slot_same sh w p x l ∙ e) a
 

@@ -24,11 +24,13 @@ pub new_state : (V : ℕ) (sh : Shape) (words : List ℕ) (history : List (Chang
 unfolding opening
 new_state V sh words history a b = rw (a, b) refl
 
+-- each flag of a new list is down
 all_down : (n i : ℕ) → get_or (replicate {A = Bool} n false) i false ≡ false
 all_down zero i = refl
 all_down (suc n) zero = refl
 all_down (suc n) (suc i) = all_down n i
 
+-- so as many are as there are flags
 downs_new : (n : ℕ) → downs (replicate n false) ≡ n
 downs_new zero = refl
 downs_new (suc n) = let rest = downs_new n in omega (arith, rest)
@@ -42,6 +44,7 @@ new_used sh n words flags free a b e = record {
   many = ap downs b ∙ downs_new sh.items ∙ sym e;
 }
 
+-- an empty list has no first elements
 take_none : {A : Type 0} (n : ℕ) → take {A = A} n [] ≡ []
 take_none zero = refl
 take_none (suc n) = refl
@@ -59,10 +62,12 @@ idle_both V sh zero r = tt
 idle_both V sh (suc n) zero = tt
 idle_both V sh (suc n) (suc r) = idle_both V sh n r
 
+-- an opening state has changed no version
 new_changes : (V : ℕ) (sh : Shape) (n : ℕ) → n ≡ (opening V sh).version_steps → n ≡ 0
 unfolding opening
 new_changes V sh n e = e
 
+-- and runs no deed
 new_phase : (V : ℕ) (sh : Shape) (p : Phase) → p ≡ (opening V sh).phase → p ≡ Quiet
 unfolding opening
 new_phase V sh p e = e

@@ -52,9 +52,11 @@ bit_most x (inr e) = subst (λ (y : ℕ). min 1 y ≡ y) (sym e) refl
 parts : (i m : ℕ) → i / 64 ≡ m → 64 * m + i % 64 ≡ i
 parts i m e = omega (arith, e)
 
+-- the word that holds the bit
 quotient : (m b : ℕ) → b < 64 → (64 * m + b) / 64 ≡ m
 quotient m b l = omega arith
 
+-- and its place in that word
 remainder : (m b : ℕ) → b < 64 → (64 * m + b) % 64 ≡ b
 remainder m b l = omega arith
 

@@ -44,6 +44,7 @@ pub some_of : {A : Type 0} (o : Option A) → is_some o ≡ true → (x : A) × 
 some_of (Some x) e = (x, refl)
 some_of None e = absurd (cc (e))
 
+-- what is not some is none
 pub none_of : {A : Type 0} (o : Option A) → is_some o ≡ false → o ≡ None
 none_of None e = refl
 none_of (Some x) e = absurd (cc (e))

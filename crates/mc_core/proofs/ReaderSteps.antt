@@ -51,6 +51,7 @@ over_at l (Mark i) reply e = absurd (cc (e))
 over_left : {V : ℕ} (l : Lookup V) (reply : Reply V) → reply_now {V = V} l ≡ Some reply → IsRemainder {V = V} l [] reply
 over_left {V} l reply e = (at_stage {V = V} l l.stage [] reply refl).0 (over_at {V = V} l l.stage reply e)
 
+-- before it has its reply, there is a next access
 going_at : {V : ℕ} (l : Lookup V) (st : Stage) → reply_at {V = V} l st ≡ None → IsSome (next_at {V = V} l st)
 going_at l Over e = absurd (cc (e))
 going_at l First e = refl
@@ -62,6 +63,7 @@ going_at l (Moment hit) e = refl
 going_at l (Last hit at) e = refl
 going_at l (Mark i) e = refl
 
+-- what has a next access does not end with no readings
 begins_not : {V : ℕ} (l : Lookup V) (o : Option Access) (reply : Reply V) → IsSome o → BeginsWith {V = V} l o [] reply → ⊥
 begins_not l (Some a) reply s b = cc (b.2)
 begins_not l None reply s b = cc (s)
@@ -126,10 +128,12 @@ reads_next {V} sh seen reader run a word next is reads takes =
       next = (is.left (record { access = a; word = word; front = length seen.acts } ∷ end.0) end.1).0 ((takes.left (length seen.acts) end.0 end.1).0 end.2);
     }
 
+-- a lookup that has read before keeps the moment of its first reading
 first_more : (sofar : List Reading) (reading : Reading) (key first events : ℕ) → first_read events (record { key = key; sofar = sofar ++ reading ∷ []; first = first }) ≡ first
 first_more [] reading key first events = refl
 first_more (x ∷ xs) reading key first events = refl
 
+-- two accounts of an ended lookup with equal parts are equal
 pub told_is : {V : ℕ} (r k key : ℕ) (reply : Reply V) (first f last e : ℕ) → k ≡ key → first ≡ f → last ≡ e → ◌≡◌ {A = Done V} (record { reader = r; key = k; reply = reply; first = first; last = last }) (record { reader = r; key = key; reply = reply; first = f; last = e })
 told_is r k key reply first f last e a b c = rw (a, b, c) refl
 

@@ -28,12 +28,15 @@ use Rattle.mc_theory.proofs.Lists.Bounds.{state_counted, state_hand}
 use Rattle.mc_theory.proofs.Lists.Fronts.{state_holds, state_push, lawful_push}
 use Rattle.mc_theory.proofs.Invariant.Limits.{within_after}
 
+-- the invariant holds of a state that stands for a trace
 pub holds_of : {V : ℕ} (parts : Parts V) (seen : traces.Trace V) → StandFor {V = V} parts seen → StateHolds (shape_of_parts {V = V} parts) (state_in {V = V} parts.writer)
 holds_of {V} parts seen s = subst (λ (y : State V). StateHolds (shape_of_parts {V = V} parts) y) (sym s.shows.state) (state_holds V (shape_of_parts {V = V} parts) seen.acts parts.writer.table.checked.sound s.shows.lawful)
 
+-- so do the bounds on its version steps
 pub counted_of : {V : ℕ} (parts : Parts V) (seen : traces.Trace V) → StandFor {V = V} parts seen → StateCounted (shape_of_parts {V = V} parts) (state_in {V = V} parts.writer)
 counted_of {V} parts seen s = subst (λ (y : State V). StateCounted (shape_of_parts {V = V} parts) y) (sym s.shows.state) (state_counted V (shape_of_parts {V = V} parts) seen.acts parts.writer.table.checked.sound s.shows.lawful)
 
+-- and its hand is on an item
 pub hand_of : {V : ℕ} (parts : Parts V) (seen : traces.Trace V) → StandFor {V = V} parts seen → parts.writer.hand < (shape_of_parts {V = V} parts).items
 hand_of {V} parts seen s = subst (λ (y : State V). y.hand < (shape_of_parts {V = V} parts).items) (sym s.shows.state) (state_hand V (shape_of_parts {V = V} parts) seen.acts parts.writer.table.checked.sound)
 
@@ -87,6 +90,7 @@ pub err_of : {A E : Type 0} (r : Result A E) (P : Type 0) → is_err r ≡ true 
 err_of (Err x) P e h = h
 err_of (Ok x) P e h = absurd (false≢true e)
 
+-- parts that show the same stand for the same trace
 stand_kept : {V : ℕ} (old new : Parts V) (seen : traces.Trace V) → StandFor {V = V} old seen → KeepsWriter {V = V} old.writer new.writer → view_of {V = V} new ≡ view_of {V = V} old → StandFor {V = V} new seen
 stand_kept {V} old new seen s kept same = record {
   shows = subst (λ (v : WorldView V). Shows {V = V} v seen) (sym same) s.shows;
@@ -94,6 +98,7 @@ stand_kept {V} old new seen s kept same = record {
   within = omega (arith, s.within, ap (λ (y : State V). y.version_steps) kept.state, ap (λ (y : State V). close_owed y.phase) kept.state, ap (λ (v : WorldView V). v.shape.limit) same);
 }
 
+-- an allowed moment is refused where the history has no room left
 pub memory_wanting : {V : ℕ} (old new : Parts V) (a : Act) → a ≡ Moment → IsAllowed (shape_of_parts {V = V} old) (state_in {V = V} old.writer) a → old.events < 2 ^ 64 - 1 → KeepsWriter {V = V} old.writer new.writer → view_of {V = V} new ≡ view_of {V = V} old → room_of {V = V} old.writer ≡ 0 →
     PartsRefuse {V = V} old new (Write a) unlawful.NoMemory
 memory_wanting {V} old new a is may within kept same none = record {

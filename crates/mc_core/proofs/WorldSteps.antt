@@ -30,6 +30,7 @@ pub runs_append : (V : ℕ) (sh : Shape) (w x y : Trace V) (es ds : List Event) 
 runs_append V sh w x y [] ds r s = subst (λ (z : Trace V). StepsAll V sh z ds y) r s
 runs_append V sh w x y (e ∷ es) ds r s = (r.0, r.1, runs_append V sh r.0 x y es ds r.2 s)
 
+-- a trace is reached from a reached one by more events
 pub reached_append : (V : ℕ) (sh : Shape) (x y : Trace V) (es : List Event) → IsReached V sh x → StepsAll V sh x es y → IsReached V sh y
 reached_append V sh x y es r s = record { readers = r.readers; events = r.events ++ es; runs = runs_append V sh (first_trace V sh r.readers) x y r.events es r.runs s }
 
@@ -37,6 +38,7 @@ reached_append V sh x y es r s = record { readers = r.readers; events = r.events
 pub reached_true : (V : ℕ) (sh : Shape) (x : Trace V) → IsShape sh → IsReached V sh x → All (IsTrueEnd V sh x) x.ended
 reached_true V sh x sound r = (traces_are_true V sh r.readers r.events x sound r.runs).1
 
+-- and by one
 pub reached_push : (V : ℕ) (sh : Shape) (x y : Trace V) (e : Event) → IsReached V sh x → Steps V sh x e y → IsReached V sh y
 reached_push V sh x y e r s = record { readers = r.readers; events = r.events ++ e ∷ []; runs = runs_push V sh (first_trace V sh r.readers) r.events x y e r.runs s }
 
@@ -70,6 +72,7 @@ steps_count V sh w x (Read r) s = elim s.5 [
   | inr more ↦ ap (λ (y : Trace V). y.events) more.1
 ]
 
+-- an event that is made is counted
 pub counted_after : {V : ℕ} (old new : Parts V) (e : Event) (r : Result (Stepped V) Unlawful) → AreReached {V = V} old → IfOk r (λ out. MakesEvent {V = V} old new e out) → OnOk r (new.events ≡ old.events + 1)
 counted_after {V} old new e (Ok out) reached made =
     let next = made.leads reached.seen reached.stand in
@@ -90,6 +93,7 @@ refused_act V sh w (act.Mark i) unlawful.NoMemory h may within = absurd h
 refused_act V sh w a unlawful.NoReader h may within = absurd h
 refused_act V sh w a unlawful.StillRunning h may within = absurd h
 
+-- what is refused though it may be done is a change, for want of memory
 pub lawful_after : {V : ℕ} (old new : Parts V) (e : Event) (r : Result (Stepped V) Unlawful) → AreReached {V = V} old → IfErr r (λ why. PartsRefuse {V = V} old new e why) → (a : Act) → e ≡ Write a → MayAct {V = V} (view_of {V = V} old) a → IfErr r (λ why. (why ≡ unlawful.NoMemory) × (a ≡ act.Moment))
 lawful_after old new e (Ok out) reached refused a is may = refused
 lawful_after {V} old new e (Err why) reached refused a is may =
@@ -118,6 +122,7 @@ pub leads_shown : {V : ℕ} (old new : Parts V) (e : Event) (r : Result (Stepped
 leads_shown {V} old new e (Ok out) reached made = λ seen shows. let next = made.leads seen (stand_for {V = V} old seen reached shows) in (next.0, next.1, next.2, next.3.shows)
 leads_shown old new e (Err why) reached made = made
 
+-- and a refusal is one in every trace that is shown
 pub refused_shown : {V : ℕ} (old new : Parts V) (e : Event) (r : Result (Stepped V) Unlawful) → AreReached {V = V} old → IfErr r (λ why. PartsRefuse {V = V} old new e why) →
     IfErr r (λ why. (seen : Trace V) → Shows {V = V} (view_of {V = V} old) seen → traces.RefusesEvent {V = V} (shape_of_parts {V = V} old) seen e why)
 refused_shown {V} old new e (Err why) reached refused = λ seen shows. refused.refused seen (stand_for {V = V} old seen reached shows)

@@ -64,6 +64,7 @@ only_well V sh w k q i a = record {
   once = λ p g r h st su. ((a.once p g st).0 ∙ sym (a.once r h su).0, (a.once p g st).1 ∙ sym (a.once r h su).1);
 }
 
+-- so does one that agrees with the history, be it held or not
 pub agrees_well : (V : ℕ) (sh : Shape) (w : List ℕ) (k : ℕ) (o : Option (List ℕ)) → AgreesAt V sh w k o → StandsWell V sh w k
 agrees_well V sh w k None a = record { placed = λ p g st. absurd (a p g st); once = λ p g r h st su. absurd (a p g st) }
 agrees_well V sh w k (Some v) a = only_well V sh w k a.0 a.1 a.2
@@ -72,9 +73,11 @@ agrees_well V sh w k (Some v) a = only_well V sh w k a.0 a.1 a.2
 pub quiet_well : (V : ℕ) (sh : Shape) (w : List ℕ) (h : List (Change V)) → Holds V sh w Quiet h → (k : ℕ) → StandsWell V sh w k
 quiet_well V sh w h holds k = agrees_well V sh w k (map_value h k) (holds.agrees.keys k (λ e. cc))
 
+-- the key that is renewed stands well
 pub renewing_well : (V : ℕ) (sh : Shape) (w : List ℕ) (h : List (Change V)) (k : ℕ) (xs : List ℕ) → Holds V sh w (Renewing k xs) h → StandsWell V sh w k
 renewing_well V sh w h k xs holds = let d = holds.deed in only_well V sh w k d.0.0 d.0.1 d.0.2
 
+-- and so does the key whose item moves
 pub moving_well : (V : ℕ) (sh : Shape) (w : List ℕ) (h : List (Change V)) (k : ℕ) → Holds V sh w (Moving k) h → StandsWell V sh w k
 moving_well V sh w h k holds = let d = holds.deed in agrees_well V sh w k (Some d.0) d.2
 

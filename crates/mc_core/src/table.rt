@@ -34,7 +34,9 @@ impl<const V: usize> Table<V> {
     #[tactic(auto, unfolding(mc_words::specs::Recency::recency_words))]
     pub(crate) fn new(alloc: Global, checked: &Checked) -> Result<Table<V>, AllocError>
         requires { IsWidth V }
-        ensures { IfOk result (λ t. (shape_of_table {V = V} t ≡ shape_of checked.now) × (words_of_table {V = V} t ≡ replicate (word_count V (shape_of checked.now)) 0) × (t.used.items ≡ replicate (shape_of checked.now).items false) × (t.free ≡ (shape_of checked.now).items)) }
+        ensures { IfOk result (λ t. (shape_of_table {V = V} t ≡ shape_of checked.now) ×
+            (words_of_table {V = V} t ≡ replicate (word_count V (shape_of checked.now)) 0) ×
+            (t.used.items ≡ replicate (shape_of checked.now).items false) × (t.free ≡ (shape_of checked.now).items)) }
     {
         let free = checked.shape().items;
         let mut words = Vec::new(alloc);
@@ -96,7 +98,11 @@ impl<const V: usize> Table<V> {
     /// The item at which the key stands in a slot.
     pub(crate) fn stands(&self, place: Place, key: u64) -> Option<u32>
         requires { IsPlace (shape_of_table {V = V} self.now) place }
-        ensures { MatchOption result ((i : ℕ) → Stands V (shape_of_table {V = V} self.now) (words_of_table {V = V} self.now) key (slot_number place) i → ⊥) (λ i. Stands V (shape_of_table {V = V} self.now) (words_of_table {V = V} self.now) key (slot_number place) i) }
+        ensures { MatchOption result
+            ((i : ℕ) →
+            Stands V (shape_of_table {V = V} self.now) (words_of_table {V = V} self.now) key (slot_number place) i → ⊥)
+            (λ i.
+            Stands V (shape_of_table {V = V} self.now) (words_of_table {V = V} self.now) key (slot_number place) i) }
     {
         let (_, i) = self.checked.slot_parts(self.slot(place))?;
         if self.item(i, 0) == key {
@@ -109,7 +115,9 @@ impl<const V: usize> Table<V> {
     /// The slot of a bucket in which the key stands, and its item.
     fn find_in(&self, bucket: u32, key: u64) -> Option<(Place, u32)>
         requires { bucket < (shape_of_table {V = V} self.now).buckets }
-        ensures { MatchOption result ((q i : ℕ) → q / 4 ≡ bucket → Stands V (shape_of_table {V = V} self.now) (words_of_table {V = V} self.now) key q i → ⊥) (λ at. StandsAt V (shape_of_table {V = V} self.now) (words_of_table {V = V} self.now) key at.0 at.1) }
+        ensures { MatchOption result ((q i : ℕ) → q / 4 ≡ bucket →
+            Stands V (shape_of_table {V = V} self.now) (words_of_table {V = V} self.now) key q i → ⊥)
+            (λ at. StandsAt V (shape_of_table {V = V} self.now) (words_of_table {V = V} self.now) key at.0 at.1) }
     {
         for slot in 0..4u8 {
             let place = Place { bucket, slot };
@@ -122,7 +130,9 @@ impl<const V: usize> Table<V> {
 
     /// Where the key stands, if it stands in one of its buckets.
     pub(crate) fn find(&self, key: u64) -> Option<(Place, u32)>
-        ensures { MatchOption result ((q i : ℕ) → IsBucketOf (shape_of_table {V = V} self.now) key (q / 4) → Stands V (shape_of_table {V = V} self.now) (words_of_table {V = V} self.now) key q i → ⊥) (λ at. StandsAt V (shape_of_table {V = V} self.now) (words_of_table {V = V} self.now) key at.0 at.1) }
+        ensures { MatchOption result ((q i : ℕ) → IsBucketOf (shape_of_table {V = V} self.now) key (q / 4) →
+            Stands V (shape_of_table {V = V} self.now) (words_of_table {V = V} self.now) key q i → ⊥)
+            (λ at. StandsAt V (shape_of_table {V = V} self.now) (words_of_table {V = V} self.now) key at.0 at.1) }
     {
         let first = self.checked.first(key);
         if let Some(at) = self.find_in(first, key) {
@@ -155,7 +165,8 @@ impl<const V: usize> Table<V> {
     #[tactic(auto, unfolding(mc_words::specs::Places::with_slot))]
     pub(crate) fn set_slot(&mut self, place: Place, word: u64)
         requires { IsPlace (shape_of_table {V = V} self.old) place }
-        ensures { WritesTable {V = V} self.old self.new (with_slot (shape_of_table {V = V} self.old) (words_of_table {V = V} self.old) (slot_number place) word) }
+        ensures { WritesTable {V = V} self.old self.new
+            (with_slot (shape_of_table {V = V} self.old) (words_of_table {V = V} self.old) (slot_number place) word) }
     {
         let at = self.checked.slot_place(place);
         self.words[at] = word;

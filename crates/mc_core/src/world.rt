@@ -70,9 +70,16 @@ impl<const V: usize> World<V> {
 
     /// Makes one event, or refuses it.
     pub fn step(&mut self, event: Event) -> Result<Stepped<V>, Unlawful>
-        ensures ok { IfOk result (λ out. (seen : traces.Trace V) → Shows {V = V} self.old seen → (next : traces.Trace V) × traces.Steps V self.old.shape seen event next × traces.EventGives {V = V} seen event next out × Shows {V = V} self.new next) }
-        ensures told { IfOk result (λ out. (seen : traces.Trace V) → Shows {V = V} self.old seen → traces.IsReached V self.old.shape seen → (next : traces.Trace V) × traces.Steps V self.old.shape seen event next × traces.EventGives {V = V} seen event next out × Shows {V = V} self.new next × traces.IsReached V self.old.shape next × All (traces.IsTrueEnd V self.old.shape next) next.ended) }
-        ensures refused { IfErr result (λ why. (seen : traces.Trace V) → Shows {V = V} self.old seen → traces.RefusesEvent {V = V} self.old.shape seen event why) }
+        ensures ok { IfOk result (λ out. (seen : traces.Trace V) → Shows {V = V} self.old seen →
+            (next : traces.Trace V) × traces.Steps V self.old.shape seen event next ×
+            traces.EventGives {V = V} seen event next out × Shows {V = V} self.new next) }
+        ensures told { IfOk result (λ out. (seen : traces.Trace V) → Shows {V = V} self.old seen →
+            traces.IsReached V self.old.shape seen → (next : traces.Trace V) ×
+            traces.Steps V self.old.shape seen event next × traces.EventGives {V = V} seen event next out ×
+            Shows {V = V} self.new next × traces.IsReached V self.old.shape next ×
+            All (traces.IsTrueEnd V self.old.shape next) next.ended) }
+        ensures refused { IfErr result (λ why. (seen : traces.Trace V) → Shows {V = V} self.old seen →
+            traces.RefusesEvent {V = V} self.old.shape seen event why) }
         ensures unchanged { OnErr result (self.new ≡ self.old) }
         ensures shape { self.new.shape ≡ self.old.shape }
         ensures state { OnOk result (self.new.state ≡ state_after {V = V} self.old event) }
@@ -86,7 +93,8 @@ impl<const V: usize> World<V> {
     /// Does nothing. Every world stands as some events leave it, from a new one on, whose lookups replied truly.
     pub fn reached(&self)
         ensures shape { IsShape self.now.shape }
-        ensures events { (seen : traces.Trace V) × traces.IsReached V self.now.shape seen × Shows {V = V} self.now seen × All (traces.IsTrueEnd V self.now.shape seen) seen.ended }
+        ensures events { (seen : traces.Trace V) × traces.IsReached V self.now.shape seen ×
+            Shows {V = V} self.now seen × All (traces.IsTrueEnd V self.now.shape seen) seen.ended }
         ensures limit { self.now.state.version_steps ≤ self.now.shape.limit }
         ensures bits { All IsBit self.now.bits }
         ensures items { length self.now.bits ≡ self.now.shape.items }

@@ -41,7 +41,8 @@ impl<const V: usize> Writer<V> {
     /// The writer of a new world.
     pub(crate) fn new(alloc: Global, checked: &Checked) -> Result<Writer<V>, AllocError>
         requires { IsWidth V }
-        ensures { IfOk result (λ w. (shape_of_writer {V = V} w ≡ shape_of checked.now) × (state_in {V = V} w ≡ opening V (shape_of checked.now)) × UsedWell {V = V} w.table) }
+        ensures { IfOk result (λ w. (shape_of_writer {V = V} w ≡ shape_of checked.now) ×
+            (state_in {V = V} w ≡ opening V (shape_of checked.now)) × UsedWell {V = V} w.table) }
     {
         let table = Table::new(alloc, checked)?;
         Ok(Writer {

@@ -158,7 +158,8 @@ pub fn run_load<S: AsStr, R: Threads + Sync + Clock, W: Write, E: Write>(
     output: &mut W,
     errors: &mut E,
 ) -> u8
-    ensures { Loads (map S.text words.now) (stream (W.contents output.old) (W.contents output.new)) (stream (E.contents errors.old) (E.contents errors.new)) result }
+    ensures { Loads (map S.text words.now) (stream (W.contents output.old) (W.contents output.new))
+        (stream (E.contents errors.old) (E.contents errors.new)) result }
 {
     let options = match load_options_of(alloc, words) {
         Ok(options) => options,

@@ -55,7 +55,8 @@ impl<const V: usize> Lookup<V> {
         requires { IsWidth V }
         ensures shape { shape_for {V = V} result ≡ shape_of checked.now }
         ensures key { result.key ≡ key }
-        ensures left { (rs : List Reading) (reply : Reply V) → IsRemainder {V = V} result rs reply ↔ IsLookup V (shape_of checked.now) key (shape_of checked.now).tries rs reply }
+        ensures left { (rs : List Reading) (reply : Reply V) → IsRemainder {V = V} result rs reply ↔
+            IsLookup V (shape_of checked.now) key (shape_of checked.now).tries rs reply }
         ensures steps { steps_left {V = V} result ≡ (shape_of checked.now).tries * (19 + payload V) + 1 }
         ensures running { IsSome (next_access {V = V} result) }
         ensures stage { stage_of {V = V} result ≡ Stage.First }

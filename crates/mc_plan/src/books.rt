@@ -93,10 +93,14 @@ impl Books {
         ensures item { self.new.decided.item ≡ item }
         ensures at { self.new.decided.at ≡ at }
         ensures place { self.new.decided.place ≡ first_place path.now.places.items path.now.hole }
-        ensures moves { acts_of_moves self.new.decided.moves.items ≡ moves_acts V (shape_of self.old.checked) (P.words peek.old) path.now.places.items path.now.hole }
+        ensures moves { acts_of_moves self.new.decided.moves.items ≡
+            moves_acts V (shape_of self.old.checked) (P.words peek.old) path.now.places.items path.now.hole }
         ensures many { length self.new.decided.moves.items ≡ length path.now.places.items }
         ensures keys { AreKeys V (shape_of self.old.checked) (P.words peek.old) path.now.places.items }
-        ensures books { self.new ≡ record self.old { version_steps = self.old.version_steps + (2 * length path.now.places.items + 2); decided = self.new.decided } }
+        ensures books { self.new ≡ record self.old {
+          version_steps = self.old.version_steps + (2 * length path.now.places.items + 2);
+          decided = self.new.decided;
+        } }
         ensures kept { peek.new ≡ peek.old }
     {
         path_moves::<V, P>(&self.checked, peek, path, &mut self.decided.moves);
@@ -226,7 +230,9 @@ impl Books {
         item: u32,
     ) -> Replacement
         requires books { (call : Call) × (s : State V) × (rs : List Swept) × IsReplacing V self.old waiting call s rs item × (P.words peek.old ≡ s.words) }
-        ensures replaced { (call : Call) (s : State V) (rs : List Swept) → IsReplacing V self.old waiting.entry call s rs item → P.words peek.old ≡ s.words → IsReplaced V self.new waiting.entry call s rs result }
+        ensures replaced { (call : Call) (s : State V) (rs : List Swept) →
+            IsReplacing V self.old waiting.entry call s rs item → P.words peek.old ≡ s.words →
+            IsReplaced V self.new waiting.entry call s rs result }
         ensures shape { self.new.checked ≡ self.old.checked }
         ensures kept { peek.new ≡ peek.old }
     {
@@ -250,8 +256,11 @@ impl Books {
         peek: &mut P,
         waiting: Waiting<V>,
     ) -> Result<Replacement, PutError>
-        requires over { (call : Call) × (s : State V) × (rs : List Swept) × IsSweeping V self.old waiting call s rs × IsOver (shape_of self.old.checked).items rs × (P.words peek.old ≡ s.words) }
-        ensures finished { (call : Call) (s : State V) (rs : List Swept) → IsSweeping V self.old waiting.entry call s rs → IsOver (shape_of self.old.checked).items rs → P.words peek.old ≡ s.words → IsFinished V self.new waiting.entry call s rs result }
+        requires over { (call : Call) × (s : State V) × (rs : List Swept) × IsSweeping V self.old waiting call s rs ×
+            IsOver (shape_of self.old.checked).items rs × (P.words peek.old ≡ s.words) }
+        ensures finished { (call : Call) (s : State V) (rs : List Swept) →
+            IsSweeping V self.old waiting.entry call s rs → IsOver (shape_of self.old.checked).items rs →
+            P.words peek.old ≡ s.words → IsFinished V self.new waiting.entry call s rs result }
         ensures shape { self.new.checked ≡ self.old.checked }
         ensures kept { peek.new ≡ peek.old }
     {
@@ -272,7 +281,9 @@ impl Books {
     ) -> Exchange
         requires books { (call : Call) × (s : State V) × (rs : List Swept) × IsReplacing V self.old waiting.now call s rs item × (P.words peek.old ≡ s.words) }
         requires near { waiting.now.path.places.items ≡ [] }
-        ensures exchanged { (call : Call) (s : State V) (rs : List Swept) → IsReplacing V self.old waiting.now call s rs item → P.words peek.old ≡ s.words → IsExchanged V self.new waiting.now call s rs result }
+        ensures exchanged { (call : Call) (s : State V) (rs : List Swept) →
+            IsReplacing V self.old waiting.now call s rs item → P.words peek.old ≡ s.words →
+            IsExchanged V self.new waiting.now call s rs result }
         ensures shape { self.new.checked ≡ self.old.checked }
         ensures kept { peek.new ≡ peek.old }
     {
@@ -300,9 +311,13 @@ impl Books {
         peek: &mut P,
         waiting: &Waiting<V>,
     ) -> Result<Exchange, PutError>
-        requires over { (call : Call) × (s : State V) × (rs : List Swept) × IsSweeping V self.old waiting.now call s rs × IsOver (shape_of self.old.checked).items rs × (P.words peek.old ≡ s.words) }
+        requires over { (call : Call) × (s : State V) × (rs : List Swept) ×
+            IsSweeping V self.old waiting.now call s rs × IsOver (shape_of self.old.checked).items rs ×
+            (P.words peek.old ≡ s.words) }
         requires near { waiting.now.path.places.items ≡ [] }
-        ensures finished { (call : Call) (s : State V) (rs : List Swept) → IsSweeping V self.old waiting.now call s rs → IsOver (shape_of self.old.checked).items rs → P.words peek.old ≡ s.words → IsFinishedNear V self.new waiting.now call s rs result }
+        ensures finished { (call : Call) (s : State V) (rs : List Swept) → IsSweeping V self.old waiting.now call s rs →
+            IsOver (shape_of self.old.checked).items rs → P.words peek.old ≡ s.words →
+            IsFinishedNear V self.new waiting.now call s rs result }
         ensures shape { self.new.checked ≡ self.old.checked }
         ensures kept { peek.new ≡ peek.old }
     {

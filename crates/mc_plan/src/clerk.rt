@@ -116,7 +116,10 @@ impl<const V: usize> Clerk<V> {
     /// The act that is to be made next, while one is left.
     pub fn next(&self) -> Option<Act>
         ensures value { result ≡ next_act self.now }
-        ensures allowed { (call : Call) (s : State V) (acts : List Made) → IsOn V self.now call s acts → IfSome result (λ a. IsAllowed (shape_of_clerk self.now) (after_all (shape_of_clerk self.now) s acts) a × HasVersionSteps (shape_of_clerk self.now).limit (after_all (shape_of_clerk self.now) s acts).version_steps a) }
+        ensures allowed { (call : Call) (s : State V) (acts : List Made) → IsOn V self.now call s acts →
+            IfSome result (λ a. IsAllowed (shape_of_clerk self.now) (after_all (shape_of_clerk self.now) s acts) a ×
+            HasVersionSteps (shape_of_clerk self.now).limit
+            (after_all (shape_of_clerk self.now) s acts).version_steps a) }
     {
         match &self.stage {
             Stage::Idle => None,
@@ -128,7 +131,8 @@ impl<const V: usize> Clerk<V> {
     /// Plans the rest of a put whose sweep is over.
     fn go_on<P: Peek>(&mut self, peek: &mut P)
         requires over { (call : Call) × (s : State V) × (rs : List Swept) × HasEndedSweep V self.old call s rs × (P.words peek.old ≡ s.words) }
-        ensures on { (call : Call) (s : State V) (rs : List Swept) → HasEndedSweep V self.old call s rs → P.words peek.old ≡ s.words → IsOn V self.new call s (hand_acts rs) }
+        ensures on { (call : Call) (s : State V) (rs : List Swept) → HasEndedSweep V self.old call s rs →
+            P.words peek.old ≡ s.words → IsOn V self.new call s (hand_acts rs) }
         ensures left { acts_left self.new ≤ 64 }
         ensures shape { shape_of_clerk self.new ≡ shape_of_clerk self.old }
         ensures kept { peek.new ≡ peek.old }
@@ -143,8 +147,15 @@ impl<const V: usize> Clerk<V> {
     /// Goes on after the next act was made. `word` is the bit that it read, where it was one of the hand.
     /// Condition: there was a next act, and the words are those after it.
     pub fn after<P: Peek>(&mut self, peek: &mut P, word: u64)
-        requires { (call : Call) × (s : State V) × (acts : List Made) × (a : Act) × IsOn V self.old call s acts × (next_act self.old ≡ Some a) × (P.words peek.old ≡ (after_all (shape_of_clerk self.old) s (acts ++ record { act = a; bit = word } ∷ [])).words) }
-        ensures on { (call : Call) (s : State V) (acts : List Made) (a : Act) → IsOn V self.old call s acts → next_act self.old ≡ Some a → P.words peek.old ≡ (after_all (shape_of_clerk self.old) s (acts ++ record { act = a; bit = word } ∷ [])).words → IsOn V self.new call s (acts ++ record { act = a; bit = word } ∷ []) }
+        requires { (call : Call) × (s : State V) × (acts : List Made) × (a : Act) × IsOn V self.old call s acts ×
+            (next_act self.old ≡ Some a) ×
+            (P.words peek.old ≡
+            (after_all (shape_of_clerk self.old) s (acts ++ record { act = a; bit = word } ∷ [])).words) }
+        ensures on { (call : Call) (s : State V) (acts : List Made) (a : Act) → IsOn V self.old call s acts →
+            next_act self.old ≡ Some a →
+            P.words peek.old ≡
+            (after_all (shape_of_clerk self.old) s (acts ++ record { act = a; bit = word } ∷ [])).words →
+            IsOn V self.new call s (acts ++ record { act = a; bit = word } ∷ []) }
         ensures left { acts_left self.new < acts_left self.old }
         ensures shape { shape_of_clerk self.new ≡ shape_of_clerk self.old }
         ensures kept { peek.new ≡ peek.old }
@@ -165,7 +176,9 @@ impl<const V: usize> Clerk<V> {
     pub fn answer(&mut self) -> Option<Answer>
         ensures some { IsSome result ↔ (HasCall self.old × (next_act self.old ≡ None)) }
         ensures due { (call : Call) (s : State V) (acts : List Made) → IsOn V self.old call s acts → next_act self.old ≡ None → IsSome result }
-        ensures told { IfSome result (λ told. (call : Call) (s : State V) (acts : List Made) → IsOn V self.old call s acts → Answered V (shape_of_clerk self.old) call s acts told × Knows V self.new (after_all (shape_of_clerk self.old) s acts)) }
+        ensures told { IfSome result (λ told. (call : Call) (s : State V) (acts : List Made) →
+            IsOn V self.old call s acts → Answered V (shape_of_clerk self.old) call s acts told ×
+            Knows V self.new (after_all (shape_of_clerk self.old) s acts)) }
         ensures none { IfNone result (self.new ≡ self.old) }
         ensures shape { shape_of_clerk self.new ≡ shape_of_clerk self.old }
     {

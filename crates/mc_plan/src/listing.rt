@@ -103,7 +103,8 @@ fn start_insert<const V: usize, P: Peek>(
 ) -> Start
     requires books { (s : State V) × IsLackingKey V books.old key s at × (P.words peek.old ≡ s.words) }
     requires plan { plan.old.items ≡ [] }
-    ensures started { (s : State V) → IsLackingKey V books.old key s at → P.words peek.old ≡ s.words → IsStarted V books.new plan.new.items key value.now s result }
+    ensures started { (s : State V) → IsLackingKey V books.old key s at → P.words peek.old ≡ s.words →
+        IsStarted V books.new plan.new.items key value.now s result }
     ensures fits { array_vec_len plan.new ≤ 64 }
     ensures shape { books.new.checked ≡ books.old.checked }
     ensures kept { peek.new ≡ peek.old }
@@ -176,9 +177,13 @@ pub(crate) fn finish_put<const V: usize, P: Peek>(
     plan: &mut Plan,
     waiting: Waiting<V>,
 ) -> Result<Put, PutError>
-    requires over { (call : Call) × (s : State V) × (rs : List Swept) × IsSweeping V books.old waiting call s rs × IsOver (shape_of books.old.checked).items rs × (P.words peek.old ≡ s.words) }
+    requires over { (call : Call) × (s : State V) × (rs : List Swept) × IsSweeping V books.old waiting call s rs ×
+        IsOver (shape_of books.old.checked).items rs × (P.words peek.old ≡ s.words) }
     requires plan { plan.old.items ≡ [] }
-    ensures planned { (call : Call) (s : State V) (rs : List Swept) → IsSweeping V books.old waiting.entry call s rs → IsOver (shape_of books.old.checked).items rs → P.words peek.old ≡ s.words → IsPlanned V books.new plan.new.items call s (state_after_sweep V (shape_of books.old.checked) s rs) (answer.Put result) × IsSweepOf V (shape_of books.old.checked) s rs (answer.Put result) }
+    ensures planned { (call : Call) (s : State V) (rs : List Swept) → IsSweeping V books.old waiting.entry call s rs →
+        IsOver (shape_of books.old.checked).items rs → P.words peek.old ≡ s.words →
+        IsPlanned V books.new plan.new.items call s (state_after_sweep V (shape_of books.old.checked) s rs)
+        (answer.Put result) × IsSweepOf V (shape_of books.old.checked) s rs (answer.Put result) }
     ensures fits { array_vec_len plan.new ≤ 64 }
     ensures shape { books.new.checked ≡ books.old.checked }
     ensures kept { peek.new ≡ peek.old }
@@ -200,7 +205,8 @@ pub(crate) fn start_removal<const V: usize, P: Peek>(
 ) -> Result<Remove, Spent>
     requires books { (s : State V) × AreBooksOf V books.old s × (P.words peek.old ≡ s.words) }
     requires plan { plan.old.items ≡ [] }
-    ensures planned { (s : State V) → AreBooksOf V books.old s → P.words peek.old ≡ s.words → IsPlanned V books.new plan.new.items (RemoveCall key) s s (answer.Remove result) }
+    ensures planned { (s : State V) → AreBooksOf V books.old s → P.words peek.old ≡ s.words →
+        IsPlanned V books.new plan.new.items (RemoveCall key) s s (answer.Remove result) }
     ensures fits { array_vec_len plan.new ≤ 64 }
     ensures shape { books.new.checked ≡ books.old.checked }
     ensures kept { peek.new ≡ peek.old }

@@ -51,15 +51,19 @@ impl<const V: usize> Waiting<V> {
     /// The item whose bit is to be read next, while the sweep is not over.
     pub fn next(&self) -> Option<u32>
         ensures value { result ≡ next_item self.now.sweep }
-        ensures over { IfNone result ((b : Books) (call : Call) (s : State V) (rs : List Swept) → IsSweeping V b self.now call s rs → IsOver (shape_of b.checked).items rs) }
+        ensures over { IfNone result ((b : Books) (call : Call) (s : State V) (rs : List Swept) →
+            IsSweeping V b self.now call s rs → IsOver (shape_of b.checked).items rs) }
     {
         self.sweep.next()
     }
 
     /// Goes on after the bit was read. Condition: an item was to be read next.
     pub fn after(&mut self, bit: u64)
-        requires { (b : Books) × (call : Call) × (s : State V) × (rs : List Swept) × (i : ℕ) × IsSweeping V b self.old call s rs × (next_item self.old.sweep ≡ Some i) }
-        ensures swept { (b : Books) (call : Call) (s : State V) (rs : List Swept) (i : ℕ) → IsSweeping V b self.old call s rs → next_item self.old.sweep ≡ Some i → IsSweeping V b self.new call s (rs ++ record { item = i; bit = bit } ∷ []) }
+        requires { (b : Books) × (call : Call) × (s : State V) × (rs : List Swept) × (i : ℕ) ×
+            IsSweeping V b self.old call s rs × (next_item self.old.sweep ≡ Some i) }
+        ensures swept { (b : Books) (call : Call) (s : State V) (rs : List Swept) (i : ℕ) →
+            IsSweeping V b self.old call s rs → next_item self.old.sweep ≡ Some i →
+            IsSweeping V b self.new call s (rs ++ record { item = i; bit = bit } ∷ []) }
         ensures key { self.new.key ≡ self.old.key }
         ensures path { self.new.path ≡ self.old.path }
         ensures value { self.new.value ≡ self.old.value }

@@ -28,7 +28,9 @@ pub fn get_many<const V: usize>(
     requires many { length replies.old ≡ length keys.now }
     ensures of { seat.new.of ≡ seat.old.of }
     ensures looked { HaveLooked V cells.now.layout.shape keys.now seat.old seat.new replies.new }
-    ensures truth { AreTrueAnswers (state_of V cells.now.layout.shape seat.new.front).history (length (state_of V cells.now.layout.shape seat.old.front).history) (length (state_of V cells.now.layout.shape seat.new.front).history) keys.now replies.new }
+    ensures truth { AreTrueAnswers (state_of V cells.now.layout.shape seat.new.front).history
+        (length (state_of V cells.now.layout.shape seat.old.front).history)
+        (length (state_of V cells.now.layout.shape seat.new.front).history) keys.now replies.new }
 {
     let checked = cells.checked();
     let large = checked.shape().buckets >= LARGE;

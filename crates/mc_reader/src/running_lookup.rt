@@ -225,7 +225,8 @@ pub fn get<const V: usize>(cells: &Cells<V>, seat: &mut ReaderSeat, key: u64) ->
     requires of { seat.old.of ≡ cells.now }
     ensures looked { HasLooked V cells.now.layout.shape key seat.old seat.new result }
     ensures truth { IsTrueAnswer (state_of V cells.now.layout.shape seat.new.front).history key result }
-    ensures between { IsBetween (length (state_of V cells.now.layout.shape seat.old.front).history) (length (state_of V cells.now.layout.shape seat.new.front).history) result }
+    ensures between { IsBetween (length (state_of V cells.now.layout.shape seat.old.front).history)
+        (length (state_of V cells.now.layout.shape seat.new.front).history) result }
 {
     let checked = cells.checked();
     let mut lookup = Lookup::<V>::begin(checked, key);

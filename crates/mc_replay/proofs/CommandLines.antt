@@ -71,12 +71,14 @@ wanted {V} P text t fault e = subst (λ (f : Fault). DoneAs {V = V} P text t (Er
 pub idle_in : {V : ℕ} → Trace V → Replay V
 idle_in w = record { world = w; running = None }
 
+-- a call on an idle player is made as a whole and answered
 pub call_done : (V : ℕ) (old new : Player V) (most : ℕ) (call : Call) (s : Replay V) (a : Answer) (text : List ℕ) → s.running ≡ None → (whole : CallIsWhole V old new most call s.world a) → text ≡ answer_line a
     → CallDoes (shape_of_player old) s call text None (idle_in whole.after) × FitsStill V old new (most + most_steps) (idle_in whole.after)
 unfolding idle_in
 call_done V old new most call s a text none whole is =
     (inl (none, refl, (a, whole.acts, record { makes = whole.makes; answered = whole.answered; idle = refl }, is)), (whole.shape, whole.idle))
 
+-- a lookup of an idle player is made as a whole and answered
 pub get_done : (V : ℕ) (old new : Player V) (most k : ℕ) (s : Replay V) (reply : Reply V) (line_of : Reply V → List ℕ) (text : List ℕ) → s.running ≡ None → (looks : Looks V old new most k s.world reply) → text ≡ line_of reply
     → GetDoes (shape_of_player old) s k line_of text None (idle_in looks.after) × FitsStill V old new (most + most_steps) (idle_in looks.after)
 unfolding idle_in
@@ -111,6 +113,7 @@ begin_answered V old new most call s a text none begins is = (
 pub running_in : {V : ℕ} → Shape → Replay V → Call → Replay V
 running_in {V} sh s call = record { world = s.world; running = Some (pending call (state_of V sh s.world.acts)) }
 
+-- a call that is begun runs then, and writes nothing
 pub begin_begun : (V : ℕ) (old new : Player V) (most : ℕ) (call : Call) (s : Replay V) (text : List ℕ) → s.running ≡ None → Begins V old new most call s.world None → text ≡ []
     → BeginDoes (shape_of_player old) s call text None (running_in (shape_of_player old) s call) × FitsStill V old new (most + most_steps) (running_in (shape_of_player old) s call)
 unfolding running_in

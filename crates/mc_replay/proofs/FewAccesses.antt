@@ -13,6 +13,7 @@ use Rattle.mc_theory.specs.Traces.{Trace, OpenLookup, Steps, ReadsNext, first_re
 use Rattle.mc_theory.specs.declared.event.Event.TheVariants as event
 use Rattle.mc_replay.specs.Inside.Players.{HasAccessed, most_accesses}
 
+-- no product of larger factors is less
 product_le : (a b c d : ℕ) → a ≤ c → b ≤ d → a * b ≤ c * d
 product_le a b c d l m = grind arith
 
@@ -30,6 +31,7 @@ sofar_few V sh w run reading sound width next =
     let parts = length-append run.sofar (reading ∷ next.rest) in
     omega (arith, few, parts)
 
+-- of the same place the same lookup is found
 same_run : (a b : OpenLookup) → Some (Some a) ≡ Some (Some b) → a ≡ b
 same_run a b e = cc
 

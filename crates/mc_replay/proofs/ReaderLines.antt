@@ -36,6 +36,7 @@ pub record KeepsWriter (V : ℕ) (w x : Trace V) : Type 0 where
   pub readers : length x.readers ≡ length w.readers
   pub events : x.events ≡ w.events + 1
 
+-- beginning a lookup leaves the writer
 begin_keeps : (V : ℕ) (sh : Shape) (w x : Trace V) (r k : ℕ) → Steps V sh w (event.Begin r k) x → KeepsWriter V w x
 begin_keeps V sh w x r k steps = record {
   acts = ap (λ (y : Trace V). y.acts) steps.3;
@@ -43,6 +44,7 @@ begin_keeps V sh w x r k steps = record {
   events = ap (λ (y : Trace V). y.events) steps.3;
 }
 
+-- and so does a reading
 read_keeps : (V : ℕ) (sh : Shape) (w x : Trace V) (r : ℕ) → Steps V sh w (event.Read r) x → KeepsWriter V w x
 read_keeps V sh w x r steps = elim steps.5 [
   | inl ends ↦ record {
@@ -62,6 +64,7 @@ pub record SameWriter (V : ℕ) (old new : Player V) : Type 0 where
   pub shape : shape_of_player new ≡ shape_of_player old
   pub clerk : new.clerk ≡ old.clerk
 
+-- a player that fits its call is at its trace
 pub at_of : (V : ℕ) (player : Player V) (most : ℕ) (running : Option (Pending V)) (w : Trace V) → FitsCall V player most running w → IsAt V player most w
 at_of V player most None w fits = fits.at
 at_of V player most (Some p) w fits = fits.0.at
@@ -76,6 +79,7 @@ readers_of V world w shows = both_length (Both (IsOpenLookup V world.shape)) wor
     both_length R [] (y ∷ ys) all = absurd (all zero)
     both_length R (x ∷ xs) [] all = absurd (all zero)
 
+-- a player is at the next trace when its writer stays
 at_after : (V : ℕ) (old new : Player V) (most more : ℕ) (w x : Trace V) → IsAt V old most w → SameWriter V old new → Shows {V = V} new.world x → IsReached V (shape_of_player old) x → KeepsWriter V w x → most + 1 ≤ more → IsAt V new more x
 at_after V old new most more w x at same shows reached keeps le = record {
   world = shows;
@@ -126,11 +130,13 @@ look_up_begins V old new most r k s x fits there same shows steps =
       fits_after V old new most (most + most_steps) s.running s.world x fits same shows (reached_push V (shape_of_player old) s.world x (event.Begin r k) at.reached steps) (begin_keeps V (shape_of_player old) s.world x r k steps) (omega arith),
     )
 
+-- a reader whose lookup still runs begins no other
 pub look_up_runs : (V : ℕ) (old : Player V) (most r k : ℕ) (s : Replay V) → Fits V old most s → r < length old.world.readers → RefusesEvent (shape_of_player old) s.world (event.Begin r k) unlawful.StillRunning → LookUpDoes (shape_of_player old) s r k [] (Some StillRunning) s
 look_up_runs V old most r k s fits there refused =
     let at = at_of V old most s.running s.world fits in
     inl (omega (arith, there, at.readers), (refl, inr (refl, refused, refl)))
 
+-- a reader that the player has not is none of the trace's
 pub no_reader : (V : ℕ) (old : Player V) (most r : ℕ) (s : Replay V) → Fits V old most s → length old.world.readers ≤ r → length s.world.readers ≤ r
 no_reader V old most r s fits past =
     let at = at_of V old most s.running s.world fits in omega (arith, past, at.readers)
@@ -144,6 +150,7 @@ readers_after V sh old new w x r before after steps = sym (readers_of V new x af
 pub after_access : {V : ℕ} → Replay V → Trace V → Replay V
 after_access s x = record { world = x; running = s.running }
 
+-- a reader without a lookup has none
 ended_none : (run other : OpenLookup) → Some None ≡ Some (Some run) → ⊥
 ended_none run other e = absurd (cc (e))
 
@@ -183,10 +190,12 @@ reads_more V old new most r n m x sound width so_far same shows steps =
 pub sound_of : (V : ℕ) (player : Player V) (most : ℕ) (w : Trace V) → IsAt V player most w → IsShape (shape_of_player player)
 sound_of V player most w at = subst IsShape at.shape player.clerk.books.checked.sound
 
+-- a player that fits its call has a width
 pub width_of : (V : ℕ) (player : Player V) (most : ℕ) (running : Option (Pending V)) (w : Trace V) → FitsCall V player most running w → IsWidth V
 width_of V player most None w fits = fits.knows.books.width
 width_of V player most (Some p) w fits = on_width V player.clerk p.call p.from p.acts fits.0.on
 
+-- and so has one that can do something
 pub width_can : (V : ℕ) (player : Player V) (text : List ℕ) → CanDo V player text → IsWidth V
 width_can V player text can = width_of V player can.1.0 can.1.1.running can.1.1.world can.1.3
 

@@ -70,6 +70,7 @@ one_line_more before = omega arith
 pub refused_is_not_played : {A : Type 0} (fault : Fault) → ◌≡◌ {A = Result Bool Fault} (Err fault) (Ok true) → A
 refused_is_not_played fault e = absurd (cc (e))
 
+-- nor is the end of the script
 pub none_is_not_played : {A : Type 0} → ◌≡◌ {A = Result Bool Fault} (Ok false) (Ok true) → A
 none_is_not_played e = absurd (cc (e))
 
@@ -78,6 +79,7 @@ pub always_ok : {E : Type 0} (r : Result (Unit {0}) E) (A : Type 0) → A → On
 always_ok (Ok u) A x = x
 always_ok (Err e) A x = tt
 
+-- after fewer than 2^40 lines there is room for one more call
 pub has_room : (before : ℕ) → before < 2 ^ 40 → HasRoom (most_before before)
 has_room before few = omega (arith, few)
 
@@ -130,6 +132,7 @@ pub plays_wanting : (V : ℕ) (sh : Shape) (before : ℕ) (s : Replay V) (line :
 plays_wanting V sh before s line None b c gives = tt
 plays_wanting V sh before s line (Some x) b c gives = ((line, gives), Keeps-refl c)
 
+-- a fault for which memory was not wanting is not that one
 pub not_wanting : (fault : Fault) → is_wanting (Err fault) ≡ false → fault ≡ NoMemory → ⊥
 not_wanting fault other e = false≢true (sym other ∙ ap (λ (f : Fault). is_wanting (Err f)) e)
 
@@ -202,6 +205,7 @@ replays_all V sh readers (Some x) (Some y) c old new newer before s t many so_fa
     let whole : lines_of x ≡ so_far.1.done = so_far.1.parts ∙ ap (λ (l : List (List ℕ)). so_far.1.done ++ l) none ∙ append-nil so_far.1.done in
     (plays.0.1.1, (many, (so_far.1.text, s, subst (λ (l : List (List ℕ)). Plays V sh 0 (first_replay V sh readers) l so_far.1.text s) (sym whole) so_far.1.played, Appends-kept _ _ _ _ so_far.1.written plays.1)))
 
+-- a replay that stops here has played all before
 stopped : (V : ℕ) (sh : Shape) (start : Replay V) (lines left : List (List ℕ)) (old new : Option (List ℕ)) (before : ℕ) (s : Replay V) (so_far : SoFar V sh start lines left old new before s) → Stopped V sh start lines (before + 1) left so_far.text s
 stopped V sh start lines left old new before s so_far = record {
   done = so_far.done;
@@ -210,14 +214,17 @@ stopped V sh start lines left old new before s so_far = record {
   played = so_far.played;
 }
 
+-- the line at which it stops is the first of those left
 stopped_line : (V : ℕ) (sh : Shape) (start : Replay V) (lines : List (List ℕ)) (y : List ℕ) (old new : Option (List ℕ)) (before : ℕ) (s : Replay V) (so_far : SoFar V sh start lines (lines_of y) old new before s) → 0 < length y
     → Stopped V sh start lines (before + 1) (first_line y ∷ lines_of (drop_through 10 y)) so_far.text s
 stopped_line V sh start lines y old new before s so_far some =
     subst (λ (l : List (List ℕ)). Stopped V sh start lines (before + 1) l so_far.text s) (lines-step y some) (stopped V sh start lines (lines_of y) old new before s so_far)
 
+-- the line before the next one
 one_back : (before : ℕ) → before + 1 - 1 ≡ before
 one_back before = omega arith
 
+-- a line that faults is the one at which the replay stops
 refused : (V : ℕ) (sh : Shape) (start : Replay V) (x y : List ℕ) (old new newer : Option (List ℕ)) (before : ℕ) (s t : Replay V) (fault : Fault) (so_far : SoFar V sh start (lines_of x) (lines_of y) old new before s)
     → 0 < length y → (text : List ℕ) × LineDoes V sh before s (first_line y) text (Some fault) t × Appends new newer text
     → StopsRefused V sh start (lines_of x) old newer (before + 1) fault
@@ -233,11 +240,13 @@ refused V sh start x y old new newer before s t fault so_far some plays = (
   Appends-trans _ _ _ _ _ so_far.written plays.2,
 )
 
+-- a replay that stops before a line has done nothing of it
 undone : (V : ℕ) (sh : Shape) (start : Replay V) (x y : List ℕ) (old new newer : Option (List ℕ)) (before : ℕ) (s : Replay V) (so_far : SoFar V sh start (lines_of x) (lines_of y) old new before s) → Keeps new newer
     → StopsUndone V sh start (lines_of x) old newer (before + 1)
 undone V sh start x y old new newer before s so_far kept =
     (lines_of y, so_far.text, s, stopped V sh start (lines_of x) (lines_of y) old new before s so_far, Appends-kept _ _ _ _ so_far.written kept)
 
+-- there is a line before the next one
 after_first : (before : ℕ) → 0 < before + 1
 after_first before = omega arith
 

@@ -42,9 +42,11 @@ makes_none V sh w = (refl, sym (append-nil w.acts))
 abbrev pub made_of : {V : ℕ} → Trace V → Act → Made
 made_of w a = record { act = a; bit = bit_of w.bits a }
 
+-- a write event makes one act
 pub makes_one : (V : ℕ) (sh : Shape) (w x : Trace V) (a : Act) → Steps V sh w (event.Write a) x → WriterMakes V sh w (made_of w a ∷ []) x
 makes_one V sh w x a steps = ((x, steps, refl), ap (λ (y : Trace V). y.acts) steps.2)
 
+-- events of two lists run one after the other
 runs_append : (V : ℕ) (sh : Shape) (w m x : Trace V) (xs ys : List Made) → StepsAll V sh w (map (λ (m : Made). event.Write m.act) xs) m → StepsAll V sh m (map (λ (m : Made). event.Write m.act) ys) x → StepsAll V sh w (map (λ (m : Made). event.Write m.act) (xs ++ ys)) x
 runs_append V sh w m x [] ys first second = subst (λ (y : Trace V). StepsAll V sh y (map (λ (m : Made). event.Write m.act) ys) x) first second
 runs_append V sh w m x (a ∷ xs) ys first second = (first.0, first.1, runs_append V sh first.0 m x xs ys first.2 second)
@@ -240,6 +242,7 @@ pub record MakesSome (V : ℕ) (old now : Player V) (most : ℕ) (p : Pending V)
   pub shape : shape_of_player now ≡ shape_of_player old
   pub fewer : acts_left now.clerk ≤ acts_left old.clerk
 
+-- acts that are added in two parts are added at once
 same_pending : (V : ℕ) (p : Pending V) (xs ys : List Made) → with_acts (with_acts p xs) ys ≡ with_acts p (xs ++ ys)
 same_pending V p xs ys = ap (λ (l : List Made). of_acts l) (append_assoc p.acts xs ys)
   where
@@ -274,6 +277,7 @@ in_call_more V player most more p w le call = record {
   few = call.few;
 }
 
+-- an idle player is so under a higher bound
 pub idle_more : (V : ℕ) (player : Player V) (most more : ℕ) (w : Trace V) → most ≤ more → IsIdle V player most w → IsIdle V player more w
 idle_more V player most more w le idle = record {
   at = record { world = idle.at.world; reached = idle.at.reached; shape = idle.at.shape; readers = idle.at.readers; events = omega (arith, idle.at.events, le) };
@@ -341,6 +345,7 @@ some_left_in V (Planned told) plan many some = at (slice_get plan many) refl som
     at None is some = absurd (cc some)
     at (Some a) is some = let lt = slice_get_within plan many a is in omega (arith, lt)
 
+-- a clerk with a next act has acts left
 pub acts_are_left : (V : ℕ) (clerk : Clerk V) → IsSome (next_act clerk) → 0 < acts_left clerk
 unfolding next_act acts_left
 acts_are_left V clerk some = some_left_in V clerk.stage clerk.plan.items clerk.made some
@@ -353,6 +358,7 @@ room_left V old now most p w some room = omega (arith, room, some.fewer)
 some_left : (V : ℕ) (player : Player V) (most : ℕ) (p : Pending V) (w : Trace V) → IsMidCall V player most p w → 0 < acts_left player.clerk
 some_left V player most p w runs = acts_are_left V player.clerk runs.1
 
+-- some acts and the last one complete a call
 pub makes_last_of : (V : ℕ) (old now new : Player V) (most : ℕ) (p : Pending V) (w : Trace V) (a : Answer) (some : MakesSome V old now most p w) → MakesAct V now new (most + (acts_left old.clerk - acts_left now.clerk)) (with_acts p some.acts) some.after (Some a) → Completes V old new most p w a
 makes_last_of V old now new most p w a some act = makes_last V old now new most p w a some (some_left V now _ _ some.after some.call) act
 
@@ -375,6 +381,7 @@ looks_found V player most k i at since q v w sh idle same value is stands =
     subst (λ (x : State V). Stands V (shape_of_player player) x.words k q i) idle.at.world.state (subst (λ (y : Shape). Stands V y player.world.state.words k q i) same stands) in
     (record { value = value; unchanged = refl; moment = is ∙ agrees.at_moment }, (q, i, there, refl))
 
+-- a key that the history does not hold is told absent, and no act is made
 pub looks_missed : (V : ℕ) (player : Player V) (most k at : ℕ) (w : Trace V) (sh : Shape) → IsIdle V player most w → sh ≡ shape_of_player player → map_value (state_of V (shape_of_player player) w.acts).history k ≡ None → at ≡ moment player.world.state.words
     → LooksUp {V = V} (shape_of_player player) (state_of V (shape_of_player player) w.acts) k (Absent at) []
 looks_missed V player most k at w sh idle same absent is =

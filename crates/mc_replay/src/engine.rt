@@ -30,7 +30,9 @@ fn do_line<const V: usize>(
 ) -> Result<(), Fault>
     requires fits { (s : Replay V) × Fits V player.old (most_before before) s }
     requires short { length line.now ≤ 4096 }
-    ensures does { (s : Replay V) → Fits V player.old (most_before before) s → (t : Replay V) × DoesLine V (shape_of_player player.old) before s line.now (string_bytes text.new) t result × OnOk result (FitsStill V player.old player.new (most_before (before + 1)) t) }
+    ensures does { (s : Replay V) → Fits V player.old (most_before before) s → (t : Replay V) ×
+        DoesLine V (shape_of_player player.old) before s line.now (string_bytes text.new) t result ×
+        OnOk result (FitsStill V player.old player.new (most_before (before + 1)) t) }
     ensures few { OnOk result (before < 2 ^ 40) }
 {
     text.clear();
@@ -64,7 +66,9 @@ fn play_line<const V: usize, R: BufRead, W: Write>(
 ) -> Result<bool, Fault>
     requires { (s : Replay V) × Fits V player.old (most_before before) s }
     ensures plays { (s : Replay V) → Fits V player.old (most_before before) s → (t : Replay V) ×
-        PlaysKnown V (shape_of_player player.old) before s t (R.remaining input.old) (R.remaining input.new) (W.contents output.old) (W.contents output.new) result × (result ≡ Ok true → FitsStill V player.old player.new (most_before (before + 1)) t) }
+        PlaysKnown V (shape_of_player player.old) before s t (R.remaining input.old) (R.remaining input.new)
+        (W.contents output.old) (W.contents output.new) result ×
+        (result ≡ Ok true → FitsStill V player.old player.new (most_before (before + 1)) t) }
     ensures few { result ≡ Ok true → before < 2 ^ 40 }
 {
     let mut line = Line::new();
@@ -94,7 +98,10 @@ fn play_lines<const V: usize, R: BufRead, W: Write>(
     output: &mut W,
 ) -> Result<(), Stop>
     requires { (readers : ℕ) × HasReaders readers × Fits V player.old 0 (first_replay V (shape_of_player player.old) readers) }
-    ensures { (readers : ℕ) → HasReaders readers → Fits V player.old 0 (first_replay V (shape_of_player player.old) readers) → ReplaysKnown V (shape_of_player player.old) readers (R.remaining input.old) (R.remaining input.new) (W.contents output.old) (W.contents output.new) result }
+    ensures { (readers : ℕ) → HasReaders readers →
+        Fits V player.old 0 (first_replay V (shape_of_player player.old) readers) →
+        ReplaysKnown V (shape_of_player player.old) readers (R.remaining input.old) (R.remaining input.new)
+        (W.contents output.old) (W.contents output.new) result }
 {
     let mut text = String::new(alloc);
     'lines: for before in 0..u64::MAX {
@@ -119,7 +126,8 @@ pub fn play<const V: usize, R: BufRead, W: Write>(
     output: &mut W,
 ) -> Result<(), Stop>
     requires { IsWidth V }
-    ensures { ReplaysKnown V (shape_of checked.now) readers (R.remaining input.old) (R.remaining input.new) (W.contents output.old) (W.contents output.new) result }
+    ensures { ReplaysKnown V (shape_of checked.now) readers (R.remaining input.old) (R.remaining input.new)
+        (W.contents output.old) (W.contents output.new) result }
 {
     match Player::<V>::new(alloc, checked, readers) {
         Ok(mut player) => play_lines(alloc, &mut player, input, output),
@@ -140,7 +148,9 @@ pub fn replay<const V: usize, R: BufRead, W: Write>(
     output: &mut W,
 ) -> Result<(), ReplayError>
     requires { IsWidth V }
-    ensures { (r : Result (Unit {0}) Stop) × ReplaysKnown V (shape_of checked.now) readers (R.remaining input.old) (R.remaining input.new) (W.contents output.old) (W.contents output.new) r × (result ≡ as_replay_error r) }
+    ensures { (r : Result (Unit {0}) Stop) ×
+        ReplaysKnown V (shape_of checked.now) readers (R.remaining input.old) (R.remaining input.new)
+        (W.contents output.old) (W.contents output.new) r × (result ≡ as_replay_error r) }
 {
     match play::<V, R, W>(alloc, checked, readers, input, output) {
         Ok(()) => Ok(()),

@@ -72,7 +72,9 @@ impl<const V: usize> Player<V> {
     pub(crate) fn act(&mut self) -> Result<Option<Answer>, Fault>
         requires runs { IsSome (next_act self.old.clerk) }
         requires call { (most : ℕ) × (p : Pending V) × (w : traces.Trace V) × IsInCall V self.old most p w × (most + acts_left self.old.clerk < 2 ^ 64 - 1) }
-        ensures made { IfOk result (λ told. (most : ℕ) (p : Pending V) (w : traces.Trace V) → IsInCall V self.old most p w → most + acts_left self.old.clerk < 2 ^ 64 - 1 → MakesAct V self.old self.new most p w told) }
+        ensures made { IfOk result (λ told. (most : ℕ) (p : Pending V) (w : traces.Trace V) →
+            IsInCall V self.old most p w → most + acts_left self.old.clerk < 2 ^ 64 - 1 →
+            MakesAct V self.old self.new most p w told) }
         ensures refused { OnErr result (result ≡ Err NoMemory) }
     {
         match self.clerk.next() {
@@ -93,7 +95,9 @@ impl<const V: usize> Player<V> {
     fn finish(&mut self) -> Result<Answer, Fault>
         requires runs { IsSome (next_act self.old.clerk) }
         requires call { (most : ℕ) × (p : Pending V) × (w : traces.Trace V) × IsInCall V self.old most p w × (most + acts_left self.old.clerk < 2 ^ 64 - 1) }
-        ensures made { IfOk result (λ a. (most : ℕ) (p : Pending V) (w : traces.Trace V) → IsInCall V self.old most p w → most + acts_left self.old.clerk < 2 ^ 64 - 1 → Completes V self.old self.new most p w a) }
+        ensures made { IfOk result (λ a. (most : ℕ) (p : Pending V) (w : traces.Trace V) →
+            IsInCall V self.old most p w → most + acts_left self.old.clerk < 2 ^ 64 - 1 →
+            Completes V self.old self.new most p w a) }
         ensures refused { OnErr result (result ≡ Err NoMemory) }
     {
         'acts: loop {
@@ -121,7 +125,8 @@ impl<const V: usize> Player<V> {
     /// A whole call.
     pub(crate) fn whole(&mut self, call: Call<V>) -> Result<Answer, Fault>
         requires { (most : ℕ) × (w : traces.Trace V) × IsIdle V self.old most w × HasRoom most }
-        ensures made { IfOk result (λ a. (most : ℕ) (w : traces.Trace V) → IsIdle V self.old most w → HasRoom most → CallIsWhole V self.old self.new most (call_of call.entry) w a) }
+        ensures made { IfOk result (λ a. (most : ℕ) (w : traces.Trace V) → IsIdle V self.old most w → HasRoom most →
+            CallIsWhole V self.old self.new most (call_of call.entry) w a) }
         ensures refused { OnErr result (result ≡ Err NoMemory) }
     {
         match self.begin(call) {

@@ -48,7 +48,8 @@ fn hole_in_either<P: Peek>(
     requires words { HasSlots (shape_of checked.now) (P.words peek.old) }
     requires first { first < (shape_of checked.now).buckets }
     requires second { second < (shape_of checked.now).buckets }
-    ensures found { IfSome result (λ h. IsHoleIn (shape_of checked.now) (P.words peek.old) first h ⊎ IsHoleIn (shape_of checked.now) (P.words peek.old) second h) }
+    ensures found { IfSome result (λ h. IsHoleIn (shape_of checked.now) (P.words peek.old) first h ⊎
+        IsHoleIn (shape_of checked.now) (P.words peek.old) second h) }
     ensures first { IfNone result (IsFull (shape_of checked.now) (P.words peek.old) first) }
     ensures second { IfNone result (IsFull (shape_of checked.now) (P.words peek.old) second) }
     ensures kept { peek.new ≡ peek.old }

@@ -58,7 +58,9 @@ impl Path {
     /// its places.
     pub fn cut_at(self, victim: Place) -> Path
         ensures cut { IsCut victim self.places.items self.hole result.places.items result.hole }
-        ensures chain { (sh : Shape) (w later : List ℕ) (k : ℕ) → IsPlace sh victim → IsChain sh w k self.places.items self.hole → SetsSlot sh w later (slot_number victim) 0 → IsChain sh later k result.places.items result.hole }
+        ensures chain { (sh : Shape) (w later : List ℕ) (k : ℕ) → IsPlace sh victim →
+            IsChain sh w k self.places.items self.hole → SetsSlot sh w later (slot_number victim) 0 →
+            IsChain sh later k result.places.items result.hole }
     {
         match index_of(self.places.as_slice(), victim) {
             Some(n) => {

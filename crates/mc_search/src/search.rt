@@ -38,9 +38,13 @@ fn expand<P: Peek>(
     ensures queue { IsQueue queue.new.items seen.new.items }
     ensures room { length seen.new.items ≤ vec_capacity queue.new }
     ensures size { length seen.new.items ≡ (shape_of checked.now).buckets }
-    ensures found { IfSome result (λ h. (k : ℕ) → IsSearching (shape_of checked.now) (P.words peek.old) k front queue.old.items → IsFound (shape_of checked.now) (P.words peek.old) k queue.new.items (length queue.new.items - 1) h) }
+    ensures found { IfSome result (λ h. (k : ℕ) →
+        IsSearching (shape_of checked.now) (P.words peek.old) k front queue.old.items →
+        IsFound (shape_of checked.now) (P.words peek.old) k queue.new.items (length queue.new.items - 1) h) }
     ensures full { IfNone result (AreFull (shape_of checked.now) (P.words peek.old) queue.new.items) }
-    ensures none { IfNone result ((k : ℕ) → IsSearching (shape_of checked.now) (P.words peek.old) k front queue.old.items → IsSearching (shape_of checked.now) (P.words peek.old) k (front + 1) queue.new.items) }
+    ensures none { IfNone result ((k : ℕ) →
+        IsSearching (shape_of checked.now) (P.words peek.old) k front queue.old.items →
+        IsSearching (shape_of checked.now) (P.words peek.old) k (front + 1) queue.new.items) }
     ensures kept { peek.new ≡ peek.old }
 {
     for slot in 0..4 {
@@ -81,8 +85,11 @@ pub(crate) fn search<P: Peek>(
     ensures queue { IsQueue queue.new.items seen.new.items }
     ensures room { length seen.new.items ≤ vec_capacity queue.new }
     ensures size { length seen.new.items ≡ (shape_of checked.now).buckets }
-    ensures found { IfSome result (λ h. (k : ℕ) → IsSearching (shape_of checked.now) (P.words peek.old) k 0 queue.old.items → IsFound (shape_of checked.now) (P.words peek.old) k queue.new.items (length queue.new.items - 1) h) }
-    ensures none { IfNone result ((k : ℕ) → IsSearching (shape_of checked.now) (P.words peek.old) k 0 queue.old.items → NoChain (shape_of checked.now) (P.words peek.old) k (shape_of checked.now).depth) }
+    ensures found { IfSome result (λ h. (k : ℕ) →
+        IsSearching (shape_of checked.now) (P.words peek.old) k 0 queue.old.items →
+        IsFound (shape_of checked.now) (P.words peek.old) k queue.new.items (length queue.new.items - 1) h) }
+    ensures none { IfNone result ((k : ℕ) → IsSearching (shape_of checked.now) (P.words peek.old) k 0 queue.old.items →
+        NoChain (shape_of checked.now) (P.words peek.old) k (shape_of checked.now).depth) }
     ensures kept { peek.new ≡ peek.old }
 {
     let depth = checked.shape().depth;
@@ -107,7 +114,8 @@ pub(crate) fn trace(queue: &[Entry], end: usize) -> ArrayVec<Place, 8>
     requires small { length queue.now < 2 ^ 32 }
     requires back { GoesBack queue.now }
     ensures many { length result.items ≡ depth_at queue.now end }
-    ensures chain { (sh : Shape) (w : List ℕ) (k : ℕ) (seen : List Bool) (hole : Place) → IsQueue queue.now seen → length seen ≡ sh.buckets → IsFound sh w k queue.now end hole → IsChain sh w k result.items hole }
+    ensures chain { (sh : Shape) (w : List ℕ) (k : ℕ) (seen : List Bool) (hole : Place) → IsQueue queue.now seen →
+        length seen ≡ sh.buckets → IsFound sh w k queue.now end hole → IsChain sh w k result.items hole }
 {
     let mut places = ArrayVec::new();
     let mut at = end;

@@ -32,7 +32,9 @@ impl Sweep {
     /// The item whose bit is to be read next, while the sweep is not over.
     pub fn next(&self) -> Option<u32>
         ensures value { result ≡ next_item self.now }
-        ensures round { (items hand : ℕ) (rs : List Swept) → HasSwept self.now items hand rs → MatchOption result (IsOver items rs) (λ i. (i ≡ (hand + length rs) % items) × (length rs < 2 * items) × (victim_of rs ≡ None)) }
+        ensures round { (items hand : ℕ) (rs : List Swept) → HasSwept self.now items hand rs →
+            MatchOption result (IsOver items rs) (λ i. (i ≡ (hand + length rs) % items) × (length rs < 2 * items) ×
+            (victim_of rs ≡ None)) }
     {
         if self.victim.is_some() || self.left == 0 {
             return None;
@@ -43,7 +45,8 @@ impl Sweep {
     /// Goes on after the bit was read. Condition: an item was to be read next.
     pub fn after(&mut self, bit: u64)
         requires { (items : ℕ) × (hand : ℕ) × (rs : List Swept) × (i : ℕ) × HasSwept self.old items hand rs × (next_item self.old ≡ Some i) }
-        ensures swept { (items hand : ℕ) (rs : List Swept) (i : ℕ) → HasSwept self.old items hand rs → next_item self.old ≡ Some i → HasSwept self.new items hand (rs ++ record { item = i; bit = bit } ∷ []) }
+        ensures swept { (items hand : ℕ) (rs : List Swept) (i : ℕ) → HasSwept self.old items hand rs →
+            next_item self.old ≡ Some i → HasSwept self.new items hand (rs ++ record { item = i; bit = bit } ∷ []) }
         ensures left { self.new.left < self.old.left }
     {
         self.victim = if bit == 0 { Some(self.hand) } else { None };

@@ -32,12 +32,15 @@ use Rattle.mc_shared.specs.Inside.Seats.{RunsAt, IsWriter}
 abbrev pub Beside : Layout → List ℕ → Phase → ℕ → ℕ → ℕ → Type 0
 Beside l w p place count at = (at ≡ moment w) × RunsAt l w (deed_key p) place count
 
+-- writing a slot leaves the moment and the running version
 slot_keeps : (l : Layout) (w : List ℕ) (q x k place count at : ℕ) → IsShape l.shape → (at ≡ moment w) × RunsAt l w (Some k) place count → (at ≡ moment (with_slot l.shape w q x)) × RunsAt l (with_slot l.shape w q x) (Some k) place count
 slot_keeps l w q x k place count at s h = (h.0 ∙ sym (moment-with_slot l.shape w q x), (h.1.0, h.1.1 ∙ sym (version-with_slot l.shape w q x (stripe_of l.shape k) (stripe_of-lt l.shape k s))))
 
+-- so does writing a word of an item
 item_keeps : (l : Layout) (w : List ℕ) (i j x k place count at : ℕ) → IsShape l.shape → (at ≡ moment w) × RunsAt l w (Some k) place count → (at ≡ moment (with_item l.width l.shape w i j x)) × RunsAt l (with_item l.width l.shape w i j x) (Some k) place count
 item_keeps l w i j x k place count at s h = (h.0 ∙ sym (moment-with_item l.width l.shape w i j x), (h.1.0, h.1.1 ∙ sym (version-with_item l.width l.shape w i j x (stripe_of l.shape k) (stripe_of-lt l.shape k s))))
 
+-- so does every act that changes neither the moment nor a version
 plain_keeps : (l : Layout) (w : List ℕ) (hand : ℕ) (cleared : Option ℕ) (p : Phase) (a : Act) (place count at : ℕ) → IsShape l.shape → IsPlain a → MayFrom l.width l.shape w hand cleared p a → Beside l w p place count at → Beside l (words_after l.width l.shape w p a) (phase_after p a) place count at
 plain_keeps l w hand cleared Quiet (Hand i) place count at s is may h = h
 plain_keeps l w hand cleared Quiet (Mark i) place count at s is may h = h
@@ -112,6 +115,7 @@ after_made me me' a b place count at place' count' at' mine may has is note besi
       version_is = subst (λ (z : State l.width). RunsAt l z.words (deed_key z.phase) place' count') (sym next) beside.1;
     })
 
+-- what a writer keeps fits the words and the phase that its acts lead to
 pub beside_of : (me : SeatView) (place count at : ℕ) → IsWriter me place count at → Beside me.0.layout (layout_state me.0.layout (acts_of me.0)).words (layout_state me.0.layout (acts_of me.0)).phase place count at
 beside_of me place count at mine = (mine.moment_is, mine.version_is)
 
@@ -119,6 +123,7 @@ beside_of me place count at mine = (mine.moment_is, mine.version_is)
 pub may_make : (me : SeatView) (place count at : ℕ) (a : Act) → IsWriter me place count at → MayFrom me.0.layout.width me.0.layout.shape (layout_state me.0.layout (acts_of me.0)).words (layout_state me.0.layout (acts_of me.0)).hand (layout_state me.0.layout (acts_of me.0)).cleared (layout_state me.0.layout (acts_of me.0)).phase a → MayMake me.0.layout (acts_of me.0) a
 may_make me place count at a mine allowed = record { shape = mine.shape; lawful = mine.lawful; allowed = allowed; few = omega (arith, mine.within, mine.shape.limit) }
 
+-- an act that changes no version is within any limit of version steps
 has_plain : (limit changes : ℕ) (a : Act) → IsPlain a → HasVersionSteps limit changes a
 has_plain limit changes (Open k d) is = absurd is
 has_plain limit changes (Slot p x) is = tt
@@ -128,6 +133,7 @@ has_plain limit changes Close is = absurd is
 has_plain limit changes (Hand i) is = tt
 has_plain limit changes (Mark i) is = tt
 
+-- after a plain act the writer keeps what it kept
 pub plain_made : (me me' : SeatView) (a : Act) (b place count at : ℕ) → IsWriter me place count at → IsPlain a → MayMake me.0.layout (acts_of me.0) a → me' ≡ (writer_view me.0.layout (acts_of me.0 ++ with_bit a b ∷ []) (tally_of me'.0), []) → AddsNote me me' → IsWriter me' place count at
 plain_made me me' a b place count at mine is may e note =
     let l = me.0.layout in let s = layout_state l (acts_of me.0) in
@@ -159,10 +165,12 @@ within_new : (V : ℕ) (sh : Shape) → (opening V sh).version_steps + close_owe
 unfolding opening
 within_new V sh = omega arith
 
+-- a new table is at moment 0
 moment_new : (V : ℕ) (sh : Shape) → moment (opening V sh).words ≡ 0
 unfolding opening moment
 moment_new V sh = zeros (word_count V sh) 0
 
+-- and no deed runs on it
 runs_new : (l : Layout) → RunsAt l (opening l.width l.shape).words (deed_key (opening l.width l.shape).phase) 0 0
 unfolding opening
 runs_new l = tt

@@ -7,6 +7,7 @@ use Rattle.mc_theory.specs.Readings.{Reading}
 use Rattle.mc_shared.specs.Views.{Note}
 use Rattle.mc_shared.specs.RecencyTrace.{Trace, trace_swept, trace_marked, trace_after, trace_from, is_mark_of, marks_in, Coherent, total}
 
+-- the trace after one more act is that act on the trace before it
 pub trace-push : (i : ℕ) (t : Trace) (ms : List Made) (ns : List Note) (m : Made) (n : Note) → length ns ≡ length ms → trace_from i t (ms ++ m ∷ []) (ns ++ n ∷ []) ≡ trace_after i (trace_from i t ms ns) m.act m.bit n.marks
 trace-push i t [] [] m n e = refl
 trace-push i t [] (y ∷ ys) m n e = absurd (omega arith)
@@ -45,15 +46,18 @@ swept_is_told t marks n bit told c d =
     let all : n ≡ marks = omega arith in
     (omega (arith, all), all)
 
+-- one more entry is one more mark where it marks the item
 pub marks_in-push : (i : ℕ) (r : Reading) (done : List Reading) → marks_in i (done ++ r ∷ []) ≡ marks_in i done + is_mark_of i r.access
 marks_in-push i r [] = omega arith
 marks_in-push i r (x ∷ xs) = let e = marks_in-push i r xs in omega arith
 
+-- a total changes by as much as the one element that is replaced
 pub total_set : {V : Type 0} (f : V → ℕ) (vs : List V) (i : ℕ) (v w : V) → get_elem? vs i ≡ some v → total f (set vs i w) + f v ≡ total f vs + f w
 total_set f [] i v w e = absurd (some-ne-none v (sym e))
 total_set f (x ∷ xs) zero v w e = let s : f x ≡ f v = ap f (some-injective _ _ e) in omega arith
 total_set f (x ∷ xs) (suc i) v w e = let r = total_set f xs i v w e in omega arith
 
+-- and grows by the element that is added
 pub total_push : {V : Type 0} (f : V → ℕ) (vs : List V) (w : V) → total f (vs ++ w ∷ []) ≡ total f vs + f w
 total_push f [] w = omega arith
 total_push f (x ∷ xs) w = let r = total_push f xs w in omega arith

@@ -45,6 +45,7 @@ use Rattle.mc_shared.proofs.ReaderRecords.{front_self, front_none, front_push, f
 use Rattle.mc_shared.proofs.ExactSteps.{stands_here, exact_none, exact_act, exact_entry, note_at, Counted, counted}
 use Rattle.mc_shared.proofs.RecencySteps.{StepBits, StepPast, spared_past, hand_bits, touch_bits, sum_here}
 
+-- all views fit where the one that is replaced does and the others did
 pub fits_set : (l : Layout) (log : List Made) (sums : Tally) (at id : ℕ) (views : List View) (w : View) → ((j : ℕ) (u : View) → j ≢ id → get_elem? views j ≡ some u → Fits l log sums at j u) → Fits l log sums at id w → AllFit l log sums at (set views id w)
 fits_set l log sums at id views w others mine j u e =
     ⊎_elim
@@ -80,6 +81,7 @@ got_below [] i x e = absurd (some-ne-none x (sym e))
 got_below (y ∷ ys) zero x e = omega arith
 got_below (y ∷ ys) (suc i) x e = let h = got_below ys i x e in omega arith
 
+-- the writer stays on its seat when a view is replaced by one that still writes
 writer_set : (at id : ℕ) (views : List View) (v w : View) → get_elem? views id ≡ some v → (IsWriters v.role → IsWriters w.role) → HasWriter at views → HasWriter at (set views id w)
 writer_set at id views v w here still h = dite (ℕ_discrete at id)
     (λ same. (
@@ -89,6 +91,7 @@ writer_set at id views v w here still h = dite (ℕ_discrete at id)
     ))
     (λ ne. (h.0, set_else views id at w ne ∙ h.1, h.2))
 
+-- and when a seat is added
 writer_push : (at : ℕ) (views : List View) (w : View) → HasWriter at views → HasWriter at (views ++ w ∷ [])
 writer_push at views w h = (h.0, at_longer views (w ∷ []) at h.0 h.1, h.2)
 
@@ -97,6 +100,7 @@ opening_zero : (V : ℕ) (sh : Shape) (n : ℕ) → get_or (states.opening V sh)
 unfolding states.opening
 opening_zero V sh n = zeros (word_count V sh) n
 
+-- words that are all 0, with the writer's seat alone, obey the rule
 pub begins : (l : Layout) (ws : List ℕ) → ws ≡ replicate (all_words l.width l.shape) 0 → Ruled l (opening ws [] (new_writer_view l))
 begins l ws is = record {
   log = [];

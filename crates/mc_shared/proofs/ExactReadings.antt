@@ -61,6 +61,7 @@ knows_all l own log all at seat (Writes acts tally) w f = (f.2, f.3)
 knows_all l own log all at seat (Reads number front done) w f = absurd w
 knows_all l own log all at seat (Both acts tally number front done) w f = (f.2, f.3)
 
+-- a reader counts for 1 at its own number
 hit : (a : ℕ) → ◌≡◌ {A = ℕ} (if eqb a a then 1 else 0) 1
 hit a = ap (λ (b : Bool). if◌then◌else◌ {A = ℕ} b 1 0) (eq-eqb a a refl)
 
@@ -166,6 +167,7 @@ reads_are_entries l s seat slots place number old done held a st allows rule fit
       step = ap (λ (w : View). set s.views seat w) (is ∙ ap (λ (z : List Reading). reader_view l number (front_of next.0) z) adds);
     }
 
+-- a reading, which is no mark, stands at just the acts that were made
 pub load_stands : (a : Access) (front made : ℕ) → IsReading a → StandsAt a front made → front ≡ made
 load_stands (access.Version t) front made is h = h
 load_stands (access.Slot p) front made is h = h

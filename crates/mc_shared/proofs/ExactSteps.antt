@@ -20,10 +20,12 @@ pub rise_end : (a f : ℕ) (ts : List Note) (g : ℕ) → StepsRise a f ts g →
 rise_end a f [] g r = r
 rise_end a f (t ∷ ts) g r = let h = rise_end a (steps_by a t) ts g r.1 in omega (arith, r.0, h)
 
+-- notes that end by g end by any later number
 pub rise_later : (a f : ℕ) (ts : List Note) (g h : ℕ) → g ≤ h → StepsRise a f ts g → StepsRise a f ts h
 rise_later a f [] g h le r = omega (arith, le, r)
 rise_later a f (t ∷ ts) g h le r = (r.0, rise_later a (steps_by a t) ts g h le r.1)
 
+-- one more note may follow that tells as many entries as there are
 pub rise_push : (a f : ℕ) (ts : List Note) (t : Note) (g : ℕ) → steps_by a t ≡ g → StepsRise a f ts g → StepsRise a f (ts ++ t ∷ []) g
 rise_push a f [] t g e r = (omega (arith, e, r), omega (arith, e))
 rise_push a f (x ∷ xs) t g e r = (r.0, rise_push a (steps_by a x) xs t g e r.1)
@@ -36,10 +38,12 @@ made_all a f (t ∷ ts) g n le r =
     let h = made_all a (steps_by a t) ts g n le r.1 in
     omega (arith, top, h, le)
 
+-- one more act counts where its note is at most n
 pub made_push : (a n : ℕ) (ts : List Note) (t : Note) → made_by a n (ts ++ t ∷ []) ≡ made_by a n ts + (1 - (steps_by a t - n))
 made_push a n [] t = omega arith
 made_push a n (x ∷ xs) t = let h = made_push a n xs t in omega (arith, h)
 
+-- an entry may stand at the front of all acts that were made
 pub stands_here : (x : Access) (front made : ℕ) → front ≡ made → StandsAt x front made
 stands_here (access.Version t) front made e = e
 stands_here (access.Slot p) front made e = e
@@ -56,10 +60,12 @@ stand_act a n ts t (r ∷ rs) le s =
     let same : made_by a n ts ≡ made_by a n (ts ++ t ∷ []) = omega (arith, made_push a n ts t, le) in
     (subst (StandsAt r.access r.front) same s.0, stand_act a (suc n) ts t rs (omega (arith, le)) s.1)
 
+-- one more entry stands where the acts that were made by then put it
 stand_push : (a n : ℕ) (ts : List Note) (rs : List Reading) (r : Reading) → StandsAt r.access r.front (made_by a (n + length rs) ts) → StandAt a ts n rs → StandAt a ts n (rs ++ r ∷ [])
 stand_push a n ts [] r h s = (subst (λ (k : ℕ). StandsAt r.access r.front (made_by a k ts)) (omega arith) h, tt)
 stand_push a n ts (x ∷ xs) r h s = (s.0, stand_push a (suc n) ts xs r (subst (λ (k : ℕ). StandsAt r.access r.front (made_by a k ts)) (omega arith) h) s.1)
 
+-- with no acts and no entries all stand
 pub exact_none : (a : ℕ) → IsExact a [] []
 exact_none a = record { rise = omega arith; fronts = tt }
 
@@ -99,11 +105,13 @@ steps_from a (suc k) views = steps_in a views ∷ steps_from (suc a) k views
 abbrev pub note_at : Act → ℕ → List View → Note
 note_at a readers views = record { marks = sum_at a views; steps = steps_from 0 readers views }
 
+-- the list of the readers' entries has those of each at its number
 steps_here : (a k j : ℕ) (views : List View) → j < k → get_or (steps_from a k views) j 0 ≡ steps_in (a + j) views
 steps_here a zero j views below = absurd (omega arith)
 steps_here a (suc k) zero views below = ap (λ (b : ℕ). steps_in b views) (omega arith)
 steps_here a (suc k) (suc j) views below = steps_here (suc a) k j views (omega arith) ∙ ap (λ (b : ℕ). steps_in b views) (omega arith)
 
+-- a reader on no seat has no entries
 steps_none : (a : ℕ) (views : List View) → seats_of a views ≡ 0 → steps_in a views ≡ 0
 steps_none a [] e = refl
 steps_none a (x ∷ xs) e =
@@ -112,11 +120,13 @@ steps_none a (x ∷ xs) e =
     let p : seated_in a x.role * length (done_of x) ≡ 0 * length (done_of x) = ap (λ (z : ℕ). z * length (done_of x)) none in
     omega (arith, h, p)
 
+-- a seat counts for no more than all seats do
 pub seat_counts : (a : ℕ) (views : List View) (j : ℕ) (v : View) → get_elem? views j ≡ some v → seated_in a v.role ≤ seats_of a views
 seat_counts a [] j v e = absurd (some-ne-none v (sym e))
 seat_counts a (x ∷ xs) zero v e = let s : seated_in a x.role ≡ seated_in a v.role = ap (λ (u : View). seated_in a u.role) (some-injective _ _ e) in omega (arith, s)
 seat_counts a (x ∷ xs) (suc j) v e = let h = seat_counts a xs j v e in omega (arith, h)
 
+-- a reader on one seat has just the entries of that seat
 steps_one : (a : ℕ) (views : List View) (j : ℕ) (v : View) → get_elem? views j ≡ some v → seats_of a views ≤ 1 → seated_in a v.role ≡ 1 → steps_in a views ≡ length (done_of v)
 steps_one a [] j v e one here = absurd (some-ne-none v (sym e))
 steps_one a (x ∷ xs) zero v e one here =

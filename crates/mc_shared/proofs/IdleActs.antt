@@ -11,15 +11,18 @@ use Rattle.mc_shared.proofs.ExactSteps.{rise_end}
 use Rattle.mc_shared.proofs.ExactReadings.{load_stands}
 use Rattle.mc_shared.proofs.OrderedLookups.{stand_drop}
 
+-- the acts that were made by then, of two lists one after the other, are those of each
 made_parts : (a n : ℕ) (xs ys : List Note) → made_by a n (xs ++ ys) ≡ made_by a n xs + made_by a n ys
 made_parts a n [] ys = omega arith
 made_parts a n (x ∷ xs) ys = let h = made_parts a n xs ys in omega (arith, h)
 
+-- where none was made by then, each has a later note
 made_later : (a n : ℕ) (ts : List Note) (k : ℕ) (t : Note) → made_by a n ts ≡ 0 → get_elem? ts k ≡ some t → n < steps_by a t
 made_later a n [] k t none e = absurd (some-ne-none t (sym e))
 made_later a n (x ∷ xs) zero t none e = let same : steps_by a x ≡ steps_by a t = ap (steps_by a) (some-injective _ _ e) in omega (arith, same, none)
 made_later a n (x ∷ xs) (suc k) t none e = made_later a n xs k t (omega (arith, none)) e
 
+-- no note is later than the end of a list that rises
 rise_at : (a f : ℕ) (xs ts : List Note) (g k : ℕ) (t : Note) → StepsRise a f (xs ++ ts) g → get_elem? ts k ≡ some t → steps_by a t ≤ g
 rise_at a f [] [] g k t r e = absurd (some-ne-none t (sym e))
 rise_at a f [] (y ∷ ys) g zero t r e = let same : steps_by a y ≡ steps_by a t = ap (steps_by a) (some-injective _ _ e) in omega (arith, same, rise_end a (steps_by a y) ys g r.1)

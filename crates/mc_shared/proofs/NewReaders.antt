@@ -4,6 +4,7 @@ use Rattle.std.specs.Prelude.{All}
 use Rattle.std.proofs.lemmas.List.Elements.{All-push}
 use Rattle.mc_shared.specs.Records.{Opening, ReaderRecord, IsNewReader, reader_record, new_readers}
 
+-- each reader is new when the table is opened
 none_done : (o : Opening) (n : ℕ) → All (IsNewReader o) (new_readers o n)
 none_done o zero = λ i d below. absurd (omega arith)
 none_done o (suc n) = All-push (IsNewReader o) (new_readers o n) (reader_record o n [] []) (none_done o n) (record { of = refl; front = refl; done = refl })

@@ -31,6 +31,7 @@ made_most : (a n : ℕ) (ts : List Note) → made_by a n ts ≤ length ts
 made_most a n [] = omega arith
 made_most a n (t ∷ ts) = let h = made_most a n ts in omega (arith, h)
 
+-- of notes that are all later than n, no act was made by n
 made_none : (a n f : ℕ) (ts : List Note) (g : ℕ) → n < f → StepsRise a f ts g → made_by a n ts ≡ 0
 made_none a n f [] g l r = omega arith
 made_none a n f (t ∷ ts) g l r = let h = made_none a n (steps_by a t) ts g (omega (arith, l, r.0)) r.1 in omega (arith, h, l, r.0)
@@ -59,10 +60,12 @@ stands_by (access.Stamp k) front made h = omega (arith, h)
 stands_by access.Moment front made h = omega (arith, h)
 stands_by (access.Mark k) front made h = h
 
+-- entries after the first ones stand as they did
 pub stand_drop : (a n : ℕ) (ts : List Note) (xs ys : List Reading) → StandAt a ts n (xs ++ ys) → StandAt a ts (n + length xs) ys
 stand_drop a n ts [] ys s = subst (λ (k : ℕ). StandAt a ts k ys) (omega arith) s
 stand_drop a n ts (x ∷ xs) ys s = subst (λ (k : ℕ). StandAt a ts k ys) (omega arith) (stand_drop a (suc n) ts xs ys s.1)
 
+-- and so do the first ones
 stand_take : (a n : ℕ) (ts : List Note) (xs ys : List Reading) → StandAt a ts n (xs ++ ys) → StandAt a ts n xs
 stand_take a n ts [] ys s = tt
 stand_take a n ts (x ∷ xs) ys s = (s.0, stand_take a (suc n) ts xs ys s.1)
@@ -78,6 +81,7 @@ ends_by a n ts f g (x ∷ xs) le r s =
 abbrev pub Begins : (V : ℕ) → Shape → ℕ → List Reading → Reply V → Type 0
 Begins V sh k rs reply = ((rs ≡ []) × (reply ≡ Busy)) ⊎ ((r : Reading) × (rest : List Reading) × (rs ≡ r ∷ rest) × (r.access ≡ access.Version (stripe_of sh k)))
 
+-- that is how a lookup begins
 begins : (V : ℕ) (sh : Shape) (k t : ℕ) (rs : List Reading) (reply : Reply V) → IsLookup V sh k t rs reply → Begins V sh k rs reply
 begins V sh k zero rs reply h = inl h
 begins V sh k (suc t) rs reply h = ⊎_elim

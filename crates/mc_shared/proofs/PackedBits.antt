@@ -14,10 +14,12 @@ use Rattle.mc_words.specs.declared.shape.Shape.{Shape}
 use Rattle.mc_shared.specs.declared.layout.Layout.{Layout}
 use Rattle.mc_shared.specs.TableRule.{bit_in}
 
+-- a recency bit lies within its word
 pub bit_low : (i : ℕ) → recency_bit i < 64
 unfolding recency_bit
 bit_low i = omega arith
 
+-- the recency word of an item lies within the table
 pub recency_below : (V : ℕ) (sh : Shape) (i : ℕ) → i < sh.items → recency_place V sh i < all_words V sh
 unfolding recency_word recency_words
 recency_below V sh i l = omega arith
@@ -36,15 +38,19 @@ Spares b f = (w c : ℕ) → c < 64 → c ≢ b → bit_at (f w) c ≡ bit_at w 
 pub shifted : (b : ℕ) → b < 64 → 1 * 2 ^ b % 2 ^ 64 ≡ 2 ^ b
 shifted b l = mod-eq_of_lt (omega (arith, pow-lt l)) ∙ omega arith
 
+-- the `or` sets this bit
 pub or_here : (b w : ℕ) → b < 64 → bit_at (bit_or w (2 ^ b)) b ≡ 1
 or_here b w l = subst (λ (m : ℕ). bit_at (bit_or w m) b ≡ 1) (shifted b l) (bit_at_set_same w64 w b l)
 
+-- and no other
 pub or_spares : (b : ℕ) → b < 64 → Spares b (λ w. bit_or w (2 ^ b))
 or_spares b l w c _ ne = subst (λ (m : ℕ). bit_at (bit_or w m) c ≡ bit_at w c) (shifted b l) (bit_at_set_other w64 w b l c ne)
 
+-- the `and` clears this bit
 pub and_here : (b w : ℕ) → b < 64 → bit_at (bit_and w (2 ^ 64 - 1 - 2 ^ b)) b ≡ 0
 and_here b w l = subst (λ (m : ℕ). bit_at (bit_and w (2 ^ 64 - 1 - m)) b ≡ 0) (shifted b l) (bit_at_clear_same w64 w b l)
 
+-- and no other
 pub and_spares : (b : ℕ) → b < 64 → Spares b (λ w. bit_and w (2 ^ 64 - 1 - 2 ^ b))
 and_spares b l w c below ne = subst (λ (m : ℕ). bit_at (bit_and w (2 ^ 64 - 1 - m)) c ≡ bit_at w c) (shifted b l) (bit_at_clear_other w64 w b l c below ne)
 

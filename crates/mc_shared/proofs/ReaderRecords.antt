@@ -32,17 +32,20 @@ front_length xs ys p = omega (arith, ap length p.1 ∙ length-append xs p.0)
 pub record_none : (l : Layout) (front : List Made) → IsRecord l front []
 record_none l front = record { read = tt; rise = omega arith }
 
+-- a record stays one when more acts are made
 pub record_longer : (l : Layout) (front longer : List Made) (done : List Reading) → IsFrontOf front longer → IsRecord l front done → IsRecord l longer done
 record_longer l front longer done p r = record {
   read = subst (λ (acts : List Made). AreRead l.width l.shape acts done) (sym p.1) (readings_stay l.width l.shape front p.0 done 0 r.rise r.read);
   rise = (readings_grow l.width).later 0 (length front) (length longer) done r.rise (front_length front longer p);
 }
 
+-- it may go on with what is read from the front that the reader is at
 pub record_read : (l : Layout) (front : List Made) (done : List Reading) (a : Access) (word : ℕ) → IsRecord l front done → IsWordOf l.width l.shape (layout_state l front).words a word → IsRecord l front (done ++ reading a word front ∷ [])
 record_read l front done a word r is = record {
   read = (readings_grow l.width).read l.shape front done (reading a word front) r.read (subst (λ (s : State l.width). IsWordOf l.width l.shape s.words a word) (sym (front_all l.width l.shape front (length front) (omega arith))) is, tt);
   rise = (readings_grow l.width).more 0 (length front) done (reading a word front) r.rise (omega arith);
 }
 
+-- and with a mark
 pub record_mark : (l : Layout) (front : List Made) (done : List Reading) (i : ℕ) → IsRecord l front done → IsRecord l front (done ++ mark_at i front ∷ [])
 record_mark l front done i r = record_read l front done (access.Mark i) 0 r tt

@@ -37,9 +37,11 @@ low_bits : (l : Layout) (a : Act) (n x : ℕ) (g : ℕ → ℕ) → ((t : Trace)
 low_bits l a n x g quiet low t words long k many c =
     subst (λ (y : Trace × ℕ). Coherent y.0 many y.1) (λ i. (sym (quiet t k (bit_of a (g (get_or words n 0))) many) i, sym (bit_elsewhere l words n x k (λ e. omega (arith, e))) i)) c
 
+-- nor does it change a bit past the last item
 low_past : (l : Layout) (n x : ℕ) → n < word_count l.width l.shape → StepPast l n (λ _. x)
 low_past l n x low words long k past = bit_elsewhere l words n x k (λ e. omega (arith, e))
 
+-- an act off the recency bits keeps what each item's bit tells
 pub store_bits : (l : Layout) (acts : List Made) (a : Act) (n x : ℕ) (g : ℕ → ℕ) → IsOffBits a → MayMake l acts a → WritesAt l acts a n x → StepBits l a n (λ _. x) g
 store_bits l acts (Open key d) n x g st may w = low_bits l (Open key d) n x g (λ t k bit many. refl) (write_low l acts (Open key d) n x may w)
 store_bits l acts (Slot p y) n x g st may w = low_bits l (Slot p y) n x g (λ t k bit many. refl) (write_low l acts (Slot p y) n x may w)
@@ -49,6 +51,7 @@ store_bits l acts Close n x g st may w = low_bits l Close n x g (λ t k bit many
 store_bits l acts (Hand i) n x g st may w = absurd st
 store_bits l acts (Mark i) n x g st may w = absurd st
 
+-- past the last item too
 pub store_past : (l : Layout) (acts : List Made) (a : Act) (n x : ℕ) → IsOffBits a → MayMake l acts a → WritesAt l acts a n x → StepPast l n (λ _. x)
 store_past l acts (Open key d) n x st may w = low_past l n x (write_low l acts (Open key d) n x may w)
 store_past l acts (Slot p y) n x st may w = low_past l n x (write_low l acts (Slot p y) n x may w)

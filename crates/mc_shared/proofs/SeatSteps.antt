@@ -41,6 +41,7 @@ stored_bit (Mark i) x is = absurd is
 abbrev pub Noted : Act → SeatView → ℕ → SeatView → Type 0
 Noted a me x me' = (note : Note) × (me' ≡ (writer_view me.0.layout (acts_of me.0 ++ with_bit a (bit_of a x) ∷ []) (with_note (tally_of me.0) note), me.1))
 
+-- an act that is noted adds one note
 pub note_of : (a : Act) (me me' : SeatView) (x : ℕ) → Noted a me x me' → AddsNote me me'
 note_of a me me' x e = (e.0, ap (λ (m : SeatView). (tally_of m.0).notes) e.1)
 
@@ -54,6 +55,7 @@ put_is l me me' a b x same st is e =
     let bit : bit_of a x ≡ 0 = ap (λ (c : Act). bit_of c x) same ∙ stored_bit b x st in
     noted l me me' a x e ∙ λ i. (writer_view (ap (λ (m : SeatView). m.0.layout) is i) (acts_of me.0 ++ with_bit (same i) (bit i) ∷ []) (tally_of me'.0), ap (λ (m : SeatView). m.1) is i)
 
+-- a turn of the hand leaves the act with the bit that it read
 pub take_is : (l : Layout) (me me' : SeatView) (a : Act) (i x y : ℕ) → a ≡ Hand i → y ≡ bit_of (Hand i) x → me ≡ (writer_view l (acts_of me.0) (tally_of me.0), []) → Noted a me x me' → me' ≡ (writer_view l (acts_of me.0 ++ with_bit (Hand i) y ∷ []) (tally_of me'.0), [])
 take_is l me me' a i x y same bit is e =
     let found : bit_of a x ≡ y = ap (λ (b : Act). bit_of b x) same ∙ sym bit in
@@ -70,6 +72,7 @@ version_is : (w : List ℕ) (s n x : ℕ) → n ≡ version_place s → x ≡ sl
 unfolding version
 version_is w s n x here is = is ∙ ap (λ (z : ℕ). slice_index w z) here
 
+-- so opening or closing writes the word after it there
 version_at : (sh : Shape) (w : List ℕ) (s n x : ℕ) → n ≡ version_place s → x ≡ slice_index w n → ◌≡◌ {A = Option (ℕ × ℕ)} (Some (version_place s, version w s + 1)) (Some (n, x + 1))
 version_at sh w s n x here is = let e = version_is w s n x here is in λ i. Some (sym here i, sym e i + 1)
 

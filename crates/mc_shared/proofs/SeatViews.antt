@@ -31,6 +31,7 @@ marked_as l views views' v v' i mine is layout now' is' =
     let r : IsRecord l (front_of v) (done_of v) = subst (λ (z : Layout). IsRecord z (front_of v) (done_of v)) layout h.recorded in
     subst IsReader (sym is') (subst (λ (x : View). IsReader (x ∷ [])) (sym now') (record { seat = refl; lawful = lawful; recorded = record_mark l (front_of v) (done_of v) i r }))
 
+-- the element that is found at a place is the one that the index gives
 pub index_at : (xs : List ℕ) (i x : ℕ) → get_elem? xs i ≡ some x → x ≡ get_or xs i 0
 index_at [] i x e = absurd (some-ne-none x (sym e))
 index_at (y ∷ ys) zero x e = sym (some-injective _ _ e)
@@ -48,5 +49,6 @@ all_of l = all_words l.width l.shape
 pub read_seat : (l : Layout) (me me' : SeatView) → me ≡ (reader_view l (number_of me.0) (front_of me.0) (done_of me.0), []) → me' ≡ (reader_view me.0.layout (number_of me.0) (front_of me'.0) (done_of me'.0), me.1) → me' ≡ (reader_view l (number_of me.0) (front_of me'.0) (done_of me'.0), [])
 read_seat l me me' is e = e ∙ (λ i. (reader_view (ap (λ (m : SeatView). m.0.layout) is i) (number_of me.0) (front_of me'.0) (done_of me'.0), ap (λ (m : SeatView). m.1) is i))
 
+-- an entry may be told with an equal access, of the view as the seat has it
 pub read_one : (l : Layout) (me me' : SeatView) (a b : Access) (x : ℕ) → a ≡ b → me ≡ (reader_view l (number_of me.0) (front_of me.0) (done_of me.0), []) → ReadsOne me.0.layout (front_of me.0) (done_of me.0) a x (front_of me'.0) (done_of me'.0) → ReadsOne l (front_of me.0) (done_of me.0) b x (front_of me'.0) (done_of me'.0)
 read_one l me me' a b x same is r = subst (λ (y : Layout × Access). ReadsOne y.0 (front_of me.0) (done_of me.0) y.1 x (front_of me'.0) (done_of me'.0)) (λ i. (ap (λ (m : SeatView). m.0.layout) is i, same i)) r

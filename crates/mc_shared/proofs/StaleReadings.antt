@@ -39,10 +39,12 @@ no_slots (chain a b) v =
     let y = no_slots b (subst (λ (z : List (Option (Unit {0})) × List (ℕ × Unit {0})). Valid z.0 z.1 b) (λ i. (x.0 i, x.1 i)) v.1) in
     ((λ i. homes_after (x.0 i) (x.1 i) b) ∙ y.0, (λ i. carried_after (x.1 i) b) ∙ y.1)
 
+-- an item may be marked in a new table
 marks_first : (V : ℕ) (sh : Shape) → 0 < sh.items → IsAllowed sh (states.opening V sh) (Mark 0)
 unfolding states.opening
 marks_first V sh some' = some'
 
+-- and a new table has room for version steps
 few_first : (V : ℕ) (sh : Shape) → (states.opening V sh).version_steps ≤ 2 ^ 62
 unfolding states.opening
 few_first V sh = omega arith

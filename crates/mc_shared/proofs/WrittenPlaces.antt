@@ -29,6 +29,7 @@ Lies l acts a n x =
     ((n < word_count l.width l.shape) × (x < 2 ^ 64) × (write_of l.width l.shape (layout_state l acts).words (layout_state l acts).phase a ≡ Some (n, x)))
     ⊎ ((word_count l.width l.shape ≤ n) × (n < all_words l.width l.shape) × (write_of l.width l.shape (layout_state l acts).words (layout_state l acts).phase a ≡ None))
 
+-- the word that write_of names is before the recency words
 pub write_low : (l : Layout) (acts : List Made) (a : Act) (n x : ℕ) → MayMake l acts a → write_of l.width l.shape (layout_state l acts).words (layout_state l acts).phase a ≡ Some (n, x) → n < word_count l.width l.shape
 write_low l acts a n x may e =
     let both = writes_its_word l.width l.shape acts (with_bit a 0) may.shape may.lawful may.allowed may.few in
@@ -43,6 +44,7 @@ write_small l acts a n x may e =
     let fits : FitsIn (layout_state l acts).words (Some (n, x)) = subst (FitsIn (layout_state l acts).words) e both.1 in
     fits.1
 
+-- so it lies in the first part of the table
 lies_before : (l : Layout) (acts : List Made) (a : Act) (n x : ℕ) → MayMake l acts a → write_of l.width l.shape (layout_state l acts).words (layout_state l acts).phase a ≡ Some (n, x) → Lies l acts a n x
 lies_before l acts a n x may e =
     let both = writes_its_word l.width l.shape acts (with_bit a 0) may.shape may.lawful may.allowed may.few in
@@ -50,6 +52,7 @@ lies_before l acts a n x may e =
     let long = state_length l.width l.shape acts in
     inl (omega arith, fits.1, e)
 
+-- each allowed act writes in one of the two parts
 pub lies : (l : Layout) (acts : List Made) (a : Act) (n x : ℕ) → MayMake l acts a → WritesAt l acts a n x → Lies l acts a n x
 lies l acts (Open k d) n x may w = lies_before l acts (Open k d) n x may w
 lies l acts (Slot p y) n x may w = lies_before l acts (Slot p y) n x may w
@@ -59,6 +62,7 @@ lies l acts Close n x may w = lies_before l acts Close n x may w
 lies l acts (Hand i) n x may w = let below = recency_below l.width l.shape i (act_names_in l acts (Hand i) may) in inr (omega (arith, w.0), omega (arith, w.0, below), refl)
 lies l acts (Mark i) n x may w = let below = recency_below l.width l.shape i (act_names_in l acts (Mark i) may) in inr (omega (arith, w.0), omega (arith, w.0, below), refl)
 
+-- and so within the table
 pub place_below : (l : Layout) (acts : List Made) (a : Act) (n x : ℕ) → MayMake l acts a → WritesAt l acts a n x → n < all_words l.width l.shape
 place_below l acts a n x may w = ⊎_elim (λ b. omega (arith, b.0)) (λ b. b.1) (lies l acts a n x may w)
 

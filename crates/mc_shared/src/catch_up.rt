@@ -23,7 +23,12 @@ fn catch_on_seats(
     requires writes { seat.old.me ≡ (writer_view ruled.now.layout (acts_of seat.old.me.0) (tally_of seat.old.me.0), []) }
     requires reads { other.me ≡ (reader_view ruled.now.layout (number_of other.me.0) (front_of other.me.0) (done_of other.me.0), []) }
     ensures writes { (seat.new.table_id ≡ seat.old.table_id) × (seat.new.id ≡ seat.old.id) × (seat.new.me ≡ seat.old.me) }
-    ensures reads { (result.1.table_id ≡ other.table_id) × (result.1.me ≡ (reader_view ruled.now.layout (number_of other.me.0) (acts_of seat.old.me.0) (done_of other.me.0), [])) }
+    ensures reads { (result.1.table_id ≡ other.table_id) ×
+        (result.1.me ≡ (
+          reader_view ruled.now.layout (number_of other.me.0) (acts_of seat.old.me.0)
+              (done_of other.me.0),
+          [],
+        )) }
     ensures begins { IsFrontOf (front_of other.me.0) (acts_of seat.old.me.0) }
     ensures recorded { IsRecord ruled.now.layout (acts_of seat.old.me.0) (done_of other.me.0) }
     ensures order { InOneOrder (acts_of seat.old.me.0) (tally_of seat.old.me.0).notes (number_of other.me.0) (done_of other.me.0) }

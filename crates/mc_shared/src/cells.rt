@@ -87,7 +87,8 @@ pub fn open<const V: usize>(
 pub fn close<const V: usize>(cells: Cells<V>, writer: WriterSeat, readers: Vec<ReaderSeat>) -> Words
     requires { writer.of ≡ cells }
     ensures length { length result ≡ all_words V cells.entry.layout.shape }
-    ensures words { (n : ℕ) → n < word_count V cells.entry.layout.shape → slice_index result n ≡ slice_index (state_of V cells.entry.layout.shape writer.acts).words n }
+    ensures words { (n : ℕ) → n < word_count V cells.entry.layout.shape →
+        slice_index result n ≡ slice_index (state_of V cells.entry.layout.shape writer.acts).words n }
 {
     let Cells { ruled, checked: _ } = cells;
     close_words(ruled, writer, readers)

@@ -19,7 +19,8 @@ use std::alloc::{AllocError, Global};
 fn seat_reader(ruled: &RuledWords, seat: &mut Seat<(), Known>) -> ReaderSeat
     requires of { opening_of seat.old.table_id seat.old.me.0.layout ≡ ruled.now }
     requires seat { seat.old.me ≡ (writer_view ruled.now.layout [] (tally_for (tally_of seat.old.me.0).readers), []) }
-    ensures seat { (seat.new.table_id ≡ seat.old.table_id) × (seat.new.id ≡ seat.old.id) × (seat.new.me ≡ (writer_view ruled.now.layout [] (tally_for ((tally_of seat.old.me.0).readers + 1)), [])) }
+    ensures seat { (seat.new.table_id ≡ seat.old.table_id) × (seat.new.id ≡ seat.old.id) ×
+        (seat.new.me ≡ (writer_view ruled.now.layout [] (tally_for ((tally_of seat.old.me.0).readers + 1)), [])) }
     ensures reader { result ≡ reader_record ruled.now (tally_of seat.old.me.0).readers [] [] }
 {
     let other = ruled.table.shared.split_seat::<NewReader>(seat);

@@ -77,7 +77,11 @@ fn mark_as_reader<J: NamesItem>(
     requires place { place ≡ recency_place ruled.now.layout.width ruled.now.layout.shape item }
     requires bit { (bit ≡ recency_bit item) × (bit < 64) }
     ensures table { (seat.new.table_id ≡ seat.old.table_id) × (seat.new.id ≡ seat.old.id) }
-    ensures one { seat.new.me ≡ (reader_view ruled.now.layout (number_of seat.old.me.0) (front_of seat.old.me.0) (done_of seat.old.me.0 ++ mark_at item (front_of seat.old.me.0) ∷ []), []) }
+    ensures one { seat.new.me ≡ (
+      reader_view ruled.now.layout (number_of seat.old.me.0) (front_of seat.old.me.0)
+          (done_of seat.old.me.0 ++ mark_at item (front_of seat.old.me.0) ∷ []),
+      [],
+    ) }
 {
     let _ = item;
     ruled
@@ -101,7 +105,11 @@ fn mark_unless_set_as_reader<J: NamesItem>(
     requires place { place ≡ recency_place ruled.now.layout.width ruled.now.layout.shape item }
     requires bit { (bit ≡ recency_bit item) × (bit < 64) }
     ensures table { (seat.new.table_id ≡ seat.old.table_id) × (seat.new.id ≡ seat.old.id) }
-    ensures one { seat.new.me ≡ (reader_view ruled.now.layout (number_of seat.old.me.0) (front_of seat.old.me.0) (done_of seat.old.me.0 ++ mark_at item (front_of seat.old.me.0) ∷ []), []) }
+    ensures one { seat.new.me ≡ (
+      reader_view ruled.now.layout (number_of seat.old.me.0) (front_of seat.old.me.0)
+          (done_of seat.old.me.0 ++ mark_at item (front_of seat.old.me.0) ∷ []),
+      [],
+    ) }
 {
     let found = ruled.table.shared.load::<MarksIfSet<J>>(seat, place);
     if (found >> bit) & 1 == 0 {

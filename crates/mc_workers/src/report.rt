@@ -46,7 +46,8 @@ impl Report {
         requires wrong { self.old.wrong + wrong < 2 ^ 64 }
         ensures lookups { self.new.lookups ≡ self.old.lookups + (tally.found + tally.absent + tally.busy) }
         ensures answers { self.new.found + self.new.absent + self.new.busy ≡ self.new.lookups }
-        ensures kinds { (self.new.found ≡ self.old.found + tally.found) × (self.new.absent ≡ self.old.absent + tally.absent) × (self.new.busy ≡ self.old.busy + tally.busy) }
+        ensures kinds { (self.new.found ≡ self.old.found + tally.found) ×
+            (self.new.absent ≡ self.old.absent + tally.absent) × (self.new.busy ≡ self.old.busy + tally.busy) }
         ensures wrong { self.new.wrong ≡ self.old.wrong + wrong }
         ensures writer { (self.new.writes ≡ self.old.writes) × (self.new.changes ≡ self.old.changes) }
     {

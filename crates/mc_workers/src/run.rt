@@ -64,7 +64,9 @@ pub(crate) fn run_all<const V: usize, R: Threads + Sync, G: Gate>(
     let (refused, ()) = join_mut(
         rt,
         &mut || -> Option<u64>
-            requires { (cache.now.layout.shape ≡ load.shape) × IsWriting V cache.now writing.now × HasWritten V load 0 writing.now × (vec_len writing.now.journal + 2 * load.writes ≤ vec_capacity writing.now.journal) }
+            requires { (cache.now.layout.shape ≡ load.shape) × IsWriting V cache.now writing.now ×
+                HasWritten V load 0 writing.now ×
+                (vec_len writing.now.journal + 2 * load.writes ≤ vec_capacity writing.now.journal) }
             ensures writing { IsWriting V cache.entry.now writing.exit.now }
             ensures written { IfNone result (HasWritten V load load.writes writing.exit.now) }
             ensures journal { vec_len writing.exit.now.journal ≤ vec_len writing.entry.now.journal + 2 * load.writes }

@@ -56,7 +56,8 @@ impl<const V: usize> Writing<V> {
         requires writing { IsWriting V cache.now self.old }
         requires room { vec_len self.old.journal + 2 ≤ vec_capacity self.old.journal }
         ensures writing { IsWriting V cache.now self.new }
-        ensures written { (load : Load) (n : ℕ) → call ≡ n + 1 → cache.now.layout.shape ≡ load.shape → HasWritten V load n self.old → HasWritten V load (n + 1) self.new }
+        ensures written { (load : Load) (n : ℕ) → call ≡ n + 1 → cache.now.layout.shape ≡ load.shape →
+            HasWritten V load n self.old → HasWritten V load (n + 1) self.new }
         ensures len { vec_len self.new.journal ≤ vec_len self.old.journal + 2 }
         ensures capacity { vec_capacity self.old.journal ≤ vec_capacity self.new.journal }
     {

@@ -24,7 +24,9 @@ impl<'a, const V: usize> Pen<'a, V> {
     ) -> Result<Replacement, PutError>
         requires over { (call : Call) × (s : State V) × (rs : List Swept) × IsSwept V books.old waiting call s rs self.old }
         ensures pen { self.new ≡ self.old }
-        ensures finished { (call : Call) (s : State V) (rs : List Swept) → IsSwept V books.old waiting.entry call s rs self.old → IsFinished V books.new waiting.entry call s rs result }
+        ensures finished { (call : Call) (s : State V) (rs : List Swept) →
+            IsSwept V books.old waiting.entry call s rs self.old →
+            IsFinished V books.new waiting.entry call s rs result }
         ensures shape { books.new.checked ≡ books.old.checked }
     {
         books.finish::<V, Pen<V>>(self, waiting)
@@ -40,7 +42,9 @@ impl<'a, const V: usize> Pen<'a, V> {
         requires over { (call : Call) × (s : State V) × (rs : List Swept) × IsSwept V books.old waiting.now call s rs self.old }
         requires near { waiting.now.path.places.items ≡ [] }
         ensures pen { self.new ≡ self.old }
-        ensures finished { (call : Call) (s : State V) (rs : List Swept) → IsSwept V books.old waiting.now call s rs self.old → IsFinishedNear V books.new waiting.now call s rs result }
+        ensures finished { (call : Call) (s : State V) (rs : List Swept) →
+            IsSwept V books.old waiting.now call s rs self.old →
+            IsFinishedNear V books.new waiting.now call s rs result }
         ensures shape { books.new.checked ≡ books.old.checked }
     {
         books.finish_near::<V, Pen<V>>(self, waiting)
@@ -52,7 +56,8 @@ impl<'a, const V: usize> Pen<'a, V> {
         requires next { next_item waiting.old.sweep ≡ Some i }
         requires turned { (call : Call) × (before : WriterRecord) × IsTurned V books.now waiting.old call before self.old }
         ensures same { IsSamePen V self.old self.new }
-        ensures turned { (call : Call) (before : WriterRecord) → IsTurned V books.now waiting.old call before self.old → IsTurned V books.now waiting.new call before self.new }
+        ensures turned { (call : Call) (before : WriterRecord) → IsTurned V books.now waiting.old call before self.old →
+            IsTurned V books.now waiting.new call before self.new }
         ensures left { waiting.new.sweep.left < waiting.old.sweep.left }
         ensures key { waiting.new.key ≡ waiting.old.key }
         ensures path { waiting.new.path ≡ waiting.old.path }
@@ -68,8 +73,10 @@ impl<'a, const V: usize> Pen<'a, V> {
         requires shape { shape_of books.now.checked ≡ self.old.cells.now.layout.shape }
         requires turned { (call : Call) × (before : WriterRecord) × IsTurned V books.now waiting.old call before self.old }
         ensures same { IsSamePen V self.old self.new }
-        ensures turned { (call : Call) (before : WriterRecord) → IsTurned V books.now waiting.old call before self.old → IsTurned V books.now waiting.new call before self.new }
-        ensures over { (call : Call) (s : State V) (rs : List Swept) → IsSweeping V books.now waiting.new call s rs → IsOver (shape_of books.now.checked).items rs }
+        ensures turned { (call : Call) (before : WriterRecord) → IsTurned V books.now waiting.old call before self.old →
+            IsTurned V books.now waiting.new call before self.new }
+        ensures over { (call : Call) (s : State V) (rs : List Swept) → IsSweeping V books.now waiting.new call s rs →
+            IsOver (shape_of books.now.checked).items rs }
         ensures key { waiting.new.key ≡ waiting.old.key }
         ensures path { waiting.new.path ≡ waiting.old.path }
         ensures value { waiting.new.value ≡ waiting.old.value }

@@ -41,7 +41,9 @@ impl Tally {
     pub(crate) fn count_reply(&mut self, reply: Reply<4>) {
         let (hit, busy, torn) = match reply {
             Reply::Found { value, .. } => {
-                let differing = (value[0] ^ value[1]) | (value[0] ^ value[2]) | (value[0] ^ value[3]);
+                let differing = (value[0] ^ value[1])
+                    | (value[0] ^ value[2])
+                    | (value[0] ^ value[3]);
                 (1, 0, u64::from(differing != 0))
             }
             Reply::Absent { .. } => (0, 0, 0),

@@ -100,7 +100,8 @@ impl Driver {
     /// Makes the act, if it is one of the table.
     #[tactic(auto, unfolding(mc_words::specs::Places::with_slot, mc_words::specs::Places::with_item))]
     fn make(&mut self, act: Act) -> bool
-        ensures made { IsTrue result → (p : Phase) → (act ≡ Close → deed_key p ≡ Some self.old.key) → self.new.words.items ≡ words_after 1 (shape_of self.old.checked) self.old.words.items p act }
+        ensures made { IsTrue result → (p : Phase) → (act ≡ Close → deed_key p ≡ Some self.old.key) →
+            self.new.words.items ≡ words_after 1 (shape_of self.old.checked) self.old.words.items p act }
         ensures key { self.new.key ≡ key_after self.old.key act }
         ensures shape { self.new.checked ≡ self.old.checked }
     {

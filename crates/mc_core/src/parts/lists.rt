@@ -20,7 +20,10 @@ impl<const V: usize> Parts<V> {
         events: &[Event],
     ) -> Result<(Vec<Done<V>>, Option<(usize, Unlawful)>), AllocError>
         requires { (seen : traces.Trace V) × StandFor {V = V} self.old seen }
-        ensures ok { IfOk result (λ run. MakesEvents {V = V} self.old self.new (events_made events.now run.1) [] run.0.items × ((seen : traces.Trace V) → StandFor {V = V} self.new seen → StopsAt {V = V} (shape_of_parts {V = V} self.new) seen events.now run.1)) }
+        ensures ok { IfOk result (λ run.
+            MakesEvents {V = V} self.old self.new (events_made events.now run.1) [] run.0.items ×
+            ((seen : traces.Trace V) → StandFor {V = V} self.new seen →
+            StopsAt {V = V} (shape_of_parts {V = V} self.new) seen events.now run.1)) }
         ensures err { OnErr result (MakesEvents {V = V} self.old self.new [] [] []) }
         ensures kept { OnErr result (view_of {V = V} self.new ≡ view_of {V = V} self.old) }
     {

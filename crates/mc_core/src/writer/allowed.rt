@@ -17,7 +17,9 @@ impl<const V: usize> Writer<V> {
     /// The item at which the key stands.
     fn item_of(&self, key: u64) -> Option<u32>
         requires { StandsWell V (shape_of_writer {V = V} self.now) (words_of_writer {V = V} self.now) key }
-        ensures { MatchOption result (IsAbsent V (shape_of_writer {V = V} self.now) (words_of_writer {V = V} self.now) key) (λ i. (q : ℕ) × Stands V (shape_of_writer {V = V} self.now) (words_of_writer {V = V} self.now) key q i) }
+        ensures { MatchOption result
+            (IsAbsent V (shape_of_writer {V = V} self.now) (words_of_writer {V = V} self.now) key)
+            (λ i. (q : ℕ) × Stands V (shape_of_writer {V = V} self.now) (words_of_writer {V = V} self.now) key q i) }
     {
         let (_, i) = self.table.find(key)?;
         Some(i)
@@ -81,7 +83,8 @@ impl<const V: usize> Writer<V> {
     /// While a fill was opened: the key of a free item.
     pub(crate) fn may_key(&self, key: u64, act: Act) -> bool
         requires { UsedWell {V = V} self.now.table }
-        ensures { IsTrue result ↔ MayFrom V (shape_of_writer {V = V} self.now) (words_of_writer {V = V} self.now) self.now.hand self.now.cleared (Filling key) act }
+        ensures { IsTrue result ↔ MayFrom V (shape_of_writer {V = V} self.now) (words_of_writer {V = V} self.now)
+            self.now.hand self.now.cleared (Filling key) act }
     {
         match act {
             Act::Item(i, j, word) => self.is_free(i) && j == 0 && word == key,
@@ -135,7 +138,8 @@ impl<const V: usize> Writer<V> {
 
     /// While a removal or an eviction was opened: the key's slot is cleared.
     pub(crate) fn may_clear(&self, key: u64, evicts: bool, act: Act) -> bool
-        ensures { IsTrue result ↔ MayFrom V (shape_of_writer {V = V} self.now) (words_of_writer {V = V} self.now) self.now.hand self.now.cleared (Removing key evicts) act }
+        ensures { IsTrue result ↔ MayFrom V (shape_of_writer {V = V} self.now) (words_of_writer {V = V} self.now)
+            self.now.hand self.now.cleared (Removing key evicts) act }
     {
         match act {
             Act::Slot(place, word) => word == 0 && self.stands(key, place),
@@ -146,7 +150,8 @@ impl<const V: usize> Writer<V> {
     /// While the key stands twice: its old slot is cleared.
     pub(crate) fn may_leave(&self, key: u64, fresh: Place, act: Act) -> bool
         requires { IsPlace (shape_of_writer {V = V} self.now) fresh }
-        ensures { IsTrue result ↔ MayFrom V (shape_of_writer {V = V} self.now) (words_of_writer {V = V} self.now) self.now.hand self.now.cleared (Moved key (slot_number fresh)) act }
+        ensures { IsTrue result ↔ MayFrom V (shape_of_writer {V = V} self.now) (words_of_writer {V = V} self.now)
+            self.now.hand self.now.cleared (Moved key (slot_number fresh)) act }
     {
         match act {
             Act::Slot(place, word) => word == 0 && place != fresh && self.stands(key, place),
@@ -158,7 +163,8 @@ impl<const V: usize> Writer<V> {
     pub(crate) fn may_renew(&self, key: u64, count: u8, act: Act) -> bool
         requires some { count ≤ payload V }
         requires well { StandsWell V (shape_of_writer {V = V} self.now) (words_of_writer {V = V} self.now) key }
-        ensures { IsTrue result ↔ MayFrom V (shape_of_writer {V = V} self.now) (words_of_writer {V = V} self.now) self.now.hand self.now.cleared (Renewing key (take count (payload_in {V = V} self.now.written))) act }
+        ensures { IsTrue result ↔ MayFrom V (shape_of_writer {V = V} self.now) (words_of_writer {V = V} self.now)
+            self.now.hand self.now.cleared (Renewing key (take count (payload_in {V = V} self.now.written))) act }
     {
         match act {
             Act::Item(i, j, word) => self.is_next_word(count, j)
@@ -204,7 +210,8 @@ impl<const V: usize> Writer<V> {
     pub(crate) fn may_fill(&self, key: u64, item: u32, count: u8, act: Act) -> bool
         requires some { count ≤ payload V }
         requires item { item < (shape_of_writer {V = V} self.now).items }
-        ensures { IsTrue result ↔ MayFrom V (shape_of_writer {V = V} self.now) (words_of_writer {V = V} self.now) self.now.hand self.now.cleared (Keyed key item (take count (payload_in {V = V} self.now.written))) act }
+        ensures { IsTrue result ↔ MayFrom V (shape_of_writer {V = V} self.now) (words_of_writer {V = V} self.now)
+            self.now.hand self.now.cleared (Keyed key item (take count (payload_in {V = V} self.now.written))) act }
     {
         match act {
             Act::Item(i, j, word) => i == item
@@ -219,7 +226,9 @@ impl<const V: usize> Writer<V> {
     /// Whether the slot is empty, in a bucket of the key, and the word names the item under the key's tag.
     fn may_place(&self, key: u64, item: u32, place: Place, word: u64) -> bool
         requires { item < (shape_of_writer {V = V} self.now).items }
-        ensures { IsTrue result ↔ (IsHole (shape_of_writer {V = V} self.now) (words_of_writer {V = V} self.now) place × IsBucketOf (shape_of_writer {V = V} self.now) key place.bucket × (word ≡ slot_word (tag_of (shape_of_writer {V = V} self.now) key) item)) }
+        ensures { IsTrue result ↔ (IsHole (shape_of_writer {V = V} self.now) (words_of_writer {V = V} self.now) place ×
+            IsBucketOf (shape_of_writer {V = V} self.now) key place.bucket ×
+            (word ≡ slot_word (tag_of (shape_of_writer {V = V} self.now) key) item)) }
     {
         let named = self
             .table
@@ -231,7 +240,8 @@ impl<const V: usize> Writer<V> {
     /// While a move was opened: the key's slot word is written in the key's other bucket.
     pub(crate) fn may_move(&self, key: u64, act: Act) -> bool
         requires { StandsWell V (shape_of_writer {V = V} self.now) (words_of_writer {V = V} self.now) key }
-        ensures { IsTrue result ↔ MayFrom V (shape_of_writer {V = V} self.now) (words_of_writer {V = V} self.now) self.now.hand self.now.cleared (Moving key) act }
+        ensures { IsTrue result ↔ MayFrom V (shape_of_writer {V = V} self.now) (words_of_writer {V = V} self.now)
+            self.now.hand self.now.cleared (Moving key) act }
     {
         match act {
             Act::Slot(place, word) => self.is_empty(place) && self.is_other(key, place, word),
@@ -242,7 +252,11 @@ impl<const V: usize> Writer<V> {
     /// Whether the place is in the other bucket of the key than the one in which it stands, and the word is the one of its slot there.
     fn is_other(&self, key: u64, place: Place, word: u64) -> bool
         requires { StandsWell V (shape_of_writer {V = V} self.now) (words_of_writer {V = V} self.now) key }
-        ensures { IsTrue result ↔ ((q : ℕ) × (i : ℕ) × Stands V (shape_of_writer {V = V} self.now) (words_of_writer {V = V} self.now) key q i × (place.bucket ≡ alternate (shape_of_writer {V = V} self.now) (q / 4) (tag_of (shape_of_writer {V = V} self.now) key)) × (word ≡ slot (shape_of_writer {V = V} self.now) (words_of_writer {V = V} self.now) q)) }
+        ensures { IsTrue result ↔ ((q : ℕ) × (i : ℕ) ×
+            Stands V (shape_of_writer {V = V} self.now) (words_of_writer {V = V} self.now) key q i ×
+            (place.bucket ≡
+            alternate (shape_of_writer {V = V} self.now) (q / 4) (tag_of (shape_of_writer {V = V} self.now) key)) ×
+            (word ≡ slot (shape_of_writer {V = V} self.now) (words_of_writer {V = V} self.now) q)) }
     {
         match self.table.find(key) {
             Some((at, _)) => self.is_across(key, at, place, word),
@@ -253,7 +267,9 @@ impl<const V: usize> Writer<V> {
     /// Whether the place is in the other bucket than the one that is left, and the word is that of the slot that is left.
     fn is_across(&self, key: u64, from: Place, place: Place, word: u64) -> bool
         requires { IsPlace (shape_of_writer {V = V} self.now) from }
-        ensures { IsTrue result ↔ ((place.bucket ≡ alternate (shape_of_writer {V = V} self.now) from.bucket (tag_of (shape_of_writer {V = V} self.now) key)) × (word ≡ slot (shape_of_writer {V = V} self.now) (words_of_writer {V = V} self.now) (slot_number from))) }
+        ensures { IsTrue result ↔ ((place.bucket ≡
+            alternate (shape_of_writer {V = V} self.now) from.bucket (tag_of (shape_of_writer {V = V} self.now) key)) ×
+            (word ≡ slot (shape_of_writer {V = V} self.now) (words_of_writer {V = V} self.now) (slot_number from))) }
     {
         let other = self
             .table

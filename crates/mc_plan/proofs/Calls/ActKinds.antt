@@ -19,6 +19,7 @@ act_counts v (Open k d) = omega arith
 act_counts v Close = omega arith
 act_counts v _ = omega arith
 
+-- no list of acts takes version steps back
 acts_count : (V : ℕ) (sh : Shape) (s : State V) (ms : List Made) → s.version_steps ≤ (after_all sh s ms).version_steps
 acts_count V sh s [] = omega arith
 acts_count V sh s (m ∷ ms) =
@@ -66,6 +67,7 @@ abbrev pub IsUnswept : Act → Type 0
 IsUnswept (Hand i) = ⊥
 IsUnswept _ = Unit {0}
 
+-- what holds of each act of two lists holds of both one after the other
 pub each_then : (P : Act → Type 0) (xs ys : List Act) → Each P xs → Each P ys → Each P (xs ++ ys)
 each_then P [] ys a b = b
 each_then P (x ∷ xs) ys a b = (a.0, each_then P xs ys a.1 b)
@@ -75,6 +77,7 @@ deed_unmarked : (a : Act) → IsOfDeed a → IsUnmarked a
 deed_unmarked (Mark i) deed = deed
 deed_unmarked _ deed = tt
 
+-- an act of a deed sweeps nothing
 deed_unswept : (a : Act) → IsOfDeed a → IsUnswept a
 deed_unswept (Hand i) deed = deed
 deed_unswept _ deed = tt
@@ -87,6 +90,7 @@ pub deeds_unswept : (acts : List Act) → AreOfDeeds acts → Each IsUnswept act
 deeds_unswept [] deeds = tt
 deeds_unswept (a ∷ acts) deeds = (deed_unswept a deeds.0, deeds_unswept acts deeds.1)
 
+-- a sweep marks nothing
 pub hands_unmarked : (rs : List Swept) → Each IsUnmarked (acts_of (hand_acts rs))
 hands_unmarked [] = tt
 hands_unmarked (r ∷ rs) = (tt, hands_unmarked rs)

@@ -100,6 +100,7 @@ record FreeAfter (V : ℕ) (b : Books) (free : FreeItems) (w : List ℕ) : Type 
   frees : (i : ℕ) → IsFreeIn free i → IsFree (shape_of b.checked) w i
   named : (i : ℕ) → i < (shape_of b.checked).items → (IsFreeIn free i → ⊥) → (q : ℕ) × NamesItem (shape_of b.checked) w q i
 
+-- books are right after a plan whose free items and version steps they took over
 books_after : (V : ℕ) (b : Books) (s t : State V) (steps : ℕ) (free : FreeItems) → AreBooksOf V b s → Ends V b s t steps → FreeAfter V b free t.words → AreBooksOf V (record b { free = free; version_steps = b.version_steps + steps }) t
 books_after V b s t steps free old ends after = record {
   width = old.width;
@@ -169,6 +170,7 @@ free_given V b s x free i old kept items gives given = record {
       given.named was.0 j (λ e. none (subst (λ (n : ℕ). IsFreeIn free n) (sym e) gives.given)) was.1;
 }
 
+-- a key that stands somewhere is removed from there
 pub removal_planned : (V : ℕ) (b : Books) (k i at : ℕ) (p : Place) (free : FreeItems) (s : State V) → IsShape (shape_of b.checked) → IsWord k → AreBooksOf V b s → p.slot < 4 → Stands V (shape_of b.checked) s.words k (slot_number p) i
     → (RemoveIsSpent (shape_of b.checked) (quiet_of s) → ⊥) → s.version_steps + 2 ≤ (shape_of b.checked).limit → at ≡ moment s.words + 1
     → IsConsistent free → free.items ≡ b.free.items → GivesBack b.free free i
@@ -214,6 +216,7 @@ free_taken V b s x free i old kept items takes taken = record {
 pub least_length : (sh : Shape) (w : List ℕ) (k : ℕ) (path : Path) → IsLeastPath sh w k path → IsLeastLength sh w k (length path.places.items)
 least_length sh w k path least = record { places = path.places.items; hole = path.hole; chain = least.chain; many = refl; least = least.least }
 
+-- an absent key is stored at the end of a least path, in a free item
 pub stored_planned : (V : ℕ) (b : Books) (k : ℕ) (v : List ℕ) (i at : ℕ) (path : Path) (free : FreeItems) (s : State V) → IsShape (shape_of b.checked) → IsWord k → IsValue V v → AreBooksOf V b s
     → IsAbsent V (shape_of b.checked) s.words k → IsLeastPath (shape_of b.checked) s.words k path → AreKeys V (shape_of b.checked) s.words path.places.items → i < (shape_of b.checked).items
     → (PutIsSpent (shape_of b.checked) (quiet_of s) → ⊥) → at ≡ moment s.words + 1
@@ -290,6 +293,7 @@ books_still V b s free old kept items none still = record {
   named = λ i l f. old.named i l (none i);
 }
 
+-- where no chain is short enough, the path is refused
 pub path_refused : (V : ℕ) (sh : Shape) (s : State V) (k : ℕ) → IsQuiet V sh s → (PutIsSpent sh (quiet_of s) → ⊥) → IsAbsent V sh s.words k → NoChain sh s.words k sh.depth → means.RefusesPath V sh (quiet_of s) (quiet_of s) k
 path_refused V sh s k quiet unspent absent none = record { unspent = unspent; absent = absent_held V sh s k quiet absent; none = none; unchanged = refl }
 
@@ -309,6 +313,7 @@ needs_item V b s k path old unspent absent least none =
       refl,
     )
 
+-- an absent key is not found, and nothing is removed
 pub nothing_found : (V : ℕ) (sh : Shape) (s : State V) (k at : ℕ) → IsQuiet V sh s → (RemoveIsSpent sh (quiet_of s) → ⊥) → IsAbsent V sh s.words k → at ≡ moment s.words → means.FindsNothing V sh (quiet_of s) (quiet_of s) k at
 nothing_found V sh s k at quiet unspent absent is =
     record { unspent = unspent; absent = absent_held V sh s k quiet absent; unchanged = refl; moment = is ∙ (agrees_quiet V sh s quiet).at_moment }
@@ -342,14 +347,17 @@ none_names : (V : ℕ) (sh : Shape) (q i : ℕ) → NamesItem sh (opening V sh).
 unfolding slot opening
 none_names V sh q i n = empty_names_none sh (opening V sh).words q i (zeros (word_count V sh) (1 + sh.stripes + q)) n
 
+-- no deed runs in an opening state
 opening_quiet : (V : ℕ) (sh : Shape) → IsQuiet V sh (opening V sh)
 unfolding opening
 opening_quiet V sh = record { quiet = refl; holds = opening_holds V sh; counted = opening_counted V sh }
 
+-- its hand is at the first item
 opening_hand : (V : ℕ) (sh : Shape) → (opening V sh).hand ≡ 0
 unfolding opening
 opening_hand V sh = refl
 
+-- and it has changed no version
 opening_changes : (V : ℕ) (sh : Shape) → (opening V sh).version_steps ≡ 0
 unfolding opening
 opening_changes V sh = refl

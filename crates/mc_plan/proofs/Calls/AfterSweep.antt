@@ -49,6 +49,7 @@ one_item_on : (V : ℕ) (sh : Shape) (w : List ℕ) (k q i p g : ℕ) (o : Optio
 one_item_on V sh w k q i p g None a one two = absurd (a q i one)
 one_item_on V sh w k q i p g (Some v) a one two = (a.2.once p g two).1 ∙ sym (a.2.once q i one).1
 
+-- while nothing runs a key stands at one item alone
 pub one_item : (V : ℕ) (sh : Shape) (s : State V) (k q i p g : ℕ) → IsQuiet V sh s → Stands V sh s.words k q i → Stands V sh s.words k p g → g ≡ i
 one_item V sh s k q i p g quiet one two = one_item_on V sh s.words k q i p g (map_value s.history k) (keys_quiet V sh s quiet k) one two
 

@@ -89,6 +89,7 @@ ends_sweep V clerk call s acts waiting rs on next parts =
       some = λ some. omega (arith, rest.4, many_acts rest.0);
     }
 
+-- a call can end from whatever stage it is at
 ends_at : (V : ℕ) (clerk : Clerk V) (call : Call) (s : State V) (acts : List Made) (st : Stage V) → clerk.stage ≡ st → IsAtStage V st clerk.books clerk.plan.items clerk.made call s acts → CanEnd V clerk call s acts
 ends_at V clerk call s acts Idle is now = absurd now
 ends_at V clerk call s acts (Sweeping waiting) is now = ends_sweep V clerk call s acts waiting now.0 now.1 now.2 now.4

@@ -39,6 +39,7 @@ allowed_after : (V : ℕ) (sh : Shape) (s : State V) (xs ys : List Made) → Are
 allowed_after V sh s [] ys may = may
 allowed_after V sh s (x ∷ xs) ys may = allowed_after V sh (after_act sh s x.act x.bit) xs ys may.1
 
+-- the acts of two lists, one after the other
 acts_then : (xs ys : List Made) → acts_of (xs ++ ys) ≡ acts_of xs ++ acts_of ys
 acts_then xs ys = map-append (λ (m : Made). m.act) xs ys
 
@@ -47,6 +48,7 @@ none_made : (ms : List Made) → acts_of ms ≡ [] → ms ≡ []
 none_made [] same = refl
 none_made (m ∷ ms) same = absurd (cc same)
 
+-- a list that is empty has no second part
 none_after : (xs ys : List Made) → xs ++ ys ≡ [] → ys ≡ []
 none_after [] ys same = same
 none_after (x ∷ xs) ys same = absurd (cc same)
@@ -164,6 +166,7 @@ removed_once V sh k s acts more at after one two =
 absent_present : (o : Option (List ℕ)) → o ≡ None → IsSome o → ⊥
 absent_present o none some = false≢true (subst (λ (p : Option (List ℕ)). IsSome p) none some)
 
+-- a least chain is not within a depth that has no chain
 chain_within : (sh : Shape) (w : List ℕ) (k depth count : ℕ) → NoChain sh w k depth → IsLeastLength sh w k count → count ≤ depth → ⊥
 chain_within sh w k depth count none least within =
     let past = none least.places least.hole least.chain in

@@ -41,6 +41,7 @@ abbrev pub AreStill : List Act → Type 0
 AreStill [] = Unit {0}
 AreStill (a ∷ acts) = IsStill a × AreStill acts
 
+-- the bit that is read tells nothing for an act that is no turn of the hand
 any_bit : {V : ℕ} (sh : Shape) (s : State V) (a : Act) (bit : ℕ) → IsStill a → after_act sh s a bit ≡ after_act sh s a 0
 any_bit sh s (Open k d) bit still = refl
 any_bit sh s (Slot p x) bit still = refl
@@ -50,16 +51,19 @@ any_bit sh s Close bit still = refl
 any_bit sh s (Mark i) bit still = refl
 any_bit sh s (Hand i) bit still = absurd still
 
+-- so such acts lead to the same state with any bits
 pub same_state : (V : ℕ) (sh : Shape) (s : State V) (acts : List Made) → AreStill (acts_of acts) → after_all sh s acts ≡ state_after_acts V sh s (acts_of acts)
 same_state V sh s [] still = refl
 same_state V sh s (m ∷ ms) still =
     ap (λ (t : State V). after_all sh t ms) (any_bit sh s m.act m.bit still.0) ∙ same_state V sh (after_act sh s m.act 0) ms still.1
 
+-- and are allowed with any bits
 pub same_allowed : (V : ℕ) (sh : Shape) (s : State V) (acts : List Made) → AreStill (acts_of acts) → AreAllowed sh s (as_made (acts_of acts)) → AreAllowed sh s acts
 same_allowed V sh s [] still may = tt
 same_allowed V sh s (m ∷ ms) still may =
     (may.0, subst (λ (t : State V). AreAllowed sh t ms) (sym (any_bit sh s m.act m.bit still.0)) (same_allowed V sh (after_act sh s m.act 0) ms still.1 may.1))
 
+-- an act of a deed is no turn of the hand
 still_deed : (a : Act) → IsOfDeed a → IsStill a
 still_deed (Open k d) o = tt
 still_deed (Slot p x) o = tt
@@ -69,14 +73,17 @@ still_deed Close o = tt
 still_deed (Mark i) o = absurd o
 still_deed (Hand i) o = absurd o
 
+-- nor is any of a list of them
 still_deeds : (acts : List Act) → AreOfDeeds acts → AreStill acts
 still_deeds [] o = tt
 still_deeds (a ∷ acts) o = (still_deed a o.0, still_deeds acts o.1)
 
+-- nor any of two such lists
 still_then : (xs ys : List Act) → AreStill xs → AreStill ys → AreStill (xs ++ ys)
 still_then [] ys a b = b
 still_then (x ∷ xs) ys a b = (a.0, still_then xs ys a.1 b)
 
+-- nor any of the first of them
 pub still_take : (n : ℕ) (acts : List Act) → AreStill acts → AreStill (take n acts)
 still_take zero acts a = tt
 still_take (suc n) [] a = tt
@@ -103,16 +110,19 @@ allowed_next V sh s [] n a l e = absurd (cc)
 allowed_next V sh s (x ∷ xs) zero a l e = let is : x ≡ a = cc in subst (λ (y : Act). IsAllowed {V = V} sh s y) is l.0
 allowed_next V sh s (x ∷ xs) (suc n) a l e = allowed_next V sh (after_act sh s x 0) xs n a l.1 e
 
+-- one more act of the plan is the one at that place
 pub take_next : (acts : List Act) (n : ℕ) (a : Act) → slice_get acts n ≡ Some a → take (suc n) acts ≡ take n acts ++ a ∷ []
 take_next [] n a e = absurd (cc)
 take_next (x ∷ xs) zero a e = let is : x ≡ a = cc in ap (λ (y : Act). y ∷ []) is
 take_next (x ∷ xs) (suc n) a e = ap (λ (ys : List Act). x ∷ ys) (take_next xs n a e)
 
+-- which lies within the plan
 pub next_below : (acts : List Act) (n : ℕ) (a : Act) → slice_get acts n ≡ Some a → n < length acts
 next_below [] n a e = absurd (cc)
 next_below (x ∷ xs) zero a e = omega arith
 next_below (x ∷ xs) (suc n) a e = let l = next_below xs n a e in omega arith
 
+-- where there is none, all were made
 pub none_left : (acts : List Act) (n : ℕ) → slice_get acts n ≡ None → take n acts ≡ acts
 none_left [] zero e = refl
 none_left [] (suc n) e = refl
@@ -124,6 +134,7 @@ none_left (x ∷ xs) (suc n) e = ap (λ (ys : List Act). x ∷ ys) (none_left xs
 tally : {V : ℕ} → State V → ℕ
 tally s = s.version_steps + close_owed s.phase
 
+-- no act takes from the tally
 tally_act : (V : ℕ) (sh : Shape) (w : List ℕ) (hand : ℕ) (cleared : Option ℕ) (p : Phase) (a : Act) (c : ℕ) → MayFrom V sh w hand cleared p a → c + close_owed p ≤ version_steps_after c a + close_owed (phase_after p a)
 tally_act V sh w hand cleared Quiet (Open k d) c may = omega arith
 tally_act V sh w hand cleared Quiet (Hand g) c may = omega arith
@@ -141,6 +152,7 @@ tally_act V sh w hand cleared (Moved k f) (Slot p x) c may = omega arith
 tally_act V sh w hand cleared (Closing k) Close c may = omega arith
 tally_act V sh w hand cleared _ _ c may = absurd may
 
+-- nor do more of them
 tally_all : (V : ℕ) (sh : Shape) (s : State V) (acts : List Act) → AreAllowed sh s (as_made acts) → tally s ≤ tally (state_after_acts V sh s acts)
 unfolding tally
 tally_all V sh s [] may = omega arith
@@ -148,6 +160,7 @@ tally_all V sh s (a ∷ acts) may =
     let one = tally_act V sh s.words s.hand s.cleared s.phase a s.version_steps may.0 in
     omega (arith, one, tally_all V sh (after_act sh s a 0) acts may.1)
 
+-- a deed that is opened owes its close
 opened_runs : (k : ℕ) (d : Deed) → close_owed (first_phase k d) ≡ 1
 opened_runs k deed.Fill = refl
 opened_runs k deed.Renew = refl
@@ -155,6 +168,7 @@ opened_runs k deed.Remove = refl
 opened_runs k deed.Evict = refl
 opened_runs k deed.Move = refl
 
+-- so an opening that is closed in the end takes two version steps
 open_closes : (V : ℕ) (sh : Shape) (s : State V) (acts : List Act) (n k : ℕ) (d : Deed) → AreAllowed sh s (as_made acts) → slice_get acts n ≡ Some (Open k d) → (state_after_acts V sh s acts).phase ≡ Quiet
     → (state_after_acts V sh s (take n acts)).version_steps + 2 ≤ (state_after_acts V sh s acts).version_steps
 unfolding tally
@@ -168,6 +182,7 @@ open_closes V sh s (x ∷ xs) zero k d may e quiet =
     omega (arith, grows, opens, counts, ends)
 open_closes V sh s (x ∷ xs) (suc n) k d may e quiet = open_closes V sh (after_act sh s x 0) xs n k d may.1 e quiet
 
+-- where the end is within the limit, each act has the version steps that it needs
 pub changes_left : (V : ℕ) (sh : Shape) (s : State V) (acts : List Act) (n : ℕ) (a : Act) (limit : ℕ) → AreAllowed sh s (as_made acts) → slice_get acts n ≡ Some a → (state_after_acts V sh s acts).phase ≡ Quiet → (state_after_acts V sh s acts).version_steps ≤ limit
     → HasVersionSteps limit (state_after_acts V sh s (take n acts)).version_steps a
 changes_left V sh s acts n (Open k d) limit may e quiet l = let c = open_closes V sh s acts n k d may e quiet in omega arith
@@ -282,6 +297,7 @@ runs_at V Idle b plan many call s acts now = absurd now
 runs_at V (Sweeping waiting) b plan many call s acts now = now.2
 runs_at V (Planned told) b plan many call s acts now = tt
 
+-- a clerk that is on a call has one
 pub on_runs : (V : ℕ) (clerk : Clerk V) (call : Call) (s : State V) (acts : List Made) → IsOn V clerk call s acts → HasCall {V = V} clerk
 unfolding HasCall
 on_runs V clerk call s acts on = runs_at V clerk.stage clerk.books clerk.plan.items clerk.made call s acts on.now

@@ -93,10 +93,12 @@ pub record HasRead (V : ℕ) (clerk : Clerk V) (waiting : Waiting V) (sweep : Sw
   pub none : clerk.made ≡ 0
   pub empty : clerk.plan.items ≡ []
 
+-- the act of a sweep is a turn of the hand to its next item
 hand_is : (o : Option ℕ) (a : Act) → hand_of o ≡ Some a → (i : ℕ) × (o ≡ Some i) × (Hand i ≡ a)
 hand_is None a e = absurd (cc)
 hand_is (Some i) a e = (i, refl, cc)
 
+-- one turn more of the hand is one reading more of the sweep
 pub one_read : (V : ℕ) (clerk : Clerk V) (call : Call) (s : State V) (acts : List Made) (waiting : Waiting V) (a : Act) (bit : ℕ) (sweep : Sweep) → IsOn V clerk call s acts → clerk.stage ≡ Sweeping waiting → next_act clerk ≡ Some a
     → ((items hand : ℕ) (rs : List Swept) (i : ℕ) → HasSwept waiting.sweep items hand rs → next_item waiting.sweep ≡ Some i → HasSwept sweep items hand (rs ++ record { item = i; bit = bit } ∷ [])) → HasRead V clerk waiting sweep call s (acts ++ record { act = a; bit = bit } ∷ [])
 unfolding next_act

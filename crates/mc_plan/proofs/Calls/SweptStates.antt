@@ -81,6 +81,7 @@ pub record CanGoOn (items hand : ℕ) (rs : List Swept) (n : ℕ) : Type 0 where
   pub none : victim_of (rs ++ more) ≡ None
   pub many : length more ≡ n
 
+-- a sweep without a victim can go on until it is whole
 goes_on : (items hand : ℕ) (rs : List Swept) (n : ℕ) → IsSweep items hand rs → victim_of rs ≡ None → length rs + n ≡ 2 * items → CanGoOn items hand rs n
 goes_on items hand rs zero sweeps none whole =
     let same = sym (append-nil rs) in
@@ -98,11 +99,13 @@ goes_on items hand rs (suc n) sweeps none whole =
       many = omega arith;
     }
 
+-- a sweep with a next item has no victim yet, and turns left
 next_left : (v : Option ℕ) (left hand : ℕ) → IsSome (next_from v left hand) → (v ≡ None) × (0 < left)
 next_left (Some j) left hand some = absurd (false≢true some)
 next_left None zero hand some = absurd (false≢true some)
 next_left None (suc left) hand some = (refl, omega arith)
 
+-- so what is left of it may read no clear bit
 pub rest_recent : (sweep : Sweep) (items hand : ℕ) (rs : List Swept) → HasSwept sweep items hand rs → IsSome (next_item sweep)
     → (more : List Swept) × IsSweep items hand (rs ++ more) × (length (rs ++ more) ≡ 2 * items) × (victim_of (rs ++ more) ≡ None) × (0 < length more)
 unfolding next_item
@@ -129,12 +132,14 @@ pub record StandsStill (V : ℕ) (s t : State V) : Type 0 where
   pub history : t.history ≡ s.history
   pub version_steps : t.version_steps ≡ s.version_steps
 
+-- a sweep changes no word, no deed, no history and no version
 pub swept_still : (V : ℕ) (sh : Shape) (s : State V) (rs : List Swept) → StandsStill V s (after_all sh s (hand_acts rs))
 swept_still V sh s [] = record { words = refl; phase = refl; history = refl; version_steps = refl }
 swept_still V sh s (r ∷ rs) =
     let rest = swept_still V sh (after_act sh s (Hand r.item) r.bit) rs in
     record { words = rest.words; phase = rest.phase; history = rest.history; version_steps = rest.version_steps }
 
+-- the hand has gone round by as many items as were read
 pub swept_hand : (V : ℕ) (sh : Shape) (s : State V) (hand : ℕ) (rs : List Swept) → s.hand ≡ hand → IsSweep sh.items hand rs → hand < sh.items → (after_all sh s (hand_acts rs)).hand ≡ (hand + length rs) % sh.items
 swept_hand V sh s hand [] at sweeps below = at ∙ sym (mod-eq_of_lt below) ∙ ap (λ (m : ℕ). m % sh.items) (omega arith)
 swept_hand V sh s hand (r ∷ rs) at sweeps below =
@@ -142,12 +147,14 @@ swept_hand V sh s hand (r ∷ rs) at sweeps below =
     swept_hand V sh (after_act sh s (Hand r.item) r.bit) ((hand + 1) % sh.items) rs (ap (λ (i : ℕ). (i + 1) % sh.items) first) (sweep_tail sh.items hand r rs sweeps) (mod-lt (hand + 1) (omega arith))
     ∙ mod-add-mod (hand + 1) sh.items (length rs) ∙ ap (λ (m : ℕ). m % sh.items) (omega arith)
 
+-- the item that is cleared after it is its victim, if it has one
 last_cleared : (V : ℕ) (sh : Shape) (s : State V) (items hand : ℕ) (r : Swept) (rs : List Swept) → IsSweep items hand (r ∷ rs) → (after_all sh s (hand_acts (r ∷ rs))).cleared ≡ victim_of (r ∷ rs)
 last_cleared V sh s items hand r [] sweeps = refl
 last_cleared V sh s items hand r (x ∷ rs) sweeps =
     last_cleared V sh (after_act sh s (Hand r.item) r.bit) items ((hand + 1) % items) x rs (sweep_tail items hand r (x ∷ rs) sweeps)
     ∙ sym (ap (λ b. cond b (Some r.item) (victim_of (x ∷ rs))) (first_set items hand r x rs sweeps))
 
+-- so the victim of a sweep is the item that is cleared after it
 pub swept_cleared : (V : ℕ) (sh : Shape) (s : State V) (items hand : ℕ) (rs : List Swept) (i : ℕ) → IsSweep items hand rs → victim_of rs ≡ Some i → (after_all sh s (hand_acts rs)).cleared ≡ Some i
 swept_cleared V sh s items hand [] i sweeps found = absurd (cc)
 swept_cleared V sh s items hand (r ∷ rs) i sweeps found = last_cleared V sh s items hand r rs sweeps ∙ found
@@ -157,6 +164,7 @@ swept_cleared V sh s items hand (r ∷ rs) i sweeps found = last_cleared V sh s 
 is_allowed : (V : ℕ) (sh : Shape) (s : State V) (i : ℕ) → s.phase ≡ Quiet → (HasFree sh s.words → ⊥) → i ≡ s.hand → IsAllowed sh s (Hand i)
 is_allowed V sh s i quiet full at = subst (λ (p : Phase). MayFrom V sh s.words s.hand s.cleared p (Hand i)) (sym quiet) (full, at)
 
+-- each turn of a sweep is allowed while nothing runs and no item is free
 are_allowed : (V : ℕ) (sh : Shape) (s : State V) (hand : ℕ) (rs : List Swept) → s.phase ≡ Quiet → (HasFree sh s.words → ⊥) → s.hand ≡ hand → IsSweep sh.items hand rs → hand < sh.items → AreAllowed sh s (hand_acts rs)
 are_allowed V sh s hand [] quiet full at sweeps below = tt
 are_allowed V sh s hand (r ∷ rs) quiet full at sweeps below =

@@ -51,6 +51,7 @@ before_slot V sh w k v at i = stamped V sh (with_item V sh (with_bump sh w k) i 
 abbrev filled : ℕ → Shape → List ℕ → ℕ → List ℕ → ℕ → ℕ → Place → List ℕ
 filled V sh w k v at i p = ended sh (with_slot sh (before_slot V sh w k v at i) (slot_number p) (slot_word (tag_of sh k) i)) k
 
+-- no slot has changed before the new one is written
 slot-before : (V : ℕ) (sh : Shape) (w : List ℕ) (k : ℕ) (v : List ℕ) (at i q : ℕ) → IsShape sh → q < 4 * sh.buckets → slot sh (before_slot V sh w k v at i) q ≡ slot sh w q
 slot-before V sh w k v at i q s l = slot-stamped V sh _ i at q v l ∙ slot-with_item V sh _ i 0 k q l ∙ slot-bumped sh w k q s
 

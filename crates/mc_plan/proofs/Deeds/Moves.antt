@@ -34,12 +34,15 @@ apart : (V : ℕ) (sh : Shape) (w : List ℕ) (k i : ℕ) (from to : Place) → 
 apart V sh w k i from to can e =
     empty_names_none sh w (slot_number from) i (subst (λ (y : ℕ). slot sh w y ≡ 0) (sym e) can.hole.1) can.stands.names
 
+-- a copy changes no slot but the one that it fills
 slot-copied : (V : ℕ) (sh : Shape) (w : List ℕ) (k : ℕ) (from to : Place) (o : ℕ) → IsShape sh → o ≢ slot_number to → slot sh (copied sh w k from to) o ≡ slot sh w o
 slot-copied V sh w k from to o s ne = slot-with_slot_other sh (with_bump sh w k) (slot_number to) _ o ne ∙ slot-bumped sh w k o s
 
+-- nor any item
 item-copied : (V : ℕ) (sh : Shape) (w : List ℕ) (k : ℕ) (from to : Place) (i j : ℕ) → IsShape sh → slot_number to < 4 * sh.buckets → item V sh (copied sh w k from to) i j ≡ item V sh w i j
 item-copied V sh w k from to i j s l = item-with_slot V sh (with_bump sh w k) (slot_number to) _ i j l ∙ item-bumped V sh w k i j s
 
+-- the acts of a move, one by one, from a quiet state
 pub move_walk : (V : ℕ) (sh : Shape) (w : List ℕ) (hand : ℕ) (cleared : Option ℕ) (h : List (Change V)) (c k i : ℕ) (from to : Place) → IsShape sh → k < 2 ^ 64 → CanMove V sh w k i from to
     → Walk V sh (state V w Quiet hand cleared h c) (move_acts k (slot sh w (slot_number from)) from to) (state V (moved sh w k from to) Quiet hand None h (c + 1 + 1))
 move_walk V sh w hand cleared h c k i from to s key can =
@@ -60,6 +63,7 @@ move_walk V sh w hand cleared h c k i from to s key can =
     (walk_act V sh _ _ Close _ tt
     (walk_none V sh _))))
 
+-- in the end one slot is empty and the other has what stood there
 pub moved_slots : (V : ℕ) (sh : Shape) (w : List ℕ) (k i : ℕ) (from to : Place) → IsShape sh → word_count V sh ≤ length w → CanMove V sh w k i from to → MovesSlot V sh w (moved sh w k from to) (slot_number from) (slot_number to)
 moved_slots V sh w k i from to s size can =
     let p = slot_number from in
@@ -76,6 +80,7 @@ moved_slots V sh w k i from to s size can =
       items = λ g j. item-bumped V sh _ k g j s ∙ item-with_slot V sh (copied sh w k from to) p 0 g j start ∙ item-copied V sh w k from to g j s below;
     }
 
+-- so the key stands in the other
 moved_stands : (V : ℕ) (sh : Shape) (w x : List ℕ) (k i : ℕ) (from to : Place) → CanMove V sh w k i from to → MovesSlot V sh w x (slot_number from) (slot_number to) → Stands V sh x k (slot_number to) i
 moved_stands V sh w x k i from to can m = record {
   names = record {

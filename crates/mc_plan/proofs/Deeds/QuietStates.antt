@@ -28,6 +28,7 @@ at_quiet V sh P f s q =
     ap (λ (p : Phase). state V s.words p s.hand s.cleared s.history s.version_steps) (sym q.quiet) in
     subst P same (f s.words s.hand s.cleared s.history s.version_steps (subst (λ (x : State V). IsQuiet V sh x) (sym same) q))
 
+-- acts that lead back to a quiet state, with these changes and version steps, make them
 pub makes_from_walk : (V : ℕ) (sh : Shape) (s t : State V) (acts : List Act) (new : List (Change V)) (steps : ℕ) → IsShape sh → IsQuiet V sh s → Walk V sh s acts t
     → t.phase ≡ Quiet → t.history ≡ s.history ++ new → t.version_steps ≡ s.version_steps + steps → t.hand ≡ s.hand → Makes V sh s acts new steps
 makes_from_walk V sh s t acts new steps shape q walk quiet history changes hand =
@@ -44,6 +45,7 @@ makes_from_walk V sh s t acts new steps shape q walk quiet history changes hand 
 pub agrees_quiet : (V : ℕ) (sh : Shape) (s : State V) → IsQuiet V sh s → Agrees V sh s.words None s.history
 agrees_quiet V sh s quiet = subst (λ (p : Phase). Agrees V sh s.words (deed_key p) s.history) quiet.quiet quiet.holds.agrees
 
+-- each key agrees with the history while nothing runs
 pub keys_quiet : (V : ℕ) (sh : Shape) (s : State V) → IsQuiet V sh s → (k : ℕ) → AgreesAt V sh s.words k (map_value s.history k)
 keys_quiet V sh s quiet k = (agrees_quiet V sh s quiet).keys k (λ e. cc)
 
@@ -58,6 +60,7 @@ same_moment V sh s t one two same = at_length V sh t two ∙ ap (λ (h : List (C
 pub absent_held : (V : ℕ) (sh : Shape) (s : State V) (k : ℕ) → IsQuiet V sh s → IsAbsent V sh s.words k → map_value s.history k ≡ None
 absent_held V sh s k quiet absent = held_from_absent V sh s.words k (map_value s.history k) (keys_quiet V sh s quiet k) absent
 
+-- a key that stands somewhere is held by the history
 pub stands_held : (V : ℕ) (sh : Shape) (s : State V) (k q i : ℕ) → IsQuiet V sh s → Stands V sh s.words k q i → IsSome (map_value s.history k)
 stands_held V sh s k q i quiet stands =
     let here = held_from_present V sh s.words k (map_value s.history k) (keys_quiet V sh s quiet k) (q, i, stands) in

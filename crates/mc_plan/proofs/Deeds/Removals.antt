@@ -37,12 +37,14 @@ taken_walk V sh w hand h c k p i evicts s in_bucket stands =
     (walk_act V sh _ _ Close _ tt
     (walk_none V sh _)))
 
+-- a removal empties one slot
 cleared_slots : (V : ℕ) (sh : Shape) (w : List ℕ) (k : ℕ) (p : Place) → IsShape sh → word_count V sh ≤ length w → slot_number p < 4 * sh.buckets → SetsSlot sh w (cleared_words sh w k p) (slot_number p) 0
 cleared_slots V sh w k p s size below = record {
   here = slot-ended sh _ k (slot_number p) s ∙ slot-with_slot_same sh (with_bump sh w k) (slot_number p) 0 (omega (arith, length-bumped sh w k, size, below));
   others = λ o l ne. slot-ended sh _ k o s ∙ slot-with_slot_other sh (with_bump sh w k) (slot_number p) 0 o ne ∙ slot-bumped sh w k o s;
 }
 
+-- and leaves each item's words
 cleared_items : (V : ℕ) (sh : Shape) (w : List ℕ) (k : ℕ) (p : Place) → IsShape sh → slot_number p < 4 * sh.buckets → KeepsItems V sh w (cleared_words sh w k p)
 cleared_items V sh w k p s below i j =
     item-ended V sh _ k i j s ∙ item-with_slot V sh (with_bump sh w k) (slot_number p) 0 i j below ∙ item-bumped V sh w k i j s
@@ -53,6 +55,7 @@ named_once V sh w k q i None a stands p names = absurd (a q i stands)
 named_once V sh w k q i (Some v) a stands p names =
     (a.2.once p i (record { names = names; key = stands.key })).0 ∙ sym (a.2.once q i stands).0
 
+-- the item that the slot named is free then
 cleared_free : (V : ℕ) (sh : Shape) (w x : List ℕ) (h : List (Change V)) (k q i : ℕ) → Agrees V sh w None h → Stands V sh w k q i → SetsSlot sh w x q 0 → IsFree sh x i
 cleared_free V sh w x h k q i agrees stands sets o names =
     elim (cases_eq o q) [

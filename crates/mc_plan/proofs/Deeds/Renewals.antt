@@ -32,6 +32,7 @@ stands_still V sh w k q i j x a = record {
   key = item-with_item_word V sh w i (j + 1) x 0 (omega arith) ∙ a.key;
 }
 
+-- a key stands where it did when a version changes
 pub stands_bumped : (V : ℕ) (sh : Shape) (w : List ℕ) (k f q i : ℕ) → IsShape sh → Stands V sh w k q i → Stands V sh (with_bump sh w f) k q i
 stands_bumped V sh w k f q i s stands =
     stands_on V sh w (with_bump sh w f) k q i (same-with_version V sh w (stripe_of sh f) _ k (stripe_of-lt sh f s)) stands
@@ -62,6 +63,7 @@ stamping_walk V sh w hand cleared h c k q i v at many all word stands is =
 abbrev renewed : ℕ → Shape → List ℕ → ℕ → List ℕ → ℕ → ℕ → List ℕ
 renewed V sh w k v at i = ended sh (stamped V sh (with_bump sh w k) i v at) k
 
+-- the acts of a renewal, one by one, from a quiet state
 renew_walk : (V : ℕ) (sh : Shape) (w : List ℕ) (hand : ℕ) (cleared : Option ℕ) (h : List (Change V)) (c k : ℕ) (v : List ℕ) (at q i : ℕ) → IsShape sh → k < 2 ^ 64 → length v ≡ V → All (λ x. x < 2 ^ 64) v → at < 2 ^ 64 → Stands V sh w k q i → at ≡ moment w + 1
     → Walk V sh (state V w Quiet hand cleared h c) (renew_acts k v at i) (state V (renewed V sh w k v at i) Quiet hand None (h ++ Put k (value_of V (v ++ at ∷ [])) ∷ []) (c + 1 + 1))
 renew_walk V sh w hand cleared h c k v at q i s key many all word stands is =
@@ -73,6 +75,7 @@ renew_walk V sh w hand cleared h c k v at q i s key many all word stands is =
     (walk_act V sh _ _ Close _ tt
     (walk_none V sh _))))
 
+-- a renewal leaves each slot
 renewed_slots : (V : ℕ) (sh : Shape) (w : List ℕ) (k : ℕ) (v : List ℕ) (at i : ℕ) → IsShape sh → KeepsSlots sh w (renewed V sh w k v at i)
 renewed_slots V sh w k v at i s o l = slot-ended sh _ k o s ∙ slot-stamped V sh (with_bump sh w k) i at o v l ∙ slot-bumped sh w k o s
 

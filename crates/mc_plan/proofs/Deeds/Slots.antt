@@ -21,16 +21,20 @@ stamped V sh w i v at = with_item V sh (valued V sh w i 1 v) i (length v + 1) at
 abbrev pub ended : Shape → List ℕ → ℕ → List ℕ
 ended sh w k = with_bump sh (with_moment w (moment w + 1)) k
 
+-- slots stay when a version changes
 pub slot-bumped : (sh : Shape) (w : List ℕ) (k q : ℕ) → IsShape sh → slot sh (with_bump sh w k) q ≡ slot sh w q
 slot-bumped sh w k q s = slot-with_version sh w (stripe_of sh k) _ q (stripe_of-lt sh k s)
 
+-- when a value is written
 pub slot-valued : (V : ℕ) (sh : Shape) (w : List ℕ) (i j q : ℕ) (xs : List ℕ) → q < 4 * sh.buckets → slot sh (valued V sh w i j xs) q ≡ slot sh w q
 slot-valued V sh w i j q [] l = refl
 slot-valued V sh w i j q (x ∷ xs) l = slot-valued V sh (with_item V sh w i j x) i (j + 1) q xs l ∙ slot-with_item V sh w i j x q l
 
+-- and at the end of a deed
 pub slot-ended : (sh : Shape) (w : List ℕ) (k q : ℕ) → IsShape sh → slot sh (ended sh w k) q ≡ slot sh w q
 slot-ended sh w k q s = slot-bumped sh (with_moment w (moment w + 1)) k q s ∙ slot-with_moment sh w q _
 
+-- items stay when a version changes
 pub item-bumped : (V : ℕ) (sh : Shape) (w : List ℕ) (k i j : ℕ) → IsShape sh → item V sh (with_bump sh w k) i j ≡ item V sh w i j
 item-bumped V sh w k i j s = item-with_version V sh w (stripe_of sh k) _ i j (stripe_of-lt sh k s)
 
@@ -39,12 +43,15 @@ pub key-valued : (V : ℕ) (sh : Shape) (w : List ℕ) (i j : ℕ) (xs : List �
 key-valued V sh w i j [] l = refl
 key-valued V sh w i j (x ∷ xs) l = key-valued V sh (with_item V sh w i j x) i (j + 1) xs (omega arith) ∙ item-with_item_word V sh w i j x 0 (omega arith)
 
+-- the end of a deed leaves items, too
 pub item-ended : (V : ℕ) (sh : Shape) (w : List ℕ) (k i j : ℕ) → IsShape sh → item V sh (ended sh w k) i j ≡ item V sh w i j
 item-ended V sh w k i j s = item-bumped V sh (with_moment w (moment w + 1)) k i j s ∙ item-with_moment V sh w _ i j
 
+-- no word is added when a version changes
 pub length-bumped : (sh : Shape) (w : List ℕ) (k : ℕ) → length (with_bump sh w k) ≡ length w
 length-bumped sh w k = length-with_version w (stripe_of sh k) _
 
+-- nor when a value is written
 pub length-valued : (V : ℕ) (sh : Shape) (w : List ℕ) (i j : ℕ) (xs : List ℕ) → length (valued V sh w i j xs) ≡ length w
 length-valued V sh w i j [] = refl
 length-valued V sh w i j (x ∷ xs) = length-valued V sh (with_item V sh w i j x) i (j + 1) xs ∙ length-with_item V sh w i j x

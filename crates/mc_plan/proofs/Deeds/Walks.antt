@@ -17,6 +17,7 @@ pub record Walk (V : ℕ) (sh : Shape) (s : State V) (acts : List Act) (t : Stat
   pub allowed : AreAllowed sh s (as_made acts)
   pub leads : state_after_acts V sh s acts ≡ t
 
+-- no acts leave the state as it is
 pub walk_none : (V : ℕ) (sh : Shape) (s : State V) → Walk V sh s [] s
 walk_none V sh s = record { allowed = tt; leads = refl }
 

@@ -51,6 +51,7 @@ slot_given sh w x p i s was set freed = record {
 pub kept_free : (sh : Shape) (w x : List ℕ) (j : ℕ) → KeepsSlots sh w x → IsFree sh w j → IsFree sh x j
 kept_free sh w x j kept free q n = free q (moved_names sh x w q j (sym (kept q n.in_table)) n)
 
+-- slots that stay name what they named
 pub kept_named : (sh : Shape) (w x : List ℕ) (q j : ℕ) → KeepsSlots sh w x → NamesItem sh w q j → NamesItem sh x q j
 kept_named sh w x q j kept n = moved_names sh w x q j (kept q n.in_table) n
 

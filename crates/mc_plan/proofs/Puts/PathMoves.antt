@@ -50,6 +50,7 @@ first_bucket sh w b (p ∷ ps) hole l = l.1
 differs : (a b : ℕ) → eqb a b ≡ false → a ≢ b
 differs a b other e = eqb-false a b other e
 
+-- a bucket that is none of the path's is off the path
 off_from_distinct : (b : ℕ) (ps : List Place) (hole : Place) → b ≢ hole.bucket → AllByRecursion (λ y. eqb b y ≡ false) (map (λ (p : Place). p.bucket) ps) → OffPath b ps hole
 off_from_distinct b [] hole ne all = ne
 off_from_distinct b (p ∷ ps) hole ne all = (differs b p.bucket all.0, off_from_distinct b ps hole ne all.1)
@@ -74,12 +75,14 @@ record Tenant (V : ℕ) (sh : Shape) (w : List ℕ) (p : Place) : Type 0 where
   stands : Stands V sh w (key_named V sh w p) (slot_number p) i
   tag : tag_in (slot sh w (slot_number p)) ≡ tag_of sh (key_named V sh w p)
 
+-- a slot in which a key stands has the key's tag
 tagged_at : (V : ℕ) (sh : Shape) (w : List ℕ) (k q i : ℕ) (o : Option (List ℕ)) → AgreesAt V sh w k o → Stands V sh w k q i → slot sh w q ≡ slot_word (tag_of sh k) i
 tagged_at V sh w k q i None a stands = absurd (a q i stands)
 tagged_at V sh w k q i (Some v) a stands =
     let is = a.2.once q i stands in
     ap (slot sh w) is.0 ∙ a.2.tagged ∙ ap (λ (y : ℕ). slot_word (tag_of sh k) y) (sym is.1)
 
+-- an occupied place has a key that stands there
 tenant : (V : ℕ) (sh : Shape) (s : State V) (p : Place) → IsShape sh → IsQuiet V sh s → IsOccupied sh s.words p → Tenant V sh s.words p
 tenant V sh s p shape quiet taken =
     let w = s.words in
@@ -135,10 +138,12 @@ moved_named V sh w x from to i below empty m o n =
       ]
     ]
 
+-- a bucket off the path is not that of its first place
 off_first : (b : ℕ) (ps : List Place) (hole : Place) → OffPath b ps hole → b ≢ (first_place ps hole).bucket
 off_first b [] hole off = off
 off_first b (p ∷ ps) hole off = off.0
 
+-- the bucket of a slot's number is the place's
 row_of : (p : Place) → p.slot < 4 → slot_number p / 4 ≡ p.bucket
 row_of p l = omega arith
 
@@ -180,6 +185,7 @@ cleared_step V sh s p ps hole shape quiet taken leads apart key c =
           moved_named V sh c.t.words _ q (slot_number to) i (omega (arith, c.empty.0.in_table, c.empty.0.in_bucket)) c.empty.1 one.2 there.0 there.1;
     }
 
+-- the moves of a path, from its end, empty its first place
 cleared : (V : ℕ) (sh : Shape) (s : State V) (b : ℕ) (ps : List Place) (hole : Place) → IsShape sh → IsQuiet V sh s → Leads sh s.words b ps hole → IsDistinct eqb (hole.bucket ∷ map (λ (p : Place). p.bucket) ps) → AreKeys V sh s.words ps → Cleared V sh s ps hole
 cleared V sh s b [] hole shape quiet leads distinct keys = cleared_none V sh s hole quiet leads.0
 cleared V sh s b (p ∷ ps) hole shape quiet leads distinct keys =
@@ -195,6 +201,7 @@ absent_on V sh w x k (Some v) before later absent = absurd (absent before.0 befo
 chain_leads : (V : ℕ) (sh : Shape) (s : State V) (k : ℕ) (ps : List Place) (hole : Place) → IsChain sh s.words k ps hole → (b : ℕ) × IsBucketOf sh k b × Leads sh s.words b ps hole
 chain_leads V sh s k ps hole chain = elim chain.leads [ inl l ↦ (first_of sh k, inl refl, l) | inr l ↦ (second_of sh k, inr refl, l) ]
 
+-- the moves along a chain make room for the key
 room_from : (V : ℕ) (sh : Shape) (s : State V) (k : ℕ) (ps : List Place) (hole : Place) → IsShape sh → IsQuiet V sh s → IsChain sh s.words k ps hole → AreKeys V sh s.words ps
     → Makes V sh s (moves_acts V sh s.words ps hole) [] (2 * length ps) × HasRoomFor V sh s.words (state_after_acts V sh s (moves_acts V sh s.words ps hole)).words k (first_place ps hole)
 room_from V sh s k ps hole shape quiet chain keys =

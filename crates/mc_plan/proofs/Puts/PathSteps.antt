@@ -11,6 +11,7 @@ use Rattle.mc_search.specs.Paths.{IsCut, first_place}
 use Rattle.mc_plan.specs.Plans.{key_named, move_acts, moves_acts}
 use Rattle.mc_search.specs.Readable.{IsFilled}
 
+-- the places that lead to a hole are occupied
 leads_taken : (sh : Shape) (w : List ℕ) (b : ℕ) (ps : List Place) (hole : Place) → Leads sh w b ps hole → AreTaken sh w ps
 leads_taken sh w b [] hole leads = tt
 leads_taken sh w b (p ∷ ps) hole leads = (leads.0, leads_taken sh w (beyond sh w p) ps hole leads.2)
@@ -19,6 +20,7 @@ leads_taken sh w b (p ∷ ps) hole leads = (leads.0, leads_taken sh w (beyond sh
 pub chain_taken : (sh : Shape) (w : List ℕ) (k : ℕ) (ps : List Place) (hole : Place) → IsChain sh w k ps hole → AreTaken sh w ps
 chain_taken sh w k ps hole chain = elim chain.leads [ inl a ↦ leads_taken sh w _ ps hole a | inr a ↦ leads_taken sh w _ ps hole a ]
 
+-- of occupied places the first ones are
 first_taken : (sh : Shape) (w : List ℕ) (ps qs : List Place) → AreTaken sh w (ps ++ qs) → AreTaken sh w ps
 first_taken sh w [] qs taken = tt
 first_taken sh w (p ∷ ps) qs taken = (taken.0, first_taken sh w ps qs taken.1)

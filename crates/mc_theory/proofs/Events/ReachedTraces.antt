@@ -26,6 +26,7 @@ pub record IsSound (V : ℕ) (sh : Shape) (acts : List Made) (k : ℕ) (rs : Lis
   pub rise : RiseTo (start_of rs) rs stop
   pub fits : stop ≤ length acts
 
+-- what was read so far stays sound when one more act is made
 sound_push : (V : ℕ) (sh : Shape) (acts : List Made) (x : Made) (k : ℕ) (rs : List Reading) (stop g : ℕ) → stop ≤ g → g ≤ length acts + 1 → IsSound V sh acts k rs stop → IsSound V sh (acts ++ x ∷ []) k rs g
 sound_push V sh acts x k rs stop g a b s = record {
   in_range = s.in_range;
@@ -34,10 +35,12 @@ sound_push V sh acts x k rs stop g a b s = record {
   fits = omega (arith, length_push acts x);
 }
 
+-- one more reading at the last front keeps the fronts rising
 rise_start : (rs : List Reading) (r : Reading) (e : ℕ) → r.front ≡ e → RiseTo (start_of rs) rs e → RiseTo (start_of (rs ++ r ∷ [])) (rs ++ r ∷ []) e
 rise_start [] r e h up = (omega arith, omega arith)
 rise_start (x ∷ xs) r e h up = (omega arith, rise_push x.front xs r e (rise_on x.front xs e r.front up.1 (omega arith)) (omega arith))
 
+-- one more reading of the last state keeps a lookup sound
 sound_more : (V : ℕ) (sh : Shape) (w : Trace V) (run : OpenLookup) (r : Reading) → IsSound V sh w.acts run.key run.sofar (length w.acts) → ReadsNext V sh w run r → IsSound V sh w.acts run.key (run.sofar ++ r ∷ []) (length w.acts)
 sound_more V sh w run r s next = record {
   in_range = s.in_range;
@@ -54,6 +57,7 @@ read_after_set (y ∷ ys) zero (suc r) o x e = inr ((λ f. cc), e)
 read_after_set (y ∷ ys) (suc i) zero o x e = inr ((λ f. cc), e)
 read_after_set (y ∷ ys) (suc i) (suc r) o x e = elim (read_after_set ys i r o x e) [ inl new ↦ inl (ap suc new.0, new.1) | inr old ↦ inr ((λ f. old.0 (omega arith)), old.1) ]
 
+-- no lookup runs in a list of idle readers
 pub all_idle : (m r : ℕ) (run : OpenLookup) → slice_get (replicate {A = Option OpenLookup} m None) r ≡ Some (Some run) → ⊥
 all_idle zero r run e = cc
 all_idle (suc m) zero run e = cc
@@ -68,10 +72,12 @@ pub record WorldHolds (V : ℕ) (sh : Shape) (w : Trace V) : Type 0 where
   pub running : (r : ℕ) (run : OpenLookup) → slice_get w.readers r ≡ Some (Some run) → IsSound V sh w.acts run.key run.sofar (length w.acts)
   pub ended : All (EndedWell V sh w.acts) w.ended
 
+-- ended lookups stay well ended when one more act is made
 ended_push : (V : ℕ) (sh : Shape) (acts : List Made) (x : Made) (es : List (Ended V)) → All (EndedWell V sh acts) es → All (EndedWell V sh (acts ++ x ∷ [])) es
 ended_push V sh acts x es all =
     All-weaker (EndedWell V sh acts) (EndedWell V sh (acts ++ x ∷ [])) (λ e a. (sound_push V sh acts x e.told.key e.read e.stop e.stop (omega arith) (omega (arith, a.0.fits)) a.0, a.1)) es all
 
+-- of the same lookup the same holds
 sound_of : (V : ℕ) (sh : Shape) (acts : List Made) (a b : OpenLookup) → Some a ≡ Some b → IsSound V sh acts a.key a.sofar (length acts) → IsSound V sh acts b.key b.sofar (length acts)
 sound_of V sh acts a b e s =
     let is : a ≡ b = cc in
@@ -132,6 +138,7 @@ first_holds V sh readers = record {
   ended = λ k d l. absurd (omega arith);
 }
 
+-- each lookup that ended told the truth
 pub ends_true : (V : ℕ) (sh : Shape) (w : Trace V) → IsShape sh → WorldHolds V sh w → All (IsTrueEnd V sh w) w.ended
 ends_true V sh w shape h = λ k d l.
     let e = get_or w.ended k d in

@@ -24,10 +24,12 @@ use Rattle.mc_words.specs.declared.history.Change.{Change}
 use Rattle.mc_words.specs.declared.shape.Shape.{Shape}
 use Rattle.mc_theory.specs.declared.act.Act.TheVariants.{Open, Slot, Item, Moment, Close, Hand, Mark}
 
+-- a key that was taken out is held no more
 taken_out_held : {V : ℕ} (h : List (Change V)) (e : Bool) (k : ℕ) → map_value (h ++ removal_of e k ∷ []) k ≡ None
 taken_out_held h true k = held-evict h k
 taken_out_held h false k = held-remove h k
 
+-- each act leaves what is known of the deed that then runs
 pub deed_after : (V : ℕ) (sh : Shape) (w : List ℕ) (hand : ℕ) (cleared : Option ℕ) (h : List (Change V)) (p : Phase) (a : Act) → IsShape sh → Agrees V sh w (deed_key p) h → DeedFacts V sh w h p → MayFrom V sh w hand cleared p a → DeedFacts V sh (words_after V sh w p a) (history_after h p a) (phase_after p a)
 deed_after V sh w hand cleared h Quiet (Open k u) s g d may =
     open_facts V sh w _ cleared h k u (same-with_version V sh w _ _ k (stripe_of-lt sh k s)) (g.keys k (λ e. cc)) may.0 may.1
@@ -80,6 +82,7 @@ deed_after V sh w hand cleared h (Moved k fresh) (Slot p x) s g d may =
 deed_after V sh w hand cleared h (Closing k) Close s g d may = tt
 deed_after V sh w hand cleared h _ _ s g d may = absurd may
 
+-- an option is this key or it is not
 some_or_not : (o : Option ℕ) (k : ℕ) → (o ≡ Some k) ⊎ (o ≢ Some k)
 some_or_not None k = inr (λ e. cc)
 some_or_not (Some f) k = elim (cases_eq f k) [ inl e ↦ inl (ap Some e) | inr ne ↦ inr (λ e. ne (cc)) ]
@@ -104,6 +107,7 @@ closed_keys V sh w hand cleared h k (Moving f) (Slot p x) s d may e ne = absurd 
 closed_keys V sh w hand cleared h k (Moved f fresh) (Slot p x) s d may e ne = absurd (ne e)
 closed_keys V sh w hand cleared h k _ _ s d may e ne = absurd may
 
+-- each key but that of the deed agrees with the history after the act
 pub keys_after : (V : ℕ) (sh : Shape) (w : List ℕ) (hand : ℕ) (cleared : Option ℕ) (h : List (Change V)) (p : Phase) (a : Act) → IsShape sh → Agrees V sh w (deed_key p) h → DeedFacts V sh w h p → MayFrom V sh w hand cleared p a → (k : ℕ) → deed_key (phase_after p a) ≢ Some k → AgreesAt V sh (words_after V sh w p a) k (map_value (history_after h p a) k)
 keys_after V sh w hand cleared h p a s g d may k ne =
     elim (some_or_not (deed_key p) k) [
@@ -113,6 +117,7 @@ keys_after V sh w hand cleared h p a s g d may k ne =
           (agrees_on V sh w (words_after V sh w p a) k (map_value h k) (step_same V sh w hand cleared h k p a s g.size d may other) (g.keys k other))
     ]
 
+-- so the words agree with the history after the act
 pub agrees_after : (V : ℕ) (sh : Shape) (w : List ℕ) (hand : ℕ) (cleared : Option ℕ) (h : List (Change V)) (p : Phase) (a : Act) → IsShape sh → Agrees V sh w (deed_key p) h → DeedFacts V sh w h p → MayFrom V sh w hand cleared p a → Agrees V sh (words_after V sh w p a) (deed_key (phase_after p a)) (history_after h p a)
 agrees_after V sh w hand cleared h p a s g d may = record {
   size = omega (arith, length_after V sh w p a, g.size);

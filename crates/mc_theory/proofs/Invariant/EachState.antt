@@ -30,15 +30,18 @@ all_agree V sh w h f g d k =
       | inr ne ↦ g.keys k (λ e. ne (cc))
     ]
 
+-- a key that is held may be taken out
 taken_may : {V : ℕ} (h : List (Change V)) (e : Bool) (k : ℕ) → IsSome (map_value h k) → MayFollow {V = V} (map_from 1 [] h) (removal_of e k)
 unfolding map_value
 taken_may h true k s = s
 taken_may h false k s = s
 
+-- one more change that may follow keeps a legal history legal
 legal_more : (V : ℕ) (sh : Shape) (w : List ℕ) (h : List (Change V)) (c : Change V) (f : ℕ) → IsLegal sh.items h → MayFollow (map_from 1 [] h) c → Agrees V sh w (Some f) (h ++ c ∷ []) → AgreesAt V sh w f (map_value (h ++ c ∷ []) f) → IsLegal sh.items (h ++ c ∷ [])
 unfolding IsLegal key_count
 legal_more V sh w h c f l may g d = legal-push sh.items 1 [] h c l may (keys_fit V sh w (h ++ c ∷ []) (all_agree V sh w (h ++ c ∷ []) f g d))
 
+-- each act leaves a legal history
 legal_after : (V : ℕ) (sh : Shape) (w : List ℕ) (hand : ℕ) (cleared : Option ℕ) (h : List (Change V)) (p : Phase) (a : Act) → DeedFacts V sh w h p → MayFrom V sh w hand cleared p a → IsLegal sh.items h → Agrees V sh (words_after V sh w p a) (deed_key (phase_after p a)) (history_after h p a) → DeedFacts V sh (words_after V sh w p a) (history_after h p a) (phase_after p a) → IsLegal sh.items (history_after h p a)
 legal_after V sh w hand cleared h (Placed k i xs) Moment d may l g e = legal_more V sh _ h (Put k (value_of V xs)) k l tt g e
 legal_after V sh w hand cleared h (Renewing k xs) Moment d may l g e = legal_more V sh _ h (Put k (value_of V xs)) k l tt g e
@@ -51,6 +54,7 @@ legal_after V sh w hand cleared h p (Hand i) d may l g e = l
 legal_after V sh w hand cleared h p (Mark i) d may l g e = l
 legal_after V sh w hand cleared h _ Moment d may l g e = absurd may
 
+-- each allowed act keeps the invariant
 pub holds_after : {V : ℕ} (sh : Shape) (s : State V) (a : Act) (bit : ℕ) → IsShape sh → StateHolds sh s → IsAllowed sh s a → StateHolds sh (after_act sh s a bit)
 holds_after {V} sh s a bit shape i may =
     let g = agrees_after V sh s.words s.hand s.cleared s.history s.phase a shape i.agrees i.deed may in
@@ -61,6 +65,7 @@ holds_after {V} sh s a bit shape i may =
       legal = legal_after V sh s.words s.hand s.cleared s.history s.phase a i.deed may i.legal g d;
     }
 
+-- a list of zeros has 0 everywhere
 pub zeros : (V i : ℕ) → get_or (replicate {A = ℕ} V 0) i 0 ≡ 0
 zeros V i =
     elim (cases_lt i V) [
@@ -68,6 +73,7 @@ zeros V i =
       | inr past ↦ get_or_past (replicate V 0) i 0 (omega (arith, length-replicate {A = ℕ} V 0))
     ]
 
+-- an empty history is legal
 opening_legal : (V : ℕ) (z : ℕ) → IsLegal {V = V} z []
 unfolding IsLegal
 opening_legal V z = omega arith

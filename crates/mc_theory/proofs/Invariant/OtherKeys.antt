@@ -19,6 +19,7 @@ use Rattle.mc_words.specs.declared.shape.Shape.{Shape}
 use Rattle.mc_theory.specs.declared.act.Act.TheVariants.{Open, Slot, Item, Moment, Close, Hand, Mark}
 use Rattle.mc_words.specs.declared.history.Change.TheVariants.{Put, Remove, Evict}
 
+-- words that stay are the same for each key
 pub same_refl : (V : ℕ) (sh : Shape) (w : List ℕ) (k : ℕ) → SameFor V sh w w k
 same_refl V sh w k = record {
   slots = λ q i a. refl;
@@ -26,9 +27,11 @@ same_refl V sh w k = record {
   back = λ q i a. a;
 }
 
+-- a slot names what it named before a word of an item was written
 pub names_back-with_item : (V : ℕ) (sh : Shape) (w : List ℕ) (i j x q g : ℕ) → NamesItem sh (with_item V sh w i j x) q g → NamesItem sh w q g
 names_back-with_item V sh w i j x q g a = moved_names sh (with_item V sh w i j x) w q g (sym (slot-with_item V sh w i j x q a.in_table)) a
 
+-- the place of a slot lies within the words
 pub slot_in : (V : ℕ) (sh : Shape) (w : List ℕ) (q : ℕ) → word_count V sh ≤ length w → q < 4 * sh.buckets → 1 + sh.stripes + q < length w
 slot_in V sh w q size l = omega arith
 
@@ -47,6 +50,7 @@ cleared_stands V sh w q x k g size l e a = empty_names_none sh (with_slot sh w q
 pub one_stands : (V : ℕ) (sh : Shape) (w : List ℕ) (q k f i g : ℕ) → IsShape sh → Stands V sh w k q i → Stands V sh w f q g → k ≡ f
 one_stands V sh w q k f i g s a b = sym a.key ∙ ap (λ y. item V sh w y 0) (one_named sh w q i g s a.names b.names) ∙ b.key
 
+-- no act changes where a key stands that is not its deed's
 pub step_same : (V : ℕ) (sh : Shape) (w : List ℕ) (hand : ℕ) (cleared : Option ℕ) (h : List (Change V)) (k : ℕ) (p : Phase) (a : Act) → IsShape sh → word_count V sh ≤ length w → DeedFacts V sh w h p → MayFrom V sh w hand cleared p a → deed_key p ≢ Some k → SameFor V sh w (words_after V sh w p a) k
 step_same V sh w hand cleared h k Quiet (Open f u) s size d may ne = same-with_version V sh w _ _ k (stripe_of-lt sh f s)
 step_same V sh w hand cleared h k Quiet (Hand i) s size d may ne = same_refl V sh w k
@@ -83,6 +87,7 @@ step_same V sh w hand cleared h k (Moved f fresh) (Slot p x) s size d may ne =
 step_same V sh w hand cleared h k (Closing f) Close s size d may ne = same-with_version V sh w _ _ k (stripe_of-lt sh f s)
 step_same V sh w hand cleared h k _ _ s size d may ne = absurd may
 
+-- nor what the history holds of it
 pub step_held : (V : ℕ) (sh : Shape) (w : List ℕ) (hand : ℕ) (cleared : Option ℕ) (h : List (Change V)) (k : ℕ) (p : Phase) (a : Act) → MayFrom V sh w hand cleared p a → deed_key p ≢ Some k → map_value (history_after h p a) k ≡ map_value h k
 step_held V sh w hand cleared h k (Placed f i xs) Moment may ne = held-other h (Put f (value_of V xs)) k (λ e. ne (ap Some (sym e)))
 step_held V sh w hand cleared h k (Renewing f xs) Moment may ne = held-other h (Put f (value_of V xs)) k (λ e. ne (ap Some (sym e)))

@@ -20,6 +20,7 @@ use Rattle.mc_words.specs.declared.shape.Shape.{Shape}
 use Rattle.mc_theory.specs.declared.act.Act.TheVariants.{Open, Slot, Item, Moment, Close, Hand, Mark}
 use Rattle.mc_theory.specs.declared.act.Deed.TheVariants as deed
 
+-- a close leaves the number of words
 length_closed : (sh : Shape) (w : List ℕ) (o : Option ℕ) → length (with_close sh w o) ≡ length w
 length_closed sh w None = refl
 length_closed sh w (Some k) = length-with_version w _ _
@@ -33,10 +34,12 @@ length_after V sh w p Close = length_closed sh w (deed_key p)
 length_after V sh w p (Hand i) = refl
 length_after V sh w p (Mark i) = refl
 
+-- a close leaves the moment
 moment_closed : (sh : Shape) (w : List ℕ) (o : Option ℕ) → moment (with_close sh w o) ≡ moment w
 moment_closed sh w None = refl
 moment_closed sh w (Some k) = moment-with_version w _ _
 
+-- the moment is the number of changes, after each act too
 pub moment_after : (V : ℕ) (sh : Shape) (w : List ℕ) (hand : ℕ) (cleared : Option ℕ) (h : List (Change V)) (p : Phase) (a : Act) → word_count V sh ≤ length w → moment w ≡ length h → MayFrom V sh w hand cleared p a → moment (words_after V sh w p a) ≡ length (history_after h p a)
 moment_after V sh w hand cleared h p (Open k d) size at may = moment-with_version w _ _ ∙ at
 moment_after V sh w hand cleared h p (Slot q x) size at may = moment-with_slot sh w _ x ∙ at
@@ -53,6 +56,7 @@ moment_after V sh w hand cleared h _ Moment size at may = absurd may
 abbrev pub Filled : Shape → List ℕ → Type 0
 Filled sh w = (q : ℕ) → q < 4 * sh.buckets → (slot sh w q ≡ 0) ⊎ ((i : ℕ) × NamesItem sh w q i)
 
+-- it hangs on the slots alone
 filled_same : (sh : Shape) (w x : List ℕ) → ((q : ℕ) → q < 4 * sh.buckets → slot sh x q ≡ slot sh w q) → Filled sh w → Filled sh x
 filled_same sh w x same f q l =
     elim (f q l) [
@@ -60,6 +64,7 @@ filled_same sh w x same f q l =
       | inr a ↦ inr (a.0, moved_names sh w x q a.0 (same q l) a.1)
     ]
 
+-- a slot may be emptied, or name an item
 filled_slot : (V : ℕ) (sh : Shape) (w : List ℕ) (p v : ℕ) → word_count V sh ≤ length w → p < 4 * sh.buckets → (v ≡ 0) ⊎ ((t : ℕ) × (i : ℕ) × (t < 256) × (i < sh.items) × (v ≡ slot_word t i)) → Filled sh w → Filled sh (with_slot sh w p v)
 filled_slot V sh w p v size below new f q l =
     elim (cases_eq q p) [
@@ -77,6 +82,7 @@ filled_slot V sh w p v size below new f q l =
           ]
     ]
 
+-- a change of a version leaves it
 filled_bumped : (sh : Shape) (w : List ℕ) (k : ℕ) → IsShape sh → Filled sh w → Filled sh (with_bump sh w k)
 filled_bumped sh w k s f = filled_same sh w (with_bump sh w k) (λ q l. slot-with_version sh w _ _ q (stripe_of-lt sh k s)) f
 
@@ -103,6 +109,7 @@ filled_after V sh w hand cleared h _ Close s size d may f = absurd may
 abbrev pub Versions : Shape → List ℕ → Option ℕ → Type 0
 Versions sh w o = (t : ℕ) → t < sh.stripes → version w t % 2 ≡ odd_at sh o t
 
+-- opening a deed makes the version of its key odd
 versions_open : (V : ℕ) (sh : Shape) (w : List ℕ) (k : ℕ) → word_count V sh ≤ length w → IsShape sh → Versions sh w None → Versions sh (with_bump sh w k) (Some k)
 versions_open V sh w k size s v t l =
     elim (cases_Bool (eqb (stripe_of sh k) t)) [
@@ -115,6 +122,7 @@ versions_open V sh w k size s v t l =
           rw (cond-false {A = ℕ} (eqb (stripe_of sh k) t) 1 0 f) (rw (version-with_version_other w (stripe_of sh k) t _ (λ e. eqb-false (stripe_of sh k) t f (sym e))) (v t l))
     ]
 
+-- closing it makes that version even
 versions_close : (V : ℕ) (sh : Shape) (w : List ℕ) (k : ℕ) → word_count V sh ≤ length w → IsShape sh → Versions sh w (Some k) → Versions sh (with_bump sh w k) None
 versions_close V sh w k size s v t l =
     elim (cases_Bool (eqb (stripe_of sh k) t)) [
@@ -128,9 +136,11 @@ versions_close V sh w k size s v t l =
           rw (version-with_version_other w (stripe_of sh k) t _ (λ e. eqb-false (stripe_of sh k) t f (sym e))) (v t l ∙ cond-false {A = ℕ} (eqb (stripe_of sh k) t) 1 0 f)
     ]
 
+-- whether versions are even hangs on the versions alone
 versions_same : (sh : Shape) (w x : List ℕ) (o : Option ℕ) → ((t : ℕ) → t < sh.stripes → version x t ≡ version w t) → Versions sh w o → Versions sh x o
 versions_same sh w x o same v t l = rw (same t l) (v t l)
 
+-- the deed that was opened is the one that runs
 running_opened : (sh : Shape) (w : List ℕ) (k : ℕ) (d : _) → Versions sh w (Some k) → Versions sh w (deed_key (first_phase k d))
 running_opened sh w k deed.Fill v = v
 running_opened sh w k deed.Renew v = v

@@ -27,13 +27,16 @@ pub held_from_absent : (V : ℕ) (sh : Shape) (w : List ℕ) (k : ℕ) (o : Opti
 held_from_absent V sh w k None a none = refl
 held_from_absent V sh w k (Some v) a none = absurd (none a.0 a.1 a.2.stands)
 
+-- a key that agrees and stands somewhere has a value in the history
 pub held_from_present : (V : ℕ) (sh : Shape) (w : List ℕ) (k : ℕ) (o : Option (List ℕ)) → AgreesAt V sh w k o → IsPresent V sh w k → (v : List ℕ) × (o ≡ Some v) × AgreesAt V sh w k (Some v)
 held_from_present V sh w k None a here = absurd (a here.0 here.1 here.2)
 held_from_present V sh w k (Some v) a here = (v, refl, a)
 
+-- what is this value is some
 pub some_from : {A : Type 0} (o : Option A) (v : A) → o ≡ Some v → IsSome o
 some_from o v e = rw e refl
 
+-- an absent key stays absent in words that are the same for it
 pub absent_on : (V : ℕ) (sh : Shape) (w x : List ℕ) (k : ℕ) → SameFor V sh w x k → IsAbsent V sh w k → IsAbsent V sh x k
 absent_on V sh w x k s a = λ q i h. a q i (s.back q i h)
 
@@ -97,6 +100,7 @@ begins_more V sh w i x xs size below l b j h =
           item-with_item_word V sh w i (length xs + 1) x (j + 1) (omega arith) ∙ b j less ∙ sym (get_or_append_left xs (x ∷ []) 0 j less)
     ]
 
+-- one more word is written of an item that is being filled
 pub ready_more : (V : ℕ) (sh : Shape) (w : List ℕ) (k i x : ℕ) (xs : List ℕ) → word_count V sh ≤ length w → length xs + 1 ≤ payload V → IsFillReady V sh w k i xs → IsFillReady V sh (with_item V sh w i (length xs + 1) x) k i (xs ++ x ∷ [])
 ready_more V sh w k i x xs size l r = record {
   in_range = r.in_range;
@@ -139,6 +143,7 @@ key-with_value V sh w i j x g ne l =
       | inr apart ↦ item-with_item_other V sh w i j x g 0 apart l (omega arith)
     ]
 
+-- writing a word of a value leaves where a key stands
 pub only-with_value : (V : ℕ) (sh : Shape) (w : List ℕ) (k q g i j x : ℕ) → j ≢ 0 → j ≤ payload V → OnlyAt V sh w k q g → OnlyAt V sh (with_item V sh w i j x) k q g
 only-with_value V sh w k q g i j x ne l a =
     let same : slot sh (with_item V sh w i j x) q ≡ slot sh w q = slot-with_item V sh w i j x q a.stands.names.in_table in
@@ -156,12 +161,14 @@ back-with_slot V sh w p x k q g l ne a = record {
   key = sym (item-with_slot V sh w p x g 0 l) ∙ a.key;
 }
 
+-- a key still stands in a slot when another is written
 forth-with_slot : (V : ℕ) (sh : Shape) (w : List ℕ) (p x k q g : ℕ) → p < 4 * sh.buckets → q ≢ p → Stands V sh w k q g → Stands V sh (with_slot sh w p x) k q g
 forth-with_slot V sh w p x k q g l ne a = record {
   names = moved_names sh w (with_slot sh w p x) q g (slot-with_slot_other sh w p x q ne) a.names;
   key = item-with_slot V sh w p x g 0 l ∙ a.key;
 }
 
+-- a key that stood in one slot is absent when that is cleared
 pub removed_absent : (V : ℕ) (sh : Shape) (w : List ℕ) (k p x q i g : ℕ) → word_count V sh ≤ length w → x ≡ 0 → OnlyAt V sh w k q i → Stands V sh w k p g → IsAbsent V sh (with_slot sh w p x) k
 removed_absent V sh w k p x q i g size e only here r f a =
     elim (cases_eq r p) [
@@ -198,6 +205,7 @@ twice_facts V sh w k p x q i v s size empty bucket e only val =
       held = (val.0, begins_on V sh w (with_slot sh w p x) i v (λ j l. item-with_slot V sh w p x i j empty.0) (omega (arith, val.0)) val.1);
     }
 
+-- of two slots with a key, clearing one leaves it in the other
 pub moved_only : (V : ℕ) (sh : Shape) (w : List ℕ) (k fresh p x g : ℕ) (v : List ℕ) → word_count V sh ≤ length w → x ≡ 0 → p ≢ fresh → StandsTwice V sh w k fresh v → Stands V sh w k p g → AgreesAt V sh (with_slot sh w p x) k (Some v)
 moved_only V sh w k fresh p x g v size e apart t gone =
     let here = forth-with_slot V sh w p x k fresh t.of gone.names.in_table (λ h. apart (sym h)) t.here in

@@ -19,6 +19,7 @@ use Rattle.mc_theory.specs.declared.act.Act.TheVariants.{Open, Slot, Item, Momen
 use Rattle.mc_words.specs.declared.history.Change.TheVariants.{Put}
 use Rattle.mc_theory.specs.declared.act.Deed.TheVariants as deed
 
+-- a change of a version raises none by more than one
 bumped_le : (V : ℕ) (sh : Shape) (w : List ℕ) (k c t : ℕ) → IsShape sh → word_count V sh ≤ length w → ((u : ℕ) → u < sh.stripes → version w u ≤ c) → t < sh.stripes → version (with_bump sh w k) t ≤ c + 1
 bumped_le V sh w k c t s size v l =
     let st = stripe_of sh k in
@@ -28,6 +29,7 @@ bumped_le V sh w k c t s size v l =
       | inr ne ↦ rw (version-with_version_other w st t (version w st + 1) ne) (omega (arith, v t l))
     ]
 
+-- each act keeps the versions and the moment within the number of version steps
 pub counted_after : (V : ℕ) (sh : Shape) (w : List ℕ) (hand : ℕ) (cleared : Option ℕ) (h : List (Change V)) (c : ℕ) (p : Phase) (a : Act) → IsShape sh → word_count V sh ≤ length w → MayFrom V sh w hand cleared p a → IsCounted sh w p (length h) c → IsCounted sh (words_after V sh w p a) (phase_after p a) (length (history_after h p a)) (version_steps_after c a)
 counted_after V sh w hand cleared h c Quiet (Open k deed.Fill) s size may i = record { versions = λ t l. bumped_le V sh w k c t s size i.versions l; moments = omega (arith, i.moments) }
 counted_after V sh w hand cleared h c Quiet (Open k deed.Renew) s size may i = record { versions = λ t l. bumped_le V sh w k c t s size i.versions l; moments = omega (arith, i.moments) }

@@ -30,6 +30,7 @@ allowed_take sh s zero xs l = tt
 allowed_take sh s (suc f) [] l = tt
 allowed_take sh s (suc f) (x ∷ xs) l = (l.0, allowed_take sh (after_act sh s x.act x.bit) f xs l.1)
 
+-- the rest of an allowed list is allowed after its first part
 pub allowed_drop : {V : ℕ} (sh : Shape) (s : State V) (f : ℕ) (xs : List Made) → AreAllowed sh s xs → AreAllowed sh (after_all sh s (take f xs)) (drop f xs)
 allowed_drop sh s zero xs l = l
 allowed_drop sh s (suc f) [] l = tt
@@ -40,6 +41,7 @@ pub state_none : (V : ℕ) (sh : Shape) → state_of V sh [] ≡ opening V sh
 unfolding state_of
 state_none V sh = refl
 
+-- the state after one more act is that act on the state before
 pub state_push : (V : ℕ) (sh : Shape) (acts : List Made) (m : Made) → state_of V sh (acts ++ m ∷ []) ≡ after_act sh (state_of V sh acts) m.act m.bit
 unfolding state_of
 state_push V sh acts m = after_all-append sh (opening V sh) acts (m ∷ [])
@@ -68,6 +70,7 @@ pub lawful_none : (V : ℕ) (sh : Shape) → IsLawful V sh []
 unfolding IsLawful
 lawful_none V sh = tt
 
+-- a lawful list may go on with an act that is allowed
 pub lawful_push : (V : ℕ) (sh : Shape) (acts : List Made) (m : Made) → IsLawful V sh acts → IsAllowed sh (state_of V sh acts) m.act → IsLawful V sh (acts ++ m ∷ [])
 unfolding IsLawful state_of
 lawful_push V sh acts m l a = allowed_push sh (opening V sh) acts m l a
@@ -86,12 +89,14 @@ state_holds V sh acts shape l = holds_all sh (opening V sh) acts shape (opening_
 pub between : List Made → ℕ → ℕ → List Made
 between xs f g = take (g - f) (drop f xs)
 
+-- a later front is an earlier one and the acts between
 pub front_between : (V : ℕ) (sh : Shape) (xs : List Made) (f g : ℕ) → f ≤ g → front V sh xs g ≡ after_all sh (front V sh xs f) (between xs f g)
 unfolding between front
 front_between V sh xs f g l =
     let e : g ≡ f + (g - f) = omega arith in
     ap (λ y. after_all sh (opening V sh) (take y xs)) e ∙ ap (λ y. after_all sh (opening V sh) y) (take-add f (g - f) xs) ∙ after_all-append sh (opening V sh) (take f xs) (take (g - f) (drop f xs))
 
+-- which are allowed from there
 lawful_between : (V : ℕ) (sh : Shape) (xs : List Made) (f g : ℕ) → IsLawful V sh xs → AreAllowed sh (front V sh xs f) (between xs f g)
 unfolding between front IsLawful
 lawful_between V sh xs f g l = allowed_take sh (front V sh xs f) (g - f) (drop f xs) (allowed_drop sh (opening V sh) f xs l)

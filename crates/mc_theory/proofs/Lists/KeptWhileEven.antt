@@ -31,10 +31,12 @@ grows_bumped sh w V k t size s =
       | inr ne ↦ rw (version-with_version_other w (stripe_of sh k) t (version w (stripe_of sh k) + 1) ne) (omega arith)
     ]
 
+-- no version falls at a close
 grows_closed : (sh : Shape) (w : List ℕ) (V : ℕ) (o : Option ℕ) (t : ℕ) → word_count V sh ≤ length w → IsShape sh → version w t ≤ version (with_close sh w o) t
 grows_closed sh w V None t size s = omega arith
 grows_closed sh w V (Some k) t size s = grows_bumped sh w V k t size s
 
+-- nor at any act
 version_grows : (V : ℕ) (sh : Shape) (w : List ℕ) (p : Phase) (a : Act) (t : ℕ) → IsShape sh → word_count V sh ≤ length w → t < sh.stripes → version w t ≤ version (words_after V sh w p a) t
 version_grows V sh w p (Open k u) t s size l = grows_bumped sh w V k t size s
 version_grows V sh w p (Slot q x) t s size l = rw (version-with_slot sh w (slot_number q) x t l) (omega arith)
@@ -56,9 +58,11 @@ even_not_running V sh w p h k s g even e =
 abbrev pub NoNew : ℕ → Shape → List ℕ → List ℕ → ℕ → Type 0
 NoNew V sh w x k = (i : ℕ) → item V sh x i 0 ≡ k → item V sh w i 0 ≡ k
 
+-- it hangs on the keys of the items alone
 no_new_same : (V : ℕ) (sh : Shape) (w x : List ℕ) (k : ℕ) → ((i : ℕ) → item V sh x i 0 ≡ item V sh w i 0) → NoNew V sh w x k
 no_new_same V sh w x k same i e = sym (same i) ∙ e
 
+-- an act gives no item a key that is not its deed's
 step_no_new : (V : ℕ) (sh : Shape) (w : List ℕ) (hand : ℕ) (cleared : Option ℕ) (k : ℕ) (p : Phase) (a : Act) → IsShape sh → word_count V sh ≤ length w → MayFrom V sh w hand cleared p a → deed_key p ≢ Some k → NoNew V sh w (words_after V sh w p a) k
 step_no_new V sh w hand cleared k Quiet (Open f u) s size may ne = no_new_same V sh w _ k (λ i. item-with_version V sh w _ _ i 0 (stripe_of-lt sh f s))
 step_no_new V sh w hand cleared k Quiet (Hand i) s size may ne = λ g e. e
@@ -89,9 +93,11 @@ pub record Kept {V : ℕ} (sh : Shape) (s t : State V) (k : ℕ) : Type 0 where
   pub no_new : NoNew V sh s.words t.words k
   pub told : map_value t.history k ≡ map_value s.history k
 
+-- a state keeps its own
 kept_refl : {V : ℕ} (sh : Shape) (s : State V) (k : ℕ) → Kept sh s s k
 kept_refl {V} sh s k = record { same = same_refl V sh s.words k; no_new = λ i e. e; told = refl }
 
+-- what is kept twice is kept
 pub kept_trans : {V : ℕ} (sh : Shape) (s t u : State V) (k : ℕ) → Kept sh s t k → Kept sh t u k → Kept sh s u k
 kept_trans {V} sh s t u k a b = record {
   same = record {
@@ -103,6 +109,7 @@ kept_trans {V} sh s t u k a b = record {
   told = b.told ∙ a.told;
 }
 
+-- an act leaves a key whose version is even before it
 kept_step : {V : ℕ} (sh : Shape) (s : State V) (a : Act) (bit k : ℕ) → IsShape sh → StateHolds sh s → IsAllowed sh s a → version s.words (stripe_of sh k) % 2 ≡ 0 → Kept sh s (after_act sh s a bit) k
 kept_step {V} sh s a bit k shape i may even =
     let ne = even_not_running V sh s.words s.phase s.history k shape i.agrees even in
@@ -117,6 +124,7 @@ pub holds_all : {V : ℕ} (sh : Shape) (s : State V) (xs : List Made) → IsShap
 holds_all sh s [] shape i l = i
 holds_all sh s (x ∷ xs) shape i l = holds_all sh (after_act sh s x.act x.bit) xs shape (holds_after sh s x.act x.bit shape i l.0) l.1
 
+-- no version falls along a list of acts
 pub version_grows_all : {V : ℕ} (sh : Shape) (s : State V) (xs : List Made) (t : ℕ) → IsShape sh → StateHolds sh s → AreAllowed sh s xs → t < sh.stripes → version s.words t ≤ version (after_all sh s xs).words t
 version_grows_all sh s [] t shape i l below = omega arith
 version_grows_all {V} sh s (x ∷ xs) t shape i l below =

@@ -33,10 +33,12 @@ PhaseFits V _ = Unit {0}
 put_fits : (V k : ℕ) (xs : List ℕ) → IsWord k → All IsWord xs → length xs ≡ payload V → IsChange {V = V} (Put k (value_of V xs))
 put_fits V k xs key words fits = (key, value_length V xs fits, All-take IsWord V xs words)
 
+-- a removal of a key that is a word fits
 taken_out_fits : (V k : ℕ) (e : Bool) → IsWord k → IsChange {V = V} (removal_of e k)
 taken_out_fits V k true key = key
 taken_out_fits V k false key = key
 
+-- each act keeps to what fits in words
 fits_after : (V : ℕ) (sh : Shape) (w : List ℕ) (hand : ℕ) (cleared : Option ℕ) (h : List (Change V)) (p : Phase) (a : Act) → MayFrom V sh w hand cleared p a
     → All (IsChange {V = V}) h → PhaseFits V p → All (IsChange {V = V}) (history_after h p a) × PhaseFits V (phase_after p a)
 fits_after V sh w hand cleared h Quiet (Open k deed.Fill) may all fits = (all, may.0)

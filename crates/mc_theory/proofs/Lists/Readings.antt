@@ -9,6 +9,7 @@ pub rise_le : (f : ℕ) (rs : List Reading) (g : ℕ) → RiseTo f rs g → f �
 rise_le f [] g r = r
 rise_le f (x ∷ xs) g r = let h = rise_le x.front xs g r.1 in omega (arith, r.0)
 
+-- fronts that rise do so in two parts
 pub rise_parts : (f : ℕ) (xs ys : List Reading) (g : ℕ) → RiseTo f (xs ++ ys) g → (m : ℕ) × RiseTo f xs m × RiseTo m ys g
 rise_parts f [] ys g r = (f, omega arith, r)
 rise_parts f (x ∷ xs) ys g r = let rest = rise_parts x.front xs ys g r.1 in (rest.0, (r.0, rest.1), rest.2)

@@ -52,15 +52,19 @@ words_written V sh w p (Mark i) = refl
 bump_fits : (V : ℕ) (sh : Shape) (w : List ℕ) (k c : ℕ) → IsShape sh → word_count V sh ≤ length w → ((t : ℕ) → t < sh.stripes → version w t ≤ c) → c + 1 < 2 ^ 64 → FitsIn w (bump_of sh w (Some k))
 bump_fits V sh w k c s size v l = let below = stripe_of-lt sh k s in (omega arith, omega (arith, v (stripe_of sh k) below))
 
+-- a slot is within the words
 slot_fits : (V : ℕ) (sh : Shape) (w : List ℕ) (q x : ℕ) → word_count V sh ≤ length w → q < 4 * sh.buckets → x < 2 ^ 64 → FitsIn w (Some (slot_place sh q, x))
 slot_fits V sh w q x size l fits = (omega arith, fits)
 
+-- so is each word of an item
 item_fits : (V : ℕ) (sh : Shape) (w : List ℕ) (i j x : ℕ) → word_count V sh ≤ length w → i < sh.items → j ≤ payload V → x < 2 ^ 64 → FitsIn w (Some (item_place V sh i j, x))
 item_fits V sh w i j x size a b fits = (omega (arith, row_below (payload V) i j sh.items a b), fits)
 
+-- numbers of items are below 2^32
 items_small : (sh : Shape) (i : ℕ) → IsShape sh → i < sh.items → i < 2 ^ 32
 items_small sh i s l = omega (arith, s.items.1, s.buckets.1)
 
+-- each act that may be made writes a word within the words
 pub write_fits : (V : ℕ) (sh : Shape) (w : List ℕ) (hand : ℕ) (cleared : Option ℕ) (h : List (Change V)) (c : ℕ) (p : Phase) (a : Act) → IsShape sh → word_count V sh ≤ length w → moment w ≡ length h → DeedFacts V sh w h p → IsCounted sh w p (length h) c → version_steps_after c a < 2 ^ 64 → MayFrom V sh w hand cleared p a → FitsIn w (write_of V sh w p a)
 write_fits V sh w hand cleared h c Quiet (Open k u) s size at d n l may = bump_fits V sh w k c s size n.versions l
 write_fits V sh w hand cleared h c Quiet (Hand i) s size at d n l may = tt
@@ -180,6 +184,7 @@ read_word V sh w (access.Stamp i) n e = let is : item_place V sh i (payload V) �
 read_word V sh w access.Moment n e = let is : 0 ≡ n = cc in ap (λ y. slice_index w y) (sym is)
 read_word V sh w (access.Mark i) n e = tt
 
+-- an access within the table reads one of its words
 read_in : (V : ℕ) (sh : Shape) (a : Access) (n : ℕ) → place_read V sh a ≡ Some n → IsAccess V sh a → n < word_count V sh
 read_in V sh (access.Version t) n e l = let is : version_place t ≡ n = cc in omega arith
 read_in V sh (access.Slot p) n e l = let is : slot_place sh (slot_number p) ≡ n = cc in omega (arith, l.in_table, l.in_bucket)

@@ -28,6 +28,7 @@ values_length i j (r ∷ rs) (x ∷ xs) reads = ap suc (values_length i (j + 1) 
 values_length i j [] (x ∷ xs) reads = absurd reads
 values_length i j (r ∷ rs) [] reads = absurd reads
 
+-- a value is read with no more readings than it has words
 hit_length : (V : ℕ) (hit : Option ℕ) (rs : List Reading) (held : List ℕ) → ReadsHit V hit rs held → length rs ≤ payload V
 hit_length V None rs held reads = let none = ap length reads.0 in omega (arith, none)
 hit_length V (Some i) rs held reads =
@@ -45,16 +46,19 @@ try_length V sh k rs hit v before after at tries =
     let b = length-append tries.values (tries.mid ∷ tries.last ∷ []) in
     omega (arith, scan, values, whole, a, b)
 
+-- a try that is spoiled has at most 19 readings beside the value
 spoiled_length : (V : ℕ) (sh : Shape) (k : ℕ) (rs : List Reading) → IsSpoiled V sh k rs → length rs ≤ 19 + payload V
 spoiled_length V sh k rs spoiled = elim spoiled [
   | inl odd ↦ (let one = ap length odd.1 in omega (arith, one))
   | inr other ↦ try_length V sh k rs other.0 other.1 other.2 other.3 other.4 other.6
 ]
 
+-- a hit is marked once at most
 marks_length : (hit : Option ℕ) (rs : List Reading) → MarksHit hit rs → length rs ≤ 1
 marks_length None rs marks = let none = ap length marks in omega (arith, none)
 marks_length (Some i) rs marks = let one = ap length marks.1 in omega (arith, one)
 
+-- the readings of one more try, as a product
 one_more : (t n : ℕ) → suc t * n ≡ n + t * n
 one_more t n = grind arith
 

@@ -23,12 +23,15 @@ abbrev pub InTable : Shape → List Place → Type 0
 InTable sh [] = Unit {0}
 InTable sh (p ∷ ps) = (slot_number p < 4 * sh.buckets) × InTable sh ps
 
+-- a list that was read, told by its first reading and the rest
 pub read_at : (V : ℕ) (sh : Shape) (acts : List Made) (r : Reading) (rs more : List Reading) → rs ≡ r ∷ more → AreRead V sh acts rs → AreRead V sh acts (r ∷ more)
 read_at V sh acts r rs more e a = subst (λ (y : List Reading). AreRead V sh acts y) e a
 
+-- the same of fronts that rise
 pub rise_at : (d e : ℕ) (r : Reading) (rs more : List Reading) → rs ≡ r ∷ more → RiseTo d rs e → RiseTo d (r ∷ more) e
 rise_at d e r rs more h a = subst (λ (y : List Reading). RiseTo d y e) h a
 
+-- the same of a word, told by an equal access
 pub word_at : (V : ℕ) (sh : Shape) (w : List ℕ) (a : Access) (r : Reading) → r.access ≡ a → IsWordOf V sh w r.access r.word → IsWordOf V sh w a r.word
 word_at V sh w a r e h = subst (λ (y : Access). IsWordOf V sh w y r.word) e h
 
@@ -41,6 +44,7 @@ hit_stands V sh acts k f g p r s i w table tag a b c slot_is key_is meets e =
     } in
     (w.kept f r.front (omega arith) a (omega arith)).same.back (slot_number p) i then
 
+-- where a scan hits an item, the key stands there in some slot
 pub scan_hit : (V : ℕ) (sh : Shape) (acts : List Made) (k f g d e i : ℕ) (ps : List Place) (rs : List Reading) → Window V sh acts k f g → tag_of sh k < 256 → InTable sh ps → f ≤ d → e ≤ g → AreRead V sh acts rs → RiseTo d rs e → Scans sh k ps rs (Some i) → (q : ℕ) × Stands V sh (front V sh acts f).words k q i
 scan_hit V sh acts k f g d e i [] rs w tag table a b read rise scan = absurd (cc (scan.1))
 scan_hit V sh acts k f g d e i (p ∷ ps) rs w tag table a b read rise scan =
@@ -71,6 +75,7 @@ abbrev pub NoneIs : ℕ → List Place → Type 0
 NoneIs q [] = Unit {0}
 NoneIs q (p ∷ ps) = (slot_number p ≢ q) × NoneIs q ps
 
+-- where it misses, the key stands in none of the slots that were read
 pub scan_miss : (V : ℕ) (sh : Shape) (acts : List Made) (k f g d e q i : ℕ) (ps : List Place) (rs : List Reading) → IsShape sh → Window V sh acts k f g → f ≤ d → e ≤ g → AreRead V sh acts rs → RiseTo d rs e → Scans sh k ps rs None → Stands V sh (front V sh acts f).words k q i → NoneIs q ps
 scan_miss V sh acts k f g d e q i [] rs shape w a b read rise scan st = tt
 scan_miss V sh acts k f g d e q i (p ∷ ps) rs shape w a b read rise scan st =

@@ -37,9 +37,11 @@ slots_for_in sh k s =
     let one : first_of sh k < sh.buckets = first_of-lt sh k s in
     slots_in sh (first_of sh k) (slots_of (second_of sh k)) one (slots_in sh (second_of sh k) [] (alternate-lt sh (first_of sh k) (tag_of sh k) s one) tt)
 
+-- a slot that none of a bucket's slots is lies in another bucket
 none_in : (q b : ℕ) (ps : List Place) → NoneIs q (slots_of b ++ ps) → q / 4 ≢ b
 none_in q b ps h e = omega arith
 
+-- none of more slots is none of the last of them
 none_after : (q b : ℕ) (ps : List Place) → NoneIs q (slots_of b ++ ps) → NoneIs q ps
 none_after q b ps h = h.1.1.1.1
 
@@ -55,6 +57,7 @@ abbrev pub told_of : Option ℕ → List ℕ → Option (List ℕ)
 told_of None v = None
 told_of (Some i) v = Some v
 
+-- what was read within a window is what the map held then
 held_length : (V i : ℕ) (rs : List Reading) (held : List ℕ) → ReadsHit V (Some i) rs held → length held ≡ payload V
 held_length V i rs held reads = let all = ap length reads.4 ∙ length-append reads.2 (reads.1.word ∷ []) in omega (arith, all, reads.5, payload_is V)
 
@@ -125,6 +128,7 @@ try_true V sh acts k d e rs hit v x at shape lawful key_in within read rise t =
     answer_true (state_of V sh acts).history k at (length (front V sh acts d).history) (length (front V sh acts e).history) hit v (hit_whole V hit t.values v t.reads) size
     (ap (λ y. map_value y k) told ∙ kept ∙ truth) low high
 
+-- what lies between two moments lies between wider ones
 wider : {V : ℕ} (r : Reply V) (a b c d : ℕ) → a ≤ b → c ≤ d → IsBetween b c r → IsBetween a d r
 wider (Found v at since) a b c d x y h = (omega arith, omega arith)
 wider (Absent at) a b c d x y h = (omega arith, omega arith)

@@ -17,6 +17,7 @@ pub record Window (V : ℕ) (sh : Shape) (acts : List Made) (k f g : ℕ) : Type
   pub agrees : (d : ℕ) → f ≤ d → d ≤ g → AgreesAt V sh (front V sh acts d).words k (map_value (front V sh acts d).history k)
   pub at_moment : (d : ℕ) → moment (front V sh acts d).words ≡ length (front V sh acts d).history
 
+-- while the version of a key is even and stays, a window is open on it
 pub window : (V : ℕ) (sh : Shape) (acts : List Made) (k f g : ℕ) → IsShape sh → IsLawful V sh acts → f ≤ g → version (front V sh acts f).words (stripe_of sh k) % 2 ≡ 0 → version (front V sh acts g).words (stripe_of sh k) ≡ version (front V sh acts f).words (stripe_of sh k) → Window V sh acts k f g
 window V sh acts k f g shape l le even e =
     let below = stripe_of-lt sh k shape in
