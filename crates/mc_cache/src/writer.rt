@@ -60,7 +60,14 @@ impl<const V: usize> Writer<V> {
         ensures called { HasCalled V cache.now.layout.shape (PutIfCall key since value.entry) self.old self.new (answer.PutIf result) }
         ensures plain { PutIfMeans V (history V self.old) (history V self.new) key since value.entry result }
     {
-        put_if(&cache.cells, &mut self.seat, &mut self.books, key, since, &value)
+        put_if(
+            &cache.cells,
+            &mut self.seat,
+            &mut self.books,
+            key,
+            since,
+            &value,
+        )
     }
 
     /// Takes a key out. `Err(Spent)` where the limit on version changes could be passed: nothing was changed.

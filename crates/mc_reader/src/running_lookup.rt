@@ -136,7 +136,9 @@ fn read_stamp<const V: usize>(
     ensures leads { Leads V cells.now.layout.shape seat.old lookup.old seat.new lookup.new }
     ensures stage { stage_of {V = V} lookup.new ≡ Stage.Moment (Some i) }
 {
-    let place = cells.checked().item_from::<V>(items, i, payload_words::<V>() as u8);
+    let place = cells
+        .checked()
+        .item_from::<V>(items, i, payload_words::<V>() as u8);
     let word = read_next(cells, seat, lookup, Access::Stamp(i), place);
     lookup.after_stamp(i, word);
 }

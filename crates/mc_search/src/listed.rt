@@ -29,7 +29,9 @@ fn entry_at<const V: usize, P: Peek>(
 {
     let key = key_at::<V, P>(checked, peek, item);
     let Held {
-        item: found, value, ..
+        item: found,
+        value,
+        ..
     } = read::<V, P>(checked, peek, key)?;
     if found == item {
         Some((key, value))

@@ -47,11 +47,7 @@ pub struct Held<const V: usize> {
 }
 
 /// The item at which the key stands, its value and its stamp. Condition: the words agree with some history, and no deed runs.
-pub fn read<const V: usize, P: Peek>(
-    checked: &Checked,
-    peek: &mut P,
-    key: u64,
-) -> Option<Held<V>>
+pub fn read<const V: usize, P: Peek>(checked: &Checked, peek: &mut P, key: u64) -> Option<Held<V>>
     requires width { IsWidth V }
     requires agrees { (h : List (Change V)) × Agrees V (shape_of checked.now) (P.words peek.old) None h }
     ensures found { (h : List (Change V)) → Agrees V (shape_of checked.now) (P.words peek.old) None h → IfSome result (λ held. map_value h key ≡ Some (held.value ++ held.since ∷ [])) }

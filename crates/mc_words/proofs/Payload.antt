@@ -49,14 +49,16 @@ whole_payload V n xs whole is =
 -- an item that has this value and this stamp
 pub payload_from : (V : ℕ) (sh : Shape) (w : List ℕ) (i n : ℕ) (v : List ℕ) → HasValue V sh w i v → item V sh w i (payload V) ≡ n → HasPayload V sh w i (v ++ n ∷ [])
 payload_from V sh w i n v has is =
-    let all = length-append v (n ∷ []) in
-    (omega (arith, all, has.0, payload_is V), λ j l.
-        elim (cases_eq j V) [
-          | inl e ↦ ap (item V sh w i) (omega (arith, e, payload_is V)) ∙ is ∙ sym (get_or_push v n 0 j (omega (arith, e, has.0)))
-          | inr ne ↦
-              let less : j < length v = omega (arith, l, ne, all, has.0) in
-              has.1 j less ∙ sym (get_or_append_left v (n ∷ []) 0 j less)
-        ])
+    let all = length-append v (n ∷ []) in (
+      omega (arith, all, has.0, payload_is V),
+      λ j l.
+          elim (cases_eq j V) [
+            | inl e ↦ ap (item V sh w i) (omega (arith, e, payload_is V)) ∙ is ∙ sym (get_or_push v n 0 j (omega (arith, e, has.0)))
+            | inr ne ↦
+                let less : j < length v = omega (arith, l, ne, all, has.0) in
+                has.1 j less ∙ sym (get_or_append_left v (n ∷ []) 0 j less)
+          ],
+    )
 
 -- an item that has these words has the value in them
 pub value_in : (V : ℕ) (sh : Shape) (w : List ℕ) (i : ℕ) (xs : List ℕ) → HasPayload V sh w i xs → HasValue V sh w i (value_of V xs)

@@ -18,7 +18,9 @@ pub enum Reply<const V: usize> {
         at: u64,
         since: u64,
     },
-    Absent { at: u64 },
+    Absent {
+        at: u64,
+    },
     /// Every try was spoiled by the writer.
     Busy,
 }

@@ -55,7 +55,16 @@ fn make_deed(
         Deed::Fill => {
             let name = Act::Item(item, 0, key);
             let slot = Act::Slot(place, u64::from(item) + 1);
-            let acts = [open, name, value, stamp, slot, Act::Moment, Act::Close, mark];
+            let acts = [
+                open,
+                name,
+                value,
+                stamp,
+                slot,
+                Act::Moment,
+                Act::Close,
+                mark,
+            ];
             make_all(cells, writer, world, &acts)
         }
         Deed::Renew => {
