@@ -295,7 +295,8 @@ fn look_up(clerk: &Clerk<1>, driver: &Driver, key: u64) -> (Option<Entry>, u64)
     requires { IsBeside clerk.now (shape_of driver.now.checked) driver.now.words.items }
 {
     let mut look = Look(driver.words.as_slice());
-    let entry = match read::<1, Look>(&driver.checked, &mut look, key) {
+    let held = read::<1, Look>(&driver.checked, &mut look, key);
+    let entry = match held {
         None => None,
         Some(held) => Some((held.item, held.value[0], held.since)),
     };
