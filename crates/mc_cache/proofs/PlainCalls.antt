@@ -1,5 +1,6 @@
 -- What calls of the cache mean, from what they do to records.
 use Rattle.std.proofs.Common.{ℕ, ◌≡◌, ◌∙◌, List, [], ◌∷◌, ◌++◌, length, Option, Some, None, Result, Ok, Err, All, ap, arith, append-nil, append_assoc, refl, sym, subst}
+use Rattle.std.proofs.lemmas.List.{length_push}
 use Rattle.std.proofs.lemmas.List.Elements.{All-weaker}
 use Rattle.mc_words.proofs.Maps.{held-put, held-remove}
 use Rattle.mc_words.specs.History.{map_value, IsLegal, IsTrueAnswer}
@@ -13,9 +14,11 @@ use Rattle.mc_theory.proofs.Lists.Histories.{history_all}
 use Rattle.mc_theory.specs.Lists.{IsLawful, Made, after_all, state_of}
 use Rattle.mc_theory.specs.Plain.{IsBetween}
 use Rattle.mc_theory.specs.States.{State, opening}
-use Rattle.mc_plan.specs.Calls.{PutAnswers, RemoveAnswers}
-use Rattle.mc_plan.specs.WholeCalls.{PutCall, RemoveCall, quiet_of}
+use Rattle.mc_plan.specs.Calls.{IfAnswers, PutAnswers, RemoveAnswers}
+use Rattle.mc_plan.specs.WholeCalls.{PutCall, PutIfCall, RemoveCall, quiet_of}
 use Rattle.mc_plan.specs.declared.answer.Answer.TheVariants as answer
+use Rattle.mc_plan.specs.declared.answer.IfError.{IfError}
+use Rattle.mc_plan.specs.declared.answer.IfError.TheVariants as why
 use Rattle.mc_plan.specs.declared.answer.Put.{Put}
 use Rattle.mc_plan.specs.declared.answer.Put.TheVariants.{Stored, Renewed}
 use Rattle.mc_plan.specs.declared.answer.PutError.{PutError}
@@ -40,31 +43,47 @@ use Rattle.mc_plan.specs.declared.books.Books.{Books}
 use Rattle.mc_words.specs.Places.{moment}
 use Rattle.mc_theory.specs.declared.act.Act.TheVariants.{Mark}
 use Rattle.mc_shared.specs.declared.layout.Layout.{Layout}
-use Rattle.mc_cache.specs.Plain.{Begins, HasAnswered, HasMet, PutMeans, RemovalMeans, TellsNow, history, seen}
+use Rattle.mc_cache.specs.Plain.{Begins, HasAnswered, HasMet, PutIfMeans, PutMeans, RemovalMeans, TellsNow, history, seen}
 
 -- ---- the states before a call and after it
+-- a put's key has the value after it, and the moment of the put behind it
+put_holds : {V : ℕ} (h h' : List (Change V)) (k at : ℕ) (v : List ℕ) → h' ≡ h ++ change.Put k v ∷ [] → at ≡ length h' → map_value h' k ≡ Some (v ++ at ∷ [])
+put_holds {V} h h' k at v grown is =
+    ap (λ (x : List (Change V)). map_value x k) grown ∙ held-put h k v ∙ ap (λ (n : ℕ). Some (v ++ n ∷ [])) (omega (arith, is, ap length grown, length_push h (change.Put k v)))
+
 put_answer_means : (V : ℕ) (sh : Shape) (s t : State V) (k : ℕ) (v : List ℕ) (told : Result Put PutError) → PutAnswers sh (quiet_of s) k v told (quiet_of t) → PutMeans V s.history t.history k v told
 put_answer_means V sh s t k v (Ok (Stored at moves None)) a = record {
   was = a.absent;
   grew = a.grows.history;
-  holds = ap (λ (h : List (Change V)). map_value h k) a.grows.history ∙ held-put s.history k v;
+  holds = put_holds s.history t.history k at v a.grows.history a.moment;
   at = a.moment;
 }
 put_answer_means V sh s t k v (Ok (Stored at moves (Some e))) a = record {
   was = (a.needs.absent, a.was);
   grew = a.grows.history;
-  holds = ap (λ (h : List (Change V)). map_value h k) (a.grows.history ∙ sym (append_assoc s.history (change.Evict e ∷ []) (change.Put k v ∷ []))) ∙ held-put (s.history ++ change.Evict e ∷ []) k v;
+  holds = put_holds (s.history ++ change.Evict e ∷ []) t.history k at v (a.grows.history ∙ sym (append_assoc s.history (change.Evict e ∷ []) (change.Put k v ∷ []))) a.moment;
   at = a.moment;
 }
 put_answer_means V sh s t k v (Ok (Renewed at)) a = record {
   was = a.present;
   grew = a.grows.history;
-  holds = ap (λ (h : List (Change V)). map_value h k) a.grows.history ∙ held-put s.history k v;
+  holds = put_holds s.history t.history k at v a.grows.history a.moment;
   at = a.moment;
 }
 put_answer_means V sh s t k v (Err NoPath) a = ap (λ (q : Quiet V). q.history) a.unchanged
 put_answer_means V sh s t k v (Err AllRecent) a = ap (λ (q : Quiet V). q.history) a.unchanged
 put_answer_means V sh s t k v (Err Spent) a = ap (λ (q : Quiet V). q.history) a.1
+
+if_answer_means : (V : ℕ) (sh : Shape) (s t : State V) (k since : ℕ) (v : List ℕ) (told : Result ℕ IfError) → IfAnswers sh (quiet_of s) k since v told (quiet_of t) → PutIfMeans V s.history t.history k since v told
+if_answer_means V sh s t k since v (Ok at) a = record {
+  was = (a.value, a.held, a.size);
+  grew = a.grows.history;
+  holds = put_holds s.history t.history k at v a.grows.history a.moment;
+  at_end = a.moment;
+}
+if_answer_means V sh s t k since v (Err why.Spent) a = ap (λ (q : Quiet V). q.history) a.1
+if_answer_means V sh s t k since v (Err (why.NotThere at)) a = (a.absent, ap (λ (q : Quiet V). q.history) a.unchanged, a.moment)
+if_answer_means V sh s t k since v (Err (why.Changed stands)) a = ((a.value, a.held, a.size), a.other, ap (λ (q : Quiet V). q.history) a.unchanged)
 
 removal_answer_means : (V : ℕ) (sh : Shape) (s t : State V) (k : ℕ) (told : Result Remove RemoveSpent) → RemoveAnswers sh (quiet_of s) k told (quiet_of t) → RemovalMeans V s.history t.history k told
 removal_answer_means V sh s t k (Ok (Removed at)) a = (a.present, a.grows.history, ap (λ (h : List (Change V)). map_value h k) a.grows.history ∙ held-remove s.history k, a.moment)
@@ -101,6 +120,12 @@ module _ (V : ℕ) (o cells : Opening) (self seat : WriterRecord) (table : cells
       subst (λ (p : List (Change V) × List (Change V)). PutMeans V p.0 p.1 k v told) (λ i. (sym history_before i, sym (history_called after h.made h.of h.acts) i))
       (put_answer_means V cells.layout.shape s (after_all cells.layout.shape s h.made) k v told h.answered.means)
 
+  pub put_if_means : (after : WriterRecord) (k since : ℕ) (v : List ℕ) (told : Result ℕ IfError) → HasCalled V cells.layout.shape (PutIfCall k since v) seat after (answer.PutIf told) → PutIfMeans V (history V self) (history V after) k since v told
+  put_if_means after k since v told h =
+      let s = state_of V cells.layout.shape seat.acts in
+      subst (λ (p : List (Change V) × List (Change V)). PutIfMeans V p.0 p.1 k since v told) (λ i. (sym history_before i, sym (history_called after h.made h.of h.acts) i))
+      (if_answer_means V cells.layout.shape s (after_all cells.layout.shape s h.made) k since v told h.answered.means)
+
   pub removal_means : (after : WriterRecord) (k : ℕ) (told : Result Remove RemoveSpent) → HasCalled V cells.layout.shape (RemoveCall k) seat after (answer.Remove told) → RemovalMeans V (history V self) (history V after) k told
   removal_means after k told h =
       let s = state_of V cells.layout.shape seat.acts in
@@ -109,12 +134,12 @@ module _ (V : ℕ) (o cells : Opening) (self seat : WriterRecord) (table : cells
 
   -- a mark changes no map
   history_kept : (after : WriterRecord) (k : ℕ) (reply : Reply V) → HasGot V cells.layout.shape k seat after reply → history V after ≡ (state_of V cells.layout.shape seat.acts).history
-  history_kept after k (Found v at) h = history_called after (with_bit (Mark h.replies.2.1) 0 ∷ []) h.of h.replies.2.3
+  history_kept after k (Found v at since) h = history_called after (with_bit (Mark h.replies.2.1) 0 ∷ []) h.of h.replies.2.3
   history_kept after k (Absent at) h = history_called after [] h.of (h.replies.2 ∙ sym (append-nil seat.acts))
   history_kept after k Busy h = absurd h.replies
 
   told_now : (h : List (Change V)) (after : WriterRecord) (k : ℕ) (reply : Reply V) → h ≡ (state_of V cells.layout.shape seat.acts).history → HasGot V cells.layout.shape k seat after reply → TellsNow h k reply
-  told_now h after k (Found v at) e g = (ap (λ (x : List (Change V)). map_value x k) e ∙ g.replies.0, g.replies.1 ∙ sym (ap length e))
+  told_now h after k (Found v at since) e g = (ap (λ (x : List (Change V)). map_value x k) e ∙ g.replies.0, g.replies.1 ∙ sym (ap length e))
   told_now h after k (Absent at) e g = (ap (λ (x : List (Change V)). map_value x k) e ∙ g.replies.0, g.replies.1 ∙ sym (ap length e))
   told_now h after k Busy e g = absurd g.replies
 

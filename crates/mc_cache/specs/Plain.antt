@@ -1,7 +1,7 @@
 -- What the calls of a cache mean for whoever uses it: the clauses `plain`. Of the table they name no word: they speak of two
 -- histories, which are lists of changes of a map. The writer's has every change that was made. A reader's is the part of it that
 -- the reader is known to have seen.
-use Rattle.std.specs.Prelude.{ℕ, ◌≡◌, List, [], ◌∷◌, ◌++◌, length, Some, None, IsSome, Result, Ok, Err}
+use Rattle.std.specs.Prelude.{ℕ, ◌≡◌, ◌≢◌, List, [], ◌∷◌, ◌++◌, length, Some, None, IsSome, Result, Ok, Err}
 pub use Rattle.mc_words.specs.History.{map_value, IsLegal, IsTrueAnswer}
 pub use Rattle.mc_theory.specs.Plain.{IsBetween}
 pub use Rattle.mc_search.specs.Entries.{AreEntriesOf}
@@ -9,6 +9,8 @@ use Rattle.mc_words.specs.declared.history.Change.{Change}
 use Rattle.mc_words.specs.declared.history.Change.TheVariants as change
 use Rattle.mc_words.specs.declared.history.Reply.{Reply}
 use Rattle.mc_words.specs.declared.history.Reply.TheVariants.{Found, Absent, Busy}
+use Rattle.mc_plan.specs.declared.answer.IfError.{IfError}
+use Rattle.mc_plan.specs.declared.answer.IfError.TheVariants as why
 use Rattle.mc_plan.specs.declared.answer.Put.{Put}
 use Rattle.mc_plan.specs.declared.answer.Put.TheVariants.{Stored, Renewed}
 use Rattle.mc_plan.specs.declared.answer.PutError.{PutError}
@@ -32,7 +34,7 @@ Begins {V} h h' = (more : List (Change V)) × (h' ≡ h ++ more)
 
 -- the reply is what the map of the history holds of the key, at its end
 abbrev pub TellsNow : {V : ℕ} → List (Change V) → ℕ → Reply V → Type 0
-TellsNow h k (Found v at) = (map_value h k ≡ Some v) × (at ≡ length h)
+TellsNow h k (Found v at since) = (map_value h k ≡ Some (v ++ since ∷ [])) × (at ≡ length h)
 TellsNow h k (Absent at) = (map_value h k ≡ None) × (at ≡ length h)
 TellsNow h k Busy = ⊥
 
@@ -52,17 +54,35 @@ abbrev pub moment_of : Put → ℕ
 moment_of (Stored at moves evicted) = at
 moment_of (Renewed at) = at
 
--- from the one history a put has made the other, in which the key has the value
+-- from the one history a put has made the other, in which the key has the value, and as its stamp the moment of this put
 pub record HasPut (V : ℕ) (h h' : List (Change V)) (k : ℕ) (v : List ℕ) (told : Put) : Type 0 where
   pub was : WasThere h k told
   pub grew : h' ≡ h ++ put_changes k v told
-  pub holds : map_value h' k ≡ Some v
+  pub holds : map_value h' k ≡ Some (v ++ moment_of told ∷ [])
   pub at : moment_of told ≡ length h'
 
 -- what the answer of a put means: a refused one has changed nothing
 abbrev pub PutMeans : (V : ℕ) → List (Change V) → List (Change V) → ℕ → List ℕ → Result Put PutError → Type 0
 PutMeans V h h' k v (Ok told) = HasPut V h h' k v told
 PutMeans V h h' k v (Err why) = h' ≡ h
+
+-- the map of the history holds some value of the key, with this stamp behind it
+abbrev pub HasStamp : {V : ℕ} → List (Change V) → ℕ → ℕ → Type 0
+HasStamp {V} h k since = (v : List ℕ) × (map_value h k ≡ Some (v ++ since ∷ [])) × (length v ≡ V)
+
+-- from the one history a put on a condition has made the other: the key's last put was the one that the caller had seen
+pub record HasPutIf (V : ℕ) (h h' : List (Change V)) (k since : ℕ) (v : List ℕ) (at : ℕ) : Type 0 where
+  pub was : HasStamp h k since
+  pub grew : h' ≡ h ++ change.Put k v ∷ []
+  pub holds : map_value h' k ≡ Some (v ++ at ∷ [])
+  pub at_end : at ≡ length h'
+
+-- what the answer of a put on a condition means: a refused one has changed nothing
+abbrev pub PutIfMeans : (V : ℕ) → List (Change V) → List (Change V) → ℕ → ℕ → List ℕ → Result ℕ IfError → Type 0
+PutIfMeans V h h' k since v (Ok at) = HasPutIf V h h' k since v at
+PutIfMeans V h h' k since v (Err why.Spent) = h' ≡ h
+PutIfMeans V h h' k since v (Err (why.NotThere at)) = (map_value h k ≡ None) × (h' ≡ h) × (at ≡ length h)
+PutIfMeans V h h' k since v (Err (why.Changed stands)) = HasStamp h k stands × (stands ≢ since) × (h' ≡ h)
 
 -- what the answer of a removal means
 abbrev pub RemovalMeans : (V : ℕ) → List (Change V) → List (Change V) → ℕ → Result Remove Spent → Type 0

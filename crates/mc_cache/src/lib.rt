@@ -24,7 +24,7 @@ mod writer;
 
 pub use cache::Cache;
 pub use closing::StillOpen;
-pub use mc_plan::{Put, PutError, Remove, Spent};
+pub use mc_plan::{IfError, Put, PutError, Remove, Spent};
 pub use mc_words::{Change, Mix, Reply, Shape, ShapeError};
 pub use opening::{OpenError, open};
 pub use reader::Reader;

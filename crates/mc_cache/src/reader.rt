@@ -103,10 +103,11 @@ impl<const V: usize> Reader<V> {
     {
         let at = self.catch_up(cache, writer);
         match look(&cache.cells, &mut writer.seat, &writer.books, key) {
-            Some(hit) => {
-                let value = hit.1;
-                mark_unless_set(&cache.cells, &mut self.seat, hit.0);
-                Reply::Found { value, at }
+            Some(held) => {
+                let value = held.value;
+                let since = held.since;
+                mark_unless_set(&cache.cells, &mut self.seat, held.item);
+                Reply::Found { value, at, since }
             }
             None => Reply::Absent { at },
         }

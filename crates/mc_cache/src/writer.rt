@@ -3,16 +3,16 @@ ghost use Rattle.std.specs.Prelude.{◌≡◌, length};
 ghost use Rattle.mc_theory.specs.Lists.{state_of};
 ghost use Rattle.mc_shared.specs.SeatFacts.{IsRun};
 ghost use Rattle.mc_cache.specs.Resting.{IsAtRest};
-ghost use Rattle.mc_cache.specs.Plain.{IsLegal, PutMeans, RemovalMeans, TellsNow, history};
-ghost use Rattle.mc_plan.specs.WholeCalls.{PutCall, RemoveCall};
+ghost use Rattle.mc_cache.specs.Plain.{IsLegal, PutIfMeans, PutMeans, RemovalMeans, TellsNow, history};
+ghost use Rattle.mc_plan.specs.WholeCalls.{PutCall, PutIfCall, RemoveCall};
 ghost use Rattle.mc_plan.specs.declared.answer.Answer.TheVariants as answer;
 ghost use Rattle.mc_writer.specs.WriterCalls.{HasCalled, HasGot};
 
 use crate::cache::Cache;
-use mc_plan::{Books, Put, PutError, Remove, Spent};
+use mc_plan::{Books, IfError, Put, PutError, Remove, Spent};
 use mc_shared::WriterSeat;
 use mc_words::Reply;
-use mc_writer::{get, put, remove};
+use mc_writer::{get, put, put_if, remove};
 use std::marker::Model;
 
 /// The one writer of a cache. Contracts see it as its record: the acts that were made.
@@ -44,6 +44,30 @@ impl<const V: usize> Writer<V> {
         ensures plain { PutMeans V (history V self.old) (history V self.new) key value.entry result }
     {
         put(&cache.cells, &mut self.seat, &mut self.books, key, &value)
+    }
+
+    /// Puts a key anew, if its last put was at the moment `since`, which a lookup of it told: the moment of the new put.
+    /// `Err` where nothing was changed, the first that applies: `Spent` where the limit on version changes could be passed,
+    /// `NotThere` where the key isn't there, `Changed` with the stamp that stands where the key was put at another moment.
+    pub fn put_if(
+        &mut self,
+        cache: &Cache<V>,
+        key: u64,
+        since: u64,
+        value: [u64; V],
+    ) -> Result<u64, IfError>
+        requires of { self.old.of ≡ cache.now }
+        ensures called { HasCalled V cache.now.layout.shape (PutIfCall key since value.entry) self.old self.new (answer.PutIf result) }
+        ensures plain { PutIfMeans V (history V self.old) (history V self.new) key since value.entry result }
+    {
+        put_if(
+            &cache.cells,
+            &mut self.seat,
+            &mut self.books,
+            key,
+            since,
+            &value,
+        )
     }
 
     /// Takes a key out. `Err(Spent)` where the limit on version changes could be passed: nothing was changed.

@@ -1,6 +1,7 @@
 //! The last change of a key before a moment.
 ghost use Rattle.std.specs.Prelude.{◌≡◌, ◌≤◌, ◌<◌, length, IfSome};
-ghost use Rattle.mc_check.specs.Inside.Last.{IsLast, key_in, value_after};
+ghost use Rattle.std.specs.Bool.{Decides};
+ghost use Rattle.mc_check.specs.Inside.Last.{IsLast, IsStampOf, key_in, value_after};
 
 use mc_words::Change;
 
@@ -27,6 +28,16 @@ pub(crate) fn value_of<const V: usize>(
             Change::Put(_, value) => Some(value),
             Change::Remove(_) | Change::Evict(_) => None,
         },
+    }
+}
+
+/// Whether the key's last change is the one of this number, counted from 1. It is the stamp of a key that the map holds.
+pub(crate) fn is_stamp(last: Option<usize>, since: u64) -> bool
+    ensures { Decides result (IsStampOf last since) }
+{
+    match last {
+        None => false,
+        Some(n) => since > 0 && since - 1 == n as u64,
     }
 }
 

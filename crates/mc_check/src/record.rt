@@ -4,7 +4,7 @@ ghost use Rattle.std.specs.Bool.{Decides};
 ghost use Rattle.mc_words.specs.History.{IsTrueAnswer};
 ghost use Rattle.mc_check.specs.Inside.Last.{IsLast, moment_in};
 
-use crate::last::value_of;
+use crate::last::{is_stamp, value_of};
 use mc_words::{Change, Reply};
 
 /// What a reader was told of a key.
@@ -37,7 +37,9 @@ pub(crate) fn is_true<const V: usize>(
     ensures { Decides result (IsTrueAnswer history.now told.now.key told.now.reply) }
 {
     match told.reply {
-        Reply::Found { value, .. } => value_of(history, last) == Some(value),
+        Reply::Found { value, since, .. } => {
+            is_stamp(last, since) && value_of(history, last) == Some(value)
+        }
         Reply::Absent { .. } => value_of(history, last).is_none(),
         Reply::Busy => true,
     }

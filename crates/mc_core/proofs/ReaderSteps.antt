@@ -9,7 +9,7 @@ use Rattle.mc_words.specs.declared.shape.Shape.{Shape}
 use Rattle.mc_lookup.specs.Course.{BeginsWith}
 use Rattle.mc_theory.specs.Lists.{IsLawful, state_of}
 use Rattle.mc_theory.specs.Lookups.{IsLookup}
-use Rattle.mc_lookup.specs.Machine.{shape_for, next_at, next_access, reply_at, reply_now, IsRemainderAt, IsRemainder, Consumes}
+use Rattle.mc_lookup.specs.Machine.{shape_for, held_by, next_at, next_access, reply_at, reply_now, IsRemainderAt, IsRemainder, Consumes}
 use Rattle.mc_core.specs.Inside.Parts.{shape_of_parts, StandFor}
 use Rattle.mc_theory.specs.Phases.{close_owed}
 use Rattle.mc_theory.specs.Readings.{Reading, IsWordOf}
@@ -26,7 +26,7 @@ use Rattle.mc_lookup.specs.declared.lookup.Lookup.{Lookup}
 use Rattle.mc_core.specs.declared.parts.Parts.{Parts}
 use Rattle.mc_core.specs.declared.reader.Reader.{Reader}
 use Rattle.mc_lookup.specs.declared.stage.Stage.{Stage}
-use Rattle.mc_lookup.specs.declared.stage.Stage.TheVariants.{First, Slot, Key, Value, Moment, Last, Mark, Over}
+use Rattle.mc_lookup.specs.declared.stage.Stage.TheVariants.{First, Slot, Key, Value, Stamp, Moment, Last, Mark, Over}
 use Rattle.mc_core.specs.declared.writer.Writer.{Writer}
 use Rattle.mc_core.proofs.PairedLists.{both_set, both_some, both_none, set_there}
 use Rattle.mc_lookup.proofs.NextAccess.{next_is_determined, can_end}
@@ -36,12 +36,13 @@ use Rattle.mc_theory.specs.declared.access.Access.TheVariants as access
 use Rattle.mc_core.specs.Inside.Seen.{MarksIn}
 
 -- ---- the end of a lookup
-over_at : {V : ℕ} (l : Lookup V) (st : Stage) (reply : Reply V) → reply_at {V = V} l st ≡ Some reply → IsRemainderAt V (shape_for {V = V} l) l.key l.tries l.version l.value l.reply st [] reply
+over_at : {V : ℕ} (l : Lookup V) (st : Stage) (reply : Reply V) → reply_at {V = V} l st ≡ Some reply → IsRemainderAt V (shape_for {V = V} l) l.key l.tries l.version (held_by {V = V} l) l.reply st [] reply
 over_at l Over reply e = let is : reply ≡ l.reply = cc in (refl, is)
 over_at l First reply e = absurd (cc (e))
 over_at l (Slot j) reply e = absurd (cc (e))
 over_at l (Key j i) reply e = absurd (cc (e))
 over_at l (Value i c) reply e = absurd (cc (e))
+over_at l (Stamp i) reply e = absurd (cc (e))
 over_at l (Moment hit) reply e = absurd (cc (e))
 over_at l (Last hit at) reply e = absurd (cc (e))
 over_at l (Mark i) reply e = absurd (cc (e))
@@ -57,6 +58,7 @@ going_at l First e = refl
 going_at l (Slot j) e = refl
 going_at l (Key j i) e = refl
 going_at l (Value i c) e = refl
+going_at l (Stamp i) e = refl
 going_at l (Moment hit) e = refl
 going_at l (Last hit at) e = refl
 going_at l (Mark i) e = refl
@@ -217,4 +219,5 @@ marks_in V sh (access.Version t) l = tt
 marks_in V sh (access.Slot p) l = tt
 marks_in V sh (access.Key i) l = tt
 marks_in V sh (access.Value i j) l = tt
+marks_in V sh (access.Stamp i) l = tt
 marks_in V sh access.Moment l = tt

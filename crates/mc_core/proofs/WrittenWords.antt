@@ -1,7 +1,9 @@
 -- The words that were written after a key, and where a key stands once.
-use Rattle.std.proofs.Common.{ℕ, ◌≡◌, ◌+◌, ◌/◌, ◌≤◌, Option, Some, None, subst, List, length, take, sym, ◌∙◌, ap, arith}
+use Rattle.std.proofs.Common.{ℕ, ◌≡◌, ◌+◌, ◌/◌, ◌<◌, ◌≤◌, Option, Some, None, refl, subst, List, [], ◌∷◌, ◌++◌, length, take, set, sym, ◌∙◌, ap, arith, length-append}
 use Rattle.std.specs.Prelude.{◌↔◌}
-use Rattle.std.proofs.lemmas.List.{length-take, take_all}
+use Rattle.std.proofs.lemmas.List.{length-take, take_all, take_at, set-append_left}
+use Rattle.std.proofs.lemmas.Grind.{take-set_at}
+use Rattle.mc_words.proofs.Payload.{payload_is}
 use Rattle.mc_words.specs.Keys.{tag_of, alternate, IsBucketOf}
 use Rattle.mc_words.specs.Places.{payload, IsPlace, slot_number, slot}
 use Rattle.mc_words.specs.Standing.{Stands, OnlyAt, AgreesAt}
@@ -17,8 +19,16 @@ use Rattle.mc_words.specs.declared.history.Change.{Change}
 
 -- an item's words behind its key, written or not
 pub many_words : {V : ℕ} (xs : Written V) → length (payload_in {V = V} xs) ≡ payload V
-unfolding payload
-many_words xs = xs.whole
+many_words {V} xs = omega (arith, xs.whole, length-append xs.value (xs.stamp ∷ []), payload_is V)
+
+-- a word of the value is kept, or the stamp behind them
+pub kept_in_value : (v : List ℕ) (s c n x : ℕ) → n ≡ c → c < length v → take (c + 1) (set v n x ++ s ∷ []) ≡ take c (v ++ s ∷ []) ++ x ∷ []
+kept_in_value v s c n x e l =
+    ap (λ (i : ℕ). take (c + 1) (set v i x ++ s ∷ [])) e ∙ ap (take (c + 1)) (sym (set-append_left v (s ∷ []) c x l)) ∙ take-set_at (v ++ s ∷ []) c (c + 1) x refl (omega (arith, l, length-append v (s ∷ [])))
+
+pub kept_as_stamp : (v : List ℕ) (s c x : ℕ) → length v ≡ c → take (c + 1) (v ++ x ∷ []) ≡ take c (v ++ s ∷ []) ++ x ∷ []
+kept_as_stamp v s c x e =
+    take_all (c + 1) (v ++ x ∷ []) (omega (arith, e, length-append v (x ∷ []))) ∙ ap (λ (ys : List ℕ). ys ++ x ∷ []) (sym (take_at v (s ∷ []) c e))
 
 -- the first of them are as many as were written
 written_are : {V : ℕ} (c : ℕ) (xs : Written V) → c ≤ payload V → length (take c (payload_in {V = V} xs)) ≡ c

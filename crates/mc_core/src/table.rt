@@ -4,7 +4,7 @@ ghost use Rattle.mc_words.specs.Checks.{shape_of};
 ghost use Rattle.mc_words.specs.Places.{word_count};
 
 use mc_theory::Access;
-use mc_words::{Checked, Place};
+use mc_words::{Checked, Place, payload_words};
 use std::alloc::{AllocError, Global};
 
 /// The words without the recency bits, a flag for each item that a slot names, and how many items no slot names.
@@ -70,8 +70,16 @@ impl<const V: usize> Table<V> {
         self.words[self.checked.item_place::<V>(i, j)]
     }
 
+    /// The moment.
+    #[tactic(auto, unfolding(mc_words::specs::Places::moment))]
+    pub(crate) fn moment(&self) -> u64
+        ensures { result ≡ moment (words_of_table {V = V} self.now) }
+    {
+        self.words[self.checked.moment_place()]
+    }
+
     /// The word that an access reads. A mark reads none.
-    #[tactic(auto, unfolding(mc_words::specs::Places::version, mc_words::specs::Places::moment))]
+    #[tactic(auto, unfolding(mc_words::specs::Places::version))]
     pub(crate) fn read(&self, access: Access) -> u64
         requires { IsAccess V (shape_of_table {V = V} self.now) access }
         ensures { IsWordOf V (shape_of_table {V = V} self.now) (words_of_table {V = V} self.now) access result }
@@ -81,7 +89,8 @@ impl<const V: usize> Table<V> {
             Access::Slot(place) => self.slot(place),
             Access::Key(i) => self.item(i, 0),
             Access::Value(i, j) => self.item(i, j),
-            Access::Moment => self.words[self.checked.moment_place()],
+            Access::Stamp(i) => self.item(i, payload_words::<V>() as u8),
+            Access::Moment => self.moment(),
             Access::Mark(_) => 0,
         }
     }

@@ -1,10 +1,11 @@
 //! The words that the writer wrote of an item behind its key.
 ghost use Rattle.std.specs.Prelude.{◌≡◌, ◌≤◌, length};
 
-/// As many words as an item keeps behind its key. Those that weren't written yet are of no account.
+/// As many words as an item keeps behind its key: a value, and then its stamp. Those that weren't written yet are of no account.
 #[derive(Clone, Copy)]
 pub(crate) struct Written<const V: usize> {
     value: [u64; V],
+    stamp: u64,
     ghost some_words: { 1 ≤ V },
     ghost most_words: { V ≤ 8 },
     ghost whole: { length value ≡ V },
@@ -20,7 +21,10 @@ impl<const V: usize> Written<V> {
     pub(crate) fn none() -> Written<V>
         requires { IsWidth V }
     {
-        Written { value: [0; V] }
+        Written {
+            value: [0; V],
+            stamp: 0,
+        }
     }
 
     /// The value in them.
@@ -35,6 +39,11 @@ impl<const V: usize> Written<V> {
         requires { count < payload V }
         ensures { take (count + 1) (payload_in {V = V} self.new) ≡ take count (payload_in {V = V} self.old) ++ word ∷ [] }
     {
-        self.value[count as usize] = word;
+        let place = usize::from(count);
+        if place < V {
+            self.value[place] = word;
+        } else {
+            self.stamp = word;
+        }
     }
 }

@@ -53,7 +53,10 @@ from_even V sh k t r rs reply a even s = rw s.3 (go s.1 s.4 s.5)
   where
     go : (hit : Option ℕ) → Scans sh k (slots_for sh k) s.0 hit → RemainderAtHit V sh k t r.word hit s.2 reply → IsLookup V sh k (suc t) (r ∷ (s.0 ++ s.2)) reply
     go None scans m = try_end V sh k t r s.0 [] s.2 None [] reply a even scans (refl, refl) m
-    go (Some i) scans m = rw m.3 (try_end V sh k t r s.0 m.0 m.2 (Some i) m.1 reply a even scans (m.4, m.5) m.6)
+    go (Some i) scans m =
+        let st = m.6 in
+        let parts : s.2 ≡ (m.0 ++ st.0 ∷ []) ++ st.1 = m.3 ∙ ap (λ y. m.0 ++ y) st.2 ∙ sym (append_assoc m.0 (st.0 ∷ []) st.1) in
+        rw parts (try_end V sh k t r s.0 (m.0 ++ st.0 ∷ []) st.1 (Some i) (m.1 ++ st.0.word ∷ []) reply a even scans (m.0, st.0, m.1, refl, refl, m.4, m.5, st.3) st.4)
 
 -- a slot that doesn't name the tag
 pub from_other : (V : ℕ) (sh : Shape) (k t x : ℕ) (p : Place) (ps : List Place) (r : Reading) (rs : List Reading) (reply : Reply V) → r.access ≡ Slot p → ((i : ℕ) → TagMatches sh k r.word i → ⊥) → RemainderAtSlots V sh k t x ps rs reply → RemainderAtSlots V sh k t x (p ∷ ps) (r ∷ rs) reply

@@ -3,7 +3,7 @@ use Rattle.std.proofs.Common.{ℕ, suc, ◌≡◌, ◌≢◌, ◌+◌, ◌%◌, 
 use Rattle.std.proofs.lemmas.List.{append_assoc, append-nil, length_push}
 use Rattle.mc_theory.specs.Lookups.{IsLookup, MarksHit, TagMatches, ReadsHit, ReadsValues, Tries, reply_of, slots_for}
 use Rattle.mc_theory.specs.Readings.{Reading}
-use Rattle.mc_lookup.specs.Rest.{RemainderAtHit, RemainderAtKey, RemainderAtMoment, RemainderAtSlots, RemainderAtValues}
+use Rattle.mc_lookup.specs.Rest.{RemainderAtHit, RemainderAtKey, RemainderAtMoment, RemainderAtSlots, RemainderAtStamp, RemainderAtValues}
 use Rattle.mc_words.specs.Keys.{stripe_of}
 use Rattle.mc_words.specs.declared.history.Reply.{Reply}
 use Rattle.mc_words.specs.declared.place.Place.{Place}
@@ -19,7 +19,10 @@ rest_hit : (V : ℕ) (sh : Shape) (k t x at after : ℕ) (hit : Option ℕ) (v :
 rest_hit V sh k t x at after None v values ys mid last reply reads a e b f go =
     rw reads.0 (mid, last ∷ ys, refl, a, (last, ys, refl, b, elim go [ inl h ↦ inl (rw f h.0, h.1) | inr h ↦ inr (f ∙ h.0, h.1, h.2 ∙ ap (λ y. reply_of {V = V} None v y) (sym e)) ]))
 rest_hit V sh k t x at after (Some i) v values ys mid last reply reads a e b f go =
-    (values, v, mid ∷ last ∷ ys, refl, reads.0, reads.1, (mid, last ∷ ys, refl, a, (last, ys, refl, b, elim go [ inl h ↦ inl (rw f h.0, h.1) | inr h ↦ inr (f ∙ h.0, h.1, h.2 ∙ ap (λ y. reply_of {V = V} (Some i) v y) (sym e)) ])))
+    let parts : values ++ mid ∷ last ∷ ys ≡ reads.0 ++ reads.1 ∷ mid ∷ last ∷ ys = ap (λ y. y ++ mid ∷ last ∷ ys) reads.3 ∙ append_assoc reads.0 (reads.1 ∷ []) (mid ∷ last ∷ ys) in
+    let end : RemainderAtMoment V sh k t x (Some i) v (mid ∷ last ∷ ys) reply =
+    (mid, last ∷ ys, refl, a, (last, ys, refl, b, elim go [ inl h ↦ inl (rw f h.0, h.1) | inr h ↦ inr (f ∙ h.0, h.1, h.2 ∙ ap (λ y. reply_of {V = V} (Some i) v y) (sym e)) ])) in
+    (reads.0, reads.2, reads.1 ∷ mid ∷ last ∷ ys, parts, reads.5, reads.6, (reads.1, mid ∷ last ∷ ys, refl, reads.7, subst (λ (y : List ℕ). RemainderAtMoment V sh k t x (Some i) y (mid ∷ last ∷ ys) reply) reads.4 end))
 
 -- the first reading of a try, and what comes after it
 abbrev pub FirstReading : (V : ℕ) → Shape → ℕ → ℕ → List Reading → Reply V → Type 0
@@ -84,12 +87,12 @@ slots_over V sh k t x rs reply s =
 
 -- the reading of a value word
 pub value_reading : (V : ℕ) (sh : Shape) (k t x i : ℕ) (got : List ℕ) (rs : List Reading) (reply : Reply V) → RemainderAtValues V sh k t x i got rs reply →
-    ((length got ≡ V) × RemainderAtMoment V sh k t x (Some i) got rs reply) ⊎
+    ((length got ≡ V) × RemainderAtStamp V sh k t x i got rs reply) ⊎
     ((r : Reading) × (more : List Reading) × (rs ≡ r ∷ more) × (r.access ≡ Value i (suc (length got))) × RemainderAtValues V sh k t x i (got ++ r.word ∷ []) more reply)
 value_reading V sh k t x i got rs reply m = go m.0 m.1 m.3 m.4 m.5 m.6
   where
-    go : (xs : List Reading) (v : List ℕ) → rs ≡ xs ++ m.2 → length (got ++ v) ≡ V → ReadsValues i (suc (length got)) xs v → RemainderAtMoment V sh k t x (Some i) (got ++ v) m.2 reply →
-        ((length got ≡ V) × RemainderAtMoment V sh k t x (Some i) got rs reply) ⊎
+    go : (xs : List Reading) (v : List ℕ) → rs ≡ xs ++ m.2 → length (got ++ v) ≡ V → ReadsValues i (suc (length got)) xs v → RemainderAtStamp V sh k t x i (got ++ v) m.2 reply →
+        ((length got ≡ V) × RemainderAtStamp V sh k t x i got rs reply) ⊎
         ((r : Reading) × (more : List Reading) × (rs ≡ r ∷ more) × (r.access ≡ Value i (suc (length got))) × RemainderAtValues V sh k t x i (got ++ r.word ∷ []) more reply)
     go [] [] e l reads rest = inl (rw append-nil at l, rw e (rw append-nil at rest))
     go (r ∷ rs') (y ∷ ys) e l reads rest =

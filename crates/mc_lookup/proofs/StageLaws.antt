@@ -10,8 +10,8 @@ use Rattle.mc_words.specs.declared.place.Place.{Place}
 use Rattle.mc_words.specs.declared.shape.Shape.{Shape}
 use Rattle.mc_theory.specs.Lookups.{TagMatches, MarksHit, reply_of, slots_for, IsLookup}
 use Rattle.mc_theory.specs.Readings.{Reading}
-use Rattle.mc_lookup.specs.Rest.{RemainderAtMoment, RemainderAtValues, RemainderAtSlots, RemainderAtKey, RemainderAtLast}
-use Rattle.mc_theory.specs.declared.access.Access.TheVariants.{Version, Slot, Key, Value, Moment, Mark}
+use Rattle.mc_lookup.specs.Rest.{RemainderAtMoment, RemainderAtStamp, RemainderAtValues, RemainderAtSlots, RemainderAtKey, RemainderAtLast}
+use Rattle.mc_theory.specs.declared.access.Access.TheVariants.{Version, Slot, Key, Value, Stamp, Moment, Mark}
 use Rattle.mc_lookup.proofs.Prepend.{from_odd, from_even, from_other, from_meet, from_none, from_value}
 use Rattle.mc_lookup.proofs.Split.{first_reading, slot_reading, slots_over, value_reading}
 
@@ -125,7 +125,7 @@ feed_value V sh k t x i got r rs reply more a = (
 )
 
 -- all words of the value
-pub feed_full : (V : ℕ) (sh : Shape) (k t x i : ℕ) (got : List ℕ) (rs : List Reading) (reply : Reply V) → length got ≡ V → RemainderAtMoment V sh k t x (Some i) got rs reply ↔ RemainderAtValues V sh k t x i got rs reply
+pub feed_full : (V : ℕ) (sh : Shape) (k t x i : ℕ) (got : List ℕ) (rs : List Reading) (reply : Reply V) → length got ≡ V → RemainderAtStamp V sh k t x i got rs reply ↔ RemainderAtValues V sh k t x i got rs reply
 feed_full V sh k t x i got rs reply all = (
   λ h. ([], [], rs, refl, rw append-nil all, tt, rw append-nil h),
   λ left. elim (value_reading V sh k t x i got rs reply left) [
@@ -136,6 +136,16 @@ feed_full V sh k t x i got rs reply all = (
   where
     too_many : (more : List ℕ) (w : ℕ) → length ((got ++ w ∷ []) ++ more) ≡ V → ⊥
     too_many more w e = omega (arith, e, all, length-append (got ++ w ∷ []) more, length_push got w)
+
+-- the stamp
+pub feed_stamp : (V : ℕ) (sh : Shape) (k t x i : ℕ) (v : List ℕ) (r : Reading) (rs : List Reading) (reply : Reply V) → r.access ≡ Stamp i → RemainderAtMoment V sh k t x (Some i) (v ++ r.word ∷ []) rs reply ↔ RemainderAtStamp V sh k t x i v (r ∷ rs) reply
+feed_stamp V sh k t x i v r rs reply a = (
+  λ h. (r, rs, refl, a, h),
+  λ left.
+      let is : left.0 ≡ r = head_is r left.0 rs left.1 left.2 in
+      let rest : left.1 ≡ rs = tail_is r left.0 rs left.1 left.2 in
+      subst (λ (s : Reading). RemainderAtMoment V sh k t x (Some i) (v ++ s.word ∷ []) rs reply) is (subst (λ (z : List Reading). RemainderAtMoment V sh k t x (Some i) (v ++ left.0.word ∷ []) z reply) rest left.4),
+)
 
 -- the moment
 pub feed_moment : (V : ℕ) (sh : Shape) (k t x : ℕ) (hit : Option ℕ) (v : List ℕ) (r : Reading) (rs : List Reading) (reply : Reply V) → r.access ≡ Moment → RemainderAtLast V sh k t x hit v r.word rs reply ↔ RemainderAtMoment V sh k t x hit v (r ∷ rs) reply

@@ -3,25 +3,27 @@ use Rattle.std.proofs.Common.{ℕ, zero, suc, ◌≡◌, ◌≢◌, ◌+◌, ◌
 use Rattle.std.proofs.lemmas.Bool.{cases_lt, cond_below, cond_above}
 use Rattle.std.specs.Prelude.{◌↔◌, slice_set, IfSome}
 use Rattle.std.proofs.lemmas.Grind.{take-set_at}
-use Rattle.std.proofs.lemmas.List.{length-take, take_all}
+use Rattle.std.proofs.lemmas.List.{length-take, take_all, take-append-le}
 use Rattle.mc_words.specs.Keys.{first_of, second_of, stripe_of, tag_of}
 use Rattle.mc_words.proofs.Keys.{first_of-lt, alternate-lt}
+use Rattle.mc_words.proofs.Payload.{payload_is, since_of-push, value_of-push}
 use Rattle.mc_words.specs.Places.{payload, IsPlace}
 use Rattle.mc_words.specs.Shapes.{IsShape}
 use Rattle.mc_words.specs.declared.history.Reply.{Reply}
+use Rattle.mc_words.specs.declared.history.Reply.TheVariants.{Found}
 use Rattle.mc_words.specs.declared.place.Place.{Place}
 use Rattle.mc_words.specs.declared.shape.Shape.{Shape}
-use Rattle.mc_theory.specs.Lookups.{TagMatches, slots_for, IsLookup}
-use Rattle.mc_lookup.specs.Machine.{next_at, next_access, shape_for, place_in, slots_from, values_from, IsRemainderAt, IsRemainder, steps_at, Consumes}
+use Rattle.mc_theory.specs.Lookups.{TagMatches, MarksHit, reply_of, slots_for, IsLookup}
+use Rattle.mc_lookup.specs.Machine.{next_at, next_access, shape_for, held_by, place_in, slots_from, values_from, IsRemainderAt, IsRemainder, steps_at, Consumes}
 use Rattle.mc_lookup.specs.Inside.Machine.{Restarts}
 use Rattle.mc_theory.specs.Readings.{Reading}
-use Rattle.mc_lookup.specs.Rest.{RemainderAtSlots, RemainderAtValues, RemainderAtMoment}
+use Rattle.mc_lookup.specs.Rest.{RemainderAtSlots, RemainderAtValues, RemainderAtStamp, RemainderAtMoment, RemainderAtLast}
 use Rattle.mc_theory.specs.declared.access.Access.{Access}
 use Rattle.mc_theory.specs.declared.access.Access.TheVariants as access
 use Rattle.mc_lookup.specs.declared.lookup.Lookup.{Lookup}
 use Rattle.mc_lookup.specs.declared.stage.Stage.{Stage}
-use Rattle.mc_lookup.specs.declared.stage.Stage.TheVariants.{Slot, Key, Value, Moment}
-use Rattle.mc_lookup.proofs.StageLaws.{feed_even, feed_odd, feed_other, feed_meet, feed_none, feed_value, feed_full}
+use Rattle.mc_lookup.specs.declared.stage.Stage.TheVariants.{Slot, Key, Value, Stamp, Moment}
+use Rattle.mc_lookup.proofs.StageLaws.{feed_even, feed_odd, feed_other, feed_meet, feed_none, feed_value, feed_full, feed_same, feed_stamp}
 
 -- two facts of which each follows from the other
 pub both_trans : {A B C : Type 0} → A ↔ B → B ↔ C → A ↔ C
@@ -29,15 +31,15 @@ both_trans p q = (λ a. q.0 (p.0 a), λ c. p.1 (q.1 c))
 
 -- from the stages before and after a reading to the lookups
 pub takes_at : {V : ℕ} (old new : Lookup V) (st after : Stage) (a : Access) (w : ℕ) → old.stage ≡ st → new.stage ≡ after → new.checked ≡ old.checked → new.key ≡ old.key →
-    ((f : ℕ) (rs : List Reading) (reply : Reply V) → IsRemainderAt V (shape_for {V = V} old) old.key new.tries new.version new.value new.reply after rs reply ↔ IsRemainderAt V (shape_for {V = V} old) old.key old.tries old.version old.value old.reply st (record { access = a; word = w; front = f } ∷ rs) reply) →
+    ((f : ℕ) (rs : List Reading) (reply : Reply V) → IsRemainderAt V (shape_for {V = V} old) old.key new.tries new.version (held_by {V = V} new) new.reply after rs reply ↔ IsRemainderAt V (shape_for {V = V} old) old.key old.tries old.version (held_by {V = V} old) old.reply st (record { access = a; word = w; front = f } ∷ rs) reply) →
     steps_at V new.tries after < steps_at V old.tries st → Consumes {V = V} old a w new
 unfolding IsRemainder
 takes_at {V} old new st after a w before then shape key left fewer = record {
   shape = shape;
   key = key;
   left = λ f rs reply.
-      subst (λ (y : Stage). IsRemainderAt V (shape_for {V = V} new) new.key new.tries new.version new.value new.reply new.stage rs reply ↔ IsRemainderAt V (shape_for {V = V} old) old.key old.tries old.version old.value old.reply y (record { access = a; word = w; front = f } ∷ rs) reply) (sym before)
-      (subst (λ (y : Stage). IsRemainderAt V (shape_for {V = V} new) new.key new.tries new.version new.value new.reply y rs reply ↔ IsRemainderAt V (shape_for {V = V} old) old.key old.tries old.version old.value old.reply st (record { access = a; word = w; front = f } ∷ rs) reply) (sym then)
+      subst (λ (y : Stage). IsRemainderAt V (shape_for {V = V} new) new.key new.tries new.version (held_by {V = V} new) new.reply new.stage rs reply ↔ IsRemainderAt V (shape_for {V = V} old) old.key old.tries old.version (held_by {V = V} old) old.reply y (record { access = a; word = w; front = f } ∷ rs) reply) (sym before)
+      (subst (λ (y : Stage). IsRemainderAt V (shape_for {V = V} new) new.key new.tries new.version (held_by {V = V} new) new.reply y rs reply ↔ IsRemainderAt V (shape_for {V = V} old) old.key old.tries old.version (held_by {V = V} old) old.reply st (record { access = a; word = w; front = f } ∷ rs) reply) (sym then)
       (rw (shape, key) (left f rs reply)));
   fewer = rw (before, then) fewer;
 }
@@ -106,25 +108,42 @@ left_met V sh k t x v told first second j i w f rs reply s a b l meets =
     rw (e, slots_at sh k first second j a b l) (feed_meet V sh k t x i (place_in first second j) (drop (suc j) (slots_for sh k)) (read (access.Slot (place_in first second j)) w f) rs reply s refl meets)
 
 -- before a word of the value, and the words after it
-pub left_value : (V : ℕ) (sh : Shape) (k t x : ℕ) (v : List ℕ) (told : Reply V) (i c w f : ℕ) (rs : List Reading) (reply : Reply V) → length v ≡ V → c < V → IsRemainderAt V sh k t x (slice_set v c w) told (values_from V i (c + 1)) rs reply ↔ IsRemainderAt V sh k t x v told (Value i c) (read (access.Value i (c + 1)) w f ∷ rs) reply
-left_value V sh k t x v told i c w f rs reply whole l =
+pub left_value : (V : ℕ) (sh : Shape) (k t x : ℕ) (v : List ℕ) (n : ℕ) (told : Reply V) (i c w f : ℕ) (rs : List Reading) (reply : Reply V) → length v ≡ V → c < V → IsRemainderAt V sh k t x (slice_set v c w ++ n ∷ []) told (values_from V i (c + 1)) rs reply ↔ IsRemainderAt V sh k t x (v ++ n ∷ []) told (Value i c) (read (access.Value i (c + 1)) w f ∷ rs) reply
+left_value V sh k t x v n told i c w f rs reply whole l =
     let r = read (access.Value i (c + 1)) w f in
+    let new = slice_set v c w in
+    let long : length new ≡ V = omega (arith, length-set v c w, whole) in
     let got : length (take c v) ≡ c = omega (arith, length-take c v) in
-    let more : take (c + 1) (slice_set v c w) ≡ take c v ++ w ∷ [] = take-set_at v c (c + 1) w refl (omega (arith, whole)) in
+    let before : take c (v ++ n ∷ []) ≡ take c v = take-append-le c v (n ∷ []) (omega arith) in
+    let more : take (c + 1) (new ++ n ∷ []) ≡ take c v ++ w ∷ [] = take-append-le (c + 1) new (n ∷ []) (omega (arith, long)) ∙ take-set_at v c (c + 1) w refl (omega (arith, whole)) in
     let fed : RemainderAtValues V sh k t x i (take c v ++ w ∷ []) rs reply ↔ RemainderAtValues V sh k t x i (take c v) (r ∷ rs) reply =
     feed_value V sh k t x i (take c v) r rs reply (omega arith) (ap (λ y. access.Value i y) (omega (arith, got))) in
-    let one : RemainderAtValues V sh k t x i (take (c + 1) (slice_set v c w)) rs reply ↔ RemainderAtValues V sh k t x i (take c v) (r ∷ rs) reply =
-    subst (λ (y : List ℕ). RemainderAtValues V sh k t x i y rs reply ↔ RemainderAtValues V sh k t x i (take c v) (r ∷ rs) reply) (sym more) fed in
+    let one : RemainderAtValues V sh k t x i (take (c + 1) (new ++ n ∷ [])) rs reply ↔ RemainderAtValues V sh k t x i (take c (v ++ n ∷ [])) (r ∷ rs) reply =
+    subst (λ (y : List ℕ). RemainderAtValues V sh k t x i (take (c + 1) (new ++ n ∷ [])) rs reply ↔ RemainderAtValues V sh k t x i y (r ∷ rs) reply) (sym before)
+    (subst (λ (y : List ℕ). RemainderAtValues V sh k t x i y rs reply ↔ RemainderAtValues V sh k t x i (take c v) (r ∷ rs) reply) (sym more) fed) in
     elim (cases_lt (c + 1) V) [
       | inl below ↦
-          subst (λ (st : Stage). IsRemainderAt V sh k t x (slice_set v c w) told st rs reply ↔ RemainderAtValues V sh k t x i (take c v) (r ∷ rs) reply) (cond_below (c + 1) V (Value i (c + 1)) (Moment (Some i)) below) one
+          subst (λ (st : Stage). IsRemainderAt V sh k t x (new ++ n ∷ []) told st rs reply ↔ RemainderAtValues V sh k t x i (take c (v ++ n ∷ [])) (r ∷ rs) reply) (cond_below (c + 1) V (Value i (c + 1)) (Stamp i) below) one
       | inr past ↦
-          let long : length (slice_set v c w) ≡ V = omega (arith, length-set v c w, whole) in
-          let all : take (c + 1) (slice_set v c w) ≡ slice_set v c w = take_all (c + 1) (slice_set v c w) (omega (arith, long)) in
-          subst (λ (st : Stage). IsRemainderAt V sh k t x (slice_set v c w) told st rs reply ↔ RemainderAtValues V sh k t x i (take c v) (r ∷ rs) reply) (cond_above (c + 1) V (Value i (c + 1)) (Moment (Some i)) (Moment (Some i)) past refl)
-          (both_trans (feed_full V sh k t x i (slice_set v c w) rs reply long)
-          (subst (λ (y : List ℕ). RemainderAtValues V sh k t x i y rs reply ↔ RemainderAtValues V sh k t x i (take c v) (r ∷ rs) reply) all one))
+          let all : take (c + 1) (new ++ n ∷ []) ≡ new = take-append-le (c + 1) new (n ∷ []) (omega (arith, long)) ∙ take_all (c + 1) new (omega (arith, long)) in
+          subst (λ (st : Stage). IsRemainderAt V sh k t x (new ++ n ∷ []) told st rs reply ↔ RemainderAtValues V sh k t x i (take c (v ++ n ∷ [])) (r ∷ rs) reply) (cond_above (c + 1) V (Value i (c + 1)) (Stamp i) (Stamp i) past refl)
+          (subst (λ (y : List ℕ). RemainderAtStamp V sh k t x i y rs reply ↔ RemainderAtValues V sh k t x i (take c (v ++ n ∷ [])) (r ∷ rs) reply) (sym (value_of-push V n new long))
+          (both_trans (feed_full V sh k t x i new rs reply long)
+          (subst (λ (y : List ℕ). RemainderAtValues V sh k t x i y rs reply ↔ RemainderAtValues V sh k t x i (take c (v ++ n ∷ [])) (r ∷ rs) reply) all one)))
     ]
+
+-- before the stamp, and the moment after it
+pub left_stamp : (V : ℕ) (sh : Shape) (k t x : ℕ) (v : List ℕ) (n : ℕ) (told : Reply V) (i w f : ℕ) (rs : List Reading) (reply : Reply V) → length v ≡ V → IsRemainderAt V sh k t x (v ++ w ∷ []) told (Moment (Some i)) rs reply ↔ IsRemainderAt V sh k t x (v ++ n ∷ []) told (Stamp i) (read (access.Stamp i) w f ∷ rs) reply
+left_stamp V sh k t x v n told i w f rs reply whole =
+    subst (λ (y : List ℕ). RemainderAtMoment V sh k t x (Some i) (v ++ w ∷ []) rs reply ↔ RemainderAtStamp V sh k t x i y (read (access.Stamp i) w f ∷ rs) reply) (sym (value_of-push V n v whole))
+    (feed_stamp V sh k t x i v (read (access.Stamp i) w f) rs reply refl)
+
+-- before the last version of a try that stands, and the mark after it: the reply has the value and the stamp
+pub left_found : (V : ℕ) (sh : Shape) (k t x i : ℕ) (v : List ℕ) (n at : ℕ) (r : Reading) (rs : List Reading) (reply : Reply V) → length v ≡ V → r.access ≡ access.Version (stripe_of sh k) → r.word ≡ x → (MarksHit (Some i) rs × (reply ≡ Found v at n)) ↔ RemainderAtLast V sh k t x (Some i) (v ++ n ∷ []) at (r ∷ rs) reply
+left_found V sh k t x i v n at r rs reply whole a e =
+    let told : reply_of {V = V} (Some i) (v ++ n ∷ []) at ≡ Found v at n = rw (value_of-push V n v whole, since_of-push V n v whole) refl in
+    subst (λ (y : Reply V). (MarksHit (Some i) rs × (reply ≡ y)) ↔ RemainderAtLast V sh k t x (Some i) (v ++ n ∷ []) at (r ∷ rs) reply) told
+    (feed_same V sh k t x (Some i) (v ++ n ∷ []) at r rs reply a e)
 
 -- ---- how many accesses are left
 pub steps_slots : (V t j : ℕ) → j ≤ 8 → steps_at V t (slots_from j) ≤ 2 * (8 - j) + payload V + 2 + t * (19 + payload V) + 1
@@ -134,11 +153,11 @@ steps_slots V t j l =
       | inr past ↦ subst (λ (st : Stage). steps_at V t st ≤ 2 * (8 - j) + payload V + 2 + t * (19 + payload V) + 1) (cond_above j 8 (Slot j) (Moment None) (Moment None) past refl) (omega arith)
     ]
 
-pub steps_values : (V t i c : ℕ) → steps_at V t (values_from V i c) ≤ payload V - c + 2 + t * (19 + payload V) + 1
-steps_values V t i c =
+pub steps_values : (V t i c : ℕ) → c ≤ V → steps_at V t (values_from V i c) ≤ payload V - c + 2 + t * (19 + payload V) + 1
+steps_values V t i c l =
     elim (cases_lt c V) [
-      | inl below ↦ subst (λ (st : Stage). steps_at V t st ≤ payload V - c + 2 + t * (19 + payload V) + 1) (cond_below c V (Value i c) (Moment (Some i)) below) (omega arith)
-      | inr past ↦ subst (λ (st : Stage). steps_at V t st ≤ payload V - c + 2 + t * (19 + payload V) + 1) (cond_above c V (Value i c) (Moment (Some i)) (Moment (Some i)) past refl) (omega arith)
+      | inl below ↦ subst (λ (st : Stage). steps_at V t st ≤ payload V - c + 2 + t * (19 + payload V) + 1) (cond_below c V (Value i c) (Stamp i) below) (omega arith)
+      | inr past ↦ subst (λ (st : Stage). steps_at V t st ≤ payload V - c + 2 + t * (19 + payload V) + 1) (cond_above c V (Value i c) (Stamp i) (Stamp i) past refl) (omega (arith, payload_is V))
     ]
 
 -- a try begun leaves as many accesses as it can make
@@ -147,14 +166,14 @@ steps_try V zero l = absurd (omega arith)
 steps_try V (suc t) l = let e : suc t - 1 ≡ t = omega arith in rw e (grind arith)
 
 -- what is left at the stage of a lookup
-pub at_stage : {V : ℕ} (l : Lookup V) (st : Stage) (rs : List Reading) (reply : Reply V) → l.stage ≡ st → IsRemainderAt V (shape_for {V = V} l) l.key l.tries l.version l.value l.reply st rs reply ↔ IsRemainder {V = V} l rs reply
+pub at_stage : {V : ℕ} (l : Lookup V) (st : Stage) (rs : List Reading) (reply : Reply V) → l.stage ≡ st → IsRemainderAt V (shape_for {V = V} l) l.key l.tries l.version (held_by {V = V} l) l.reply st rs reply ↔ IsRemainder {V = V} l rs reply
 unfolding IsRemainder
 at_stage {V} l st rs reply e =
-    subst (λ (y : Stage). IsRemainderAt V (shape_for {V = V} l) l.key l.tries l.version l.value l.reply st rs reply ↔ IsRemainderAt V (shape_for {V = V} l) l.key l.tries l.version l.value l.reply y rs reply) (sym e) both_refl
+    subst (λ (y : Stage). IsRemainderAt V (shape_for {V = V} l) l.key l.tries l.version (held_by {V = V} l) l.reply st rs reply ↔ IsRemainderAt V (shape_for {V = V} l) l.key l.tries l.version (held_by {V = V} l) l.reply y rs reply) (sym e) both_refl
 
 -- a reading that spoils a try
 pub takes_restart : {V : ℕ} (old mid new : Lookup V) (st : Stage) (a : Access) (w : ℕ) → Restarts {V = V} mid new → old.stage ≡ st → mid.checked ≡ old.checked → mid.key ≡ old.key →
-    ((f : ℕ) (rs : List Reading) (reply : Reply V) → IsLookup V (shape_for {V = V} mid) mid.key mid.tries rs reply ↔ IsRemainderAt V (shape_for {V = V} old) old.key old.tries old.version old.value old.reply st (record { access = a; word = w; front = f } ∷ rs) reply) →
+    ((f : ℕ) (rs : List Reading) (reply : Reply V) → IsLookup V (shape_for {V = V} mid) mid.key mid.tries rs reply ↔ IsRemainderAt V (shape_for {V = V} old) old.key old.tries old.version (held_by {V = V} old) old.reply st (record { access = a; word = w; front = f } ∷ rs) reply) →
     mid.tries * (19 + payload V) + 1 < steps_at V old.tries st → Consumes {V = V} old a w new
 takes_restart {V} old mid new st a w again before shape key left fewer = record {
   shape = again.shape ∙ shape;

@@ -1,18 +1,19 @@
 -- The reader's machine: what it reads next, and what is left of its lookup.
-use Rattle.std.specs.Prelude.{ℕ, ◌≡◌, ◌+◌, ◌-◌, ◌*◌, ◌<◌, ◌⊎◌, ◌↔◌, nat_lt, if◌then◌else◌, List, [], ◌∷◌, take, drop, Option, Some, None}
+use Rattle.std.specs.Prelude.{ℕ, ◌≡◌, ◌+◌, ◌-◌, ◌*◌, ◌<◌, ◌⊎◌, ◌↔◌, nat_lt, if◌then◌else◌, List, [], ◌∷◌, ◌++◌, take, drop, Option, Some, None}
 use Rattle.mc_words.specs.Checks.{shape_of}
+use Rattle.mc_words.specs.History.{value_of}
 use Rattle.mc_words.specs.Places.{payload}
 use Rattle.mc_words.specs.declared.history.Reply.{Reply}
 use Rattle.mc_words.specs.declared.place.Place.{Place}
 use Rattle.mc_words.specs.declared.shape.Shape.{Shape}
 use Rattle.mc_theory.specs.Lookups.{MarksHit, slots_for, IsLookup}
 use Rattle.mc_theory.specs.Readings.{Reading}
-use Rattle.mc_lookup.specs.Rest.{RemainderAtSlots, RemainderAtKey, RemainderAtValues, RemainderAtMoment, RemainderAtLast}
+use Rattle.mc_lookup.specs.Rest.{RemainderAtSlots, RemainderAtKey, RemainderAtValues, RemainderAtStamp, RemainderAtMoment, RemainderAtLast}
 use Rattle.mc_theory.specs.declared.access.Access.{Access}
 use Rattle.mc_theory.specs.declared.access.Access.TheVariants as access
 use Rattle.mc_lookup.specs.declared.lookup.Lookup.{Lookup}
 use Rattle.mc_lookup.specs.declared.stage.Stage.{Stage}
-use Rattle.mc_lookup.specs.declared.stage.Stage.TheVariants.{First, Slot, Key, Value, Moment, Last, Mark, Over}
+use Rattle.mc_lookup.specs.declared.stage.Stage.TheVariants.{First, Slot, Key, Value, Stamp, Moment, Last, Mark, Over}
 
 abbrev pub shape_for : {V : ℕ} → Lookup V → Shape
 shape_for l = shape_of l.checked
@@ -32,6 +33,7 @@ next_at l First = Some (access.Version l.stripe)
 next_at l (Slot j) = Some (access.Slot (lookup_place l j))
 next_at l (Key j i) = Some (access.Key i)
 next_at l (Value i c) = Some (access.Value i (c + 1))
+next_at l (Stamp i) = Some (access.Stamp i)
 next_at l (Moment hit) = Some access.Moment
 next_at l (Last hit at) = Some (access.Version l.stripe)
 next_at l (Mark i) = Some (access.Mark i)
@@ -55,7 +57,7 @@ slots_from j = if nat_lt j 8 then Slot j else Moment None
 
 -- the stage before another word of the value, of which there are V
 abbrev pub values_from : ℕ → ℕ → ℕ → Stage
-values_from V i c = if nat_lt c V then Value i c else Moment (Some i)
+values_from V i c = if nat_lt c V then Value i c else Stamp i
 
 -- the stage after a try that stands
 abbrev pub stage_after_try : Option ℕ → Stage
@@ -66,25 +68,30 @@ stage_after_try (Some i) = Mark i
 abbrev pub IsRestart : Stage → Type 0
 IsRestart stage = (stage ≡ First) ⊎ (stage ≡ Over)
 
--- the words of the value that were read
-abbrev pub value_for : Option ℕ → List ℕ → List ℕ
-value_for None v = []
-value_for (Some i) v = v
+-- what the lookup keeps of the item's words behind its key: the value, and then the stamp
+abbrev pub held_by : {V : ℕ} → Lookup V → List ℕ
+held_by l = l.value ++ l.since ∷ []
 
--- what is left at a stage: of this key, with so many tries left, this first version and these words of the value
+-- what was read of them: all, or none where the key wasn't found
+abbrev pub held_for : Option ℕ → List ℕ → List ℕ
+held_for None held = []
+held_for (Some i) held = held
+
+-- what is left at a stage: of this key, with so many tries left, this first version and these words of the item
 abbrev pub IsRemainderAt : (V : ℕ) → Shape → ℕ → ℕ → ℕ → List ℕ → Reply V → Stage → List Reading → Reply V → Type 0
-IsRemainderAt V sh k t x v told First rs reply = IsLookup V sh k t rs reply
-IsRemainderAt V sh k t x v told (Slot j) rs reply = RemainderAtSlots V sh k t x (drop j (slots_for sh k)) rs reply
-IsRemainderAt V sh k t x v told (Key j i) rs reply = RemainderAtKey V sh k t x i (drop j (slots_for sh k)) rs reply
-IsRemainderAt V sh k t x v told (Value i c) rs reply = RemainderAtValues V sh k t x i (take c v) rs reply
-IsRemainderAt V sh k t x v told (Moment hit) rs reply = RemainderAtMoment V sh k t x hit (value_for hit v) rs reply
-IsRemainderAt V sh k t x v told (Last hit at) rs reply = RemainderAtLast V sh k t x hit (value_for hit v) at rs reply
-IsRemainderAt V sh k t x v told (Mark i) rs reply = MarksHit (Some i) rs × (reply ≡ told)
-IsRemainderAt V sh k t x v told Over rs reply = (rs ≡ []) × (reply ≡ told)
+IsRemainderAt V sh k t x held told First rs reply = IsLookup V sh k t rs reply
+IsRemainderAt V sh k t x held told (Slot j) rs reply = RemainderAtSlots V sh k t x (drop j (slots_for sh k)) rs reply
+IsRemainderAt V sh k t x held told (Key j i) rs reply = RemainderAtKey V sh k t x i (drop j (slots_for sh k)) rs reply
+IsRemainderAt V sh k t x held told (Value i c) rs reply = RemainderAtValues V sh k t x i (take c held) rs reply
+IsRemainderAt V sh k t x held told (Stamp i) rs reply = RemainderAtStamp V sh k t x i (value_of V held) rs reply
+IsRemainderAt V sh k t x held told (Moment hit) rs reply = RemainderAtMoment V sh k t x hit (held_for hit held) rs reply
+IsRemainderAt V sh k t x held told (Last hit at) rs reply = RemainderAtLast V sh k t x hit (held_for hit held) at rs reply
+IsRemainderAt V sh k t x held told (Mark i) rs reply = MarksHit (Some i) rs × (reply ≡ told)
+IsRemainderAt V sh k t x held told Over rs reply = (rs ≡ []) × (reply ≡ told)
 
 -- these readings are left of the lookup, and this is what it then replies
 unfoldable pub IsRemainder : {V : ℕ} → Lookup V → List Reading → Reply V → Type 0
-IsRemainder {V} l rs reply = IsRemainderAt V (shape_for l) l.key l.tries l.version l.value l.reply l.stage rs reply
+IsRemainder {V} l rs reply = IsRemainderAt V (shape_for l) l.key l.tries l.version (held_by l) l.reply l.stage rs reply
 
 -- how many accesses are left at most: of the running try, which may read all words of one item, without those of the tries after it and the mark
 abbrev pub steps_of_try : ℕ → Stage → ℕ
@@ -92,6 +99,7 @@ steps_of_try V First = 0
 steps_of_try V (Slot j) = 2 * (8 - j) + payload V + 2
 steps_of_try V (Key j i) = 1 + 2 * (8 - j) + payload V + 2
 steps_of_try V (Value i c) = payload V - c + 2
+steps_of_try V (Stamp i) = 3
 steps_of_try V (Moment hit) = 2
 steps_of_try V (Last hit at) = 1
 steps_of_try V (Mark i) = 0

@@ -6,24 +6,29 @@ use Rattle.mc_words.specs.Keys.{stripe_of}
 use Rattle.mc_words.specs.declared.history.Reply.{Reply}
 use Rattle.mc_words.specs.declared.place.Place.{Place}
 use Rattle.mc_words.specs.declared.shape.Shape.{Shape}
-use Rattle.mc_theory.specs.declared.access.Access.TheVariants.{Version, Key, Moment}
+use Rattle.mc_theory.specs.declared.access.Access.TheVariants.{Version, Key, Stamp, Moment}
 
--- the version is to be read again; t tries are left beside this one, whose first version was x
+-- the version is to be read again; t tries are left beside this one, whose first version was x; a hit has read all that its item holds
 abbrev pub RemainderAtLast : (V : ℕ) → Shape → ℕ → ℕ → ℕ → Option ℕ → List ℕ → ℕ → List Reading → Reply V → Type 0
-RemainderAtLast V sh k t x hit v at rs reply =
+RemainderAtLast V sh k t x hit held at rs reply =
     (last : Reading) × (rest : List Reading) × (rs ≡ last ∷ rest) × (last.access ≡ Version (stripe_of sh k)) × (
     ((last.word ≢ x) × IsLookup V sh k t rest reply) ⊎
-    ((last.word ≡ x) × MarksHit hit rest × (reply ≡ reply_of hit v at)))
+    ((last.word ≡ x) × MarksHit hit rest × (reply ≡ reply_of hit held at)))
 
 abbrev pub RemainderAtMoment : (V : ℕ) → Shape → ℕ → ℕ → ℕ → Option ℕ → List ℕ → List Reading → Reply V → Type 0
-RemainderAtMoment V sh k t x hit v rs reply =
-    (mid : Reading) × (rest : List Reading) × (rs ≡ mid ∷ rest) × (mid.access ≡ Moment) × RemainderAtLast V sh k t x hit v mid.word rest reply
+RemainderAtMoment V sh k t x hit held rs reply =
+    (mid : Reading) × (rest : List Reading) × (rs ≡ mid ∷ rest) × (mid.access ≡ Moment) × RemainderAtLast V sh k t x hit held mid.word rest reply
+
+-- the stamp of the item is to be read; these are the words of its value
+abbrev pub RemainderAtStamp : (V : ℕ) → Shape → ℕ → ℕ → ℕ → ℕ → List ℕ → List Reading → Reply V → Type 0
+RemainderAtStamp V sh k t x i v rs reply =
+    (r : Reading) × (rest : List Reading) × (rs ≡ r ∷ rest) × (r.access ≡ Stamp i) × RemainderAtMoment V sh k t x (Some i) (v ++ r.word ∷ []) rest reply
 
 -- these value words were read of the item
 abbrev pub RemainderAtValues : (V : ℕ) → Shape → ℕ → ℕ → ℕ → ℕ → List ℕ → List Reading → Reply V → Type 0
 RemainderAtValues V sh k t x i got rs reply =
     (xs : List Reading) × (more : List ℕ) × (rest : List Reading) × (rs ≡ xs ++ rest) × (length (got ++ more) ≡ V) ×
-    ReadsValues i (suc (length got)) xs more × RemainderAtMoment V sh k t x (Some i) (got ++ more) rest reply
+    ReadsValues i (suc (length got)) xs more × RemainderAtStamp V sh k t x i (got ++ more) rest reply
 
 abbrev pub RemainderAtHit : (V : ℕ) → Shape → ℕ → ℕ → ℕ → Option ℕ → List Reading → Reply V → Type 0
 RemainderAtHit V sh k t x None rs reply = RemainderAtMoment V sh k t x None [] rs reply

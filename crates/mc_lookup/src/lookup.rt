@@ -24,6 +24,7 @@ pub struct Lookup<const V: usize> {
     tries: u8,
     version: u64,
     value: [u64; V],
+    since: u64,
     stage: Stage,
     reply: Reply<V>,
     ghost some_words: { 1 ≤ V },
@@ -72,6 +73,7 @@ impl<const V: usize> Lookup<V> {
             tries: checked.shape().tries,
             version: 0,
             value: [0; V],
+            since: 0,
             stage: Stage::First,
             reply: Reply::Busy,
         }
@@ -108,6 +110,7 @@ impl<const V: usize> Lookup<V> {
             Stage::Slot(j) => Some(Access::Slot(self.place(j))),
             Stage::Key(_, i) => Some(Access::Key(i)),
             Stage::Value(i, count) => Some(Access::Value(i, count + 1)),
+            Stage::Stamp(i) => Some(Access::Stamp(i)),
             Stage::Moment(_) => Some(Access::Moment),
             Stage::Mark(i) => Some(Access::Mark(i)),
             Stage::Over => None,
@@ -142,6 +145,7 @@ impl<const V: usize> Lookup<V> {
                 let _ = self.after_key(j, i, word);
             }
             Stage::Value(i, count) => self.after_value(i, count, word),
+            Stage::Stamp(i) => self.after_stamp(i, word),
             Stage::Moment(hit) => self.after_moment(hit, word),
             Stage::Last(hit, at) => {
                 let _ = self.after_last(hit, at, word);

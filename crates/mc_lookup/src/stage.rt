@@ -10,6 +10,8 @@ pub enum Stage {
     Key(u8, u32),
     /// A word of the value of the key's item, of which this many were read.
     Value(u32, u8),
+    /// The stamp of the key's item.
+    Stamp(u32),
     /// The moment, and the item at which the key was found.
     Moment(Option<u32>),
     /// The version again. The moment was this.

@@ -28,19 +28,22 @@ pub(crate) const VERSION: &str = "0.1.0";
 /// What the help says of scripts, behind the options.
 const SCRIPTS: &str = "\
 Commands of a script, one a line:
-  put K V..        Puts key K with its value, as many numbers as --words says
-  remove K         Removes key K
-  get K            Looks key K up
-  begin put K V..  Begins a put, whose acts are made by w
-  begin remove K   Begins a removal, whose acts are made by w
-  w [N]            Makes the next act of the writer's call, or the next N
-  begin R get K    Begins a lookup by reader R, counted from 0, whose accesses are made by r
-  r R [N]          Makes the next access of reader R's lookup, or the next N
+  put K V..            Puts key K with its value, as many numbers as --words says
+  putif K M V..        Puts key K again, if its last put was at moment M
+  remove K             Removes key K
+  get K                Looks key K up
+  stamp K              Looks key K up, and tells the moment of its last put
+  begin put K V..      Begins a put, whose acts are made by w
+  begin putif K M V..  Begins a put on that condition, whose acts are made by w
+  begin remove K       Begins a removal, whose acts are made by w
+  w [N]                Makes the next act of the writer's call, or the next N
+  begin R get K        Begins a lookup by reader R, counted from 0, whose accesses are made by r
+  r R [N]              Makes the next access of reader R's lookup, or the next N
 
 Numbers are decimal. A line whose first word begins with # is a comment.
 
 Example: a put falls between a reader's accesses, so the reader looks again.
-  printf 'begin 0 get 0\\nr 0\\nput 0 7\\nr 0 12\\n' | mcstep
+  printf 'begin 0 get 0\\nr 0\\nput 0 7\\nr 0 14\\n' | mcstep
 writes
   stored at 1 moves 0
   reader 0 found 7 at 1";

@@ -1,4 +1,5 @@
 pub mod AfterPlan
+pub mod IfCalls
 pub mod MidCall
 pub mod SweptStates
 pub mod MidSweep

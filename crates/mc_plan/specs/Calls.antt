@@ -3,6 +3,8 @@ use Rattle.std.specs.Prelude.{ℕ, List, Some, None, Result, Ok, Err}
 use Rattle.mc_words.specs.declared.shape.Shape.{Shape}
 use Rattle.mc_words.specs.Answers as means
 use Rattle.mc_words.specs.Answers.{Quiet}
+use Rattle.mc_plan.specs.declared.answer.IfError.{IfError}
+use Rattle.mc_plan.specs.declared.answer.IfError.TheVariants as why
 use Rattle.mc_plan.specs.declared.answer.Put.{Put}
 use Rattle.mc_plan.specs.declared.answer.Put.TheVariants.{Stored, Renewed}
 use Rattle.mc_plan.specs.declared.answer.PutError.{PutError}
@@ -19,6 +21,13 @@ PutAnswers {V} sh s k v (Ok (Renewed at)) t = means.Renews V sh s t k v at
 PutAnswers {V} sh s k v (Err NoPath) t = means.RefusesPath V sh s t k
 PutAnswers {V} sh s k v (Err AllRecent) t = means.RefusesAll V sh s t k
 PutAnswers {V} sh s k v (Err Spent) t = means.PutRefusedSpent sh s t
+
+-- what the answer of a put on a condition means: the key's stamp is `since`
+abbrev pub IfAnswers : {V : ℕ} → Shape → Quiet V → ℕ → ℕ → List ℕ → Result ℕ IfError → Quiet V → Type 0
+IfAnswers {V} sh s k since v (Ok at) t = means.IfRenews V sh s t k since v at
+IfAnswers {V} sh s k since v (Err why.Spent) t = means.IfRefusedSpent sh s t
+IfAnswers {V} sh s k since v (Err (why.NotThere at)) t = means.IfNotThere V sh s t k at
+IfAnswers {V} sh s k since v (Err (why.Changed stands)) t = means.IfChanged V sh s t k since stands
 
 -- what the answer of a removal means
 abbrev pub RemoveAnswers : {V : ℕ} → Shape → Quiet V → ℕ → Result Remove RemoveSpent → Quiet V → Type 0

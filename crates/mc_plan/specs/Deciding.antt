@@ -5,11 +5,12 @@ use Rattle.mc_words.specs.Checks.{shape_of}
 use Rattle.mc_words.specs.Places.{moment}
 use Rattle.mc_words.specs.Standing.{IsAbsent}
 use Rattle.mc_theory.specs.States.{State}
-use Rattle.mc_plan.specs.WholeCalls.{Call, IsSweepOf, PutCall, RemoveCall, quiet_of, state_after_sweep}
+use Rattle.mc_plan.specs.WholeCalls.{Call, IsSweepOf, PutCall, PutIfCall, RemoveCall, quiet_of, state_after_sweep}
 use Rattle.mc_plan.specs.Books.{AreBooksOf, IsPlanned, Waits}
 use Rattle.mc_plan.specs.Decisions.{exchange_acts, filling_acts, removal_acts, removal_told, renewal_acts, replacement_acts, storing_acts, storing_told}
 use Rattle.mc_plan.specs.declared.answer.Answer.TheVariants as answer
 use Rattle.mc_plan.specs.declared.answer.Put.TheVariants as put
+use Rattle.mc_plan.specs.declared.answer.IfError.{IfError}
 use Rattle.mc_plan.specs.declared.answer.PutError.{PutError}
 use Rattle.mc_plan.specs.declared.books.Books.{Books}
 use Rattle.mc_plan.specs.declared.decision.Decision.{Decision}
@@ -20,6 +21,7 @@ use Rattle.mc_plan.specs.declared.decision.Insertion.TheVariants as insertion
 use Rattle.mc_plan.specs.declared.decision.Nearby.{Nearby}
 use Rattle.mc_plan.specs.declared.decision.Nearby.TheVariants as nearby
 use Rattle.mc_plan.specs.declared.decision.Removal.{Removal}
+use Rattle.mc_plan.specs.declared.decision.Renewal.{Renewal}
 use Rattle.mc_plan.specs.declared.decision.Replacement.{Replacement}
 use Rattle.mc_plan.specs.declared.waiting.Waiting.{Waiting}
 use Rattle.mc_search.specs.Paths.{direct_path}
@@ -36,8 +38,13 @@ pub record IsLackingKey (V : ℕ) (books : Books) (k : ℕ) (s : State V) (at : 
 abbrev pub IsDecided : (V : ℕ) → Books → ℕ → List ℕ → State V → Decision → Type 0
 IsDecided V books k v s (decision.Refuse why) =
     IsPlanned V books [] (PutCall k v) s s (answer.Put (Err why)) × IsSweepOf V (shape_of books.checked) s [] (answer.Put (Err why))
-IsDecided V books k v s (decision.Renew item at) = IsPlanned V books (renewal_acts k v item) (PutCall k v) s s (answer.Put (Ok (put.Renewed at)))
+IsDecided V books k v s (decision.Renew item at) = IsPlanned V books (renewal_acts k v at item) (PutCall k v) s s (answer.Put (Ok (put.Renewed at)))
 IsDecided V books k v s (decision.Insert at) = IsLackingKey V books k s at
+
+-- a put on a condition in state s is decided: it renews the key, or changes nothing
+abbrev pub IsIfDecided : (V : ℕ) → Books → ℕ → ℕ → List ℕ → State V → Result Renewal IfError → Type 0
+IsIfDecided V books k since v s (Ok r) = IsPlanned V books (renewal_acts k v r.at r.item) (PutIfCall k since v) s s (answer.PutIf (Ok r.at))
+IsIfDecided V books k since v s (Err why) = IsPlanned V books [] (PutIfCall k since v) s s (answer.PutIf (Err why))
 
 -- the put of a new key in state s is decided: the acts of its plan and its answer, or the path with which it waits
 abbrev pub IsInserted : (V : ℕ) → Books → ℕ → List ℕ → State V → Insertion → Type 0
@@ -50,7 +57,7 @@ IsInserted V books k v s (insertion.Wait path) = Waits V books k s path
 -- the same, as far as the key's two buckets tell
 abbrev pub IsNear : (V : ℕ) → Books → ℕ → List ℕ → State V → ℕ → Nearby → Type 0
 IsNear V books k v s at (nearby.Fill item place) =
-    (item < (shape_of books.checked).items) × IsPlanned V books (filling_acts (shape_of books.checked) k v item place) (PutCall k v) s s (answer.Put (Ok (put.Stored at 0 None)))
+    (item < (shape_of books.checked).items) × IsPlanned V books (filling_acts (shape_of books.checked) k v at item place) (PutCall k v) s s (answer.Put (Ok (put.Stored at 0 None)))
 IsNear V books k v s at (nearby.Wait hole) = Waits V books k s (direct_path hole)
 IsNear V books k v s at nearby.Far = IsLackingKey V books k s at
 

@@ -23,16 +23,16 @@ acts_of_moves [] = []
 acts_of_moves (m ∷ moves) = move_acts m.key m.word m.from m.to ++ acts_of_moves moves
 
 -- the key's item has a new value, and is marked
-abbrev pub renewal_acts : ℕ → List ℕ → ℕ → List Act
-renewal_acts k v i = renew_acts k v i ++ Mark i ∷ []
+abbrev pub renewal_acts : ℕ → List ℕ → ℕ → ℕ → List Act
+renewal_acts k v at i = renew_acts k v at i ++ Mark i ∷ []
 
 -- the key goes to the item and the place, which is marked
-abbrev pub filling_acts : Shape → ℕ → List ℕ → ℕ → Place → List Act
-filling_acts sh k v i p = fill_acts sh k v i p ++ Mark i ∷ []
+abbrev pub filling_acts : Shape → ℕ → List ℕ → ℕ → ℕ → Place → List Act
+filling_acts sh k v at i p = fill_acts sh k v at i p ++ Mark i ∷ []
 
 -- the moves make room, and the key goes to the item and the place, which is marked
 abbrev pub storing_acts : Shape → ℕ → List ℕ → Storing → List Act
-storing_acts sh k v storing = acts_of_moves storing.moves.items ++ filling_acts sh k v storing.item storing.place
+storing_acts sh k v storing = acts_of_moves storing.moves.items ++ filling_acts sh k v storing.at storing.item storing.place
 
 -- and before that another key is taken out
 abbrev pub replacement_acts : Shape → ℕ → List ℕ → Replacement → Storing → List Act
@@ -40,7 +40,7 @@ replacement_acts sh k v r storing = evict_acts r.evicted r.victim ++ storing_act
 
 -- another key is taken out, and the key goes to its item and to a place, which is marked
 abbrev pub exchange_acts : Shape → ℕ → List ℕ → Exchange → List Act
-exchange_acts sh k v x = evict_acts x.evicted x.victim ++ filling_acts sh k v x.item x.place
+exchange_acts sh k v x = evict_acts x.evicted x.victim ++ filling_acts sh k v x.at x.item x.place
 
 -- the key is taken out, where there is something to do
 abbrev pub removal_acts : ℕ → Removal → List Act

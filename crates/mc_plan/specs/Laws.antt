@@ -13,10 +13,14 @@ abbrev pub IsValue : ℕ → List ℕ → Type 0
 IsValue V v = (length v ≡ V) × All IsWord v
 
 abbrev pub FillsPut : ℕ → Type 0
-FillsPut V = (sh : Shape) (k : ℕ) (v : List ℕ) (i : ℕ) (p : Place) → IsShape sh → IsWord k → IsValue V v → ActsFill V sh k v i p (fill_acts sh k v i p)
+FillsPut V =
+    (sh : Shape) (k : ℕ) (v : List ℕ) (at i : ℕ) (p : Place) → IsShape sh → IsWord k → IsValue V v → IsWord at →
+    ActsFill V sh k v at i p (fill_acts sh k v at i p)
 
 abbrev pub RenewalsPut : ℕ → Type 0
-RenewalsPut V = (sh : Shape) (k : ℕ) (v : List ℕ) (i : ℕ) → IsShape sh → IsWord k → IsValue V v → ActsRenew V sh k v i (renew_acts k v i)
+RenewalsPut V =
+    (sh : Shape) (k : ℕ) (v : List ℕ) (at i : ℕ) → IsShape sh → IsWord k → IsValue V v → IsWord at →
+    ActsRenew V sh k v at i (renew_acts k v at i)
 
 abbrev pub RemovalsTakeOut : ℕ → Type 0
 RemovalsTakeOut V = (sh : Shape) (k : ℕ) (p : Place) → IsShape sh → IsWord k → ActsRemove V sh k p (remove_acts k p)

@@ -6,7 +6,7 @@ use Rattle.mc_words.specs.declared.place.Place.{Place}
 use Rattle.mc_words.specs.declared.shape.Shape.{Shape}
 use Rattle.mc_words.specs.Chains.{IsHole}
 use Rattle.mc_words.specs.Keys.{tag_of, slot_word, IsBucketOf}
-use Rattle.mc_words.specs.Places.{slot_number}
+use Rattle.mc_words.specs.Places.{moment, slot_number}
 use Rattle.mc_words.specs.Standing.{Stands, IsAbsent, IsFree}
 use Rattle.mc_search.specs.Kept.{SetsSlot, KeepsSlots, KeepsItems}
 use Rattle.mc_theory.specs.Inner.{StateHolds, StateCounted}
@@ -45,18 +45,18 @@ pub record CanFill (V : ℕ) (sh : Shape) (w : List ℕ) (k i : ℕ) (p : Place)
   pub hole : IsHole sh w p
   pub bucket : IsBucketOf sh k p.bucket
 
--- from each quiet state in which the key has room, the acts put the key there, and the slot names it
-abbrev pub ActsFill : ℕ → Shape → ℕ → List ℕ → ℕ → Place → List Act → Type 0
-ActsFill V sh k v i p acts =
-    (s : State V) → IsQuiet V sh s → CanFill V sh s.words k i p →
+-- from each quiet state in which the key has room, and whose next moment is the stamp, the acts put the key there, and the slot names it
+abbrev pub ActsFill : ℕ → Shape → ℕ → List ℕ → ℕ → ℕ → Place → List Act → Type 0
+ActsFill V sh k v at i p acts =
+    (s : State V) → IsQuiet V sh s → CanFill V sh s.words k i p → at ≡ moment s.words + 1 →
     Makes V sh s acts (Put k v ∷ []) 2 ×
     Stands V sh (state_after_acts V sh s acts).words k (slot_number p) i ×
     SetsSlot sh s.words (state_after_acts V sh s acts).words (slot_number p) (slot_word (tag_of sh k) i)
 
--- from each quiet state in which the key stands at the item, the acts put the new value
-abbrev pub ActsRenew : ℕ → Shape → ℕ → List ℕ → ℕ → List Act → Type 0
-ActsRenew V sh k v i acts =
-    (s : State V) (q : ℕ) → IsQuiet V sh s → Stands V sh s.words k q i →
+-- from each quiet state in which the key stands at the item, and whose next moment is the stamp, the acts put the new value
+abbrev pub ActsRenew : ℕ → Shape → ℕ → List ℕ → ℕ → ℕ → List Act → Type 0
+ActsRenew V sh k v at i acts =
+    (s : State V) (q : ℕ) → IsQuiet V sh s → Stands V sh s.words k q i → at ≡ moment s.words + 1 →
     Makes V sh s acts (Put k v ∷ []) 2 ×
     Stands V sh (state_after_acts V sh s acts).words k q i ×
     KeepsSlots sh s.words (state_after_acts V sh s acts).words

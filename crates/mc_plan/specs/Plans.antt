@@ -1,5 +1,5 @@
 -- The acts of each plan, in their order.
-use Rattle.std.specs.Prelude.{ℕ, ◌+◌, List, [], ◌∷◌, ◌++◌}
+use Rattle.std.specs.Prelude.{ℕ, ◌+◌, List, [], ◌∷◌, ◌++◌, length}
 use Rattle.mc_words.specs.declared.place.Place.{Place}
 use Rattle.mc_words.specs.declared.shape.Shape.{Shape}
 use Rattle.mc_words.specs.Keys.{tag_of, slot_word, item_in}
@@ -15,13 +15,17 @@ abbrev pub value_acts : ℕ → ℕ → List ℕ → List Act
 value_acts i j [] = []
 value_acts i j (x ∷ xs) = Item i j x ∷ value_acts i (j + 1) xs
 
+-- a value is written into the item, and behind it the stamp: the moment that the put is to have
+abbrev pub payload_acts : ℕ → List ℕ → ℕ → List Act
+payload_acts i v at = value_acts i 1 v ++ Item i (length v + 1) at ∷ []
+
 -- the key goes to the free item and the empty slot
-abbrev pub fill_acts : Shape → ℕ → List ℕ → ℕ → Place → List Act
-fill_acts sh k v i p = Open k deed.Fill ∷ Item i 0 k ∷ (value_acts i 1 v ++ Slot p (slot_word (tag_of sh k) i) ∷ Moment ∷ Close ∷ [])
+abbrev pub fill_acts : Shape → ℕ → List ℕ → ℕ → ℕ → Place → List Act
+fill_acts sh k v at i p = Open k deed.Fill ∷ Item i 0 k ∷ (payload_acts i v at ++ Slot p (slot_word (tag_of sh k) i) ∷ Moment ∷ Close ∷ [])
 
 -- the key's item has a new value
-abbrev pub renew_acts : ℕ → List ℕ → ℕ → List Act
-renew_acts k v i = Open k deed.Renew ∷ (value_acts i 1 v ++ Moment ∷ Close ∷ [])
+abbrev pub renew_acts : ℕ → List ℕ → ℕ → ℕ → List Act
+renew_acts k v at i = Open k deed.Renew ∷ (payload_acts i v at ++ Moment ∷ Close ∷ [])
 
 -- the key's slot is cleared
 abbrev pub take_out_acts : ℕ → Deed → Place → List Act

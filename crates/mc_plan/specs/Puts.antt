@@ -1,11 +1,11 @@
 -- What a put makes of a quiet state where it first makes room.
-use Rattle.std.specs.Prelude.{ℕ, ◌≢◌, ◌+◌, ◌*◌, ◌<◌, List, [], ◌∷◌, ◌++◌, length}
+use Rattle.std.specs.Prelude.{ℕ, ◌≡◌, ◌≢◌, ◌+◌, ◌*◌, ◌<◌, List, [], ◌∷◌, ◌++◌, length}
 use Rattle.mc_words.specs.declared.history.Change.TheVariants.{Put}
 use Rattle.mc_words.specs.declared.place.Place.{Place}
 use Rattle.mc_words.specs.declared.shape.Shape.{Shape}
 use Rattle.mc_words.specs.Chains.{IsChain}
 use Rattle.mc_words.specs.History.{IsWord}
-use Rattle.mc_words.specs.Places.{slot_number}
+use Rattle.mc_words.specs.Places.{moment, slot_number}
 use Rattle.mc_words.specs.Shapes.{IsShape}
 use Rattle.mc_words.specs.Standing.{NamesItem, Stands, IsAbsent, IsFree}
 use Rattle.mc_theory.specs.States.{State}
@@ -32,13 +32,14 @@ pub record TakesItem (sh : Shape) (w later : List ℕ) (i : ℕ) : Type 0 where
   pub named : KeepsNamed sh w later
 
 -- the moves of the chain, and then a fill of its first place
-abbrev pub put_acts : ℕ → Shape → List ℕ → ℕ → List ℕ → ℕ → List Place → Place → List Act
-put_acts V sh w k v i places hole = moves_acts V sh w places hole ++ fill_acts sh k v i (first_place places hole)
+abbrev pub put_acts : ℕ → Shape → List ℕ → ℕ → List ℕ → ℕ → ℕ → List Place → Place → List Act
+put_acts V sh w k v at i places hole = moves_acts V sh w places hole ++ fill_acts sh k v at i (first_place places hole)
 
--- from each quiet state in which the key can be put, they put it: two version changes more than for the moves
+-- from each quiet state in which the key can be put, and whose next moment is the stamp, they put it: two version changes more than for the moves
 abbrev pub PutsMakeRoom : ℕ → Type 0
 PutsMakeRoom V =
-    (sh : Shape) (s : State V) (k : ℕ) (v : List ℕ) (i : ℕ) (places : List Place) (hole : Place) → IsShape sh → IsWord k → IsValue V v → IsQuiet V sh s → CanPut V sh s.words k i places hole →
-    Makes V sh s (put_acts V sh s.words k v i places hole) (Put k v ∷ []) (2 * length places + 2) ×
-    Stands V sh (state_after_acts V sh s (put_acts V sh s.words k v i places hole)).words k (slot_number (first_place places hole)) i ×
-    TakesItem sh s.words (state_after_acts V sh s (put_acts V sh s.words k v i places hole)).words i
+    (sh : Shape) (s : State V) (k : ℕ) (v : List ℕ) (at i : ℕ) (places : List Place) (hole : Place) →
+    IsShape sh → IsWord k → IsValue V v → IsWord at → IsQuiet V sh s → CanPut V sh s.words k i places hole → at ≡ moment s.words + 1 →
+    Makes V sh s (put_acts V sh s.words k v at i places hole) (Put k v ∷ []) (2 * length places + 2) ×
+    Stands V sh (state_after_acts V sh s (put_acts V sh s.words k v at i places hole)).words k (slot_number (first_place places hole)) i ×
+    TakesItem sh s.words (state_after_acts V sh s (put_acts V sh s.words k v at i places hole)).words i

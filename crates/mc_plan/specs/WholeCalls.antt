@@ -1,5 +1,5 @@
 -- Whole calls of a writer: their acts, and what their answers mean.
-use Rattle.std.specs.Prelude.{ℕ, ◌≡◌, ◌+◌, ◌*◌, List, [], ◌∷◌, ◌++◌, map, length, Some, None, Ok, Err}
+use Rattle.std.specs.Prelude.{ℕ, ◌≡◌, ◌*◌, List, [], ◌∷◌, ◌++◌, map, length, Some, None, Ok, Err}
 use Rattle.mc_words.specs.declared.shape.Shape.{Shape}
 use Rattle.mc_words.specs.Answers.{Quiet}
 use Rattle.mc_words.specs.Standing.{Stands}
@@ -11,13 +11,15 @@ use Rattle.mc_plan.specs.declared.answer.Answer.{Answer}
 use Rattle.mc_plan.specs.declared.answer.Answer.TheVariants as answer
 use Rattle.mc_plan.specs.declared.answer.Put.TheVariants as put
 use Rattle.mc_plan.specs.declared.answer.PutError.TheVariants as why
-use Rattle.mc_plan.specs.Calls.{PutAnswers, RemoveAnswers}
+use Rattle.mc_plan.specs.Calls.{IfAnswers, PutAnswers, RemoveAnswers}
 use Rattle.mc_plan.specs.Making.{IsQuiet}
 use Rattle.mc_search.specs.Sweeps.{Swept, IsSweep, hand_acts, victim_of}
 
 -- a call of a clerk
 pub data Call : Type 0 where
   PutCall : (key : ℕ) (value : List ℕ) → Call
+  -- on the condition that the key's last put was at this moment
+  PutIfCall : (key since : ℕ) (value : List ℕ) → Call
   RemoveCall : (key : ℕ) → Call
 
 -- a state as answers speak of it
@@ -27,9 +29,9 @@ quiet_of s = record { words = s.words; hand = s.hand; history = s.history; versi
 -- what the answer of a call means for the states before the call and after it
 abbrev pub Means : {V : ℕ} → Shape → Call → Answer → State V → State V → Type 0
 Means sh (PutCall k v) (answer.Put told) s t = PutAnswers sh (quiet_of s) k v told (quiet_of t)
+Means sh (PutIfCall k since v) (answer.PutIf told) s t = IfAnswers sh (quiet_of s) k since v told (quiet_of t)
 Means sh (RemoveCall k) (answer.Remove told) s t = RemoveAnswers sh (quiet_of s) k told (quiet_of t)
-Means sh (PutCall k v) (answer.Remove told) s t = ⊥
-Means sh (RemoveCall k) (answer.Put told) s t = ⊥
+Means sh call told s t = ⊥
 
 -- the acts without the bits that they read
 abbrev pub acts_of : List Made → List Act
@@ -58,8 +60,10 @@ pub record MarksLast (V : ℕ) (sh : Shape) (w : List ℕ) (k : ℕ) (acts : Lis
 abbrev pub Marks : ℕ → Shape → List ℕ → Call → Answer → List Act → Type 0
 Marks V sh w (PutCall k v) (answer.Put (Ok told)) acts = MarksLast V sh w k acts
 Marks V sh w (PutCall k v) (answer.Put (Err why)) acts = AreOfDeeds acts
-Marks V sh w (PutCall k v) (answer.Remove told) acts = ⊥
+Marks V sh w (PutIfCall k since v) (answer.PutIf (Ok at)) acts = MarksLast V sh w k acts
+Marks V sh w (PutIfCall k since v) (answer.PutIf (Err why)) acts = AreOfDeeds acts
 Marks V sh w (RemoveCall k) told acts = AreOfDeeds acts
+Marks V sh w call told acts = ⊥
 
 -- which readings of the hand an answer has: those of one sweep where every item was in use, which named the evicted key's item or none; and none otherwise
 abbrev pub IsSweepOf : (V : ℕ) → Shape → State V → List Swept → Answer → Type 0

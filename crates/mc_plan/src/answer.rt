@@ -30,6 +30,20 @@ pub enum PutError {
     Spent,
 }
 
+/// Why a `put` on a condition stored nothing. The first reason that applies is told.
+#[derive(Clone, Copy, Debug, PartialEq, Eq, Error)]
+pub enum IfError {
+    /// The limit of version changes could be passed.
+    #[error("spent")]
+    Spent,
+    /// The key is not there. `at` is the moment at which that held.
+    #[error("not there at {at}")]
+    NotThere { at: u64 },
+    /// The key was last put at another moment, which is this one.
+    #[error("changed since {since}")]
+    Changed { since: u64 },
+}
+
 /// What a `remove` did. `at` is the moment after it.
 #[derive(Clone, Copy, Debug, PartialEq, Eq)]
 pub enum Remove {
@@ -46,5 +60,7 @@ pub struct Spent;
 #[derive(Clone, Copy, Debug, PartialEq, Eq)]
 pub enum Answer {
     Put(Result<Put, PutError>),
+    /// A renewal on a condition, with the moment of its change.
+    PutIf(Result<u64, IfError>),
     Remove(Result<Remove, Spent>),
 }

@@ -8,12 +8,14 @@ ghost use Rattle.mc_plan.specs.Plans.{moves_acts};
 ghost use Rattle.mc_search.specs.Paths.{first_place};
 ghost use Rattle.mc_search.specs.Readable.{IsFilled};
 
-use crate::answer::{PutError, Spent};
-use crate::decision::{Decision, Exchange, Insertion, Nearby, Removal, Replacement, Storing};
+use crate::answer::{IfError, PutError, Spent};
+use crate::decision::{
+    Decision, Exchange, Insertion, Nearby, Removal, Renewal, Replacement, Storing,
+};
 use crate::moves::path_moves;
 use crate::value::have_words;
 use crate::waiting::Waiting;
-use mc_search::{Finder, FreeItems, Path, Sweep, find, key_at, moment};
+use mc_search::{Finder, FreeItems, Path, Sweep, find, key_at, moment, stamp_at};
 use mc_theory::Peek;
 use mc_words::{Checked, NoMemory, Place};
 use std::alloc::Global;
@@ -35,7 +37,7 @@ pub struct Books {
 impl Books {
     ghost use Rattle.mc_plan.specs.WholeCalls.{Call};
     ghost use Rattle.mc_plan.specs.Books.{AreBooksOf, IsSweeping};
-    ghost use Rattle.mc_plan.specs.Deciding.{IsDecided, IsExchanged, IsFinished, IsFinishedNear, IsInserted, IsLackingKey, IsNear, IsRemovalDecided, IsReplaced};
+    ghost use Rattle.mc_plan.specs.Deciding.{IsDecided, IsExchanged, IsFinished, IsFinishedNear, IsIfDecided, IsInserted, IsLackingKey, IsNear, IsRemovalDecided, IsReplaced};
     ghost use Rattle.mc_plan.specs.Decisions.{acts_of_moves};
     ghost use Rattle.mc_plan.specs.Inside.Clerks.{IsReplacing};
     ghost use Rattle.mc_search.specs.Sweeps.{HasSwept, IsOver, Swept};
@@ -134,6 +136,38 @@ impl Books {
             }
             None => Decision::Insert { at },
         }
+    }
+
+    /// Decides a put on a condition: it renews the key where the key's stamp is `since`. No key can move for it, so two version
+    /// changes are all that it asks of the limit.
+    /// Condition: the books are those of the table whose words are looked at, between two calls.
+    pub fn decide_if<const V: usize, P: Peek>(
+        &mut self,
+        peek: &mut P,
+        key: u64,
+        since: u64,
+        value: &[u64; V],
+    ) -> Result<Renewal, IfError>
+        requires books { (s : State V) × AreBooksOf V self.old s × (P.words peek.old ≡ s.words) }
+        ensures decided { (s : State V) → AreBooksOf V self.old s → P.words peek.old ≡ s.words → IsIfDecided V self.new key since value.now s result }
+        ensures shape { self.new.checked ≡ self.old.checked }
+        ensures kept { peek.new ≡ peek.old }
+    {
+        have_words(value);
+        let changes = 2;
+        if self.is_spent(changes) {
+            return Err(IfError::Spent);
+        }
+        let now = moment(&self.checked, peek);
+        let Some((_, item)) = find::<V, P>(&self.checked, peek, key) else {
+            return Err(IfError::NotThere { at: now });
+        };
+        let stands = stamp_at::<V, P>(&self.checked, peek, item);
+        if stands != since {
+            return Err(IfError::Changed { since: stands });
+        }
+        self.version_steps += changes;
+        Ok(Renewal { item, at: now + 1 })
     }
 
     /// Decides the put of a key that is not there, where one of its two buckets has a hole.

@@ -26,6 +26,13 @@ pub enum Decision {
     Insert { at: u64 },
 }
 
+/// A put on a condition that is met: the key stands at the item, which gets the new value.
+#[derive(Clone, Copy)]
+pub struct Renewal {
+    pub item: u32,
+    pub at: u64,
+}
+
 /// What the put of a key does that is not there, as far as its two buckets tell. It is small, so that most puts pay for no path.
 #[derive(Clone, Copy)]
 pub enum Nearby {

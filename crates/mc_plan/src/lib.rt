@@ -30,13 +30,15 @@ mod take_out;
 mod value;
 mod waiting;
 
-pub use answer::{Answer, Put, PutError, Remove, Spent};
+pub use answer::{Answer, IfError, Put, PutError, Remove, Spent};
 use arrayvec::ArrayVec;
 pub use books::Books;
 pub use clerk::Clerk;
-pub use decision::{Decision, Exchange, Insertion, Move, Nearby, Removal, Replacement, Storing};
+pub use decision::{
+    Decision, Exchange, Insertion, Move, Nearby, Removal, Renewal, Replacement, Storing,
+};
 pub use fill::{add_fill, plan_fill};
-pub use mc_search::{Finder, NoMemory, Path, Peek, Sweep, find, moment, read};
+pub use mc_search::{Finder, Held, NoMemory, Path, Peek, Sweep, find, moment, read};
 use mc_theory::Act;
 pub use moves::{add_move, add_moves, path_moves, plan_moves, push_moves};
 pub use renew::{add_renew, plan_renew};

@@ -4,7 +4,7 @@ ghost use Rattle.arrayvec.specs.ArrayVec.{array_vec_len};
 ghost use Rattle.mc_words.specs.Checks.{shape_of};
 ghost use Rattle.mc_words.specs.Places.{IsWidth};
 ghost use Rattle.mc_theory.specs.States.{State};
-ghost use Rattle.mc_plan.specs.WholeCalls.{Call, IsSweepOf, RemoveCall, state_after_sweep};
+ghost use Rattle.mc_plan.specs.WholeCalls.{Call, IsSweepOf, PutIfCall, RemoveCall, state_after_sweep};
 ghost use Rattle.mc_plan.specs.Books.{AreBooksOf, IsPlanned, IsSweeping};
 ghost use Rattle.mc_plan.specs.Deciding.{IsLackingKey};
 ghost use Rattle.mc_plan.specs.Decisions.{removal_acts, renewal_acts, replacement_acts, storing_acts};
@@ -13,7 +13,7 @@ ghost use Rattle.mc_plan.specs.declared.answer.Answer.TheVariants as answer;
 ghost use Rattle.mc_search.specs.Sweeps.{IsOver, Swept};
 
 use crate::Plan;
-use crate::answer::{Put, PutError, Remove, Spent};
+use crate::answer::{IfError, Put, PutError, Remove, Spent};
 use crate::books::Books;
 use crate::decision::{Decision, Insertion, Removal, Replacement, Storing};
 use crate::fill::add_fill;
@@ -25,13 +25,13 @@ use mc_theory::{Act, Peek};
 use mc_words::Checked;
 
 /// Adds the acts of a renewal, and the mark of its item.
-fn add_renewal<const V: usize>(acts: &mut Plan, key: u64, value: &[u64; V], item: u32)
+fn add_renewal<const V: usize>(acts: &mut Plan, key: u64, value: &[u64; V], at: u64, item: u32)
     requires width { IsWidth V }
     requires room { array_vec_len acts.old ≤ 4 }
-    ensures items { acts.new.items ≡ acts.old.items ++ renewal_acts key value.now item }
+    ensures items { acts.new.items ≡ acts.old.items ++ renewal_acts key value.now at item }
     ensures fits { array_vec_len acts.new ≤ 64 }
 {
-    add_renew(acts, key, value, item);
+    add_renew(acts, key, value, at, item);
     acts.push(Act::Mark(item));
 }
 
@@ -50,7 +50,15 @@ fn add_storing<const V: usize>(
     ensures fits { array_vec_len acts.new ≤ 64 }
 {
     push_moves(acts, storing.moves.as_slice());
-    add_fill(checked, acts, key, value, storing.item, storing.place);
+    add_fill(
+        checked,
+        acts,
+        key,
+        value,
+        storing.at,
+        storing.item,
+        storing.place,
+    );
     acts.push(Act::Mark(storing.item));
 }
 
@@ -130,10 +138,35 @@ pub(crate) fn start_put<const V: usize, P: Peek>(
     match books.decide::<V, P>(peek, key, value) {
         Decision::Refuse(why) => Start::Planned(Err(why)),
         Decision::Renew { item, at } => {
-            add_renewal(plan, key, value, item);
+            add_renewal(plan, key, value, at, item);
             Start::Planned(Ok(Put::Renewed { at }))
         }
         Decision::Insert { at } => start_insert::<V, P>(books, peek, plan, key, value, at),
+    }
+}
+
+/// Lists the acts of a put on a condition.
+pub(crate) fn start_put_if<const V: usize, P: Peek>(
+    books: &mut Books,
+    peek: &mut P,
+    plan: &mut Plan,
+    key: u64,
+    since: u64,
+    value: &[u64; V],
+) -> Result<u64, IfError>
+    requires books { (s : State V) × AreBooksOf V books.old s × (P.words peek.old ≡ s.words) }
+    requires plan { plan.old.items ≡ [] }
+    ensures planned { (s : State V) → AreBooksOf V books.old s → P.words peek.old ≡ s.words → IsPlanned V books.new plan.new.items (PutIfCall key since value.now) s s (answer.PutIf result) }
+    ensures fits { array_vec_len plan.new ≤ 64 }
+    ensures shape { books.new.checked ≡ books.old.checked }
+    ensures kept { peek.new ≡ peek.old }
+{
+    match books.decide_if::<V, P>(peek, key, since, value) {
+        Ok(renewal) => {
+            add_renewal(plan, key, value, renewal.at, renewal.item);
+            Ok(renewal.at)
+        }
+        Err(why) => Err(why),
     }
 }
 

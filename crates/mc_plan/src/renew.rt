@@ -9,32 +9,32 @@ ghost use Rattle.mc_plan.specs.Making.{ActsRenew};
 ghost use Rattle.mc_plan.specs.Plans.{renew_acts};
 
 use crate::Plan;
-use crate::value::{add_value, words_of};
+use crate::value::add_payload;
 use arrayvec::ArrayVec;
 use mc_theory::{Act, Deed};
 
 /// Adds the acts that put a new value of the key that stands at the item.
-/// Condition: the list has room for them: `V + 3` acts of 64.
-pub fn add_renew<const V: usize>(acts: &mut Plan, key: u64, value: &[u64; V], item: u32)
+/// `at` is the moment that the put is to have. Condition: the list has room for them: `V + 4` acts of 64.
+pub fn add_renew<const V: usize>(acts: &mut Plan, key: u64, value: &[u64; V], at: u64, item: u32)
     requires width { IsWidth V }
-    requires room { array_vec_len acts.old + V + 3 ≤ 64 }
-    ensures items { acts.new.items ≡ acts.old.items ++ renew_acts key value.now item }
-    ensures many { array_vec_len acts.new ≡ array_vec_len acts.old + V + 3 }
+    requires room { array_vec_len acts.old + V + 4 ≤ 64 }
+    ensures items { acts.new.items ≡ acts.old.items ++ renew_acts key value.now at item }
+    ensures many { array_vec_len acts.new ≡ array_vec_len acts.old + V + 4 }
     ensures words { All IsWord value.now }
 {
     acts.push(Act::Open(key, Deed::Renew));
-    add_value(acts, item, words_of(value));
+    add_payload(acts, item, value, at);
     acts.push(Act::Moment);
     acts.push(Act::Close);
 }
 
-/// The acts that put a new value of the key that stands at the item. Condition: a value has from 1 to 8 words.
-pub fn plan_renew<const V: usize>(key: u64, value: &[u64; V], item: u32) -> Plan
+/// The acts that put a new value of the key that stands at the item, at the moment `at`. Condition: a value has from 1 to 8 words.
+pub fn plan_renew<const V: usize>(key: u64, value: &[u64; V], at: u64, item: u32) -> Plan
     requires width { IsWidth V }
-    ensures items { result.items ≡ renew_acts key value.now item }
-    ensures law { (sh : Shape) → IsShape sh → ActsRenew V sh key value.now item result.items }
+    ensures items { result.items ≡ renew_acts key value.now at item }
+    ensures law { (sh : Shape) → IsShape sh → ActsRenew V sh key value.now at item result.items }
 {
     let mut acts = ArrayVec::new();
-    add_renew(&mut acts, key, value, item);
+    add_renew(&mut acts, key, value, at, item);
     acts
 }

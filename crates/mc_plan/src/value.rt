@@ -2,7 +2,8 @@
 ghost use Rattle.std.specs.Prelude.{◌≡◌, ◌+◌, ◌≤◌, ◌++◌, All, length};
 ghost use Rattle.arrayvec.specs.ArrayVec.{array_vec_len};
 ghost use Rattle.mc_words.specs.History.{IsWord};
-ghost use Rattle.mc_plan.specs.Plans.{value_acts};
+ghost use Rattle.mc_words.specs.Places.{IsWidth};
+ghost use Rattle.mc_plan.specs.Plans.{payload_acts, value_acts};
 
 use crate::Plan;
 use mc_theory::Act;
@@ -41,4 +42,17 @@ pub(crate) fn add_value(acts: &mut Plan, item: u32, value: &[u64])
     for (j, word) in value.iter().enumerate() {
         acts.push(Act::Item(item, j as u8 + 1, *word));
     }
+}
+
+/// Adds the writes of a value into the item, after its key, and of the stamp behind it.
+/// Condition: the list has room for them: `V + 1` acts of 64.
+pub(crate) fn add_payload<const V: usize>(acts: &mut Plan, item: u32, value: &[u64; V], at: u64)
+    requires width { IsWidth V }
+    requires room { array_vec_len acts.old + V + 1 ≤ 64 }
+    ensures items { acts.new.items ≡ acts.old.items ++ payload_acts item value.now at }
+    ensures many { array_vec_len acts.new ≡ array_vec_len acts.old + V + 1 }
+    ensures words { All IsWord value.now }
+{
+    add_value(acts, item, words_of(value));
+    acts.push(Act::Item(item, V as u8 + 1, at));
 }

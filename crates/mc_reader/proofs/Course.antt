@@ -9,14 +9,14 @@ use Rattle.mc_words.specs.declared.history.Reply.{Reply}
 use Rattle.mc_words.specs.declared.shape.Shape.{Shape}
 use Rattle.mc_theory.specs.Lists.{Made, front, state_of}
 use Rattle.mc_theory.specs.Lookups.{IsLookup}
-use Rattle.mc_lookup.specs.Machine.{shape_for, place_in, lookup_place, next_at, next_access, slots_from, reply_at, reply_now, IsRemainderAt, IsRemainder, Consumes, steps_left}
+use Rattle.mc_lookup.specs.Machine.{held_by, shape_for, place_in, lookup_place, next_at, next_access, slots_from, reply_at, reply_now, IsRemainderAt, IsRemainder, Consumes, steps_left}
 use Rattle.mc_theory.specs.Readings.{Reading, AreRead}
 use Rattle.mc_theory.specs.Plain.{IsBetween}
 use Rattle.mc_theory.specs.States.{State}
 use Rattle.mc_theory.specs.declared.access.Access.{Access}
 use Rattle.mc_lookup.specs.declared.lookup.Lookup.{Lookup}
 use Rattle.mc_lookup.specs.declared.stage.Stage.{Stage}
-use Rattle.mc_lookup.specs.declared.stage.Stage.TheVariants.{First, Slot, Key, Value, Moment, Last, Mark, Over}
+use Rattle.mc_lookup.specs.declared.stage.Stage.TheVariants.{First, Slot, Key, Value, Stamp, Moment, Last, Mark, Over}
 use Rattle.mc_theory.proofs.Lists.Fronts.{front_all, front_append}
 use Rattle.mc_theory.proofs.Replies.TrueReplies.{replies_are_true}
 use Rattle.mc_theory.proofs.Lists.Readings.{read_parts}
@@ -71,11 +71,12 @@ goes_on V sh k before old new lookup next a word of number begins adds t w =
     }
 
 -- ---- the end
-over_at : {V : ℕ} (l : Lookup V) (stage : Stage) (reply : Reply V) → reply_at l stage ≡ Some reply → IsRemainderAt V (shape_for l) l.key l.tries l.version l.value l.reply stage [] reply
+over_at : {V : ℕ} (l : Lookup V) (stage : Stage) (reply : Reply V) → reply_at l stage ≡ Some reply → IsRemainderAt V (shape_for l) l.key l.tries l.version (held_by l) l.reply stage [] reply
 over_at l First reply e = absurd (cc)
 over_at l (Slot j) reply e = absurd (cc)
 over_at l (Key j i) reply e = absurd (cc)
 over_at l (Value i c) reply e = absurd (cc)
+over_at l (Stamp i) reply e = absurd (cc)
 over_at l (Moment hit) reply e = absurd (cc)
 over_at l (Last hit at) reply e = absurd (cc)
 over_at l (Mark i) reply e = absurd (cc)
@@ -180,8 +181,3 @@ slot_read V sh l k from j row p shape key is which below here =
     let second : l.second ≡ second_of sh k = l.second_is ∙ λ i. second_of (shape i) (key i) in
     let place : p ≡ place_in (first_of sh k) (second_of sh k) (from + j) = is ∙ λ i. place_in (first i) (second i) (from + j) in
     ap (λ (q : Place). Some (slot_place sh (slot_number q))) place ∙ ap Some (row_next sh k from j which below ∙ ap (λ (r : ℕ). r + j) (sym here))
-
--- word j of an item
-pub item_read : (V : ℕ) (sh : Shape) (items i j : ℕ) → items ≡ item_place V sh 0 0 → item_place V sh i j ≡ items + i * (V + 1) + j
-unfolding payload
-item_read V sh items i j e = let c : i * (1 + V) ≡ i * (V + 1) = ap (λ (n : ℕ). i * n) (omega arith) in omega (arith, c, e)

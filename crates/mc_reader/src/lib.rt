@@ -6,7 +6,7 @@
 //!
 //! ```text
 //! match get(&cells, &mut reader, key) {
-//!     Reply::Found { value, at } => ...                  // the map held the value when `at` changes had been made
+//!     Reply::Found { value, at, .. } => ...                // the map held the value when `at` changes had been made
 //!     Reply::Absent { at } => ...
 //!     Reply::Busy => ...                                 // each try was spoiled
 //! }

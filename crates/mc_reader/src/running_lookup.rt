@@ -19,7 +19,7 @@ use crate::places::Places;
 use mc_lookup::{Lookup, Stage};
 use mc_shared::{Cells, ReaderSeat, mark_unless_set, read_at};
 use mc_theory::Access;
-use mc_words::Reply;
+use mc_words::{Reply, payload_words};
 
 // Reads what comes next, at its place.
 #[inline(always)]
@@ -66,7 +66,7 @@ fn scan_four<const V: usize>(
         let slot = Access::Slot(lookup.place(from + j));
         let word = read_next(cells, seat, lookup, slot, row + usize::from(j));
         if let Some(i) = lookup.after_slot(from + j, word) {
-            let place = items + i as usize * (V + 1);
+            let place = cells.checked().item_from::<V>(items, i, 0);
             let key = read_next(cells, seat, lookup, Access::Key(i), place);
             if lookup.after_key(from + j + 1, i, key) {
                 return Some(i);
@@ -111,13 +111,56 @@ fn read_value<const V: usize>(
     requires items { items ≡ item_place V cells.now.layout.shape 0 0 }
     requires stage { stage_of {V = V} lookup.old ≡ Stage.Value i 0 }
     ensures leads { Leads V cells.now.layout.shape seat.old lookup.old seat.new lookup.new }
-    ensures stage { stage_of {V = V} lookup.new ≡ Stage.Moment (Some i) }
+    ensures stage { stage_of {V = V} lookup.new ≡ Stage.Stamp i }
 {
     for count in 0..V as u8 {
-        let place = items + i as usize * (V + 1) + usize::from(count) + 1;
+        let place = cells.checked().item_from::<V>(items, i, count + 1);
         let word = read_next(cells, seat, lookup, Access::Value(i, count + 1), place);
         lookup.after_value(i, count, word);
     }
+}
+
+// Reads the stamp of the key's item.
+#[inline(always)]
+fn read_stamp<const V: usize>(
+    cells: &Cells<V>,
+    seat: &mut ReaderSeat,
+    lookup: &mut Lookup<V>,
+    items: usize,
+    i: u32,
+)
+    requires of { seat.old.of ≡ cells.now }
+    requires shape { shape_for {V = V} lookup.old ≡ cells.now.layout.shape }
+    requires items { items ≡ item_place V cells.now.layout.shape 0 0 }
+    requires stage { stage_of {V = V} lookup.old ≡ Stage.Stamp i }
+    ensures leads { Leads V cells.now.layout.shape seat.old lookup.old seat.new lookup.new }
+    ensures stage { stage_of {V = V} lookup.new ≡ Stage.Moment (Some i) }
+{
+    let place = cells
+        .checked()
+        .item_from::<V>(items, i, payload_words::<V>() as u8);
+    let word = read_next(cells, seat, lookup, Access::Stamp(i), place);
+    lookup.after_stamp(i, word);
+}
+
+// Reads all that the key's item holds behind its key.
+#[inline(always)]
+fn read_held<const V: usize>(
+    cells: &Cells<V>,
+    seat: &mut ReaderSeat,
+    lookup: &mut Lookup<V>,
+    items: usize,
+    i: u32,
+)
+    requires of { seat.old.of ≡ cells.now }
+    requires shape { shape_for {V = V} lookup.old ≡ cells.now.layout.shape }
+    requires items { items ≡ item_place V cells.now.layout.shape 0 0 }
+    requires stage { stage_of {V = V} lookup.old ≡ Stage.Value i 0 }
+    ensures leads { Leads V cells.now.layout.shape seat.old lookup.old seat.new lookup.new }
+    ensures stage { stage_of {V = V} lookup.new ≡ Stage.Moment (Some i) }
+{
+    read_value(cells, seat, lookup, items, i);
+    read_stamp(cells, seat, lookup, items, i);
 }
 
 // Reads the moment and the version again, and marks the item of a hit.
@@ -170,7 +213,7 @@ fn try_once<const V: usize>(
     if lookup.after_first(version) {
         let hit = scan(cells, seat, lookup, places);
         if let Some(i) = hit {
-            read_value(cells, seat, lookup, places.items, i);
+            read_held(cells, seat, lookup, places.items, i);
         }
         conclude(cells, seat, lookup, places.version, hit);
     }

@@ -18,7 +18,7 @@ use Rattle.mc_replay.specs.declared.player.Player.{Player}
 use Rattle.mc_replay.specs.Replay.{Replay, Pending, IsUnanswered, WriterMakes, WhereIdle, CallDoes, BeginDoes, GetDoes, ActDoes}
 use Rattle.mc_replay.specs.Inside.Players.{shape_of_player, most_steps, HasRoom, IsIdle, IsMidCall, FitsCall, Fits, FitsStill, with_acts, Begins, MakesAct, CallIsWhole, Looks, DoneAs, CanDo, ActsSoFar}
 use Rattle.mc_replay.specs.Replay.{pending}
-use Rattle.mc_replay.specs.Texts.{answer_line, reply_line}
+use Rattle.mc_replay.specs.Texts.{answer_line}
 use Rattle.mc_plan.proofs.Calls.CanEnd.{can_end}
 use Rattle.mc_replay.proofs.WriterCalls.{acts_are_left, idle_more}
 use Rattle.mc_replay.proofs.ReaderLines.{fits_more}
@@ -79,10 +79,10 @@ call_done V old new most call s a text none whole is =
     (inl (none, refl, (a, whole.acts, record { makes = whole.makes; answered = whole.answered; idle = refl }, is)), (whole.shape, whole.idle))
 
 -- a lookup of an idle player is made as a whole and answered
-pub get_done : (V : ℕ) (old new : Player V) (most k : ℕ) (s : Replay V) (reply : Reply V) (text : List ℕ) → s.running ≡ None → (looks : Looks V old new most k s.world reply) → text ≡ reply_line reply
-    → GetDoes (shape_of_player old) s k text None (idle_in looks.after) × FitsStill V old new (most + most_steps) (idle_in looks.after)
+pub get_done : (V : ℕ) (old new : Player V) (most k : ℕ) (s : Replay V) (reply : Reply V) (line_of : Reply V → List ℕ) (text : List ℕ) → s.running ≡ None → (looks : Looks V old new most k s.world reply) → text ≡ line_of reply
+    → GetDoes (shape_of_player old) s k line_of text None (idle_in looks.after) × FitsStill V old new (most + most_steps) (idle_in looks.after)
 unfolding idle_in
-get_done V old new most k s reply text none looks is =
+get_done V old new most k s reply line_of text none looks is =
     (inl (none, refl, (reply, looks.acts, looks.looks, looks.makes, refl, is)), (looks.shape, looks.idle))
 
 -- a call with acts to make comes to an answer

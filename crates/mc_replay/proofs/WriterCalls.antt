@@ -373,9 +373,9 @@ agrees_now V player most w sh idle same =
     subst (λ (x : State V). Agrees V sh x.words None s.history) (sym idle.at.world.state) here
 
 -- the writer's lookup found the key
-pub looks_found : (V : ℕ) (player : Player V) (most k i at q : ℕ) (v : List ℕ) (w : Trace V) (sh : Shape) → IsIdle V player most w → sh ≡ shape_of_player player → map_value (state_of V (shape_of_player player) w.acts).history k ≡ Some v → at ≡ moment player.world.state.words → Stands V sh player.world.state.words k q i
-    → LooksUp {V = V} (shape_of_player player) (state_of V (shape_of_player player) w.acts) k (Found v at) (record { act = Mark i; bit = 0 } ∷ [])
-looks_found V player most k i at q v w sh idle same value is stands =
+pub looks_found : (V : ℕ) (player : Player V) (most k i at since q : ℕ) (v : List ℕ) (w : Trace V) (sh : Shape) → IsIdle V player most w → sh ≡ shape_of_player player → map_value (state_of V (shape_of_player player) w.acts).history k ≡ Some (v ++ since ∷ []) → at ≡ moment player.world.state.words → Stands V sh player.world.state.words k q i
+    → LooksUp {V = V} (shape_of_player player) (state_of V (shape_of_player player) w.acts) k (Found v at since) (record { act = Mark i; bit = 0 } ∷ [])
+looks_found V player most k i at since q v w sh idle same value is stands =
     let agrees = agrees_now V player most w sh idle same in
     let there : Stands V (shape_of_player player) (state_of V (shape_of_player player) w.acts).words k q i =
     subst (λ (x : State V). Stands V (shape_of_player player) x.words k q i) idle.at.world.state (subst (λ (y : Shape). Stands V y player.world.state.words k q i) same stands) in

@@ -10,13 +10,13 @@ use Rattle.mc_theory.specs.States.{State}
 use Rattle.mc_theory.specs.Traces.{Trace, OpenLookup, Ended, IsTrueEnd, first_trace, Steps, StepsAll}
 use Rattle.mc_theory.specs.declared.act.Act.TheVariants.{Mark}
 use Rattle.mc_theory.specs.declared.event.Event.TheVariants as event
-use Rattle.mc_plan.specs.WholeCalls.{Call, PutCall, RemoveCall, Answered, quiet_of}
+use Rattle.mc_plan.specs.WholeCalls.{Call, PutCall, PutIfCall, RemoveCall, Answered, quiet_of}
 use Rattle.mc_plan.specs.declared.answer.Answer.{Answer}
 use Rattle.mc_script.specs.declared.command.Command.{Command}
 use Rattle.mc_script.specs.declared.command.Command.TheVariants as command
 use Rattle.mc_replay.specs.declared.fault.Fault.{Fault}
 use Rattle.mc_replay.specs.declared.fault.Fault.TheVariants.{NoSuchReader, StillRunning, NothingToStep}
-use Rattle.mc_replay.specs.Texts.{answer_line, reply_line, done_line}
+use Rattle.mc_replay.specs.Texts.{answer_line, reply_line, stamp_line, done_line}
 
 -- a call of the writer that is made act by act: the state in which it began, and the acts made since
 pub record Pending (V : ℕ) : Type 0 where
@@ -78,16 +78,16 @@ BeginDoes {V} sh s call text fault t =
 
 -- what the writer's lookup replies, and the mark that it makes of the key's item
 abbrev pub LooksUp : {V : ℕ} → Shape → State V → ℕ → Reply V → List Made → Type 0
-LooksUp {V} sh s k (Found v at) acts =
-    Finds V (quiet_of s) (quiet_of s) k v at × ((q : ℕ) × (i : ℕ) × Stands V sh s.words k q i × (acts ≡ record { act = Mark i; bit = 0 } ∷ []))
+LooksUp {V} sh s k (Found v at since) acts =
+    Finds V (quiet_of s) (quiet_of s) k v at since × ((q : ℕ) × (i : ℕ) × Stands V sh s.words k q i × (acts ≡ record { act = Mark i; bit = 0 } ∷ []))
 LooksUp {V} sh s k (Absent at) acts = Misses V (quiet_of s) (quiet_of s) k at × (acts ≡ [])
 LooksUp sh s k Busy acts = ⊥
 
--- a whole lookup by the writer
-abbrev pub GetDoes : {V : ℕ} → Shape → Replay V → ℕ → List ℕ → Option Fault → Replay V → Type 0
-GetDoes {V} sh s k text fault t =
+-- a whole lookup by the writer, whose reply has this line
+abbrev pub GetDoes : {V : ℕ} → Shape → Replay V → ℕ → (Reply V → List ℕ) → List ℕ → Option Fault → Replay V → Type 0
+GetDoes {V} sh s k line_of text fault t =
     WhereIdle s text fault t (
-    (reply : Reply V) × (acts : List Made) × LooksUp sh (state_now sh s) k reply acts × WriterMakes V sh s.world acts t.world × (t.running ≡ None) × (text ≡ reply_line reply)
+    (reply : Reply V) × (acts : List Made) × LooksUp sh (state_now sh s) k reply acts × WriterMakes V sh s.world acts t.world × (t.running ≡ None) × (text ≡ line_of reply)
     )
 
 -- the call with one act more
@@ -146,9 +146,12 @@ ReadsDo sh s r n text fault t = OfReader s r text fault t (AccessesDo sh n s r t
 -- what a command does
 abbrev pub Does : {V : ℕ} → Shape → Replay V → Command V → List ℕ → Option Fault → Replay V → Type 0
 Does sh s (command.Put k v) text fault t = CallDoes sh s (PutCall k v) text fault t
+Does sh s (command.PutIf k since v) text fault t = CallDoes sh s (PutIfCall k since v) text fault t
 Does sh s (command.Remove k) text fault t = CallDoes sh s (RemoveCall k) text fault t
-Does sh s (command.Get k) text fault t = GetDoes sh s k text fault t
+Does {V} sh s (command.Get k) text fault t = GetDoes sh s k (reply_line {V = V}) text fault t
+Does {V} sh s (command.Stamp k) text fault t = GetDoes sh s k (stamp_line {V = V}) text fault t
 Does sh s (command.BeginPut k v) text fault t = BeginDoes sh s (PutCall k v) text fault t
+Does sh s (command.BeginPutIf k since v) text fault t = BeginDoes sh s (PutIfCall k since v) text fault t
 Does sh s (command.BeginRemove k) text fault t = BeginDoes sh s (RemoveCall k) text fault t
 Does sh s (command.Write n) text fault t = ActsDo sh n s text fault t
 Does sh s (command.BeginGet r k) text fault t = LookUpDoes sh s r k text fault t

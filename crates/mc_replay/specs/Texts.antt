@@ -10,6 +10,7 @@ use Rattle.mc_plan.specs.declared.answer.Answer.TheVariants as answer
 use Rattle.mc_plan.specs.declared.answer.Put.{Put}
 use Rattle.mc_plan.specs.declared.answer.Put.TheVariants.{Stored, Renewed}
 use Rattle.mc_plan.specs.declared.answer.PutError.TheVariants.{NoPath, AllRecent, Spent}
+use Rattle.mc_plan.specs.declared.answer.IfError.TheVariants as condition
 use Rattle.mc_plan.specs.declared.answer.Remove.TheVariants.{Removed, NotThere}
 
 -- the words of a value, a blank before each
@@ -26,14 +27,24 @@ answer_text (answer.Put (Ok put)) = put_text put
 answer_text (answer.Put (Err NoPath)) = codes "refused no path"
 answer_text (answer.Put (Err AllRecent)) = codes "refused all recent"
 answer_text (answer.Put (Err Spent)) = codes "refused spent"
+answer_text (answer.PutIf (Ok at)) = codes "renewed at " ++ decimal at
+answer_text (answer.PutIf (Err condition.Spent)) = codes "refused spent"
+answer_text (answer.PutIf (Err (condition.NotThere at))) = codes "not there at " ++ decimal at
+answer_text (answer.PutIf (Err (condition.Changed since))) = codes "refused changed since " ++ decimal since
 answer_text (answer.Remove (Ok (Removed at))) = codes "removed at " ++ decimal at
 answer_text (answer.Remove (Ok (NotThere at))) = codes "not there at " ++ decimal at
 answer_text (answer.Remove (Err spent)) = codes "refused spent"
 
 abbrev pub reply_text : {V : ℕ} → Reply V → List ℕ
-reply_text (Found value at) = codes "found" ++ words_text value ++ codes " at " ++ decimal at
+reply_text (Found value at since) = codes "found" ++ words_text value ++ codes " at " ++ decimal at
 reply_text (Absent at) = codes "absent at " ++ decimal at
 reply_text Busy = codes "busy"
+
+-- a reply with the moment of the key's last put
+abbrev pub stamp_text : {V : ℕ} → Reply V → List ℕ
+stamp_text {V} (Found value at since) = reply_text {V = V} (Found value at since) ++ codes " since " ++ decimal since
+stamp_text {V} (Absent at) = reply_text {V = V} (Absent at)
+stamp_text {V} Busy = reply_text {V = V} Busy
 
 -- a reader's lookup that has ended
 abbrev pub done_text : {V : ℕ} → Done V → List ℕ
@@ -48,6 +59,9 @@ answer_line a = line (answer_text a)
 
 abbrev pub reply_line : {V : ℕ} → Reply V → List ℕ
 reply_line reply = line (reply_text reply)
+
+abbrev pub stamp_line : {V : ℕ} → Reply V → List ℕ
+stamp_line reply = line (stamp_text reply)
 
 abbrev pub done_line : {V : ℕ} → Done V → List ℕ
 done_line done = line (done_text done)

@@ -2,11 +2,12 @@
 ghost use Rattle.std.specs.Prelude.{◌≡◌, OnOk, OnErr, Err, false, is_some, string_bytes};
 ghost use Rattle.mc_plan.specs.Clerks.{next_act};
 ghost use Rattle.mc_replay.specs.Replay.{ActsDo, BeginDoes, CallDoes, Does, GetDoes};
+ghost use Rattle.mc_replay.specs.Texts.{reply_line, stamp_line};
 ghost use Rattle.mc_replay.specs.Inside.Players.{ActsOnce, CanAct, CanDo, DoesBy, call_of};
 ghost use Rattle.mc_replay.specs.declared.fault.Fault.TheVariants.{NoMemory};
 
 use crate::fault::Fault;
-use crate::lines::{AnswerLine, ReplyLine};
+use crate::lines::{AnswerLine, ReplyLine, StampLine};
 use crate::player::{Call, Player};
 use crate::reading::{begin_get, reads};
 use crate::text::add_line;
@@ -46,10 +47,20 @@ fn begin<const V: usize>(
 fn get<const V: usize>(player: &mut Player<V>, text: &mut String, key: u64) -> Result<(), Fault>
     requires can { CanDo V player.old (string_bytes text.old) }
     requires idle { is_some (next_act player.old.clerk) ≡ false }
-    ensures { DoesBy V player.old player.new (string_bytes text.new) result (λ sh s. GetDoes sh s key) }
+    ensures { DoesBy V player.old player.new (string_bytes text.new) result (λ sh s. GetDoes sh s key (reply_line {V = V})) }
 {
     let reply = player.get(key);
     add_line(text, &ReplyLine(reply))
+}
+
+/// A whole lookup by the writer, which tells the moment of the key's last put.
+fn stamp<const V: usize>(player: &mut Player<V>, text: &mut String, key: u64) -> Result<(), Fault>
+    requires can { CanDo V player.old (string_bytes text.old) }
+    requires idle { is_some (next_act player.old.clerk) ≡ false }
+    ensures { DoesBy V player.old player.new (string_bytes text.new) result (λ sh s. GetDoes sh s key (stamp_line {V = V})) }
+{
+    let reply = player.get(key);
+    add_line(text, &StampLine(reply))
 }
 
 /// Makes an act of the writer's call, and tells the call's answer after its last one.
@@ -93,9 +104,20 @@ pub(crate) fn do_command<const V: usize>(
         (Command::Read(reader, many), _) => reads(player, text, reader, many),
         (_, true) => Err(Fault::StillRunning),
         (Command::Put(key, value), false) => whole(player, text, Call::Put(key, value)),
+        (Command::PutIf(key, since, value), false) => whole(
+            player,
+            text,
+            Call::PutIf(key, since, value),
+        ),
         (Command::Remove(key), false) => whole(player, text, Call::Remove(key)),
         (Command::Get(key), false) => get(player, text, key),
+        (Command::Stamp(key), false) => stamp(player, text, key),
         (Command::BeginPut(key, value), false) => begin(player, text, Call::Put(key, value)),
+        (Command::BeginPutIf(key, since, value), false) => begin(
+            player,
+            text,
+            Call::PutIf(key, since, value),
+        ),
         (Command::BeginRemove(key), false) => begin(player, text, Call::Remove(key)),
     }
 }

@@ -1,9 +1,9 @@
 //! The lines that are written for answers.
 ghost use Rattle.std.specs.Prelude.{Some};
-ghost use Rattle.mc_replay.specs.Texts.{answer_text, done_text, put_text, reply_text, words_text};
+ghost use Rattle.mc_replay.specs.Texts.{answer_text, done_text, put_text, reply_text, stamp_text, words_text};
 
 use mc_core::{Done, Reply};
-use mc_plan::{Answer, Put, PutError, Remove, Spent};
+use mc_plan::{Answer, IfError, Put, PutError, Remove, Spent};
 use std::fmt;
 
 /// What a `put` did, as a line says it.
@@ -46,6 +46,12 @@ impl fmt::Display for AnswerLine {
             Answer::Put(Err(PutError::NoPath)) => write!(f, "refused no path"),
             Answer::Put(Err(PutError::AllRecent)) => write!(f, "refused all recent"),
             Answer::Put(Err(PutError::Spent)) => write!(f, "refused spent"),
+            Answer::PutIf(Ok(at)) => write!(f, "renewed at {at}"),
+            Answer::PutIf(Err(IfError::Spent)) => write!(f, "refused spent"),
+            Answer::PutIf(Err(IfError::NotThere { at })) => write!(f, "not there at {at}"),
+            Answer::PutIf(Err(IfError::Changed { since })) => {
+                write!(f, "refused changed since {since}")
+            }
             Answer::Remove(Ok(Remove::Removed { at })) => write!(f, "removed at {at}"),
             Answer::Remove(Ok(Remove::NotThere { at })) => write!(f, "not there at {at}"),
             Answer::Remove(Err(Spent)) => write!(f, "refused spent"),
@@ -77,12 +83,28 @@ impl<const V: usize> fmt::Display for ReplyLine<V> {
 
     fn fmt<W: fmt::Write>(&self, f: &mut fmt::Formatter<W>) -> fmt::Result {
         match &self.0 {
-            Reply::Found { value, at } => {
+            Reply::Found { value, at, .. } => {
                 let words = Words(value);
                 write!(f, "found{words} at {at}")
             }
             Reply::Absent { at } => write!(f, "absent at {at}"),
             Reply::Busy => write!(f, "busy"),
+        }
+    }
+}
+
+/// The line of a reply that tells the moment of the key's last put, without its end.
+#[derive(Clone, Copy)]
+pub(crate) struct StampLine<const V: usize>(pub(crate) Reply<V>);
+
+impl<const V: usize> fmt::Display for StampLine<V> {
+    ghost output = { λ line. Some (stamp_text line.0) };
+
+    fn fmt<W: fmt::Write>(&self, f: &mut fmt::Formatter<W>) -> fmt::Result {
+        let reply = ReplyLine(self.0);
+        match self.0 {
+            Reply::Found { since, .. } => write!(f, "{reply} since {since}"),
+            Reply::Absent { .. } | Reply::Busy => write!(f, "{reply}"),
         }
     }
 }

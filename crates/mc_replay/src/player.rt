@@ -19,6 +19,8 @@ use std::alloc::Global;
 #[derive(Clone, Copy)]
 pub(crate) enum Call<const V: usize> {
     Put(u64, [u64; V]),
+    /// A put, where the moment of the key's last put is this one.
+    PutIf(u64, u64, [u64; V]),
     Remove(u64),
 }
 
@@ -112,6 +114,9 @@ impl<const V: usize> Player<V> {
     {
         match call {
             Call::Put(key, value) => self.clerk.put(&mut &self.world, key, value),
+            Call::PutIf(key, since, value) => self
+                .clerk
+                .put_if(&mut &self.world, key, since, value),
             Call::Remove(key) => self.clerk.remove(&mut &self.world, key),
         }
         self.clerk.answer()
@@ -150,10 +155,11 @@ impl<const V: usize> Player<V> {
         let at = moment(&checked, &mut &self.world);
         match read(&checked, &mut &self.world, key) {
             None => Reply::Absent { at },
-            Some(found) => {
-                let value = found.1;
-                self.mark(found.0);
-                Reply::Found { value, at }
+            Some(held) => {
+                let value = held.value;
+                let since = held.since;
+                self.mark(held.item);
+                Reply::Found { value, at, since }
             }
         }
     }

@@ -9,12 +9,12 @@ use Rattle.std.proofs.lemmas.Bool.{cases_eq}
 use Rattle.mc_script.specs.declared.command.LineFault.{LineFault}
 use Rattle.mc_script.specs.declared.command.LineFault.TheVariants.{NotACommand, BadNumber}
 use Rattle.mc_script.specs.declared.command.Command.{Command}
-use Rattle.mc_script.specs.declared.command.Command.TheVariants.{Put, Remove, Get, BeginPut, BeginRemove, Write, BeginGet, Read}
+use Rattle.mc_script.specs.declared.command.Command.TheVariants.{Put, PutIf, Remove, Get, Stamp, BeginPut, BeginPutIf, BeginRemove, Write, BeginGet, Read}
 use Rattle.mc_script.specs.Words.{words_of}
 use Rattle.mc_script.specs.Numbers.{is_number}
 use Rattle.mc_script.specs.Commands.{Fixed, Number, Steps, Form, form, first, second, may_stand, is_good, values, read_by, command_of, said, command_by, command_in}
 use Rattle.mc_script.specs.Inside.Numbers.{numbers_in}
-use Rattle.mc_script.specs.Inside.Commands.{command_from, otherwise, stepping, begin_put_in, begin_remove_in, begin_get_in, begin_in, write_in, read_in, form_in}
+use Rattle.mc_script.specs.Inside.Commands.{command_from, otherwise, stepping, begin_put_in, begin_put_if_in, begin_remove_in, begin_get_in, begin_in, write_in, read_in, form_in}
 use Rattle.mc_script.proofs.NumberLists.{other_count, same_count}
 
 -- as many words as numbers may stand for them
@@ -104,6 +104,11 @@ entry_counted : (v : ℕ) (words : List (List ℕ)) (make : List ℕ → Command
     → command_from make (numbers_in (v + 1) words) ≡ told (pointwise may_stand (replicate (suc v) Number) words) (pointwise is_good (replicate (suc v) Number) words) (make (values (replicate (suc v) Number) words))
 entry_counted v words make = ap (λ n. command_from make (numbers_in n words)) (omega arith) ∙ counted (suc v) words make
 
+-- a key, a moment and a value
+entry_if_counted : (v : ℕ) (words : List (List ℕ)) (make : List ℕ → Command v)
+    → command_from make (numbers_in (v + 2) words) ≡ told (pointwise may_stand (replicate (suc (suc v)) Number) words) (pointwise is_good (replicate (suc (suc v)) Number) words) (make (values (replicate (suc (suc v)) Number) words))
+entry_if_counted v words make = ap (λ n. command_from make (numbers_in n words)) (omega arith) ∙ counted (suc (suc v)) words make
+
 -- a test of a fixed word comes first
 fixed_first : {v : ℕ} (is fits good : Bool) (command : Command v) → cond is (told fits good command) (Err NotACommand) ≡ told (is && fits) good command
 fixed_first true fits good command = refl
@@ -144,6 +149,13 @@ put_says v words =
     let whole : Form v = form (Fixed (codes "put") ∷ Number ∷ replicate v Number) (λ numbers. Put (first numbers) (drop 1 numbers)) in
     entry_counted v words whole.command ∙ only (codes "put" ∷ words) whole
 
+-- `putif`, a key, a moment and a value
+put_if_says : (v : ℕ) (words : List (List ℕ)) → command_from (λ numbers. PutIf (first numbers) (second numbers) (drop 2 numbers)) (numbers_in (v + 2) words) ≡ command_of v (codes "putif" ∷ words)
+unfolding command_of
+put_if_says v words =
+    let whole : Form v = form (Fixed (codes "putif") ∷ Number ∷ Number ∷ replicate v Number) (λ numbers. PutIf (first numbers) (second numbers) (drop 2 numbers)) in
+    entry_if_counted v words whole.command ∙ only (codes "putif" ∷ words) whole
+
 -- `remove` and a key
 remove_says : (v : ℕ) (words : List (List ℕ)) → command_from (λ numbers. Remove (first numbers)) (numbers_in 1 words) ≡ command_of v (codes "remove" ∷ words)
 unfolding command_of
@@ -157,6 +169,13 @@ unfolding command_of
 get_says v words =
     let whole : Form v = form (Fixed (codes "get") ∷ Number ∷ []) (λ numbers. Get (first numbers)) in
     counted 1 words whole.command ∙ only (codes "get" ∷ words) whole
+
+-- `stamp` and a key
+stamp_says : (v : ℕ) (words : List (List ℕ)) → command_from (λ numbers. Stamp (first numbers)) (numbers_in 1 words) ≡ command_of v (codes "stamp" ∷ words)
+unfolding command_of
+stamp_says v words =
+    let whole : Form v = form (Fixed (codes "stamp") ∷ Number ∷ []) (λ numbers. Stamp (first numbers)) in
+    counted 1 words whole.command ∙ only (codes "stamp" ∷ words) whole
 
 -- `w`, alone or with a count
 write_says : (v : ℕ) (words : List (List ℕ)) → write_in v words ≡ command_of v (codes "w" ∷ words)
@@ -176,20 +195,25 @@ read_says v words =
     let many : Form v = form (Fixed (codes "r") ∷ Number ∷ Steps ∷ []) (λ numbers. Read (first numbers) (second numbers)) in
     joined (counted 1 words one.command) (number_and_count words many.command ∙ only all many) ∙ next all one (many ∷ [])
 
--- `begin`, and then `put`, `remove` or a reader
+-- `begin`, and then `put`, `putif`, `remove` or a reader
 begin_says : (v : ℕ) (words : List (List ℕ)) → begin_in v words ≡ command_of v (codes "begin" ∷ words)
 unfolding command_of
 begin_says v [] = refl
 begin_says v (word ∷ words) =
     let all : List (List ℕ) = codes "begin" ∷ word ∷ words in
     let put : Form v = form (Fixed (codes "begin") ∷ Fixed (codes "put") ∷ Number ∷ replicate v Number) (λ numbers. BeginPut (first numbers) (drop 1 numbers)) in
+    let put_if : Form v = form (Fixed (codes "begin") ∷ Fixed (codes "putif") ∷ Number ∷ Number ∷ replicate v Number) (λ numbers. BeginPutIf (first numbers) (second numbers) (drop 2 numbers)) in
     let remove : Form v = form (Fixed (codes "begin") ∷ Fixed (codes "remove") ∷ Number ∷ []) (λ numbers. BeginRemove (first numbers)) in
     let look : Form v = form (Fixed (codes "begin") ∷ Number ∷ Fixed (codes "get") ∷ Number ∷ []) (λ numbers. BeginGet (first numbers) (second numbers)) in
     let by_put : begin_put_in v word words ≡ reads all put =
     ap (λ r. cond (bytes_eq word (codes "put")) r (Err NotACommand)) (entry_counted v words put.command) ∙ fixed_first (bytes_eq word (codes "put")) _ _ _ in
+    let by_put_if : begin_put_if_in v word words ≡ reads all put_if =
+    ap (λ r. cond (bytes_eq word (codes "putif")) r (Err NotACommand)) (entry_if_counted v words put_if.command) ∙ fixed_first (bytes_eq word (codes "putif")) _ _ _ in
     let by_remove : begin_remove_in v word words ≡ reads all remove =
     ap (λ r. cond (bytes_eq word (codes "remove")) r (Err NotACommand)) (counted 1 words remove.command) ∙ fixed_first (bytes_eq word (codes "remove")) _ _ _ in
-    joined by_put (joined by_remove (by_look words ∙ only all look) ∙ next all remove (look ∷ [])) ∙ next all put (remove ∷ look ∷ [])
+    joined by_put
+    (joined by_put_if (joined by_remove (by_look words ∙ only all look) ∙ next all remove (look ∷ [])) ∙ next all put_if (remove ∷ look ∷ []))
+    ∙ next all put (put_if ∷ remove ∷ look ∷ [])
   where
     by_look : (words : List (List ℕ)) → begin_get_in v word words ≡ reads (codes "begin" ∷ word ∷ words) (form (Fixed (codes "begin") ∷ Number ∷ Fixed (codes "get") ∷ Number ∷ []) (λ numbers. BeginGet (first numbers) (second numbers)))
     by_look [] = refl
@@ -211,17 +235,23 @@ form_says v name words =
     let P : List ℕ → Type 0 = λ name. form_in v name words ≡ command_of v (name ∷ words) in
     elim (is_word name (codes "put")) [
       | inl e ↦ subst P (sym e) (put_says v words)
-      | inr no_put ↦ elim (is_word name (codes "remove")) [
-        | inl e ↦ subst P (sym e) (remove_says v words)
-        | inr no_remove ↦ elim (is_word name (codes "get")) [
-          | inl e ↦ subst P (sym e) (get_says v words)
-          | inr no_get ↦ elim (is_word name (codes "begin")) [
-            | inl e ↦ subst P (sym e) (begin_says v words)
-            | inr no_begin ↦ elim (is_word name (codes "w")) [
-              | inl e ↦ subst P (sym e) (write_says v words)
-              | inr no_write ↦ elim (is_word name (codes "r")) [
-                | inl e ↦ subst P (sym e) (read_says v words)
-                | inr no_read ↦ rw (no_put, no_remove, no_get, no_begin, no_write, no_read) refl
+      | inr no_put ↦ elim (is_word name (codes "putif")) [
+        | inl e ↦ subst P (sym e) (put_if_says v words)
+        | inr no_put_if ↦ elim (is_word name (codes "remove")) [
+          | inl e ↦ subst P (sym e) (remove_says v words)
+          | inr no_remove ↦ elim (is_word name (codes "get")) [
+            | inl e ↦ subst P (sym e) (get_says v words)
+            | inr no_get ↦ elim (is_word name (codes "stamp")) [
+              | inl e ↦ subst P (sym e) (stamp_says v words)
+              | inr no_stamp ↦ elim (is_word name (codes "begin")) [
+                | inl e ↦ subst P (sym e) (begin_says v words)
+                | inr no_begin ↦ elim (is_word name (codes "w")) [
+                  | inl e ↦ subst P (sym e) (write_says v words)
+                  | inr no_write ↦ elim (is_word name (codes "r")) [
+                    | inl e ↦ subst P (sym e) (read_says v words)
+                    | inr no_read ↦ rw (no_put, no_put_if, no_remove, no_get, no_stamp, no_begin, no_write, no_read) refl
+                  ]
+                ]
               ]
             ]
           ]

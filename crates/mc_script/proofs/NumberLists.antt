@@ -154,3 +154,10 @@ numbers-cons n word words = elim (cases_eq (length words) n) [
         same_count (n + 1) (word ∷ words) (a && b) (omega (arith, same)) (ap (λ t. t && list_all is_number words) one ∙ ap (λ t. a && t) others)
         ∙ joined a b (digits_value 10 word) (map (digits_value 10) words)
         ∙ sym (ap (λ r. with_first r (number_of word)) (same_count n words b same others) ∙ ap (λ t. with_first (cond b (Ok (map (digits_value 10) words)) (Err BadNumber)) (cond t (Some (digits_value 10 word)) None)) one)
+
+-- the same, of two numbers and others
+pub numbers-cons_two : (n : ℕ) (word : List ℕ) (words : List (List ℕ)) → numbers_in (n + 2) (word ∷ words) ≡ with_first (numbers_in (n + 1) words) (number_of word)
+numbers-cons_two n word words = ap (λ m. numbers_in m (word ∷ words)) (omega arith) ∙ numbers-cons (n + 1) word words
+
+pub numbers-nil_two : (n : ℕ) → numbers_in (n + 2) [] ≡ Err NotACommand
+numbers-nil_two n = other_count (n + 2) [] (λ same. absurd (omega (arith, same)))

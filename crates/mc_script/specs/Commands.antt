@@ -6,7 +6,7 @@ use Rattle.std.specs.Str.Parse.{digits_value}
 use Rattle.mc_script.specs.declared.command.LineFault.{LineFault}
 use Rattle.mc_script.specs.declared.command.LineFault.TheVariants.{NotACommand, BadNumber}
 use Rattle.mc_script.specs.declared.command.Command.{Command}
-use Rattle.mc_script.specs.declared.command.Command.TheVariants.{Put, Remove, Get, BeginPut, BeginRemove, Write, BeginGet, Read}
+use Rattle.mc_script.specs.declared.command.Command.TheVariants.{Put, PutIf, Remove, Get, Stamp, BeginPut, BeginPutIf, BeginRemove, Write, BeginGet, Read}
 use Rattle.mc_script.specs.Words.{words_of}
 use Rattle.mc_script.specs.Numbers.{is_number}
 
@@ -34,9 +34,12 @@ second numbers = slice_index numbers 1
 abbrev pub forms : (v : ℕ) → List (Form v)
 forms v =
     form (Fixed (codes "put") ∷ Number ∷ replicate v Number) (λ numbers. Put (first numbers) (drop 1 numbers))
+    ∷ form (Fixed (codes "putif") ∷ Number ∷ Number ∷ replicate v Number) (λ numbers. PutIf (first numbers) (second numbers) (drop 2 numbers))
     ∷ form (Fixed (codes "remove") ∷ Number ∷ []) (λ numbers. Remove (first numbers))
     ∷ form (Fixed (codes "get") ∷ Number ∷ []) (λ numbers. Get (first numbers))
+    ∷ form (Fixed (codes "stamp") ∷ Number ∷ []) (λ numbers. Stamp (first numbers))
     ∷ form (Fixed (codes "begin") ∷ Fixed (codes "put") ∷ Number ∷ replicate v Number) (λ numbers. BeginPut (first numbers) (drop 1 numbers))
+    ∷ form (Fixed (codes "begin") ∷ Fixed (codes "putif") ∷ Number ∷ Number ∷ replicate v Number) (λ numbers. BeginPutIf (first numbers) (second numbers) (drop 2 numbers))
     ∷ form (Fixed (codes "begin") ∷ Fixed (codes "remove") ∷ Number ∷ []) (λ numbers. BeginRemove (first numbers))
     ∷ form (Fixed (codes "w") ∷ []) (λ numbers. Write 1)
     ∷ form (Fixed (codes "w") ∷ Steps ∷ []) (λ numbers. Write (first numbers))

@@ -5,7 +5,7 @@ ghost use Rattle.mc_script.specs.Commands.{command_in};
 ghost use Rattle.mc_script.specs.Inside.Commands.{form_in};
 ghost use Rattle.mc_script.specs.Words.{words_of};
 
-use crate::number::{entry, numbers};
+use crate::number::{entry, entry_if, numbers};
 use crate::step::{begin, read, write};
 use crate::words::{first_word, is_word};
 use std::str;
@@ -15,10 +15,16 @@ use thiserror::Error;
 #[derive(Clone, Copy, Debug, PartialEq, Eq)]
 pub enum Command<const V: usize> {
     Put(u64, [u64; V]),
+    /// A `put`, where the moment of the key's last put is this one.
+    PutIf(u64, u64, [u64; V]),
     Remove(u64),
     Get(u64),
+    /// A `get` that tells the moment of the key's last put.
+    Stamp(u64),
     /// A `put` by single acts.
     BeginPut(u64, [u64; V]),
+    /// A `putif` by single acts.
+    BeginPutIf(u64, u64, [u64; V]),
     /// A `remove` by single acts.
     BeginRemove(u64),
     /// So many acts of the writer, of which there is at least one.
@@ -56,6 +62,10 @@ fn form<const V: usize>(name: &[u8], words: &[u8]) -> Result<Command<V>, LineFau
         let (key, value) = entry(words)?;
         return Ok(Command::Put(key, value));
     }
+    if is_word(name, b"putif") {
+        let (key, since, value) = entry_if(words)?;
+        return Ok(Command::PutIf(key, since, value));
+    }
     if is_word(name, b"remove") {
         let key = numbers::<1>(words)?;
         return Ok(Command::Remove(key[0]));
@@ -63,6 +73,10 @@ fn form<const V: usize>(name: &[u8], words: &[u8]) -> Result<Command<V>, LineFau
     if is_word(name, b"get") {
         let key = numbers::<1>(words)?;
         return Ok(Command::Get(key[0]));
+    }
+    if is_word(name, b"stamp") {
+        let key = numbers::<1>(words)?;
+        return Ok(Command::Stamp(key[0]));
     }
     if is_word(name, b"begin") {
         return begin(words);

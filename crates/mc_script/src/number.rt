@@ -3,7 +3,7 @@ ghost use Rattle.std.specs.Prelude.{◌≡◌, ◌<◌, ◌^◌, ◌+◌, ◌∷
 ghost use Rattle.std.specs.List.{list_all};
 ghost use Rattle.std.specs.Char.{is_ascii_digit};
 ghost use Rattle.std.specs.Str.Parse.{digits_value};
-ghost use Rattle.mc_script.specs.Inside.Numbers.{numbers_in, number_of, join_numbers};
+ghost use Rattle.mc_script.specs.Inside.Numbers.{numbers_in, number_of, join_numbers, join_two};
 ghost use Rattle.mc_script.specs.Words.{words_of};
 
 use crate::command::LineFault;
@@ -89,5 +89,19 @@ pub(crate) fn entry<const V: usize>(words: &[u8]) -> Result<(u64, [u64; V]), Lin
     match first_word(words) {
         None => Err(LineFault::NotACommand),
         Some((key, rest)) => first_and(key, rest),
+    }
+}
+
+/// A key, a moment, and the words of a value.
+pub(crate) fn entry_if<const V: usize>(words: &[u8]) -> Result<(u64, u64, [u64; V]), LineFault>
+    ensures { join_two result ≡ numbers_in (V + 2) (words_of words.now) }
+{
+    match first_word(words) {
+        None => Err(LineFault::NotACommand),
+        Some((key, rest)) => {
+            let (since, value) = entry(rest)?;
+            let key = number(key).ok_or(LineFault::BadNumber)?;
+            Ok((key, since, value))
+        }
     }
 }

@@ -1,11 +1,11 @@
 //! The lines of single steps.
 ghost use Rattle.std.specs.Prelude.{◌≡◌, ◌<◌};
-ghost use Rattle.mc_script.specs.Inside.Commands.{begin_in, begin_put_in, begin_remove_in, begin_get_in, write_in, write_one_in, write_many_in, read_in, read_one_in, read_many_in, otherwise, stepping};
+ghost use Rattle.mc_script.specs.Inside.Commands.{begin_in, begin_put_in, begin_put_if_in, begin_remove_in, begin_get_in, write_in, write_one_in, write_many_in, read_in, read_one_in, read_many_in, otherwise, stepping};
 ghost use Rattle.mc_script.specs.Inside.Numbers.{numbers_in};
 ghost use Rattle.mc_script.specs.Words.{words_of};
 
 use crate::command::{Command, LineFault};
-use crate::number::{entry, first_and, numbers};
+use crate::number::{entry, entry_if, first_and, numbers};
 use crate::words::{first_word, is_word};
 
 /// The first of two readings of a line, unless its form isn't that of the line.
@@ -30,6 +30,17 @@ fn begin_put<const V: usize>(first: &[u8], words: &[u8]) -> Result<Command<V>, L
     }
     let (key, value) = entry(words)?;
     Ok(Command::BeginPut(key, value))
+}
+
+/// `putif`, a key, a moment and the words of a value.
+fn begin_put_if<const V: usize>(first: &[u8], words: &[u8]) -> Result<Command<V>, LineFault>
+    ensures { result ≡ begin_put_if_in V first.now (words_of words.now) }
+{
+    if !is_word(first, b"putif") {
+        return Err(LineFault::NotACommand);
+    }
+    let (key, since, value) = entry_if(words)?;
+    Ok(Command::BeginPutIf(key, since, value))
 }
 
 /// `remove` and a key.
@@ -67,7 +78,10 @@ pub(crate) fn begin<const V: usize>(words: &[u8]) -> Result<Command<V>, LineFaul
         None => Err(LineFault::NotACommand),
         Some((first, rest)) => otherwise(
             begin_put(first, rest),
-            otherwise(begin_remove(first, rest), begin_get(first, rest)),
+            otherwise(
+                begin_put_if(first, rest),
+                otherwise(begin_remove(first, rest), begin_get(first, rest)),
+            ),
         ),
     }
 }

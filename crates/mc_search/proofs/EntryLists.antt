@@ -2,10 +2,11 @@
 use Rattle.std.proofs.Common.{ℕ, zero, suc, ◌≡◌, ◌≢◌, ◌+◌, ◌<◌, Bool, true, eqb, eq-eqb, ne_eqb, List, [], ◌∷◌, ◌++◌, length, get_or, Option, Some, None, refl, ap, sym, ◌∙◌, subst, arith}
 use Rattle.std.specs.Prelude.{IfNone, if◌then◌else◌}
 use Rattle.std.specs.Map.{lookup}
+use Rattle.std.specs.Option.{option_map}
 use Rattle.std.proofs.lemmas.List.Quantifiers.{all_pairs_push}
 use mathlib.Core.Logic.{dite}
 use native.Mathlib.Decide.{ℕ_discrete}
-use Rattle.mc_words.specs.History.{map_value}
+use Rattle.mc_words.specs.History.{map_value, value_held, value_of}
 use Rattle.mc_words.specs.Places.{item}
 use Rattle.mc_words.specs.Standing.{Agrees, AgreesAt, Stands}
 use Rattle.mc_words.specs.declared.history.Change.{Change}
@@ -56,12 +57,12 @@ none_yet V sh w h = record {
   once = λ i j d l m. absurd (omega (arith, m));
 }
 
-pub one_more : (V : ℕ) (sh : Shape) (w : List ℕ) (h : List (Change V)) (n q x : ℕ) (v : List ℕ) (es : List (ℕ × List ℕ)) → Agrees V sh w None h → AreEntriesBelow V sh w h n es → Stands V sh w x q n → map_value h x ≡ Some v → AreEntriesBelow V sh w h (n + 1) (es ++ (x, v) ∷ [])
+pub one_more : (V : ℕ) (sh : Shape) (w : List ℕ) (h : List (Change V)) (n q x : ℕ) (v : List ℕ) (es : List (ℕ × List ℕ)) → Agrees V sh w None h → AreEntriesBelow V sh w h n es → Stands V sh w x q n → value_held h x ≡ Some v → AreEntriesBelow V sh w h (n + 1) (es ++ (x, v) ∷ [])
 one_more V sh w h n q x v es agrees b stands value =
     let fresh : lookup (λ y. eqb x y) es ≡ None = b.away x (λ p g l s. absurd (omega (arith, l, at_one_item V sh w h x q n p g agrees stands s))) in
     record {
       here = λ k p i l s. dite (ℕ_discrete k x)
-          (λ (e : k ≡ x). ap (λ (y : ℕ). lookup (λ z. eqb y z) (es ++ (x, v) ∷ [])) e ∙ (lookup_new x v es fresh ∙ (sym value ∙ ap (map_value h) (sym e))))
+          (λ (e : k ≡ x). ap (λ (y : ℕ). lookup (λ z. eqb y z) (es ++ (x, v) ∷ [])) e ∙ (lookup_new x v es fresh ∙ (sym value ∙ ap (value_held h) (sym e))))
           (λ (ne : k ≢ x).
           let other : i ≢ n = λ e. ne (sym s.key ∙ (ap (λ (j : ℕ). item V sh w j 0) e ∙ stands.key)) in
           lookup_other k x v es ne ∙ b.here k p i (omega (arith, l, other)) s);
@@ -84,8 +85,8 @@ none_more V sh w h n es b unused = record {
 pub all_entries : (V : ℕ) (sh : Shape) (w : List ℕ) (h : List (Change V)) (es : List (ℕ × List ℕ)) → Agrees V sh w None h → AreEntriesBelow V sh w h sh.items es → AreEntriesOf V h es
 all_entries V sh w h es agrees b = record { values = λ k. of (map_value h k) k (agrees.keys k (λ e. cc)) refl; once = b.once }
   where
-    of : (o : Option (List ℕ)) (k : ℕ) → AgreesAt V sh w k o → map_value h k ≡ o → lookup (λ q. eqb k q) es ≡ map_value h k
-    of None k a e = b.away k (λ q i l s. a q i s) ∙ sym e
+    of : (o : Option (List ℕ)) (k : ℕ) → AgreesAt V sh w k o → map_value h k ≡ o → lookup (λ q. eqb k q) es ≡ value_held h k
+    of None k a e = b.away k (λ q i l s. a q i s) ∙ sym (ap (option_map (value_of V)) e)
     of (Some v) k a e = b.here k a.0 a.1 a.2.stands.names.in_items a.2.stands
 
 -- ---- an item at which no key stands

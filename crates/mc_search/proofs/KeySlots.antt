@@ -1,15 +1,16 @@
 -- Where a key does not stand, slot by slot, and that a key stands in its buckets alone.
-use Rattle.std.proofs.Common.{ℕ, ◌≡◌, ◌≢◌, ◌+◌, ◌*◌, ◌/◌, ◌%◌, ◌^◌, ◌<◌, inl, inr, List, Option, Some, None, sym, ◌∙◌, ap, subst, arith}
+use Rattle.std.proofs.Common.{ℕ, ◌≡◌, ◌≢◌, ◌+◌, ◌*◌, ◌/◌, ◌%◌, ◌^◌, ◌<◌, inl, inr, List, [], ◌∷◌, ◌++◌, Option, Some, None, sym, ◌∙◌, ap, subst, arith}
 use Rattle.mc_words.specs.declared.shape.Shape.{Shape}
 use Rattle.mc_words.specs.Keys.{tag_of, slot_word, first_of, second_of, IsBucketOf, MatchesTag}
-use Rattle.mc_words.specs.Places.{slot, item}
+use Rattle.mc_words.specs.Places.{payload, slot, item}
 use Rattle.mc_words.specs.Shapes.{IsShape}
 use Rattle.std.proofs.lemmas.Grind.{same_number_lists}
-use Rattle.mc_words.specs.Standing.{Stands, HasValue, IsAbsent, AgreesAt, Agrees}
+use Rattle.mc_words.specs.Standing.{Stands, HasPayload, HasValue, IsAbsent, AgreesAt, Agrees}
 use Rattle.mc_words.specs.History.{map_value}
 use Rattle.mc_words.specs.declared.history.Change.{Change}
 use Rattle.mc_words.proofs.Frames.{slot_word-parts}
 use Rattle.mc_words.proofs.Keys.{tag_of-lt}
+use Rattle.mc_words.proofs.Payload.{payload_from}
 use Rattle.mc_search.specs.Readable.{IsPlaced}
 use Rattle.mc_search.specs.Inside.Readable.{IsNotAt, IsNotAmong}
 
@@ -62,13 +63,13 @@ placed-agrees V sh w k (Some v) a q i s =
 pub placed-quiet : (V : ℕ) (sh : Shape) (w : List ℕ) (h : List (Change V)) (k : ℕ) → Agrees V sh w None h → IsPlaced V sh w k
 placed-quiet V sh w h k a = placed-agrees V sh w k (map_value h k) (a.keys k (λ e. cc))
 
--- ---- the value of a key that stands
-value_is : (V : ℕ) (sh : Shape) (w : List ℕ) (i : ℕ) (v x : List ℕ) → HasValue V sh w i v → HasValue V sh w i x → x ≡ v
-value_is V sh w i v x a b =
+-- ---- the value and the stamp of a key that stands
+payload_once : (V : ℕ) (sh : Shape) (w : List ℕ) (i : ℕ) (v x : List ℕ) → HasPayload V sh w i v → HasPayload V sh w i x → x ≡ v
+payload_once V sh w i v x a b =
     same_number_lists x v (b.0 ∙ sym a.0) (λ j l. sym (b.1 j l) ∙ a.1 j (omega (arith, a.0, b.0, l)))
 
-pub held_value : (V : ℕ) (sh : Shape) (w : List ℕ) (k q i : ℕ) (v : List ℕ) (o : Option (List ℕ)) → AgreesAt V sh w k o → Stands V sh w k q i → HasValue V sh w i v → o ≡ Some v
-held_value V sh w k q i v None a stands value = absurd (a q i stands)
-held_value V sh w k q i v (Some x) a stands value =
+pub held_payload : (V : ℕ) (sh : Shape) (w : List ℕ) (k q i n : ℕ) (v : List ℕ) (o : Option (List ℕ)) → AgreesAt V sh w k o → Stands V sh w k q i → HasValue V sh w i v → n ≡ item V sh w i (payload V) → o ≡ Some (v ++ n ∷ [])
+held_payload V sh w k q i n v None a stands value stamp = absurd (a q i stands)
+held_payload V sh w k q i n v (Some x) a stands value stamp =
     let same : i ≡ a.1 = (a.2.once q i stands).1 in
-    ap Some (value_is V sh w a.1 v x (rw same at value) a.3)
+    ap Some (payload_once V sh w a.1 (v ++ n ∷ []) x (rw same at (payload_from V sh w i n v value (sym stamp))) a.3)

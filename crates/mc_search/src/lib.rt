@@ -31,6 +31,6 @@ pub use listed::entries;
 pub use mc_theory::Peek;
 pub use mc_words::NoMemory;
 pub use path::Path;
-pub use reading::{moment, read};
+pub use reading::{Held, moment, read};
 pub use sweep::Sweep;
-pub use word::{key_at, slot_at, word_at};
+pub use word::{key_at, slot_at, stamp_at, word_at};

@@ -2,12 +2,12 @@
 ghost use Rattle.std.specs.Prelude.{ℕ, ◌≡◌, ◌<◌, List, Some, IfOk, IfSome, IfNone};
 ghost use Rattle.mc_words.specs.declared.history.Change.{Change};
 ghost use Rattle.mc_words.specs.Checks.{shape_of};
-ghost use Rattle.mc_words.specs.History.{map_value};
+ghost use Rattle.mc_words.specs.History.{value_held};
 ghost use Rattle.mc_words.specs.Places.{IsWidth};
 ghost use Rattle.mc_words.specs.Standing.{Agrees, Stands};
 ghost use Rattle.mc_search.specs.Entries.{AreEntriesOf};
 
-use crate::reading::read;
+use crate::reading::{Held, read};
 use crate::word::key_at;
 use mc_theory::Peek;
 use mc_words::{Checked, NoMemory};
@@ -23,12 +23,16 @@ fn entry_at<const V: usize, P: Peek>(
     requires agrees { (h : List (Change V)) × Agrees V (shape_of checked.now) (P.words peek.old) None h }
     requires item { item < (shape_of checked.now).items }
     ensures stands { IfSome result (λ e. (q : ℕ) × Stands V (shape_of checked.now) (P.words peek.old) e.0 q item) }
-    ensures value { (h : List (Change V)) → Agrees V (shape_of checked.now) (P.words peek.old) None h → IfSome result (λ e. map_value h e.0 ≡ Some e.1) }
+    ensures value { (h : List (Change V)) → Agrees V (shape_of checked.now) (P.words peek.old) None h → IfSome result (λ e. value_held h e.0 ≡ Some e.1) }
     ensures none { IfNone result ((k q : ℕ) → Stands V (shape_of checked.now) (P.words peek.old) k q item → ⊥) }
     ensures kept { peek.new ≡ peek.old }
 {
     let key = key_at::<V, P>(checked, peek, item);
-    let (found, value) = read::<V, P>(checked, peek, key)?;
+    let Held {
+        item: found,
+        value,
+        ..
+    } = read::<V, P>(checked, peek, key)?;
     if found == item {
         Some((key, value))
     } else {

@@ -1,5 +1,5 @@
 //! What the words of a quiet table say.
-ghost use Rattle.std.specs.Prelude.{ℕ, ◌≡◌, ◌<◌, ◌≤◌, List, Some, None, length, IfSome, IfNone};
+ghost use Rattle.std.specs.Prelude.{ℕ, ◌≡◌, ◌<◌, ◌≤◌, ◌++◌, ◌∷◌, [], List, Some, None, length, IfSome, IfNone};
 ghost use Rattle.mc_words.specs.declared.history.Change.{Change};
 ghost use Rattle.mc_words.specs.Checks.{shape_of};
 ghost use Rattle.mc_words.specs.History.{map_value};
@@ -7,7 +7,7 @@ ghost use Rattle.mc_words.specs.Places.{IsWidth, moment, word_count};
 ghost use Rattle.mc_words.specs.Standing.{Agrees, HasValue, Stands};
 
 use crate::finding::find;
-use crate::word::word_at;
+use crate::word::{stamp_at, word_at};
 use mc_theory::Peek;
 use mc_words::Checked;
 
@@ -36,21 +36,31 @@ fn value_at<const V: usize, P: Peek>(checked: &Checked, peek: &mut P, item: u32)
     value
 }
 
-/// The item at which the key stands, and its value. Condition: the words agree with some history, and no deed runs.
-pub fn read<const V: usize, P: Peek>(
-    checked: &Checked,
-    peek: &mut P,
-    key: u64,
-) -> Option<(u32, [u64; V])>
+/// What a table holds of a key.
+#[derive(Clone, Copy)]
+pub struct Held<const V: usize> {
+    /// The item at which the key stands.
+    pub item: u32,
+    pub value: [u64; V],
+    /// The moment of the key's last put.
+    pub since: u64,
+}
+
+/// The item at which the key stands, its value and its stamp. Condition: the words agree with some history, and no deed runs.
+pub fn read<const V: usize, P: Peek>(checked: &Checked, peek: &mut P, key: u64) -> Option<Held<V>>
     requires width { IsWidth V }
     requires agrees { (h : List (Change V)) × Agrees V (shape_of checked.now) (P.words peek.old) None h }
-    ensures found { (h : List (Change V)) → Agrees V (shape_of checked.now) (P.words peek.old) None h → IfSome result (λ r. map_value h key ≡ Some r.1) }
-    ensures item { IfSome result (λ r. (q : ℕ) × Stands V (shape_of checked.now) (P.words peek.old) key q r.0) }
+    ensures found { (h : List (Change V)) → Agrees V (shape_of checked.now) (P.words peek.old) None h → IfSome result (λ held. map_value h key ≡ Some (held.value ++ held.since ∷ [])) }
+    ensures item { IfSome result (λ held. (q : ℕ) × Stands V (shape_of checked.now) (P.words peek.old) key q held.item) }
     ensures none { (h : List (Change V)) → Agrees V (shape_of checked.now) (P.words peek.old) None h → IfNone result (map_value h key ≡ None) }
     ensures kept { peek.new ≡ peek.old }
 {
     match find::<V, P>(checked, peek, key) {
-        Some((_, item)) => Some((item, value_at::<V, P>(checked, peek, item))),
+        Some((_, item)) => {
+            let value = value_at::<V, P>(checked, peek, item);
+            let since = stamp_at::<V, P>(checked, peek, item);
+            Some(Held { item, value, since })
+        }
         None => None,
     }
 }

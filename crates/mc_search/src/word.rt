@@ -5,7 +5,7 @@ ghost use Rattle.mc_words.specs.Places.{IsPlace, IsWidth, payload, slot_number, 
 ghost use Rattle.mc_search.specs.Readable.{HasSlots};
 
 use mc_theory::Peek;
-use mc_words::{Checked, Place};
+use mc_words::{Checked, Place, payload_words};
 
 /// The word of a slot. Condition: the words reach as far as the last slot, and the slot is one of the table.
 #[tactic(auto, unfolding(mc_words::specs::Places::slot))]
@@ -30,6 +30,18 @@ pub fn word_at<const V: usize, P: Peek>(checked: &Checked, peek: &mut P, i: u32,
     ensures kept { peek.new ≡ peek.old }
 {
     peek.word(checked.item_place::<V>(i, j))
+}
+
+/// The stamp of an item: the moment of its last put.
+/// Condition: the words reach as far as the shape says, and the item is one of the table.
+pub fn stamp_at<const V: usize, P: Peek>(checked: &Checked, peek: &mut P, i: u32) -> u64
+    requires width { IsWidth V }
+    requires words { word_count V (shape_of checked.now) ≤ length (P.words peek.old) }
+    requires item { i < (shape_of checked.now).items }
+    ensures value { result ≡ item V (shape_of checked.now) (P.words peek.old) i (payload V) }
+    ensures kept { peek.new ≡ peek.old }
+{
+    word_at::<V, P>(checked, peek, i, payload_words::<V>() as u8)
 }
 
 /// The key of an item. Condition: the words reach as far as the shape says, and the item is one of the table.

@@ -237,6 +237,7 @@ module _ (l : Layout) (id slots : ℕ) (c : List (ℕ × Unit {0})) where
       no_mark l i (access.Slot p) n many e = omega arith
       no_mark l i (access.Key k) n many e = omega arith
       no_mark l i (access.Value k j) n many e = omega arith
+      no_mark l i (access.Stamp k) n many e = omega arith
       no_mark l i access.Moment n many e = omega arith
       no_mark l i (access.Mark k) n many e = absurd (cc)
 

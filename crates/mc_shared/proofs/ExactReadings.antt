@@ -40,6 +40,7 @@ if_read V l w (access.Version t) y front made h f = f h
 if_read V l w (access.Slot p) y front made h f = f h
 if_read V l w (access.Key k) y front made h f = f h
 if_read V l w (access.Value k j) y front made h f = f h
+if_read V l w (access.Stamp k) y front made h f = f h
 if_read V l w access.Moment y front made h f = f h
 if_read V l w (access.Mark k) y front made h f = tt
 
@@ -49,6 +50,7 @@ one_word V l w (access.Version t) n x y e p q = p ∙ sym q
 one_word V l w (access.Slot t) n x y e p q = p ∙ sym q
 one_word V l w (access.Key k) n x y e p q = p ∙ sym q
 one_word V l w (access.Value k j) n x y e p q = p ∙ sym q
+one_word V l w (access.Stamp k) n x y e p q = p ∙ sym q
 one_word V l w access.Moment n x y e p q = p ∙ sym q
 one_word V l w (access.Mark k) n x y e p q = absurd (cc)
 
@@ -171,6 +173,7 @@ load_stands (access.Version t) front made is h = h
 load_stands (access.Slot p) front made is h = h
 load_stands (access.Key k) front made is h = h
 load_stands (access.Value k j) front made is h = h
+load_stands (access.Stamp k) front made is h = h
 load_stands access.Moment front made is h = h
 load_stands (access.Mark k) front made is h = absurd is
 

@@ -49,6 +49,7 @@ stands_here (access.Version t) front made e = e
 stands_here (access.Slot p) front made e = e
 stands_here (access.Key k) front made e = e
 stands_here (access.Value k j) front made e = e
+stands_here (access.Stamp k) front made e = e
 stands_here access.Moment front made e = e
 stands_here (access.Mark k) front made e = omega (arith, e)
 

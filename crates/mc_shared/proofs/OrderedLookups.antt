@@ -56,6 +56,7 @@ stands_by (access.Version t) front made h = omega (arith, h)
 stands_by (access.Slot p) front made h = omega (arith, h)
 stands_by (access.Key k) front made h = omega (arith, h)
 stands_by (access.Value k j) front made h = omega (arith, h)
+stands_by (access.Stamp k) front made h = omega (arith, h)
 stands_by access.Moment front made h = omega (arith, h)
 stands_by (access.Mark k) front made h = h
 

@@ -1,6 +1,6 @@
 -- What an allowed act names, where it writes, and what it leaves of the words.
 use Rattle.std.proofs.Common.{ℕ, ◌≡◌, ◌⊎◌, ◌+◌, ◌*◌, ◌^◌, ◌<◌, ◌≤◌, List, [], ◌∷◌, ◌++◌, get_or, set, Option, Some, None, refl, ap, sym, ◌∙◌, subst, inl, inr, ⊎_elim, arith, get_or-set_other}
-use Rattle.mc_words.specs.Places.{item_place, payload, word_count, all_words}
+use Rattle.mc_words.specs.Places.{word_count, all_words}
 use Rattle.mc_words.specs.declared.shape.Shape.{Shape}
 use Rattle.mc_theory.specs.Effects.{after_act}
 use Rattle.mc_theory.specs.Lists.{Made}
@@ -78,7 +78,3 @@ word_written l acts m n x k may w below =
     (λ b. ap (λ (o : Option (ℕ × ℕ)). get_or (with_write s.words o) k 0) b.2)
     (λ b. ap (λ (o : Option (ℕ × ℕ)). get_or (with_write s.words o) k 0) b.2 ∙ sym (get_or-set_other s.words n k x 0 (λ e. omega (arith, b.0))))
     (lies l acts m.act n x may w)
-
--- word j of an item, from where the items begin
-pub item_from : (V : ℕ) (sh : Shape) (items i j : ℕ) → items ≡ item_place V sh 0 0 → item_place V sh i j ≡ items + i * (1 + payload V) + j
-item_from V sh items i j e = omega (arith, e)

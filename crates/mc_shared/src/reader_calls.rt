@@ -13,9 +13,11 @@ use crate::cells::Cells;
 use crate::reader_steps::{mark_on_words, mark_unless_set_on_words, read_word, touch_word};
 use crate::seats::{ReaderSeat, WriterSeat};
 use mc_theory::Access;
+use mc_words::payload_words;
 
 /// One reading: a load of the word of the access.
 /// Condition: the seat is one of these words, and the access is one of the table and no mark.
+#[tactic(auto, using(mc_words::proofs::Payload::value_fits))]
 pub fn read<const V: usize>(cells: &Cells<V>, reader: &mut ReaderSeat, access: Access) -> u64
     requires of { reader.old.of ≡ cells.now }
     requires access { IsAccess V cells.now.layout.shape access }
@@ -30,6 +32,7 @@ pub fn read<const V: usize>(cells: &Cells<V>, reader: &mut ReaderSeat, access: A
         Access::Slot(place) => checked.slot_place(place),
         Access::Key(i) => checked.item_place::<V>(i, 0),
         Access::Value(i, j) => checked.item_place::<V>(i, j),
+        Access::Stamp(i) => checked.item_place::<V>(i, payload_words::<V>() as u8),
         Access::Moment | Access::Mark(_) => checked.moment_place(),
     };
     read_word(&cells.ruled, reader, access, place)

@@ -15,7 +15,7 @@ use crate::writer_steps::{
     set_mark_unless_set_on_words, turn_hand_on_words, write_word,
 };
 use mc_theory::{Act, Deed};
-use mc_words::{Place, payload_words};
+use mc_words::Place;
 
 /// Opens a deed on a key: a load of its version, and a store of one more.
 /// Condition: the seat is that of these words, the act is allowed now, and leaves room for its close within the limit.
@@ -80,7 +80,7 @@ pub fn write_item_from<const V: usize>(
     requires allowed { IsAllowed cells.now.layout.shape (state_of V cells.now.layout.shape writer.old.acts) (Item i j word) }
     ensures acted { HasActed writer.old writer.new (Item i j word) 0 }
 {
-    let at = items + i as usize * (1 + payload_words::<V>()) + usize::from(j);
+    let at = cells.checked.item_from::<V>(items, i, j);
     write_word(&cells.ruled, writer, Act::Item(i, j, word), at, word);
 }
 

@@ -1,9 +1,9 @@
 -- What holds of the words in the middle of a deed, and the whole invariant.
 use Rattle.std.specs.Prelude.{ℕ, ◌+◌, ◌*◌, ◌≡◌, ◌≢◌, ◌^◌, ◌<◌, ◌≤◌, ◌/◌, ◌⊎◌, List, length, Some, None, IsSome}
-use Rattle.mc_words.specs.History.{map_value, IsLegal}
+use Rattle.mc_words.specs.History.{map_value, since_of, IsLegal}
 use Rattle.mc_words.specs.Keys.{tag_of, slot_word, IsBucketOf}
 use Rattle.mc_words.specs.Places.{payload, version, slot, item}
-use Rattle.mc_words.specs.Standing.{Agrees, Stands, OnlyAt, IsAbsent, IsFree, ItemBegins, HasPayload, HasValue, AgreesAt}
+use Rattle.mc_words.specs.Standing.{Agrees, Stands, OnlyAt, IsAbsent, IsFree, ItemBegins, HasPayload, AgreesAt}
 use Rattle.mc_words.specs.declared.history.Change.{Change}
 use Rattle.mc_words.specs.declared.shape.Shape.{Shape}
 use Rattle.mc_theory.specs.Phases.{Phase, Quiet, Filling, Keyed, Placed, Renewing, Removing, Removed, Moving, Moved, Closing, deed_key, moment_owed, close_owed}
@@ -29,15 +29,19 @@ pub record StandsTwice (V : ℕ) (sh : Shape) (w : List ℕ) (k fresh : ℕ) (v 
   pub twice : (p g : ℕ) → Stands V sh w k p g → ((p ≡ at) ⊎ (p ≡ fresh)) × (g ≡ of)
   pub tagged : slot sh w fresh ≡ slot_word (tag_of sh k) of
   pub placed : IsBucketOf sh k (fresh / 4)
-  pub value : HasValue V sh w of v
+  pub held : HasPayload V sh w of v
+
+-- all words of an item but its key were written, and the last is the moment of the change that is owed
+abbrev pub IsStamped : (V : ℕ) → List (Change V) → List ℕ → Type 0
+IsStamped V h xs = length xs ≡ payload V → since_of V xs ≡ length h + 1
 
 -- what holds of the key of the running deed
 abbrev pub DeedFacts : (V : ℕ) → Shape → List ℕ → List (Change V) → Phase → Type 0
 DeedFacts V sh w h Quiet = Unit {0}
 DeedFacts V sh w h (Filling k) = (k < 2 ^ 64) × IsAbsent V sh w k × (map_value h k ≡ None)
-DeedFacts V sh w h (Keyed k i xs) = IsFillReady V sh w k i xs × (map_value h k ≡ None)
-DeedFacts V sh w h (Placed k i xs) = ((q : ℕ) × OnlyAt V sh w k q i) × HasPayload V sh w i xs × (map_value h k ≡ None)
-DeedFacts V sh w h (Renewing k xs) = ((q : ℕ) × (i : ℕ) × OnlyAt V sh w k q i × ItemBegins V sh w i xs) × (length xs ≤ payload V) × IsSome (map_value h k)
+DeedFacts V sh w h (Keyed k i xs) = IsFillReady V sh w k i xs × (map_value h k ≡ None) × IsStamped V h xs
+DeedFacts V sh w h (Placed k i xs) = ((q : ℕ) × OnlyAt V sh w k q i) × HasPayload V sh w i xs × (map_value h k ≡ None) × IsStamped V h xs
+DeedFacts V sh w h (Renewing k xs) = ((q : ℕ) × (i : ℕ) × OnlyAt V sh w k q i × ItemBegins V sh w i xs) × (length xs ≤ payload V) × IsSome (map_value h k) × IsStamped V h xs
 DeedFacts V sh w h (Removing k e) = ((q : ℕ) × (i : ℕ) × OnlyAt V sh w k q i) × IsSome (map_value h k)
 DeedFacts V sh w h (Removed k e) = IsAbsent V sh w k × IsSome (map_value h k)
 DeedFacts V sh w h (Moving k) = (v : List ℕ) × (map_value h k ≡ Some v) × AgreesAt V sh w k (Some v)

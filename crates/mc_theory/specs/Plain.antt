@@ -3,7 +3,7 @@
 --
 -- Events come one after the other: each is an act of the writer, or the beginning of a reader's lookup, or the next access of
 -- one. The acts change a map: the writer opens a deed on a key, writes words, and at the moment of the deed the map changes. A
--- fill and a renewal put the value, which is the first of the words that were written; a removal and an eviction take the key
+-- fill and a renewal put the value, which is the first of the words that were written, and behind it stands the stamp; a removal and an eviction take the key
 -- out, a move changes nothing. The list of these changes is the history of the events.
 --
 -- A lookup that has ended tells its reader, its key, its reply, and which events were its first access and its last. The reply
@@ -58,7 +58,7 @@ history_of V es = changes_by deed.Move 0 [] (acts_in es)
 
 -- the number of changes that the reply names lies between these two
 abbrev pub IsBetween : {V : ℕ} → ℕ → ℕ → Reply V → Type 0
-IsBetween lo hi (Found v at) = (lo ≤ at) × (at ≤ hi)
+IsBetween lo hi (Found v at since) = (lo ≤ at) × (at ≤ hi)
 IsBetween lo hi (Absent at) = (lo ≤ at) × (at ≤ hi)
 IsBetween lo hi Busy = Unit {0}
 

@@ -1,10 +1,10 @@
 -- Readings: what a reader read, and at which front of the list of acts.
 use Rattle.std.specs.Prelude.{ℕ, ◌≡◌, ◌≤◌, List, [], ◌∷◌}
-use Rattle.mc_words.specs.Places.{item, moment, slot, slot_number, version}
+use Rattle.mc_words.specs.Places.{item, moment, payload, slot, slot_number, version}
 use Rattle.mc_words.specs.declared.shape.Shape.{Shape}
 use Rattle.mc_theory.specs.Lists.{Made, front}
 use Rattle.mc_theory.specs.declared.access.Access.{Access}
-use Rattle.mc_theory.specs.declared.access.Access.TheVariants.{Version, Slot, Key, Value, Moment, Mark}
+use Rattle.mc_theory.specs.declared.access.Access.TheVariants.{Version, Slot, Key, Value, Stamp, Moment, Mark}
 
 -- what was read, and how many acts the writer had made then; of a mark only the access counts
 pub record Reading : Type 0 where
@@ -18,6 +18,7 @@ IsWordOf V sh w (Version t) x = x ≡ version w t
 IsWordOf V sh w (Slot p) x = x ≡ slot sh w (slot_number p)
 IsWordOf V sh w (Key i) x = x ≡ item V sh w i 0
 IsWordOf V sh w (Value i j) x = x ≡ item V sh w i j
+IsWordOf V sh w (Stamp i) x = x ≡ item V sh w i (payload V)
 IsWordOf V sh w Moment x = x ≡ moment w
 IsWordOf V sh w (Mark i) x = Unit {0}
 

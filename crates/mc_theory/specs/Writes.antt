@@ -78,6 +78,7 @@ place_read V sh (access.Version t) = Some (version_place t)
 place_read V sh (access.Slot p) = Some (slot_place sh (slot_number p))
 place_read V sh (access.Key i) = Some (item_place V sh i 0)
 place_read V sh (access.Value i j) = Some (item_place V sh i j)
+place_read V sh (access.Stamp i) = Some (item_place V sh i (payload V))
 place_read V sh access.Moment = Some 0
 place_read V sh (access.Mark i) = None
 
@@ -86,7 +87,8 @@ abbrev pub IsAccess : ℕ → Shape → Access → Type 0
 IsAccess V sh (access.Version t) = t < sh.stripes
 IsAccess V sh (access.Slot p) = IsPlace sh p
 IsAccess V sh (access.Key i) = i < sh.items
-IsAccess V sh (access.Value i j) = (i < sh.items) × (1 ≤ j) × (j ≤ payload V)
+IsAccess V sh (access.Value i j) = (i < sh.items) × (1 ≤ j) × (j ≤ V)
+IsAccess V sh (access.Stamp i) = i < sh.items
 IsAccess V sh access.Moment = Unit {0}
 IsAccess V sh (access.Mark i) = i < sh.items
 

@@ -12,6 +12,8 @@ pub enum Access {
     Key(u32),
     /// Reads a word of an item's value. The words of a value are counted from 1.
     Value(u32, u8),
+    /// Reads the stamp of an item: the moment of its last put.
+    Stamp(u32),
     /// Reads the moment.
     Moment,
     /// Sets the recency bit of an item.

@@ -67,9 +67,9 @@ present_from V sh w k (Some v) a t = (a.0, a.1, a.2.stands)
 pub keys_fit : (V : ℕ) (sh : Shape) (w : List ℕ) (h : List (Change V)) → ((k : ℕ) → AgreesAt V sh w k (map_value h k)) → key_count h ≤ sh.items
 unfolding map_value key_count IsDistinct
 keys_fit V sh w h a =
-    let m = map_from [] h in
+    let m = map_from 1 [] h in
     let ks = keys_of m in
-    let its = items_of V sh w ks (distinct_keys [] h tt) (λ k t. present_from V sh w k (map_value h k) (a k) (is_some-lookup (eqb k) m ∙ t)) in
+    let its = items_of V sh w ks (distinct_keys 1 [] h tt) (λ k t. present_from V sh w k (map_value h k) (a k) (is_some-lookup (eqb k) m ∙ t)) in
     let fit : length its.its ≤ sh.items = length-le_from_distinct_below its.its sh.items its.distinct (λ i t. (its.stand i t).2.1.names.in_items) in
     omega (arith, its.many, length-keys_of m)
 
@@ -119,7 +119,7 @@ unfolding map_value key_count
 full_from_named V sh w h a named =
     let all = keys_below V sh w h a named sh.items (omega arith) in
     let most = keys_fit V sh w h a in
-    let least = length-le_from_keys nat_eq_equiv all.ks (map_from [] h) all.distinct (λ k t.
+    let least = length-le_from_keys nat_eq_equiv all.ks (map_from 1 [] h) all.distinct (λ k t.
     let i = all.each k t in
     let here = named i.0 i.1 in
     some_from_present V sh w k (map_value h k) (a k) (here.0, i.0, record { names = here.1; key = i.2 })) in
@@ -129,9 +129,9 @@ full_from_named V sh w h a named =
 pub room_from_free : (V : ℕ) (sh : Shape) (w : List ℕ) (h : List (Change V)) → ((k : ℕ) → AgreesAt V sh w k (map_value h k)) → HasFree sh w → key_count h < sh.items
 unfolding map_value key_count IsDistinct
 room_from_free V sh w h a free =
-    let m = map_from [] h in
+    let m = map_from 1 [] h in
     let ks = keys_of m in
-    let its = items_of V sh w ks (distinct_keys [] h tt) (λ k t. present_from V sh w k (map_value h k) (a k) (is_some-lookup (eqb k) m ∙ t)) in
+    let its = items_of V sh w ks (distinct_keys 1 [] h tt) (λ k t. present_from V sh w k (map_value h k) (a k) (is_some-lookup (eqb k) m ∙ t)) in
     let distinct = IsDistinct-cons eqb free.0 its.its (none_any free.0 its.its (λ t. let here = its.stand free.0 t in free.2 here.2.0 here.2.1.names)) its.distinct in
     let fit : length (free.0 ∷ its.its) ≤ sh.items = length-le_from_distinct_below (free.0 ∷ its.its) sh.items distinct (λ i t. elim (or_cases (eqb i free.0) (list_any (eqb i) its.its) t) [
       | inl e ↦ omega (arith, eqb-true i free.0 e, free.1)

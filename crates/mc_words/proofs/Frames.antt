@@ -5,7 +5,6 @@ use Rattle.mc_words.specs.Places.{payload, slot, item, with_moment, with_version
 use Rattle.mc_words.specs.Shapes.{IsShape}
 use Rattle.mc_words.specs.Standing.{NamesItem, Stands, OnlyAt, AgreesAt, ItemBegins}
 use Rattle.mc_words.specs.declared.shape.Shape.{Shape}
-use Rattle.mc_words.proofs.Payload.{value_fits}
 use Rattle.mc_words.proofs.Places.{slot-with_slot_other, slot-with_item, slot-with_version, slot-with_moment, item-with_slot, item-with_item_other, item-with_version, item-with_moment}
 
 pub slot_word-parts : (t u i g : ℕ) → i < 2 ^ 32 → g < 2 ^ 32 → slot_word t i ≡ slot_word u g → (t ≡ u) × (i ≡ g)
@@ -54,7 +53,7 @@ only_on V sh w x k q i s a = record {
 pub agrees_on : (V : ℕ) (sh : Shape) (w x : List ℕ) (k : ℕ) (o : Option (List ℕ)) → SameFor V sh w x k → AgreesAt V sh w k o → AgreesAt V sh x k o
 agrees_on V sh w x k None s a = λ q i h. a q i (s.back q i h)
 agrees_on V sh w x k (Some v) s a =
-    (a.0, a.1, only_on V sh w x k a.0 a.1 s a.2, (a.3.0, begins_on V sh w x a.1 v (s.items a.0 a.1 a.2.stands) (omega (arith, a.3.0, value_fits V)) a.3.1))
+    (a.0, a.1, only_on V sh w x k a.0 a.1 s a.2, (a.3.0, begins_on V sh w x a.1 v (s.items a.0 a.1 a.2.stands) (omega (arith, a.3.0)) a.3.1))
 
 -- a write of a version or of the moment
 pub same_from_parts : (V : ℕ) (sh : Shape) (w x : List ℕ) (k : ℕ) → ((q : ℕ) → q < 4 * sh.buckets → slot sh x q ≡ slot sh w q) → ((i j : ℕ) → item V sh x i j ≡ item V sh w i j) → SameFor V sh w x k

@@ -1,5 +1,5 @@
 -- What each answer of a call means for the table before the call and after it.
-use Rattle.std.specs.Prelude.{ℕ, ◌≡◌, ◌+◌, ◌*◌, ◌<◌, ◌≤◌, List, [], ◌∷◌, ◌++◌, length, Some, None, IsSome}
+use Rattle.std.specs.Prelude.{ℕ, ◌≡◌, ◌≢◌, ◌+◌, ◌*◌, ◌<◌, ◌≤◌, List, [], ◌∷◌, ◌++◌, length, Some, None, IsSome}
 use Rattle.mc_words.specs.declared.history.Change.{Change}
 use Rattle.mc_words.specs.declared.history.Change.TheVariants.{Put, Remove, Evict}
 use Rattle.mc_words.specs.declared.shape.Shape.{Shape}
@@ -38,6 +38,40 @@ pub record Renews (V : ℕ) (sh : Shape) (s t : Quiet V) (k : ℕ) (v : List ℕ
   pub hand : t.hand ≡ s.hand
   pub moment : at ≡ length t.history
 
+-- ---- the answers of a put of value v under key k where the key's stamp is `since`
+-- it could pass the limit: it is a renewal, and no move can be due
+abbrev pub RenewalIsSpent : {V : ℕ} → Shape → Quiet V → Type 0
+RenewalIsSpent sh s = sh.limit < s.version_steps + 2
+
+abbrev pub IfRefusedSpent : {V : ℕ} → Shape → Quiet V → Quiet V → Type 0
+IfRefusedSpent sh s t = RenewalIsSpent sh s × (t ≡ s)
+
+pub record IfNotThere (V : ℕ) (sh : Shape) (s t : Quiet V) (k at : ℕ) : Type 0 where
+  pub unspent : RenewalIsSpent sh s → ⊥
+  pub absent : map_value s.history k ≡ None
+  pub unchanged : t ≡ s
+  pub moment : at ≡ length s.history
+
+-- the key's last put was at another moment, `stands`
+pub record IfChanged (V : ℕ) (sh : Shape) (s t : Quiet V) (k since stands : ℕ) : Type 0 where
+  pub unspent : RenewalIsSpent sh s → ⊥
+  pub value : List ℕ
+  pub held : map_value s.history k ≡ Some (value ++ stands ∷ [])
+  pub size : length value ≡ V
+  pub other : stands ≢ since
+  pub unchanged : t ≡ s
+
+-- the key's last put was at that moment, and the key has a new value
+pub record IfRenews (V : ℕ) (sh : Shape) (s t : Quiet V) (k since : ℕ) (v : List ℕ) (at : ℕ) : Type 0 where
+  pub unspent : RenewalIsSpent sh s → ⊥
+  pub value : List ℕ
+  pub held : map_value s.history k ≡ Some (value ++ since ∷ [])
+  pub size : length value ≡ V
+  pub grows : Grows V s t (Put k v ∷ []) 2
+  pub hand : t.hand ≡ s.hand
+  pub moment : at ≡ length t.history
+
+-- ---- the other answers of a put
 -- the key was not there, and no chain leads to a hole
 pub record RefusesPath (V : ℕ) (sh : Shape) (s t : Quiet V) (k : ℕ) : Type 0 where
   pub unspent : PutIsSpent sh s → ⊥
@@ -96,8 +130,8 @@ pub record FindsNothing (V : ℕ) (sh : Shape) (s t : Quiet V) (k at : ℕ) : Ty
   pub moment : at ≡ length s.history
 
 -- ---- the answers of a lookup of key k
-pub record Finds (V : ℕ) (s t : Quiet V) (k : ℕ) (v : List ℕ) (at : ℕ) : Type 0 where
-  pub value : map_value s.history k ≡ Some v
+pub record Finds (V : ℕ) (s t : Quiet V) (k : ℕ) (v : List ℕ) (at since : ℕ) : Type 0 where
+  pub value : map_value s.history k ≡ Some (v ++ since ∷ [])
   pub unchanged : t ≡ s
   pub moment : at ≡ length s.history
 

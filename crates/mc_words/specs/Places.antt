@@ -4,13 +4,13 @@ use Rattle.mc_words.specs.declared.place.Place.{Place}
 use Rattle.mc_words.specs.declared.shape.Shape.{Shape}
 use Rattle.mc_words.specs.Recency.{recency_word, recency_words}
 
--- how many words of an item follow its key, where a value has V words; the first V of them are the value
+-- how many words of an item follow its key, where a value has V words: the value, and behind it the stamp, the moment of the last put
 unfoldable pub payload : ℕ → ℕ
-payload V = V
+payload V = V + 1
 
 -- no item has more of them
 abbrev pub most_payload : ℕ
-most_payload = 8
+most_payload = 9
 
 -- a value has from 1 to 8 words
 pub record IsWidth (V : ℕ) : Type 0 where

@@ -57,7 +57,7 @@ pub record OnlyAt (V : ℕ) (sh : Shape) (w : List ℕ) (k q i : ℕ) : Type 0 w
 -- what the words say of the key is what the map says of it
 abbrev pub AgreesAt : ℕ → Shape → List ℕ → ℕ → Option (List ℕ) → Type 0
 AgreesAt V sh w k None = IsAbsent V sh w k
-AgreesAt V sh w k (Some v) = (q : ℕ) × (i : ℕ) × OnlyAt V sh w k q i × HasValue V sh w i v
+AgreesAt V sh w k (Some held) = (q : ℕ) × (i : ℕ) × OnlyAt V sh w k q i × HasPayload V sh w i held
 
 -- 1 where the stripe is that of the running deed's key
 abbrev pub odd_at : Shape → Option ℕ → ℕ → ℕ

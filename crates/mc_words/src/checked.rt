@@ -5,7 +5,7 @@ ghost use Rattle.mc_words.specs.Places.{slot_number, IsPlace, IsWidth, payload, 
 ghost use Rattle.mc_words.specs.Recency.{recency_bit};
 ghost use Rattle.mc_words.specs.Shapes.{IsShape};
 
-use crate::item::payload_words;
+use crate::item::item_stride;
 use crate::place::Place;
 use crate::shape::Shape;
 
@@ -160,7 +160,7 @@ impl Checked {
         1 + self.shape.stripes as usize + 4 * self.shape.buckets as usize
     }
 
-    /// Where a word of an item lies: word 0 is the key, words 1 to `V` are the value.
+    /// Where a word of an item lies: word 0 is the key, words 1 to `V` are the value, word `V + 1` is the stamp.
     /// Condition: the item is one of the table and has such a word, and a value has from 1 to 8 words.
     pub fn item_place<const V: usize>(&self, i: u32, j: u8) -> usize
         requires width { IsWidth V }
@@ -168,7 +168,19 @@ impl Checked {
         requires word { j ≤ payload V }
         ensures { result ≡ item_place V (shape_of self.now) i j }
     {
-        self.items_place() + i as usize * (1 + payload_words::<V>()) + usize::from(j)
+        self.item_from::<V>(self.items_place(), i, j)
+    }
+
+    /// The same, for a caller that has worked out where the items begin. Condition: there they begin, and a value has from 1
+    /// to 8 words.
+    #[inline(always)]
+    pub fn item_from<const V: usize>(&self, items: usize, i: u32, j: u8) -> usize
+        requires width { IsWidth V }
+        requires items { items ≡ item_place V (shape_of self.now) 0 0 }
+        ensures { result ≡ item_place V (shape_of self.now) i j }
+    {
+        let _ = self;
+        items + i as usize * item_stride::<V>() + usize::from(j)
     }
 
     /// Where the recency words begin: how many words the moment, the versions, the slots and the items have.
@@ -178,7 +190,7 @@ impl Checked {
         ensures count { result ≡ word_count V (shape_of self.now) }
         ensures bound { result < 2 ^ 40 }
     {
-        self.items_place() + self.shape.items as usize * (1 + payload_words::<V>())
+        self.items_place() + self.shape.items as usize * item_stride::<V>()
     }
 
     /// Where the word that holds the recency bit of an item lies.

@@ -10,11 +10,17 @@ pub enum Change<const V: usize> {
     Evict(u64),
 }
 
-/// What a lookup answers. `at` is the moment at which the answer held.
+/// What a lookup answers. `at` is the moment at which the answer held, and `since` that of the key's last put before it.
 #[derive(Clone, Copy, Debug, PartialEq, Eq)]
 pub enum Reply<const V: usize> {
-    Found { value: [u64; V], at: u64 },
-    Absent { at: u64 },
+    Found {
+        value: [u64; V],
+        at: u64,
+        since: u64,
+    },
+    Absent {
+        at: u64,
+    },
     /// Every try was spoiled by the writer.
     Busy,
 }

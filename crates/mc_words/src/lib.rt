@@ -24,7 +24,7 @@ mod sizing;
 
 pub use checked::Checked;
 pub use history::{Change, Reply};
-pub use item::payload_words;
+pub use item::{item_stride, payload_words};
 pub use mix::Mix;
 pub use no_memory::NoMemory;
 pub use place::Place;

@@ -104,7 +104,7 @@ put_drawn V load n h = rw (not_eqb (drawn_word load 0 (2 * n + 1) % 8) 0 h) refl
 -- ---- the readers
 -- an answer stays true as the history grows
 still_true : {V : ℕ} (h more : List (Change V)) (k : ℕ) (reply : Reply V) → IsTrueAnswer h k reply → IsTrueAnswer (h ++ more) k reply
-still_true h more k (Found v at) t = (omega (arith, t.0, length-append h more), ap (λ z. map_value z k) (take-append-le at h more t.0) ∙ t.1)
+still_true h more k (Found v at since) t = (omega (arith, t.0, length-append h more), ap (λ z. map_value z k) (take-append-le at h more t.0) ∙ t.1)
 still_true h more k (Absent at) t = (omega (arith, t.0, length-append h more), ap (λ z. map_value z k) (take-append-le at h more t.0) ∙ t.1)
 still_true h more k Busy t = t
 

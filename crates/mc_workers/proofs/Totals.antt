@@ -18,7 +18,7 @@ counted {V} kind ls = sum_by (λ (l : Looking V). count_of kind l.records.items)
 
 -- an answer is of one kind
 of_one_kind : {V : ℕ} (reply : Reply V) → cond (is_found reply) 1 0 + cond (is_absent reply) 1 0 + cond (is_busy reply) 1 0 ≡ 1
-of_one_kind (Found v at) = refl
+of_one_kind (Found v at since) = refl
 of_one_kind (Absent at) = refl
 of_one_kind Busy = refl
 

@@ -44,17 +44,17 @@ history_after V sh acts = (state_of V sh acts).history
 
 -- the kinds of answers
 abbrev pub is_found : {V : ℕ} → Reply V → Bool
-is_found (reply.Found v at) = true
+is_found (reply.Found v at since) = true
 is_found (reply.Absent at) = false
 is_found reply.Busy = false
 
 abbrev pub is_absent : {V : ℕ} → Reply V → Bool
-is_absent (reply.Found v at) = false
+is_absent (reply.Found v at since) = false
 is_absent (reply.Absent at) = true
 is_absent reply.Busy = false
 
 abbrev pub is_busy : {V : ℕ} → Reply V → Bool
-is_busy (reply.Found v at) = false
+is_busy (reply.Found v at since) = false
 is_busy (reply.Absent at) = false
 is_busy reply.Busy = true
 

@@ -31,8 +31,8 @@ pub record IsRested (V : ℕ) (books : Books) (seat : WriterRecord) : Type 0 whe
 
 -- the reply is what the map holds of the key at the end of the history; what was done grew by a mark of the item of a hit, and a miss does nothing
 abbrev pub RepliesNow : {A : Type 0} (V : ℕ) → Shape → ℕ → State V → (ℕ → A) → List A → List A → Reply V → Type 0
-RepliesNow V sh k s mark done done' (Found v at) =
-    (map_value s.history k ≡ Some v) × (at ≡ length s.history) × ((q : ℕ) × (i : ℕ) × Stands V sh s.words k q i × (done' ≡ done ++ mark i ∷ []))
+RepliesNow V sh k s mark done done' (Found v at since) =
+    (map_value s.history k ≡ Some (v ++ since ∷ [])) × (at ≡ length s.history) × ((q : ℕ) × (i : ℕ) × Stands V sh s.words k q i × (done' ≡ done ++ mark i ∷ []))
 RepliesNow V sh k s mark done done' (Absent at) = (map_value s.history k ≡ None) × (at ≡ length s.history) × (done' ≡ done)
 RepliesNow V sh k s mark done done' Busy = ⊥
 

@@ -2,7 +2,7 @@
 ghost use Rattle.std.specs.Prelude.{◌≡◌, ◌^◌, ◌<◌};
 ghost use Rattle.mc_words.specs.Places.{IsWidth, item_place};
 ghost use Rattle.mc_plan.specs.Decisions.{acts_of_moves};
-ghost use Rattle.mc_plan.specs.Plans.{value_acts, fill_acts, renew_acts, take_out_acts, move_acts};
+ghost use Rattle.mc_plan.specs.Plans.{value_acts, payload_acts, fill_acts, renew_acts, take_out_acts, move_acts};
 
 use crate::pen::Pen;
 use mc_plan::Move;
@@ -25,28 +25,39 @@ impl<'a, const V: usize> Pen<'a, V> {
         }
     }
 
-    /// Puts a new value of the key that stands at the item.
-    #[inline(always)]
-    pub(crate) fn renew(&mut self, key: u64, value: &[u64; V], i: u32)
+    // Writes a value, and behind it the stamp: the moment that the put is to have. The items begin at this place.
+    fn write_payload(&mut self, items: usize, i: u32, value: &[u64; V], at: u64)
         requires width { IsWidth V }
-        requires due { IsDue V (renew_acts key value.now i) self.old }
-        ensures made { HasMade V (renew_acts key value.now i) self.old self.new }
+        requires items { (items ≡ item_place V self.old.cells.now.layout.shape 0 0) × (items < 2 ^ 40) }
+        requires due { IsDue V (payload_acts i value.now at) self.old }
+        ensures made { HasMade V (payload_acts i value.now at) self.old self.new }
+    {
+        self.write_value(items, i, value);
+        self.write_item_from(items, i, V as u8 + 1, at);
+    }
+
+    /// Puts a new value of the key that stands at the item, at the moment `at`.
+    #[inline(always)]
+    pub(crate) fn renew(&mut self, key: u64, value: &[u64; V], at: u64, i: u32)
+        requires width { IsWidth V }
+        requires due { IsDue V (renew_acts key value.now at i) self.old }
+        ensures made { HasMade V (renew_acts key value.now at i) self.old self.new }
     {
         let items = self.cells.items_start();
-        // The value changes only while the version is odd: a lookup that reads words of both values sees the version changed.
+        // The value and its stamp change only while the version is odd: a lookup that reads words of both values sees the version changed.
         self.open_deed(key, Deed::Renew);
-        self.write_value(items, i, value);
+        self.write_payload(items, i, value, at);
         self.count_moment();
         self.close_deed();
     }
 
-    /// Puts a key at a free item and in an empty slot of one of its buckets.
+    /// Puts a key at a free item and in an empty slot of one of its buckets, at the moment `at`.
     #[inline(always)]
-    pub(crate) fn fill(&mut self, key: u64, value: &[u64; V], i: u32, place: Place)
+    pub(crate) fn fill(&mut self, key: u64, value: &[u64; V], at: u64, i: u32, place: Place)
         requires width { IsWidth V }
         requires item { i < self.old.cells.now.layout.shape.items }
-        requires due { IsDue V (fill_acts self.old.cells.now.layout.shape key value.now i place) self.old }
-        ensures made { HasMade V (fill_acts self.old.cells.now.layout.shape key value.now i place) self.old self.new }
+        requires due { IsDue V (fill_acts self.old.cells.now.layout.shape key value.now at i place) self.old }
+        ensures made { HasMade V (fill_acts self.old.cells.now.layout.shape key value.now at i place) self.old self.new }
     {
         let checked = self.cells.checked();
         let named = checked.slot_word(checked.tag(key), i);
@@ -55,7 +66,7 @@ impl<'a, const V: usize> Pen<'a, V> {
         // old key finds another key there, and whoever looks for the new one looks again.
         self.open_deed(key, Deed::Fill);
         self.write_item_from(items, i, 0, key);
-        self.write_value(items, i, value);
+        self.write_payload(items, i, value, at);
         self.write_slot(place, named);
         // The moment before the version: a lookup that finds the version even reads this moment or a later one.
         self.count_moment();

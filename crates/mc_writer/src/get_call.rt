@@ -1,5 +1,5 @@
 //! The writer's lookup.
-ghost use Rattle.std.specs.Prelude.{ℕ, ◌≡◌, Some, None, IfSome, IfNone};
+ghost use Rattle.std.specs.Prelude.{ℕ, ◌≡◌, [], ◌∷◌, ◌++◌, Some, None, IfSome, IfNone};
 ghost use Rattle.mc_theory.specs.Lists.{state_of};
 ghost use Rattle.mc_words.specs.History.{map_value};
 ghost use Rattle.mc_words.specs.Standing.{Stands};
@@ -7,21 +7,21 @@ ghost use Rattle.mc_writer.specs.WriterCalls.{HasGot, IsRested};
 
 use crate::pen::Pen;
 use mc_plan::Books;
-use mc_search::read;
+use mc_search::{Held, read};
 use mc_shared::{Cells, WriterSeat, set_mark_unless_set};
 use mc_words::Reply;
 
-/// What the words hold of a key, while the writer rests: its item and its value. No act is made.
+/// What the words hold of a key, while the writer rests: its item, its value and the moment of its last put. No act is made.
 pub fn look<const V: usize>(
     cells: &Cells<V>,
     seat: &mut WriterSeat,
     books: &Books,
     key: u64,
-) -> Option<(u32, [u64; V])>
+) -> Option<Held<V>>
     requires of { seat.old.of ≡ cells.now }
     requires rested { IsRested V books.now seat.old }
-    ensures found { IfSome result (λ r. map_value (state_of V cells.now.layout.shape seat.old.acts).history key ≡ Some r.1) }
-    ensures item { IfSome result (λ r. (q : ℕ) × Stands V cells.now.layout.shape (state_of V cells.now.layout.shape seat.old.acts).words key q r.0) }
+    ensures found { IfSome result (λ held. map_value (state_of V cells.now.layout.shape seat.old.acts).history key ≡ Some (held.value ++ held.since ∷ [])) }
+    ensures item { IfSome result (λ held. (q : ℕ) × Stands V cells.now.layout.shape (state_of V cells.now.layout.shape seat.old.acts).words key q held.item) }
     ensures none { IfNone result (map_value (state_of V cells.now.layout.shape seat.old.acts).history key ≡ None) }
     ensures seat { seat.new ≡ seat.old }
 {
@@ -46,10 +46,14 @@ pub fn get<const V: usize>(
     let found = look(cells, seat, books, key);
     let at = seat.moment();
     match found {
-        Some(hit) => {
-            let value = hit.1;
-            set_mark_unless_set(cells, seat, hit.0);
-            Reply::Found { value, at }
+        Some(held) => {
+            let value = held.value;
+            set_mark_unless_set(cells, seat, held.item);
+            Reply::Found {
+                value,
+                at,
+                since: held.since,
+            }
         }
         None => Reply::Absent { at },
     }

@@ -13,12 +13,14 @@
 
 mod deeds;
 mod get_call;
+mod if_call;
 mod pen;
 mod put_call;
 mod remove_call;
 mod sweep;
 
 pub use get_call::{get, look};
+pub use if_call::put_if;
 pub use pen::Pen;
 pub use put_call::put;
 pub use remove_call::remove;

@@ -60,24 +60,24 @@ impl<'a, const V: usize> Pen<'a, V> {
     ghost use Rattle.mc_writer.specs.Inside.Pens.{IsDue, HasMade};
 
     /// Makes the acts of a renewal, and the mark of its item.
-    fn make_renewal(&mut self, key: u64, value: &[u64; V], item: u32)
+    pub(crate) fn make_renewal(&mut self, key: u64, value: &[u64; V], at: u64, item: u32)
         requires width { IsWidth V }
-        requires due { IsDue V (renewal_acts key value.now item) self.old }
-        ensures made { HasMade V (renewal_acts key value.now item) self.old self.new }
+        requires due { IsDue V (renewal_acts key value.now at item) self.old }
+        ensures made { HasMade V (renewal_acts key value.now at item) self.old self.new }
     {
-        self.renew(key, value, item);
+        self.renew(key, value, at, item);
         self.set_mark_unless_set(item);
     }
 
     /// Makes the fill, and the mark of its item.
     #[inline(always)]
-    fn make_filling(&mut self, key: u64, value: &[u64; V], item: u32, place: Place)
+    fn make_filling(&mut self, key: u64, value: &[u64; V], at: u64, item: u32, place: Place)
         requires width { IsWidth V }
         requires item { item < self.old.cells.now.layout.shape.items }
-        requires due { IsDue V (filling_acts self.old.cells.now.layout.shape key value.now item place) self.old }
-        ensures made { HasMade V (filling_acts self.old.cells.now.layout.shape key value.now item place) self.old self.new }
+        requires due { IsDue V (filling_acts self.old.cells.now.layout.shape key value.now at item place) self.old }
+        ensures made { HasMade V (filling_acts self.old.cells.now.layout.shape key value.now at item place) self.old self.new }
     {
-        self.fill(key, value, item, place);
+        self.fill(key, value, at, item, place);
         self.set_mark_unless_set(item);
     }
 
@@ -90,7 +90,7 @@ impl<'a, const V: usize> Pen<'a, V> {
         ensures made { HasMade V (exchange_acts self.old.cells.now.layout.shape key value.now exchange) self.old self.new }
     {
         self.take_out(exchange.evicted, Deed::Evict, exchange.victim);
-        self.make_filling(key, value, exchange.item, exchange.place);
+        self.make_filling(key, value, exchange.at, exchange.item, exchange.place);
     }
 
     /// Makes the moves and the fill, and the mark of its item.
@@ -101,7 +101,7 @@ impl<'a, const V: usize> Pen<'a, V> {
         ensures made { HasMade V (storing_acts self.old.cells.now.layout.shape key value.now storing.now) self.old self.new }
     {
         self.make_moves(storing.moves.as_slice());
-        self.fill(key, value, storing.item, storing.place);
+        self.fill(key, value, storing.at, storing.item, storing.place);
         self.set_mark_unless_set(storing.item);
     }
 
@@ -227,7 +227,7 @@ impl<'a, const V: usize> Pen<'a, V> {
     {
         match self.decide_near(books, key, value, at) {
             Nearby::Fill { item, place } => {
-                self.make_filling(key, value, item, place);
+                self.make_filling(key, value, at, item, place);
                 Ok(Put::Stored {
                     at,
                     moves: 0,
@@ -250,7 +250,7 @@ impl<'a, const V: usize> Pen<'a, V> {
         match self.decide(books, key, value) {
             Decision::Refuse(why) => Err(why),
             Decision::Renew { item, at } => {
-                self.make_renewal(key, value, item);
+                self.make_renewal(key, value, at, item);
                 Ok(Put::Renewed { at })
             }
             Decision::Insert { at } => self.put_new(books, key, value, at),

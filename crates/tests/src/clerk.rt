@@ -9,7 +9,7 @@ ghost use Rattle.tests.specs.Drivers.{key_after, IsBeside, IsMaking};
 
 use crate::shapes::checked;
 use mc_core::Act;
-use mc_plan::{Answer, Clerk, NoMemory, Peek, Put, PutError, Remove, moment, read};
+use mc_plan::{Answer, Clerk, IfError, NoMemory, Peek, Put, PutError, Remove, moment, read};
 use mc_words::{Checked, payload_words};
 use std::alloc::{AllocError, Global};
 use std::mem;
@@ -185,6 +185,21 @@ fn put(clerk: &mut Clerk<1>, driver: &mut Driver, key: u64, value: u64) -> Optio
     run(clerk, driver)
 }
 
+/// A put on a condition.
+fn put_if(
+    clerk: &mut Clerk<1>,
+    driver: &mut Driver,
+    key: u64,
+    since: u64,
+    value: u64,
+) -> Option<Answer>
+    requires { IsBeside clerk.old (shape_of driver.old.checked) driver.old.words.items }
+    ensures beside { IfSome result (λ a. IsBeside clerk.new (shape_of driver.new.checked) driver.new.words.items) }
+{
+    clerk.put_if(&mut Look(driver.words.as_slice()), key, since, [value]);
+    run(clerk, driver)
+}
+
 fn remove(clerk: &mut Clerk<1>, driver: &mut Driver, key: u64) -> Option<Answer>
     requires { IsBeside clerk.old (shape_of driver.old.checked) driver.old.words.items }
     ensures beside { IfSome result (λ a. IsBeside clerk.new (shape_of driver.new.checked) driver.new.words.items) }
@@ -208,6 +223,24 @@ fn put_tells(
         return false;
     };
     answer == wanted
+}
+
+/// Puts a key on a condition, and tells whether each act was made, and the answer is this one.
+fn put_if_tells(
+    clerk: &mut Clerk<1>,
+    driver: &mut Driver,
+    key: u64,
+    since: u64,
+    value: u64,
+    wanted: Result<u64, IfError>,
+) -> bool
+    requires { IsBeside clerk.old (shape_of driver.old.checked) driver.old.words.items }
+    ensures beside { IsTrue result → IsBeside clerk.new (shape_of driver.new.checked) driver.new.words.items }
+{
+    let Some(answer) = put_if(clerk, driver, key, since, value) else {
+        return false;
+    };
+    answer == Answer::PutIf(wanted)
 }
 
 /// Removes a key, and tells whether each act was made, and the answer is this one.
@@ -254,23 +287,24 @@ fn store_all(clerk: &mut Clerk<1>, driver: &mut Driver, keys: &[u64]) -> bool
     true
 }
 
+/// An item, its value, and the moment of its key's last put.
+type Entry = (u32, u64, u64);
+
 /// What the words say of the key, and the length of the history.
-fn look_up(clerk: &Clerk<1>, driver: &Driver, key: u64) -> (Option<(u32, [u64; 1])>, u64)
+fn look_up(clerk: &Clerk<1>, driver: &Driver, key: u64) -> (Option<Entry>, u64)
     requires { IsBeside clerk.now (shape_of driver.now.checked) driver.now.words.items }
 {
     let mut look = Look(driver.words.as_slice());
-    let entry = read::<1, Look>(&driver.checked, &mut look, key);
+    let held = read::<1, Look>(&driver.checked, &mut look, key);
+    let entry = match held {
+        None => None,
+        Some(held) => Some((held.item, held.value[0], held.since)),
+    };
     (entry, moment(&driver.checked, &mut look))
 }
 
 /// Whether the words say this of the key, and the history is so long.
-fn shows(
-    clerk: &Clerk<1>,
-    driver: &Driver,
-    key: u64,
-    entry: Option<(u32, [u64; 1])>,
-    at: u64,
-) -> bool
+fn shows(clerk: &Clerk<1>, driver: &Driver, key: u64, entry: Option<Entry>, at: u64) -> bool
     requires { IsBeside clerk.now (shape_of driver.now.checked) driver.now.words.items }
 {
     look_up(clerk, driver, key) == (entry, at)
@@ -293,8 +327,8 @@ fn a_key_moves_to_make_room(rt: HostRuntime) -> Result<(), Fail> {
     let (mut clerk, mut driver) = start(rt.alloc(), &checked)?;
     assert!(rt; store_all(&mut clerk, &mut driver, &FULL));
     assert!(rt; put_tells(&mut clerk, &mut driver, 28, 5, stored(9, 1)));
-    assert!(rt; shows(&clerk, &driver, 28, Some((8, [5])), 9));
-    assert!(rt; shows(&clerk, &driver, FULL[0], Some((0, [FULL[0]])), 9));
+    assert!(rt; shows(&clerk, &driver, 28, Some((8, 5, 9)), 9));
+    assert!(rt; shows(&clerk, &driver, FULL[0], Some((0, FULL[0], 1)), 9));
     assert!(rt; shows(&clerk, &driver, 32, None, 9));
     Ok(())
 }
@@ -309,7 +343,7 @@ fn an_item_is_given_back_and_taken_again(rt: HostRuntime) -> Result<(), Fail> {
     assert!(rt; put_tells(&mut clerk, &mut driver, 2, 5, stored(4, 0)));
     let renewed = Answer::Put(Ok(Put::Renewed { at: 5 }));
     assert!(rt; put_tells(&mut clerk, &mut driver, 2, 9, renewed));
-    assert!(rt; shows(&clerk, &driver, 2, Some((0, [9])), 5));
+    assert!(rt; shows(&clerk, &driver, 2, Some((0, 9, 5)), 5));
     Ok(())
 }
 
@@ -327,6 +361,21 @@ fn the_first_item_without_a_mark_is_taken(rt: HostRuntime) -> Result<(), Fail> {
     assert!(rt; shows(&clerk, &driver, 0, None, 5));
     let _ = driver.swap(1, 1);
     assert!(rt; put_tells(&mut clerk, &mut driver, 4, 4, replaced(7, 0, 2)));
-    assert!(rt; shows(&clerk, &driver, 4, Some((2, [4])), 7));
+    assert!(rt; shows(&clerk, &driver, 4, Some((2, 4, 7)), 7));
+    Ok(())
+}
+
+#[test]
+fn a_key_is_put_while_its_stamp_is_the_one_asked_for(rt: HostRuntime) -> Result<(), Fail> {
+    let checked = checked(4, 16, 2)?;
+    let (mut clerk, mut driver) = start(rt.alloc(), &checked)?;
+    assert!(rt; put_tells(&mut clerk, &mut driver, 0, 7, stored(1, 0)));
+    assert!(rt; put_tells(&mut clerk, &mut driver, 1, 8, stored(2, 0)));
+    assert!(rt; put_if_tells(&mut clerk, &mut driver, 0, 1, 9, Ok(3)));
+    let changed = Err(IfError::Changed { since: 3 });
+    assert!(rt; put_if_tells(&mut clerk, &mut driver, 0, 1, 10, changed));
+    let gone = Err(IfError::NotThere { at: 3 });
+    assert!(rt; put_if_tells(&mut clerk, &mut driver, 5, 0, 1, gone));
+    assert!(rt; shows(&clerk, &driver, 0, Some((0, 9, 3)), 3));
     Ok(())
 }

@@ -38,8 +38,10 @@ enum Task {
     Open,
     WriteKey(u64),
     WriteValue(u64, u32),
+    WriteStamp(u64, u32),
     WriteSlot(u64, u32),
     Renew,
+    StampAgain(u32),
     CopySlot(u64),
     LeaveSlot(u64),
     ClearSlot(u64),
@@ -47,12 +49,14 @@ enum Task {
     Close,
 }
 
-/// What a generator needs to draw acts that fit: the shape, what is to be done next, and where the hand stands.
+/// What a generator needs to draw acts that fit: the shape, what is to be done next, where the hand stands, and how many
+/// changes were made.
 #[derive(Clone, Copy)]
 pub(crate) struct Writer {
     checked: Checked,
     task: Task,
     hand: u32,
+    moment: u64,
 }
 
 fn drawn_key(rng: &mut Lcg64Xsh32) -> u64 {
@@ -83,7 +87,7 @@ fn drawn_act(rng: &mut Lcg64Xsh32) -> Act {
     match rng.next_u32() % 7 {
         0 => Act::Open(drawn_key(rng), drawn_deed(rng)),
         1 => Act::Slot(drawn_place(rng), u64::from(i)),
-        2 => Act::Item(i, (rng.next_u32() % 3) as u8, drawn_key(rng)),
+        2 => Act::Item(i, (rng.next_u32() % 4) as u8, drawn_key(rng)),
         3 => Act::Moment,
         4 => Act::Close,
         5 => Act::Hand(i),
@@ -97,6 +101,7 @@ impl Writer {
             checked: *checked,
             task: Task::Open,
             hand: 0,
+            moment: 0,
         }
     }
 
@@ -141,6 +146,9 @@ impl Writer {
             },
             Task::WriteKey(key) => Act::Item(i, 0, key),
             Task::WriteValue(_, item) => Act::Item(item, 1, rng.next_u64()),
+            Task::WriteStamp(_, item) | Task::StampAgain(item) => {
+                Act::Item(item, 2, self.moment.saturating_add(1))
+            }
             Task::WriteSlot(key, item) => {
                 Act::Slot(self.place_for(rng, key), self.slot_word(key, item))
             }
@@ -160,12 +168,17 @@ impl Writer {
             (_, Act::Open(key, Deed::Move)) => Task::CopySlot(key),
             (_, Act::Open(key, _)) => Task::ClearSlot(key),
             (Task::WriteKey(key), _) => Task::WriteValue(key, item_of(act)),
-            (Task::WriteValue(key, item), _) => Task::WriteSlot(key, item),
+            (Task::WriteValue(key, item), _) => Task::WriteStamp(key, item),
+            (Task::WriteStamp(key, item), _) => Task::WriteSlot(key, item),
+            (Task::Renew, _) => Task::StampAgain(item_of(act)),
             (Task::CopySlot(key), _) => Task::LeaveSlot(key),
-            (Task::WriteSlot(_, _) | Task::Renew | Task::ClearSlot(_), _) => Task::Count,
+            (Task::WriteSlot(_, _) | Task::StampAgain(_) | Task::ClearSlot(_), _) => Task::Count,
             (Task::LeaveSlot(_) | Task::Count, _) => Task::Close,
             (Task::Open | Task::Close, _) => Task::Open,
         };
+        if act == Act::Moment {
+            self.moment = self.moment.saturating_add(1);
+        }
         if let Act::Hand(i) = act {
             let next = i.saturating_add(1);
             self.hand = if next < self.checked.shape().items {

@@ -22,7 +22,7 @@ struct Draws {
 }
 
 /// A put that evicts a key and moves none makes so many acts after its sweep.
-const ACTS_AFTER_SWEEP: u64 = 11;
+const ACTS_AFTER_SWEEP: u64 = 12;
 
 /// A script, and what its lines ask for.
 #[derive(Drop)]

@@ -82,7 +82,7 @@ const KEYS: [u64; 8] = [72057594037927936, 0, 4, 8, 12, 16, 20, 24];
 fn filled() -> Table {
     let mut table = table_of(&[4294967297, 2, 3, 4, 5, 6, 7, 8]);
     for (i, key) in KEYS.iter().enumerate() {
-        table.list[18 + 2 * i] = *key;
+        table.list[18 + 3 * i] = *key;
     }
     table
 }

@@ -100,12 +100,18 @@ fn a_failed_read_is_told_unless_the_line_is_too_long(rt: HostRuntime) -> Result<
 
 #[test]
 fn a_line_says_its_command(rt: HostRuntime) {
-    let cases: [(&[u8], Result<Option<Command<2>>, LineFault>); 19] = [
+    let cases: [(&[u8], Result<Option<Command<2>>, LineFault>); 23] = [
         (b"\t # get 0", Ok(None)),
         (b"\t get \t\t 7 \t", Ok(Some(Command::Get(7)))),
         (b"remove 007", Ok(Some(Command::Remove(7)))),
         (b"put\t1\t\t02  3\t", Ok(Some(Command::Put(1, [2, 3])))),
+        (b"putif 1 2 3 4", Ok(Some(Command::PutIf(1, 2, [3, 4])))),
+        (b"stamp 7", Ok(Some(Command::Stamp(7)))),
         (b"begin put 1 2 3", Ok(Some(Command::BeginPut(1, [2, 3])))),
+        (
+            b"begin putif 1 2 3 4",
+            Ok(Some(Command::BeginPutIf(1, 2, [3, 4]))),
+        ),
         (b"begin remove 3", Ok(Some(Command::BeginRemove(3)))),
         (b"begin 1 get 5", Ok(Some(Command::BeginGet(1, 5)))),
         (b"w", Ok(Some(Command::Write(1)))),
@@ -117,6 +123,7 @@ fn a_line_says_its_command(rt: HostRuntime) {
         (b"begin remove get 5", Err(LineFault::BadNumber)),
         (b"begin put get 5", Err(LineFault::BadNumber)),
         (b"begin put 1 2", Err(LineFault::NotACommand)),
+        (b"putif 1 2 3", Err(LineFault::NotACommand)),
         (b"begin", Err(LineFault::NotACommand)),
         (b"put 1 2", Err(LineFault::NotACommand)),
         (b"get \xff", Err(LineFault::NotACommand)),

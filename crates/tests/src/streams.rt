@@ -164,7 +164,7 @@ fn a_refused_line_has_its_answer_written_first(rt: HostRuntime) -> Result<(), Sh
     let alloc = rt.alloc();
     let answer = b"stored at 1 moves 0\n".as_slice();
     for (room, number) in [(20, 8), (19, 9), (0, 9)] {
-        let (taken, result) = replay_narrow(alloc, b"begin put 0 7\nw 8", room)?;
+        let (taken, result) = replay_narrow(alloc, b"begin put 0 7\nw 9", room)?;
         assert!(rt;
             result == Err(ReplayError { line: 2, number }),
             "with room for {room}"

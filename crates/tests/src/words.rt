@@ -81,7 +81,7 @@ fn the_buckets_of_a_tag_are_so_far_apart(rt: HostRuntime) -> Result<(), ShapeErr
     assert!(rt; is_word(&four, 180, 773_094_113_281));
     assert!(rt; is_word(&four, 0, 1));
     assert!(rt; four.slot_parts(0) == None);
-    assert!(rt; four.words::<1>() == 51);
+    assert!(rt; four.words::<1>() == 67);
     Ok(())
 }
 

@@ -51,10 +51,10 @@ fn a_new_world_refuses_a_write_and_an_open_past_the_limit(rt: HostRuntime) -> Re
     let open = Event::Write(Act::Open(0, Deed::Fill));
     assert!(rt; gives(&mut world, open, Err(Unlawful::Limit)));
     assert!(rt; world.history().is_empty());
-    for n in 0..51 {
+    for n in 0..67 {
         assert!(rt; word_at(&world, n) == Some(0), "word {n}");
     }
-    assert!(rt; word_at(&world, 51) == None);
+    assert!(rt; word_at(&world, 67) == None);
     Ok(())
 }
 
@@ -78,12 +78,13 @@ fn a_list_of_events_is_run_up_to_the_first_refused(rt: HostRuntime) -> Result<()
     Ok(())
 }
 
-/// The acts of a fill of key 0 with 7 and of its removal.
-fn changes() -> [Act; 10] {
+/// The acts of a fill of key 0 with 7 at this moment, and of its removal.
+fn changes(moment: u64) -> [Act; 11] {
     [
         Act::Open(0, Deed::Fill),
         Act::Item(0, 0, 0),
         Act::Item(0, 1, 7),
+        Act::Item(0, 2, moment),
         Act::Slot(FIRST, 1),
         Act::Moment,
         Act::Close,
@@ -94,12 +95,12 @@ fn changes() -> [Act; 10] {
     ]
 }
 
-/// These acts, 1,000 times.
-fn thousand_times(alloc: Global, acts: &[Act]) -> Result<Vec<Event>, AllocError> {
+/// The acts of 1,000 fills and removals.
+fn thousand_changes(alloc: Global) -> Result<Vec<Event>, AllocError> {
     let mut events = Vec::new(alloc);
-    for _ in 0..1000 {
-        for act in acts {
-            events.push(Event::Write(*act))?;
+    for n in 0..1000u64 {
+        for act in changes(2 * n + 1) {
+            events.push(Event::Write(act))?;
         }
     }
     Ok(events)
@@ -120,7 +121,7 @@ fn many_lookups(alloc: Global, many: u32) -> Result<Vec<Event>, AllocError> {
 
 /// Makes 1,000 fills and removals.
 fn make_changes(alloc: Global, world: &mut World<1>) -> Result<Run<1>, Fail> {
-    let events = thousand_times(alloc, &changes())?;
+    let events = thousand_changes(alloc)?;
     Ok(run(alloc, world, events.as_slice())?)
 }
 
@@ -168,22 +169,26 @@ fn makes_all(world: &mut World<1>, acts: &[Act]) -> bool {
 #[test]
 fn a_fill_and_a_lookup(rt: HostRuntime) -> Result<(), Fail> {
     let mut world = new_world(rt.alloc(), 4, 16, 1)?;
-    assert!(rt; makes_all(&mut world, &changes()[..6]));
+    assert!(rt; makes_all(&mut world, &changes(1)[..7]));
     assert!(rt; makes_all(&mut world, &[Act::Mark(0)]));
     assert!(rt; word_at(&world, 0) == Some(1));
     assert!(rt; word_at(&world, 1) == Some(2));
-    assert!(rt; word_at(&world, 50) == Some(1));
+    assert!(rt; word_at(&world, 66) == Some(1));
     assert!(rt; world.history() == [Change::Put(0, [7])].as_slice());
     assert!(rt; gives(&mut world, Event::Begin(0, 0), Ok(Stepped::Nothing)));
-    for word in [2, 1, 0, 7, 1, 2] {
+    for word in [2, 1, 0, 7, 1, 1, 2] {
         assert!(rt; gives(&mut world, Event::Read(0), Ok(Stepped::Word(word))));
     }
     let done = Done {
         reader: 0,
         key: 0,
-        reply: Reply::Found { value: [7], at: 1 },
-        first: 8,
-        last: 14,
+        reply: Reply::Found {
+            value: [7],
+            at: 1,
+            since: 1,
+        },
+        first: 9,
+        last: 16,
     };
     assert!(rt; gives(&mut world, Event::Read(0), Ok(Stepped::Done(done))));
     Ok(())
@@ -218,14 +223,15 @@ fn sixty_four_items_share_a_word_of_bits(rt: HostRuntime) -> Result<(), Fail> {
             "item {item}"
         );
     }
-    assert!(rt; world.checked().words::<1>() == 262);
-    assert!(rt; word_at(&world, 260) == Some(9223372036854775809));
-    assert!(rt; word_at(&world, 261) == Some(1));
+    assert!(rt; world.checked().words::<1>() == 327);
+    assert!(rt; word_at(&world, 325) == Some(9223372036854775809));
+    assert!(rt; word_at(&world, 326) == Some(1));
     Ok(())
 }
 
-/// The acts of a fill of the item under its own number, in the bucket of that number, and of its mark.
-fn marked_fill(item: u32, value: u64) -> [Act; 7] {
+/// The acts of a fill of the item under its own number, in the bucket of that number, and of its mark. As many items were
+/// filled before it.
+fn marked_fill(item: u32, value: u64) -> [Act; 8] {
     let key = u64::from(item);
     let place = Place {
         bucket: item,
@@ -235,6 +241,7 @@ fn marked_fill(item: u32, value: u64) -> [Act; 7] {
         Act::Open(key, Deed::Fill),
         Act::Item(item, 0, key),
         Act::Item(item, 1, value),
+        Act::Item(item, 2, key + 1),
         Act::Slot(place, key + 1),
         Act::Moment,
         Act::Close,
@@ -247,10 +254,10 @@ fn the_hand_clears_one_bit_of_its_word(rt: HostRuntime) -> Result<(), Fail> {
     let mut world = new_world(rt.alloc(), 4, 2, 1)?;
     assert!(rt; makes_all(&mut world, &marked_fill(0, 10)));
     assert!(rt; makes_all(&mut world, &marked_fill(1, 11)));
-    assert!(rt; word_at(&world, 22) == Some(3));
+    assert!(rt; word_at(&world, 24) == Some(3));
     let hand = Event::Write(Act::Hand(0));
     assert!(rt; gives(&mut world, hand, Ok(Stepped::Word(1))));
-    assert!(rt; word_at(&world, 22) == Some(2));
+    assert!(rt; word_at(&world, 24) == Some(2));
     assert!(rt; gives(&mut world, hand, Err(Unlawful::NotLawful)));
     Ok(())
 }
@@ -259,18 +266,22 @@ fn the_hand_clears_one_bit_of_its_word(rt: HostRuntime) -> Result<(), Fail> {
 #[test]
 fn a_lookup_after_a_fill_tells_the_value(rt: HostRuntime) -> Result<(), Fail> {
     let checked = checked(4, 16, 2)?;
-    let mut events = [Event::Read(0); 14];
-    for (event, act) in events.iter_mut().zip(&changes()[..6]) {
+    let mut events = [Event::Read(0); 16];
+    for (event, act) in events.iter_mut().zip(&changes(1)[..7]) {
         *event = Event::Write(*act);
     }
-    events[6] = Event::Begin(0, 0);
+    events[7] = Event::Begin(0, 0);
     let made: Run<1> = run_new(rt.alloc(), &checked, 1, &events)?;
     let done = Done {
         reader: 0,
         key: 0,
-        reply: Reply::Found { value: [7], at: 1 },
-        first: 7,
-        last: 13,
+        reply: Reply::Found {
+            value: [7],
+            at: 1,
+            since: 1,
+        },
+        first: 8,
+        last: 15,
     };
     assert!(rt; ends_with(&made, done));
     Ok(())

@@ -56,8 +56,12 @@ pub const fn not_there(at: u64) -> Told {
     Told::Remove(Ok(Remove::NotThere { at }))
 }
 
-pub const fn found(value: u64, at: u64) -> Told {
-    Told::Reply(Reply::Found { value: [value], at })
+pub const fn found(value: u64, at: u64, since: u64) -> Told {
+    Told::Reply(Reply::Found {
+        value: [value],
+        at,
+        since,
+    })
 }
 
 pub const fn absent(at: u64) -> Told {

@@ -28,7 +28,7 @@ fn key_of(n: u64) -> u64 {
     n % 8 * ((1 << 32) + 1)
 }
 
-// The acts of one deed on a key, with its mark. None where the key is there no more.
+// The acts of deed `n` on a key, counted from 0, with its mark. It makes change number `n + 1`. None where the key is there no more.
 fn make_deed(
     cells: &Cells<1>,
     writer: &mut WriterSeat,
@@ -49,16 +49,26 @@ fn make_deed(
     };
     let open = Act::Open(key, deed);
     let value = Act::Item(item, 1, n);
+    let stamp = Act::Item(item, 2, n + 1);
     let mark = Act::Mark(item);
     match deed {
         Deed::Fill => {
             let name = Act::Item(item, 0, key);
             let slot = Act::Slot(place, u64::from(item) + 1);
-            let acts = [open, name, value, slot, Act::Moment, Act::Close, mark];
+            let acts = [
+                open,
+                name,
+                value,
+                stamp,
+                slot,
+                Act::Moment,
+                Act::Close,
+                mark,
+            ];
             make_all(cells, writer, world, &acts)
         }
         Deed::Renew => {
-            let acts = [open, value, Act::Moment, Act::Close, mark];
+            let acts = [open, value, stamp, Act::Moment, Act::Close, mark];
             make_all(cells, writer, world, &acts)
         }
         _ => {

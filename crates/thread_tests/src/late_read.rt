@@ -64,7 +64,11 @@ fn a_late_reader_finds_the_key(rt: HostRuntime) -> Result<(), Fail> {
         || put_when_missed(&cache, &mut writer, &missed),
     );
     assert!(rt; stored);
-    let due = Reply::Found { value: [7], at: 1 };
+    let due = Reply::Found {
+        value: [7],
+        at: 1,
+        since: 1,
+    };
     assert_eq!(rt; reply, Some(due));
     Ok(())
 }

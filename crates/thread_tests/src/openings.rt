@@ -26,7 +26,11 @@ fn a_cache_has_so_many_readers(rt: HostRuntime) -> Result<(), Fail> {
         let Some(mut last) = readers.pop() else {
             return Err(Fail::new("no reader"));
         };
-        let due = Reply::Found { value: [7], at: 1 };
+        let due = Reply::Found {
+            value: [7],
+            at: 1,
+            since: 1,
+        };
         assert!(rt; last.get(&cache, 0) == due);
     }
     for number in [0, 1025] {

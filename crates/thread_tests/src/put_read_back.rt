@@ -12,10 +12,11 @@ use std::test::Fail;
 
 const PLACE: Place = Place { bucket: 0, slot: 0 };
 
-const ACTS: [Act; 6] = [
+const ACTS: [Act; 7] = [
     Act::Open(0, Deed::Fill),
     Act::Item(0, 0, 0),
     Act::Item(0, 1, 7),
+    Act::Item(0, 2, 1),
     Act::Slot(PLACE, 1),
     Act::Moment,
     Act::Close,
@@ -32,7 +33,7 @@ fn put(cells: &Cells<1>, writer: &mut WriterSeat, world: &mut World<1>) -> bool
 
 // What the reader reads where the put wrote, and the moment that it catches up with.
 #[tactic(auto, unfolding(mc_words::specs::Places::payload))]
-fn read_back(cells: &Cells<1>, reader: &mut ReaderSeat, writer: &mut WriterSeat) -> [u64; 7]
+fn read_back(cells: &Cells<1>, reader: &mut ReaderSeat, writer: &mut WriterSeat) -> [u64; 8]
     requires of { (reader.old.of ≡ cells.now) × (writer.old.of ≡ cells.now) }
     requires stripe { 0 < cells.now.layout.shape.stripes }
     requires bucket { 0 < cells.now.layout.shape.buckets }
@@ -44,6 +45,7 @@ fn read_back(cells: &Cells<1>, reader: &mut ReaderSeat, writer: &mut WriterSeat)
         read(cells, reader, Access::Slot(PLACE)),
         read(cells, reader, Access::Key(0)),
         read(cells, reader, Access::Value(0, 1)),
+        read(cells, reader, Access::Stamp(0)),
         read(cells, reader, Access::Moment),
         read(cells, reader, Access::Version(0)),
         catch(cells, reader, writer),
@@ -61,7 +63,7 @@ fn first_words(cells: Cells<1>, writer: WriterSeat, readers: Vec<ReaderSeat>) ->
 
 // Puts a key beside a world, reads it back, and closes the table. Whether all acts were made, what was read, and the
 // first words that are left.
-fn put_and_read(alloc: Global) -> Result<(bool, [u64; 7], [u64; 2]), Fail> {
+fn put_and_read(alloc: Global) -> Result<(bool, [u64; 8], [u64; 2]), Fail> {
     let checked = small_shape(1).check()?;
     let (cells, mut writer, mut readers) = open::<1>(alloc, &checked, 1)?;
     let mut world = World::<1>::new(alloc, &checked, 1)?;
@@ -78,7 +80,7 @@ fn put_and_read(alloc: Global) -> Result<(bool, [u64; 7], [u64; 2]), Fail> {
 fn the_acts_of_a_put_are_read_back(rt: HostRuntime) -> Result<(), Fail> {
     let (made, told, left) = put_and_read(rt.alloc())?;
     assert!(rt; made);
-    assert_eq!(rt; told, [2, 1, 0, 7, 1, 2, 1]);
+    assert_eq!(rt; told, [2, 1, 0, 7, 1, 1, 2, 1]);
     assert_eq!(rt; left, [1, 2]);
     Ok(())
 }

@@ -82,9 +82,9 @@ fn one_key_is_put_renewed_and_removed(rt: HostRuntime) -> Result<(), Fail> {
     assert_eq!(rt; first_wrong(alloc, small(), &rows)?, None);
     let rows = [
         (Call::Put(0, 7), stored(1)),
-        (Call::Get(0), found(7, 1)),
+        (Call::Get(0), found(7, 1, 1)),
         (Call::Put(0, 9), renewed(2)),
-        (Call::Get(0), found(9, 2)),
+        (Call::Get(0), found(9, 2, 2)),
         (Call::Remove(0), removed(3)),
         (Call::Get(0), absent(3)),
     ];
@@ -113,7 +113,7 @@ fn first_wrong_with(alloc: Global, get: Call) -> Result<Option<(usize, Told)>, F
         (Call::Put(1, 1), stored(2)),
         (Call::Put(2, 2), stored(3)),
         (Call::Put(3, 3), stored_after(5, 0)),
-        (get, found(1, 5)),
+        (get, found(1, 5, 2)),
         (Call::Put(4, 4), stored_after(7, 2)),
     ];
     first_wrong(alloc, with_items(3), &rows)
@@ -169,7 +169,7 @@ fn keys_are_mixed(rt: HostRuntime) -> Result<(), Fail> {
     let mixed = shape(16, MOST, Mix::Fmix);
     let rows = [
         (Call::Put(1, 5), stored(1)),
-        (Call::Get(1), found(5, 1)),
+        (Call::Get(1), found(5, 1, 1)),
         (Call::Get(0), absent(1)),
     ];
     assert_eq!(rt; first_wrong(rt.alloc(), mixed, &rows)?, None);
@@ -182,11 +182,11 @@ fn a_reader_catches_up_and_looks_beside_the_writer(rt: HostRuntime) -> Result<()
         (Call::CatchUp, Told::Moment(0)),
         (Call::LookBeside(0), absent(0)),
         (Call::Put(0, 7), stored(1)),
-        (Call::LookBeside(0), found(7, 1)),
+        (Call::LookBeside(0), found(7, 1, 1)),
         (Call::LookBeside(1), absent(1)),
         (Call::Put(0, 8), renewed(2)),
         (Call::CatchUp, Told::Moment(2)),
-        (Call::Look(0), found(8, 2)),
+        (Call::Look(0), found(8, 2, 2)),
         (Call::Remove(0), removed(3)),
         (Call::LookBeside(0), absent(3)),
         (Call::CatchUp, Told::Moment(3)),

@@ -5,7 +5,7 @@ use Rattle.mc_cache.specs.Reply.TheVariants.{Found, Absent, Busy}
 
 -- the reply is of this moment
 abbrev pub IsAt : Reply 1 → ℕ → Type 0
-IsAt (Found v at) n = at ≡ n
+IsAt (Found v at since) n = at ≡ n
 IsAt (Absent at) n = at ≡ n
 IsAt Busy n = ⊥
 

@@ -11,8 +11,9 @@ pub fn put_and_get(
     reader: &mut Reader<1>,
 ) -> Option<Reply<1>>
     requires of { (writer.old.of ≡ cache.now) × (reader.old.of ≡ cache.now) }
-    ensures { IfSome result (λ r. (at : ℕ) × (r ≡ Found (70 ∷ []) at)) }
+    ensures { IfSome result (λ r. (at : ℕ) × (since : ℕ) × (r ≡ Found (70 ∷ []) at since)) }
 {
+    laws::history_laws::<1>();
     match writer.put(cache, 7, [70]) {
         Ok(_) => {
             reader.catch_up(cache, writer);
@@ -29,7 +30,7 @@ pub fn get_between_meetings(
     reader: &mut Reader<1>,
 ) -> Option<Reply<1>>
     requires of { (writer.old.of ≡ cache.now) × (reader.old.of ≡ cache.now) }
-    ensures { IfSome result (λ r. (r ≡ Busy) ⊎ ((at : ℕ) × (r ≡ Found (70 ∷ []) at))) }
+    ensures { IfSome result (λ r. (r ≡ Busy) ⊎ ((at : ℕ) × (since : ℕ) × (r ≡ Found (70 ∷ []) at since))) }
 {
     laws::history_laws::<1>();
     match writer.put(cache, 7, [70]) {

@@ -5,6 +5,9 @@ use std::sync::atomic::{AtomicU64, Ordering::SeqCst};
 /// Words of a value.
 pub const WIDTH: usize = 4;
 
+/// Words of an item: the key, the value and the stamp, which is the moment of the key's last put.
+pub const STRIDE: usize = 2 + WIDTH;
+
 pub type Value = [u64; WIDTH];
 
 #[derive(Clone, Copy)]
@@ -45,7 +48,7 @@ pub struct Parts {
 }
 
 pub enum Reply {
-    Found { value: Value, at: u64 },
+    Found { value: Value, at: u64, since: u64 },
     Absent { at: u64 },
     Busy,
 }
@@ -78,7 +81,7 @@ impl Table {
     pub fn new(shape: Shape) -> Table {
         let slots = 1 + shape.stripes as usize;
         let items = slots + 4 * shape.buckets as usize;
-        let bits = items + (1 + WIDTH) * shape.items as usize;
+        let bits = items + STRIDE * shape.items as usize;
         let words = zeros(bits + (shape.items as usize).div_ceil(64));
         Table { words, shape, slots, items, bits }
     }
@@ -121,7 +124,7 @@ impl Table {
 
     #[inline(always)]
     pub fn item(&self, item: u64, word: usize) -> usize {
-        self.items + (1 + WIDTH) * item as usize + word
+        self.items + STRIDE * item as usize + word
     }
 
     /// The item that the word of a slot names under the tag.
@@ -160,7 +163,7 @@ impl Table {
         None
     }
 
-    /// What the table holds of the key: version, slots, the value's words, moment, version, mark.
+    /// What the table holds of the key: version, slots, the value's words, stamp, moment, version, mark.
     #[inline]
     pub fn get(&self, key: u64) -> Reply {
         let parts = self.parts(key);
@@ -170,11 +173,13 @@ impl Table {
                 continue;
             }
             let mut value = [0; WIDTH];
+            let mut since = 0;
             let found = self.find(key, parts);
             if let Some((_, item)) = found {
                 for n in 0..WIDTH {
                     value[n] = self.load(self.item(item, 1 + n));
                 }
+                since = self.load(self.item(item, 1 + WIDTH));
             }
             let at = self.load(0);
             if self.load(parts.version) != version {
@@ -184,7 +189,7 @@ impl Table {
                 return Reply::Absent { at };
             };
             self.mark(item);
-            return Reply::Found { value, at };
+            return Reply::Found { value, at, since };
         }
         Reply::Busy
     }

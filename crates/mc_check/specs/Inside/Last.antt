@@ -7,7 +7,7 @@ use Rattle.mc_words.specs.declared.history.Reply.TheVariants.{Found, Absent, Bus
 
 -- how many changes the reply names
 abbrev pub moment_in : {V : ℕ} → Reply V → ℕ
-moment_in (Found v at) = at
+moment_in (Found v at since) = at
 moment_in (Absent at) = at
 moment_in Busy = 0
 
@@ -32,7 +32,12 @@ abbrev pub IsLast : {V : ℕ} → List (Change V) → ℕ → ℕ → Option ℕ
 IsLast h k n None = AreOthers h k 0 n
 IsLast {V} h k n (Some i) = (i < n) × ((c : Change V) × (slice_get h i ≡ Some c) × (key_in c ≡ k)) × AreOthers h k (i + 1) n
 
--- what the map holds of a key after its last change
+-- the change at this place is number `since` of the history, counted from 1
+abbrev pub IsStampOf : Option ℕ → ℕ → Type 0
+IsStampOf None since = ⊥
+IsStampOf (Some i) since = i + 1 ≡ since
+
+-- the value of a key after its last change
 abbrev pub value_after : {V : ℕ} → List (Change V) → Option ℕ → Option (List ℕ)
 value_after h None = None
 value_after {V} h (Some i) = told (slice_get h i)

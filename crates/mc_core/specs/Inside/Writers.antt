@@ -1,5 +1,5 @@
 -- The writer of a world, as contracts see it.
-use Rattle.std.specs.Prelude.{ℕ, ◌≡◌, ◌<◌, ◌/◌, Bool, true, false, List, take, get_or, [], ◌∷◌, ◌+◌, ◌-◌, ◌≤◌, vec_len, vec_capacity}
+use Rattle.std.specs.Prelude.{ℕ, ◌≡◌, ◌<◌, ◌/◌, Bool, true, false, List, take, get_or, [], ◌∷◌, ◌++◌, ◌+◌, ◌-◌, ◌≤◌, vec_len, vec_capacity}
 use Rattle.mc_words.specs.Keys.{IsBucketOf}
 use Rattle.mc_words.specs.Places.{slot_number}
 use Rattle.mc_words.specs.Standing.{NamesItem, Stands, IsFree}
@@ -21,9 +21,9 @@ shape_of_writer w = shape_of_table w.table
 abbrev pub words_of_writer : {V : ℕ} → Writer V → List ℕ
 words_of_writer w = words_of_table w.table
 
--- as many words as an item keeps behind its key
+-- as many words as an item keeps behind its key: the value, and then the stamp
 abbrev pub payload_in : {V : ℕ} → Written V → List ℕ
-payload_in xs = xs.value
+payload_in xs = xs.value ++ xs.stamp ∷ []
 
 -- the phase, where these words were written
 abbrev pub phase_at : {V : ℕ} → Written V → Progress → Phase

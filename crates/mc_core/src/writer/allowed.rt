@@ -4,7 +4,7 @@ ghost use Rattle.mc_words.specs.Keys.{tag_of, alternate, slot_word, IsBucketOf};
 ghost use Rattle.mc_words.specs.Chains.{IsHole};
 ghost use Rattle.mc_words.specs.Places.{IsPlace, payload, slot, slot_number};
 ghost use Rattle.mc_words.specs.Standing.{Stands, IsAbsent, IsPresent, HasFree};
-ghost use Rattle.mc_theory.specs.Acts.{MayFrom, MayOpen};
+ghost use Rattle.mc_theory.specs.Acts.{IsStampAt, MayFrom, MayOpen};
 ghost use Rattle.mc_theory.specs.Phases.{Quiet, Filling, Keyed, Renewing, Removing, Moving, Moved};
 ghost use Rattle.mc_core.specs.Inside.Tables.{StandsAt};
 ghost use Rattle.mc_core.specs.Inside.Writers.{shape_of_writer, words_of_writer, payload_in, UsedWell, StandsWell, IsFreeItem};
@@ -167,7 +167,9 @@ impl<const V: usize> Writer<V> {
             self.now.hand self.now.cleared (Renewing key (take count (payload_in {V = V} self.now.written))) act }
     {
         match act {
-            Act::Item(i, j, _) => self.is_next_word(count, j) && self.is_item_of(key, i),
+            Act::Item(i, j, word) => self.is_next_word(count, j)
+                && self.is_item_of(key, i)
+                && self.fits_stamp(j, word),
             Act::Moment => self.is_whole(count),
             _ => false,
         }
@@ -189,6 +191,13 @@ impl<const V: usize> Writer<V> {
         count_is(count, payload_words::<V>())
     }
 
+    /// Whether the word may stand there: as a stamp only the moment of the put that is under way.
+    fn fits_stamp(&self, j: u8, word: u64) -> bool
+        ensures { IsTrue result ↔ IsStampAt V (words_of_writer {V = V} self.now) j word }
+    {
+        usize::from(j) != payload_words::<V>() || is_next_moment(self.table.moment(), word)
+    }
+
     /// Whether the key stands at the item.
     fn is_item_of(&self, key: u64, i: u32) -> bool
         requires { StandsWell V (shape_of_writer {V = V} self.now) (words_of_writer {V = V} self.now) key }
@@ -205,7 +214,9 @@ impl<const V: usize> Writer<V> {
             self.now.hand self.now.cleared (Keyed key item (take count (payload_in {V = V} self.now.written))) act }
     {
         match act {
-            Act::Item(i, j, _) => i == item && self.is_next_word(count, j),
+            Act::Item(i, j, word) => i == item
+                && self.is_next_word(count, j)
+                && self.fits_stamp(j, word),
             Act::Slot(place, word) => self.is_whole(count)
                 && self.may_place(key, item, place, word),
             _ => false,
@@ -280,4 +291,11 @@ fn count_is(count: u8, all: usize) -> bool
     ensures { IsTrue result ↔ (count ≡ all) }
 {
     usize::from(count) == all
+}
+
+/// Whether this is the moment after the other.
+fn is_next_moment(moment: u64, next: u64) -> bool
+    ensures { IsTrue result ↔ (next ≡ moment + 1) }
+{
+    next != 0 && next - 1 == moment
 }

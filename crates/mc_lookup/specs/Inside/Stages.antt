@@ -1,7 +1,7 @@
 -- The numbers in a stage of a lookup, each in its range.
 use Rattle.std.specs.Prelude.{ℕ, ◌-◌, Option, Some, None}
 use Rattle.mc_lookup.specs.declared.stage.Stage.{Stage}
-use Rattle.mc_lookup.specs.declared.stage.Stage.TheVariants.{First, Slot, Key, Value, Moment, Last, Mark}
+use Rattle.mc_lookup.specs.declared.stage.Stage.TheVariants.{First, Slot, Key, Value, Stamp, Moment, Last, Mark}
 
 -- the slot that is read next, or that was read last
 abbrev pub slot_at : Stage → ℕ
@@ -13,10 +13,11 @@ abbrev pub hit_at : Option ℕ → ℕ
 hit_at None = 0
 hit_at (Some i) = i
 
--- the item whose key, value or bit is read or set next, or at which the key was found
+-- the item whose key, value, stamp or bit is read or set next, or at which the key was found
 abbrev pub item_at : Stage → ℕ
 item_at (Key j i) = i
 item_at (Value i c) = i
+item_at (Stamp i) = i
 item_at (Moment hit) = hit_at hit
 item_at (Last hit at) = hit_at hit
 item_at (Mark i) = i

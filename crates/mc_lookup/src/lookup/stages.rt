@@ -107,8 +107,18 @@ impl<const V: usize> Lookup<V> {
         self.stage = if usize::from(count) + 1 < V {
             Stage::Value(i, count + 1)
         } else {
-            Stage::Moment(Some(i))
+            Stage::Stamp(i)
         };
+    }
+
+    /// A reading of the stamp. Condition: the lookup is at the stamp of that item.
+    pub fn after_stamp(&mut self, i: u32, word: u64)
+        requires { stage_of {V = V} self.old ≡ Stage.Stamp i }
+        ensures takes { Consumes {V = V} self.old (Access.Stamp i) word self.new }
+        ensures goes { stage_of {V = V} self.new ≡ Stage.Moment (Some i) }
+    {
+        self.since = word;
+        self.stage = Stage::Moment(Some(i));
     }
 
     /// A reading of the moment. Condition: the lookup is at the moment, with this hit or none.
@@ -136,6 +146,7 @@ impl<const V: usize> Lookup<V> {
                 self.reply = Reply::Found {
                     value: self.value,
                     at,
+                    since: self.since,
                 };
                 self.stage = Stage::Mark(i);
             }

@@ -14,6 +14,7 @@ use Rattle.mc_words.specs.Places.{IsWidth, moment, slot, slot_number, word_count
 use Rattle.mc_words.specs.Shapes.{IsShape}
 use Rattle.mc_words.specs.Standing.{NamesItem, Stands, IsAbsent, IsFree}
 use Rattle.mc_words.proofs.Count.{full_from_named, room_from_free}
+use Rattle.mc_theory.specs.Phases.{close_owed}
 use Rattle.mc_theory.specs.States.{State, opening}
 use Rattle.mc_theory.specs.declared.act.Act.{Act}
 use Rattle.mc_theory.specs.declared.act.Act.TheVariants.{Mark}
@@ -25,7 +26,7 @@ use Rattle.mc_plan.specs.declared.decision.Storing.{Storing}
 use Rattle.mc_plan.specs.declared.books.Books.{Books}
 use Rattle.mc_search.specs.declared.free.FreeItems.{FreeItems}
 use Rattle.mc_search.specs.declared.path.Path.{Path}
-use Rattle.mc_plan.specs.WholeCalls.{Call, PutCall, RemoveCall, Means, Marks, AreOfDeeds, quiet_of}
+use Rattle.mc_plan.specs.WholeCalls.{Call, PutCall, RemoveCall, Means, Marks, MarksLast, AreOfDeeds, quiet_of}
 use Rattle.mc_plan.specs.Books.{AreBooksOf, IsPlanned}
 use Rattle.mc_search.specs.Free.{IsConsistent, IsFreeIn, TakesFree, GivesBack}
 use Rattle.mc_plan.specs.Laws.{IsValue}
@@ -33,14 +34,14 @@ use Rattle.mc_plan.specs.Making.{IsQuiet, state_after_acts}
 use Rattle.mc_search.specs.Kept.{KeepsSlots}
 use Rattle.mc_plan.specs.Moves.{AreKeys}
 use Rattle.mc_search.specs.Paths.{IsLeastPath, first_place}
-use Rattle.mc_plan.specs.Plans.{value_acts, fill_acts, renew_acts, remove_acts, moves_acts}
+use Rattle.mc_plan.specs.Plans.{payload_acts, value_acts, fill_acts, renew_acts, remove_acts, moves_acts}
 use Rattle.mc_search.specs.Readable.{IsFilled, IsPlaced}
 use Rattle.mc_plan.specs.Puts.{CanPut, TakesItem, put_acts}
 use Rattle.mc_words.proofs.Frames.{empty_names_none}
 use Rattle.mc_theory.proofs.Lists.Bounds.{opening_counted}
 use Rattle.mc_theory.proofs.Invariant.EachState.{opening_holds, zeros}
 use Rattle.mc_plan.proofs.Puts.NamedItems.{GivesItem, slot_given, kept_free, kept_named}
-use Rattle.mc_plan.proofs.Deeds.QuietStates.{agrees_quiet, keys_quiet, absent_held, stands_held, marked}
+use Rattle.mc_plan.proofs.Deeds.QuietStates.{at_length, agrees_quiet, keys_quiet, absent_held, stands_held, marked}
 use Rattle.mc_plan.proofs.Deeds.Removals.{removes}
 use Rattle.mc_plan.proofs.Deeds.Renewals.{renews}
 use Rattle.mc_plan.proofs.Puts.MadeRoom.{puts_room}
@@ -55,18 +56,21 @@ deeds_value : (i j : ℕ) (v : List ℕ) → AreOfDeeds (value_acts i j v)
 deeds_value i j [] = tt
 deeds_value i j (x ∷ xs) = (tt, deeds_value i (j + 1) xs)
 
-deeds_renew : (k : ℕ) (v : List ℕ) (i : ℕ) → AreOfDeeds (renew_acts k v i)
-deeds_renew k v i = (tt, deeds_then (value_acts i 1 v) _ (deeds_value i 1 v) (tt, (tt, tt)))
+deeds_payload : (i : ℕ) (v : List ℕ) (at : ℕ) → AreOfDeeds (payload_acts i v at)
+deeds_payload i v at = deeds_then (value_acts i 1 v) _ (deeds_value i 1 v) (tt, tt)
 
-deeds_fill : (sh : Shape) (k : ℕ) (v : List ℕ) (i : ℕ) (p : Place) → AreOfDeeds (fill_acts sh k v i p)
-deeds_fill sh k v i p = (tt, (tt, deeds_then (value_acts i 1 v) _ (deeds_value i 1 v) (tt, (tt, (tt, tt)))))
+deeds_renew : (k : ℕ) (v : List ℕ) (at i : ℕ) → AreOfDeeds (renew_acts k v at i)
+deeds_renew k v at i = (tt, deeds_then (payload_acts i v at) _ (deeds_payload i v at) (tt, (tt, tt)))
+
+deeds_fill : (sh : Shape) (k : ℕ) (v : List ℕ) (at i : ℕ) (p : Place) → AreOfDeeds (fill_acts sh k v at i p)
+deeds_fill sh k v at i p = (tt, (tt, deeds_then (payload_acts i v at) _ (deeds_payload i v at) (tt, (tt, (tt, tt)))))
 
 deeds_moves : (V : ℕ) (sh : Shape) (w : List ℕ) (ps : List Place) (hole : Place) → AreOfDeeds (moves_acts V sh w ps hole)
 deeds_moves V sh w [] hole = tt
 deeds_moves V sh w (p ∷ ps) hole = deeds_then (moves_acts V sh w ps hole) _ (deeds_moves V sh w ps hole) (tt, (tt, (tt, (tt, tt))))
 
-pub deeds_put : (V : ℕ) (sh : Shape) (w : List ℕ) (k : ℕ) (v : List ℕ) (i : ℕ) (ps : List Place) (hole : Place) → AreOfDeeds (put_acts V sh w k v i ps hole)
-deeds_put V sh w k v i ps hole = deeds_then (moves_acts V sh w ps hole) _ (deeds_moves V sh w ps hole) (deeds_fill sh k v i (first_place ps hole))
+pub deeds_put : (V : ℕ) (sh : Shape) (w : List ℕ) (k : ℕ) (v : List ℕ) (at i : ℕ) (ps : List Place) (hole : Place) → AreOfDeeds (put_acts V sh w k v at i ps hole)
+deeds_put V sh w k v at i ps hole = deeds_then (moves_acts V sh w ps hole) _ (deeds_moves V sh w ps hole) (deeds_fill sh k v at i (first_place ps hole))
 
 -- ---- the moment after one change more
 moment_after : (V : ℕ) (s t : State V) (at : ℕ) (change : Change V) (sh : Shape) → IsQuiet V sh s → t.history ≡ s.history ++ change ∷ [] → at ≡ moment s.words + 1 → at ≡ length t.history
@@ -74,6 +78,12 @@ moment_after V s t at change sh quiet grows is =
     let now = (agrees_quiet V sh s quiet).at_moment in
     let more = length-append s.history (change ∷ []) in
     omega (arith, is, now, more, ap length grows)
+
+-- the moments that come next have 64 bits: each change took two version changes, and they are within the limit
+pub next_word : (V : ℕ) (b : Books) (s : State V) (at : ℕ) → AreBooksOf V b s → at ≤ moment s.words + 2 → IsWord at
+next_word V b s at old l =
+    let now = at_length V (shape_of b.checked) s old.quiet in
+    omega (arith, l, now, old.quiet.counted.moments, ap close_owed old.quiet.quiet, old.limit, b.checked.sound.limit)
 
 -- ---- the books after a plan
 -- the state after it, where its version changes were counted
@@ -115,32 +125,36 @@ free_kept V b s x old kept = record {
   named = λ i l f. let n = old.named i l f in (n.0, kept_named (shape_of b.checked) s.words x n.0 i kept n.1);
 }
 
--- a key that stands somewhere is renewed there
-pub renewal_planned : (V : ℕ) (b : Books) (k : ℕ) (v : List ℕ) (i at : ℕ) (s : State V) (q : ℕ) → IsShape (shape_of b.checked) → IsWord k → IsValue V v → AreBooksOf V b s → Stands V (shape_of b.checked) s.words k q i
-    → (PutIsSpent (shape_of b.checked) (quiet_of s) → ⊥) → s.version_steps + 2 ≤ (shape_of b.checked).limit → at ≡ moment s.words + 1
-    → IsPlanned V (record b { version_steps = b.version_steps + 2 }) (renew_acts k v i ++ Mark i ∷ []) (PutCall k v) s s (answer.Put (Ok (put.Renewed at)))
-renewal_planned V b k v i at s q shape key value old stands unspent limit is =
+-- what a renewal makes of the table is what the answer means, whatever the call
+abbrev TellsRenewal : (V : ℕ) → Shape → Call → Answer → State V → ℕ → List ℕ → ℕ → Type 0
+TellsRenewal V sh call told s k v at = (t : State V) → means.Grows V (quiet_of s) (quiet_of t) (Put k v ∷ []) 2 → t.hand ≡ s.hand → at ≡ length t.history → Means sh call told s t
+
+pub renewal_made : (V : ℕ) (b : Books) (k : ℕ) (v : List ℕ) (i at : ℕ) (s : State V) (q : ℕ) (call : Call) (told : Answer) → IsShape (shape_of b.checked) → IsWord k → IsValue V v → AreBooksOf V b s → Stands V (shape_of b.checked) s.words k q i
+    → s.version_steps + 2 ≤ (shape_of b.checked).limit → at ≡ moment s.words + 1 → TellsRenewal V (shape_of b.checked) call told s k v at → ((w : List ℕ) (acts : List Act) → MarksLast V (shape_of b.checked) w k acts → Marks V (shape_of b.checked) w call told acts)
+    → IsPlanned V (record b { version_steps = b.version_steps + 2 }) (renew_acts k v at i ++ Mark i ∷ []) call s s told
+renewal_made V b k v i at s q call told shape key value old stands limit is tells marks =
     let sh = shape_of b.checked in
-    let acts = renew_acts k v i in
+    let acts = renew_acts k v at i in
     let t = state_after_acts V sh s acts in
-    let law = renews V sh k v i shape key value.0 value.1 s q old.quiet stands in
+    let law = renews V sh k v at i shape key value.0 value.1 (next_word V b s at old (omega (arith, is))) s q old.quiet stands is in
     let makes = law.0 in
     let walk = marked V sh s acts (Put k v ∷ []) 2 i makes stands.names.in_items in
-    let told = answer.Put (Ok (put.Renewed at)) in
-    let renewed : means.Renews V sh (quiet_of s) (quiet_of t) k v at = record {
-      unspent = unspent;
-      present = stands_held V sh s k q i old.quiet stands;
-      grows = record { history = makes.history; version_steps = makes.version_steps };
-      hand = makes.hand;
-      moment = moment_after V s t at (Put k v) sh old.quiet makes.history is;
-    } in
+    let renewed = tells t (record { history = makes.history; version_steps = makes.version_steps }) makes.hand (moment_after V s t at (Put k v) sh old.quiet makes.history is) in
     let ends : Ends V b s t 2 = record { quiet = makes.quiet; version_steps = makes.version_steps; hand = makes.hand; limit = limit } in
     record {
       allowed = walk.allowed;
-      means = subst (λ (x : State V). Means sh (PutCall k v) told s x) (sym walk.leads) renewed;
-      marks = record { before = acts; slot = q; item = i; last = refl; deeds = deeds_renew k v i; stands = subst (λ (x : State V). Stands V sh x.words k q i) (sym walk.leads) law.1 };
+      means = subst (λ (x : State V). Means sh call told s x) (sym walk.leads) renewed;
+      marks = marks _ _ (record { before = acts; slot = q; item = i; last = refl; deeds = deeds_renew k v at i; stands = subst (λ (x : State V). Stands V sh x.words k q i) (sym walk.leads) law.1 });
       ends = subst (λ (x : State V). AreBooksOf V (record b { version_steps = b.version_steps + 2 }) x) (sym walk.leads) (books_after V b s t 2 b.free old ends (free_kept V b s t.words old law.2));
     }
+
+pub renewal_planned : (V : ℕ) (b : Books) (k : ℕ) (v : List ℕ) (i at : ℕ) (s : State V) (q : ℕ) → IsShape (shape_of b.checked) → IsWord k → IsValue V v → AreBooksOf V b s → Stands V (shape_of b.checked) s.words k q i
+    → (PutIsSpent (shape_of b.checked) (quiet_of s) → ⊥) → s.version_steps + 2 ≤ (shape_of b.checked).limit → at ≡ moment s.words + 1
+    → IsPlanned V (record b { version_steps = b.version_steps + 2 }) (renew_acts k v at i ++ Mark i ∷ []) (PutCall k v) s s (answer.Put (Ok (put.Renewed at)))
+renewal_planned V b k v i at s q shape key value old stands unspent limit is =
+    renewal_made V b k v i at s q (PutCall k v) (answer.Put (Ok (put.Renewed at))) shape key value old stands limit is
+    (λ t grows hand now. record { unspent = unspent; present = stands_held V (shape_of b.checked) s k q i old.quiet stands; grows = grows; hand = hand; moment = now })
+    (λ w acts m. m)
 
 -- ---- a removal
 free_given : (V : ℕ) (b : Books) (s : State V) (x : List ℕ) (free : FreeItems) (i : ℕ) → AreBooksOf V b s → IsConsistent free → free.items ≡ b.free.items → GivesBack b.free free i → GivesItem (shape_of b.checked) s.words x i → FreeAfter V b free x
@@ -207,15 +221,15 @@ pub stored_planned : (V : ℕ) (b : Books) (k : ℕ) (v : List ℕ) (i at : ℕ)
     → IsAbsent V (shape_of b.checked) s.words k → IsLeastPath (shape_of b.checked) s.words k path → AreKeys V (shape_of b.checked) s.words path.places.items → i < (shape_of b.checked).items
     → (PutIsSpent (shape_of b.checked) (quiet_of s) → ⊥) → at ≡ moment s.words + 1
     → IsFreeIn b.free i → IsConsistent free → free.items ≡ b.free.items → TakesFree b.free free i
-    → IsPlanned V (record b { free = free; version_steps = b.version_steps + (2 * length path.places.items + 2) }) (put_acts V (shape_of b.checked) s.words k v i path.places.items path.hole ++ Mark i ∷ []) (PutCall k v) s s (answer.Put (Ok (put.Stored at (length path.places.items) None)))
+    → IsPlanned V (record b { free = free; version_steps = b.version_steps + (2 * length path.places.items + 2) }) (put_acts V (shape_of b.checked) s.words k v at i path.places.items path.hole ++ Mark i ∷ []) (PutCall k v) s s (answer.Put (Ok (put.Stored at (length path.places.items) None)))
 stored_planned V b k v i at path free s shape key value old absent least keys in_items unspent is was kept items takes =
     let sh = shape_of b.checked in
     let ps = path.places.items in
-    let acts = put_acts V sh s.words k v i ps path.hole in
+    let acts = put_acts V sh s.words k v at i ps path.hole in
     let t = state_after_acts V sh s acts in
     let steps = 2 * length ps + 2 in
     let can : CanPut V sh s.words k i ps path.hole = record { absent = absent; in_items = in_items; free = old.free i was; chain = least.chain; keys = keys } in
-    let law = puts_room V sh s k v i ps path.hole shape key value old.quiet can in
+    let law = puts_room V sh s k v at i ps path.hole shape key value (next_word V b s at old (omega (arith, is))) old.quiet can is in
     let makes = law.0 in
     let walk = marked V sh s acts (Put k v ∷ []) steps i makes in_items in
     let told = answer.Put (Ok (put.Stored at (length ps) None)) in
@@ -234,7 +248,7 @@ stored_planned V b k v i at path free s shape key value old absent least keys in
     record {
       allowed = walk.allowed;
       means = subst (λ (x : State V). Means sh (PutCall k v) told s x) (sym walk.leads) stored;
-      marks = record { before = acts; slot = slot_number (first_place ps path.hole); item = i; last = refl; deeds = deeds_put V sh s.words k v i ps path.hole; stands = subst (λ (x : State V). Stands V sh x.words k (slot_number (first_place ps path.hole)) i) (sym walk.leads) law.1 };
+      marks = record { before = acts; slot = slot_number (first_place ps path.hole); item = i; last = refl; deeds = deeds_put V sh s.words k v at i ps path.hole; stands = subst (λ (x : State V). Stands V sh x.words k (slot_number (first_place ps path.hole)) i) (sym walk.leads) law.1 };
       ends = subst (λ (x : State V). AreBooksOf V (record b { free = free; version_steps = b.version_steps + steps }) x) (sym walk.leads) (books_after V b s t steps free old ends (free_taken V b s t.words free i old kept items takes law.2));
     }
 

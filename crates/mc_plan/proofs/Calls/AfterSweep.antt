@@ -28,7 +28,7 @@ use Rattle.mc_plan.specs.Moves.{AreKeys}
 use Rattle.mc_search.specs.Paths.{IsCut, first_place}
 use Rattle.mc_plan.specs.Replacing.{CanReplace, replace_acts}
 use Rattle.mc_search.specs.Sweeps.{Swept, IsOver, victim_of}
-use Rattle.mc_plan.proofs.Calls.AfterPlan.{deeds_put, needs_item}
+use Rattle.mc_plan.proofs.Calls.AfterPlan.{deeds_put, needs_item, next_word}
 use Rattle.mc_plan.proofs.Calls.MidSweep.{hands_may}
 use Rattle.mc_plan.proofs.Deeds.QuietStates.{agrees_quiet, keys_quiet, marked, stands_held}
 use Rattle.mc_plan.proofs.Puts.Replacements.{evictions_room}
@@ -107,8 +107,8 @@ cut_few victim places hole kept end (inl cut) =
     omega (arith, ap length cut.1, many)
 cut_few victim places hole kept end (inr cut) = omega (arith, ap length cut.1)
 
-deeds_replace : (V : ℕ) (sh : Shape) (w : List ℕ) (k : ℕ) (v : List ℕ) (i e : ℕ) (p : Place) (kept : List Place) (end : Place) → AreOfDeeds (replace_acts V sh w k v i e p kept end)
-deeds_replace V sh w k v i e p kept end = (tt, (tt, (tt, (tt, deeds_put V sh w k v i kept end))))
+deeds_replace : (V : ℕ) (sh : Shape) (w : List ℕ) (k : ℕ) (v : List ℕ) (at i e : ℕ) (p : Place) (kept : List Place) (end : Place) → AreOfDeeds (replace_acts V sh w k v at i e p kept end)
+deeds_replace V sh w k v at i e p kept end = (tt, (tt, (tt, (tt, deeds_put V sh w k v at i kept end))))
 
 -- the moment after two changes more
 two_more : (V : ℕ) (sh : Shape) (s t : State V) (at : ℕ) (one two : Change V) → IsQuiet V sh s → t.history ≡ s.history ++ one ∷ two ∷ [] → at ≡ moment s.words + 2 → at ≡ length t.history
@@ -117,7 +117,7 @@ two_more V sh s t at one two quiet grows is =
     let more = length-append s.history (one ∷ two ∷ []) in
     omega (arith, is, now, more, ap length grows)
 
-module _ (V : ℕ) (b : Books) (waiting : Waiting V) (call : Call) (s : State V) (rs : List Swept) (i : ℕ) (on : IsReplacing V b waiting call s rs i) where
+module _ (V : ℕ) (b : Books) (waiting : Waiting V) (call : Call) (s : State V) (rs : List Swept) (i at : ℕ) (on : IsReplacing V b waiting call s rs i) where
   abbrev pub sh : Shape
   sh = shape_of b.checked
 
@@ -125,7 +125,7 @@ module _ (V : ℕ) (b : Books) (waiting : Waiting V) (call : Call) (s : State V)
   mid = state_after_sweep V sh s rs
 
   abbrev pub acts_for : ℕ → Place → List Place → Place → List Act
-  acts_for e p kept end = replace_acts V sh mid.words waiting.key waiting.value i e p kept end
+  acts_for e p kept end = replace_acts V sh mid.words waiting.key waiting.value at i e p kept end
 
   -- what the eviction, the moves and the fill make
   record Replaced (e : ℕ) (p : Place) (kept : List Place) (end : Place) : Type 0 where
@@ -133,8 +133,9 @@ module _ (V : ℕ) (b : Books) (waiting : Waiting V) (call : Call) (s : State V)
     stands : Stands V sh (state_after_acts V sh mid (acts_for e p kept end)).words waiting.key (slot_number (first_place kept end)) i
     named : KeepsNamed sh mid.words (state_after_acts V sh mid (acts_for e p kept end)).words
 
-  replaced : (e : ℕ) (p : Place) (kept : List Place) (end : Place) → All IsWord waiting.value → IsWord e → IsPlace sh p → Stands V sh mid.words e (slot_number p) i → IsCut p waiting.path.places.items waiting.path.hole kept end → AreKeys V sh mid.words kept → Replaced e p kept end
-  replaced e p kept end words word place stands cut keys =
+  replaced : (e : ℕ) (p : Place) (kept : List Place) (end : Place) → All IsWord waiting.value → IsWord e → IsPlace sh p → Stands V sh mid.words e (slot_number p) i → IsCut p waiting.path.places.items waiting.path.hole kept end → AreKeys V sh mid.words kept
+      → at ≡ moment mid.words + 2 → Replaced e p kept end
+  replaced e p kept end words word place stands cut keys is =
       let sweeping = on.sweeping in
       let waits = sweeping.waits in
       let same = (swept_still V sh s rs).words in
@@ -148,7 +149,8 @@ module _ (V : ℕ) (b : Books) (waiting : Waiting V) (call : Call) (s : State V)
         cut = cut;
         keys = keys;
       } in
-      let law = evictions_room V sh mid waiting.key waiting.value i e p waiting.path.places.items waiting.path.hole kept end b.checked.sound sweeping.key word (sweeping.wide, words) quiet cleared can in
+      let next = next_word V (record b { hand = on.before }) s at waits.known (omega (arith, is, ap moment same)) in
+      let law = evictions_room V sh mid waiting.key waiting.value at i e p waiting.path.places.items waiting.path.hole kept end b.checked.sound sweeping.key word (sweeping.wide, words) next quiet cleared can is in
       record { makes = law.0; stands = law.1; named = law.2 }
 
   -- the books after it
@@ -178,9 +180,9 @@ module _ (V : ℕ) (b : Books) (waiting : Waiting V) (call : Call) (s : State V)
       }
 
   -- what its answer means
-  replaced_means : (e : ℕ) (p : Place) (kept : List Place) (end : Place) (at : ℕ) → Replaced e p kept end → length kept ≤ length waiting.path.places.items → Stands V sh mid.words e (slot_number p) i → at ≡ moment mid.words + 2
+  replaced_means : (e : ℕ) (p : Place) (kept : List Place) (end : Place) → Replaced e p kept end → length kept ≤ length waiting.path.places.items → Stands V sh mid.words e (slot_number p) i → at ≡ moment mid.words + 2
       → means.Replaces V sh (quiet_of s) (quiet_of (state_after_acts V sh mid (acts_for e p kept end))) waiting.key waiting.value at (length kept) e
-  replaced_means e p kept end at r few stands is =
+  replaced_means e p kept end r few stands is =
       let waits = on.sweeping.waits in
       let still = swept_still V sh s rs in
       let needs = needs_item V (record b { hand = on.before }) s waiting.key waiting.path waits.known waits.unspent waits.absent waits.least waits.none in
@@ -193,13 +195,13 @@ module _ (V : ℕ) (b : Books) (waiting : Waiting V) (call : Call) (s : State V)
         moment = two_more V sh s (state_after_acts V sh mid (acts_for e p kept end)) at (Evict e) (Put waiting.key waiting.value) waits.known.quiet grown (is ∙ ap (λ (w : List ℕ). moment w + 2) still.words);
       }
 
-  pub replaced_planned : (e : ℕ) (p : Place) (kept : List Place) (end : Place) (at changes : ℕ) → All IsWord waiting.value → IsWord e → IsPlace sh p → Stands V sh mid.words e (slot_number p) i → IsCut p waiting.path.places.items waiting.path.hole kept end → AreKeys V sh mid.words kept
+  pub replaced_planned : (e : ℕ) (p : Place) (kept : List Place) (end : Place) (changes : ℕ) → All IsWord waiting.value → IsWord e → IsPlace sh p → Stands V sh mid.words e (slot_number p) i → IsCut p waiting.path.places.items waiting.path.hole kept end → AreKeys V sh mid.words kept
       → at ≡ moment mid.words + 2 → changes ≡ b.version_steps + (2 * length kept + 4)
       → IsPlanned V (record b { version_steps = changes }) (acts_for e p kept end ++ Mark i ∷ []) call s mid (answer.Put (Ok (put.Stored at (length kept) (Some e)))) × IsSweepOf V sh s rs (answer.Put (Ok (put.Stored at (length kept) (Some e))))
-  replaced_planned e p kept end at changes words word place stands cut keys is counts =
+  replaced_planned e p kept end changes words word place stands cut keys is counts =
       let sweeping = on.sweeping in
       let few = cut_few p waiting.path.places.items waiting.path.hole kept end cut in
-      let r = replaced e p kept end words word place stands cut keys in
+      let r = replaced e p kept end words word place stands cut keys is in
       let t = state_after_acts V sh mid (acts_for e p kept end) in
       let below = (victim_stands V b waiting call s rs i on).0 in
       let walk = marked V sh mid (acts_for e p kept end) (Evict e ∷ Put waiting.key waiting.value ∷ []) (2 * length kept + 4) i r.makes below in
@@ -207,13 +209,13 @@ module _ (V : ℕ) (b : Books) (waiting : Waiting V) (call : Call) (s : State V)
       let put_call = PutCall waiting.key waiting.value in
       let planned : IsPlanned V (record b { version_steps = changes }) (acts_for e p kept end ++ Mark i ∷ []) put_call s mid told = record {
         allowed = walk.allowed;
-        means = subst (λ (x : State V). Means sh put_call told s x) (sym walk.leads) (replaced_means e p kept end at r few stands is);
+        means = subst (λ (x : State V). Means sh put_call told s x) (sym walk.leads) (replaced_means e p kept end r few stands is);
         marks = record {
           before = acts_for e p kept end;
           slot = slot_number (first_place kept end);
           item = i;
           last = refl;
-          deeds = deeds_replace V sh mid.words waiting.key waiting.value i e p kept end;
+          deeds = deeds_replace V sh mid.words waiting.key waiting.value at i e p kept end;
           stands = subst (λ (x : State V). Stands V sh x.words waiting.key (slot_number (first_place kept end)) i) (sym walk.leads) r.stands;
         };
         ends = subst (λ (x : State V). AreBooksOf V (record b { version_steps = changes }) x) (sym walk.leads) (replaced_books e p kept end changes r few counts);

@@ -6,6 +6,8 @@ use Rattle.std.proofs.lemmas.List.{map-append, nil_from_length}
 use Rattle.mc_words.specs.declared.shape.Shape.{Shape}
 use Rattle.mc_words.specs.Answers.{Quiet}
 use Rattle.mc_words.specs.Chains.{IsLeastLength, NoChain}
+use Rattle.mc_words.specs.History.{since_of}
+use Rattle.mc_words.proofs.Payload.{since_of-push}
 use Rattle.mc_theory.specs.Effects.{after_act}
 use Rattle.mc_theory.specs.Lists.{Made, AreAllowed, after_all}
 use Rattle.mc_theory.specs.Phases as phase
@@ -16,6 +18,8 @@ use Rattle.mc_theory.proofs.Lists.Fronts.{after_all-append}
 use Rattle.mc_search.specs.Sweeps.{Swept, hand_acts, victim_of}
 use Rattle.mc_plan.specs.declared.answer.Answer.{Answer}
 use Rattle.mc_plan.specs.declared.answer.Answer.TheVariants as answer
+use Rattle.mc_plan.specs.declared.answer.IfError.{IfError}
+use Rattle.mc_plan.specs.declared.answer.IfError.TheVariants as unmet
 use Rattle.mc_plan.specs.declared.answer.Put.{Put}
 use Rattle.mc_plan.specs.declared.answer.Put.TheVariants as put
 use Rattle.mc_plan.specs.declared.answer.PutError.{PutError}
@@ -23,7 +27,7 @@ use Rattle.mc_plan.specs.declared.answer.PutError.TheVariants as why
 use Rattle.mc_plan.specs.declared.answer.Remove.{Remove}
 use Rattle.mc_plan.specs.declared.answer.Remove.TheVariants as remove
 use Rattle.mc_plan.specs.declared.answer.Spent.{Spent}
-use Rattle.mc_plan.specs.WholeCalls.{Answered, AreOfDeeds, Call, PutCall, RemoveCall, Marks, acts_of, quiet_of}
+use Rattle.mc_plan.specs.WholeCalls.{Answered, AreOfDeeds, Call, PutCall, PutIfCall, RemoveCall, Marks, MarksLast, acts_of, quiet_of}
 use Rattle.mc_plan.specs.Ends.{CallsEndOnce}
 use Rattle.mc_plan.proofs.Calls.CanEnd.{many_acts}
 use Rattle.mc_plan.proofs.Calls.ActKinds.{Each, IsUnmarked, IsUnswept, deeds_after, deeds_cost, deeds_unmarked, deeds_unswept, each_then, hands_unmarked, mark_ends, same_sweep}
@@ -68,17 +72,25 @@ deeds_marked rs others deeds = record {
   one = omega arith;
 }
 
--- so it is with a call whose marks are right
-ends_marked : (V : ℕ) (sh : Shape) (w : List ℕ) (call : Call) (told : Answer) (rs : List Swept) (others : List Act) → Marks V sh w call told others → EndsMarked (acts_of (hand_acts rs) ++ others)
-ends_marked V sh w (PutCall k v) (answer.Put (Ok put)) rs others marks = record {
+-- and those of a put that succeeds have one at the end
+last_marked : (V : ℕ) (sh : Shape) (w : List ℕ) (k : ℕ) (rs : List Swept) (others : List Act) → MarksLast V sh w k others → EndsMarked (acts_of (hand_acts rs) ++ others)
+last_marked V sh w k rs others marks = record {
   front = acts_of (hand_acts rs) ++ marks.before;
   last = Mark marks.item ∷ [];
   parts = ap (λ (l : List Act). acts_of (hand_acts rs) ++ l) marks.last ∙ sym (append_assoc (acts_of (hand_acts rs)) marks.before (Mark marks.item ∷ []));
   none = each_then IsUnmarked (acts_of (hand_acts rs)) marks.before (hands_unmarked rs) (deeds_unmarked marks.before marks.deeds);
   one = omega arith;
 }
+
+ends_marked : (V : ℕ) (sh : Shape) (w : List ℕ) (call : Call) (told : Answer) (rs : List Swept) (others : List Act) → Marks V sh w call told others → EndsMarked (acts_of (hand_acts rs) ++ others)
+ends_marked V sh w (PutCall k v) (answer.Put (Ok put)) rs others marks = last_marked V sh w k rs others marks
 ends_marked V sh w (PutCall k v) (answer.Put (Err why)) rs others marks = deeds_marked rs others marks
+ends_marked V sh w (PutCall k v) (answer.PutIf told) rs others marks = absurd marks
 ends_marked V sh w (PutCall k v) (answer.Remove told) rs others marks = absurd marks
+ends_marked V sh w (PutIfCall k since v) (answer.PutIf (Ok at)) rs others marks = last_marked V sh w k rs others marks
+ends_marked V sh w (PutIfCall k since v) (answer.PutIf (Err why)) rs others marks = deeds_marked rs others marks
+ends_marked V sh w (PutIfCall k since v) (answer.Put told) rs others marks = absurd marks
+ends_marked V sh w (PutIfCall k since v) (answer.Remove told) rs others marks = absurd marks
 ends_marked V sh w (RemoveCall k) told rs others marks = deeds_marked rs others marks
 
 -- the acts of a call as those of its sweep and the others
@@ -86,15 +98,14 @@ parts_of : (V : ℕ) (sh : Shape) (call : Call) (s : State V) (acts : List Made)
 parts_of V sh call s acts told c = ap (λ (l : List Made). acts_of l) c.parts ∙ acts_then (hand_acts c.sweep) c.others
 
 -- a put that succeeds ends with its mark, and nothing comes after it
-stored_once : (V : ℕ) (sh : Shape) (k : ℕ) (v : List ℕ) (s : State V) (acts more : List Made) (told : Put) (b : Answer) → Answered V sh (PutCall k v) s acts (answer.Put (Ok told)) → Answered V sh (PutCall k v) s (acts ++ more) b → more ≡ []
-stored_once V sh k v s acts more told b one two =
+stored_once : (V : ℕ) (sh : Shape) (call : Call) (w : List ℕ) (k : ℕ) (s : State V) (acts more : List Made) (a b : Answer) (one : Answered V sh call s acts a) → MarksLast V sh w k (acts_of one.others) → Answered V sh call s (acts ++ more) b → more ≡ []
+stored_once V sh call w k s acts more a b one marks two =
     let hands = acts_of (hand_acts one.sweep) in
-    let marks = one.marks in
     let end : List Act = Mark marks.item ∷ [] in
-    let ends = ends_marked V sh (after_all sh s (acts ++ more)).words (PutCall k v) b two.sweep (acts_of two.others) two.marks in
-    let first : acts_of acts ≡ (hands ++ marks.before) ++ end = parts_of V sh (PutCall k v) s acts (answer.Put (Ok told)) one ∙ ap (λ (l : List Act). hands ++ l) marks.last ∙ sym (append_assoc hands marks.before end) in
+    let ends = ends_marked V sh (after_all sh s (acts ++ more)).words call b two.sweep (acts_of two.others) two.marks in
+    let first : acts_of acts ≡ (hands ++ marks.before) ++ end = parts_of V sh call s acts a one ∙ ap (λ (l : List Act). hands ++ l) marks.last ∙ sym (append_assoc hands marks.before end) in
     let same : (hands ++ marks.before) ++ Mark marks.item ∷ acts_of more ≡ ends.front ++ ends.last =
-    sym (append_assoc (hands ++ marks.before) end (acts_of more)) ∙ ap (λ (l : List Act). l ++ acts_of more) (sym first) ∙ sym (acts_then acts more) ∙ parts_of V sh (PutCall k v) s (acts ++ more) b two ∙ ends.parts in
+    sym (append_assoc (hands ++ marks.before) end (acts_of more)) ∙ ap (λ (l : List Act). l ++ acts_of more) (sym first) ∙ sym (acts_then acts more) ∙ parts_of V sh call s (acts ++ more) b two ∙ ends.parts in
     none_made more (mark_ends (hands ++ marks.before) (acts_of more) ends.front ends.last marks.item same ends.none ends.one)
 
 -- ---- a call that changes nothing
@@ -164,7 +175,7 @@ chain_within sh w k depth count none least within =
 
 -- ---- each pair of answers
 put_once : (V : ℕ) (sh : Shape) (k : ℕ) (v : List ℕ) (s : State V) (acts more : List Made) (a b : Result Put PutError) → Answered V sh (PutCall k v) s acts (answer.Put a) → Answered V sh (PutCall k v) s (acts ++ more) (answer.Put b) → more ≡ []
-put_once V sh k v s acts more (Ok told) b one two = stored_once V sh k v s acts more told (answer.Put b) one two
+put_once V sh k v s acts more (Ok told) b one two = stored_once V sh (PutCall k v) _ k s acts more (answer.Put (Ok told)) (answer.Put b) one one.marks two
 put_once V sh k v s acts more (Err e) (Err why.NoPath) one two = still_once V sh (PutCall k v) s acts more (answer.Put (Err why.NoPath)) two two.marks two.means.unchanged two.sweeps
 put_once V sh k v s acts more (Err e) (Err why.Spent) one two = still_once V sh (PutCall k v) s acts more (answer.Put (Err why.Spent)) two two.marks two.means.1 two.sweeps
 put_once V sh k v s acts more (Err why.AllRecent) (Err why.AllRecent) one two = recent_once V sh k v s acts more one two
@@ -180,7 +191,21 @@ put_once V sh k v s acts more (Err why.Spent) (Ok (put.Stored at moves (Some evi
 put_once V sh k v s acts more (Err why.Spent) (Ok (put.Stored at moves None)) one two = absurd (two.means.unspent one.means.0)
 put_once V sh k v s acts more (Err why.Spent) (Ok (put.Renewed at)) one two = absurd (two.means.unspent one.means.0)
 
--- a removal that has been answered makes no more acts
+-- a key has one stamp
+one_stamp : (V : ℕ) (o : Option (List ℕ)) (v u : List ℕ) (m n : ℕ) → o ≡ Some (v ++ m ∷ []) → o ≡ Some (u ++ n ∷ []) → length v ≡ V → length u ≡ V → m ≡ n
+one_stamp V o v u m n one two few many =
+    let same : v ++ m ∷ [] ≡ u ++ n ∷ [] = cc (sym one ∙ two) in
+    sym (since_of-push V m v few) ∙ ap (since_of V) same ∙ since_of-push V n u many
+
+if_once : (V : ℕ) (sh : Shape) (k since : ℕ) (v : List ℕ) (s : State V) (acts more : List Made) (a b : Result ℕ IfError) → Answered V sh (PutIfCall k since v) s acts (answer.PutIf a) → Answered V sh (PutIfCall k since v) s (acts ++ more) (answer.PutIf b) → more ≡ []
+if_once V sh k since v s acts more (Ok at) b one two = stored_once V sh (PutIfCall k since v) _ k s acts more (answer.PutIf (Ok at)) (answer.PutIf b) one one.marks two
+if_once V sh k since v s acts more (Err e) (Err unmet.Spent) one two = still_once V sh (PutIfCall k since v) s acts more (answer.PutIf (Err unmet.Spent)) two two.marks two.means.1 two.sweeps
+if_once V sh k since v s acts more (Err e) (Err (unmet.NotThere at)) one two = still_once V sh (PutIfCall k since v) s acts more (answer.PutIf (Err (unmet.NotThere at))) two two.marks two.means.unchanged two.sweeps
+if_once V sh k since v s acts more (Err e) (Err (unmet.Changed stands)) one two = still_once V sh (PutIfCall k since v) s acts more (answer.PutIf (Err (unmet.Changed stands))) two two.marks two.means.unchanged two.sweeps
+if_once V sh k since v s acts more (Err unmet.Spent) (Ok at) one two = absurd (two.means.unspent one.means.0)
+if_once V sh k since v s acts more (Err (unmet.NotThere before)) (Ok at) one two = absurd (cc (sym one.means.absent ∙ two.means.held))
+if_once V sh k since v s acts more (Err (unmet.Changed stands)) (Ok at) one two = absurd (one.means.other (one_stamp V _ one.means.value two.means.value stands since one.means.held two.means.held one.means.size two.means.size))
+
 remove_once : (V : ℕ) (sh : Shape) (k : ℕ) (s : State V) (acts more : List Made) (a b : Result Remove Spent) → Answered V sh (RemoveCall k) s acts (answer.Remove a) → Answered V sh (RemoveCall k) s (acts ++ more) (answer.Remove b) → more ≡ []
 remove_once V sh k s acts more a (Ok (remove.NotThere at)) one two = still_once V sh (RemoveCall k) s acts more (answer.Remove (Ok (remove.NotThere at))) two two.marks two.means.unchanged two.sweeps
 remove_once V sh k s acts more a (Err spent) one two = still_once V sh (RemoveCall k) s acts more (answer.Remove (Err spent)) two two.marks two.means.1 two.sweeps
@@ -190,8 +215,17 @@ remove_once V sh k s acts more (Err spent) (Ok (remove.Removed after)) one two =
 
 pub ends_once : (V : ℕ) → CallsEndOnce V
 ends_once V sh (PutCall k v) s acts more (answer.Put a) (answer.Put b) one two = put_once V sh k v s acts more a b one two
+ends_once V sh (PutCall k v) s acts more (answer.Put a) (answer.PutIf b) one two = absurd two.means
 ends_once V sh (PutCall k v) s acts more (answer.Put a) (answer.Remove b) one two = absurd two.means
+ends_once V sh (PutCall k v) s acts more (answer.PutIf a) b one two = absurd one.means
 ends_once V sh (PutCall k v) s acts more (answer.Remove a) b one two = absurd one.means
+ends_once V sh (PutIfCall k since v) s acts more (answer.PutIf a) (answer.PutIf b) one two = if_once V sh k since v s acts more a b one two
+ends_once V sh (PutIfCall k since v) s acts more (answer.PutIf a) (answer.Put b) one two = absurd two.means
+ends_once V sh (PutIfCall k since v) s acts more (answer.PutIf a) (answer.Remove b) one two = absurd two.means
+ends_once V sh (PutIfCall k since v) s acts more (answer.Put a) b one two = absurd one.means
+ends_once V sh (PutIfCall k since v) s acts more (answer.Remove a) b one two = absurd one.means
 ends_once V sh (RemoveCall k) s acts more (answer.Remove a) (answer.Remove b) one two = remove_once V sh k s acts more a b one two
 ends_once V sh (RemoveCall k) s acts more (answer.Remove a) (answer.Put b) one two = absurd two.means
+ends_once V sh (RemoveCall k) s acts more (answer.Remove a) (answer.PutIf b) one two = absurd two.means
 ends_once V sh (RemoveCall k) s acts more (answer.Put a) b one two = absurd one.means
+ends_once V sh (RemoveCall k) s acts more (answer.PutIf a) b one two = absurd one.means

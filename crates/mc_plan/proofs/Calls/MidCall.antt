@@ -26,7 +26,7 @@ use Rattle.mc_plan.specs.declared.books.Books.{Books}
 use Rattle.mc_plan.specs.declared.clerk.Clerk.{Clerk}
 use Rattle.mc_plan.specs.declared.clerk.Stage.{Stage}
 use Rattle.mc_plan.specs.declared.clerk.Stage.TheVariants.{Idle, Sweeping, Planned}
-use Rattle.mc_plan.specs.WholeCalls.{Answered, Call, PutCall, RemoveCall, IsOfDeed, AreOfDeeds, IsSweepOf, Means, Marks, acts_of, state_after_sweep}
+use Rattle.mc_plan.specs.WholeCalls.{Answered, Call, PutCall, PutIfCall, RemoveCall, IsOfDeed, AreOfDeeds, IsSweepOf, Means, Marks, MarksLast, acts_of, state_after_sweep}
 use Rattle.mc_plan.specs.Books.{AreBooksOf, IsPlanned}
 use Rattle.mc_plan.specs.Clerks.{IsAtStage, IsOn, HasCall, Knows, MakesPlan, StageHasCall, next_act, next_in, shape_of_clerk}
 use Rattle.mc_plan.specs.Making.{IsQuiet, as_made, state_after_acts}
@@ -90,10 +90,18 @@ still_take (suc n) [] a = tt
 still_take (suc n) (x ∷ acts) a = (a.0, still_take n acts a.1)
 
 -- no act after the sweep is one of the hand
+still_last : (V : ℕ) (sh : Shape) (w : List ℕ) (k : ℕ) (acts : List Act) → MarksLast V sh w k acts → AreStill acts
+still_last V sh w k acts m = subst AreStill (sym m.last) (still_then m.before (Mark m.item ∷ []) (still_deeds m.before m.deeds) (tt, tt))
+
 pub still_marks : (V : ℕ) (sh : Shape) (w : List ℕ) (call : Call) (told : Answer) (acts : List Act) → Marks V sh w call told acts → AreStill acts
-still_marks V sh w (PutCall k v) (answer.Put (Ok put)) acts m = subst AreStill (sym m.last) (still_then m.before (Mark m.item ∷ []) (still_deeds m.before m.deeds) (tt, tt))
+still_marks V sh w (PutCall k v) (answer.Put (Ok put)) acts m = still_last V sh w k acts m
 still_marks V sh w (PutCall k v) (answer.Put (Err why)) acts m = still_deeds acts m
+still_marks V sh w (PutCall k v) (answer.PutIf told) acts m = absurd m
 still_marks V sh w (PutCall k v) (answer.Remove told) acts m = absurd m
+still_marks V sh w (PutIfCall k since v) (answer.PutIf (Ok at)) acts m = still_last V sh w k acts m
+still_marks V sh w (PutIfCall k since v) (answer.PutIf (Err why)) acts m = still_deeds acts m
+still_marks V sh w (PutIfCall k since v) (answer.Put told) acts m = absurd m
+still_marks V sh w (PutIfCall k since v) (answer.Remove told) acts m = absurd m
 still_marks V sh w (RemoveCall k) told acts m = still_deeds acts m
 
 -- ---- the next act

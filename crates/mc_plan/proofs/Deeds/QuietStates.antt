@@ -1,8 +1,9 @@
 -- Quiet states, and what a walk between two of them makes.
-use Rattle.std.proofs.Common.{ℕ, [], ◌∷◌, ◌<◌, None, refl, ◌≡◌, ◌+◌, ◌∙◌, List, ◌++◌, Option, ap, sym, subst}
+use Rattle.std.proofs.Common.{ℕ, [], ◌∷◌, ◌<◌, None, refl, ◌≡◌, ◌+◌, ◌∙◌, List, ◌++◌, Option, ap, sym, subst, length}
 use Rattle.std.specs.Option.{IsSome}
 use Rattle.mc_words.specs.declared.history.Change.{Change}
 use Rattle.mc_words.specs.declared.shape.Shape.{Shape}
+use Rattle.mc_words.specs.Places.{moment}
 use Rattle.mc_words.specs.Shapes.{IsShape}
 use Rattle.mc_words.specs.History.{map_value}
 use Rattle.mc_words.specs.Standing.{Stands, Agrees, AgreesAt, IsAbsent}
@@ -47,6 +48,13 @@ agrees_quiet V sh s quiet = subst (λ (p : Phase). Agrees V sh s.words (deed_key
 -- each key agrees with the history while nothing runs
 pub keys_quiet : (V : ℕ) (sh : Shape) (s : State V) → IsQuiet V sh s → (k : ℕ) → AgreesAt V sh s.words k (map_value s.history k)
 keys_quiet V sh s quiet k = (agrees_quiet V sh s quiet).keys k (λ e. cc)
+
+-- the moment of a quiet state is the length of its history
+pub at_length : (V : ℕ) (sh : Shape) (s : State V) → IsQuiet V sh s → moment s.words ≡ length s.history
+at_length V sh s quiet = (agrees_quiet V sh s quiet).at_moment
+
+pub same_moment : (V : ℕ) (sh : Shape) (s t : State V) → IsQuiet V sh s → IsQuiet V sh t → t.history ≡ s.history → moment t.words ≡ moment s.words
+same_moment V sh s t one two same = at_length V sh t two ∙ ap (λ (h : List (Change V)). length h) same ∙ sym (at_length V sh s one)
 
 -- a key that does not stand is not in the map, and one that stands is
 pub absent_held : (V : ℕ) (sh : Shape) (s : State V) (k : ℕ) → IsQuiet V sh s → IsAbsent V sh s.words k → map_value s.history k ≡ None

@@ -5,13 +5,17 @@ use Rattle.mc_words.specs.Keys.{stripe_of}
 use Rattle.mc_words.specs.Places.{slot, item, moment, with_item, with_moment}
 use Rattle.mc_words.specs.Shapes.{IsShape}
 use Rattle.mc_words.proofs.Keys.{stripe_of-lt}
-use Rattle.mc_words.proofs.Places.{slot-with_version, slot-with_item, slot-with_moment, item-with_version, item-with_moment, item-with_item_word, length-with_version, length-with_item}
+use Rattle.mc_words.proofs.Places.{moment-with_item, moment-with_version, slot-with_version, slot-with_item, slot-with_moment, item-with_version, item-with_moment, item-with_item_word, length-with_version, length-with_item}
 use Rattle.mc_theory.specs.Effects.{with_bump}
 
 -- the words of an item from word j on are these
 abbrev pub valued : ℕ → Shape → List ℕ → ℕ → ℕ → List ℕ → List ℕ
 valued V sh w i j [] = w
 valued V sh w i j (x ∷ xs) = valued V sh (with_item V sh w i j x) i (j + 1) xs
+
+-- a value, and behind it a stamp
+abbrev pub stamped : ℕ → Shape → List ℕ → ℕ → List ℕ → ℕ → List ℕ
+stamped V sh w i v at = with_item V sh (valued V sh w i 1 v) i (length v + 1) at
 
 -- the moment is one more, and the stripe's version too
 abbrev pub ended : Shape → List ℕ → ℕ → List ℕ
@@ -51,3 +55,21 @@ length-bumped sh w k = length-with_version w (stripe_of sh k) _
 pub length-valued : (V : ℕ) (sh : Shape) (w : List ℕ) (i j : ℕ) (xs : List ℕ) → length (valued V sh w i j xs) ≡ length w
 length-valued V sh w i j [] = refl
 length-valued V sh w i j (x ∷ xs) = length-valued V sh (with_item V sh w i j x) i (j + 1) xs ∙ length-with_item V sh w i j x
+
+-- the same of a value with its stamp
+pub slot-stamped : (V : ℕ) (sh : Shape) (w : List ℕ) (i at q : ℕ) (v : List ℕ) → q < 4 * sh.buckets → slot sh (stamped V sh w i v at) q ≡ slot sh w q
+slot-stamped V sh w i at q v l = slot-with_item V sh (valued V sh w i 1 v) i (length v + 1) at q l ∙ slot-valued V sh w i 1 q v l
+
+pub key-stamped : (V : ℕ) (sh : Shape) (w : List ℕ) (i at : ℕ) (v : List ℕ) → item V sh (stamped V sh w i v at) i 0 ≡ item V sh w i 0
+key-stamped V sh w i at v = item-with_item_word V sh (valued V sh w i 1 v) i (length v + 1) at 0 (omega arith) ∙ key-valued V sh w i 1 v (omega arith)
+
+pub length-stamped : (V : ℕ) (sh : Shape) (w : List ℕ) (i at : ℕ) (v : List ℕ) → length (stamped V sh w i v at) ≡ length w
+length-stamped V sh w i at v = length-with_item V sh (valued V sh w i 1 v) i (length v + 1) at ∙ length-valued V sh w i 1 v
+
+-- until the moment itself is written, it is as it was
+pub moment-bumped : (sh : Shape) (w : List ℕ) (k : ℕ) → moment (with_bump sh w k) ≡ moment w
+moment-bumped sh w k = moment-with_version w (stripe_of sh k) _
+
+pub moment-valued : (V : ℕ) (sh : Shape) (w : List ℕ) (i j : ℕ) (xs : List ℕ) → moment (valued V sh w i j xs) ≡ moment w
+moment-valued V sh w i j [] = refl
+moment-valued V sh w i j (x ∷ xs) = moment-valued V sh (with_item V sh w i j x) i (j + 1) xs ∙ moment-with_item V sh w i j x

@@ -1,9 +1,10 @@
 -- The writes of a value, one after the other.
-use Rattle.std.proofs.Common.{ℕ, ◌≡◌, ◌+◌, ◌^◌, ◌<◌, ◌≤◌, ◌∙◌, All, List, [], ◌∷◌, ◌++◌, ap, drop, get_or, length, append_assoc, append-nil, add-one, drop-cons, sym}
+use Rattle.std.proofs.Common.{ℕ, ◌≡◌, ◌+◌, ◌^◌, ◌<◌, ◌≤◌, ◌∙◌, All, List, [], ◌∷◌, ◌++◌, ap, drop, get_or, length, append_assoc, append-nil, add-one, drop-cons, sym, arith, length-append}
 use Rattle.std.proofs.Math.ListN.{drop_of_length-le}
 use Rattle.std.proofs.lemmas.Grind.{get_or_default_zero}
 use Rattle.mc_words.specs.History.{IsWord}
 use Rattle.mc_words.specs.Places.{payload}
+use Rattle.mc_words.proofs.Payload.{payload_is}
 use Rattle.mc_theory.specs.declared.act.Act.{Act}
 use Rattle.mc_theory.specs.declared.act.Act.TheVariants.{Item}
 use Rattle.mc_plan.specs.Plans.{value_acts}
@@ -23,10 +24,15 @@ values_done acts all i j n v l left = sym (append-nil acts) ∙ ap (λ (rest : L
 pub are_words : (v : List ℕ) → ((i : ℕ) → get_or v i 0 < 2 ^ 64) → All IsWord v
 are_words v each k d l = rw get_or_default_zero (each k)
 
--- the words of a value are all that an item keeps behind its key
-pub payload_of : (V : ℕ) (v : List ℕ) → length v ≡ V → length v ≡ payload V
-unfolding payload
-payload_of V v e = e
+-- a value and its stamp are all that an item keeps behind its key
+pub payload_of : (V : ℕ) (v : List ℕ) (at : ℕ) → length v ≡ V → length (v ++ at ∷ []) ≡ payload V
+payload_of V v at e =
+    let all = length-append v (at ∷ []) in
+    omega (arith, e, all, payload_is V)
+
+-- the stamp lies behind the value
+pub stamp_at : (V : ℕ) (v : List ℕ) → length v ≡ V → length v + 1 ≡ payload V
+stamp_at V v e = omega (arith, e, payload_is V)
 
 -- acts added to none are the plan
 pub plan_is : (acts before plan : List Act) → acts ≡ before ++ plan → before ≡ [] → acts ≡ plan

@@ -1,10 +1,10 @@
 -- A put that first makes room.
-use Rattle.std.proofs.Common.{ℕ, ◌≡◌, ◌+◌, ◌*◌, ◌∙◌, List, [], ◌∷◌, ◌++◌, ap, refl, sym, subst, length, arith, append_assoc}
+use Rattle.std.proofs.Common.{ℕ, ◌≡◌, ◌+◌, ◌*◌, ◌∙◌, List, [], ◌∷◌, ◌++◌, ap, refl, sym, subst, length, arith, append_assoc, append-nil}
 use Rattle.mc_words.specs.declared.history.Change.{Change}
 use Rattle.mc_words.specs.declared.history.Change.TheVariants.{Put}
 use Rattle.mc_words.specs.declared.place.Place.{Place}
 use Rattle.mc_words.specs.declared.shape.Shape.{Shape}
-use Rattle.mc_words.specs.Places.{slot_number}
+use Rattle.mc_words.specs.Places.{moment, slot_number}
 use Rattle.mc_words.specs.Standing.{Stands}
 use Rattle.mc_theory.specs.States.{State}
 use Rattle.mc_theory.specs.declared.act.Act.{Act}
@@ -16,6 +16,7 @@ use Rattle.mc_plan.specs.Puts.{CanPut, TakesItem, PutsMakeRoom}
 use Rattle.mc_plan.proofs.Puts.PathMoves.{room_made}
 use Rattle.mc_plan.proofs.Deeds.Fills.{fills}
 use Rattle.mc_plan.proofs.Puts.NamedItems.{slot_taken}
+use Rattle.mc_plan.proofs.Deeds.QuietStates.{same_moment}
 use Rattle.mc_plan.proofs.Deeds.Walks.{Walk, walk_then}
 
 -- what some acts make, and then others, they make together
@@ -55,15 +56,16 @@ then_taken V sh w x y k i first room takes = record {
 }
 
 pub puts_room : (V : ℕ) → PutsMakeRoom V
-puts_room V sh s k v i places hole shape key value quiet can =
+puts_room V sh s k v at i places hole shape key value word quiet can is =
     let w = s.words in
     let p = first_place places hole in
     let moves = moves_acts V sh w places hole in
-    let fill = fill_acts sh k v i p in
+    let fill = fill_acts sh k v at i p in
     let t = state_after_acts V sh s moves in
     let one = room_made V sh w places hole shape can.keys k can.chain s quiet refl in
     let fit = can_fill V sh w t.words k i places hole can one.1 in
-    let two = fills V sh k v i p shape key value.0 value.1 t one.0.quiet fit in
+    let next : at ≡ moment t.words + 1 = is ∙ ap (λ (n : ℕ). n + 1) (sym (same_moment V sh s t quiet one.0.quiet (one.0.history ∙ append-nil s.history))) in
+    let two = fills V sh k v at i p shape key value.0 value.1 word t one.0.quiet fit next in
     let both = makes_then V sh s moves fill [] (Put k v ∷ []) (2 * length places) 2 one.0 two.0 in
     let takes = slot_taken sh t.words (state_after_acts V sh t fill).words (slot_number p) i _ shape fit.hole.1 two.2 two.1.names in (
       both.0,

@@ -33,14 +33,14 @@ moves_done acts all n ms l left = sym (append-nil acts) ∙ ap (λ (rest : List 
 
 -- the acts that put a new key
 pub stored_acts : (V : ℕ) (sh : Shape) (w : List ℕ) (k : ℕ) (v : List ℕ) (ps : List Place) (hole : Place) (storing : Storing) → acts_of_moves storing.moves.items ≡ moves_acts V sh w ps hole → storing.place ≡ first_place ps hole
-    → put_acts V sh w k v storing.item ps hole ++ Mark storing.item ∷ [] ≡ storing_acts sh k v storing
+    → put_acts V sh w k v storing.at storing.item ps hole ++ Mark storing.item ∷ [] ≡ storing_acts sh k v storing
 stored_acts V sh w k v ps hole storing moves place =
-    append_assoc (moves_acts V sh w ps hole) (fill_acts sh k v storing.item (first_place ps hole)) (Mark storing.item ∷ [])
-    ∙ ap (λ (p : Place). moves_acts V sh w ps hole ++ (fill_acts sh k v storing.item p ++ Mark storing.item ∷ [])) (sym place)
-    ∙ ap (λ (acts : List Act). acts ++ (fill_acts sh k v storing.item storing.place ++ Mark storing.item ∷ [])) (sym moves)
+    append_assoc (moves_acts V sh w ps hole) (fill_acts sh k v storing.at storing.item (first_place ps hole)) (Mark storing.item ∷ [])
+    ∙ ap (λ (p : Place). moves_acts V sh w ps hole ++ (fill_acts sh k v storing.at storing.item p ++ Mark storing.item ∷ [])) (sym place)
+    ∙ ap (λ (acts : List Act). acts ++ (fill_acts sh k v storing.at storing.item storing.place ++ Mark storing.item ∷ [])) (sym moves)
 
 -- and those that take another key's item for it
 pub replaced_acts : (V : ℕ) (sh : Shape) (w : List ℕ) (k : ℕ) (v : List ℕ) (ps : List Place) (hole : Place) (r : Replacement) (storing : Storing) → acts_of_moves storing.moves.items ≡ moves_acts V sh w ps hole → storing.place ≡ first_place ps hole
-    → replace_acts V sh w k v storing.item r.evicted r.victim ps hole ++ Mark storing.item ∷ [] ≡ replacement_acts sh k v r storing
+    → replace_acts V sh w k v storing.at storing.item r.evicted r.victim ps hole ++ Mark storing.item ∷ [] ≡ replacement_acts sh k v r storing
 replaced_acts V sh w k v ps hole r storing moves place =
     ap (λ (acts : List Act). evict_acts r.evicted r.victim ++ acts) (stored_acts V sh w k v ps hole storing moves place)

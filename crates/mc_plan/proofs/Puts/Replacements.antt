@@ -1,5 +1,5 @@
 -- A put that first takes out another key.
-use Rattle.std.proofs.Common.{ℕ, ◌≡◌, ◌+◌, ◌*◌, ◌<◌, ◌∙◌, List, [], ◌∷◌, ◌++◌, ap, refl, sym, subst, length, arith, inl, inr}
+use Rattle.std.proofs.Common.{ℕ, ◌≡◌, ◌+◌, ◌*◌, ◌<◌, ◌∙◌, List, [], ◌∷◌, ◌++◌, ap, refl, sym, subst, length, arith, inl, inr, length-append}
 use Rattle.std.proofs.lemmas.Bool.{cases_eq}
 use Rattle.mc_words.specs.Keys.{item_in}
 use Rattle.mc_words.specs.declared.history.Change.TheVariants.{Put, Evict}
@@ -7,7 +7,7 @@ use Rattle.mc_words.specs.declared.place.Place.{Place}
 use Rattle.mc_words.specs.declared.shape.Shape.{Shape}
 use Rattle.mc_words.specs.Chains.{IsOccupied}
 use Rattle.mc_words.specs.History.{IsWord}
-use Rattle.mc_words.specs.Places.{slot_number, slot, item}
+use Rattle.mc_words.specs.Places.{slot_number, moment, slot, item}
 use Rattle.mc_words.specs.Standing.{NamesItem, Stands, IsAbsent, IsFree}
 use Rattle.mc_words.proofs.Frames.{moved_names, empty_names_none}
 use Rattle.mc_theory.specs.States.{State}
@@ -21,6 +21,7 @@ use Rattle.mc_plan.specs.Puts.{CanPut, TakesItem, put_acts}
 use Rattle.mc_plan.specs.Replacing.{CanReplace, EvictionsMakeRoom}
 use Rattle.mc_search.proofs.CutChains.{cut_chain}
 use Rattle.mc_plan.proofs.Puts.NamedItems.{GivesItem, slot_given}
+use Rattle.mc_plan.proofs.Deeds.QuietStates.{at_length}
 use Rattle.mc_plan.proofs.Deeds.Removals.{evicts}
 use Rattle.mc_plan.proofs.Puts.MadeRoom.{makes_then, puts_room}
 use Rattle.mc_plan.proofs.Puts.PathSteps.{chain_taken}
@@ -74,20 +75,22 @@ still_named sh w x y i gives takes q j n = elim (cases_eq j i) [
 ]
 
 pub evictions_room : (V : ℕ) → EvictionsMakeRoom V
-evictions_room V sh s k v i e p places hole kept end shape key other value quiet clear can =
+evictions_room V sh s k v at i e p places hole kept end shape key other value word quiet clear can is =
     let w = s.words in
     let q = slot_number p in
     let first = first_place kept end in
     let evict = evict_acts e p in
-    let put = put_acts V sh w k v i kept end in
+    let put = put_acts V sh w k v at i kept end in
     let t = state_after_acts V sh s evict in
     let x = t.words in
     let one = evicts V sh e p shape other s i quiet can.victim.in_bucket can.stands clear in
     let fit = can_put V sh w x q one.2 one.3 k i e p places hole kept end refl can one.1 in
-    let same : put_acts V sh x k v i kept end ≡ put = ap (λ (acts : List Act). acts ++ fill_acts sh k v i first) (moves_still V sh w x q one.2 one.3 kept end (chain_taken sh x k kept end fit.chain)) in
+    let same : put_acts V sh x k v at i kept end ≡ put = ap (λ (acts : List Act). acts ++ fill_acts sh k v at i first) (moves_still V sh w x q one.2 one.3 kept end (chain_taken sh x k kept end fit.chain)) in
+    let more = length-append s.history (Evict e ∷ []) in
+    let next : at ≡ moment x + 1 = omega (arith, is, at_length V sh s quiet, at_length V sh t one.0.quiet, ap length one.0.history, more) in
     let two : Makes V sh t put (Put k v ∷ []) (2 * length kept + 2) × Stands V sh (state_after_acts V sh t put).words k (slot_number first) i × TakesItem sh x (state_after_acts V sh t put).words i =
     subst (λ (acts : List Act). Makes V sh t acts (Put k v ∷ []) (2 * length kept + 2) × Stands V sh (state_after_acts V sh t acts).words k (slot_number first) i × TakesItem sh x (state_after_acts V sh t acts).words i) same
-    (puts_room V sh t k v i kept end shape key value one.0.quiet fit) in
+    (puts_room V sh t k v at i kept end shape key value word one.0.quiet fit next) in
     let both = makes_then V sh s evict put (Evict e ∷ []) (Put k v ∷ []) 2 (2 * length kept + 2) one.0 two.0 in
     let steps : 2 + (2 * length kept + 2) ≡ 2 * length kept + 4 = omega arith in
     let gives = slot_given sh w x q i shape can.stands.names one.2 one.1 in (

@@ -84,6 +84,7 @@ with_acts p acts = record { call = p.call; from = p.from; acts = p.acts ++ acts 
 -- the call that is asked for, as a clerk's definitions name it
 abbrev pub call_of : {V : ℕ} → asked.Call V → Call
 call_of (asked_as.Put k v) = whole.PutCall k v
+call_of (asked_as.PutIf k since v) = whole.PutIfCall k since v
 call_of (asked_as.Remove k) = whole.RemoveCall k
 
 -- a call began, or is answered where it needs no act

@@ -4,7 +4,7 @@ use Rattle.std.specs.Str.{bytes_eq}
 use Rattle.mc_script.specs.declared.command.LineFault.{LineFault}
 use Rattle.mc_script.specs.declared.command.LineFault.TheVariants.{NotACommand, BadNumber}
 use Rattle.mc_script.specs.declared.command.Command.{Command}
-use Rattle.mc_script.specs.declared.command.Command.TheVariants.{Put, Remove, Get, BeginPut, BeginRemove, Write, BeginGet, Read}
+use Rattle.mc_script.specs.declared.command.Command.TheVariants.{Put, PutIf, Remove, Get, Stamp, BeginPut, BeginPutIf, BeginRemove, Write, BeginGet, Read}
 use Rattle.mc_script.specs.Inside.Numbers.{numbers_in}
 
 -- the command that is made of a line's numbers
@@ -28,6 +28,12 @@ begin_put_in v first words =
     if bytes_eq first (codes "put") then command_from (λ numbers. BeginPut (slice_index numbers 0) (drop 1 numbers)) (numbers_in (v + 1) words)
     else Err NotACommand
 
+-- `putif`, a key, a moment and the words of a value, after `begin`
+abbrev pub begin_put_if_in : (v : ℕ) → List ℕ → List (List ℕ) → Result (Command v) LineFault
+begin_put_if_in v first words =
+    if bytes_eq first (codes "putif") then command_from (λ numbers. BeginPutIf (slice_index numbers 0) (slice_index numbers 1) (drop 2 numbers)) (numbers_in (v + 2) words)
+    else Err NotACommand
+
 -- `remove` and a key, after `begin`
 abbrev pub begin_remove_in : (v : ℕ) → List ℕ → List (List ℕ) → Result (Command v) LineFault
 begin_remove_in v first words =
@@ -43,7 +49,7 @@ begin_get_in v first (second ∷ words) =
 
 abbrev pub begin_in : (v : ℕ) → List (List ℕ) → Result (Command v) LineFault
 begin_in v [] = Err NotACommand
-begin_in v (first ∷ words) = otherwise (begin_put_in v first words) (otherwise (begin_remove_in v first words) (begin_get_in v first words))
+begin_in v (first ∷ words) = otherwise (begin_put_in v first words) (otherwise (begin_put_if_in v first words) (otherwise (begin_remove_in v first words) (begin_get_in v first words)))
 
 -- one act of the writer
 abbrev pub write_one_in : (v : ℕ) → List (List ℕ) → Result (Command v) LineFault
@@ -71,8 +77,10 @@ read_in v words = otherwise (read_one_in v words) (read_many_in v words)
 unfoldable pub form_in : (v : ℕ) → List ℕ → List (List ℕ) → Result (Command v) LineFault
 form_in v name words =
     if bytes_eq name (codes "put") then command_from (λ numbers. Put (slice_index numbers 0) (drop 1 numbers)) (numbers_in (v + 1) words)
+    else if bytes_eq name (codes "putif") then command_from (λ numbers. PutIf (slice_index numbers 0) (slice_index numbers 1) (drop 2 numbers)) (numbers_in (v + 2) words)
     else if bytes_eq name (codes "remove") then command_from (λ numbers. Remove (slice_index numbers 0)) (numbers_in 1 words)
     else if bytes_eq name (codes "get") then command_from (λ numbers. Get (slice_index numbers 0)) (numbers_in 1 words)
+    else if bytes_eq name (codes "stamp") then command_from (λ numbers. Stamp (slice_index numbers 0)) (numbers_in 1 words)
     else if bytes_eq name (codes "begin") then begin_in v words
     else if bytes_eq name (codes "w") then write_in v words
     else if bytes_eq name (codes "r") then read_in v words

@@ -19,3 +19,8 @@ number_of word = if is_number word then Some (digits_value 10 word) else None
 abbrev pub join_numbers : Result (ℕ × List ℕ) LineFault → Result (List ℕ) LineFault
 join_numbers (Ok found) = Ok (found.0 ∷ found.1)
 join_numbers (Err fault) = Err fault
+
+-- two first numbers and the others, as one list
+abbrev pub join_two : Result (ℕ × ℕ × List ℕ) LineFault → Result (List ℕ) LineFault
+join_two (Ok found) = Ok (found.0 ∷ found.1 ∷ found.2)
+join_two (Err fault) = Err fault

@@ -38,6 +38,7 @@ access_keeps n bits (access.Version t) all = all
 access_keeps n bits (access.Slot p) all = all
 access_keeps n bits (access.Key i) all = all
 access_keeps n bits (access.Value i j) all = all
+access_keeps n bits (access.Stamp i) all = all
 access_keeps n bits access.Moment all = all
 
 -- each event keeps them

@@ -2,7 +2,7 @@
 use Rattle.std.proofs.Common.{ℕ, ◌≡◌, ◌≢◌, ◌+◌, ◌/◌, ◌⊎◌, Bool, true, false, List, [], ◌∷◌, ◌++◌, length, Option, Some, None, ◌∙◌, ap, subst, inl, inr, arith}
 use Rattle.std.proofs.lemmas.Bool.{cases_eq}
 use Rattle.std.proofs.lemmas.List.{length_push}
-use Rattle.mc_theory.proofs.Invariant.RunningDeed.{absent_on, begins_more, bucket_of_number, keyed_facts, moved_only, only-with_value, open_facts, placed_only, ready_more, removed_absent, twice_facts}
+use Rattle.mc_theory.proofs.Invariant.RunningDeed.{absent_on, begins_more, bucket_of_number, keyed_facts, moved_only, only-with_value, open_facts, placed_only, ready_more, removed_absent, stamped_more, twice_facts, unstamped}
 use Rattle.mc_theory.proofs.Invariant.PlainParts.{filled_after, length_after, moment_after, versions_after}
 use Rattle.mc_theory.proofs.Invariant.OtherKeys.{step_held, step_same}
 use Rattle.mc_theory.specs.Acts.{MayFrom}
@@ -12,7 +12,7 @@ use Rattle.mc_theory.specs.Phases.{Closing, Filling, Keyed, Moved, Moving, Phase
 use Rattle.mc_words.proofs.Frames.{agrees_on, begins_on, only_on, same-with_moment, same-with_version}
 use Rattle.mc_words.proofs.Keys.{stripe_of-lt}
 use Rattle.mc_words.proofs.Maps.{held-evict, held-put, held-remove}
-use Rattle.mc_words.proofs.Payload.{value_in}
+use Rattle.mc_words.proofs.Payload.{whole_payload}
 use Rattle.mc_words.proofs.Places.{item-with_moment, item-with_slot}
 use Rattle.mc_words.specs.History.{map_value, value_of}
 use Rattle.mc_words.specs.Keys.{alternate, tag_of}
@@ -36,18 +36,22 @@ deed_after V sh w hand cleared h Quiet (Open k u) s g d may =
 deed_after V sh w hand cleared h Quiet (Hand i) s g d may = tt
 deed_after V sh w hand cleared h Quiet (Mark i) s g d may = tt
 deed_after V sh w hand cleared h (Filling k) (Item i j x) s g d may =
-    rw (may.2, may.3) (keyed_facts V sh w k i g.size d.0 d.1 may.0 may.1, d.2)
+    rw (may.2, may.3) (keyed_facts V sh w k i g.size d.0 d.1 may.0 may.1, d.2, unstamped V h)
 deed_after V sh w hand cleared h (Keyed k i xs) (Item f j x) s g d may =
-    rw (may.0, may.1) (ready_more V sh w k i x xs g.size (omega (arith, may.1)) d.0, d.1)
+    rw (may.0, may.1) (
+      ready_more V sh w k i x xs g.size (omega (arith, may.1)) d.0,
+      d.1,
+      stamped_more V w h xs x g.at_moment (λ e. may.4 (omega (arith, may.1, e))),
+    )
 deed_after V sh w hand cleared h (Keyed k i xs) (Slot p x) s g d may = (
   (slot_number p, placed_only V sh w k i (slot_number p) x xs s g.size d.0 may.1 (rw (bucket_of_number p may.3) may.2) may.4),
   (may.0, begins_on V sh w _ i xs (λ j l. item-with_slot V sh w (slot_number p) x i j may.1.0) (omega (arith, may.0)) d.0.begins),
   d.1,
+  d.2,
 )
 deed_after V sh w hand cleared h (Placed k i xs) Moment s g d may =
-    let value = value_in V sh w i xs d.1 in
-    rw (held-put h k (value_of V xs))
-    (d.0.0, i, only_on V sh w _ k d.0.0 i (same-with_moment V sh w _ k) d.0.1, (value.0, λ j l. item-with_moment V sh w _ i (j + 1) ∙ value.1 j l))
+    rw (held-put h k (value_of V xs), whole_payload V (length h + 1) xs d.1.0 (d.3 d.1.0))
+    (d.0.0, i, only_on V sh w _ k d.0.0 i (same-with_moment V sh w _ k) d.0.1, (d.1.0, λ j l. item-with_moment V sh w _ i (j + 1) ∙ d.1.1 j l))
 deed_after V sh w hand cleared h (Renewing k xs) (Item i j x) s g d may =
     let only : OnlyAt V sh w k d.0.0 d.0.1 = d.0.2 in
     let is : i ≡ d.0.1 = (only.once may.3.0 i may.3.1).1 in
@@ -55,11 +59,11 @@ deed_after V sh w hand cleared h (Renewing k xs) (Item i j x) s g d may =
       (d.0.0, d.0.1, only-with_value V sh w k d.0.0 d.0.1 d.0.1 (length xs + 1) x (omega arith) (omega (arith, may.0)) only, begins_more V sh w d.0.1 x xs g.size only.stands.names.in_items (omega (arith, may.0)) d.0.3),
       omega (arith, may.0, length_push xs x),
       d.2,
+      stamped_more V w h xs x g.at_moment (λ e. may.4 (omega (arith, may.0, e))),
     )
 deed_after V sh w hand cleared h (Renewing k xs) Moment s g d may =
-    let value = value_in V sh w d.0.1 xs (may, d.0.3) in
-    rw (held-put h k (value_of V xs))
-    (d.0.0, d.0.1, only_on V sh w _ k d.0.0 d.0.1 (same-with_moment V sh w _ k) d.0.2, (value.0, λ j l. item-with_moment V sh w _ d.0.1 (j + 1) ∙ value.1 j l))
+    rw (held-put h k (value_of V xs), whole_payload V (length h + 1) xs may (d.3 may))
+    (d.0.0, d.0.1, only_on V sh w _ k d.0.0 d.0.1 (same-with_moment V sh w _ k) d.0.2, (may, λ j l. item-with_moment V sh w _ d.0.1 (j + 1) ∙ d.0.3 j l))
 deed_after V sh w hand cleared h (Removing k e) (Slot p x) s g d may =
     (removed_absent V sh w k (slot_number p) x d.0.0 d.0.1 may.2.0 g.size may.1 d.0.2 may.2.1, d.1)
 deed_after V sh w hand cleared h (Removed k e) Moment s g d may =

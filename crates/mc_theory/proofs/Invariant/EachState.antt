@@ -31,15 +31,15 @@ all_agree V sh w h f g d k =
     ]
 
 -- a key that is held may be taken out
-taken_may : {V : ℕ} (h : List (Change V)) (e : Bool) (k : ℕ) → IsSome (map_value h k) → MayFollow {V = V} (map_from [] h) (removal_of e k)
+taken_may : {V : ℕ} (h : List (Change V)) (e : Bool) (k : ℕ) → IsSome (map_value h k) → MayFollow {V = V} (map_from 1 [] h) (removal_of e k)
 unfolding map_value
 taken_may h true k s = s
 taken_may h false k s = s
 
 -- one more change that may follow keeps a legal history legal
-legal_more : (V : ℕ) (sh : Shape) (w : List ℕ) (h : List (Change V)) (c : Change V) (f : ℕ) → IsLegal sh.items h → MayFollow (map_from [] h) c → Agrees V sh w (Some f) (h ++ c ∷ []) → AgreesAt V sh w f (map_value (h ++ c ∷ []) f) → IsLegal sh.items (h ++ c ∷ [])
+legal_more : (V : ℕ) (sh : Shape) (w : List ℕ) (h : List (Change V)) (c : Change V) (f : ℕ) → IsLegal sh.items h → MayFollow (map_from 1 [] h) c → Agrees V sh w (Some f) (h ++ c ∷ []) → AgreesAt V sh w f (map_value (h ++ c ∷ []) f) → IsLegal sh.items (h ++ c ∷ [])
 unfolding IsLegal key_count
-legal_more V sh w h c f l may g d = legal-push sh.items [] h c l may (keys_fit V sh w (h ++ c ∷ []) (all_agree V sh w (h ++ c ∷ []) f g d))
+legal_more V sh w h c f l may g d = legal-push sh.items 1 [] h c l may (keys_fit V sh w (h ++ c ∷ []) (all_agree V sh w (h ++ c ∷ []) f g d))
 
 -- each act leaves a legal history
 legal_after : (V : ℕ) (sh : Shape) (w : List ℕ) (hand : ℕ) (cleared : Option ℕ) (h : List (Change V)) (p : Phase) (a : Act) → DeedFacts V sh w h p → MayFrom V sh w hand cleared p a → IsLegal sh.items h → Agrees V sh (words_after V sh w p a) (deed_key (phase_after p a)) (history_after h p a) → DeedFacts V sh (words_after V sh w p a) (history_after h p a) (phase_after p a) → IsLegal sh.items (history_after h p a)

@@ -4,18 +4,18 @@ use Rattle.std.specs.Option.{IsSome}
 use Rattle.std.proofs.lemmas.Bool.{cases_eq}
 use Rattle.std.proofs.lemmas.List.{length_push, get_or_push, get_or_append_left}
 use Rattle.mc_theory.proofs.Invariant.OtherKeys.{cleared_stands, names_back-with_item, slot_in, written_stands}
-use Rattle.mc_theory.specs.Acts.{MayOpen}
-use Rattle.mc_theory.specs.Inner.{DeedFacts, IsFillReady, StandsTwice}
+use Rattle.mc_theory.specs.Acts.{IsStampAt, MayOpen}
+use Rattle.mc_theory.specs.Inner.{DeedFacts, IsFillReady, IsStamped, StandsTwice}
 use Rattle.mc_theory.specs.Phases.{first_phase}
 use Rattle.mc_words.proofs.Frames.{SameFor, agrees_on, begins_on, empty_names_none, moved_names}
 use Rattle.mc_words.proofs.Keys.{alternate-alternate, tag_of-lt}
-use Rattle.mc_words.proofs.Payload.{value_fits}
+use Rattle.mc_words.proofs.Payload.{payload_is}
 use Rattle.mc_words.proofs.Places.{item-with_item_other, item-with_item_same, item-with_item_word, item-with_slot, slot-with_item, slot-with_slot_other, slot-with_slot_same}
 use Rattle.mc_words.specs.History.{map_value}
 use Rattle.mc_words.specs.Keys.{IsBucketOf, alternate, first_of, slot_word, tag_of}
-use Rattle.mc_words.specs.Places.{item, payload, slot, slot_number, with_item, with_slot, word_count}
+use Rattle.mc_words.specs.Places.{item, moment, payload, slot, slot_number, with_item, with_slot, word_count}
 use Rattle.mc_words.specs.Shapes.{IsShape}
-use Rattle.mc_words.specs.Standing.{AgreesAt, ItemBegins, HasValue, IsAbsent, IsEmpty, IsFree, IsPresent, NamesItem, OnlyAt, Stands}
+use Rattle.mc_words.specs.Standing.{AgreesAt, ItemBegins, HasPayload, IsAbsent, IsEmpty, IsFree, IsPresent, NamesItem, OnlyAt, Stands}
 use Rattle.mc_theory.specs.declared.act.Deed.{Deed}
 use Rattle.mc_words.specs.declared.history.Change.{Change}
 use Rattle.mc_words.specs.declared.place.Place.{Place}
@@ -44,13 +44,24 @@ absent_on V sh w x k s a = λ q i h. a q i (s.back q i h)
 pub bucket_of_number : (p : Place) → p.slot < 4 → slot_number p / 4 ≡ p.bucket
 bucket_of_number p l = omega arith
 
+-- ---- the stamp
+-- no word was written yet
+pub unstamped : (V : ℕ) (h : List (Change V)) → IsStamped V h []
+unstamped V h none = absurd (omega (arith, none, payload_is V))
+
+-- after one word more
+pub stamped_more : (V : ℕ) (w : List ℕ) (h : List (Change V)) (xs : List ℕ) (x : ℕ) → moment w ≡ length h → IsStampAt V w (length xs + 1) x → IsStamped V h (xs ++ x ∷ [])
+stamped_more V w h xs x at is whole =
+    let many : length xs ≡ V = omega (arith, whole, length_push xs x, payload_is V) in
+    get_or_push xs x 0 V many ∙ is (omega (arith, many, payload_is V)) ∙ ap (λ n. n + 1) at
+
 -- ---- open
 pub open_facts : (V : ℕ) (sh : Shape) (w x : List ℕ) (cleared : Option ℕ) (h : List (Change V)) (k : ℕ) (d : Deed) → SameFor V sh w x k → AgreesAt V sh w k (map_value h k) → k < 2 ^ 64 → MayOpen V sh w cleared k d → DeedFacts V sh x h (first_phase k d)
 open_facts V sh w x cleared h k deed.Fill s a l may = (l, absent_on V sh w x k s may.0, held_from_absent V sh w k (map_value h k) a may.0)
 open_facts V sh w x cleared h k deed.Renew s a l may =
     let here = held_from_present V sh w k (map_value h k) a may in
     let after = agrees_on V sh w x k (Some here.0) s here.2 in
-    ((after.0, after.1, after.2, λ j b. absurd (omega arith)), omega arith, some_from (map_value h k) here.0 here.1)
+    ((after.0, after.1, after.2, λ j b. absurd (omega arith)), omega arith, some_from (map_value h k) here.0 here.1, unstamped V h)
 open_facts V sh w x cleared h k deed.Remove s a l may =
     let here = held_from_present V sh w k (map_value h k) a may in
     let after = agrees_on V sh w x k (Some here.0) s here.2 in
@@ -166,7 +177,7 @@ removed_absent V sh w k p x q i g size e only here r f a =
     ]
 
 -- ---- a move
-pub twice_facts : (V : ℕ) (sh : Shape) (w : List ℕ) (k p x q i : ℕ) (v : List ℕ) → IsShape sh → word_count V sh ≤ length w → IsEmpty sh w p → p / 4 ≡ alternate sh (q / 4) (tag_of sh k) → x ≡ slot sh w q → OnlyAt V sh w k q i → HasValue V sh w i v → StandsTwice V sh (with_slot sh w p x) k p v
+pub twice_facts : (V : ℕ) (sh : Shape) (w : List ℕ) (k p x q i : ℕ) (v : List ℕ) → IsShape sh → word_count V sh ≤ length w → IsEmpty sh w p → p / 4 ≡ alternate sh (q / 4) (tag_of sh k) → x ≡ slot sh w q → OnlyAt V sh w k q i → HasPayload V sh w i v → StandsTwice V sh (with_slot sh w p x) k p v
 twice_facts V sh w k p x q i v s size empty bucket e only val =
     let apart : q ≢ p = λ h. empty_names_none sh w q i (ap (λ y. slot sh w y) h ∙ empty.1) only.stands.names in
     let word : slot sh (with_slot sh w p x) p ≡ slot sh w q = slot-with_slot_same sh w p x (slot_in V sh w p size empty.0) ∙ e in
@@ -191,7 +202,7 @@ twice_facts V sh w k p x q i v s size empty bucket e only val =
         | inl y ↦ inr (ap (λ b. alternate sh b (tag_of sh k)) y)
         | inr y ↦ inl (ap (λ b. alternate sh b (tag_of sh k)) y ∙ alternate-alternate sh (first_of sh k) (tag_of sh k))
       ]);
-      value = (val.0, begins_on V sh w (with_slot sh w p x) i v (λ j l. item-with_slot V sh w p x i j empty.0) (omega (arith, val.0, value_fits V)) val.1);
+      held = (val.0, begins_on V sh w (with_slot sh w p x) i v (λ j l. item-with_slot V sh w p x i j empty.0) (omega (arith, val.0)) val.1);
     }
 
 -- of two slots with a key, clearing one leaves it in the other
@@ -212,5 +223,5 @@ moved_only V sh w k fresh p x g v size e apart t gone =
         tagged = slot-with_slot_other sh w p x fresh (λ h. apart (sym h)) ∙ t.tagged;
         placed = t.placed;
       },
-      (t.value.0, begins_on V sh w (with_slot sh w p x) t.of v (λ j l. item-with_slot V sh w p x t.of j gone.names.in_table) (omega (arith, t.value.0, value_fits V)) t.value.1),
+      (t.held.0, begins_on V sh w (with_slot sh w p x) t.of v (λ j l. item-with_slot V sh w p x t.of j gone.names.in_table) (omega (arith, t.held.0)) t.held.1),
     )

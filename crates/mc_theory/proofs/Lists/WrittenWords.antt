@@ -5,6 +5,7 @@ use Rattle.std.specs.List.{All}
 use Rattle.std.proofs.lemmas.List.Elements.{All-set, All-replicate}
 use Rattle.mc_words.proofs.SlotWords.{slot_word-fits}
 use Rattle.mc_words.proofs.Keys.{stripe_of-lt, tag_of-lt}
+use Rattle.mc_words.proofs.Payload.{value_fits}
 use Rattle.mc_words.proofs.Places.{row_below}
 use Rattle.mc_words.specs.History.{IsWord}
 use Rattle.mc_words.specs.Keys.{stripe_of}
@@ -179,6 +180,7 @@ read_word V sh w (access.Version t) n e = let is : version_place t ≡ n = cc in
 read_word V sh w (access.Slot p) n e = let is : slot_place sh (slot_number p) ≡ n = cc in ap (λ y. slice_index w y) (sym is)
 read_word V sh w (access.Key i) n e = let is : item_place V sh i 0 ≡ n = cc in ap (λ y. slice_index w y) (sym is)
 read_word V sh w (access.Value i j) n e = let is : item_place V sh i j ≡ n = cc in ap (λ y. slice_index w y) (sym is)
+read_word V sh w (access.Stamp i) n e = let is : item_place V sh i (payload V) ≡ n = cc in ap (λ y. slice_index w y) (sym is)
 read_word V sh w access.Moment n e = let is : 0 ≡ n = cc in ap (λ y. slice_index w y) (sym is)
 read_word V sh w (access.Mark i) n e = tt
 
@@ -187,7 +189,8 @@ read_in : (V : ℕ) (sh : Shape) (a : Access) (n : ℕ) → place_read V sh a �
 read_in V sh (access.Version t) n e l = let is : version_place t ≡ n = cc in omega arith
 read_in V sh (access.Slot p) n e l = let is : slot_place sh (slot_number p) ≡ n = cc in omega (arith, l.in_table, l.in_bucket)
 read_in V sh (access.Key i) n e l = let is : item_place V sh i 0 ≡ n = cc in omega (arith, row_below (payload V) i 0 sh.items l (omega arith))
-read_in V sh (access.Value i j) n e l = let is : item_place V sh i j ≡ n = cc in omega (arith, row_below (payload V) i j sh.items l.0 l.2)
+read_in V sh (access.Value i j) n e l = let is : item_place V sh i j ≡ n = cc in omega (arith, row_below (payload V) i j sh.items l.0 (omega (arith, l.2, value_fits V)))
+read_in V sh (access.Stamp i) n e l = let is : item_place V sh i (payload V) ≡ n = cc in omega (arith, row_below (payload V) i (payload V) sh.items l (omega arith))
 read_in V sh access.Moment n e l = let is : 0 ≡ n = cc in omega arith
 read_in V sh (access.Mark i) n e l = absurd (cc)
 

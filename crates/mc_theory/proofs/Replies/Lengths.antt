@@ -1,6 +1,6 @@
 -- How many readings a lookup makes at most.
 use Rattle.std.proofs.Common.{ℕ, zero, suc, ◌≡◌, ◌+◌, ◌*◌, ◌≤◌, List, [], ◌∷◌, ◌++◌, length, Option, Some, None, arith, refl, ap, ◌∙◌, inl, inr, length-append}
-use Rattle.mc_words.proofs.Payload.{value_fits}
+use Rattle.mc_words.proofs.Payload.{payload_is}
 use Rattle.mc_words.specs.Places.{payload}
 use Rattle.mc_words.specs.declared.history.Reply.{Reply}
 use Rattle.mc_words.specs.declared.place.Place.{Place}
@@ -29,11 +29,14 @@ values_length i j [] (x ∷ xs) reads = absurd reads
 values_length i j (r ∷ rs) [] reads = absurd reads
 
 -- a value is read with no more readings than it has words
-hit_length : (V : ℕ) (hit : Option ℕ) (rs : List Reading) (v : List ℕ) → ReadsHit V hit rs v → length rs ≤ payload V
-hit_length V None rs v reads = let none = ap length reads.0 in omega (arith, none)
-hit_length V (Some i) rs v reads = let same = values_length i 1 rs v reads.1 in omega (arith, same, reads.0, value_fits V)
+hit_length : (V : ℕ) (hit : Option ℕ) (rs : List Reading) (held : List ℕ) → ReadsHit V hit rs held → length rs ≤ payload V
+hit_length V None rs held reads = let none = ap length reads.0 in omega (arith, none)
+hit_length V (Some i) rs held reads =
+    let same = values_length i 1 reads.0 reads.2 reads.6 in
+    let all = ap length reads.3 ∙ length-append reads.0 (reads.1 ∷ []) in
+    omega (arith, same, all, reads.5, payload_is V)
 
--- the version, the slots and keys, the value, the moment and the version again
+-- the version, the slots and keys, the value and the stamp, the moment and the version again
 try_length : (V : ℕ) (sh : Shape) (k : ℕ) (rs : List Reading) (hit : Option ℕ) (v : List ℕ) (before after at : ℕ) → Tries V sh k rs hit v before after at → length rs ≤ 19 + payload V
 try_length V sh k rs hit v before after at tries =
     let scan = scan_length sh k (slots_for sh k) tries.scan hit tries.scans in

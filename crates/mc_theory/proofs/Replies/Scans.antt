@@ -1,9 +1,12 @@
--- What the readings of the slots and of the value words say of the first front of their window.
-use Rattle.std.proofs.Common.{ℕ, zero, suc, ◌≡◌, ◌≢◌, ◌+◌, ◌*◌, ◌<◌, ◌≤◌, List, [], ◌∷◌, length, Some, None, get_or, sym, ◌∙◌, ap, subst, inl, inr, arith}
+-- What the readings of the slots, of the value words and of the stamp say of the first front of their window.
+use Rattle.std.proofs.Common.{ℕ, zero, suc, ◌≡◌, ◌≢◌, ◌+◌, ◌*◌, ◌<◌, ◌≤◌, List, [], ◌∷◌, ◌++◌, length, Some, None, get_or, sym, ◌∙◌, ap, subst, inl, inr, arith}
+use Rattle.std.proofs.lemmas.Bool.{cases_eq}
+use Rattle.std.proofs.lemmas.List.{get_or_push, get_or_append_left}
 use Rattle.mc_theory.specs.Lists.{Made, front}
-use Rattle.mc_theory.specs.Lookups.{TagMatches, ReadsValues, Scans}
+use Rattle.mc_theory.specs.Lookups.{TagMatches, ReadsHit, ReadsValues, Scans}
 use Rattle.mc_theory.specs.Readings.{AreRead, IsWordOf, Reading, RiseTo}
 use Rattle.mc_words.proofs.Frames.{slot_word-parts, stands_on}
+use Rattle.mc_words.proofs.Payload.{payload_is}
 use Rattle.mc_words.specs.Keys.{tag_of}
 use Rattle.mc_words.specs.Places.{payload, item, slot, slot_number}
 use Rattle.mc_words.specs.Shapes.{IsShape}
@@ -11,8 +14,8 @@ use Rattle.mc_words.specs.Standing.{Stands}
 use Rattle.mc_theory.specs.declared.access.Access.{Access}
 use Rattle.mc_words.specs.declared.place.Place.{Place}
 use Rattle.mc_words.specs.declared.shape.Shape.{Shape}
-use Rattle.mc_theory.specs.declared.access.Access.TheVariants.{Slot, Key, Value}
-use Rattle.mc_theory.proofs.Lists.Readings.{rise_le}
+use Rattle.mc_theory.specs.declared.access.Access.TheVariants.{Slot, Key, Value, Stamp}
+use Rattle.mc_theory.proofs.Lists.Readings.{rise_le, rise_parts, read_parts}
 use Rattle.mc_theory.proofs.Replies.Windows.{Window, tag_from_agree}
 
 -- ---- the slots, one after the other
@@ -104,7 +107,7 @@ scan_miss V sh acts k f g d e q i (p ∷ ps) rs shape w a b read rise scan st =
           ]
     ]
 
--- ---- the value words
+-- ---- the value words, and the stamp
 pub values_are : (V : ℕ) (sh : Shape) (acts : List Made) (k f g d e q i j : ℕ) (rs : List Reading) (v : List ℕ) → Window V sh acts k f g → Stands V sh (front V sh acts f).words k q i → f ≤ d → e ≤ g → AreRead V sh acts rs → RiseTo d rs e → ReadsValues i j rs v → (m : ℕ) → m < length v → j + m ≤ payload V → get_or v m 0 ≡ item V sh (front V sh acts f).words i (j + m)
 values_are V sh acts k f g d e q i j [] [] w st a b read rise is m l fits = absurd (omega arith)
 values_are V sh acts k f g d e q i j (r ∷ rs) (x ∷ xs) w st a b read rise is zero l fits =
@@ -118,3 +121,25 @@ values_are V sh acts k f g d e q i j (r ∷ rs) (x ∷ xs) w st a b read rise is
     rw z (values_are V sh acts k f g r.front e q i (j + 1) rs xs w st (omega (arith, rise.0)) b read.1 rise.1 is.2 m (omega arith) (omega arith))
 values_are V sh acts k f g d e q i j [] (x ∷ xs) w st a b read rise is m l fits = absurd is
 values_are V sh acts k f g d e q i j (r ∷ rs) [] w st a b read rise is m l fits = absurd is
+
+-- all words of a hit: the value and the stamp
+pub held_are : (V : ℕ) (sh : Shape) (acts : List Made) (k f g d e q i : ℕ) (rs : List Reading) (held : List ℕ) → Window V sh acts k f g → Stands V sh (front V sh acts f).words k q i → f ≤ d → e ≤ g → AreRead V sh acts rs → RiseTo d rs e → ReadsHit V (Some i) rs held → (m : ℕ) → m < payload V → get_or held m 0 ≡ item V sh (front V sh acts f).words i (m + 1)
+held_are V sh acts k f g d e q i rs held w st a b read rise hit m l =
+    let r : Reading = hit.1 in
+    let both = read_parts V sh acts hit.0 (r ∷ []) (subst (λ (y : List Reading). AreRead V sh acts y) hit.3 read) in
+    let parts = rise_parts d hit.0 (r ∷ []) e (subst (λ (y : List Reading). RiseTo d y e) hit.3 rise) in
+    let start : d ≤ parts.0 = rise_le d hit.0 parts.0 parts.1 in
+    let last : parts.0 ≤ r.front = parts.2.0 in
+    let end : r.front ≤ e = parts.2.1 in
+    rw hit.4
+    (elim (cases_eq m V) [
+      | inl is ↦
+          let word = word_at V sh (front V sh acts r.front).words (Stamp i) r hit.7 both.1.0 in
+          let same = (w.kept f r.front (omega arith) (omega (arith, a, start, last)) (omega (arith, end, b))).same.items q i st (payload V) (omega arith) in
+          get_or_push hit.2 r.word 0 m (omega (arith, hit.5, is)) ∙ word ∙ same ∙ ap (λ y. item V sh (front V sh acts f).words i y) (omega (arith, is, payload_is V))
+      | inr ne ↦
+          let less : m < V = omega (arith, ne, l, payload_is V) in
+          get_or_append_left hit.2 (r.word ∷ []) 0 m (omega (arith, less, hit.5)) ∙
+          values_are V sh acts k f g d parts.0 q i 1 hit.0 hit.2 w st a (omega (arith, last, end, b)) both.0 parts.1 hit.6 m (omega (arith, less, hit.5)) (omega (arith, l)) ∙
+          ap (λ y. item V sh (front V sh acts f).words i y) (omega arith)
+    ])

@@ -1,5 +1,5 @@
 -- What a lookup replies is true, at a moment of its span.
-use Rattle.std.proofs.Common.{ℕ, zero, suc, ◌≡◌, ◌≢◌, ◌+◌, ◌/◌, ◌^◌, ◌<◌, ◌≤◌, List, [], ◌∷◌, ◌++◌, length, take, Option, Some, None, sym, ◌∙◌, ap, subst, inl, inr, arith}
+use Rattle.std.proofs.Common.{ℕ, zero, suc, ◌≡◌, ◌≢◌, ◌+◌, ◌/◌, ◌^◌, ◌<◌, ◌≤◌, List, [], ◌∷◌, ◌++◌, length, take, Option, Some, None, refl, sym, ◌∙◌, ap, subst, inl, inr, arith, length-append}
 use Rattle.std.proofs.lemmas.List.{ext_get_or, length-take, take_at}
 use Rattle.mc_theory.proofs.Invariant.RunningDeed.{held_from_absent, held_from_present}
 use Rattle.mc_theory.proofs.Lists.Fronts.{front_all, front_holds}
@@ -11,12 +11,12 @@ use Rattle.mc_theory.specs.Readings.{AreRead, Reading, RiseTo}
 use Rattle.mc_theory.specs.States.{State}
 use Rattle.mc_words.proofs.Frames.{stands_on}
 use Rattle.mc_words.proofs.Keys.{alternate-lt, first_of-lt, tag_of-lt}
-use Rattle.mc_words.proofs.Payload.{value_fits}
-use Rattle.mc_words.specs.History.{IsTrueAnswer, map_value}
+use Rattle.mc_words.proofs.Payload.{payload_is, whole_payload}
+use Rattle.mc_words.specs.History.{IsTrueAnswer, map_value, since_of}
 use Rattle.mc_words.specs.Keys.{first_of, second_of, stripe_of, tag_of}
-use Rattle.mc_words.specs.Places.{item, version}
+use Rattle.mc_words.specs.Places.{item, payload, version}
 use Rattle.mc_words.specs.Shapes.{IsShape}
-use Rattle.mc_words.specs.Standing.{HasValue}
+use Rattle.mc_words.specs.Standing.{HasPayload}
 use Rattle.mc_words.specs.declared.history.Change.{Change}
 use Rattle.mc_words.specs.declared.history.Reply.{Reply}
 use Rattle.mc_words.specs.declared.place.Place.{Place}
@@ -26,7 +26,7 @@ use Rattle.mc_words.specs.declared.history.Reply.TheVariants.{Found, Absent, Bus
 use Rattle.mc_theory.proofs.Lists.Readings.{rise_le, rise_parts, read_parts}
 use Rattle.mc_theory.proofs.Replies.Windows.{Window, window, tag_from_agree}
 use Rattle.mc_theory.proofs.Lists.Histories.{history_rises, moments_rise}
-use Rattle.mc_theory.proofs.Replies.Scans.{InTable, read_at, rise_at, word_at, scan_hit, scan_miss, NoneIs, values_are}
+use Rattle.mc_theory.proofs.Replies.Scans.{InTable, read_at, rise_at, word_at, scan_hit, scan_miss, NoneIs, held_are}
 
 -- ---- a whole try
 slots_in : (sh : Shape) (b : ℕ) (ps : List Place) → b < sh.buckets → InTable sh ps → InTable sh (slots_of b ++ ps)
@@ -58,6 +58,9 @@ told_of None v = None
 told_of (Some i) v = Some v
 
 -- what was read within a window is what the map held then
+held_length : (V i : ℕ) (rs : List Reading) (held : List ℕ) → ReadsHit V (Some i) rs held → length held ≡ payload V
+held_length V i rs held reads = let all = ap length reads.4 ∙ length-append reads.2 (reads.1.word ∷ []) in omega (arith, all, reads.5, payload_is V)
+
 hit_told : (V : ℕ) (sh : Shape) (acts : List Made) (k f g d b c e : ℕ) (hit : Option ℕ) (v : List ℕ) (scan values : List Reading) → IsShape sh → Window V sh acts k f g → k < 2 ^ 64 → f ≤ d → b ≤ g → f ≤ c → e ≤ g → f ≤ g → AreRead V sh acts scan → RiseTo d scan b → Scans sh k (slots_for sh k) scan hit → AreRead V sh acts values → RiseTo c values e → ReadsHit V hit values v → map_value (front V sh acts f).history k ≡ told_of hit v
 hit_told V sh acts k f g d b c e None v scan values shape w key_in fd bg fc eg fg scan_read scan_rise scans values_read values_rise reads =
     held_from_absent V sh (front V sh acts f).words k (map_value (front V sh acts f).history k) (w.agrees f (omega arith) fg) (λ q i st.
@@ -70,19 +73,26 @@ hit_told V sh acts k f g d b c e (Some i) v scan values shape w key_in fd bg fc 
     let at = scan_hit V sh acts k f g d b i (slots_for sh k) scan w (tag_of-lt sh k key_in) (slots_for_in sh k shape) fd bg scan_read scan_rise scans in
     let here = held_from_present V sh (front V sh acts f).words k (map_value (front V sh acts f).history k) (w.agrees f (omega arith) fg) (at.0, i, at.1) in
     let is : i ≡ here.2.1 = (here.2.2.once at.0 i at.1).1 in
-    let val : HasValue V sh (front V sh acts f).words here.2.1 here.0 = here.2.3 in
-    let same : v ≡ here.0 = ext_get_or 0 v here.0 (reads.0 ∙ sym val.0) (λ m l.
-    let turn : 1 + m ≡ m + 1 = omega arith in
-    values_are V sh acts k f g c e at.0 i 1 values v w at.1 fc eg values_read values_rise reads.1 m l (omega (arith, reads.0, value_fits V)) ∙
-    ap (λ y. item V sh (front V sh acts f).words i y) turn ∙
+    let holds : HasPayload V sh (front V sh acts f).words here.2.1 here.0 = here.2.3 in
+    let many = held_length V i values v reads in
+    let same : v ≡ here.0 = ext_get_or 0 v here.0 (many ∙ sym holds.0) (λ m l.
+    held_are V sh acts k f g c e at.0 i values v w at.1 fc eg values_read values_rise reads m (omega (arith, l, many)) ∙
     ap (λ y. item V sh (front V sh acts f).words y (m + 1)) is ∙
-    val.1 m (omega (arith, reads.0, val.0))) in
+    holds.1 m (omega (arith, l, many, holds.0))) in
     here.1 ∙ ap Some (sym same)
 
--- a reply that tells what the map held at a moment is true
-answer_true : {V : ℕ} (h : List (Change V)) (k at lo hi : ℕ) (hit : Option ℕ) (v : List ℕ) → at ≤ length h → map_value (take at h) k ≡ told_of hit v → lo ≤ at → at ≤ hi → IsTrueAnswer h k (reply_of {V = V} hit v at) × IsBetween lo hi (reply_of {V = V} hit v at)
-answer_true h k at lo hi None v a b c d = ((a, b), (c, d))
-answer_true h k at lo hi (Some i) v a b c d = ((a, b), (c, d))
+-- what a hit read has a value and a stamp
+abbrev pub IsWhole : ℕ → Option ℕ → List ℕ → Type 0
+IsWhole V None held = Unit {0}
+IsWhole V (Some i) held = length held ≡ payload V
+
+hit_whole : (V : ℕ) (hit : Option ℕ) (rs : List Reading) (held : List ℕ) → ReadsHit V hit rs held → IsWhole V hit held
+hit_whole V None rs held reads = tt
+hit_whole V (Some i) rs held reads = held_length V i rs held reads
+
+answer_true : {V : ℕ} (h : List (Change V)) (k at lo hi : ℕ) (hit : Option ℕ) (v : List ℕ) → IsWhole V hit v → at ≤ length h → map_value (take at h) k ≡ told_of hit v → lo ≤ at → at ≤ hi → IsTrueAnswer h k (reply_of {V = V} hit v at) × IsBetween lo hi (reply_of {V = V} hit v at)
+answer_true h k at lo hi None v whole a b c d = ((a, b), (c, d))
+answer_true {V} h k at lo hi (Some i) v whole a b c d = ((a, b ∙ ap Some (sym (whole_payload V (since_of V v) v whole refl))), (c, d))
 
 -- what a try with one version throughout replies is true, at a moment of its span
 pub try_true : (V : ℕ) (sh : Shape) (acts : List Made) (k d e : ℕ) (rs : List Reading) (hit : Option ℕ) (v : List ℕ) (x at : ℕ) → IsShape sh → IsLawful V sh acts → k < 2 ^ 64 → e ≤ length acts → AreRead V sh acts rs → RiseTo d rs e → Tries V sh k rs hit v x x at →
@@ -115,12 +125,12 @@ try_true V sh acts k d e rs hit v x at shape lawful key_in within read rise t =
     let high : at ≤ length (front V sh acts e).history = omega (arith, is_at, moments_rise V sh acts m e (omega arith)) in
     let truth : map_value (front V sh acts f).history k ≡ told_of hit v = hit_told V sh acts k f g f rise_scan.0 rise_scan.0 rise_values.0 hit v t.scan t.values shape w key_in (omega arith) (omega arith) a (omega arith) (omega arith) read_scan.0 rise_scan.1 t.scans read_values.0 rise_values.1 t.reads in
     let size : at ≤ length (state_of V sh acts).history = omega (arith, length-take at (state_of V sh acts).history, ap length told, is_at) in
-    answer_true (state_of V sh acts).history k at (length (front V sh acts d).history) (length (front V sh acts e).history) hit v size
+    answer_true (state_of V sh acts).history k at (length (front V sh acts d).history) (length (front V sh acts e).history) hit v (hit_whole V hit t.values v t.reads) size
     (ap (λ y. map_value y k) told ∙ kept ∙ truth) low high
 
 -- what lies between two moments lies between wider ones
 wider : {V : ℕ} (r : Reply V) (a b c d : ℕ) → a ≤ b → c ≤ d → IsBetween b c r → IsBetween a d r
-wider (Found v at) a b c d x y h = (omega arith, omega arith)
+wider (Found v at since) a b c d x y h = (omega arith, omega arith)
 wider (Absent at) a b c d x y h = (omega arith, omega arith)
 wider Busy a b c d x y h = tt
 

@@ -12,5 +12,5 @@ returns-clause-law g c =
     let k = c.args.key in
     let v = c.args.value.now in
     let is = plan_is _ _ _ c.add_fill.ensures.items c.new-acts.ensures in
-    subst (λ (acts : List Act). ActsFill V sh k v c.args.item c.args.place acts) (sym is)
-    (fills V sh k v c.args.item c.args.place c.args.checked.now.sound (omega arith) c.told-value c.add_fill.ensures.words)
+    subst (λ (acts : List Act). ActsFill V sh k v c.args.at c.args.item c.args.place acts) (sym is)
+    (fills V sh k v c.args.at c.args.item c.args.place c.args.checked.now.sound (omega arith) c.told-value c.add_fill.ensures.words (omega arith))

@@ -11,5 +11,5 @@ returns-clause-law g c sh shape =
     let k = c.args.key in
     let v = c.args.value.now in
     let is = plan_is _ _ _ c.add_renew.ensures.items c.new-acts.ensures in
-    subst (λ (acts : List Act). ActsRenew V sh k v c.args.item acts) (sym is)
-    (renews V sh k v c.args.item shape (omega arith) c.told-value c.add_renew.ensures.words)
+    subst (λ (acts : List Act). ActsRenew V sh k v c.args.at c.args.item acts) (sym is)
+    (renews V sh k v c.args.at c.args.item shape (omega arith) c.told-value c.add_renew.ensures.words (omega arith))

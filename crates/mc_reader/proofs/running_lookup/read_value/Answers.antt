@@ -1,6 +1,8 @@
-use Rattle.std.proofs.Common.{rules, arith, ◌+◌, ◌∙◌, ap, refl, Some}
+use Rattle.std.proofs.Common.{rules, arith, ◌+◌, ◌∙◌, ap, refl, sym, Some}
+use Rattle.mc_words.specs.Places.{item_place}
+use Rattle.mc_shared.specs.declared.layout.Layout.{Layout}
 use Rattle.mc_theory.specs.declared.access.Access.TheVariants as access
-use Rattle.mc_reader.proofs.Course.{item_read, leads_on}
+use Rattle.mc_reader.proofs.Course.{leads_on}
 use Rattle.mc_reader.proofs.running_lookup.read_value.Goals as goal
 
 pub loop-count-preserved : goal.loop-count-preserved
@@ -13,4 +15,4 @@ loop-count-preserved g c = record {
 
 pub read_next-word-requires : goal.read_next-word-requires
 read_next-word-requires g c =
-    (omega arith, (omega arith, (search rules, (search rules, (search rules, ap Some (item_read g.row.V c.args.cells.now.layout.shape c.args.items c.args.i (c.loop-count.count + 1) c.requires.items ∙ omega arith))))))
+    (omega arith, (omega arith, (search rules, (search rules, (search rules, ap Some (ap (λ (l : Layout). item_place g.row.V l.shape c.args.i (c.loop-count.count + 1)) c.checked.ensures.layout ∙ sym c.item_from-place.ensures))))))

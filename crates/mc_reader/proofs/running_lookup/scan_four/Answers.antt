@@ -1,5 +1,7 @@
 use Rattle.std.proofs.Common.{rules, ◌≡◌, ◌+◌, ◌<◌, ℕ, Some, ⊎_elim, refl, ap, sym, ◌∙◌, subst, arith}
 use Rattle.mc_lookup.specs.Machine.{slots_from, stage_of}
+use Rattle.mc_words.specs.Places.{item_place}
+use Rattle.mc_shared.specs.declared.layout.Layout.{Layout}
 use Rattle.mc_theory.specs.declared.access.Access.TheVariants as access
 use Rattle.mc_lookup.specs.declared.lookup.Lookup.{Lookup}
 use Rattle.mc_shared.specs.Records.{ReaderRecord}
@@ -7,7 +9,7 @@ use Rattle.mc_reader.specs.Inside.Course.{Leads}
 use Rattle.mc_words.specs.declared.checked.Checked.{Checked}
 use Rattle.mc_words.specs.declared.place.Place.{Place}
 use Rattle.mc_lookup.specs.declared.stage.Stage.TheVariants as stage
-use Rattle.mc_reader.proofs.Course.{item_read, leads_on, next_is, slot_read, slots_below}
+use Rattle.mc_reader.proofs.Course.{leads_on, next_is, slot_read, slots_below}
 use Rattle.mc_reader.proofs.running_lookup.scan_four.Goals as goal
 use Rattle.mc_reader.proofs.running_lookup.scan_four.Goals.{in-Some+else-after_key, in_default}
 
@@ -68,4 +70,4 @@ read_next-word-requires g c =
 
 pub read_next-key-requires : goal.read_next-key-requires
 read_next-key-requires g c =
-    (omega arith, (omega arith, (search rules, (search rules, (search rules, ap Some (item_read g.row.V c.args.cells.now.layout.shape c.args.items c.in-Some.i 0 c.requires.items ∙ omega arith))))))
+    (omega arith, (omega arith, (search rules, (search rules, (search rules, ap Some (ap (λ (l : Layout). item_place g.row.V l.shape c.in-Some.i 0) c.checked.ensures.layout ∙ sym c.item_from-place.ensures))))))

@@ -42,7 +42,7 @@ returns-after-hit-clause-leads g c =
     let slots = leads_trans V sh old c.read_next-version.new.seat c.scan-hit.new.seat lookup c.after_first.new.self c.scan-hit.new.lookup first c.scan-hit.ensures.leads in
     let value : Leads V sh old lookup c.match-hit.seat c.match-hit.lookup = elim c.match-hit.branch [
       | in-Some w ↦ subst (λ (y : ReaderRecord × Lookup V). Leads V sh old lookup y.0 y.1) (λ i. (sym w.seat-is i, sym w.lookup-is i))
-          (leads_trans V sh old c.scan-hit.new.seat w.read_value.new.seat lookup c.scan-hit.new.lookup w.read_value.new.lookup slots w.read_value.ensures.leads)
+          (leads_trans V sh old c.scan-hit.new.seat w.read_held.new.seat lookup c.scan-hit.new.lookup w.read_held.new.lookup slots w.read_held.ensures.leads)
       | in_default w ↦ subst (λ (y : ReaderRecord × Lookup V). Leads V sh old lookup y.0 y.1) (λ i. (sym w.seat-is i, sym w.lookup-is i)) slots
     ] in
     leads_trans V sh old c.match-hit.seat c.conclude.new.seat lookup c.match-hit.lookup c.conclude.new.lookup value c.conclude.ensures.leads

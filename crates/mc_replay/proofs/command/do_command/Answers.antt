@@ -24,6 +24,15 @@ returns-in-BeginPut-false g c = rw c.in-BeginPut-false.is-0 (search rules)
 pub returns-in-BeginRemove-false : goal.returns-in-BeginRemove-false
 returns-in-BeginRemove-false g c = rw c.in-BeginRemove-false.is-0 (search rules)
 
+pub returns-in-PutIf-false : goal.returns-in-PutIf-false
+returns-in-PutIf-false g c = rw c.in-PutIf-false.is-0 (search rules)
+
+pub returns-in-Stamp-false : goal.returns-in-Stamp-false
+returns-in-Stamp-false g c = rw c.in-Stamp-false.is-0 (search rules)
+
+pub returns-in-BeginPutIf-false : goal.returns-in-BeginPutIf-false
+returns-in-BeginPutIf-false g c = rw c.in-BeginPutIf-false.is-0 (search rules)
+
 pub returns-in-Read-default : goal.returns-in-Read-default
 returns-in-Read-default g c = rw c.in-Read-default.is-0 (search rules)
 
@@ -34,7 +43,7 @@ returns-in-BeginGet-default g c =
     subst (λ (x : Command g.row.V). DoesBy g.row.V old new (string_bytes c.args.text.now) c.begin_get.result (λ sh s. Does sh s x)) (sym c.in-BeginGet-default.is-0)
     (subst (λ (t : List ℕ). DoesBy g.row.V old new t c.begin_get.result (λ sh s. Does sh s (BeginGet c.in-BeginGet-default.reader c.in-BeginGet-default.key))) (sym c.requires.0) c.begin_get.ensures)
 
--- a call runs: each of the five commands that start one, or look up, is refused
+-- a call runs: each of the eight commands that start one, or look up, is refused
 pub returns-in_default-true : goal.returns-in_default-true
 returns-in_default-true g c = λ most s room fits.
     (s, rw c.in_default-true.is-0 (still_running g.row.V c.args.player.now most s (string_bytes c.args.text.now) _ fits (sym c.in_default-true.ensures) c.requires.0), tt)
@@ -53,4 +62,16 @@ returns-in_default-true-4 g c = λ most s room fits.
 
 pub returns-in_default-true-5 : goal.returns-in_default-true-5
 returns-in_default-true-5 g c = λ most s room fits.
+    (s, rw c.in_default-true.is-0 (still_running g.row.V c.args.player.now most s (string_bytes c.args.text.now) _ fits (sym c.in_default-true.ensures) c.requires.0), tt)
+
+pub returns-in_default-true-6 : goal.returns-in_default-true-6
+returns-in_default-true-6 g c = λ most s room fits.
+    (s, rw c.in_default-true.is-0 (still_running g.row.V c.args.player.now most s (string_bytes c.args.text.now) _ fits (sym c.in_default-true.ensures) c.requires.0), tt)
+
+pub returns-in_default-true-7 : goal.returns-in_default-true-7
+returns-in_default-true-7 g c = λ most s room fits.
+    (s, rw c.in_default-true.is-0 (still_running g.row.V c.args.player.now most s (string_bytes c.args.text.now) _ fits (sym c.in_default-true.ensures) c.requires.0), tt)
+
+pub returns-in_default-true-8 : goal.returns-in_default-true-8
+returns-in_default-true-8 g c = λ most s room fits.
     (s, rw c.in_default-true.is-0 (still_running g.row.V c.args.player.now most s (string_bytes c.args.text.now) _ fits (sym c.in_default-true.ensures) c.requires.0), tt)

@@ -12,9 +12,9 @@ returns g c = λ most s room fits.
     let old : Player g.row.V = c.args.player.now in
     let idle = idle_of g.row.V old most s.running s.world fits c.requires.idle in
     let done = c.get-reply.ensures most s.world idle.1 room in
-    let told = told_as (GetDoes (shape_of_player old) s c.args.key) (string_bytes c.add_line.new.text) (idle_in done.after) c.add_line.result
+    let told = told_as (GetDoes (shape_of_player old) s c.args.key (reply_line {V = g.row.V})) (string_bytes c.add_line.new.text) (idle_in done.after) c.add_line.result
     (string_bytes c.add_line.new.text ≡ string_bytes c.args.text.now ++ reply_line c.get-reply.result) (FitsStill g.row.V old c.get-reply.new.self (most + most_steps) (idle_in done.after)) c.add_line.ensures.err c.add_line.ensures.ok
-    (λ is. get_done g.row.V old c.get-reply.new.self most c.args.key s c.get-reply.result (string_bytes c.add_line.new.text) idle.0 done (is ∙ ap (λ (l : List ℕ). l ++ reply_line c.get-reply.result) c.requires.can.0)) in
+    (λ is. get_done g.row.V old c.get-reply.new.self most c.args.key s c.get-reply.result (reply_line {V = g.row.V}) (string_bytes c.add_line.new.text) idle.0 done (is ∙ ap (λ (l : List ℕ). l ++ reply_line c.get-reply.result) c.requires.can.0)) in
     (idle_in done.after, told.0, told.1)
 
 pub get-reply-requires : goal.get-reply-requires

@@ -20,5 +20,5 @@ returns-else-found-item-clause-none g c =
     let sh = shape_of c.args.checked.now in
     let w = g.P.Peek.words c.args.peek.now in
     let there = c.in_ok-found.ensures.item in
-    stood_elsewhere V sh w c.requires.agrees.0 c.key_at-key.result c.args.item there.0 c.in_ok-found.found c.requires.agrees.1 c.key_at-key.ensures.value
-    (subst (λ (ws : List ℕ). Stands V sh ws c.key_at-key.result there.0 c.in_ok-found.found) (ap g.P.Peek.words c.key_at-key.ensures.kept) there.1) c.if-found-item.false
+    stood_elsewhere V sh w c.requires.agrees.0 c.key_at-key.result c.args.item there.0 c.in_ok-found.field-0.item c.requires.agrees.1 c.key_at-key.ensures.value
+    (subst (λ (ws : List ℕ). Stands V sh ws c.key_at-key.result there.0 c.in_ok-found.field-0.item) (ap g.P.Peek.words c.key_at-key.ensures.kept) there.1) c.if-found-item.false

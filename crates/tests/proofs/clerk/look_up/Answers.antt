@@ -6,8 +6,8 @@ use Rattle.mc_plan.proofs.Deeds.QuietStates.{agrees_quiet}
 use Rattle.mc_plan.specs.Clerks.{shape_of_clerk}
 use Rattle.tests.proofs.clerk.look_up.Goals as goal
 
-pub read-entry-requires : goal.read-entry-requires
-read-entry-requires c =
+pub read-held-requires : goal.read-held-requires
+read-held-requires c =
     let here = c.requires in
     let s = here.s in
     let agrees = agrees_quiet 1 (shape_of_clerk c.args.clerk.now) s here.knows.books.quiet in

@@ -17,5 +17,5 @@ returns-in-Ok c =
     let between : IsBetween (length h) (length h) reply = subst (λ (p : List (Change 1) × List (Change 1)). IsBetween (length p.0) (length p.1) reply) (λ i. (a i, b i)) c.get-reply.ensures.plain.between in
     elim (law.last h 7 reply true between) [
       | inl spoiled ↦ inl spoiled
-      | inr now ↦ inr (length h, law.found h 7 (70 ∷ []) reply c.in-Ok.ensures.plain.holds now)
+      | inr now ↦ inr (length h, _, law.found h 7 (70 ∷ []) _ reply c.in-Ok.ensures.plain.holds now)
     ]

@@ -1,4 +1,4 @@
-use Rattle.std.proofs.Common.{◌≡◌, Some, None, ap, subst, sym, ◌∙◌}
+use Rattle.std.proofs.Common.{◌≡◌, [], ◌∷◌, ◌++◌, Some, None, ap, subst, sym, ◌∙◌}
 use Rattle.mc_words.specs.declared.history.Reply.{Reply}
 use Rattle.mc_shared.specs.Records.{ReaderRecord}
 use Rattle.mc_cache.specs.Plain.{TellsNow, history, seen}
@@ -18,7 +18,7 @@ returns-clause-plain g c =
             met_still V (seen V c.args.self.now) h c.match-look.self c.catch_up-at.new.self met (ap (λ (r : ReaderRecord). r.of) self ∙ ap (λ (r : ReaderRecord). r.of) c.self.view_is)
                 (ap (λ (r : ReaderRecord). r.front) self ∙ ap (λ (r : ReaderRecord). r.front) c.self.view_is),
             subst (λ (reply : Reply V). TellsNow h c.args.key reply) (sym w.result-is)
-                (held_now V c.args.cache.now c.cache.inside.cells c.args.writer.now c.writer.inside.seat c.cache.view_is seat c.requires.of.1 c.args.key (Some w.in-Some.hit.1) w.in-Some.ensures.found, c.catch_up-at.ensures.plain.1),
+                (held_now V c.args.cache.now c.cache.inside.cells c.args.writer.now c.writer.inside.seat c.cache.view_is seat c.requires.of.1 c.args.key (Some (w.in-Some.held.value ++ w.in-Some.held.since ∷ [])) w.in-Some.ensures.found, c.catch_up-at.ensures.plain.1),
           )
       | in-None w ↦ (
         met_still V (seen V c.args.self.now) h c.match-look.self c.catch_up-at.new.self met (ap (λ (r : ReaderRecord). r.of) w.self-is) (ap (λ (r : ReaderRecord). r.front) w.self-is),

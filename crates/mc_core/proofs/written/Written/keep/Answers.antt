@@ -1,12 +1,14 @@
-use Rattle.std.proofs.Common.{refl, ◌+◌, arith}
-use Rattle.std.proofs.lemmas.Grind.{take-set_at}
-use Rattle.mc_words.specs.Places.{payload}
+use Rattle.std.proofs.Common.{arith}
+use Rattle.mc_words.proofs.Payload.{payload_is}
+use Rattle.mc_core.proofs.WrittenWords.{kept_in_value, kept_as_stamp}
 use Rattle.mc_core.proofs.written.Written.keep.Goals as goal
 
-pub bounds-self-count : goal.bounds-self-count
-unfolding payload
-bounds-self-count g c = omega (arith, c.requires, c.args.self.now.whole)
+pub returns-then-place : goal.returns-then-place
+returns-then-place g c =
+    let v = c.args.self.now in
+    kept_in_value v.value v.stamp c.args.count c.from-place.result c.args.word c.from-place.ensures (omega (arith, c.if-place.true, c.from-place.ensures, v.whole))
 
-pub returns : goal.returns
-unfolding payload
-returns g c = take-set_at c.args.self.now.value c.args.count (c.args.count + 1) c.args.word refl (omega (arith, c.requires, c.args.self.now.whole))
+pub returns-else-place : goal.returns-else-place
+returns-else-place g c =
+    let v = c.args.self.now in
+    kept_as_stamp v.value v.stamp c.args.count c.args.word (omega (arith, c.if-place.false, c.from-place.ensures, c.requires, v.whole, payload_is g.row.V))

@@ -61,5 +61,5 @@ returns-clause-exchanged g c call s rs on same =
     let at : c.moment-at.result + 2 ≡ moment mid.words + 2 = ap (λ (n : ℕ). n + 2) c.moment-at.ensures.value ∙ ap (λ (w : List ℕ). moment w + 2) (same ∙ back) in
     let none : length ps ≡ 0 = ap length c.requires.near in
     let cut : IsCut p ps waiting.path.hole [] waiting.path.hole = inr ((λ h. absurd (omega (arith, h.1, none))), sym c.requires.near, refl) in
-    let planned = replaced_planned V b waiting call s rs i on e p [] waiting.path.hole (c.moment-at.result + 2) (b.version_steps + 4) c.have_words.ensures.words (omega (arith, c.key_at-evicted.type_inv)) c.in-Some.ensures.place stands cut tt at refl in
+    let planned = replaced_planned V b waiting call s rs i (c.moment-at.result + 2) on e p [] waiting.path.hole (b.version_steps + 4) c.have_words.ensures.words (omega (arith, c.key_at-evicted.type_inv)) c.in-Some.ensures.place stands cut tt at refl in
     record { in_items = (victim_stands V b waiting call s rs i on).0; planned = planned.0; sweeps = planned.1 }

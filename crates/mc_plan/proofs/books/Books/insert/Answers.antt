@@ -84,10 +84,10 @@ returns-clause-inserted g c s lacks same =
     let was = c.in-Some-take_least.ensures.free in
     let item = free_below b.free i old.kept was in
     let below : i < sh.items = omega (arith, item, old.items) in
-    let planned : IsPlanned V (record b { free = free; version_steps = b.version_steps + steps }) (put_acts V sh s.words k v i ps path.hole ++ act.Mark i ∷ []) (PutCall k v) s s (answer.Put (Ok (put.Stored c.args.at (length ps) None))) =
+    let planned : IsPlanned V (record b { free = free; version_steps = b.version_steps + steps }) (put_acts V sh s.words k v c.args.at i ps path.hole ++ act.Mark i ∷ []) (PutCall k v) s s (answer.Put (Ok (put.Stored c.args.at (length ps) None))) =
     stored_planned V b k v i c.args.at path free s b.checked.sound (omega arith) (c.told-value, c.have_words.ensures.words) old lacks.absent least keys below lacks.unspent lacks.next was c.take_least.ensures.kept c.take_least.ensures.items c.in-Some-take_least.ensures.takes in
-    let at_item : (put_acts V sh s.words k v i ps path.hole ++ act.Mark i ∷ []) ≡ (put_acts V sh s.words k v storing.item ps path.hole ++ act.Mark storing.item ∷ []) =
-    ap (λ (j : ℕ). put_acts V sh s.words k v j ps path.hole ++ act.Mark j ∷ []) (sym c.store.ensures.item) in
+    let at_item : (put_acts V sh s.words k v c.args.at i ps path.hole ++ act.Mark i ∷ []) ≡ (put_acts V sh s.words k v storing.at storing.item ps path.hole ++ act.Mark storing.item ∷ []) =
+    ap (λ (j : ℕ). put_acts V sh s.words k v c.args.at j ps path.hole ++ act.Mark j ∷ []) (sym c.store.ensures.item) ∙ ap (λ (n : ℕ). put_acts V sh s.words k v n storing.item ps path.hole ++ act.Mark storing.item ∷ []) (sym c.store.ensures.at) in
     let moved = c.store.ensures.moves ∙ ap (λ (x : List ℕ). moves_acts V sh x ps path.hole) now in
     let acts = at_item ∙ stored_acts V sh s.words k v ps path.hole storing moved c.store.ensures.place in
     let tells : put.Stored c.args.at (length ps) None ≡ storing_told storing None =

@@ -102,10 +102,10 @@ returns-clause-replaced g c call s rs on same =
     let changes : c.store.new.self.version_steps + 2 ≡ b.version_steps + (2 * length kept + 4) = omega (arith, ap (λ (x : Books). x.version_steps) books) in
     let after : Books = record c.store.new.self { version_steps = c.store.new.self.version_steps + 2 } in
     let same_books : after ≡ record b { version_steps = c.store.new.self.version_steps + 2; decided = storing } = ap (λ (x : Books). record x { version_steps = c.store.new.self.version_steps + 2 }) books in
-    let planned = replaced_planned V b waiting call s rs i on e p kept end (c.moment-at.result + 2) (c.store.new.self.version_steps + 2) c.have_words.ensures.words (omega (arith, c.key_at-evicted.type_inv)) c.in-Some.ensures.place stands c.cut_at-path.ensures.cut keys at changes in
+    let planned = replaced_planned V b waiting call s rs i (c.moment-at.result + 2) on e p kept end (c.store.new.self.version_steps + 2) c.have_words.ensures.words (omega (arith, c.key_at-evicted.type_inv)) c.in-Some.ensures.place stands c.cut_at-path.ensures.cut keys at changes in
     let r : Replacement = record { evicted = e; victim = p } in
     let moved = c.store.ensures.moves ∙ ap (λ (w : List ℕ). moves_acts V sh w kept end) now in
-    let acts = ap (λ (j : ℕ). replace_acts V sh mid.words k v j e p kept end ++ act.Mark j ∷ []) (sym c.store.ensures.item) ∙ replaced_acts V sh mid.words k v kept end r storing moved c.store.ensures.place in
+    let acts = ap (λ (j : ℕ). replace_acts V sh mid.words k v (c.moment-at.result + 2) j e p kept end ++ act.Mark j ∷ []) (sym c.store.ensures.item) ∙ ap (λ (n : ℕ). replace_acts V sh mid.words k v n storing.item e p kept end ++ act.Mark storing.item ∷ []) (sym c.store.ensures.at) ∙ replaced_acts V sh mid.words k v kept end r storing moved c.store.ensures.place in
     let tells : put.Stored (c.moment-at.result + 2) (length kept) (Some e) ≡ storing_told storing (Some e) =
     ap (λ (n : ℕ). put.Stored n (length kept) (Some e)) (sym c.store.ensures.at) ∙ ap (λ (n : ℕ). put.Stored storing.at n (Some e)) (sym c.store.ensures.many) in
     let listed : IsPlanned V (record b { version_steps = c.store.new.self.version_steps + 2 }) (replacement_acts sh k v r storing) call s mid (answer.Put (Ok (storing_told storing (Some e)))) =

@@ -1,14 +1,14 @@
 use Rattle.std.proofs.Common.{◌≡◌, arith, refl, ap, sym, subst}
 use Rattle.mc_theory.specs.Lists.{state_of}
 use Rattle.mc_theory.specs.States.{State}
-use Rattle.mc_plan.specs.WholeCalls.{PutCall, RemoveCall}
+use Rattle.mc_plan.specs.WholeCalls.{PutCall, PutIfCall, RemoveCall}
 use Rattle.mc_replay.specs.Inside.Players.{shape_of_player, call_of, IsInCall}
 use Rattle.mc_replay.specs.Replay.{pending}
 use Rattle.mc_replay.specs.declared.player.Call.{Call}
 use Rattle.mc_replay.specs.declared.player.Player.{Player}
 use Rattle.mc_replay.proofs.WriterCalls.{begun, begins_as, TellsAs}
 use Rattle.mc_replay.proofs.player.Player.begin.Goals as goal
-use Rattle.mc_replay.proofs.player.Player.begin.Goals.{in-Put, in-Remove}
+use Rattle.mc_replay.proofs.player.Player.begin.Goals.{in-Put, in-PutIf, in-Remove}
 
 pub returns : goal.returns
 returns g c = λ most w idle.
@@ -23,6 +23,12 @@ returns g c = λ most w idle.
           let on = b.put.ensures.on s idle.knows words in
           let begins = begun g.row.V old put most (PutCall b.in-Put.key b.in-Put.value) w idle refl b.put.ensures.shape on (omega (arith, b.put.ensures.left, b.put.new.self.books.checked.sound.items, b.put.new.self.books.checked.sound.buckets)) in
           subst (λ (m : Player g.row.V). (shape_of_player m ≡ shape_of_player old) × IsInCall g.row.V m most (pending (call_of c.args.call) s) w) (sym b.self-is) (refl, subst (λ (x : Call g.row.V). IsInCall g.row.V put most (pending (call_of x) s) w) (sym b.in-Put.is) begins)
+          )
+      | in-PutIf b ↦ (
+          let put : Player g.row.V = record { world = old.world; clerk = b.put_if.new.self } in
+          let on = b.put_if.ensures.on s idle.knows words in
+          let begins = begun g.row.V old put most (PutIfCall b.in-PutIf.key b.in-PutIf.since b.in-PutIf.value) w idle refl b.put_if.ensures.shape on (omega (arith, b.put_if.ensures.left)) in
+          subst (λ (m : Player g.row.V). (shape_of_player m ≡ shape_of_player old) × IsInCall g.row.V m most (pending (call_of c.args.call) s) w) (sym b.self-is) (refl, subst (λ (x : Call g.row.V). IsInCall g.row.V put most (pending (call_of x) s) w) (sym b.in-PutIf.is) begins)
           )
       | in-Remove b ↦ (
           let removed : Player g.row.V = record { world = old.world; clerk = b.remove.new.self } in

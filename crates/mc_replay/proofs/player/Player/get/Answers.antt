@@ -11,7 +11,7 @@ pub mark-requires : goal.mark-requires
 mark-requires g c =
     let first = c.requires in
     let stands = c.in-Some.ensures.item.1 in
-    let in_items : c.in-Some.found.0 < (shape_of_player {V = g.row.V} c.args.self.now).items = subst (λ (y : Shape). c.in-Some.found.0 < y.items) c.checked-checked.ensures stands.names.in_items in
+    let in_items : c.in-Some.held.item < (shape_of_player {V = g.row.V} c.args.self.now).items = subst (λ (y : Shape). c.in-Some.held.item < y.items) c.checked-checked.ensures stands.names.in_items in
     (player_room _ _ (omega (arith, c.requires.2.knows.books.width)) (omega (arith, c.requires.2.knows.books.width)), (first.0, first.1, first.2, first.3, in_items))
 
 pub returns-in-Some : goal.returns-in-Some
@@ -23,7 +23,7 @@ returns-in-Some g c = λ most w idle room.
     record {
       acts = _;
       after = marked.after;
-      looks = looks_found g.row.V old most c.args.key c.in-Some.found.0 c.moment-at.result c.in-Some.ensures.item.0 c.in-Some.found.1 w _ idle c.checked-checked.ensures value c.moment-at.ensures.value c.in-Some.ensures.item.1;
+      looks = looks_found g.row.V old most c.args.key c.in-Some.held.item c.moment-at.result c.in-Some.held.since c.in-Some.ensures.item.0 c.in-Some.held.value w _ idle c.checked-checked.ensures value c.moment-at.ensures.value c.in-Some.ensures.item.1;
       makes = marked.makes;
       shape = marked.shape;
       idle = idle_more g.row.V c.mark.new.self (most + 1) (most + most_steps) marked.after (omega arith) marked.idle;

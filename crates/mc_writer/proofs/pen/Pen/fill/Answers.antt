@@ -4,12 +4,12 @@ use Rattle.mc_words.specs.Places.{item_place}
 use Rattle.mc_words.specs.declared.shape.Shape.{Shape}
 use Rattle.mc_theory.specs.declared.act.Act.TheVariants as act
 use Rattle.mc_theory.specs.declared.act.Deed.TheVariants as deed
-use Rattle.mc_plan.specs.Plans.{value_acts}
+use Rattle.mc_plan.specs.Plans.{payload_acts}
 use Rattle.mc_shared.specs.declared.layout.Layout.{Layout}
 use Rattle.mc_writer.specs.Inside.Pens.{IsDue, HasMade}
 use Rattle.mc_writer.proofs.Pens.{first_due, made_then, rest_due, same_then, shape_kept}
 use Rattle.mc_writer.proofs.pen.Pen.fill.Goals as goal
-use Rattle.mc_writer.proofs.pen.Pen.fill.Goals.{After-write_value, After-write_slot}
+use Rattle.mc_writer.proofs.pen.Pen.fill.Goals.{After-write_payload, After-write_slot}
 use Rattle.mc_writer.proofs.pen.Pen.fill.Given.{Over}
 
 pub open_deed-requires : goal.open_deed-requires
@@ -20,38 +20,38 @@ write_item_from-requires g c =
     let d1 = rest_due _ c.open_deed.ensures.made c.requires.due in
     (omega arith, (c.requires.width, ((subst (λ (sh : Shape). c.items_start-items.result ≡ item_place g.row.V sh 0 0) (sym (shape_kept c.open_deed.ensures.made.same)) c.items_start-items.ensures.value, c.items_start-items.ensures.small), first_due g.row.V (act.Item c.args.i 0 c.args.key ∷ []) _ _ d1)))
 
-pub write_value-requires : goal.write_value-requires
-write_value-requires g c =
+pub write_payload-requires : goal.write_payload-requires
+write_payload-requires g c =
     let same = same_then c.open_deed.ensures.made.same c.write_item_from.ensures.made.same in
     let d1 = rest_due _ c.open_deed.ensures.made c.requires.due in
     let d2 = rest_due _ c.write_item_from.ensures.made d1 in
-    (omega arith, (omega (arith, c.requires.width), (c.requires.width, ((subst (λ (sh : Shape). c.items_start-items.result ≡ item_place g.row.V sh 0 0) (sym (shape_kept same)) c.items_start-items.ensures.value, c.items_start-items.ensures.small), first_due g.row.V (value_acts c.args.i 1 c.args.value.now) _ _ d2))))
+    (omega arith, (omega (arith, c.requires.width), (c.requires.width, ((subst (λ (sh : Shape). c.items_start-items.result ≡ item_place g.row.V sh 0 0) (sym (shape_kept same)) c.items_start-items.ensures.value, c.items_start-items.ensures.small), first_due g.row.V (payload_acts c.args.i c.args.value.now c.args.at) _ _ d2))))
 
 -- what is due after the value
-due_after_value : (g : Over) (c : After-write_value g) → IsDue g.row.V (act.Slot c.args.place c.slot_word-named.result ∷ act.Moment ∷ act.Close ∷ []) c.write_value.new.self
+due_after_value : (g : Over) (c : After-write_payload g) → IsDue g.row.V (act.Slot c.args.place c.slot_word-named.result ∷ act.Moment ∷ act.Close ∷ []) c.write_payload.new.self
 due_after_value g c =
     let d1 = rest_due _ c.open_deed.ensures.made c.requires.due in
     let d2 = rest_due _ c.write_item_from.ensures.made d1 in
-    let d3 = rest_due _ c.write_value.ensures.made d2 in
+    let d3 = rest_due _ c.write_payload.ensures.made d2 in
     let named = c.slot_word-named.ensures ∙ ap (λ (t : ℕ). slot_word t c.args.i) (c.tag.ensures ∙ ap (λ (l : Layout). tag_of l.shape c.args.key) (sym c.checked-checked.ensures.layout)) in
-    subst (λ (x : ℕ). IsDue g.row.V (act.Slot c.args.place x ∷ act.Moment ∷ act.Close ∷ []) c.write_value.new.self) (sym named) d3
+    subst (λ (x : ℕ). IsDue g.row.V (act.Slot c.args.place x ∷ act.Moment ∷ act.Close ∷ []) c.write_payload.new.self) (sym named) d3
 
 pub write_slot-requires : goal.write_slot-requires
-write_slot-requires g c = (omega arith, first_due g.row.V (act.Slot c.args.place c.slot_word-named.result ∷ []) _ _ (due_after_value g (goal.at.write_slot-requires g c).After-write_value))
+write_slot-requires g c = (omega arith, first_due g.row.V (act.Slot c.args.place c.slot_word-named.result ∷ []) _ _ (due_after_value g (goal.at.write_slot-requires g c).After-write_payload))
 
 pub count_moment-requires : goal.count_moment-requires
 count_moment-requires g c =
-    let d4 = rest_due _ c.write_slot.ensures.made (due_after_value g (goal.at.count_moment-requires g c).After-write_value) in
+    let d4 = rest_due _ c.write_slot.ensures.made (due_after_value g (goal.at.count_moment-requires g c).After-write_payload) in
     (omega arith, first_due g.row.V (act.Moment ∷ []) _ _ d4)
 
 pub close_deed-requires : goal.close_deed-requires
 close_deed-requires g c =
-    let d4 = rest_due _ c.write_slot.ensures.made (due_after_value g (goal.at.close_deed-requires g c).After-write_value) in
+    let d4 = rest_due _ c.write_slot.ensures.made (due_after_value g (goal.at.close_deed-requires g c).After-write_payload) in
     let d5 = rest_due _ c.count_moment.ensures.made d4 in
     (omega arith, first_due g.row.V (act.Close ∷ []) _ _ d5)
 
 pub returns : goal.returns
 returns g c =
     let named = c.slot_word-named.ensures ∙ ap (λ (t : ℕ). slot_word t c.args.i) (c.tag.ensures ∙ ap (λ (l : Layout). tag_of l.shape c.args.key) (sym c.checked-checked.ensures.layout)) in
-    let m4 = subst (λ (x : ℕ). HasMade g.row.V (act.Slot c.args.place x ∷ []) c.write_value.new.self c.write_slot.new.self) named c.write_slot.ensures.made in
-    record { made = made_then c.open_deed.ensures.made (made_then c.write_item_from.ensures.made (made_then c.write_value.ensures.made (made_then m4 (made_then c.count_moment.ensures.made c.close_deed.ensures.made)))) }
+    let m4 = subst (λ (x : ℕ). HasMade g.row.V (act.Slot c.args.place x ∷ []) c.write_payload.new.self c.write_slot.new.self) named c.write_slot.ensures.made in
+    record { made = made_then c.open_deed.ensures.made (made_then c.write_item_from.ensures.made (made_then c.write_payload.ensures.made (made_then m4 (made_then c.count_moment.ensures.made c.close_deed.ensures.made)))) }

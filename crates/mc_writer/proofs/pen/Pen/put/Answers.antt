@@ -11,19 +11,19 @@ use Rattle.mc_writer.proofs.pen.Pen.put.Goals as goal
 use Rattle.mc_writer.proofs.pen.Pen.put.Goals.{After-make_renewal}
 use Rattle.mc_writer.proofs.pen.Pen.put.Given.{Over}
 
-made : (g : Over) (c : After-make_renewal g) → HasMade g.row.V (renewal_acts c.args.key c.args.value.now c.in-Renew.item) c.args.self.now c.make_renewal.new.self
-made g c = subst (λ (x : Pen g.row.V). HasMade g.row.V (renewal_acts c.args.key c.args.value.now c.in-Renew.item) x c.make_renewal.new.self) c.decide.ensures.pen c.make_renewal.ensures.made
+made : (g : Over) (c : After-make_renewal g) → HasMade g.row.V (renewal_acts c.args.key c.args.value.now c.in-Renew.at c.in-Renew.item) c.args.self.now c.make_renewal.new.self
+made g c = subst (λ (x : Pen g.row.V). HasMade g.row.V (renewal_acts c.args.key c.args.value.now c.in-Renew.at c.in-Renew.item) x c.make_renewal.new.self) c.decide.ensures.pen c.make_renewal.ensures.made
 
 -- a renewal is a whole call
 renewed : (g : Over) (c : After-make_renewal g) → HasCalled g.row.V c.args.self.now.cells.now.layout.shape (PutCall c.args.key c.args.value.now) c.args.self.now.seat.now c.make_renewal.new.self.seat.now (answer.Put (Ok (put.Renewed c.in-Renew.at))) × IsRested g.row.V c.decide.new.books c.make_renewal.new.self.seat.now
 renewed g c =
-    made_now g.row.V c.args.self.now c.decide.new.books (PutCall c.args.key c.args.value.now) (answer.Put (Ok (put.Renewed c.in-Renew.at))) (layout_rested g.row.V c.args.self.now c.args.books.now c.decide.new.books c.requires.rested c.decide.ensures.shape) (renewal_acts c.args.key c.args.value.now c.in-Renew.item) c.make_renewal.new.self (made g c) refl c.in-Renew.ensures.decided
+    made_now g.row.V c.args.self.now c.decide.new.books (PutCall c.args.key c.args.value.now) (answer.Put (Ok (put.Renewed c.in-Renew.at))) (layout_rested g.row.V c.args.self.now c.args.books.now c.decide.new.books c.requires.rested c.decide.ensures.shape) (renewal_acts c.args.key c.args.value.now c.in-Renew.at c.in-Renew.item) c.make_renewal.new.self (made g c) refl c.in-Renew.ensures.decided
 
 pub make_renewal-requires : goal.make_renewal-requires
 make_renewal-requires g c =
     let V = g.row.V in
     let pen = c.args.self.now in
-    let plan = renewal_acts c.args.key c.args.value.now c.in-Renew.item in
+    let plan = renewal_acts c.args.key c.args.value.now c.in-Renew.at c.in-Renew.item in
     let layout = layout_rested V pen c.args.books.now c.decide.new.books c.requires.rested c.decide.ensures.shape in
     let due = due_now V pen c.decide.new.books (PutCall c.args.key c.args.value.now) (answer.Put (Ok (put.Renewed c.in-Renew.at))) layout plan c.in-Renew.ensures.decided in
     let width = c.requires.rested.known.width in
