@@ -5,7 +5,8 @@ use Rattle.mc_words.specs.Keys.{tag_of, slot_word, first_of, second_of, IsBucket
 use Rattle.mc_words.specs.Places.{payload, slot, item}
 use Rattle.mc_words.specs.Shapes.{IsShape}
 use Rattle.std.proofs.lemmas.Grind.{same_number_lists}
-use Rattle.mc_words.specs.Standing.{Stands, HasPayload, HasValue, IsAbsent, AgreesAt, Agrees}
+use Rattle.mc_words.specs.Inside.Values.{HasValue}
+use Rattle.mc_words.specs.Standing.{Stands, HasPayload, IsAbsent, AgreesAt, Agrees}
 use Rattle.mc_words.specs.History.{map_value}
 use Rattle.mc_words.specs.declared.history.Change.{Change}
 use Rattle.mc_words.proofs.Frames.{slot_word-parts}

@@ -4,7 +4,8 @@ ghost use Rattle.mc_words.specs.declared.history.Change.{Change};
 ghost use Rattle.mc_words.specs.Checks.{shape_of};
 ghost use Rattle.mc_words.specs.History.{map_value};
 ghost use Rattle.mc_words.specs.Places.{IsWidth, moment, word_count};
-ghost use Rattle.mc_words.specs.Standing.{Agrees, HasValue, Stands};
+ghost use Rattle.mc_words.specs.Inside.Values.{HasValue};
+ghost use Rattle.mc_words.specs.Standing.{Agrees, Stands};
 
 use crate::finding::find;
 use crate::word::{stamp_at, word_at};

@@ -5,7 +5,8 @@ use Rattle.std.proofs.lemmas.Bool.{cases_eq}
 use Rattle.std.proofs.lemmas.List.{ext_get_or, length-take-le, get_or-take, get_or_push, get_or_append_left}
 use Rattle.mc_words.specs.History.{since_of, value_of}
 use Rattle.mc_words.specs.Places.{item, payload, most_payload, IsWidth}
-use Rattle.mc_words.specs.Standing.{HasPayload, HasValue}
+use Rattle.mc_words.specs.Inside.Values.{HasValue}
+use Rattle.mc_words.specs.Standing.{HasPayload}
 use Rattle.mc_words.specs.declared.shape.Shape.{Shape}
 
 -- an item has room for a value

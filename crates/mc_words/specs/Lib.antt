@@ -9,3 +9,4 @@ pub mod Chains
 pub mod Answers
 pub mod Sizing
 pub mod Readers
+pub mod Inside

@@ -43,10 +43,6 @@ ItemBegins V sh w i xs = (j : ℕ) → j < length xs → item V sh w i (j + 1) �
 abbrev pub HasPayload : ℕ → Shape → List ℕ → ℕ → List ℕ → Type 0
 HasPayload V sh w i xs = (length xs ≡ payload V) × ItemBegins V sh w i xs
 
--- the first V words after an item's key, its value, are these
-abbrev pub HasValue : ℕ → Shape → List ℕ → ℕ → List ℕ → Type 0
-HasValue V sh w i v = (length v ≡ V) × ItemBegins V sh w i v
-
 -- where the key stands is one slot, in a bucket of the key and under its tag
 pub record OnlyAt (V : ℕ) (sh : Shape) (w : List ℕ) (k q i : ℕ) : Type 0 where
   pub stands : Stands V sh w k q i

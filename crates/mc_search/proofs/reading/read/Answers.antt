@@ -3,7 +3,7 @@ use Rattle.std.specs.Prelude.{ℕ}
 use Rattle.mc_words.specs.Checks.{shape_of}
 use Rattle.mc_words.specs.History.{map_value}
 use Rattle.mc_words.specs.Places.{item, payload, slot_number}
-use Rattle.mc_words.specs.Standing.{HasValue}
+use Rattle.mc_words.specs.Inside.Values.{HasValue}
 use Rattle.mc_theory.proofs.Invariant.RunningDeed.{held_from_absent}
 use Rattle.mc_search.proofs.KeySlots.{held_payload, placed-quiet}
 use Rattle.mc_search.proofs.reading.read.Goals as goal
