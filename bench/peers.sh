@@ -14,8 +14,10 @@ names=(cefrodil twin libcuckoo tbb urcu dashmap locked)
 workloads='
 hit-1k ns_lookup --workload hit --keys 1000 --capacity 1000
 hit-100k ns_lookup --workload hit --keys 100000 --capacity 100000
+hit-1m ns_lookup --workload hit --keys 1000000 --capacity 1000000
 miss-1k ns_lookup --workload miss --keys 1000 --capacity 1000
 miss-100k ns_lookup --workload miss --keys 100000 --capacity 100000
+miss-1m ns_lookup --workload miss --keys 1000000 --capacity 1000000
 read3-64 lookups_s --workload hit --readers 3 --keys 64 --capacity 64
 mixed-100k lookups_s,writes_s --workload mixed --readers 3 --writers 1 --keys 100000 --capacity 100000
 renew-1k writes_s --workload mixed --readers 0 --writers 1 --keys 1000 --capacity 1000
@@ -37,7 +39,7 @@ takes() {
 
 run_rounds "$@"
 print_table \
-    "hit 1k|hit 100k|miss 1k|miss 100k|3 readers, 64 keys|3 readers + 1 writer, 100k: reads|writes|renew 1k|renew 100k|fill 1k|fill 100k|evict 1k|evict 100k|load factor|bytes a key" \
-    "hit-1k ns_lookup|hit-100k ns_lookup|miss-1k ns_lookup|miss-100k ns_lookup|read3-64 lookups_s|mixed-100k lookups_s|mixed-100k writes_s|renew-1k writes_s|renew-100k writes_s|fill-1k writes_s|fill-100k writes_s|evict-1k writes_s|evict-100k writes_s|load load_factor|fill-100k bytes_key" \
+    "hit 1k|hit 100k|hit 1M|miss 1k|miss 100k|miss 1M|3 readers, 64 keys|3 readers + 1 writer, 100k: reads|writes|renew 1k|renew 100k|fill 1k|fill 100k|evict 1k|evict 100k|load factor|bytes a key" \
+    "hit-1k ns_lookup|hit-100k ns_lookup|hit-1m ns_lookup|miss-1k ns_lookup|miss-100k ns_lookup|miss-1m ns_lookup|read3-64 lookups_s|mixed-100k lookups_s|mixed-100k writes_s|renew-1k writes_s|renew-100k writes_s|fill-1k writes_s|fill-100k writes_s|evict-1k writes_s|evict-100k writes_s|load load_factor|fill-100k bytes_key" \
     'twin|cefrodil|libcuckoo|tbb|urcu|dashmap|locked' \
     'twin|Cefrodil|libcuckoo|TBB|userspace RCU|dashmap|RwLock and HashMap'

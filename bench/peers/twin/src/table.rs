@@ -134,10 +134,13 @@ impl Table {
         (item < u64::from(self.shape.items)).then_some(item)
     }
 
-    /// Marks an item as used.
+    /// Marks an item as used. A bit that is set is left alone.
     #[inline(always)]
     pub fn mark(&self, item: u64) {
-        self.word(self.bits + item as usize / 64).fetch_or(1 << (item % 64), SeqCst);
+        let (word, bit) = (self.word(self.bits + item as usize / 64), 1 << (item % 64));
+        if word.load(SeqCst) & bit == 0 {
+            word.fetch_or(bit, SeqCst);
+        }
     }
 
     /// Clears an item's bit. Whether it was set.
