@@ -19,10 +19,20 @@ struct Draws {
     limit: u64,
     /// Whether the tables have few items, and readers look up between the hand's readings.
     sweeps: bool,
+    /// Whether one call in three asks for a key's stamp, or goes by it.
+    stamps: bool,
 }
 
 /// A put that evicts a key and moves none makes so many acts after its sweep.
 const ACTS_AFTER_SWEEP: u64 = 12;
+
+/// The stamp in the last of these lines, or 0.
+fn stamp_in(told: &str) -> u64 {
+    let last = told.lines().last().unwrap_or("");
+    last.split_once(" since ")
+        .and_then(|parts| parts.1.parse::<u64>().ok())
+        .unwrap_or(0)
+}
 
 /// A script, and what its lines ask for.
 #[derive(Drop)]
@@ -109,6 +119,46 @@ impl Script {
                 self.ask(Asked::Put(key, number), line)
             }
         }
+    }
+
+    /// The stamp of the key as it stands, or 0.
+    fn stamp_of(&self, key: u64) -> io::Result<u64> {
+        let line = format!(in self.alloc; "{}stamp {key}\n", self.text)?;
+        let (output, _) = play(self.alloc, &self.checked, line.as_str())?;
+        Ok(stamp_in(str::from_utf8(output.as_slice()).unwrap_or("")))
+    }
+
+    /// A put on the condition that the key has this stamp, whole or act by act.
+    fn put_if(&mut self, slowly: bool, key: u64, since: u64, number: u64) -> io::Result<()> {
+        let asked = Asked::PutIf(key, since, number);
+        let line = format!(in self.alloc; "putif {key} {since} {number}")?;
+        if !slowly {
+            self.ask(asked, line)?;
+            return Ok(());
+        }
+        let line = format!(in self.alloc; "begin {line}")?;
+        self.ask(asked, line)?;
+        let left = self.left("w")?;
+        if left > 0 {
+            let line = format!(in self.alloc; "w {left}")?;
+            self.add(line)?;
+        }
+        Ok(())
+    }
+
+    /// A whole get that tells the stamp, or a put on the condition that it is a drawn one or the one that stands.
+    fn stamp_call(&mut self, draw: u32, key: u64, number: u64) -> io::Result<()> {
+        if draw % 4 == 0 {
+            let line = format!(in self.alloc; "stamp {key}")?;
+            self.ask(Asked::Stamp(key), line)?;
+            return Ok(());
+        }
+        let since = if draw % 4 == 1 {
+            u64::from(draw / 8).checked_rem(number).unwrap_or(0)
+        } else {
+            self.stamp_of(key)?
+        };
+        self.put_if(draw / 4 % 2 == 0, key, since, number)
     }
 
     /// A reader begins a lookup, or goes on with the one that it runs. An odd draw goes on to its end.
@@ -224,7 +274,9 @@ fn drawn(
         .saturating_add(2);
     for number in 0..draws.calls {
         let key = drawn_key(rng, keys);
-        if draws.sweeps && rng.next_u32() % 2 == 0 {
+        if draws.stamps && rng.next_u32() % 3 == 0 {
+            script.stamp_call(rng.next_u32(), key, number)?;
+        } else if draws.sweeps && rng.next_u32() % 2 == 0 {
             script.put_slowly(rng, keys, key, number)?;
         } else {
             script.call(rng.next_u32(), key, number)?;
@@ -280,6 +332,7 @@ fn drawn_scripts_are_answered_as_a_plain_map_says(rt: HostRuntime) -> Result<(),
         one_in: 500,
         limit: 1000,
         sweeps: false,
+        stamps: false,
     };
     assert_eq!(rt;
         all_recent_of(rt.alloc(), 0..20, &whole)?,
@@ -291,12 +344,26 @@ fn drawn_scripts_are_answered_as_a_plain_map_says(rt: HostRuntime) -> Result<(),
         one_in: 3,
         limit: 60,
         sweeps: false,
+        stamps: false,
     };
     assert_eq!(rt;
         all_recent_of(rt.alloc(), 20..40, &mixed)?,
         Ok(0),
         "calls and lookups"
     );
+    Ok(())
+}
+
+#[test]
+fn puts_on_a_condition_are_answered_as_a_plain_map_says(rt: HostRuntime) -> Result<(), Fail> {
+    let draws = Draws {
+        calls: 100,
+        one_in: 3,
+        limit: 60,
+        sweeps: false,
+        stamps: true,
+    };
+    assert_eq!(rt; all_recent_of(rt.alloc(), 50..60, &draws)?, Ok(0));
     Ok(())
 }
 
@@ -309,6 +376,7 @@ fn lookups_between_the_hands_readings_refuse_puts_as_a_plain_map_says(
         one_in: 3,
         limit: 60,
         sweeps: true,
+        stamps: false,
     };
     match all_recent_of(rt.alloc(), 40..50, &draws)? {
         Ok(refused) => assert!(rt; refused >= 20, "{refused} puts are refused"),

@@ -5,8 +5,16 @@ use std::alloc::{AllocError, Global};
 /// The answer of a put for which the hand found every bit set, twice.
 pub(crate) const ALL_RECENT: &str = "refused all recent";
 
-/// What a key has from a change on: its value and its item, or nothing.
-type Entry = Option<(u64, usize)>;
+/// What a key has from a put on: its value, its item, and the number of that change.
+#[derive(Clone, Copy)]
+struct Held {
+    value: u64,
+    item: usize,
+    since: usize,
+}
+
+/// What a key has from a change on, or nothing.
+type Entry = Option<Held>;
 
 /// The key that holds an item, and the item's mark.
 #[derive(Clone, Copy, Default)]
@@ -28,8 +36,11 @@ struct LookUp {
 #[derive(Clone, Copy)]
 pub(crate) enum Asked {
     Put(u64, u64),
+    /// The key, the stamp that it is to have, and the new value.
+    PutIf(u64, u64, u64),
     Remove(u64),
     Get(u64),
+    Stamp(u64),
     Reading,
     Begin(usize, u64),
     End(usize),
@@ -84,6 +95,20 @@ impl Plain {
         self.changes.push((key, entry))?;
         self.versions = self.versions.saturating_add(2);
         Ok(())
+    }
+
+    /// Puts the key at the item. The moment after it.
+    fn hold(&mut self, key: u64, value: u64, item: usize) -> Result<usize, AllocError> {
+        let since = self.changes.len().saturating_add(1);
+        self.change(key, Some(Held { value, item, since }))?;
+        Ok(since)
+    }
+
+    /// The same of a key that stands there. The line that tells it.
+    fn renew(&mut self, key: u64, value: u64, item: usize) -> Result<String, AllocError> {
+        let at = self.hold(key, value, item)?;
+        self.mark(item);
+        format!(in self.alloc; "renewed at {at}")
     }
 
     /// Whether so many version changes more would pass the limit.
@@ -168,10 +193,9 @@ impl Plain {
         if let Some(old) = evicted {
             self.change(old, None)?;
         }
-        self.change(key, Some((value, item)))?;
+        let at = self.hold(key, value, item)?;
         self.versions = self.versions.saturating_add(moves.saturating_mul(2));
         self.set(item, Some(key), true);
-        let at = self.changes.len();
         let line = match evicted {
             None => format!(in self.alloc; "stored at {at} moves {moves}")?,
             Some(old) => format!(in self.alloc; "stored at {at} moves {moves} evicted {old}")?,
@@ -186,11 +210,8 @@ impl Plain {
         if self.is_spent(most) {
             return Ok(told == "refused spent");
         }
-        if let Some((_, item)) = self.entry(key, self.changes.len()) {
-            self.change(key, Some((value, item)))?;
-            self.mark(item);
-            let at = self.changes.len();
-            let line = format!(in self.alloc; "renewed at {at}")?;
+        if let Some(held) = self.entry(key, self.changes.len()) {
+            let line = self.renew(key, value, held.item)?;
             return Ok(line.as_str() == told);
         }
         // Both buckets of the key have to be full, and no way leads to a hole where the whole table is.
@@ -202,6 +223,21 @@ impl Plain {
         self.store(key, value, told)
     }
 
+    fn put_if(&mut self, key: u64, since: u64, value: u64, told: &str) -> Result<bool, AllocError> {
+        if self.is_spent(2) {
+            return Ok(told == "refused spent");
+        }
+        let at = self.changes.len();
+        let line = match self.entry(key, at) {
+            None => format!(in self.alloc; "not there at {at}")?,
+            Some(held) if held.since as u64 != since => {
+                format!(in self.alloc; "refused changed since {}", held.since)?
+            }
+            Some(held) => self.renew(key, value, held.item)?,
+        };
+        Ok(line.as_str() == told)
+    }
+
     fn remove(&mut self, key: u64, told: &str) -> Result<bool, AllocError> {
         if self.is_spent(2) {
             return Ok(told == "refused spent");
@@ -209,9 +245,9 @@ impl Plain {
         let at = self.changes.len();
         let line = match self.entry(key, at) {
             None => format!(in self.alloc; "not there at {at}")?,
-            Some((_, item)) => {
+            Some(held) => {
                 self.change(key, None)?;
-                if let Some(place) = self.items.get_mut(item) {
+                if let Some(place) = self.items.get_mut(held.item) {
                     place.key = None;
                 }
                 let at = self.changes.len();
@@ -225,9 +261,9 @@ impl Plain {
     fn find(&mut self, key: u64, at: usize) -> Result<String, AllocError> {
         match self.entry(key, at) {
             None => format!(in self.alloc; "absent at {at}"),
-            Some((value, item)) => {
-                self.mark(item);
-                format!(in self.alloc; "found {value} at {at}")
+            Some(held) => {
+                self.mark(held.item);
+                format!(in self.alloc; "found {} at {at}", held.value)
             }
         }
     }
@@ -235,6 +271,16 @@ impl Plain {
     fn get(&mut self, key: u64, told: &str) -> Result<bool, AllocError> {
         let at = self.changes.len();
         let line = self.find(key, at)?;
+        Ok(line.as_str() == told)
+    }
+
+    fn stamp(&mut self, key: u64, told: &str) -> Result<bool, AllocError> {
+        let at = self.changes.len();
+        let mut line = self.find(key, at)?;
+        if let Some(held) = self.entry(key, at) {
+            let since = format!(in self.alloc; " since {}", held.since)?;
+            line.push_str(since.as_str())?;
+        }
         Ok(line.as_str() == told)
     }
 
@@ -305,8 +351,10 @@ impl Plain {
                 Ok(is_so)
             }
             (Asked::Reading, None) => Ok(self.reading()),
+            (Asked::PutIf(key, since, value), Some(told)) => self.put_if(key, since, value, told),
             (Asked::Remove(key), Some(told)) => self.remove(key, told),
             (Asked::Get(key), Some(told)) => self.get(key, told),
+            (Asked::Stamp(key), Some(told)) => self.stamp(key, told),
             (Asked::End(reader), Some(told)) => self.end(reader, told),
             _ => Ok(false),
         }

@@ -1,12 +1,14 @@
 //! One call of a cache, by its writer or by a reader, and what it answers.
 ghost use Rattle.std.specs.Prelude.{◌≡◌};
 
-use mc_cache::{Cache, Put, PutError, Reader, Remove, Reply, Spent, Writer};
+use mc_cache::{Cache, IfError, Put, PutError, Reader, Remove, Reply, Spent, Writer};
 
 /// A call. A look is the reader's, all others are the writer's.
 #[derive(Clone, Copy, Debug, PartialEq, Eq)]
 pub enum Call {
     Put(u64, u64),
+    /// The key, the stamp that it is to have, and the new value.
+    PutIf(u64, u64, u64),
     Remove(u64),
     Get(u64),
     Look(u64),
@@ -18,6 +20,7 @@ pub enum Call {
 #[derive(Clone, Copy, Debug, PartialEq, Eq)]
 pub enum Told {
     Put(Result<Put, PutError>),
+    PutIf(Result<u64, IfError>),
     Remove(Result<Remove, Spent>),
     Reply(Reply<1>),
     Moment(u64),
@@ -48,6 +51,15 @@ pub const fn refused(why: PutError) -> Told {
     Told::Put(Err(why))
 }
 
+/// The stamp was the one asked for.
+pub const fn renewed_if(at: u64) -> Told {
+    Told::PutIf(Ok(at))
+}
+
+pub const fn refused_if(why: IfError) -> Told {
+    Told::PutIf(Err(why))
+}
+
 pub const fn removed(at: u64) -> Told {
     Told::Remove(Ok(Remove::Removed { at }))
 }
@@ -75,6 +87,7 @@ pub fn make(cache: &Cache<1>, writer: &mut Writer<1>, reader: &mut Reader<1>, ca
 {
     match call {
         Call::Put(key, value) => Told::Put(writer.put(cache, key, [value])),
+        Call::PutIf(key, since, value) => Told::PutIf(writer.put_if(cache, key, since, [value])),
         Call::Remove(key) => Told::Remove(writer.remove(cache, key)),
         Call::Get(key) => Told::Reply(writer.get(cache, key)),
         Call::Look(key) => Told::Reply(reader.get(cache, key)),

@@ -1,5 +1,6 @@
-//! A writer that puts, removes and evicts beside three readers. Each answer of a reader is what the history of the
-//! writer's calls says of the key at the answer's moment, and the last ones see all of it.
+//! A writer that puts, removes and evicts beside three readers. Each answer of a reader with a moment is what the history
+//! of the writer's calls says of the key at that moment. A reader's moments don't fall, and the last is that of the whole
+//! history.
 ghost use Rattle.std.specs.Prelude.{◌≡◌, All, IfOk};
 
 use crate::journal::Entry;
@@ -105,7 +106,7 @@ fn is_eviction(change: &Change<1>) -> bool {
     matches!(change, Change::Evict(_))
 }
 
-// Whether keys were evicted, and what the writer and three readers told beside each other is true.
+// Whether a key was evicted, and what three readers were told beside the writer is true of the history that it tells.
 fn are_answers_true<R: Threads + Sync>(
     rt: &R,
     alloc: Global,

@@ -7,9 +7,10 @@ use mc_cache::{Cache, Change, Reader, Reply};
 use std::alloc::{AllocError, Global};
 use std::sync::atomic::AtomicBool;
 
-/// Lookups beside the writer, and once it has ended.
+/// Lookups that don't wait for the writer's end.
 const LOOKUPS: usize = 2000;
 
+/// Lookups behind these.
 const LAST: usize = 64;
 
 /// The keys of a call for many.
@@ -77,7 +78,7 @@ fn moment_of(reply: Reply<1>) -> Option<u64> {
     }
 }
 
-// Whether the answers are true of the history, their moments don't fall, and the last ones see all of it.
+// Whether the answers with a moment are true of the history, and their moments don't fall, up to that of the whole history.
 fn are_true(history: &[Change<1>], factor: u64, replies: &[Reply<1>]) -> bool {
     let mut last = 0;
     for n in 0..replies.len() {
@@ -122,7 +123,7 @@ impl Looker {
         })
     }
 
-    /// Looks the keys up in turn, and some once the writer has ended.
+    /// Looks the keys up in turn, and the last of them once the writer has ended.
     pub fn look_all(mut self, cache: &Cache<1>, ended: &AtomicBool) -> Looker
         requires { self.reader.of ≡ cache.now }
     {
@@ -135,7 +136,7 @@ impl Looker {
         self
     }
 
-    /// Whether the answers are true of the history, their moments don't fall, and the last ones see all of it.
+    /// Whether the answers with a moment are true of the history, and their moments don't fall, up to that of the whole history.
     pub fn was_told_the_truth(&self, history: &[Change<1>]) -> bool {
         are_true(history, self.factor, self.replies.as_slice())
     }

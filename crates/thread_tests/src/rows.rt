@@ -2,9 +2,10 @@
 ghost use Rattle.std.specs.Prelude.{◌≡◌};
 
 use crate::calls::{
-    Call, Told, absent, found, make, not_there, refused, removed, renewed, stored, stored_after,
+    Call, Told, absent, found, make, not_there, refused, refused_if, removed, renewed, renewed_if,
+    stored, stored_after,
 };
-use mc_cache::{Cache, Mix, PutError, Reader, Shape, Writer, open};
+use mc_cache::{Cache, IfError, Mix, PutError, Reader, Shape, Writer, open};
 use std::alloc::Global;
 use std::test::Fail;
 
@@ -161,6 +162,51 @@ fn a_call_that_could_pass_the_limit_is_refused(rt: HostRuntime) -> Result<(), Fa
         (Call::Remove(0), removed(2)),
     ];
     assert_eq!(rt; first_wrong(alloc, with_limit(8), &rows)?, None);
+    Ok(())
+}
+
+#[test]
+fn a_put_on_a_condition_goes_by_the_stamp(rt: HostRuntime) -> Result<(), Fail> {
+    let alloc = rt.alloc();
+    let rows = [
+        (Call::Put(0, 7), stored(1)),
+        (Call::Put(1, 8), stored(2)),
+        (Call::PutIf(0, 1, 9), renewed_if(3)),
+        (
+            Call::PutIf(0, 1, 10),
+            refused_if(IfError::Changed { since: 3 }),
+        ),
+        (
+            Call::PutIf(5, 0, 1),
+            refused_if(IfError::NotThere { at: 3 }),
+        ),
+        (Call::Get(0), found(9, 3, 3)),
+        (Call::LookBeside(0), found(9, 3, 3)),
+    ];
+    assert_eq!(rt; first_wrong(alloc, small(), &rows)?, None);
+    let rows = [
+        (Call::Put(0, 7), stored(1)),
+        (Call::Put(0, 7), renewed(2)),
+        (
+            Call::PutIf(0, 1, 9),
+            refused_if(IfError::Changed { since: 2 }),
+        ),
+        (Call::Get(0), found(7, 2, 2)),
+    ];
+    assert_eq!(rt; first_wrong(alloc, small(), &rows)?, None);
+    Ok(())
+}
+
+#[test]
+fn a_put_on_a_condition_asks_two_changes_of_the_limit(rt: HostRuntime) -> Result<(), Fail> {
+    let rows = [
+        (Call::Put(0, 7), stored(1)),
+        (Call::PutIf(0, 1, 1), renewed_if(2)),
+        (Call::PutIf(0, 2, 2), renewed_if(3)),
+        (Call::PutIf(0, 3, 3), renewed_if(4)),
+        (Call::PutIf(9, 0, 0), refused_if(IfError::Spent)),
+    ];
+    assert_eq!(rt; first_wrong(rt.alloc(), with_limit(9), &rows)?, None);
     Ok(())
 }
 

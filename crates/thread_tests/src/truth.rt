@@ -14,7 +14,7 @@ fn held_after(changes: &[Change<1>], key: u64) -> Option<([u64; 1], u64)> {
     held
 }
 
-/// Whether the reply is what the map held at its moment.
+/// Whether the reply is what the map held at its moment. One that has none says nothing, and is true.
 pub fn is_true(changes: &[Change<1>], key: u64, reply: Reply<1>) -> bool {
     let (held, at) = match reply {
         Reply::Found { value, at, since } => (Some((value, since)), at),
