@@ -133,7 +133,11 @@ static ssize_t moved(long call, const char *kind, int file, int ours, char *byte
 
 ssize_t read(int file, void *bytes, size_t many) { return moved(SYS_read, "input", file, 0, bytes, many); }
 
+ssize_t __read(int file, void *bytes, size_t many) { return read(file, bytes, many); }
+
 ssize_t write(int file, const void *bytes, size_t many) { return moved(SYS_write, "output", file, 1, (char *)bytes, many); }
+
+ssize_t __write(int file, const void *bytes, size_t many) { return write(file, bytes, many); }
 
 /* The first part that has bytes. */
 static struct iovec first_of(const struct iovec *parts, int many) {
