@@ -17,6 +17,7 @@
 
 mod cache;
 mod closing;
+mod desk;
 pub mod laws;
 mod opening;
 mod reader;
@@ -24,6 +25,7 @@ mod writer;
 
 pub use cache::Cache;
 pub use closing::StillOpen;
+pub use desk::{Desk, DeskError};
 pub use mc_plan::{IfError, Put, PutError, Remove, Spent};
 pub use mc_words::{Change, Mix, Reply, Shape, ShapeError};
 pub use opening::{OpenError, open};
