@@ -2,3 +2,5 @@ pub mod NewWriters
 pub mod OrderedAnswers
 pub mod PlainCalls
 pub mod HistoryLaws
+pub mod Sent
+pub mod Turns

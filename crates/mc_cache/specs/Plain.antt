@@ -19,6 +19,8 @@ use Rattle.mc_plan.specs.declared.answer.Remove.TheVariants.{Removed, NotThere}
 use Rattle.mc_plan.specs.declared.answer.Spent.{Spent}
 use Rattle.mc_theory.specs.Lists.{state_of}
 use Rattle.mc_shared.specs.Records.{WriterRecord, ReaderRecord}
+use Rattle.mc_cache.specs.declared.desk.DeskError.{DeskError}
+use Rattle.mc_cache.specs.declared.desk.DeskError.TheVariants as desk
 
 -- the history of a writer whose values have V words
 unfoldable pub history : (V : ℕ) → WriterRecord → List (Change V)
@@ -101,3 +103,10 @@ pub record HasAnswered (V : ℕ) (h h' : List (Change V)) (k : ℕ) (reply : Rep
 pub record HasMet (V : ℕ) (h h' : List (Change V)) (all : List (Change V)) : Type 0 where
   pub begins : Begins h all
   pub now : h' ≡ all
+
+-- what a try for the turn means for what its pass has seen: the call was made from a history which that begins, and all is seen now.
+-- Where it was held, nothing was seen
+abbrev pub TurnMeans : {T E : Type 0} {V : ℕ} → (List (Change V) → List (Change V) → Result T E → Type 0) → List (Change V) → List (Change V) → Result T (DeskError E) → Type 0
+TurnMeans {V = V} Means h h' (Ok done) = (before : List (Change V)) × Begins h before × Means before h' (Ok done)
+TurnMeans Means h h' (Err desk.Held) = h' ≡ h
+TurnMeans {V = V} Means h h' (Err (desk.Call why)) = (before : List (Change V)) × Begins h before × Means before h' (Err why)

@@ -11,6 +11,8 @@ mod calls;
 #[cfg(test)]
 mod deeds;
 #[cfg(test)]
+mod desk;
+#[cfg(test)]
 mod evictions;
 #[cfg(test)]
 mod journal;
@@ -40,6 +42,8 @@ mod sharing;
 mod texts;
 #[cfg(test)]
 mod truth;
+#[cfg(test)]
+mod turns;
 #[cfg(test)]
 mod twin;
 #[cfg(test)]
