@@ -18,13 +18,15 @@
 mod cache;
 mod closing;
 pub mod laws;
+mod loading;
 mod opening;
 mod reader;
 mod writer;
 
 pub use cache::Cache;
 pub use closing::StillOpen;
-pub use mc_plan::{IfError, Put, PutError, Remove, Spent};
+pub use loading::{Opened, open_with};
+pub use mc_plan::{IfError, Put, PutError, Remove, Spent, Why};
 pub use mc_words::{Change, Mix, Reply, Shape, ShapeError};
 pub use opening::{OpenError, open};
 pub use reader::Reader;
