@@ -27,6 +27,8 @@ mod load_gate;
 #[cfg(test)]
 mod load_rows;
 #[cfg(test)]
+mod loaded;
+#[cfg(test)]
 mod looker;
 #[cfg(test)]
 mod marks;
