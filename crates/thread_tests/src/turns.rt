@@ -121,15 +121,23 @@ impl Told {
     }
 }
 
-// Waits until so many threads wait. Whether they came in time.
-fn meet(waiting: &AtomicU64, all: u64) -> bool {
-    waiting.fetch_add(1, Ordering::SeqCst);
-    for _turn in 0..TURNS {
-        if waiting.load(Ordering::SeqCst) >= all {
-            return true;
+/// Where threads wait for each other.
+struct Meeting {
+    here: AtomicU64,
+    due: u64,
+}
+
+impl Meeting {
+    // Waits until all are here. Whether they came in time.
+    fn wait(&self) -> bool {
+        self.here.fetch_add(1, Ordering::SeqCst);
+        for _turn in 0..TURNS {
+            if self.here.load(Ordering::SeqCst) >= self.due {
+                return true;
+            }
         }
+        false
     }
-    false
 }
 
 /// A thread that looks keys up, and also writes or not.
@@ -163,10 +171,10 @@ impl Caller {
     }
 
     // Makes its calls in turn, once all others are there.
-    fn call_all(mut self, cache: &Cache<1>, desk: &Desk<1>, waiting: &AtomicU64, all: u64) -> Caller
+    fn call_all(mut self, cache: &Cache<1>, desk: &Desk<1>, meeting: &Meeting) -> Caller
         requires { (desk.now ≡ cache.now) × (self.pass.of ≡ cache.now) }
     {
-        self.met = meet(waiting, all);
+        self.met = meeting.wait();
         let told = self.told.as_mut_slice();
         call_each(cache, desk, &mut self.pass, self.who, self.writes, told);
         self
@@ -239,14 +247,16 @@ pub fn call_in_threads<R: Threads + Sync>(
     requires desk { desk.now ≡ cache.now }
     requires of { All (λ c. c.pass.of ≡ cache.now) callers.items }
 {
-    let waiting = AtomicU64::new(0);
-    let all = callers.len() as u64;
+    let meeting = Meeting {
+        here: AtomicU64::new(0),
+        due: callers.len() as u64,
+    };
     thread::map_vec(
         rt,
         callers,
         &|caller: Caller| -> Caller
             requires { (desk.now ≡ cache.now) × (caller.pass.of ≡ cache.now) }
-        { caller.call_all(cache, desk, &waiting, all) },
+        { caller.call_all(cache, desk, &meeting) },
     )
 }
 
