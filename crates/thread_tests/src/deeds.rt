@@ -49,7 +49,7 @@ fn make_deed(
     };
     let open = Act::Open(key, deed);
     let value = Act::Item(item, 1, n);
-    let stamp = Act::Item(item, 2, n + 1);
+    let stamp = Act::Item(item, 2, n.wrapping_add(1));
     let mark = Act::Mark(item);
     match deed {
         Deed::Fill => {
