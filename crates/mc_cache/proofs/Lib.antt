@@ -1,4 +1,7 @@
 pub mod NewWriters
 pub mod OrderedAnswers
 pub mod PlainCalls
+pub mod LoadedEntries
 pub mod HistoryLaws
+pub mod Sent
+pub mod Turns

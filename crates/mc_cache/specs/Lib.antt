@@ -4,6 +4,8 @@ pub mod Orders
 pub mod Plain
 pub mod PlainLaws
 pub mod Resting
+pub mod Turns
+pub mod Inside
 -- what callers name besides
 pub use Rattle.mc_words.specs.declared.history.Change
 pub use Rattle.mc_words.specs.declared.history.Reply

@@ -1,7 +1,7 @@
 -- What the calls of a cache mean for whoever uses it: the clauses `plain`. Of the table they name no word: they speak of two
 -- histories, which are lists of changes of a map. The writer's has every change that was made. A reader's is the part of it that
 -- the reader is known to have seen.
-use Rattle.std.specs.Prelude.{ℕ, ◌≡◌, ◌≢◌, List, [], ◌∷◌, ◌++◌, length, Some, None, IsSome, Result, Ok, Err}
+use Rattle.std.specs.Prelude.{ℕ, ◌≡◌, ◌≢◌, ◌+◌, ◌⊎◌, List, [], ◌∷◌, ◌++◌, length, Some, None, IsSome, Result, Ok, Err}
 pub use Rattle.mc_words.specs.History.{map_value, IsLegal, IsTrueAnswer}
 pub use Rattle.mc_theory.specs.Plain.{IsBetween}
 pub use Rattle.mc_search.specs.Entries.{AreEntriesOf}
@@ -17,8 +17,11 @@ use Rattle.mc_plan.specs.declared.answer.PutError.{PutError}
 use Rattle.mc_plan.specs.declared.answer.Remove.{Remove}
 use Rattle.mc_plan.specs.declared.answer.Remove.TheVariants.{Removed, NotThere}
 use Rattle.mc_plan.specs.declared.answer.Spent.{Spent}
+use Rattle.mc_plan.specs.declared.answer.Why.{Why}
 use Rattle.mc_theory.specs.Lists.{state_of}
 use Rattle.mc_shared.specs.Records.{WriterRecord, ReaderRecord}
+use Rattle.mc_cache.specs.declared.desk.DeskError.{DeskError}
+use Rattle.mc_cache.specs.declared.desk.DeskError.TheVariants as desk
 
 -- the history of a writer whose values have V words
 unfoldable pub history : (V : ℕ) → WriterRecord → List (Change V)
@@ -84,6 +87,14 @@ PutIfMeans V h h' k since v (Err why.Spent) = h' ≡ h
 PutIfMeans V h h' k since v (Err (why.NotThere at)) = (map_value h k ≡ None) × (h' ≡ h) × (at ≡ length h)
 PutIfMeans V h h' k since v (Err (why.Changed stands)) = HasStamp h k stands × (stands ≢ since) × (h' ≡ h)
 
+-- each of the entries, in order, is put, or is left and named by its index: the puts are all the changes, and no other index is named.
+-- The first entry has the index n
+abbrev pub TakesOrNames : {V : ℕ} → ℕ → List (ℕ × List ℕ) → List (Change V) → List (ℕ × Why) → Type 0
+TakesOrNames n [] changes left = (changes ≡ []) × (left ≡ [])
+TakesOrNames {V} n (e ∷ es) changes left =
+    ((later : List (Change V)) × (changes ≡ change.Put e.0 e.1 ∷ later) × TakesOrNames (n + 1) es later left) ⊎
+    ((reason : Why) × (others : List (ℕ × Why)) × (left ≡ (n, reason) ∷ others) × TakesOrNames (n + 1) es changes others)
+
 -- what the answer of a removal means
 abbrev pub RemovalMeans : (V : ℕ) → List (Change V) → List (Change V) → ℕ → Result Remove Spent → Type 0
 RemovalMeans V h h' k (Ok (Removed at)) = IsSome (map_value h k) × (h' ≡ h ++ change.Remove k ∷ []) × (map_value h' k ≡ None) × (at ≡ length h')
@@ -101,3 +112,10 @@ pub record HasAnswered (V : ℕ) (h h' : List (Change V)) (k : ℕ) (reply : Rep
 pub record HasMet (V : ℕ) (h h' : List (Change V)) (all : List (Change V)) : Type 0 where
   pub begins : Begins h all
   pub now : h' ≡ all
+
+-- what a try for the turn means for what its pass has seen: the call was made from a history which that begins, and all is seen now.
+-- Where it was held, nothing was seen
+abbrev pub TurnMeans : {T E : Type 0} {V : ℕ} → (List (Change V) → List (Change V) → Result T E → Type 0) → List (Change V) → List (Change V) → Result T (DeskError E) → Type 0
+TurnMeans {V = V} Means h h' (Ok done) = (before : List (Change V)) × Begins h before × Means before h' (Ok done)
+TurnMeans Means h h' (Err desk.Held) = h' ≡ h
+TurnMeans {V = V} Means h h' (Err (desk.Call why)) = (before : List (Change V)) × Begins h before × Means before h' (Err why)

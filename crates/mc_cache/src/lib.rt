@@ -2,7 +2,8 @@
 //!
 //! A `Cache` is lent to all threads; its `Writer` and each `Reader` belong to one thread at a time. What the writer's calls
 //! do is said of its record, the list of acts that were made; a reader's answer is true of the history of the front that it
-//! has seen. Between `open` and `Cache::close` no call takes memory, and none waits.
+//! has seen. Where several threads write now and then, the writer lies on a `Desk`, and they take turns. Between `open` and
+//! `Cache::close` no call takes memory, and none waits.
 //!
 //! ```text
 //! let (cache, mut writer, mut readers) = open::<1>(alloc, shape, 2)?;
@@ -17,14 +18,18 @@
 
 mod cache;
 mod closing;
+mod desk;
 pub mod laws;
+mod loading;
 mod opening;
 mod reader;
 mod writer;
 
 pub use cache::Cache;
 pub use closing::StillOpen;
-pub use mc_plan::{IfError, Put, PutError, Remove, Spent};
+pub use desk::{Desk, DeskError};
+pub use loading::{Opened, open_with};
+pub use mc_plan::{IfError, Put, PutError, Remove, Spent, Why};
 pub use mc_words::{Change, Mix, Reply, Shape, ShapeError};
 pub use opening::{OpenError, open};
 pub use reader::Reader;

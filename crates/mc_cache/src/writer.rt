@@ -4,15 +4,15 @@ ghost use Rattle.mc_theory.specs.Lists.{state_of};
 ghost use Rattle.mc_shared.specs.SeatFacts.{IsRun};
 ghost use Rattle.mc_cache.specs.Resting.{IsAtRest};
 ghost use Rattle.mc_cache.specs.Plain.{IsLegal, PutIfMeans, PutMeans, RemovalMeans, TellsNow, history};
-ghost use Rattle.mc_plan.specs.WholeCalls.{PutCall, PutIfCall, RemoveCall};
+ghost use Rattle.mc_plan.specs.WholeCalls.{KeptCall, PutCall, PutIfCall, RemoveCall};
 ghost use Rattle.mc_plan.specs.declared.answer.Answer.TheVariants as answer;
 ghost use Rattle.mc_writer.specs.WriterCalls.{HasCalled, HasGot};
 
 use crate::cache::Cache;
-use mc_plan::{Books, IfError, Put, PutError, Remove, Spent};
+use mc_plan::{Books, IfError, Put, PutError, Remove, Spent, Why};
 use mc_shared::WriterSeat;
 use mc_words::Reply;
-use mc_writer::{get, put, put_if, remove};
+use mc_writer::{get, put, put_if, put_kept, remove};
 use std::marker::Model;
 
 /// The one writer of a cache. Contracts see it as its record: the acts that were made.
@@ -68,6 +68,19 @@ impl<const V: usize> Writer<V> {
             since,
             &value,
         )
+    }
+
+    // Puts a key as `put` does, but a new one only where an item is free.
+    pub(crate) fn put_kept(
+        &mut self,
+        cache: &Cache<V>,
+        key: u64,
+        value: [u64; V],
+    ) -> Result<Put, Why>
+        requires of { self.old.of ≡ cache.now }
+        ensures called { HasCalled V cache.now.layout.shape (KeptCall key value.entry) self.old self.new (answer.Kept result) }
+    {
+        put_kept(&cache.cells, &mut self.seat, &mut self.books, key, &value)
     }
 
     /// Takes a key out. `Err(Spent)` where the limit on version changes could be passed: nothing was changed.

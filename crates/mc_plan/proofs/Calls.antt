@@ -1,5 +1,7 @@
 pub mod AfterPlan
 pub mod IfCalls
+pub mod KeptCalls
+pub mod Loading
 pub mod MidCall
 pub mod SweptStates
 pub mod MidSweep

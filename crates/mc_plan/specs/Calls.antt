@@ -12,6 +12,8 @@ use Rattle.mc_plan.specs.declared.answer.PutError.TheVariants.{NoPath, AllRecent
 use Rattle.mc_plan.specs.declared.answer.Remove.{Remove}
 use Rattle.mc_plan.specs.declared.answer.Remove.TheVariants.{Removed, NotThere}
 use Rattle.mc_plan.specs.declared.answer.Spent.{Spent as RemoveSpent}
+use Rattle.mc_plan.specs.declared.answer.Why.{Why}
+use Rattle.mc_plan.specs.declared.answer.Why.TheVariants as left
 
 -- what the answer of a put means
 abbrev pub PutAnswers : {V : ℕ} → Shape → Quiet V → ℕ → List ℕ → Result Put PutError → Quiet V → Type 0
@@ -21,6 +23,21 @@ PutAnswers {V} sh s k v (Ok (Renewed at)) t = means.Renews V sh s t k v at
 PutAnswers {V} sh s k v (Err NoPath) t = means.RefusesPath V sh s t k
 PutAnswers {V} sh s k v (Err AllRecent) t = means.RefusesAll V sh s t k
 PutAnswers {V} sh s k v (Err Spent) t = means.PutRefusedSpent sh s t
+
+-- what the answer of a put means that takes no other key's item: where every item is in use, that is why
+abbrev pub KeptAnswers : {V : ℕ} → Shape → Quiet V → ℕ → List ℕ → Result Put Why → Quiet V → Type 0
+KeptAnswers {V} sh s k v (Ok (Stored at moves None)) t = means.Stores V sh s t k v at moves
+KeptAnswers {V} sh s k v (Ok (Stored at moves (Some evicted))) t = ⊥
+KeptAnswers {V} sh s k v (Ok (Renewed at)) t = means.Renews V sh s t k v at
+KeptAnswers {V} sh s k v (Err left.NoPath) t = means.RefusesPath V sh s t k
+KeptAnswers {V} sh s k v (Err left.NoItem) t = means.RefusesAll V sh s t k
+KeptAnswers {V} sh s k v (Err left.Spent) t = means.PutRefusedSpent sh s t
+
+-- why such a put stores nothing, where a put that swept for no item was refused
+abbrev pub why_of : PutError → Why
+why_of NoPath = left.NoPath
+why_of AllRecent = left.NoItem
+why_of Spent = left.Spent
 
 -- what the answer of a put on a condition means: the key's stamp is `since`
 abbrev pub IfAnswers : {V : ℕ} → Shape → Quiet V → ℕ → ℕ → List ℕ → Result ℕ IfError → Quiet V → Type 0

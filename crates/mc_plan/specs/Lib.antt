@@ -11,5 +11,6 @@ pub mod Decisions
 pub mod Deciding
 pub mod Clerks
 pub mod Ends
+pub mod Loads
 pub mod Due
 pub mod Inside

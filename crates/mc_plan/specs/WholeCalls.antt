@@ -11,7 +11,7 @@ use Rattle.mc_plan.specs.declared.answer.Answer.{Answer}
 use Rattle.mc_plan.specs.declared.answer.Answer.TheVariants as answer
 use Rattle.mc_plan.specs.declared.answer.Put.TheVariants as put
 use Rattle.mc_plan.specs.declared.answer.PutError.TheVariants as why
-use Rattle.mc_plan.specs.Calls.{IfAnswers, PutAnswers, RemoveAnswers}
+use Rattle.mc_plan.specs.Calls.{IfAnswers, KeptAnswers, PutAnswers, RemoveAnswers}
 use Rattle.mc_plan.specs.Making.{IsQuiet}
 use Rattle.mc_search.specs.Sweeps.{Swept, IsSweep, hand_acts, victim_of}
 
@@ -21,6 +21,8 @@ pub data Call : Type 0 where
   -- on the condition that the key's last put was at this moment
   PutIfCall : (key since : ℕ) (value : List ℕ) → Call
   RemoveCall : (key : ℕ) → Call
+  -- a put that takes no other key's item
+  KeptCall : (key : ℕ) (value : List ℕ) → Call
 
 -- a state as answers speak of it
 abbrev pub quiet_of : {V : ℕ} → State V → Quiet V
@@ -31,6 +33,7 @@ abbrev pub Means : {V : ℕ} → Shape → Call → Answer → State V → State
 Means sh (PutCall k v) (answer.Put told) s t = PutAnswers sh (quiet_of s) k v told (quiet_of t)
 Means sh (PutIfCall k since v) (answer.PutIf told) s t = IfAnswers sh (quiet_of s) k since v told (quiet_of t)
 Means sh (RemoveCall k) (answer.Remove told) s t = RemoveAnswers sh (quiet_of s) k told (quiet_of t)
+Means sh (KeptCall k v) (answer.Kept told) s t = KeptAnswers sh (quiet_of s) k v told (quiet_of t)
 Means sh call told s t = ⊥
 
 -- the acts without the bits that they read
@@ -63,6 +66,8 @@ Marks V sh w (PutCall k v) (answer.Put (Err why)) acts = AreOfDeeds acts
 Marks V sh w (PutIfCall k since v) (answer.PutIf (Ok at)) acts = MarksLast V sh w k acts
 Marks V sh w (PutIfCall k since v) (answer.PutIf (Err why)) acts = AreOfDeeds acts
 Marks V sh w (RemoveCall k) told acts = AreOfDeeds acts
+Marks V sh w (KeptCall k v) (answer.Kept (Ok told)) acts = MarksLast V sh w k acts
+Marks V sh w (KeptCall k v) (answer.Kept (Err why)) acts = AreOfDeeds acts
 Marks V sh w call told acts = ⊥
 
 -- which readings of the hand an answer has: those of one sweep where every item was in use, which named the evicted key's item or none; and none otherwise

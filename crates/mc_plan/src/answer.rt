@@ -1,4 +1,6 @@
 //! The answers of the writer's calls.
+ghost use Rattle.std.specs.Prelude.{◌≡◌};
+
 use thiserror::Error;
 
 /// What a `put` did. `at` is the moment of its change.
@@ -44,6 +46,35 @@ pub enum IfError {
     Changed { since: u64 },
 }
 
+/// Why a put that takes no other key's item stored nothing. The first reason that applies is told, `Spent` before the others.
+#[derive(Clone, Copy, Debug, PartialEq, Eq, Error)]
+pub enum Why {
+    /// No chain of displacements leads to an empty slot.
+    #[error("no path")]
+    NoPath,
+    /// Every item is in use.
+    #[error("no item")]
+    NoItem,
+    /// The limit of version changes could be passed.
+    #[error("spent")]
+    Spent,
+}
+
+impl Why {
+    ghost use Rattle.mc_plan.specs.Calls.{why_of};
+
+    /// The reason of such a put, where a put was refused without a sweep.
+    pub fn of(refusal: PutError) -> Why
+        ensures { result ≡ why_of refusal }
+    {
+        match refusal {
+            PutError::NoPath => Why::NoPath,
+            PutError::AllRecent => Why::NoItem,
+            PutError::Spent => Why::Spent,
+        }
+    }
+}
+
 /// What a `remove` did. `at` is the moment after it.
 #[derive(Clone, Copy, Debug, PartialEq, Eq)]
 pub enum Remove {
@@ -63,4 +94,6 @@ pub enum Answer {
     /// A renewal on a condition, with the moment of its change.
     PutIf(Result<u64, IfError>),
     Remove(Result<Remove, Spent>),
+    /// A put that takes no other key's item.
+    Kept(Result<Put, Why>),
 }

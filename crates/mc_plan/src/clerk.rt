@@ -10,7 +10,7 @@ ghost use Rattle.mc_theory.specs.Traces.{HasVersionSteps};
 use crate::Plan;
 use crate::answer::Answer;
 use crate::books::Books;
-use crate::listing::{finish_put, start_put, start_put_if, start_removal};
+use crate::listing::{finish_put, start_put, start_put_if, start_put_kept, start_removal};
 use crate::waiting::{Start, Waiting};
 use arrayvec::ArrayVec;
 use mc_theory::{Act, Peek};
@@ -41,7 +41,7 @@ pub struct Clerk<const V: usize> {
 
 impl<const V: usize> Clerk<V> {
     ghost use Rattle.mc_theory.specs.declared.act.Act.{Act};
-    ghost use Rattle.mc_plan.specs.WholeCalls.{Call, PutCall, PutIfCall, RemoveCall, Answered};
+    ghost use Rattle.mc_plan.specs.WholeCalls.{Call, KeptCall, PutCall, PutIfCall, RemoveCall, Answered};
     ghost use Rattle.mc_plan.specs.Clerks.{Knows, IsOn, HasCall, next_act, acts_left, shape_of_clerk};
     ghost use Rattle.mc_plan.specs.Inside.Clerks.{HasEndedSweep};
     ghost use Rattle.mc_search.specs.Sweeps.{Swept, hand_acts};
@@ -75,6 +75,21 @@ impl<const V: usize> Clerk<V> {
             Start::Planned(answer) => Stage::Planned(Answer::Put(answer)),
             Start::Waits(path) => Stage::Sweeping(Waiting::new(&self.books, key, value, path)),
         };
+    }
+
+    /// Starts a put that takes no other key's item: where every item is in use, a new key is refused. Condition: no call runs, and
+    /// the clerk knows the table whose words are looked at.
+    pub fn put_kept<P: Peek>(&mut self, peek: &mut P, key: u64, value: [u64; V])
+        requires { (s : State V) × Knows V self.old s × (P.words peek.old ≡ s.words) }
+        ensures on { (s : State V) → Knows V self.old s → P.words peek.old ≡ s.words → IsOn V self.new (KeptCall key value.entry) s [] }
+        ensures left { acts_left self.new ≤ 64 }
+        ensures shape { shape_of_clerk self.new ≡ shape_of_clerk self.old }
+        ensures kept { peek.new ≡ peek.old }
+    {
+        self.plan.clear();
+        self.made = 0;
+        let answer = start_put_kept::<V, P>(&mut self.books, peek, &mut self.plan, key, &value);
+        self.stage = Stage::Planned(Answer::Kept(answer));
     }
 
     /// Starts a put on a condition: the key's last put was at the moment `since`. Condition: no call runs, and the clerk knows the

@@ -30,7 +30,7 @@ mod take_out;
 mod value;
 mod waiting;
 
-pub use answer::{Answer, IfError, Put, PutError, Remove, Spent};
+pub use answer::{Answer, IfError, Put, PutError, Remove, Spent, Why};
 use arrayvec::ArrayVec;
 pub use books::Books;
 pub use clerk::Clerk;
@@ -38,7 +38,7 @@ pub use decision::{
     Decision, Exchange, Insertion, Move, Nearby, Removal, Renewal, Replacement, Storing,
 };
 pub use fill::{add_fill, plan_fill};
-pub use mc_search::{Finder, Held, NoMemory, Path, Peek, Sweep, find, moment, read};
+pub use mc_search::{Finder, Held, NoMemory, Path, Peek, Sweep, entries, find, moment, read};
 use mc_theory::Act;
 pub use moves::{add_move, add_moves, path_moves, plan_moves, push_moves};
 pub use renew::{add_renew, plan_renew};

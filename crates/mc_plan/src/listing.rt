@@ -4,7 +4,7 @@ ghost use Rattle.arrayvec.specs.ArrayVec.{array_vec_len};
 ghost use Rattle.mc_words.specs.Checks.{shape_of};
 ghost use Rattle.mc_words.specs.Places.{IsWidth};
 ghost use Rattle.mc_theory.specs.States.{State};
-ghost use Rattle.mc_plan.specs.WholeCalls.{Call, IsSweepOf, PutIfCall, RemoveCall, state_after_sweep};
+ghost use Rattle.mc_plan.specs.WholeCalls.{Call, IsSweepOf, KeptCall, PutIfCall, RemoveCall, state_after_sweep};
 ghost use Rattle.mc_plan.specs.Books.{AreBooksOf, IsPlanned, IsSweeping};
 ghost use Rattle.mc_plan.specs.Deciding.{IsLackingKey};
 ghost use Rattle.mc_plan.specs.Decisions.{removal_acts, renewal_acts, replacement_acts, storing_acts};
@@ -13,7 +13,7 @@ ghost use Rattle.mc_plan.specs.declared.answer.Answer.TheVariants as answer;
 ghost use Rattle.mc_search.specs.Sweeps.{IsOver, Swept};
 
 use crate::Plan;
-use crate::answer::{IfError, Put, PutError, Remove, Spent};
+use crate::answer::{IfError, Put, PutError, Remove, Spent, Why};
 use crate::books::Books;
 use crate::decision::{Decision, Insertion, Removal, Replacement, Storing};
 use crate::fill::add_fill;
@@ -142,6 +142,28 @@ pub(crate) fn start_put<const V: usize, P: Peek>(
             Start::Planned(Ok(Put::Renewed { at }))
         }
         Decision::Insert { at } => start_insert::<V, P>(books, peek, plan, key, value, at),
+    }
+}
+
+/// Lists the acts of a put that takes no other key's item: one that would wait for an item is refused.
+pub(crate) fn start_put_kept<const V: usize, P: Peek>(
+    books: &mut Books,
+    peek: &mut P,
+    plan: &mut Plan,
+    key: u64,
+    value: &[u64; V],
+) -> Result<Put, Why>
+    requires books { (s : State V) × AreBooksOf V books.old s × (P.words peek.old ≡ s.words) }
+    requires plan { plan.old.items ≡ [] }
+    ensures planned { (s : State V) → AreBooksOf V books.old s → P.words peek.old ≡ s.words → IsPlanned V books.new plan.new.items (KeptCall key value.now) s s (answer.Kept result) }
+    ensures fits { array_vec_len plan.new ≤ 64 }
+    ensures shape { books.new.checked ≡ books.old.checked }
+    ensures kept { peek.new ≡ peek.old }
+{
+    match start_put::<V, P>(books, peek, plan, key, value) {
+        Start::Planned(Ok(told)) => Ok(told),
+        Start::Planned(Err(refusal)) => Err(Why::of(refusal)),
+        Start::Waits(_) => Err(Why::NoItem),
     }
 }
 

@@ -12,6 +12,7 @@ use Rattle.mc_plan.specs.declared.answer.Put.TheVariants.{Stored, Renewed}
 use Rattle.mc_plan.specs.declared.answer.PutError.TheVariants.{NoPath, AllRecent, Spent}
 use Rattle.mc_plan.specs.declared.answer.IfError.TheVariants as condition
 use Rattle.mc_plan.specs.declared.answer.Remove.TheVariants.{Removed, NotThere}
+use Rattle.mc_plan.specs.declared.answer.Why.TheVariants as left
 
 -- the words of a value, a blank before each
 abbrev pub words_text : List ℕ → List ℕ
@@ -34,6 +35,10 @@ answer_text (answer.PutIf (Err (condition.Changed since))) = codes "refused chan
 answer_text (answer.Remove (Ok (Removed at))) = codes "removed at " ++ decimal at
 answer_text (answer.Remove (Ok (NotThere at))) = codes "not there at " ++ decimal at
 answer_text (answer.Remove (Err spent)) = codes "refused spent"
+answer_text (answer.Kept (Ok put)) = put_text put
+answer_text (answer.Kept (Err left.NoPath)) = codes "refused no path"
+answer_text (answer.Kept (Err left.NoItem)) = codes "refused no item"
+answer_text (answer.Kept (Err left.Spent)) = codes "refused spent"
 
 abbrev pub reply_text : {V : ℕ} → Reply V → List ℕ
 reply_text (Found value at since) = codes "found" ++ words_text value ++ codes " at " ++ decimal at

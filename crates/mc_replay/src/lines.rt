@@ -3,7 +3,7 @@ ghost use Rattle.std.specs.Prelude.{Some};
 ghost use Rattle.mc_replay.specs.Texts.{answer_text, done_text, put_text, reply_text, stamp_text, words_text};
 
 use mc_core::{Done, Reply};
-use mc_plan::{Answer, IfError, Put, PutError, Remove, Spent};
+use mc_plan::{Answer, IfError, Put, PutError, Remove, Spent, Why};
 use std::fmt;
 
 /// What a `put` did, as a line says it.
@@ -55,6 +55,13 @@ impl fmt::Display for AnswerLine {
             Answer::Remove(Ok(Remove::Removed { at })) => write!(f, "removed at {at}"),
             Answer::Remove(Ok(Remove::NotThere { at })) => write!(f, "not there at {at}"),
             Answer::Remove(Err(Spent)) => write!(f, "refused spent"),
+            Answer::Kept(Ok(put)) => {
+                let put = PutLine(put);
+                write!(f, "{put}")
+            }
+            Answer::Kept(Err(Why::NoPath)) => write!(f, "refused no path"),
+            Answer::Kept(Err(Why::NoItem)) => write!(f, "refused no item"),
+            Answer::Kept(Err(Why::Spent)) => write!(f, "refused spent"),
         }
     }
 }

@@ -11,7 +11,7 @@ use Rattle.mc_words.specs.Places.{item}
 use Rattle.mc_words.specs.Standing.{Agrees, AgreesAt, Stands}
 use Rattle.mc_words.specs.declared.history.Change.{Change}
 use Rattle.mc_words.specs.declared.shape.Shape.{Shape}
-use Rattle.mc_search.specs.Entries.{AreEntriesOf}
+use Rattle.mc_search.specs.Entries.{AreEntriesOf, AreInOrder}
 use Rattle.mc_search.specs.Inside.Entries.{AreEntriesBelow}
 
 -- ---- one entry more
@@ -49,12 +49,24 @@ stands_once V sh w k q i p g (Some v) a s t = (a.2.once p g t).1 ∙ sym ((a.2.o
 pub at_one_item : (V : ℕ) (sh : Shape) (w : List ℕ) (h : List (Change V)) (k q i p g : ℕ) → Agrees V sh w None h → Stands V sh w k q i → Stands V sh w k p g → g ≡ i
 at_one_item V sh w h k q i p g a s t = stands_once V sh w k q i p g (map_value h k) (a.keys k (λ e. cc)) s t
 
+-- ---- their order
+-- an entry at the next item
+in_order_then : (V : ℕ) (sh : Shape) (w : List ℕ) (from n q x : ℕ) (v : List ℕ) (es : List (ℕ × List ℕ)) → AreInOrder V sh w from n es → Stands V sh w x q n → AreInOrder V sh w from (n + 1) (es ++ (x, v) ∷ [])
+in_order_then V sh w from n q x v [] o s = (n, q, o, s, omega arith)
+in_order_then V sh w from n q x v (e ∷ es) o s = (o.0, o.1, o.2, o.3, in_order_then V sh w (o.0 + 1) n q x v es o.4 s)
+
+-- an item without an entry
+in_order_past : (V : ℕ) (sh : Shape) (w : List ℕ) (from n : ℕ) (es : List (ℕ × List ℕ)) → AreInOrder V sh w from n es → AreInOrder V sh w from (n + 1) es
+in_order_past V sh w from n [] o = omega (arith, o)
+in_order_past V sh w from n (e ∷ es) o = (o.0, o.1, o.2, o.3, in_order_past V sh w (o.0 + 1) n es o.4)
+
 -- ---- the lists
 pub none_yet : (V : ℕ) (sh : Shape) (w : List ℕ) (h : List (Change V)) → AreEntriesBelow V sh w h 0 []
 none_yet V sh w h = record {
   here = λ k q i l s. absurd (omega (arith, l));
   away = λ k no. refl;
   once = λ i j d l m. absurd (omega (arith, m));
+  order = omega arith;
 }
 
 pub one_more : (V : ℕ) (sh : Shape) (w : List ℕ) (h : List (Change V)) (n q x : ℕ) (v : List ℕ) (es : List (ℕ × List ℕ)) → Agrees V sh w None h → AreEntriesBelow V sh w h n es → Stands V sh w x q n → value_held h x ≡ Some v → AreEntriesBelow V sh w h (n + 1) (es ++ (x, v) ∷ [])
@@ -70,6 +82,7 @@ one_more V sh w h n q x v es agrees b stands value =
           let ne : k ≢ x = λ e. no q n (omega arith) (subst (λ (y : ℕ). Stands V sh w y q n) (sym e) stands) in
           lookup_other k x v es ne ∙ b.away k (λ p i l s. no p i (omega (arith, l)) s);
       once = all_pairs_push (λ d e. d.0 ≢ e.0) es (x, v) b.once (not_among x es fresh);
+      order = in_order_then V sh w 0 n q x v es b.order stands;
     }
 
 pub none_more : (V : ℕ) (sh : Shape) (w : List ℕ) (h : List (Change V)) (n : ℕ) (es : List (ℕ × List ℕ)) → AreEntriesBelow V sh w h n es → ((k q : ℕ) → Stands V sh w k q n → ⊥) → AreEntriesBelow V sh w h (n + 1) es
@@ -77,6 +90,7 @@ none_more V sh w h n es b unused = record {
   here = λ k p i l s. b.here k p i (below k p i l s) s;
   away = λ k nowhere. b.away k (λ p i l s. nowhere p i (omega (arith, l)) s);
   once = b.once;
+  order = in_order_past V sh w 0 n es b.order;
 }
   where
     below : (k p i : ℕ) → i < n + 1 → Stands V sh w k p i → i < n

@@ -5,7 +5,7 @@ ghost use Rattle.mc_words.specs.Checks.{shape_of};
 ghost use Rattle.mc_words.specs.History.{value_held};
 ghost use Rattle.mc_words.specs.Places.{IsWidth};
 ghost use Rattle.mc_words.specs.Standing.{Agrees, Stands};
-ghost use Rattle.mc_search.specs.Entries.{AreEntriesOf};
+ghost use Rattle.mc_search.specs.Entries.{AreEntriesOf, AreInOrder};
 
 use crate::reading::{Held, read};
 use crate::word::key_at;
@@ -49,6 +49,7 @@ fn list_entries<const V: usize, P: Peek>(
     requires width { IsWidth V }
     requires agrees { (h : List (Change V)) × Agrees V (shape_of checked.now) (P.words peek.old) None h }
     ensures entries { (h : List (Change V)) → Agrees V (shape_of checked.now) (P.words peek.old) None h → IfOk result (λ es. AreEntriesOf V h es.items) }
+    ensures order { IfOk result (λ es. AreInOrder V (shape_of checked.now) (P.words peek.old) 0 (shape_of checked.now).items es.items) }
     ensures kept { peek.new ≡ peek.old }
 {
     let mut entries = Vec::new(alloc);
@@ -70,6 +71,7 @@ pub fn entries<const V: usize, P: Peek>(
     requires width { IsWidth V }
     requires agrees { (h : List (Change V)) × Agrees V (shape_of checked.now) (P.words peek.old) None h }
     ensures entries { (h : List (Change V)) → Agrees V (shape_of checked.now) (P.words peek.old) None h → IfOk result (λ es. AreEntriesOf V h es.items) }
+    ensures order { IfOk result (λ es. AreInOrder V (shape_of checked.now) (P.words peek.old) 0 (shape_of checked.now).items es.items) }
     ensures kept { peek.new ≡ peek.old }
 {
     Ok(list_entries::<V, P>(alloc, checked, peek)?)

@@ -14,6 +14,7 @@
 mod deeds;
 mod get_call;
 mod if_call;
+mod kept_call;
 mod pen;
 mod put_call;
 mod remove_call;
@@ -21,6 +22,7 @@ mod sweep;
 
 pub use get_call::{get, look};
 pub use if_call::put_if;
+pub use kept_call::put_kept;
 pub use pen::Pen;
 pub use put_call::put;
 pub use remove_call::remove;

@@ -25,7 +25,7 @@ impl<'a, const V: usize> Pen<'a, V> {
     ghost use Rattle.mc_writer.specs.Inside.Pens.{state_at};
 
     /// Decides a put, as far as one look for the key tells.
-    fn decide(&mut self, books: &mut Books, key: u64, value: &[u64; V]) -> Decision
+    pub(crate) fn decide(&mut self, books: &mut Books, key: u64, value: &[u64; V]) -> Decision
         requires rested { IsRested V books.old self.old.seat.now }
         ensures pen { self.new ≡ self.old }
         ensures decided { IsDecided V books.new key value.now (state_at V self.old) result }
@@ -45,7 +45,13 @@ impl<'a, const V: usize> Pen<'a, V> {
     }
 
     /// Decides the put of a key that is not there.
-    fn decide_insert(&mut self, books: &mut Books, key: u64, value: &[u64; V], at: u64) -> Insertion
+    pub(crate) fn decide_insert(
+        &mut self,
+        books: &mut Books,
+        key: u64,
+        value: &[u64; V],
+        at: u64,
+    ) -> Insertion
         requires lacks { IsLackingKey V books.old key (state_at V self.old) at }
         ensures pen { self.new ≡ self.old }
         ensures inserted { IsInserted V books.new key value.now (state_at V self.old) result }
@@ -94,7 +100,7 @@ impl<'a, const V: usize> Pen<'a, V> {
     }
 
     /// Makes the moves and the fill, and the mark of its item.
-    fn make_storing(&mut self, key: u64, value: &[u64; V], storing: &Storing)
+    pub(crate) fn make_storing(&mut self, key: u64, value: &[u64; V], storing: &Storing)
         requires width { IsWidth V }
         requires item { storing.now.item < self.old.cells.now.layout.shape.items }
         requires due { IsDue V (storing_acts self.old.cells.now.layout.shape key value.now storing.now) self.old }

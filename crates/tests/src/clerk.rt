@@ -9,7 +9,7 @@ ghost use Rattle.tests.specs.Drivers.{key_after, IsBeside, IsMaking};
 
 use crate::shapes::checked;
 use mc_core::Act;
-use mc_plan::{Answer, Clerk, IfError, NoMemory, Peek, Put, PutError, Remove, moment, read};
+use mc_plan::{Answer, Clerk, IfError, NoMemory, Peek, Put, PutError, Remove, Why, moment, read};
 use mc_words::{Checked, payload_words};
 use std::alloc::{AllocError, Global};
 use std::mem;
@@ -243,6 +243,24 @@ fn put_if_tells(
     answer == Answer::PutIf(wanted)
 }
 
+/// Puts a key that takes no other key's item, and tells whether each act was made, and the answer is this one.
+fn put_kept_tells(
+    clerk: &mut Clerk<1>,
+    driver: &mut Driver,
+    key: u64,
+    value: u64,
+    wanted: Result<Put, Why>,
+) -> bool
+    requires { IsBeside clerk.old (shape_of driver.old.checked) driver.old.words.items }
+    ensures beside { IsTrue result → IsBeside clerk.new (shape_of driver.new.checked) driver.new.words.items }
+{
+    clerk.put_kept(&mut Look(driver.words.as_slice()), key, [value]);
+    let Some(answer) = run(clerk, driver) else {
+        return false;
+    };
+    answer == Answer::Kept(wanted)
+}
+
 /// Removes a key, and tells whether each act was made, and the answer is this one.
 fn remove_tells(clerk: &mut Clerk<1>, driver: &mut Driver, key: u64, wanted: Remove) -> bool
     requires { IsBeside clerk.old (shape_of driver.old.checked) driver.old.words.items }
@@ -362,6 +380,25 @@ fn the_first_item_without_a_mark_is_taken(rt: HostRuntime) -> Result<(), Fail> {
     let _ = driver.swap(1, 1);
     assert!(rt; put_tells(&mut clerk, &mut driver, 4, 4, replaced(7, 0, 2)));
     assert!(rt; shows(&clerk, &driver, 4, Some((2, 4, 7)), 7));
+    Ok(())
+}
+
+#[test]
+fn a_put_that_takes_no_other_keys_item_is_refused(rt: HostRuntime) -> Result<(), Fail> {
+    let checked = checked(4, 2, 2)?;
+    let (mut clerk, mut driver) = start(rt.alloc(), &checked)?;
+    let first = Put::Stored {
+        at: 1,
+        moves: 0,
+        evicted: None,
+    };
+    assert!(rt; put_kept_tells(&mut clerk, &mut driver, 0, 7, Ok(first)));
+    assert!(rt; put_tells(&mut clerk, &mut driver, 1, 8, stored(2, 0)));
+    assert!(rt; put_kept_tells(&mut clerk, &mut driver, 2, 9, Err(Why::NoItem)));
+    assert!(rt; shows(&clerk, &driver, 2, None, 2));
+    let renewed = Put::Renewed { at: 3 };
+    assert!(rt; put_kept_tells(&mut clerk, &mut driver, 0, 9, Ok(renewed)));
+    assert!(rt; shows(&clerk, &driver, 0, Some((0, 9, 3)), 3));
     Ok(())
 }
 

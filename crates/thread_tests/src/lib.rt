@@ -11,6 +11,8 @@ mod calls;
 #[cfg(test)]
 mod deeds;
 #[cfg(test)]
+mod desk;
+#[cfg(test)]
 mod evictions;
 #[cfg(test)]
 mod journal;
@@ -24,6 +26,8 @@ mod load_draws;
 mod load_gate;
 #[cfg(test)]
 mod load_rows;
+#[cfg(test)]
+mod loaded;
 #[cfg(test)]
 mod looker;
 #[cfg(test)]
@@ -40,6 +44,8 @@ mod sharing;
 mod texts;
 #[cfg(test)]
 mod truth;
+#[cfg(test)]
+mod turns;
 #[cfg(test)]
 mod twin;
 #[cfg(test)]

@@ -1,13 +1,16 @@
 //! What callers can prove of a cache, from the contracts of `mc_cache` alone.
 //!
 //! Each function is a caller, and its contract says something that the cache's words let it say: a value that was put is found,
-//! a reply in another thread is true of the writer's history, replies come in the order of their moments.
+//! a reply in another thread is true of the writer's history, replies come in the order of their moments, two threads take turns at one
+//! writer.
 #![tactic(auto)]
 
 mod beside;
 mod threads;
+mod turns;
 mod twice;
 
 pub use beside::{get_between_meetings, put_and_get};
 pub use threads::get_beside_a_put;
+pub use turns::put_in_turns;
 pub use twice::get_twice;

@@ -27,7 +27,9 @@ use Rattle.mc_plan.specs.declared.answer.PutError.TheVariants as why
 use Rattle.mc_plan.specs.declared.answer.Remove.{Remove}
 use Rattle.mc_plan.specs.declared.answer.Remove.TheVariants as remove
 use Rattle.mc_plan.specs.declared.answer.Spent.{Spent}
-use Rattle.mc_plan.specs.WholeCalls.{Answered, AreOfDeeds, Call, PutCall, PutIfCall, RemoveCall, Marks, MarksLast, acts_of, quiet_of}
+use Rattle.mc_plan.specs.declared.answer.Why.{Why}
+use Rattle.mc_plan.specs.declared.answer.Why.TheVariants as left
+use Rattle.mc_plan.specs.WholeCalls.{Answered, AreOfDeeds, Call, KeptCall, PutCall, PutIfCall, RemoveCall, Marks, MarksLast, acts_of, quiet_of}
 use Rattle.mc_plan.specs.Ends.{CallsEndOnce}
 use Rattle.mc_plan.proofs.Calls.CanEnd.{many_acts}
 use Rattle.mc_plan.proofs.Calls.ActKinds.{Each, IsUnmarked, IsUnswept, deeds_after, deeds_cost, deeds_unmarked, deeds_unswept, each_then, hands_unmarked, mark_ends, same_sweep}
@@ -91,7 +93,14 @@ ends_marked V sh w (PutIfCall k since v) (answer.PutIf (Ok at)) rs others marks 
 ends_marked V sh w (PutIfCall k since v) (answer.PutIf (Err why)) rs others marks = deeds_marked rs others marks
 ends_marked V sh w (PutIfCall k since v) (answer.Put told) rs others marks = absurd marks
 ends_marked V sh w (PutIfCall k since v) (answer.Remove told) rs others marks = absurd marks
+ends_marked V sh w (PutCall k v) (answer.Kept told) rs others marks = absurd marks
+ends_marked V sh w (PutIfCall k since v) (answer.Kept told) rs others marks = absurd marks
 ends_marked V sh w (RemoveCall k) told rs others marks = deeds_marked rs others marks
+ends_marked V sh w (KeptCall k v) (answer.Kept (Ok put)) rs others marks = last_marked V sh w k rs others marks
+ends_marked V sh w (KeptCall k v) (answer.Kept (Err why)) rs others marks = deeds_marked rs others marks
+ends_marked V sh w (KeptCall k v) (answer.Put told) rs others marks = absurd marks
+ends_marked V sh w (KeptCall k v) (answer.PutIf told) rs others marks = absurd marks
+ends_marked V sh w (KeptCall k v) (answer.Remove told) rs others marks = absurd marks
 
 -- the acts of a call as those of its sweep and the others
 parts_of : (V : ℕ) (sh : Shape) (call : Call) (s : State V) (acts : List Made) (told : Answer) (c : Answered V sh call s acts told) → acts_of acts ≡ acts_of (hand_acts c.sweep) ++ acts_of c.others
@@ -213,6 +222,19 @@ remove_once V sh k s acts more (Ok (remove.Removed at)) (Ok (remove.Removed afte
 remove_once V sh k s acts more (Ok (remove.NotThere at)) (Ok (remove.Removed after)) one two = absurd (absent_present _ one.means.absent two.means.present)
 remove_once V sh k s acts more (Err spent) (Ok (remove.Removed after)) one two = absurd (two.means.unspent one.means.0)
 
+kept_once : (V : ℕ) (sh : Shape) (k : ℕ) (v : List ℕ) (s : State V) (acts more : List Made) (a b : Result Put Why) → Answered V sh (KeptCall k v) s acts (answer.Kept a) → Answered V sh (KeptCall k v) s (acts ++ more) (answer.Kept b) → more ≡ []
+kept_once V sh k v s acts more (Ok told) b one two = stored_once V sh (KeptCall k v) _ k s acts more (answer.Kept (Ok told)) (answer.Kept b) one one.marks two
+kept_once V sh k v s acts more (Err e) (Err left.NoPath) one two = still_once V sh (KeptCall k v) s acts more (answer.Kept (Err left.NoPath)) two two.marks two.means.unchanged two.sweeps
+kept_once V sh k v s acts more (Err e) (Err left.NoItem) one two = still_once V sh (KeptCall k v) s acts more (answer.Kept (Err left.NoItem)) two two.marks two.means.unchanged two.sweeps
+kept_once V sh k v s acts more (Err e) (Err left.Spent) one two = still_once V sh (KeptCall k v) s acts more (answer.Kept (Err left.Spent)) two two.marks two.means.1 two.sweeps
+kept_once V sh k v s acts more (Err e) (Ok (put.Stored at moves (Some evicted))) one two = absurd two.means
+kept_once V sh k v s acts more (Err left.NoItem) (Ok (put.Stored at moves None)) one two = absurd (omega (arith, one.means.needs.full, two.means.room))
+kept_once V sh k v s acts more (Err left.NoItem) (Ok (put.Renewed at)) one two = absurd (absent_present _ one.means.needs.absent two.means.present)
+kept_once V sh k v s acts more (Err left.NoPath) (Ok (put.Stored at moves None)) one two = absurd (chain_within sh s.words k sh.depth moves one.means.none two.means.least two.means.within)
+kept_once V sh k v s acts more (Err left.NoPath) (Ok (put.Renewed at)) one two = absurd (absent_present _ one.means.absent two.means.present)
+kept_once V sh k v s acts more (Err left.Spent) (Ok (put.Stored at moves None)) one two = absurd (two.means.unspent one.means.0)
+kept_once V sh k v s acts more (Err left.Spent) (Ok (put.Renewed at)) one two = absurd (two.means.unspent one.means.0)
+
 pub ends_once : (V : ℕ) → CallsEndOnce V
 ends_once V sh (PutCall k v) s acts more (answer.Put a) (answer.Put b) one two = put_once V sh k v s acts more a b one two
 ends_once V sh (PutCall k v) s acts more (answer.Put a) (answer.PutIf b) one two = absurd two.means
@@ -229,3 +251,16 @@ ends_once V sh (RemoveCall k) s acts more (answer.Remove a) (answer.Put b) one t
 ends_once V sh (RemoveCall k) s acts more (answer.Remove a) (answer.PutIf b) one two = absurd two.means
 ends_once V sh (RemoveCall k) s acts more (answer.Put a) b one two = absurd one.means
 ends_once V sh (RemoveCall k) s acts more (answer.PutIf a) b one two = absurd one.means
+ends_once V sh (PutCall k v) s acts more (answer.Put a) (answer.Kept b) one two = absurd two.means
+ends_once V sh (PutCall k v) s acts more (answer.Kept a) b one two = absurd one.means
+ends_once V sh (PutIfCall k since v) s acts more (answer.PutIf a) (answer.Kept b) one two = absurd two.means
+ends_once V sh (PutIfCall k since v) s acts more (answer.Kept a) b one two = absurd one.means
+ends_once V sh (RemoveCall k) s acts more (answer.Remove a) (answer.Kept b) one two = absurd two.means
+ends_once V sh (RemoveCall k) s acts more (answer.Kept a) b one two = absurd one.means
+ends_once V sh (KeptCall k v) s acts more (answer.Kept a) (answer.Kept b) one two = kept_once V sh k v s acts more a b one two
+ends_once V sh (KeptCall k v) s acts more (answer.Kept a) (answer.Put b) one two = absurd two.means
+ends_once V sh (KeptCall k v) s acts more (answer.Kept a) (answer.PutIf b) one two = absurd two.means
+ends_once V sh (KeptCall k v) s acts more (answer.Kept a) (answer.Remove b) one two = absurd two.means
+ends_once V sh (KeptCall k v) s acts more (answer.Put a) b one two = absurd one.means
+ends_once V sh (KeptCall k v) s acts more (answer.PutIf a) b one two = absurd one.means
+ends_once V sh (KeptCall k v) s acts more (answer.Remove a) b one two = absurd one.means

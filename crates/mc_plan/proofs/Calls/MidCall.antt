@@ -26,7 +26,7 @@ use Rattle.mc_plan.specs.declared.books.Books.{Books}
 use Rattle.mc_plan.specs.declared.clerk.Clerk.{Clerk}
 use Rattle.mc_plan.specs.declared.clerk.Stage.{Stage}
 use Rattle.mc_plan.specs.declared.clerk.Stage.TheVariants.{Idle, Sweeping, Planned}
-use Rattle.mc_plan.specs.WholeCalls.{Answered, Call, PutCall, PutIfCall, RemoveCall, IsOfDeed, AreOfDeeds, IsSweepOf, Means, Marks, MarksLast, acts_of, state_after_sweep}
+use Rattle.mc_plan.specs.WholeCalls.{Answered, Call, KeptCall, PutCall, PutIfCall, RemoveCall, IsOfDeed, AreOfDeeds, IsSweepOf, Means, Marks, MarksLast, acts_of, state_after_sweep}
 use Rattle.mc_plan.specs.Books.{AreBooksOf, IsPlanned}
 use Rattle.mc_plan.specs.Clerks.{IsAtStage, IsOn, HasCall, Knows, MakesPlan, StageHasCall, next_act, next_in, shape_of_clerk}
 use Rattle.mc_plan.specs.Making.{IsQuiet, as_made, state_after_acts}
@@ -102,7 +102,14 @@ still_marks V sh w (PutIfCall k since v) (answer.PutIf (Ok at)) acts m = still_l
 still_marks V sh w (PutIfCall k since v) (answer.PutIf (Err why)) acts m = still_deeds acts m
 still_marks V sh w (PutIfCall k since v) (answer.Put told) acts m = absurd m
 still_marks V sh w (PutIfCall k since v) (answer.Remove told) acts m = absurd m
+still_marks V sh w (PutCall k v) (answer.Kept told) acts m = absurd m
+still_marks V sh w (PutIfCall k since v) (answer.Kept told) acts m = absurd m
 still_marks V sh w (RemoveCall k) told acts m = still_deeds acts m
+still_marks V sh w (KeptCall k v) (answer.Kept (Ok put)) acts m = still_last V sh w k acts m
+still_marks V sh w (KeptCall k v) (answer.Kept (Err why)) acts m = still_deeds acts m
+still_marks V sh w (KeptCall k v) (answer.Put told) acts m = absurd m
+still_marks V sh w (KeptCall k v) (answer.PutIf told) acts m = absurd m
+still_marks V sh w (KeptCall k v) (answer.Remove told) acts m = absurd m
 
 -- ---- the next act
 pub allowed_next : (V : ℕ) (sh : Shape) (s : State V) (acts : List Act) (n : ℕ) (a : Act) → AreAllowed sh s (as_made acts) → slice_get acts n ≡ Some a → IsAllowed sh (state_after_acts V sh s (take n acts)) a

@@ -1,10 +1,14 @@
 -- What only private contracts say beside `Clerks`.
-use Rattle.std.specs.Prelude.{ℕ, ◌≡◌, List, [], Some}
+use Rattle.std.specs.Prelude.{ℕ, ◌≡◌, List, [], Some, Result, Ok, Err}
 use Rattle.mc_words.specs.Checks.{shape_of}
 use Rattle.mc_theory.specs.States.{State}
 use Rattle.mc_theory.specs.declared.act.Act.{Act}
 use Rattle.mc_plan.specs.declared.answer.Answer.TheVariants as answer
+use Rattle.mc_plan.specs.declared.answer.Put.{Put}
+use Rattle.mc_plan.specs.declared.answer.PutError.{PutError}
+use Rattle.mc_plan.specs.declared.answer.Why.{Why}
 use Rattle.mc_plan.specs.declared.books.Books.{Books}
+use Rattle.mc_plan.specs.Calls.{why_of}
 use Rattle.mc_plan.specs.declared.clerk.Clerk.{Clerk}
 use Rattle.mc_plan.specs.declared.clerk.Stage.{Stage}
 use Rattle.mc_plan.specs.declared.clerk.Stage.TheVariants.{Sweeping}
@@ -16,6 +20,11 @@ use Rattle.mc_search.specs.Sweeps.{Swept, IsOver, victim_of}
 use Rattle.mc_plan.specs.WholeCalls.{Call, PutCall, IsSweepOf}
 use Rattle.mc_plan.specs.Books.{IsPlanned, Waits, IsSweeping}
 use Rattle.mc_plan.specs.Clerks.{shape_of_clerk}
+
+-- the answer of a put that swept for no item, as that of one that takes no other key's item
+abbrev pub kept_told : Result Put PutError → Result Put Why
+kept_told (Ok told) = Ok told
+kept_told (Err refusal) = Err (why_of refusal)
 
 -- how a put starts: it is planned, or it waits for an item
 abbrev pub IsStarted : (V : ℕ) → Books → List Act → ℕ → List ℕ → State V → Start → Type 0

@@ -14,6 +14,14 @@ returns-clause-entries g c = λ h agrees.
     let w = g.P.Peek.words c.args.peek.now in
     all_entries V sh w h c.loop-item.entries.items agrees (subst (λ (n : ℕ). AreEntriesBelow V sh w h n c.loop-item.entries.items) (omega (arith, c.loop-item-test.false, ap (λ (x : Shape). x.items) c.shape-item-end.ensures)) (c.loop-item.invariant.entries h agrees))
 
+pub returns-clause-order : goal.returns-clause-order
+returns-clause-order g c =
+    let V = g.row.V in
+    let sh = shape_of c.args.checked.now in
+    let w = g.P.Peek.words c.args.peek.now in
+    let below = c.loop-item.invariant.entries c.requires.agrees.0 c.requires.agrees.1 in
+    (subst (λ (n : ℕ). AreEntriesBelow V sh w c.requires.agrees.0 n c.loop-item.entries.items) (omega (arith, c.loop-item-test.false, ap (λ (x : Shape). x.items) c.shape-item-end.ensures)) below).order
+
 pub loop-item-preserved : goal.loop-item-preserved
 loop-item-preserved g c =
     let V = g.row.V in

@@ -1,0 +1,57 @@
+-- What a try for the turn does, at the desk on which the writer lies.
+use Rattle.std.specs.Prelude.{ℕ, ◌≡◌, ◌⊎◌, length, Result, Ok, Err}
+use Rattle.mc_words.specs.declared.history.Reply.{Reply}
+use Rattle.mc_words.specs.declared.history.Reply.TheVariants.{Busy}
+use Rattle.mc_words.specs.declared.shape.Shape.{Shape}
+use Rattle.mc_plan.specs.WholeCalls.{Call}
+use Rattle.mc_plan.specs.declared.answer.Answer.{Answer}
+use Rattle.mc_shared.specs.Records.{ReaderRecord, WriterRecord, reader_record}
+use Rattle.mc_shared.specs.SeatFacts.{IsRun}
+use Rattle.mc_shared.specs.Views.{IsFrontOf}
+use Rattle.mc_reader.specs.Records.{HasLooked}
+use Rattle.mc_writer.specs.WriterCalls.{HasCalled}
+use Rattle.mc_cache.specs.Beside.{HasLookedBeside}
+use Rattle.mc_cache.specs.Orders.{HasAnsweredInOrder}
+use Rattle.mc_cache.specs.Resting.{IsAtRest}
+use Rattle.mc_cache.specs.declared.desk.DeskError.{DeskError}
+use Rattle.mc_cache.specs.declared.desk.DeskError.TheVariants as desk
+
+-- a writer as it lies between two turns: its acts are lawful and within the limit, each has its note, and no call of it runs
+pub record IsLaidDown (V : ℕ) (w : WriterRecord) : Type 0 where
+  pub run : IsRun w.of.layout w.acts
+  pub paired : length w.notes ≡ length w.acts
+  pub rests : IsAtRest V w
+
+-- whoever lent this reader as a pass has had the turn. It found the writer with the one record, of which the pass had seen a front,
+-- and left it with the other: from the one to the other a whole call was made, with this answer. The pass has then seen all, and its
+-- earlier lookups are true in the order that the notes tell
+pub record HasHadTurn (V : ℕ) (sh : Shape) (call : Call) (old new : ReaderRecord) (told : Answer) : Type 0 where
+  pub before : WriterRecord
+  pub after : WriterRecord
+  pub of : before.of ≡ old.of
+  pub stood : IsLaidDown V before
+  pub stands : IsLaidDown V after
+  pub seen : IsFrontOf old.front before.acts
+  pub called : HasCalled V sh call before after told
+  pub caught : new ≡ reader_record old.of old.number after.acts old.done
+  pub order : HasAnsweredInOrder V sh after old.number old.done
+
+-- a try for the turn, to make this call: where it was held, nothing was done with the pass
+abbrev pub HasTried : {T E : Type 0} (V : ℕ) → Shape → Call → (Result T E → Answer) → ReaderRecord → ReaderRecord → Result T (DeskError E) → Type 0
+HasTried V sh call told old new (Ok done) = HasHadTurn V sh call old new (told (Ok done))
+HasTried V sh call told old new (Err desk.Held) = new ≡ old
+HasTried V sh call told old new (Err (desk.Call why)) = HasHadTurn V sh call old new (told (Err why))
+
+-- a lookup was busy, and then the key was looked up beside the writer, which lay down and has stayed as it was
+pub record HasFallenBack (V : ℕ) (sh : Shape) (k : ℕ) (old new : ReaderRecord) (reply : Reply V) : Type 0 where
+  pub mid : ReaderRecord
+  pub writer : WriterRecord
+  pub of : writer.of ≡ old.of
+  pub stands : IsLaidDown V writer
+  pub busy : HasLooked V sh k old mid Busy
+  pub looked : HasLookedBeside V sh k writer.acts mid new reply
+  pub order : HasAnsweredInOrder V sh writer mid.number mid.done
+
+-- a lookup; or one that was busy, and then one beside the writer
+abbrev pub HasLookedOrMet : (V : ℕ) → Shape → ℕ → ReaderRecord → ReaderRecord → Reply V → Type 0
+HasLookedOrMet V sh k old new reply = HasLooked V sh k old new reply ⊎ HasFallenBack V sh k old new reply

@@ -1,0 +1,100 @@
+//! A cache is opened with entries.
+ghost use Rattle.std.specs.Prelude.{ℕ, ◌≡◌, ◌+◌, ◌*◌, ◌<◌, ◌≤◌, ◌++◌, [], ◌∷◌, All, IfOk, List, MatchResult, length, vec_capacity, vec_len};
+ghost use Rattle.mc_words.specs.declared.history.Change.{Change};
+ghost use Rattle.mc_words.specs.Places.{IsWidth};
+ghost use Rattle.mc_words.specs.Readers.{HasReaders};
+ghost use Rattle.mc_words.specs.Shapes.{IsShape};
+ghost use Rattle.mc_theory.specs.Lists.{Made, state_of};
+ghost use Rattle.mc_theory.specs.States.{opening};
+ghost use Rattle.mc_plan.specs.Loads.{Loads};
+ghost use Rattle.mc_shared.specs.Records.{IsNewReader, new_readers};
+ghost use Rattle.mc_shared.specs.Views.{layout_of};
+ghost use Rattle.mc_cache.specs.Openings.{RefusesOpening};
+ghost use Rattle.mc_cache.specs.Plain.{IsLegal, TakesOrNames, history, seen};
+ghost use Rattle.mc_cache.specs.Resting.{IsAtRest};
+
+use crate::cache::Cache;
+use crate::opening::{OpenError, open};
+use crate::reader::Reader;
+use crate::writer::Writer;
+use mc_plan::Why;
+use mc_words::Shape;
+use std::alloc::Global;
+
+/// A cache that was opened with entries, its writer and its readers.
+#[derive(Drop)]
+pub struct Opened<const V: usize> {
+    pub cache: Cache<V>,
+    pub writer: Writer<V>,
+    pub readers: Vec<Reader<V>>,
+    /// The index of each entry that was not taken, in order, and why.
+    pub left: Vec<(usize, Why)>,
+}
+
+// Names an entry that is left, for which there is room.
+fn name(left: &mut Vec<(usize, Why)>, index: usize, why: Why)
+    requires { vec_len left.old < vec_capacity left.old }
+    ensures items { left.new.items ≡ left.old.items ++ (index, why) ∷ [] }
+    ensures len { vec_len left.new ≡ vec_len left.old + 1 }
+    ensures room { vec_capacity left.old ≤ vec_capacity left.new }
+{
+    let _ = left.push((index, why));
+}
+
+// Puts the entries in their order, as long as no other key has to go. There is room to name them all.
+fn load<const V: usize>(
+    cache: &Cache<V>,
+    writer: &mut Writer<V>,
+    entries: &[(u64, [u64; V])],
+    left: &mut Vec<(usize, Why)>,
+)
+    requires of { writer.old.of ≡ cache.now }
+    requires none { left.old.items ≡ [] }
+    requires room { length entries.now ≤ vec_capacity left.old }
+    ensures of { writer.new.of ≡ writer.old.of }
+    ensures loaded { (made : List Made) × (changes : List (Change V)) × (writer.new.acts ≡ writer.old.acts ++ made) ×
+        Loads V cache.now.layout.shape (state_of V cache.now.layout.shape writer.old.acts) 0 entries.now made changes left.new.items }
+{
+    for index in 0..entries.len() {
+        let entry = entries[index];
+        if let Err(why) = writer.put_kept(cache, entry.0, entry.1) {
+            name(left, index, why);
+        }
+    }
+}
+
+/// A cache with these entries, its writer and so many readers. The entries are put one after the other, as by calls of `put`, but
+/// none evicts another: one that can't be put so is left, and named with the reason. A key that is named twice is put again.
+/// The entries come first in the history of the cache, which begins anew, and so do the moments of their puts.
+/// The first fault of what is asked for is told as by `open`. After one nothing is left of a cache that was begun.
+/// Condition: a value has from 1 to 8 words.
+pub fn open_with<const V: usize>(
+    alloc: Global,
+    shape: Shape,
+    readers: u32,
+    entries: &[(u64, [u64; V])],
+) -> Result<Opened<V>, OpenError>
+    requires width { IsWidth V }
+    ensures cache { MatchResult result (λ o. o.cache.layout ≡ layout_of V shape) (λ e. RefusesOpening shape readers e) }
+    ensures asked { IfOk result (λ o. IsShape shape × HasReaders readers) }
+    ensures of { IfOk result (λ o. o.writer.of ≡ o.cache) }
+    ensures loaded { IfOk result (λ o. Loads V shape (opening V shape) 0 entries.now o.writer.acts (history V o.writer) o.left.items) }
+    ensures rests { IfOk result (λ o. IsAtRest V o.writer) }
+    ensures readers { IfOk result (λ o. o.readers.items ≡ new_readers o.cache readers) }
+    ensures fresh { IfOk result (λ o. All (IsNewReader o.cache) o.readers.items) }
+    ensures plain { IfOk result (λ o. TakesOrNames 0 entries.now (history V o.writer) o.left.items × IsLegal shape.items (history V o.writer) ×
+        All (λ reader. seen V reader ≡ []) o.readers.items) }
+{
+    let (cache, mut writer, readers) = open::<V>(alloc, shape, readers)?;
+    let Ok(mut left) = Vec::with_capacity(alloc, entries.len()) else {
+        return Err(OpenError::NoMemory);
+    };
+    load(&cache, &mut writer, entries, &mut left);
+    writer.known();
+    Ok(Opened {
+        cache,
+        writer,
+        readers,
+        left,
+    })
+}

@@ -1,0 +1,141 @@
+//! A writer that lies on a desk: what a thread alone is told, and what many are that take turns.
+ghost use Rattle.std.specs.Prelude.{◌≡◌, All, IfOk};
+
+use crate::turns::{Caller, call_in_threads, history_of};
+use mc_cache::{
+    Cache, Desk, DeskError, IfError, Mix, Put, PutError, Reader, Remove, Reply, Shape, open,
+};
+use std::alloc::{AllocError, Global};
+use std::test::Fail;
+use std::thread::Threads;
+
+const SMALL: Shape = Shape {
+    buckets: 4,
+    items: 16,
+    stripes: 1,
+    depth: 2,
+    tries: 2,
+    limit: 1 << 62,
+    mix: Mix::Plain,
+};
+
+fn stored(at: u64) -> Result<Put, DeskError<PutError>> {
+    Ok(Put::Stored {
+        at,
+        moves: 0,
+        evicted: None,
+    })
+}
+
+fn found(value: u64, at: u64, since: u64) -> Reply<1> {
+    Reply::Found {
+        value: [value],
+        at,
+        since,
+    }
+}
+
+#[test]
+fn one_thread_is_never_held(rt: HostRuntime) -> Result<(), Fail> {
+    let (cache, writer, mut readers) = open::<1>(rt.alloc(), SMALL, 1)?;
+    let Some(mut pass) = readers.pop() else {
+        return Err(Fail::new("no reader"));
+    };
+    let desk = Desk::new(writer);
+    assert_eq!(rt; desk.try_put(&cache, &mut pass, 0, [7]), stored(1));
+    assert_eq!(rt; pass.get_or_desk(&cache, &desk, 0), found(7, 1, 1));
+    assert_eq!(rt;
+        desk.try_remove(&cache, &mut pass, 0),
+        Ok(Remove::Removed { at: 2 })
+    );
+    let Some(writer) = desk.end() else {
+        return Err(Fail::new("no writer"));
+    };
+    assert_eq!(rt; writer.moment(), 2);
+    Ok(())
+}
+
+#[test]
+fn a_put_on_a_condition_is_told_why_not(rt: HostRuntime) -> Result<(), Fail> {
+    let (cache, writer, mut readers) = open::<1>(rt.alloc(), SMALL, 1)?;
+    let Some(mut pass) = readers.pop() else {
+        return Err(Fail::new("no reader"));
+    };
+    let desk = Desk::new(writer);
+    assert_eq!(rt; desk.try_put(&cache, &mut pass, 0, [7]), stored(1));
+    assert_eq!(rt; desk.try_put(&cache, &mut pass, 1, [8]), stored(2));
+    assert_eq!(rt; desk.try_put_if(&cache, &mut pass, 0, 1, [9]), Ok(3));
+    let changed = Err(DeskError::Call(IfError::Changed { since: 3 }));
+    assert_eq!(rt; desk.try_put_if(&cache, &mut pass, 0, 1, [10]), changed);
+    let not_there = Err(DeskError::Call(IfError::NotThere { at: 3 }));
+    assert_eq!(rt; desk.try_put_if(&cache, &mut pass, 5, 0, [1]), not_there);
+    assert_eq!(rt; pass.get_or_desk(&cache, &desk, 0), found(9, 3, 3));
+    Ok(())
+}
+
+/// Fewer keys than items, so that none is evicted.
+const WIDE: Shape = Shape {
+    buckets: 32,
+    items: 64,
+    stripes: 4,
+    depth: 2,
+    tries: 2,
+    limit: 1 << 62,
+    mix: Mix::Fmix,
+};
+
+// A caller for each reader: so many write, the others only look keys up.
+fn callers_of(
+    alloc: Global,
+    cache: &Cache<1>,
+    mut readers: Vec<Reader<1>>,
+    writers: u64,
+) -> Result<Vec<Caller>, AllocError>
+    requires { All (λ r. r.of ≡ cache.now) readers.items }
+    ensures { IfOk result (λ callers. All (λ c. c.pass.of ≡ cache.now) callers.items) }
+{
+    let _cache = cache;
+    let mut callers = Vec::new(alloc);
+    let mut who = 0u64;
+    while let Some(pass) = readers.pop() {
+        callers.push(Caller::new(alloc, pass, who, who < writers)?)?;
+        who = who.wrapping_add(1);
+    }
+    Ok(callers)
+}
+
+// Whether all that so many writers and readers are told is true of one history, in which each change that was made stands once.
+fn are_turns_true<R: Threads + Sync>(
+    rt: &R,
+    alloc: Global,
+    writers: u32,
+    readers: u32,
+) -> Result<bool, Fail> {
+    let (cache, writer, passes) = open::<1>(alloc, WIDE, writers.saturating_add(readers))?;
+    let callers = callers_of(alloc, &cache, passes, writers as u64)?;
+    let desk = Desk::new(writer);
+    let callers = call_in_threads(rt, &cache, &desk, callers)?;
+    let Some(writer) = desk.end() else {
+        return Err(Fail::new("no writer"));
+    };
+    let Some(history) = history_of(alloc, callers.as_slice(), writer.moment())? else {
+        return Err(Fail::new("a moment is missing, or there twice"));
+    };
+    let mut right = history.len() > 0;
+    for caller in callers.as_slice() {
+        right = right && caller.was_told_the_truth(history.as_slice());
+    }
+    Ok(right)
+}
+
+#[test]
+fn two_threads_take_turns_beside_two_readers(rt: HostRuntime) -> Result<(), Fail> {
+    assert!(rt; are_turns_true(&rt, rt.alloc(), 2, 2)?);
+    Ok(())
+}
+
+#[test]
+fn eight_threads_take_turns_beside_four_readers(rt: HostRuntime) -> Result<(), Fail> {
+    assert!(rt; are_turns_true(&rt, rt.alloc(), 8, 4)?);
+    Ok(())
+}
