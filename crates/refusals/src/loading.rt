@@ -40,7 +40,7 @@ fn is_loaded(opened: Opened<1>) -> bool
         at: 2,
         since: 2,
     };
-    let named = left.as_slice() == &[(2, Why::NoItem)];
+    let named = left.as_slice() == [(2, Why::NoItem)].as_slice();
     named && writer.get(&cache, 1) == found
 }
 
