@@ -163,7 +163,7 @@ impl<'a, const V: usize> Pen<'a, V> {
     }
 
     /// Puts a key for which a hole is at hand, but no item.
-    #[inline(never)]
+    #[inline(always)]
     fn put_evicting(
         &mut self,
         books: &mut Books,
