@@ -204,6 +204,16 @@ impl Caller {
         true
     }
 
+    /// Whether a try of it was held.
+    pub fn was_held(&self) -> bool {
+        for told in self.told.as_slice() {
+            if told.tried == Tried::Held {
+                return true;
+            }
+        }
+        false
+    }
+
     /// Whether all came together, its answers are true of the history, their moments don't fall, and whatever it tried for
     /// stubbornly came to its turn.
     pub fn was_told_the_truth(&self, history: &[Change<1>]) -> bool {
