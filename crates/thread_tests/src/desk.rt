@@ -143,7 +143,7 @@ fn take_turns<R: Threads + Sync>(
 }
 
 /// How often threads take turns at most until a try is held.
-const ROUNDS: u32 = 500;
+const ROUNDS: u32 = 100;
 
 // Whether a try is held in some round, and no thread is told what isn't true.
 fn do_turns_meet<R: Threads + Sync>(
