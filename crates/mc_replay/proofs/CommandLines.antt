@@ -65,7 +65,7 @@ told_as P text t (Err WriteFailed) is F err ok then = absurd (cc (err))
 
 -- memory was wanting
 pub wanted : {V : ℕ} (P : List ℕ → Option Fault → Replay V → Type 0) (text : List ℕ) (t : Replay V) (fault : Fault) → fault ≡ NoMemory → DoneAs P text t (Err fault)
-wanted {V} P text t fault e = subst (λ (f : Fault). DoneAs {V = V} P text t (Err f)) (sym e) tt
+wanted {V} P text t fault e = subst (λ (f : Fault). DoneAs P text t (Err f)) (sym e) tt
 
 -- ---- whole calls
 pub idle_in : {V : ℕ} → Trace V → Replay V

@@ -156,3 +156,16 @@ Does sh s (command.BeginRemove k) text fault t = BeginDoes sh s (RemoveCall k) t
 Does sh s (command.Write n) text fault t = ActsDo sh n s text fault t
 Does sh s (command.BeginGet r k) text fault t = LookUpDoes sh s r k text fault t
 Does sh s (command.Read r n) text fault t = ReadsDo sh s r n text fault t
+
+-- a world in which a script plays, with the shape of its table
+pub record Scene (V : ℕ) : Type 0 where
+  pub shape : Shape
+  pub now : Replay V
+
+-- a new one
+abbrev pub first_scene : (V : ℕ) → Shape → ℕ → Scene V
+first_scene V sh readers = record { shape = sh; now = first_replay V sh readers }
+
+-- what a command does where a script plays
+abbrev pub CommandDoes : {V : ℕ} → Scene V → Command V → List ℕ → Option Fault → Scene V → Type 0
+CommandDoes s c text fault t = (t.shape ≡ s.shape) × Does s.shape s.now c text fault t.now

@@ -3,10 +3,10 @@ ghost use Rattle.std.specs.Prelude.{◌≡◌, ℕ, ◌≤◌, ◌<◌, ◌+◌,
 ghost use Rattle.mc_words.specs.Checks.{shape_of};
 ghost use Rattle.mc_words.specs.Places.{IsWidth};
 ghost use Rattle.mc_replay.specs.Faults.{as_replay_error};
-ghost use Rattle.mc_replay.specs.Replay.{Replay, first_replay};
+ghost use Rattle.mc_replay.specs.Replay.{Scene, first_replay};
 ghost use Rattle.mc_replay.specs.Scripts.{ReplaysKnown};
 ghost use Rattle.mc_words.specs.Readers.{HasReaders};
-ghost use Rattle.mc_replay.specs.Inside.Players.{Fits, FitsStill, shape_of_player, most_before};
+ghost use Rattle.mc_replay.specs.Inside.Players.{Fits, FitsScene, shape_of_player, most_before};
 ghost use Rattle.mc_replay.specs.Inside.Steps.{DoesLine, PlaysKnown, is_wanting};
 ghost use Rattle.mc_replay.specs.declared.fault.Stop.{Stop};
 
@@ -28,11 +28,11 @@ fn do_line<const V: usize>(
     before: u64,
     line: &[u8],
 ) -> Result<(), Fault>
-    requires fits { (s : Replay V) × Fits V player.old (most_before before) s }
+    requires fits { (s : Scene V) × FitsScene V player.old (most_before before) s }
     requires short { length line.now ≤ 4096 }
-    ensures does { (s : Replay V) → Fits V player.old (most_before before) s → (t : Replay V) ×
-        DoesLine V (shape_of_player player.old) before s line.now (string_bytes text.new) t result ×
-        OnOk result (FitsStill V player.old player.new (most_before (before + 1)) t) }
+    ensures does { (s : Scene V) → FitsScene V player.old (most_before before) s → (t : Scene V) ×
+        DoesLine V before s line.now (string_bytes text.new) t result ×
+        OnOk result (FitsScene V player.new (most_before (before + 1)) t) }
     ensures few { OnOk result (before < 2 ^ 40) }
 {
     text.clear();
@@ -64,11 +64,11 @@ fn play_line<const V: usize, R: BufRead, W: Write>(
     input: &mut R,
     output: &mut W,
 ) -> Result<bool, Fault>
-    requires { (s : Replay V) × Fits V player.old (most_before before) s }
-    ensures plays { (s : Replay V) → Fits V player.old (most_before before) s → (t : Replay V) ×
-        PlaysKnown V (shape_of_player player.old) before s t (R.remaining input.old) (R.remaining input.new)
+    requires { (s : Scene V) × FitsScene V player.old (most_before before) s }
+    ensures plays { (s : Scene V) → FitsScene V player.old (most_before before) s → (t : Scene V) ×
+        PlaysKnown V before s t (R.remaining input.old) (R.remaining input.new)
         (W.contents output.old) (W.contents output.new) result ×
-        (result ≡ Ok true → FitsStill V player.old player.new (most_before (before + 1)) t) }
+        (result ≡ Ok true → FitsScene V player.new (most_before (before + 1)) t) }
     ensures few { result ≡ Ok true → before < 2 ^ 40 }
 {
     let mut line = Line::new();

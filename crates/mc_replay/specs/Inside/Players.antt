@@ -19,7 +19,7 @@ use Rattle.mc_replay.specs.declared.fault.Fault.TheVariants.{ReadFailed, NoMemor
 use Rattle.mc_replay.specs.declared.player.Call as asked
 use Rattle.mc_replay.specs.declared.player.Call.TheVariants as asked_as
 use Rattle.mc_replay.specs.declared.player.Player.{Player}
-use Rattle.mc_replay.specs.Replay.{Replay, Pending, pending, WriterMakes, LooksUp, ActDoes}
+use Rattle.mc_replay.specs.Replay.{Replay, Scene, Pending, pending, WriterMakes, LooksUp, ActDoes}
 use Rattle.mc_words.specs.Readers.{HasReaders}
 
 abbrev pub shape_of_player : {V : ℕ} → Player V → Shape
@@ -160,7 +160,7 @@ bit_given (stepped.Word bit) = bit
 bit_given given = 0
 
 -- what was done and written, or the fault; where memory was wanting nothing is said
-abbrev pub DoneAs : {V : ℕ} → (List ℕ → Option Fault → Replay V → Type 0) → List ℕ → Replay V → Result (Unit {0}) Fault → Type 0
+abbrev pub DoneAs : {A : Type 0} → (List ℕ → Option Fault → A → Type 0) → List ℕ → A → Result (Unit {0}) Fault → Type 0
 DoneAs P text t (Ok u) = P text None t
 DoneAs P text t (Err NoMemory) = Unit {0}
 DoneAs P text t (Err ReadFailed) = ⊥
@@ -170,6 +170,10 @@ DoneAs P text t (Err fault) = P text (Some fault) t
 -- the player is this replay, over a table of the same shape
 abbrev pub FitsStill : (V : ℕ) → Player V → Player V → ℕ → Replay V → Type 0
 FitsStill V old new most t = (shape_of_player new ≡ shape_of_player old) × Fits V new most t
+
+-- the player is this replay, over a table of this shape
+abbrev pub FitsScene : (V : ℕ) → Player V → ℕ → Scene V → Type 0
+FitsScene V player most s = (shape_of_player player ≡ s.shape) × Fits V player most s.now
 
 -- whatever replay the player was, it leads on as P says
 abbrev pub DoesBy : (V : ℕ) → Player V → Player V → List ℕ → Result (Unit {0}) Fault → (Shape → Replay V → List ℕ → Option Fault → Replay V → Type 0) → Type 0
