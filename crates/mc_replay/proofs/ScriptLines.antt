@@ -14,13 +14,12 @@ use Rattle.mc_script.specs.Lines.{lines_of, after_lines, GivesLine}
 use Rattle.mc_script.specs.declared.line.ReadFault.TheVariants as over
 use Rattle.mc_script.proofs.Lines.{lines-step, lines-nil, after_lines-step, after_lines-zero}
 use Rattle.mc_replay.specs.declared.fault.Fault.{Fault}
-use Rattle.mc_replay.specs.declared.fault.Fault.TheVariants.{ReadFailed, NoMemory, TooLong, NotACommand, BadNumber, NoSuchReader, StillRunning, NothingToStep, WriteFailed}
-use Rattle.mc_replay.specs.Replay.{Replay, Scene, first_scene, Does}
+use Rattle.mc_replay.specs.declared.fault.Fault.TheVariants.{ReadFailed, NoMemory, TooLong, NotACommand, BadNumber, NoSuchReader, StillRunning, NothingToStep, WriteFailed, BadShape}
+use Rattle.mc_replay.specs.Replay.{Replay, Scene, first_scene, CommandDoes}
 use Rattle.mc_words.specs.Readers.{HasReaders, most_readers}
 use Rattle.mc_replay.specs.Scripts.{SaidDoes, IsTooLong, LineDoes, Plays, Stopped, StopsUndone, StopsRefused, StopsBy, StopsBefore, ReadsStopped, ReadsScript, ReplaysKnown}
 use Rattle.mc_replay.specs.Faults.{fault_of}
-use Rattle.mc_replay.specs.declared.player.Player.{Player}
-use Rattle.mc_replay.specs.Inside.Players.{DoneAs, FitsScene, FitsStill, HasRoom, shape_of_player, IsRefusedAs, most_before, most_steps}
+use Rattle.mc_replay.specs.Inside.Players.{DoneAs, HasRoom, IsRefusedAs, most_before, most_steps}
 use Rattle.mc_replay.specs.Inside.Steps.{DoesLine, PlaysLine, PlaysKnown, SoFar, KnownSoFar, is_wanting}
 
 -- ---- one line
@@ -28,10 +27,10 @@ not_long : (before : ℕ) (line : List ℕ) → length line ≤ 4096 → before 
 not_long before line short few long = elim long [ inl l ↦ absurd (omega arith) | inr l ↦ absurd (omega arith) ]
 
 -- a line that says a command, which was done
-pub line_done : (V : ℕ) (before : ℕ) (s t : Scene V) (line text : List ℕ) (c : Command V) (fault : Option Fault) → length line ≤ 4096 → before < 2 ^ 40 → command_in V line ≡ Ok (Some c) → t.shape ≡ s.shape
-    → Does s.shape s.now c text fault t.now → LineDoes V before s line text fault t
-line_done V before s t line text c fault short few says still does =
-    inr (not_long before line short few, subst (λ r. SaidDoes s r text fault t) (sym says) (still, does))
+pub line_done : (V : ℕ) (before : ℕ) (s t : Scene V) (line text : List ℕ) (c : Command V) (fault : Option Fault) → length line ≤ 4096 → before < 2 ^ 40 → command_in V line ≡ Ok (Some c)
+    → CommandDoes s c text fault t → LineDoes V before s line text fault t
+line_done V before s t line text c fault short few says does =
+    inr (not_long before line short few, subst (λ r. SaidDoes s r text fault t) (sym says) does)
 
 -- a line after so many others is one too many
 pub line_too_many : (V : ℕ) (before : ℕ) (s : Scene V) (line text : List ℕ) → 2 ^ 40 ≤ before → text ≡ [] → LineDoes V before s line text (Some TooLong) s
@@ -45,18 +44,19 @@ line_faulty V before s line text said.BadNumber short few says none =
     inr (not_long before line short few, subst (λ r. SaidDoes s r text (Some BadNumber) s) (sym says) (none, refl, refl))
 
 -- a line that says a command does what the command does
-pub line_does : (V : ℕ) (before : ℕ) (s t : Scene V) (line text : List ℕ) (c : Command V) (r : Result (Unit {0}) Fault) → length line ≤ 4096 → before < 2 ^ 40 → command_in V line ≡ Ok (Some c) → t.shape ≡ s.shape
-    → DoneAs (Does s.shape s.now c) text t.now r → DoesLine V before s line text t r
-line_does V before s t line text c (Ok u) short few says still does = line_done V before s t line text c None short few says still does
-line_does V before s t line text c (Err NoMemory) short few says still does = tt
-line_does V before s t line text c (Err ReadFailed) short few says still does = does
-line_does V before s t line text c (Err WriteFailed) short few says still does = does
-line_does V before s t line text c (Err TooLong) short few says still does = line_done V before s t line text c (Some TooLong) short few says still does
-line_does V before s t line text c (Err NotACommand) short few says still does = line_done V before s t line text c (Some NotACommand) short few says still does
-line_does V before s t line text c (Err BadNumber) short few says still does = line_done V before s t line text c (Some BadNumber) short few says still does
-line_does V before s t line text c (Err NoSuchReader) short few says still does = line_done V before s t line text c (Some NoSuchReader) short few says still does
-line_does V before s t line text c (Err StillRunning) short few says still does = line_done V before s t line text c (Some StillRunning) short few says still does
-line_does V before s t line text c (Err NothingToStep) short few says still does = line_done V before s t line text c (Some NothingToStep) short few says still does
+pub line_does : (V : ℕ) (before : ℕ) (s t : Scene V) (line text : List ℕ) (c : Command V) (r : Result (Unit {0}) Fault) → length line ≤ 4096 → before < 2 ^ 40 → command_in V line ≡ Ok (Some c)
+    → DoneAs (CommandDoes s c) text t r → DoesLine V before s line text t r
+line_does V before s t line text c (Ok u) short few says does = line_done V before s t line text c None short few says does
+line_does V before s t line text c (Err NoMemory) short few says does = tt
+line_does V before s t line text c (Err ReadFailed) short few says does = does
+line_does V before s t line text c (Err WriteFailed) short few says does = does
+line_does V before s t line text c (Err TooLong) short few says does = line_done V before s t line text c (Some TooLong) short few says does
+line_does V before s t line text c (Err NotACommand) short few says does = line_done V before s t line text c (Some NotACommand) short few says does
+line_does V before s t line text c (Err BadNumber) short few says does = line_done V before s t line text c (Some BadNumber) short few says does
+line_does V before s t line text c (Err NoSuchReader) short few says does = line_done V before s t line text c (Some NoSuchReader) short few says does
+line_does V before s t line text c (Err StillRunning) short few says does = line_done V before s t line text c (Some StillRunning) short few says does
+line_does V before s t line text c (Err NothingToStep) short few says does = line_done V before s t line text c (Some NothingToStep) short few says does
+line_does V before s t line text c (Err BadShape) short few says does = line_done V before s t line text c (Some BadShape) short few says does
 
 -- a line that is skipped
 pub line_skipped : (V : ℕ) (before : ℕ) (s : Scene V) (line text : List ℕ) → length line ≤ 4096 → before < 2 ^ 40 → command_in V line ≡ Ok None → text ≡ [] → LineDoes V before s line text None s
@@ -103,6 +103,7 @@ stops_refused V before s t line text n (Some x) b c d BadNumber gives does other
 stops_refused V before s t line text n (Some x) b c d NoSuchReader gives does other wrote all = ((line, gives), refused_line V before s t line text n x b c d NoSuchReader gives does wrote all)
 stops_refused V before s t line text n (Some x) b c d StillRunning gives does other wrote all = ((line, gives), refused_line V before s t line text n x b c d StillRunning gives does wrote all)
 stops_refused V before s t line text n (Some x) b c d NothingToStep gives does other wrote all = ((line, gives), refused_line V before s t line text n x b c d NothingToStep gives does wrote all)
+stops_refused V before s t line text n (Some x) b c d BadShape gives does other wrote all = ((line, gives), refused_line V before s t line text n x b c d BadShape gives does wrote all)
 
 -- a line whose answers were written
 pub plays_whole : (V : ℕ) (before : ℕ) (s t : Scene V) (line text : List ℕ) (n : ℕ) (a b c d : Option (List ℕ)) → GivesLine a b line (Ok true)
@@ -150,17 +151,13 @@ plays_cut V before s t line text n a b c d (Err BadNumber) gives does other wrot
 plays_cut V before s t line text n a b c d (Err NoSuchReader) gives does other wrote part = plays_part V before s t line text (Some NoSuchReader) n a b c d gives does wrote part
 plays_cut V before s t line text n a b c d (Err StillRunning) gives does other wrote part = plays_part V before s t line text (Some StillRunning) n a b c d gives does wrote part
 plays_cut V before s t line text n a b c d (Err NothingToStep) gives does other wrote part = plays_part V before s t line text (Some NothingToStep) n a b c d gives does wrote part
+plays_cut V before s t line text n a b c d (Err BadShape) gives does other wrote part = plays_part V before s t line text (Some BadShape) n a b c d gives does wrote part
 
 -- a line that is too long to be read
 pub plays_over : (V : ℕ) (before : ℕ) (s : Scene V) (line : List ℕ) (a b c : Option (List ℕ)) → GivesLine a b line (Err over.TooLong) → PlaysKnown V before s s a b c c (Err TooLong)
 plays_over V before s line None b c gives = tt
 plays_over V before s line (Some x) b c gives =
     (inl (line, gives), ([], inl (inl gives.1, refl, refl, refl), Appends-nil c))
-
--- a command leaves the shape
-pub still_fits : (V : ℕ) (old new : Player V) (s : Scene V) (most : ℕ) (t : Replay V) (r : Result (Unit {0}) Fault) → shape_of_player old ≡ s.shape → OnOk r (FitsStill V old new most t) → OnOk r (FitsScene V new most (record { shape = s.shape; now = t }))
-still_fits V old new s most t (Ok u) same fits = (fits.0 ∙ same, fits.1)
-still_fits V old new s most t (Err fault) same fits = tt
 
 -- ---- line after line
 -- lines that were played, and one more
@@ -277,6 +274,7 @@ stops_by V start x y rest old new newer before s t BadNumber so_far reads plays 
 stops_by V start x y rest old new newer before s t NoSuchReader so_far reads plays = refused V start x y old new newer before s t NoSuchReader so_far reads.1.0 plays
 stops_by V start x y rest old new newer before s t StillRunning so_far reads plays = refused V start x y old new newer before s t StillRunning so_far reads.1.0 plays
 stops_by V start x y rest old new newer before s t NothingToStep so_far reads plays = refused V start x y old new newer before s t NothingToStep so_far reads.1.0 plays
+stops_by V start x y rest old new newer before s t BadShape so_far reads plays = refused V start x y old new newer before s t BadShape so_far reads.1.0 plays
 stops_by V start x y rest old new newer before s t WriteFailed so_far reads plays = (
   first_line y,
   lines_of (drop_through 10 y),
@@ -314,6 +312,7 @@ replays_none V sh readers (Some x) old fault refused = (inl (refl, refl), inl (r
     stops_before BadNumber refused = absurd refused
     stops_before StillRunning refused = absurd refused
     stops_before NothingToStep refused = absurd refused
+    stops_before BadShape refused = absurd refused
     stops_before WriteFailed refused = absurd refused
 
 -- ---- how many readers there may be

@@ -23,6 +23,7 @@ const MOST_LINES: u64 = 1 << 40;
 
 /// Does what a line says, and puts the lines of its answers into `text`.
 fn do_line<const V: usize>(
+    alloc: Global,
     player: &mut Player<V>,
     text: &mut String,
     before: u64,
@@ -42,7 +43,7 @@ fn do_line<const V: usize>(
     match parse(line) {
         Err(fault) => Err(Fault::of_line(fault)),
         Ok(None) => Ok(()),
-        Ok(Some(command)) => do_command(player, text, command),
+        Ok(Some(command)) => do_command(alloc, player, text, command),
     }
 }
 
@@ -58,6 +59,7 @@ fn is_wanting(done: Result<(), Fault>) -> bool
 
 /// Reads the next line, does it and writes its answers: `false` where there is none.
 fn play_line<const V: usize, R: BufRead, W: Write>(
+    alloc: Global,
     player: &mut Player<V>,
     text: &mut String,
     before: u64,
@@ -78,7 +80,7 @@ fn play_line<const V: usize, R: BufRead, W: Write>(
         Ok(false) => return Ok(false),
         Ok(true) => {}
     }
-    let done = do_line(player, text, before, line.as_slice());
+    let done = do_line(alloc, player, text, before, line.as_slice());
     if is_wanting(done) {
         return Err(Fault::NoMemory);
     }
@@ -105,7 +107,7 @@ fn play_lines<const V: usize, R: BufRead, W: Write>(
 {
     let mut text = String::new(alloc);
     'lines: for before in 0..u64::MAX {
-        match play_line(player, &mut text, before, input, output) {
+        match play_line(alloc, player, &mut text, before, input, output) {
             Ok(true) => {}
             Ok(false) => return Ok(()),
             Err(fault) => {

@@ -27,11 +27,19 @@ shape_of_player player = player.world.shape
 
 -- how many events one line has at most
 abbrev pub most_steps : ℕ
-most_steps = 2 ^ 24 - 1
+most_steps = 2 ^ 23 + 64
 
--- how many events there are at most before so many lines are done
+-- how many entries a table has at most
+abbrev pub most_entries : ℕ
+most_entries = 2 ^ 22
+
+-- how many events there are at most when they are put into another world
+abbrev pub most_loading : ℕ
+most_loading = most_entries * most_steps
+
+-- how many events there are at most in a world before so many lines are done
 abbrev pub most_before : ℕ → ℕ
-most_before lines = lines * most_steps
+most_before lines = most_loading + lines * most_steps
 
 -- how many accesses one lookup makes at most, in as many tries as there can be, of as many words as an item can have
 abbrev pub most_accesses : ℕ
@@ -86,6 +94,7 @@ abbrev pub call_of : {V : ℕ} → asked.Call V → Call
 call_of (asked_as.Put k v) = whole.PutCall k v
 call_of (asked_as.PutIf k since v) = whole.PutIfCall k since v
 call_of (asked_as.Remove k) = whole.RemoveCall k
+call_of (asked_as.PutKept k v) = whole.KeptCall k v
 
 -- a call began, or is answered where it needs no act
 abbrev pub BeginsAs : (V : ℕ) → Shape → Player V → ℕ → Call → Trace V → Option Answer → Type 0

@@ -6,7 +6,7 @@ use Rattle.mc_replay.specs.Inside.Players.{DoesBy}
 use Rattle.mc_replay.specs.Replay.{Does}
 use Rattle.mc_replay.specs.declared.player.Player.{Player}
 use Rattle.mc_replay.proofs.CommandLines.{still_running}
-use Rattle.mc_replay.proofs.command.do_command.Goals as goal
+use Rattle.mc_replay.proofs.command.do_here.Goals as goal
 
 -- The calls are not named, so that a body that makes another one is refused for what that one does.
 pub returns-in-Put-false : goal.returns-in-Put-false
@@ -41,37 +41,37 @@ returns-in-BeginGet-default g c =
     let old : Player g.row.V = c.args.player.now in
     let new : Player g.row.V = c.begin_get.new.player in
     subst (λ (x : Command g.row.V). DoesBy g.row.V old new (string_bytes c.args.text.now) c.begin_get.result (λ sh s. Does sh s x)) (sym c.in-BeginGet-default.is-0)
-    (subst (λ (t : List ℕ). DoesBy g.row.V old new t c.begin_get.result (λ sh s. Does sh s (BeginGet c.in-BeginGet-default.reader c.in-BeginGet-default.key))) (sym c.requires.0) c.begin_get.ensures)
+    (subst (λ (t : List ℕ). DoesBy g.row.V old new t c.begin_get.result (λ sh s. Does sh s (BeginGet c.in-BeginGet-default.reader c.in-BeginGet-default.key))) (sym c.requires.can.0) c.begin_get.ensures)
 
 -- a call runs: each of the eight commands that start one, or look up, is refused
 pub returns-in_default-true : goal.returns-in_default-true
 returns-in_default-true g c = λ most s room fits.
-    (s, rw c.in_default-true.is-0 (still_running g.row.V c.args.player.now most s (string_bytes c.args.text.now) _ fits (sym c.in_default-true.ensures) c.requires.0), tt)
+    (s, rw c.in_default-true.is-0 (still_running g.row.V c.args.player.now most s (string_bytes c.args.text.now) _ fits (sym c.in_default-true.ensures) c.requires.can.0), tt)
 
 pub returns-in_default-true-2 : goal.returns-in_default-true-2
 returns-in_default-true-2 g c = λ most s room fits.
-    (s, rw c.in_default-true.is-0 (still_running g.row.V c.args.player.now most s (string_bytes c.args.text.now) _ fits (sym c.in_default-true.ensures) c.requires.0), tt)
+    (s, rw c.in_default-true.is-0 (still_running g.row.V c.args.player.now most s (string_bytes c.args.text.now) _ fits (sym c.in_default-true.ensures) c.requires.can.0), tt)
 
 pub returns-in_default-true-3 : goal.returns-in_default-true-3
 returns-in_default-true-3 g c = λ most s room fits.
-    (s, rw c.in_default-true.is-0 (still_running g.row.V c.args.player.now most s (string_bytes c.args.text.now) _ fits (sym c.in_default-true.ensures) c.requires.0), tt)
+    (s, rw c.in_default-true.is-0 (still_running g.row.V c.args.player.now most s (string_bytes c.args.text.now) _ fits (sym c.in_default-true.ensures) c.requires.can.0), tt)
 
 pub returns-in_default-true-4 : goal.returns-in_default-true-4
 returns-in_default-true-4 g c = λ most s room fits.
-    (s, rw c.in_default-true.is-0 (still_running g.row.V c.args.player.now most s (string_bytes c.args.text.now) _ fits (sym c.in_default-true.ensures) c.requires.0), tt)
+    (s, rw c.in_default-true.is-0 (still_running g.row.V c.args.player.now most s (string_bytes c.args.text.now) _ fits (sym c.in_default-true.ensures) c.requires.can.0), tt)
 
 pub returns-in_default-true-5 : goal.returns-in_default-true-5
 returns-in_default-true-5 g c = λ most s room fits.
-    (s, rw c.in_default-true.is-0 (still_running g.row.V c.args.player.now most s (string_bytes c.args.text.now) _ fits (sym c.in_default-true.ensures) c.requires.0), tt)
+    (s, rw c.in_default-true.is-0 (still_running g.row.V c.args.player.now most s (string_bytes c.args.text.now) _ fits (sym c.in_default-true.ensures) c.requires.can.0), tt)
 
 pub returns-in_default-true-6 : goal.returns-in_default-true-6
 returns-in_default-true-6 g c = λ most s room fits.
-    (s, rw c.in_default-true.is-0 (still_running g.row.V c.args.player.now most s (string_bytes c.args.text.now) _ fits (sym c.in_default-true.ensures) c.requires.0), tt)
+    (s, rw c.in_default-true.is-0 (still_running g.row.V c.args.player.now most s (string_bytes c.args.text.now) _ fits (sym c.in_default-true.ensures) c.requires.can.0), tt)
 
 pub returns-in_default-true-7 : goal.returns-in_default-true-7
 returns-in_default-true-7 g c = λ most s room fits.
-    (s, rw c.in_default-true.is-0 (still_running g.row.V c.args.player.now most s (string_bytes c.args.text.now) _ fits (sym c.in_default-true.ensures) c.requires.0), tt)
+    (s, rw c.in_default-true.is-0 (still_running g.row.V c.args.player.now most s (string_bytes c.args.text.now) _ fits (sym c.in_default-true.ensures) c.requires.can.0), tt)
 
 pub returns-in_default-true-8 : goal.returns-in_default-true-8
 returns-in_default-true-8 g c = λ most s room fits.
-    (s, rw c.in_default-true.is-0 (still_running g.row.V c.args.player.now most s (string_bytes c.args.text.now) _ fits (sym c.in_default-true.ensures) c.requires.0), tt)
+    (s, rw c.in_default-true.is-0 (still_running g.row.V c.args.player.now most s (string_bytes c.args.text.now) _ fits (sym c.in_default-true.ensures) c.requires.can.0), tt)

@@ -1,14 +1,13 @@
 use Rattle.std.proofs.Common.{◌≡◌, ℕ, ◌+◌, ◌≤◌, arith, refl, None, sym, subst, ◌∙◌, Ok, Err, Some, string_bytes}
 use Rattle.std.specs.Prelude.{OnOk}
 use Rattle.mc_script.specs.Commands.{command_in}
-use Rattle.mc_words.specs.declared.shape.Shape.{Shape}
-use Rattle.mc_replay.specs.Replay.{Does, Scene}
-use Rattle.mc_replay.specs.Inside.Players.{DoneAs, most_before, FitsStill}
+use Rattle.mc_replay.specs.Replay.{Scene}
+use Rattle.mc_replay.specs.Inside.Players.{most_before, FitsScene}
 use Rattle.mc_replay.specs.Inside.Steps.{DoesLine}
 use Rattle.mc_replay.specs.declared.fault.Fault.{Fault}
 use Rattle.mc_replay.specs.declared.player.Player.{Player}
 use Rattle.mc_replay.proofs.ReaderLines.{fits_more, player_room, width_of}
-use Rattle.mc_replay.proofs.ScriptLines.{still_fits, line_skipped, line_too_many, line_faulty, line_does, one_line_more, has_room, always_ok}
+use Rattle.mc_replay.proofs.ScriptLines.{line_skipped, line_too_many, line_faulty, line_does, one_line_more, has_room, always_ok}
 use Rattle.mc_replay.proofs.engine.do_line.Goals as goal
 
 pub returns-then-before-ge-MOST_LINES-clause-does : goal.returns-then-before-ge-MOST_LINES-clause-does
@@ -28,15 +27,11 @@ pub returns-in-Ok-Some-clause-does : goal.returns-in-Ok-Some-clause-does
 returns-in-Ok-Some-clause-does g c = λ s fits.
     let few = c.if-before-ge-MOST_LINES.false in
     let says : command_in g.row.V c.args.line.now ≡ Ok (Some c.in-Ok-Some.command) = sym c.parse.ensures ∙ rw c.in-Ok-Some.field-0-is at c.in-Ok-Some.is in
-    let did = c.do_command.ensures (most_before c.args.before) s.now (has_room c.args.before few) fits.1 in
-    let old : Player g.row.V = c.args.player.now in
-    let new : Player g.row.V = c.do_command.new.player in
-    let text = string_bytes c.do_command.new.text in
-    let t : Scene g.row.V = record { shape = s.shape; now = did.0 } in
-    let does = subst (λ (sh : Shape). DoneAs (Does sh s.now c.in-Ok-Some.command) text did.0 c.do_command.result) fits.0 did.1 in (
-      t,
-      line_does g.row.V c.args.before s t c.args.line.now text c.in-Ok-Some.command c.do_command.result c.requires.short few says refl does,
-      still_fits g.row.V old new s (most_before (c.args.before + 1)) did.0 c.do_command.result fits.0 (subst (λ (n : ℕ). OnOk c.do_command.result (FitsStill g.row.V old new n did.0)) (one_line_more c.args.before) did.2),
+    let did = c.do_command.ensures (most_before c.args.before) s (has_room c.args.before few) (omega arith) fits in
+    let new : Player g.row.V = c.do_command.new.player in (
+      did.0,
+      line_does g.row.V c.args.before s did.0 c.args.line.now (string_bytes c.do_command.new.text) c.in-Ok-Some.command c.do_command.result c.requires.short few says did.1,
+      subst (λ (n : ℕ). OnOk c.do_command.result (FitsScene g.row.V new n did.0)) (one_line_more c.args.before) did.2,
     )
 
 pub returns-in-Ok-None-clause-does : goal.returns-in-Ok-None-clause-does

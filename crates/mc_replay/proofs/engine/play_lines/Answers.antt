@@ -2,17 +2,17 @@ use Rattle.std.proofs.Common.{arith, refl, ap, subst, Ok}
 use Rattle.std.specs.Prelude.{Bool}
 use Rattle.mc_words.specs.declared.shape.Shape.{Shape}
 use Rattle.mc_replay.specs.Replay.{first_scene}
-use Rattle.mc_replay.specs.Inside.Players.{shape_of_player}
+use Rattle.mc_replay.specs.Inside.Players.{most_before, shape_of_player}
 use Rattle.mc_replay.specs.Inside.Steps.{PlaysKnown}
 use Rattle.mc_replay.proofs.ScriptLines.{known_none, known_more, replays_all, replays_part}
-use Rattle.mc_replay.proofs.ReaderLines.{player_room}
+use Rattle.mc_replay.proofs.ReaderLines.{fits_more, player_room}
 use Rattle.mc_replay.proofs.engine.play_lines.Goals as goal
 
 pub lines-init : goal.lines-init
 lines-init g c = (
   λ readers many fits.
       let start = first_scene g.row.V (shape_of_player {V = g.row.V} c.args.player.now) readers in
-      (start, (refl, fits), known_none g.row.V start (g.R.Read.remaining c.args.input.now) (g.W.Write.contents c.args.output.now)),
+      (start, (refl, fits_more g.row.V c.args.player.now 0 (most_before 0) start.now.running start.now.world (omega arith) fits), known_none g.row.V start (g.R.Read.remaining c.args.input.now) (g.W.Write.contents c.args.output.now)),
   omega arith,
 )
 

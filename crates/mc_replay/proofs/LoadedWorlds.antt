@@ -1,0 +1,60 @@
+-- Entries that are put into a new world, one after the other.
+use Rattle.std.proofs.Common.{◌≡◌, ℕ, ◌+◌, ◌*◌, ◌≤◌, List, [], ◌∷◌, ◌++◌, Option, Some, None, Result, refl, sym, ap, ◌∙◌, subst, arith, length, length-append}
+use Rattle.mc_words.specs.declared.shape.Shape.{Shape}
+use Rattle.mc_theory.proofs.Lists.Fronts.{state_append}
+use Rattle.mc_theory.specs.Lists.{Made, after_all, state_of}
+use Rattle.mc_theory.specs.States.{State}
+use Rattle.mc_theory.specs.Traces.{Trace}
+use Rattle.mc_search.specs.Entries.{AreInOrder}
+use Rattle.mc_plan.proofs.Calls.Loading.{loads_more, loads_none}
+use Rattle.mc_plan.specs.Loads.{changes_by, left_by}
+use Rattle.mc_plan.specs.WholeCalls.{Answered, KeptCall}
+use Rattle.mc_plan.specs.declared.answer.Answer.TheVariants as answer
+use Rattle.mc_plan.specs.declared.answer.Put.{Put}
+use Rattle.mc_plan.specs.declared.answer.Why.{Why}
+use Rattle.mc_replay.specs.declared.player.Player.{Player}
+use Rattle.mc_replay.specs.Replay.{WriterMakes}
+use Rattle.mc_replay.specs.Inside.Players.{CallIsWhole, HasRoom, IsIdle, most_entries, most_steps, shape_of_player}
+use Rattle.mc_replay.specs.Inside.Reopenings.{HasLoaded}
+use Rattle.mc_replay.proofs.WriterCalls.{idle_more, makes_append, makes_none}
+
+-- entries in order are no more than the items
+pub few_in_order : (V : ℕ) (sh : Shape) (w : List ℕ) (from to : ℕ) (es : List (ℕ × List ℕ)) → AreInOrder V sh w from to es → from + length es ≤ to
+few_in_order V sh w from to [] in_order = omega (arith, in_order)
+few_in_order V sh w from to (e ∷ es) in_order =
+    let rest = few_in_order V sh w (in_order.0 + 1) to es in_order.4 in omega (arith, rest, in_order.2)
+
+-- no entry was put yet
+pub loaded_none : (V : ℕ) (player : Player V) (w : Trace V) → IsIdle V player 0 w → HasLoaded V player player w [] []
+loaded_none V player w idle = record {
+  acts = [];
+  changes = [];
+  after = w;
+  loads = loads_none V (shape_of_player player) (state_of V (shape_of_player player) w.acts) 0;
+  makes = makes_none V (shape_of_player player) w;
+  shape = refl;
+  idle = idle;
+}
+
+-- there is room for one more
+pub room_to_load : (es : List (ℕ × List ℕ)) → length es ≤ most_entries → HasRoom (length es * most_steps)
+room_to_load es few = omega (arith, few)
+
+-- one more was put, or left
+pub loaded_more : (V : ℕ) (old now new : Player V) (w : Trace V) (es : List (ℕ × List ℕ)) (n k : ℕ) (v : List ℕ) (left : List (ℕ × Why)) (told : Result Put Why) → n ≡ length es → (so : HasLoaded V old now w es left) → CallIsWhole V now new (length es * most_steps) (KeptCall k v) so.after (answer.Kept told)
+    → HasLoaded V old new w (es ++ (k, v) ∷ []) (left ++ left_by n told)
+loaded_more V old now new w es n k v left told index so call =
+    let sh = shape_of_player old in
+    let s : State V = state_of V sh w.acts in
+    let here : state_of V sh so.after.acts ≡ after_all sh s so.acts = ap (state_of V sh) so.makes.1 ∙ state_append V sh w.acts so.acts in
+    let told_here : Answered V sh (KeptCall k v) (state_of V sh so.after.acts) call.acts (answer.Kept told) = subst (λ (y : Shape). Answered V y (KeptCall k v) (state_of V y so.after.acts) call.acts (answer.Kept told)) so.shape call.answered in
+    let more : length (es ++ (k, v) ∷ []) ≡ length es + 1 = length-append es ((k, v) ∷ []) in
+    record {
+      acts = so.acts ++ call.acts;
+      changes = so.changes ++ changes_by k v told;
+      after = call.after;
+      loads = loads_more V sh s 0 n es k v so.acts call.acts so.changes left told so.loads (omega (arith, index)) (subst (λ (t : State V). Answered V sh (KeptCall k v) t call.acts (answer.Kept told)) here told_here);
+      makes = makes_append V sh w so.after call.after so.acts call.acts so.makes (subst (λ (y : Shape). WriterMakes V y so.after call.acts call.after) so.shape call.makes);
+      shape = call.shape ∙ so.shape;
+      idle = idle_more V new _ _ call.after (omega (arith, more)) call.idle;
+    }
