@@ -6,3 +6,4 @@ pub mod ReaderLines
 pub mod CommandLines
 pub mod SceneLines
 pub mod LoadedWorlds
+pub mod BusyWorlds

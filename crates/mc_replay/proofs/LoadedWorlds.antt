@@ -1,21 +1,22 @@
 -- Entries that are put into a new world, one after the other.
 use Rattle.std.proofs.Common.{◌≡◌, ℕ, ◌+◌, ◌*◌, ◌≤◌, List, [], ◌∷◌, ◌++◌, Option, Some, None, Result, refl, sym, ap, ◌∙◌, subst, arith, length, length-append}
 use Rattle.mc_words.specs.declared.shape.Shape.{Shape}
-use Rattle.mc_theory.proofs.Lists.Fronts.{state_append}
+use Rattle.mc_theory.proofs.Lists.Fronts.{state_append, state_none}
 use Rattle.mc_theory.specs.Lists.{Made, after_all, state_of}
 use Rattle.mc_theory.specs.States.{State}
-use Rattle.mc_theory.specs.Traces.{Trace}
+use Rattle.mc_theory.specs.Traces.{Trace, first_trace}
 use Rattle.mc_search.specs.Entries.{AreInOrder}
 use Rattle.mc_plan.proofs.Calls.Loading.{loads_more, loads_none}
-use Rattle.mc_plan.specs.Loads.{changes_by, left_by}
+use Rattle.mc_plan.specs.Loads.{Loads, changes_by, left_by}
 use Rattle.mc_plan.specs.WholeCalls.{Answered, KeptCall}
 use Rattle.mc_plan.specs.declared.answer.Answer.TheVariants as answer
 use Rattle.mc_plan.specs.declared.answer.Put.{Put}
 use Rattle.mc_plan.specs.declared.answer.Why.{Why}
 use Rattle.mc_replay.specs.declared.player.Player.{Player}
-use Rattle.mc_replay.specs.Replay.{WriterMakes}
-use Rattle.mc_replay.specs.Inside.Players.{CallIsWhole, HasRoom, IsIdle, most_entries, most_steps, shape_of_player}
-use Rattle.mc_replay.specs.Inside.Reopenings.{HasLoaded}
+use Rattle.mc_replay.specs.Replay.{Pending, WriterMakes, with_sizes}
+use Rattle.mc_replay.specs.Texts.{reopened_lines}
+use Rattle.mc_replay.specs.Inside.Players.{CallIsWhole, FitsCall, HasRoom, IsIdle, most_entries, most_loading, most_steps, shape_of_player}
+use Rattle.mc_replay.specs.Inside.Reopenings.{HasEntries, HasLoaded, MovesTo}
 use Rattle.mc_replay.proofs.WriterCalls.{idle_more, makes_append, makes_none}
 
 -- entries in order are no more than the items
@@ -58,3 +59,29 @@ loaded_more V old now new w es n k v left told index so call =
       shape = call.shape ∙ so.shape;
       idle = idle_more V new _ _ call.after (omega (arith, more)) call.idle;
     }
+
+-- the entries of a world went into a new one, and the lines tell so
+pub moves_to : (V : ℕ) (old first new : Player V) (sh : Shape) (n at b c : ℕ) (es : List (ℕ × List ℕ)) (left : List (ℕ × Why)) (text : List ℕ) → n ≡ length old.world.readers → shape_of_player first ≡ sh → sh ≡ with_sizes (shape_of_player old) b c → length es ≤ most_entries
+    → ((most : ℕ) (w : Trace V) → IsIdle V old most w → HasEntries V (shape_of_player old) (state_of V (shape_of_player old) w.acts) es) → (loaded : HasLoaded V first new (first_trace V sh n) es left)
+    → at ≡ length (state_of V (shape_of_player new) loaded.after.acts).history → text ≡ reopened_lines at es left → MovesTo V old new b c text
+moves_to V old first new sh n at b c es left text many same sizes few has loaded moment told = λ most s none fits.
+    let idle : IsIdle V old most s.now.world = subst (λ (r : Option (Pending V)). FitsCall V old most r s.now.world) none fits.1 in
+    let listed = subst (λ (y : Shape). HasEntries V y (state_of V y s.now.world.acts) es) fits.0 (has most s.now.world idle) in
+    let readers : n ≡ length s.now.world.readers = many ∙ sym idle.at.readers in
+    let loads : Loads V sh (state_of V sh []) 0 es loaded.acts loaded.changes left = subst (λ (y : Shape). Loads V y (state_of V y []) 0 es loaded.acts loaded.changes left) same loaded.loads in (
+      record { shape = sh; now = record { world = loaded.after; running = None } },
+      record {
+        entries = es;
+        listed = listed.listed;
+        held = listed.held;
+        sizes = sizes ∙ ap (λ (y : Shape). with_sizes y b c) fits.0;
+        acts = loaded.acts;
+        changes = loaded.changes;
+        left = left;
+        loads = subst (λ (z : State V). Loads V sh z 0 es loaded.acts loaded.changes left) (state_none V sh) loads;
+        makes = subst (λ (m : ℕ). WriterMakes V sh (first_trace V sh m) loaded.acts loaded.after) readers (subst (λ (y : Shape). WriterMakes V y (first_trace V sh n) loaded.acts loaded.after) same loaded.makes);
+        idle = refl;
+        told = told ∙ ap (λ (m : ℕ). reopened_lines m es left) (moment ∙ ap (λ (y : Shape). length (state_of V y loaded.after.acts).history) (loaded.shape ∙ same));
+      },
+      (loaded.shape ∙ same, idle_more V new _ most_loading loaded.after (omega (arith, few)) loaded.idle),
+    )

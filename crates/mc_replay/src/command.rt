@@ -109,7 +109,7 @@ fn do_here<const V: usize>(
     command: Command<V>,
 ) -> Result<(), Fault>
     requires can { CanDo V player.old (string_bytes text.old) }
-    requires stays { sizes_of command.entry ≡ None }
+    requires stays { sizes_of command ≡ None }
     ensures { DoesBy V player.old player.new (string_bytes text.new) result (λ sh s. Does sh s command.entry) }
 {
     match (command, player.is_running()) {

@@ -43,7 +43,7 @@ fn resized(checked: &Checked, buckets: u64, items: u64) -> Result<Checked, Fault
 
 /// Names an entry, if it was left.
 fn name(left: &mut Vec<(usize, Why)>, index: usize, told: Result<Put, Why>) -> Result<(), Fault>
-    ensures ok { OnOk result (left.new.items ≡ left.old.items ++ left_by index told.entry) }
+    ensures ok { OnOk result (left.new.items ≡ left.old.items ++ left_by index told) }
     ensures err { OnErr result (result ≡ Err NoMemory) }
 {
     if let Err(why) = told {
@@ -154,7 +154,10 @@ pub(crate) fn reopen<const V: usize>(
     requires { CanReopen V player.old (string_bytes text.old) }
     ensures { ReopensBy V player.old player.new (string_bytes text.new) result buckets items }
 {
-    if player.is_running() || player.world.is_looking() {
+    if player.is_running() {
+        return Err(Fault::StillRunning);
+    }
+    if player.world.is_looking() {
         return Err(Fault::StillRunning);
     }
     let checked = resized(&player.world.checked(), buckets, items)?;
