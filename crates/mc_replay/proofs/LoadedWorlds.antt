@@ -9,6 +9,7 @@ use Rattle.mc_search.specs.Entries.{AreInOrder}
 use Rattle.mc_plan.proofs.Calls.Loading.{loads_more, loads_none}
 use Rattle.mc_plan.specs.Loads.{Loads, changes_by, left_by}
 use Rattle.mc_plan.specs.WholeCalls.{Answered, KeptCall}
+use Rattle.mc_plan.specs.declared.answer.Answer.{Answer}
 use Rattle.mc_plan.specs.declared.answer.Answer.TheVariants as answer
 use Rattle.mc_plan.specs.declared.answer.Put.{Put}
 use Rattle.mc_plan.specs.declared.answer.Why.{Why}
@@ -85,3 +86,10 @@ moves_to V old first new sh n at b c es left text many same sizes few has loaded
       },
       (loaded.shape ∙ same, idle_more V new _ most_loading loaded.after (omega (arith, few)) loaded.idle),
     )
+
+-- a put that takes no other key's item is answered as such
+pub only_kept : (V : ℕ) (sh : Shape) (k : ℕ) (v : List ℕ) (s : State V) (acts : List Made) (a : Answer) → Answered V sh (KeptCall k v) s acts a → (told : Result Put Why) × (a ≡ answer.Kept told)
+only_kept V sh k v s acts (answer.Put told) answered = absurd answered.means
+only_kept V sh k v s acts (answer.PutIf told) answered = absurd answered.means
+only_kept V sh k v s acts (answer.Remove told) answered = absurd answered.means
+only_kept V sh k v s acts (answer.Kept told) answered = (told, refl)

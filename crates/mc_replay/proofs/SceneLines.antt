@@ -48,6 +48,10 @@ pub still_fits : (V : ℕ) (old new : Player V) (s : Scene V) (most : ℕ) (t : 
 still_fits V old new s most t (Ok u) same fits = (fits.0 ∙ same, fits.1)
 still_fits V old new s most t (Err fault) same fits = tt
 
+-- the command of these sizes
+abbrev of_sizes : {V : ℕ} → ℕ × ℕ → Command V
+of_sizes sizes = Reopen sizes.0 sizes.1
+
 -- the command that has sizes is this one
 pub is_reopen : {V : ℕ} (c : Command V) (b n : ℕ) → sizes_of c ≡ Some (b, n) → c ≡ Reopen b n
 is_reopen (Put k v) b n e = absurd (cc (e))
@@ -61,7 +65,8 @@ is_reopen (BeginRemove k) b n e = absurd (cc (e))
 is_reopen (Write many) b n e = absurd (cc (e))
 is_reopen (BeginGet r k) b n e = absurd (cc (e))
 is_reopen (Read r many) b n e = absurd (cc (e))
-is_reopen {V} (Reopen a m) b n e = cc
+is_reopen {V} (Reopen a m) b n e =
+    let same : ◌≡◌ {A = ℕ × ℕ} (a, m) (b, n) = cc (e) in ap (λ (sizes : ℕ × ℕ). of_sizes {V = V} sizes) same
 
 -- a new world has few events
 pub fits_wider : (V : ℕ) (new : Player V) (most : ℕ) (t : Scene V) (r : Result (Unit {0}) Fault) → most_loading ≤ most → OnOk r (FitsScene V new most_loading t) → OnOk r (FitsScene V new (most + most_steps) t)

@@ -161,6 +161,7 @@ pub(crate) fn reopen<const V: usize>(
         return Err(Fault::StillRunning);
     }
     let checked = resized(&player.world.checked(), buckets, items)?;
-    *player = moved(alloc, player, &checked, text)?;
+    let new = moved(alloc, player, &checked, text)?;
+    *player = new;
     Ok(())
 }

@@ -1,9 +1,9 @@
-use Rattle.std.proofs.Common.{◌≡◌, ◌+◌, ◌∙◌, arith, sym, subst, string_bytes, None, Some}
+use Rattle.std.proofs.Common.{◌≡◌, ◌+◌, ◌∙◌, arith, refl, sym, subst, string_bytes, None, Some}
 use Rattle.mc_words.specs.declared.shape.Shape.{Shape}
 use Rattle.mc_script.specs.declared.command.Command.{Command}
 use Rattle.mc_replay.specs.declared.player.Player.{Player}
 use Rattle.mc_replay.specs.Replay.{CommandDoes, Does}
-use Rattle.mc_replay.specs.Inside.Players.{DoneAs, most_steps}
+use Rattle.mc_replay.specs.Inside.Players.{DoneAs, most_steps, shape_of_player}
 use Rattle.mc_replay.proofs.SceneLines.{fits_wider, is_reopen, stays_done, staying, still_fits}
 use Rattle.mc_replay.proofs.ReaderLines.{player_room, width_can}
 use Rattle.mc_replay.proofs.command.do_command.Goals as goal
@@ -26,3 +26,8 @@ returns-in-None g c = λ most s room more fits.
       stays_done s c.args.command (string_bytes c.do_here.new.text) did.0 c.do_here.result (sym c.sizes_of.ensures ∙ c.in-None.is) does,
       still_fits g.row.V old c.do_here.new.player s (most + most_steps) did.0 c.do_here.result fits.0 did.2,
     )
+
+pub reopen-requires : goal.reopen-requires
+reopen-requires g c =
+    let width = width_can g.row.V c.args.player.now (string_bytes c.args.text.now) c.requires in
+    (player_room _ _ (omega (arith, width)) (omega (arith, width)), (c.requires.0, (c.requires.1.0, record { shape = shape_of_player {V = g.row.V} c.args.player.now; now = c.requires.1.1 }, (refl, c.requires.1.3))))
