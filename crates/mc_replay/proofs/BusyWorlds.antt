@@ -45,8 +45,10 @@ reader_busy V player most s fits looks = inr (one_runs (IsOpenLookup V player.wo
 -- neither runs
 pub not_busy : (V : ℕ) (player : Player V) (most : ℕ) (s : Scene V) → FitsScene V player most s → is_some (next_act player.clerk) ≡ false → list_any is_some player.world.readers ≡ false → (s.now.running ≡ None) × (IsBusy s.now → ⊥)
 not_busy V player most s fits none looks =
-    let idle = (idle_of V player most s.now.running s.now.world fits.1 none).0 in
-    (idle, λ busy. elim busy [
-      | inl runs ↦ false≢true (sym (ap is_some idle) ∙ runs)
-      | inr run ↦ none_runs (IsOpenLookup V player.world.shape) player.world.readers s.now.world.readers (both_run V player most s fits) looks run.0 run.1 run.2
-    ])
+    let idle = (idle_of V player most s.now.running s.now.world fits.1 none).0 in (
+      idle,
+      λ busy. elim busy [
+        | inl runs ↦ false≢true (sym (ap is_some idle) ∙ runs)
+        | inr run ↦ none_runs (IsOpenLookup V player.world.shape) player.world.readers s.now.world.readers (both_run V player most s fits) looks run.0 run.1 run.2
+      ],
+    )

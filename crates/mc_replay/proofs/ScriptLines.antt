@@ -15,7 +15,7 @@ use Rattle.mc_script.specs.declared.line.ReadFault.TheVariants as over
 use Rattle.mc_script.proofs.Lines.{lines-step, lines-nil, after_lines-step, after_lines-zero}
 use Rattle.mc_replay.specs.declared.fault.Fault.{Fault}
 use Rattle.mc_replay.specs.declared.fault.Fault.TheVariants.{ReadFailed, NoMemory, TooLong, NotACommand, BadNumber, NoSuchReader, StillRunning, NothingToStep, WriteFailed, BadShape}
-use Rattle.mc_replay.specs.Replay.{Replay, Scene, first_scene, CommandDoes}
+use Rattle.mc_replay.specs.Replay.{Scene, first_scene, CommandDoes}
 use Rattle.mc_words.specs.Readers.{HasReaders, most_readers}
 use Rattle.mc_replay.specs.Scripts.{SaidDoes, IsTooLong, LineDoes, Plays, Stopped, StopsUndone, StopsRefused, StopsBy, StopsBefore, ReadsStopped, ReadsScript, ReplaysKnown}
 use Rattle.mc_replay.specs.Faults.{fault_of}

@@ -1,4 +1,4 @@
-use Rattle.std.proofs.Common.{◌≡◌, ◌+◌, ◌∙◌, arith, refl, sym, subst, string_bytes, None, Some}
+use Rattle.std.proofs.Common.{◌+◌, ◌∙◌, arith, refl, sym, subst, string_bytes}
 use Rattle.mc_words.specs.declared.shape.Shape.{Shape}
 use Rattle.mc_script.specs.declared.command.Command.{Command}
 use Rattle.mc_replay.specs.declared.player.Player.{Player}

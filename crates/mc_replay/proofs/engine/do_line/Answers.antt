@@ -1,7 +1,6 @@
-use Rattle.std.proofs.Common.{◌≡◌, ℕ, ◌+◌, ◌≤◌, arith, refl, None, sym, subst, ◌∙◌, Ok, Err, Some, string_bytes}
+use Rattle.std.proofs.Common.{◌≡◌, ℕ, ◌+◌, ◌≤◌, arith, None, sym, subst, ◌∙◌, Ok, Err, Some, string_bytes}
 use Rattle.std.specs.Prelude.{OnOk}
 use Rattle.mc_script.specs.Commands.{command_in}
-use Rattle.mc_replay.specs.Replay.{Scene}
 use Rattle.mc_replay.specs.Inside.Players.{most_before, FitsScene}
 use Rattle.mc_replay.specs.Inside.Steps.{DoesLine}
 use Rattle.mc_replay.specs.declared.fault.Fault.{Fault}

@@ -1,8 +1,8 @@
-use Rattle.std.proofs.Common.{ℕ, ◌≡◌, ◌+◌, ◌*◌, ◌<◌, ◌≤◌, ◌∙◌, List, ◌++◌, [], ◌∷◌, take, length, ap, sym, subst, arith, take_all}
+use Rattle.std.proofs.Common.{ℕ, ◌≡◌, ◌+◌, ◌*◌, ◌<◌, ◌∙◌, List, ◌++◌, [], ◌∷◌, take, length, ap, sym, subst, arith, take_all}
 use Rattle.std.proofs.lemmas.List.{length-take-le, take_more}
 use Rattle.mc_plan.specs.declared.answer.Why.{Why}
 use Rattle.mc_replay.specs.declared.player.Player.{Player}
-use Rattle.mc_replay.specs.Inside.Players.{most_entries, most_steps}
+use Rattle.mc_replay.specs.Inside.Players.{most_steps}
 use Rattle.mc_replay.specs.Inside.Reopenings.{HasLoaded}
 use Rattle.mc_replay.proofs.LoadedWorlds.{loaded_more, room_to_load}
 use Rattle.mc_replay.proofs.ReaderLines.{player_room}

@@ -1,4 +1,4 @@
-use Rattle.std.proofs.Common.{◌≡◌, ◌∙◌, ◌++◌, ℕ, List, ap, arith, subst, string_bytes}
+use Rattle.std.proofs.Common.{◌∙◌, ◌++◌, ℕ, List, ap, arith, subst, string_bytes}
 use Rattle.mc_words.specs.Checks.{shape_of}
 use Rattle.mc_words.specs.declared.shape.Shape.{Shape}
 use Rattle.mc_theory.specs.Traces.{first_trace}
