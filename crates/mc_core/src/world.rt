@@ -128,10 +128,11 @@ impl<const V: usize> World<V> {
     pub fn is_looking(&self) -> bool
         ensures { result ≡ list_any is_some self.now.readers }
     {
-        self.parts
-            .readers
-            .iter()
-            .any(|reader| -> bool ensures { result ≡ is_some reader.now } { reader.is_some() })
+        self.parts.readers.iter().any(
+            |reader| -> bool
+                ensures { result ≡ is_some reader.now }
+            { reader.is_some() },
+        )
     }
 
     /// A word of the table. The recency words come last: 64 items share one.
