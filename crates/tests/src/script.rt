@@ -100,7 +100,7 @@ fn a_failed_read_is_told_unless_the_line_is_too_long(rt: HostRuntime) -> Result<
 
 #[test]
 fn a_line_says_its_command(rt: HostRuntime) {
-    let cases: [(&[u8], Result<Option<Command<2>>, LineFault>); 23] = [
+    let cases: [(&[u8], Result<Option<Command<2>>, LineFault>); 26] = [
         (b"\t # get 0", Ok(None)),
         (b"\t get \t\t 7 \t", Ok(Some(Command::Get(7)))),
         (b"remove 007", Ok(Some(Command::Remove(7)))),
