@@ -152,7 +152,8 @@ pub(crate) fn reopen<const V: usize>(
     items: u64,
 ) -> Result<(), Fault>
     requires { CanReopen V player.old (string_bytes text.old) }
-    ensures { ReopensBy V player.old player.new (string_bytes text.new) result buckets items }
+    ensures does { ReopensBy V player.old player.new (string_bytes text.new) result buckets items }
+    ensures stands { OnErr result (player.new ≡ player.old) }
 {
     if player.is_running() {
         return Err(Fault::StillRunning);

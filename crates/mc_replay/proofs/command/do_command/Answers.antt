@@ -10,7 +10,7 @@ use Rattle.mc_replay.proofs.command.do_command.Goals as goal
 
 pub returns-in-Some : goal.returns-in-Some
 returns-in-Some g c = λ most s room more fits.
-    let did = c.reopen.ensures most s fits in
+    let did = c.reopen.ensures.does most s fits in
     let is = is_reopen c.args.command c.in-Some.buckets c.in-Some.items (sym c.sizes_of.ensures ∙ c.in-Some.is) in (
       did.0,
       subst (λ (x : Command g.row.V). DoneAs (CommandDoes s x) (string_bytes c.reopen.new.text) did.0 c.reopen.result) (sym is) did.1,

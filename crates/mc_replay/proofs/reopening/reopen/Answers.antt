@@ -8,16 +8,16 @@ use Rattle.mc_replay.specs.Inside.Players.{DoneAs}
 use Rattle.mc_replay.proofs.BusyWorlds.{not_busy, reader_busy, writer_busy}
 use Rattle.mc_replay.proofs.reopening.reopen.Goals as goal
 
-pub returns-then-is_running : goal.returns-then-is_running
-returns-then-is_running g c = λ most s fits.
+pub returns-then-is_running-clause-does : goal.returns-then-is_running-clause-does
+returns-then-is_running-clause-does g c = λ most s fits.
     (s, inl (writer_busy g.row.V c.args.player.now most s fits (sym c.is_running.ensures ∙ c.if-is_running.true), refl, c.requires.0, refl), tt)
 
-pub returns-then-is_looking : goal.returns-then-is_looking
-returns-then-is_looking g c = λ most s fits.
+pub returns-then-is_looking-clause-does : goal.returns-then-is_looking-clause-does
+returns-then-is_looking-clause-does g c = λ most s fits.
     (s, inl (reader_busy g.row.V c.args.player.now most s fits (sym c.is_looking.ensures ∙ c.if-is_looking.true), refl, c.requires.0, refl), tt)
 
-pub returns-in_err-checked : goal.returns-in_err-checked
-returns-in_err-checked g c = λ most s fits.
+pub returns-in_err-checked-clause-does : goal.returns-in_err-checked-clause-does
+returns-in_err-checked-clause-does g c = λ most s fits.
     let idle = not_busy g.row.V c.args.player.now most s fits (sym c.is_running.ensures ∙ c.if-is_running.false) (sym c.is_looking.ensures ∙ c.if-is_looking.false) in
     let is : c.from_residual.result ≡ Err BadShape = search rules in
     let none = subst (λ (y : Shape). IsShape (with_sizes y c.args.buckets c.args.items) → ⊥) (c.checked.ensures ∙ fits.0) c.in_err-checked.ensures.refused.1 in (
@@ -26,8 +26,8 @@ returns-in_err-checked g c = λ most s fits.
       rw is tt,
     )
 
-pub returns : goal.returns
-returns g c = λ most s fits.
+pub returns-clause-does : goal.returns-clause-does
+returns-clause-does g c = λ most s fits.
     let idle = not_busy g.row.V c.args.player.now most s fits (sym c.is_running.ensures ∙ c.if-is_running.false) (sym c.is_looking.ensures ∙ c.if-is_looking.false) in
     let sizes = c.in_ok-checked.ensures.shape ∙ ap (λ (y : Shape). with_sizes y c.args.buckets c.args.items) c.checked.ensures in
     let sound = subst (λ (y : Shape). IsShape (with_sizes y c.args.buckets c.args.items)) (c.checked.ensures ∙ fits.0) c.in_ok-checked.ensures.sound in
