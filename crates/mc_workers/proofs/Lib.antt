@@ -1,4 +1,6 @@
 pub mod Batches
+pub mod DeskLookups
+pub mod DeskTurns
 pub mod Histories
 pub mod Readers
 pub mod FreshReaders
