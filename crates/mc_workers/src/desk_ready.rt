@@ -110,9 +110,10 @@ fn tryings_of<const V: usize>(
 {
     let mut tryings = Vec::new(alloc);
     for number in 0..writers {
-        if let Some(pass) = readers.pop() {
-            tryings.push(trying_of(alloc, load, pass, number)?)?;
-        }
+        let Some(pass) = readers.pop() else {
+            unreachable!();
+        };
+        tryings.push(trying_of(alloc, load, pass, number)?)?;
     }
     Ok(tryings)
 }

@@ -18,6 +18,7 @@ use mc_cache::{Cache, Desk};
 use std::thread::{Threads, for_each_mut, join_mut};
 
 /// Runs every writer in a thread of its own.
+#[tactic(auto, using(mc_cache::proofs::Sent::desk_sync))]
 fn try_all<const V: usize, R: Threads + Sync, G: Gate>(
     rt: &R,
     gate: &G,
@@ -44,6 +45,7 @@ fn try_all<const V: usize, R: Threads + Sync, G: Gate>(
 }
 
 /// Runs the writers beside the readers.
+#[tactic(auto, using(mc_cache::proofs::Sent::desk_sync))]
 pub(crate) fn run_at_desk<const V: usize, R: Threads + Sync, G: Gate>(
     rt: &R,
     gate: &G,

@@ -15,6 +15,7 @@ use mc_cache::{Cache, Desk};
 use std::thread::{Threads, for_each_mut, join_mut};
 
 /// Runs every reader in a thread of its own, over a cache whose writer lies on this desk, if there is one.
+#[tactic(auto, using(mc_cache::proofs::Sent::desk_sync))]
 pub(crate) fn look_all<const V: usize, R: Threads + Sync, G: Gate>(
     rt: &R,
     gate: &G,
