@@ -6,19 +6,18 @@ ghost use Rattle.mc_workers.specs.DeskLoads.{most_writers};
 ghost use Rattle.mc_workers.specs.Inside.DeskRefusals.{AreLetThrough, AreTriesRefusedBy, IsFirstTryRefusal, IsLeastRefusal};
 ghost use Rattle.mc_workers.specs.Inside.Refusals.{AreRefusedBy};
 ghost use Rattle.mc_workers.specs.Inside.Tries.{CanAllTry, CanTry, HasTriedAll, HaveAllTried};
-ghost use Rattle.mc_workers.specs.Inside.Workers.{AreReady, AreWhole, HaveEnded};
+ghost use Rattle.mc_workers.specs.Inside.Workers.{AreReady, AreWhole, HasEnded, HaveEnded, IsReady};
 
 use crate::asked::Load;
 use crate::error::LoadError;
 use crate::gate::Gate;
 use crate::looking::Looking;
-use crate::run::{first_refusal, look_all};
+use crate::run::first_refusal;
 use crate::trying::Trying;
 use mc_cache::{Cache, Desk};
 use std::thread::{Threads, for_each_mut, join_mut};
 
 /// Runs every writer in a thread of its own.
-#[tactic(auto, using(mc_cache::proofs::Sent::desk_sync))]
 fn try_all<const V: usize, R: Threads + Sync, G: Gate>(
     rt: &R,
     gate: &G,
@@ -44,8 +43,33 @@ fn try_all<const V: usize, R: Threads + Sync, G: Gate>(
     for_each_mut(rt, tryings.as_mut_slice(), threads, &call);
 }
 
+/// Runs every reader in a thread of its own.
+fn look_all_at_desk<const V: usize, R: Threads + Sync, G: Gate>(
+    rt: &R,
+    gate: &G,
+    load: Load,
+    cache: &Cache<V>,
+    desk: &Desk<V>,
+    lookings: &mut Vec<Looking<V>>,
+)
+    requires some { 0 < vec_len lookings.old }
+    requires few { vec_len lookings.old ≤ most_readers }
+    requires desk { desk.now ≡ cache.now }
+    requires ready { AreReady V cache.now load lookings.old.items }
+    ensures len { vec_len lookings.new ≡ vec_len lookings.old }
+    ensures ended { HaveEnded V cache.now load lookings.new.items }
+    ensures refused { AreRefusedBy (G.may_refuse gate.now) lookings.new.items }
+{
+    let threads = lookings.len();
+    let look = |_reader: usize, looking: &mut Looking<V>|
+        requires { (desk.now ≡ cache.now) × IsReady V cache.now load looking.now.number looking.now × (looking.now.number < most_readers) }
+        ensures ended { HasEnded V cache.entry.now load looking.entry.now.number looking.exit.now }
+        ensures refused { IfSome looking.exit.now.refused (λ call. G.may_refuse gate.entry.now (looking.entry.now.number + 1) call) }
+    { looking.run(cache, Some(desk), gate, load) };
+    for_each_mut(rt, lookings.as_mut_slice(), threads, &look);
+}
+
 /// Runs the writers beside the readers.
-#[tactic(auto, using(mc_cache::proofs::Sent::desk_sync))]
 pub(crate) fn run_at_desk<const V: usize, R: Threads + Sync, G: Gate>(
     rt: &R,
     gate: &G,
@@ -80,7 +104,7 @@ pub(crate) fn run_at_desk<const V: usize, R: Threads + Sync, G: Gate>(
                 AreReady V cache.now load lookings.now.items }
             ensures ended { (vec_len lookings.exit.now ≡ vec_len lookings.entry.now) × HaveEnded V cache.entry.now load lookings.exit.now.items }
             ensures refused { AreRefusedBy (G.may_refuse gate.entry.now) lookings.exit.now.items }
-        { look_all(rt, gate, load, cache, Some(desk), lookings) },
+        { look_all_at_desk(rt, gate, load, cache, desk, lookings) },
     );
 }
 

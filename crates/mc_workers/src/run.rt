@@ -1,6 +1,5 @@
 //! The workers run, each in a thread of its own.
 ghost use Rattle.std.specs.Prelude.{ℕ, ◌≡◌, ◌+◌, ◌*◌, ◌≤◌, ◌<◌, IfNone, IfSome, length, vec_len, vec_capacity};
-ghost use Rattle.std.specs.Option.{ForSome};
 ghost use Rattle.std.specs.Thread.{IsSync};
 ghost use Rattle.mc_words.specs.Readers.{most_readers};
 ghost use Rattle.mc_workers.specs.Inside.Refusals.{AreRefusedBy, IsFirstRefusal};
@@ -11,22 +10,19 @@ use crate::error::LoadError;
 use crate::gate::Gate;
 use crate::looking::Looking;
 use crate::writing::Writing;
-use mc_cache::{Cache, Desk};
+use mc_cache::Cache;
 use std::thread::{Threads, for_each_mut, join_mut};
 
-/// Runs every reader in a thread of its own, over a cache whose writer lies on this desk, if there is one.
-#[tactic(auto, using(mc_cache::proofs::Sent::desk_sync))]
-pub(crate) fn look_all<const V: usize, R: Threads + Sync, G: Gate>(
+/// Runs every reader in a thread of its own.
+fn look_all<const V: usize, R: Threads + Sync, G: Gate>(
     rt: &R,
     gate: &G,
     load: Load,
     cache: &Cache<V>,
-    desk: Option<&Desk<V>>,
     lookings: &mut Vec<Looking<V>>,
 )
     requires some { 0 < vec_len lookings.old }
     requires few { vec_len lookings.old ≤ most_readers }
-    requires desk { ForSome desk (λ d. d.now ≡ cache.now) }
     requires ready { AreReady V cache.now load lookings.old.items }
     ensures len { vec_len lookings.new ≡ vec_len lookings.old }
     ensures ended { HaveEnded V cache.now load lookings.new.items }
@@ -34,10 +30,10 @@ pub(crate) fn look_all<const V: usize, R: Threads + Sync, G: Gate>(
 {
     let threads = lookings.len();
     let look = |_reader: usize, looking: &mut Looking<V>|
-        requires { ForSome desk (λ d. d.now ≡ cache.now) × IsReady V cache.now load looking.now.number looking.now × (looking.now.number < most_readers) }
+        requires { IsReady V cache.now load looking.now.number looking.now × (looking.now.number < most_readers) }
         ensures ended { HasEnded V cache.entry.now load looking.entry.now.number looking.exit.now }
         ensures refused { IfSome looking.exit.now.refused (λ call. G.may_refuse gate.entry.now (looking.entry.now.number + 1) call) }
-    { looking.run(cache, desk, gate, load) };
+    { looking.run(cache, None, gate, load) };
     for_each_mut(rt, lookings.as_mut_slice(), threads, &look);
 }
 
@@ -80,7 +76,7 @@ pub(crate) fn run_all<const V: usize, R: Threads + Sync, G: Gate>(
             requires { IsSync R.row × (0 < vec_len lookings.now) × (vec_len lookings.now ≤ most_readers) × AreReady V cache.now load lookings.now.items }
             ensures ended { (vec_len lookings.exit.now ≡ vec_len lookings.entry.now) × HaveEnded V cache.entry.now load lookings.exit.now.items }
             ensures refused { AreRefusedBy (G.may_refuse gate.entry.now) lookings.exit.now.items }
-        { look_all(rt, gate, load, cache, None, lookings) },
+        { look_all(rt, gate, load, cache, lookings) },
     );
     refused
 }
