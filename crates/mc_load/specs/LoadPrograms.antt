@@ -31,6 +31,7 @@ load_text (error.Open (opening.Shape why)) = shape_text why
 load_text (error.Open opening.Readers) = codes "readers must be from 1 to 1024"
 load_text (error.Open opening.NoMemory) = codes "no memory"
 load_text error.NoMemory = codes "no memory"
+load_text error.Writers = codes "writers must be from 1 to 8"
 load_text error.Keys = codes "keys must be from 1 to 4294967296"
 load_text (error.Gate who call) = codes "gate"
 
@@ -40,6 +41,7 @@ load_status (error.Open (opening.Shape why)) = refused
 load_status (error.Open opening.Readers) = refused
 load_status (error.Open opening.NoMemory) = failed
 load_status error.NoMemory = failed
+load_status error.Writers = refused
 load_status error.Keys = refused
 load_status (error.Gate who call) = failed
 

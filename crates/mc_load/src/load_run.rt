@@ -72,7 +72,9 @@ fn status_of(why: LoadError) -> u8
     ensures { result ≡ load_status why }
 {
     match why {
-        LoadError::Keys | LoadError::Open(OpenError::Shape(_) | OpenError::Readers) => REFUSED,
+        LoadError::Writers
+        | LoadError::Keys
+        | LoadError::Open(OpenError::Shape(_) | OpenError::Readers) => REFUSED,
         LoadError::NoMemory | LoadError::Open(OpenError::NoMemory) | LoadError::Gate { .. } => {
             FAILED
         }

@@ -52,6 +52,7 @@ impl Display for LoadRefusal {
             LoadError::Open(OpenError::NoMemory) | LoadError::NoMemory => {
                 write!(f, "refused: no memory")
             }
+            LoadError::Writers => write!(f, "refused: writers must be from 1 to 8"),
             LoadError::Keys => write!(f, "refused: keys must be from 1 to 4294967296"),
             LoadError::Gate { .. } => write!(f, "refused: gate"),
         }
