@@ -37,7 +37,8 @@ impl<const V: usize> Model for World<V> {
 }
 
 impl<const V: usize> World<V> {
-    ghost use Rattle.std.specs.Prelude.{ℕ, ◌≡◌, ◌+◌, ◌-◌, ◌^◌, ◌<◌, ◌≤◌, ◌++◌, ◌↔◌, ◌⊎◌, All, IfOk, IfErr, IsErrOf, OnOk, OnErr, length, slice_index};
+    ghost use Rattle.std.specs.Prelude.{ℕ, ◌≡◌, ◌+◌, ◌-◌, ◌^◌, ◌<◌, ◌≤◌, ◌++◌, ◌↔◌, ◌⊎◌, All, IfOk, IfErr, IsErrOf, OnOk, OnErr, is_some, length, slice_index};
+    ghost use Rattle.std.specs.List.{list_any};
     ghost use Rattle.mc_words.specs.Checks.{shape_of};
     ghost use Rattle.mc_words.specs.Places.{IsWidth, all_words, word_count};
     ghost use Rattle.mc_words.specs.Readers.{most_readers};
@@ -121,6 +122,17 @@ impl<const V: usize> World<V> {
         ensures { result ≡ length self.now.readers }
     {
         self.parts.readers.len() as u32
+    }
+
+    /// Whether a lookup runs.
+    pub fn is_looking(&self) -> bool
+        ensures { result ≡ list_any is_some self.now.readers }
+    {
+        self.parts.readers.iter().any(
+            |reader| -> bool
+                ensures { result ≡ is_some reader.now }
+            { reader.is_some() },
+        )
     }
 
     /// A word of the table. The recency words come last: 64 items share one.

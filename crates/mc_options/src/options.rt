@@ -39,6 +39,7 @@ Commands of a script, one a line:
   w [N]                Makes the next act of the writer's call, or the next N
   begin R get K        Begins a lookup by reader R, counted from 0, whose accesses are made by r
   r R [N]              Makes the next access of reader R's lookup, or the next N
+  reopen B C           Opens a world with B buckets and C items, and puts the entries into it
 
 Numbers are decimal. A line whose first word begins with # is a comment.
 

@@ -112,6 +112,7 @@ impl Books {
 
     /// Decides a put, as far as one look for the key tells.
     /// Condition: the books are those of the table whose words are looked at, between two calls.
+    #[inline(always)]
     pub fn decide<const V: usize, P: Peek>(
         &mut self,
         peek: &mut P,

@@ -13,7 +13,7 @@ use Rattle.mc_plan.specs.Clerks.{Knows, next_act, acts_left}
 use Rattle.mc_plan.specs.declared.answer.Answer.{Answer}
 use Rattle.mc_plan.specs.declared.clerk.Clerk.{Clerk}
 use Rattle.mc_replay.specs.declared.fault.Fault.{Fault}
-use Rattle.mc_replay.specs.declared.fault.Fault.TheVariants.{ReadFailed, NoMemory, TooLong, NotACommand, BadNumber, NoSuchReader, StillRunning, NothingToStep, WriteFailed}
+use Rattle.mc_replay.specs.declared.fault.Fault.TheVariants.{ReadFailed, NoMemory, TooLong, NotACommand, BadNumber, NoSuchReader, StillRunning, NothingToStep, WriteFailed, BadShape}
 use Rattle.mc_replay.specs.declared.player.Player.{Player}
 use Rattle.mc_replay.specs.Replay.{Replay, Pending, IsUnanswered, WriterMakes, WhereIdle, CallDoes, BeginDoes, GetDoes, ActDoes}
 use Rattle.mc_replay.specs.Inside.Players.{shape_of_player, most_steps, HasRoom, IsIdle, IsMidCall, FitsCall, Fits, FitsStill, with_acts, Begins, MakesAct, CallIsWhole, Looks, DoneAs, CanDo, ActsSoFar}
@@ -62,10 +62,11 @@ told_as P text t (Err NoSuchReader) is F err ok then = absurd (cc (err))
 told_as P text t (Err StillRunning) is F err ok then = absurd (cc (err))
 told_as P text t (Err NothingToStep) is F err ok then = absurd (cc (err))
 told_as P text t (Err WriteFailed) is F err ok then = absurd (cc (err))
+told_as P text t (Err BadShape) is F err ok then = absurd (cc (err))
 
 -- memory was wanting
 pub wanted : {V : ℕ} (P : List ℕ → Option Fault → Replay V → Type 0) (text : List ℕ) (t : Replay V) (fault : Fault) → fault ≡ NoMemory → DoneAs P text t (Err fault)
-wanted {V} P text t fault e = subst (λ (f : Fault). DoneAs {V = V} P text t (Err f)) (sym e) tt
+wanted {V} P text t fault e = subst (λ (f : Fault). DoneAs P text t (Err f)) (sym e) tt
 
 -- ---- whole calls
 pub idle_in : {V : ℕ} → Trace V → Replay V

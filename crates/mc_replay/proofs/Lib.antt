@@ -4,3 +4,6 @@ pub mod FewAccesses
 pub mod WriterCalls
 pub mod ReaderLines
 pub mod CommandLines
+pub mod SceneLines
+pub mod LoadedWorlds
+pub mod BusyWorlds

@@ -17,6 +17,7 @@ fault_text fault.NoSuchReader = codes "no such reader"
 fault_text fault.StillRunning = codes "still running"
 fault_text fault.NothingToStep = codes "nothing to step"
 fault_text fault.WriteFailed = codes "write failed"
+fault_text fault.BadShape = codes "bad shape"
 
 -- what is told where no line was read
 abbrev pub refusal_text : Fault → List ℕ

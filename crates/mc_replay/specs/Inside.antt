@@ -1,3 +1,4 @@
 pub mod Players
 pub mod Steps
 pub mod Texts
+pub mod Reopenings

@@ -4,9 +4,14 @@ use Rattle.mc_words.specs.declared.history.Reply.{Reply}
 use Rattle.mc_words.specs.declared.history.Reply.TheVariants.{Found, Absent, Busy}
 use Rattle.mc_words.specs.declared.shape.Shape.{Shape}
 use Rattle.mc_words.specs.Answers.{Finds, Misses}
+use Rattle.mc_words.specs.Shapes.{IsShape}
+use Rattle.mc_words.specs.declared.history.Change.{Change}
 use Rattle.mc_words.specs.Standing.{Stands}
 use Rattle.mc_theory.specs.Lists.{Made, state_of}
-use Rattle.mc_theory.specs.States.{State}
+use Rattle.mc_theory.specs.States.{State, opening}
+use Rattle.mc_search.specs.Entries.{AreEntriesOf, AreInOrder}
+use Rattle.mc_plan.specs.Loads.{Loads}
+use Rattle.mc_plan.specs.declared.answer.Why.{Why}
 use Rattle.mc_theory.specs.Traces.{Trace, OpenLookup, Ended, IsTrueEnd, first_trace, Steps, StepsAll}
 use Rattle.mc_theory.specs.declared.act.Act.TheVariants.{Mark}
 use Rattle.mc_theory.specs.declared.event.Event.TheVariants as event
@@ -15,8 +20,8 @@ use Rattle.mc_plan.specs.declared.answer.Answer.{Answer}
 use Rattle.mc_script.specs.declared.command.Command.{Command}
 use Rattle.mc_script.specs.declared.command.Command.TheVariants as command
 use Rattle.mc_replay.specs.declared.fault.Fault.{Fault}
-use Rattle.mc_replay.specs.declared.fault.Fault.TheVariants.{NoSuchReader, StillRunning, NothingToStep}
-use Rattle.mc_replay.specs.Texts.{answer_line, reply_line, stamp_line, done_line}
+use Rattle.mc_replay.specs.declared.fault.Fault.TheVariants.{BadShape, NoSuchReader, StillRunning, NothingToStep}
+use Rattle.mc_replay.specs.Texts.{answer_line, reply_line, stamp_line, done_line, reopened_lines}
 
 -- a call of the writer that is made act by act: the state in which it began, and the acts made since
 pub record Pending (V : ℕ) : Type 0 where
@@ -143,7 +148,7 @@ LookUpDoes {V} sh s r k text fault t =
 abbrev pub ReadsDo : {V : ℕ} → Shape → Replay V → ℕ → ℕ → List ℕ → Option Fault → Replay V → Type 0
 ReadsDo sh s r n text fault t = OfReader s r text fault t (AccessesDo sh n s r text fault t)
 
--- what a command does
+-- what a command does in its world
 abbrev pub Does : {V : ℕ} → Shape → Replay V → Command V → List ℕ → Option Fault → Replay V → Type 0
 Does sh s (command.Put k v) text fault t = CallDoes sh s (PutCall k v) text fault t
 Does sh s (command.PutIf k since v) text fault t = CallDoes sh s (PutIfCall k since v) text fault t
@@ -156,3 +161,49 @@ Does sh s (command.BeginRemove k) text fault t = BeginDoes sh s (RemoveCall k) t
 Does sh s (command.Write n) text fault t = ActsDo sh n s text fault t
 Does sh s (command.BeginGet r k) text fault t = LookUpDoes sh s r k text fault t
 Does sh s (command.Read r n) text fault t = ReadsDo sh s r n text fault t
+-- this one leads to another world
+Does sh s (command.Reopen b c) text fault t = ⊥
+
+-- a world in which a script plays, with the shape of its table
+pub record Scene (V : ℕ) : Type 0 where
+  pub shape : Shape
+  pub now : Replay V
+
+-- a new one
+abbrev pub first_scene : (V : ℕ) → Shape → ℕ → Scene V
+first_scene V sh readers = record { shape = sh; now = first_replay V sh readers }
+
+-- the writer's call runs by single steps, or a reader's lookup
+abbrev pub IsBusy : {V : ℕ} → Replay V → Type 0
+IsBusy s = IsSome s.running ⊎ ((r : ℕ) × (run : OpenLookup) × (slice_get s.world.readers r ≡ Some (Some run)))
+
+-- the same shape, with so many buckets and items
+abbrev pub with_sizes : Shape → ℕ → ℕ → Shape
+with_sizes sh b c = record { buckets = b; items = c; stripes = sh.stripes; depth = sh.depth; tries = sh.tries; limit = sh.limit; mix = sh.mix }
+
+-- Another world stands in the place of the first, with these sizes and as many readers. All that was done in it is that the entries of
+-- the first, in the order of their items, were put one after the other. Those that were left are told.
+pub record Reopens (V : ℕ) (s : Scene V) (b c : ℕ) (text : List ℕ) (t : Scene V) : Type 0 where
+  pub entries : List (ℕ × List ℕ)
+  pub listed : AreInOrder V s.shape (state_now s.shape s.now).words 0 s.shape.items entries
+  pub held : AreEntriesOf V (state_now s.shape s.now).history entries
+  pub sizes : t.shape ≡ with_sizes s.shape b c
+  pub acts : List Made
+  pub changes : List (Change V)
+  pub left : List (ℕ × Why)
+  pub loads : Loads V t.shape (opening V t.shape) 0 entries acts changes left
+  pub makes : WriterMakes V t.shape (first_trace V t.shape (length s.now.world.readers)) acts t.now.world
+  pub idle : t.now.running ≡ None
+  pub told : text ≡ reopened_lines (length (state_now t.shape t.now).history) entries left
+
+-- a line `reopen`: it is refused while a call or a lookup runs, and where there is no such shape
+abbrev pub ReopenDoes : {V : ℕ} → Scene V → ℕ → ℕ → List ℕ → Option Fault → Scene V → Type 0
+ReopenDoes {V} s b c text fault t =
+    (IsBusy s.now × (fault ≡ Some StillRunning) × (text ≡ []) × (t ≡ s)) ⊎
+    ((IsBusy s.now → ⊥) × (IsShape (with_sizes s.shape b c) → ⊥) × (fault ≡ Some BadShape) × (text ≡ []) × (t ≡ s)) ⊎
+    ((IsBusy s.now → ⊥) × IsShape (with_sizes s.shape b c) × (fault ≡ None) × Reopens V s b c text t)
+
+-- what a command does where a script plays
+abbrev pub CommandDoes : {V : ℕ} → Scene V → Command V → List ℕ → Option Fault → Scene V → Type 0
+CommandDoes s (command.Reopen b c) text fault t = ReopenDoes s b c text fault t
+CommandDoes s c text fault t = (t.shape ≡ s.shape) × Does s.shape s.now c text fault t.now

@@ -1,5 +1,5 @@
 -- The lines that are written for answers.
-use Rattle.std.specs.Prelude.{ℕ, List, [], ◌++◌, ◌∷◌, codes, Some, None, Ok, Err}
+use Rattle.std.specs.Prelude.{ℕ, List, [], ◌++◌, ◌∷◌, codes, length, slice_get, Option, Some, None, Ok, Err}
 use Rattle.std.specs.Fmt.{decimal}
 use Rattle.std.specs.List.{flat_map}
 use Rattle.mc_words.specs.declared.history.Reply.{Reply}
@@ -12,6 +12,7 @@ use Rattle.mc_plan.specs.declared.answer.Put.TheVariants.{Stored, Renewed}
 use Rattle.mc_plan.specs.declared.answer.PutError.TheVariants.{NoPath, AllRecent, Spent}
 use Rattle.mc_plan.specs.declared.answer.IfError.TheVariants as condition
 use Rattle.mc_plan.specs.declared.answer.Remove.TheVariants.{Removed, NotThere}
+use Rattle.mc_plan.specs.declared.answer.Why.{Why}
 use Rattle.mc_plan.specs.declared.answer.Why.TheVariants as left
 
 -- the words of a value, a blank before each
@@ -70,3 +71,28 @@ stamp_line reply = line (stamp_text reply)
 
 abbrev pub done_line : {V : ℕ} → Done V → List ℕ
 done_line done = line (done_text done)
+
+-- why an entry was left
+abbrev pub why_text : Why → List ℕ
+why_text left.NoPath = codes "no path"
+why_text left.NoItem = codes "no item"
+why_text left.Spent = codes "spent"
+
+-- an entry of this key was left
+abbrev pub left_text : ℕ → Why → List ℕ
+left_text key why = codes "left " ++ decimal key ++ codes " " ++ why_text why
+
+-- another world was opened: its moment, and how many entries were left
+abbrev pub reopened_text : ℕ → ℕ → List ℕ
+reopened_text at many = codes "reopened at " ++ decimal at ++ codes " left " ++ decimal many
+
+abbrev pub left_line : Why → Option (ℕ × List ℕ) → List ℕ
+left_line why None = []
+left_line why (Some entry) = line (left_text entry.0 why)
+
+-- a line for each entry that was left, named by its index
+abbrev pub left_lines : List (ℕ × List ℕ) → List (ℕ × Why) → List ℕ
+left_lines entries lefts = flat_map (λ l. left_line l.1 (slice_get entries l.0)) lefts
+
+abbrev pub reopened_lines : ℕ → List (ℕ × List ℕ) → List (ℕ × Why) → List ℕ
+reopened_lines at entries lefts = line (reopened_text at (length lefts)) ++ left_lines entries lefts

@@ -1,8 +1,9 @@
 //! What a command does, and the lines of its answers.
-ghost use Rattle.std.specs.Prelude.{◌≡◌, OnOk, OnErr, Err, false, is_some, string_bytes};
+ghost use Rattle.std.specs.Prelude.{◌≡◌, OnOk, OnErr, Err, false, is_some, string_bytes, None};
 ghost use Rattle.mc_plan.specs.Clerks.{next_act};
 ghost use Rattle.mc_replay.specs.Replay.{ActsDo, BeginDoes, CallDoes, Does, GetDoes};
 ghost use Rattle.mc_replay.specs.Texts.{reply_line, stamp_line};
+ghost use Rattle.mc_replay.specs.Inside.Reopenings.{CommandDoneBy, sizes_of};
 ghost use Rattle.mc_replay.specs.Inside.Players.{ActsOnce, CanAct, CanDo, DoesBy, call_of};
 ghost use Rattle.mc_replay.specs.declared.fault.Fault.TheVariants.{NoMemory};
 
@@ -10,8 +11,10 @@ use crate::fault::Fault;
 use crate::lines::{AnswerLine, ReplyLine, StampLine};
 use crate::player::{Call, Player};
 use crate::reading::{begin_get, reads};
+use crate::reopening::reopen;
 use crate::text::add_line;
 use mc_script::Command;
+use std::alloc::Global;
 
 /// A whole call.
 fn whole<const V: usize>(
@@ -89,19 +92,31 @@ fn acts<const V: usize>(player: &mut Player<V>, text: &mut String, many: u64) ->
     Ok(())
 }
 
-/// Does a command, and puts the lines of its answers into `text`.
-pub(crate) fn do_command<const V: usize>(
+/// The buckets and items of a command that opens another world.
+fn sizes_of<const V: usize>(command: &Command<V>) -> Option<(u64, u64)>
+    ensures { result ≡ sizes_of command.now }
+{
+    if let Command::Reopen(buckets, items) = command {
+        return Some((*buckets, *items));
+    }
+    None
+}
+
+/// Does a command in the world, and puts the lines of its answers into `text`.
+fn do_here<const V: usize>(
     player: &mut Player<V>,
     text: &mut String,
     command: Command<V>,
 ) -> Result<(), Fault>
-    requires { CanDo V player.old (string_bytes text.old) }
+    requires can { CanDo V player.old (string_bytes text.old) }
+    requires stays { sizes_of command ≡ None }
     ensures { DoesBy V player.old player.new (string_bytes text.new) result (λ sh s. Does sh s command.entry) }
 {
     match (command, player.is_running()) {
         (Command::Write(many), _) => acts(player, text, many),
         (Command::BeginGet(reader, key), _) => begin_get(player, reader, key),
         (Command::Read(reader, many), _) => reads(player, text, reader, many),
+        (Command::Reopen(_, _), _) => unreachable!(),
         (_, true) => Err(Fault::StillRunning),
         (Command::Put(key, value), false) => whole(player, text, Call::Put(key, value)),
         (Command::PutIf(key, since, value), false) => whole(
@@ -119,5 +134,21 @@ pub(crate) fn do_command<const V: usize>(
             Call::PutIf(key, since, value),
         ),
         (Command::BeginRemove(key), false) => begin(player, text, Call::Remove(key)),
+    }
+}
+
+/// Does a command, and puts the lines of its answers into `text`.
+pub(crate) fn do_command<const V: usize>(
+    alloc: Global,
+    player: &mut Player<V>,
+    text: &mut String,
+    command: Command<V>,
+) -> Result<(), Fault>
+    requires { CanDo V player.old (string_bytes text.old) }
+    ensures { CommandDoneBy V player.old player.new (string_bytes text.new) result command.entry }
+{
+    match sizes_of(&command) {
+        Some((buckets, items)) => reopen(alloc, player, text, buckets, items),
+        None => do_here(player, text, command),
     }
 }

@@ -3,10 +3,10 @@ ghost use Rattle.std.specs.Prelude.{◌≡◌, ℕ, ◌≤◌, ◌<◌, ◌+◌,
 ghost use Rattle.mc_words.specs.Checks.{shape_of};
 ghost use Rattle.mc_words.specs.Places.{IsWidth};
 ghost use Rattle.mc_replay.specs.Faults.{as_replay_error};
-ghost use Rattle.mc_replay.specs.Replay.{Replay, first_replay};
+ghost use Rattle.mc_replay.specs.Replay.{Scene, first_replay};
 ghost use Rattle.mc_replay.specs.Scripts.{ReplaysKnown};
 ghost use Rattle.mc_words.specs.Readers.{HasReaders};
-ghost use Rattle.mc_replay.specs.Inside.Players.{Fits, FitsStill, shape_of_player, most_before};
+ghost use Rattle.mc_replay.specs.Inside.Players.{Fits, FitsScene, shape_of_player, most_before};
 ghost use Rattle.mc_replay.specs.Inside.Steps.{DoesLine, PlaysKnown, is_wanting};
 ghost use Rattle.mc_replay.specs.declared.fault.Stop.{Stop};
 
@@ -23,16 +23,17 @@ const MOST_LINES: u64 = 1 << 40;
 
 /// Does what a line says, and puts the lines of its answers into `text`.
 fn do_line<const V: usize>(
+    alloc: Global,
     player: &mut Player<V>,
     text: &mut String,
     before: u64,
     line: &[u8],
 ) -> Result<(), Fault>
-    requires fits { (s : Replay V) × Fits V player.old (most_before before) s }
+    requires fits { (s : Scene V) × FitsScene V player.old (most_before before) s }
     requires short { length line.now ≤ 4096 }
-    ensures does { (s : Replay V) → Fits V player.old (most_before before) s → (t : Replay V) ×
-        DoesLine V (shape_of_player player.old) before s line.now (string_bytes text.new) t result ×
-        OnOk result (FitsStill V player.old player.new (most_before (before + 1)) t) }
+    ensures does { (s : Scene V) → FitsScene V player.old (most_before before) s → (t : Scene V) ×
+        DoesLine V before s line.now (string_bytes text.new) t result ×
+        OnOk result (FitsScene V player.new (most_before (before + 1)) t) }
     ensures few { OnOk result (before < 2 ^ 40) }
 {
     text.clear();
@@ -42,7 +43,7 @@ fn do_line<const V: usize>(
     match parse(line) {
         Err(fault) => Err(Fault::of_line(fault)),
         Ok(None) => Ok(()),
-        Ok(Some(command)) => do_command(player, text, command),
+        Ok(Some(command)) => do_command(alloc, player, text, command),
     }
 }
 
@@ -58,17 +59,18 @@ fn is_wanting(done: Result<(), Fault>) -> bool
 
 /// Reads the next line, does it and writes its answers: `false` where there is none.
 fn play_line<const V: usize, R: BufRead, W: Write>(
+    alloc: Global,
     player: &mut Player<V>,
     text: &mut String,
     before: u64,
     input: &mut R,
     output: &mut W,
 ) -> Result<bool, Fault>
-    requires { (s : Replay V) × Fits V player.old (most_before before) s }
-    ensures plays { (s : Replay V) → Fits V player.old (most_before before) s → (t : Replay V) ×
-        PlaysKnown V (shape_of_player player.old) before s t (R.remaining input.old) (R.remaining input.new)
+    requires { (s : Scene V) × FitsScene V player.old (most_before before) s }
+    ensures plays { (s : Scene V) → FitsScene V player.old (most_before before) s → (t : Scene V) ×
+        PlaysKnown V before s t (R.remaining input.old) (R.remaining input.new)
         (W.contents output.old) (W.contents output.new) result ×
-        (result ≡ Ok true → FitsStill V player.old player.new (most_before (before + 1)) t) }
+        (result ≡ Ok true → FitsScene V player.new (most_before (before + 1)) t) }
     ensures few { result ≡ Ok true → before < 2 ^ 40 }
 {
     let mut line = Line::new();
@@ -78,7 +80,7 @@ fn play_line<const V: usize, R: BufRead, W: Write>(
         Ok(false) => return Ok(false),
         Ok(true) => {}
     }
-    let done = do_line(player, text, before, line.as_slice());
+    let done = do_line(alloc, player, text, before, line.as_slice());
     if is_wanting(done) {
         return Err(Fault::NoMemory);
     }
@@ -105,7 +107,7 @@ fn play_lines<const V: usize, R: BufRead, W: Write>(
 {
     let mut text = String::new(alloc);
     'lines: for before in 0..u64::MAX {
-        match play_line(player, &mut text, before, input, output) {
+        match play_line(alloc, player, &mut text, before, input, output) {
             Ok(true) => {}
             Ok(false) => return Ok(()),
             Err(fault) => {

@@ -19,6 +19,7 @@ pub enum Fault {
     StillRunning,
     NothingToStep,
     WriteFailed,
+    BadShape,
 }
 
 /// The line at which a script stopped, numbered from 1, and why. Line 0: no line was read.
@@ -31,8 +32,8 @@ pub struct Stop {
 /// The line at which a script stopped, numbered from 1, and the number of the fault. Line 0: no line was read.
 ///
 /// 1 the input failed, 2 memory was refused, 3 the line is too long, 4 it is no command, 5 a word of it is no number,
-/// 6 there is no such reader, 7 a call or a lookup still runs, 8 none runs, 9 the output failed. At line 0, 6 says that
-/// there are not from 1 to 1024 readers.
+/// 6 there is no such reader, 7 a call or a lookup still runs, 8 none runs, 9 the output failed, 10 there is no table of
+/// this shape. At line 0, 6 says that there are not from 1 to 1024 readers.
 #[derive(Clone, Copy, Debug, PartialEq, Eq)]
 pub struct ReplayError {
     pub line: u64,
@@ -53,6 +54,7 @@ impl Fault {
             Fault::StillRunning => 7,
             Fault::NothingToStep => 8,
             Fault::WriteFailed => 9,
+            Fault::BadShape => 10,
         }
     }
 
@@ -80,6 +82,7 @@ impl fmt::Display for Fault {
             Fault::StillRunning => write!(f, "still running"),
             Fault::NothingToStep => write!(f, "nothing to step"),
             Fault::WriteFailed => write!(f, "write failed"),
+            Fault::BadShape => write!(f, "bad shape"),
         }
     }
 }
@@ -129,6 +132,7 @@ impl ReplayError {
             7 => Some(Fault::StillRunning),
             8 => Some(Fault::NothingToStep),
             9 => Some(Fault::WriteFailed),
+            10 => Some(Fault::BadShape),
             _ => None,
         }
     }

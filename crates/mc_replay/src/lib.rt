@@ -18,6 +18,7 @@ pub mod laws;
 mod lines;
 mod player;
 mod reading;
+mod reopening;
 mod text;
 
 pub use engine::{play, replay};

@@ -1,6 +1,6 @@
 //! The lines that are written for answers.
 ghost use Rattle.std.specs.Prelude.{Some};
-ghost use Rattle.mc_replay.specs.Texts.{answer_text, done_text, put_text, reply_text, stamp_text, words_text};
+ghost use Rattle.mc_replay.specs.Texts.{answer_text, done_text, left_text, put_text, reopened_text, reply_text, stamp_text, why_text, words_text};
 
 use mc_core::{Done, Reply};
 use mc_plan::{Answer, IfError, Put, PutError, Remove, Spent, Why};
@@ -127,5 +127,55 @@ impl<const V: usize> fmt::Display for DoneLine<V> {
         let reader = self.0.reader;
         let reply = ReplyLine(self.0.reply);
         write!(f, "reader {reader} {reply}")
+    }
+}
+
+/// Why an entry was left, as a line says it.
+#[derive(Clone, Copy)]
+struct Reason(Why);
+
+impl fmt::Display for Reason {
+    ghost output = { λ reason. Some (why_text reason.0) };
+
+    fn fmt<W: fmt::Write>(&self, f: &mut fmt::Formatter<W>) -> fmt::Result {
+        match self.0 {
+            Why::NoPath => write!(f, "no path"),
+            Why::NoItem => write!(f, "no item"),
+            Why::Spent => write!(f, "spent"),
+        }
+    }
+}
+
+/// The line of an entry that was left, without its end.
+#[derive(Clone, Copy)]
+pub(crate) struct LeftLine {
+    pub(crate) key: u64,
+    pub(crate) why: Why,
+}
+
+impl fmt::Display for LeftLine {
+    ghost output = { λ line. Some (left_text line.key line.why) };
+
+    fn fmt<W: fmt::Write>(&self, f: &mut fmt::Formatter<W>) -> fmt::Result {
+        let key = self.key;
+        let reason = Reason(self.why);
+        write!(f, "left {key} {reason}")
+    }
+}
+
+/// The first line after a world was opened in the place of another, without its end.
+#[derive(Clone, Copy)]
+pub(crate) struct ReopenedLine {
+    pub(crate) at: u64,
+    pub(crate) left: usize,
+}
+
+impl fmt::Display for ReopenedLine {
+    ghost output = { λ line. Some (reopened_text line.at line.left) };
+
+    fn fmt<W: fmt::Write>(&self, f: &mut fmt::Formatter<W>) -> fmt::Result {
+        let at = self.at;
+        let left = self.left;
+        write!(f, "reopened at {at} left {left}")
     }
 }

@@ -1,17 +1,21 @@
 //! A world of one writer and some readers, and the writer's clerk.
-ghost use Rattle.std.specs.Prelude.{◌≡◌, ◌+◌, ◌^◌, ◌-◌, ◌<◌, ℕ, IfOk, IfErr, OnOk, OnErr, IsSome, Err, is_some};
+ghost use Rattle.std.specs.Prelude.{◌≡◌, ◌+◌, ◌^◌, ◌-◌, ◌<◌, ℕ, IfOk, IfErr, OnOk, OnErr, IsSome, Err, is_some, length, ◌≤◌};
 ghost use Rattle.mc_words.specs.Checks.{shape_of};
 ghost use Rattle.mc_words.specs.Places.{IsWidth};
 ghost use Rattle.mc_theory.specs.Traces as traces;
+ghost use Rattle.mc_theory.specs.Lists.{state_of};
 ghost use Rattle.mc_plan.specs.Clerks.{next_act, acts_left};
+ghost use Rattle.mc_plan.specs.WholeCalls.{KeptCall};
+ghost use Rattle.mc_plan.specs.declared.answer.Answer.TheVariants.{Kept};
+ghost use Rattle.mc_replay.specs.Inside.Reopenings.{HasEntries};
 ghost use Rattle.mc_replay.specs.Replay.{Pending, first_replay};
 ghost use Rattle.mc_words.specs.Readers.{HasReaders};
-ghost use Rattle.mc_replay.specs.Inside.Players.{Begins, Completes, Fits, HasRoom, IsIdle, IsInCall, MakesAct, CallIsWhole, IsMarked, Looks, shape_of_player, bit_given, call_of, IsRefusedAs};
+ghost use Rattle.mc_replay.specs.Inside.Players.{Begins, Completes, Fits, HasRoom, IsIdle, IsInCall, MakesAct, CallIsWhole, IsMarked, Looks, shape_of_player, bit_given, call_of, IsRefusedAs, most_entries};
 ghost use Rattle.mc_replay.specs.declared.fault.Fault.TheVariants.{NoMemory};
 
 use crate::fault::Fault;
 use mc_core::{Act, Event, Reply, Stepped, Unlawful, World, WorldError};
-use mc_plan::{Answer, Clerk, moment, read};
+use mc_plan::{Answer, Clerk, Put, Why, entries, moment, read};
 use mc_words::Checked;
 use std::alloc::Global;
 
@@ -22,6 +26,8 @@ pub(crate) enum Call<const V: usize> {
     /// A put, where the moment of the key's last put is this one.
     PutIf(u64, u64, [u64; V]),
     Remove(u64),
+    /// A put that takes no other key's item.
+    PutKept(u64, [u64; V]),
 }
 
 #[derive(Drop)]
@@ -118,6 +124,7 @@ impl<const V: usize> Player<V> {
                 .clerk
                 .put_if(&mut &self.world, key, since, value),
             Call::Remove(key) => self.clerk.remove(&mut &self.world, key),
+            Call::PutKept(key, value) => self.clerk.put_kept(&mut &self.world, key, value),
         }
         self.clerk.answer()
     }
@@ -132,6 +139,42 @@ impl<const V: usize> Player<V> {
         match self.begin(call) {
             Some(answer) => Ok(answer),
             None => self.finish(),
+        }
+    }
+
+    /// Puts a key, as long as no other one has to go.
+    pub(crate) fn put_kept(&mut self, key: u64, value: [u64; V]) -> Result<Result<Put, Why>, Fault>
+        requires { (most : ℕ) × (w : traces.Trace V) × IsIdle V self.old most w × HasRoom most }
+        ensures made { IfOk result (λ told. (most : ℕ) (w : traces.Trace V) → IsIdle V self.old most w → HasRoom most →
+            CallIsWhole V self.old self.new most (KeptCall key value.entry) w (Kept told)) }
+        ensures refused { OnErr result (result ≡ Err NoMemory) }
+    {
+        match self.whole(Call::PutKept(key, value))? {
+            Answer::Kept(told) => Ok(told),
+            Answer::Put(_) | Answer::PutIf(_) | Answer::Remove(_) => unreachable!(),
+        }
+    }
+
+    /// The moment of the table.
+    pub(crate) fn moment(&self) -> u64
+        requires { (most : ℕ) × (w : traces.Trace V) × IsIdle V self.now most w }
+        ensures { (most : ℕ) (w : traces.Trace V) → IsIdle V self.now most w →
+            result ≡ length (state_of V (shape_of_player self.now) w.acts).history }
+    {
+        moment(&self.world.checked(), &mut &self.world)
+    }
+
+    /// The entries of the table, in the order of their items.
+    pub(crate) fn entries(&self, alloc: Global) -> Result<Vec<(u64, [u64; V])>, Fault>
+        requires { (most : ℕ) × (w : traces.Trace V) × IsIdle V self.now most w }
+        ensures entries { IfOk result (λ es. (most : ℕ) (w : traces.Trace V) → IsIdle V self.now most w →
+            HasEntries V (shape_of_player self.now) (state_of V (shape_of_player self.now) w.acts) es.items) }
+        ensures few { IfOk result (λ es. length es.items ≤ most_entries) }
+        ensures refused { OnErr result (result ≡ Err NoMemory) }
+    {
+        match entries::<V, _>(alloc, &self.world.checked(), &mut &self.world) {
+            Ok(entries) => Ok(entries),
+            Err(_) => Err(Fault::NoMemory),
         }
     }
 

@@ -9,7 +9,7 @@ use Rattle.std.proofs.lemmas.Bool.{cases_eq}
 use Rattle.mc_script.specs.declared.command.LineFault.{LineFault}
 use Rattle.mc_script.specs.declared.command.LineFault.TheVariants.{NotACommand, BadNumber}
 use Rattle.mc_script.specs.declared.command.Command.{Command}
-use Rattle.mc_script.specs.declared.command.Command.TheVariants.{Put, PutIf, Remove, Get, Stamp, BeginPut, BeginPutIf, BeginRemove, Write, BeginGet, Read}
+use Rattle.mc_script.specs.declared.command.Command.TheVariants.{Put, PutIf, Remove, Get, Stamp, BeginPut, BeginPutIf, BeginRemove, Write, BeginGet, Read, Reopen}
 use Rattle.mc_script.specs.Words.{words_of}
 use Rattle.mc_script.specs.Numbers.{is_number}
 use Rattle.mc_script.specs.Commands.{Fixed, Number, Steps, Form, form, first, second, may_stand, is_good, values, read_by, command_of, said, command_by, command_in}
@@ -195,6 +195,13 @@ read_says v words =
     let many : Form v = form (Fixed (codes "r") ∷ Number ∷ Steps ∷ []) (λ numbers. Read (first numbers) (second numbers)) in
     joined (counted 1 words one.command) (number_and_count words many.command ∙ only all many) ∙ next all one (many ∷ [])
 
+-- `reopen` and two numbers
+reopen_says : (v : ℕ) (words : List (List ℕ)) → command_from (λ numbers. Reopen (first numbers) (second numbers)) (numbers_in 2 words) ≡ command_of v (codes "reopen" ∷ words)
+unfolding command_of
+reopen_says v words =
+    let whole : Form v = form (Fixed (codes "reopen") ∷ Number ∷ Number ∷ []) (λ numbers. Reopen (first numbers) (second numbers)) in
+    counted 2 words whole.command ∙ only (codes "reopen" ∷ words) whole
+
 -- `begin`, and then `put`, `putif`, `remove` or a reader
 begin_says : (v : ℕ) (words : List (List ℕ)) → begin_in v words ≡ command_of v (codes "begin" ∷ words)
 unfolding command_of
@@ -249,7 +256,10 @@ form_says v name words =
                   | inl e ↦ subst P (sym e) (write_says v words)
                   | inr no_write ↦ elim (is_word name (codes "r")) [
                     | inl e ↦ subst P (sym e) (read_says v words)
-                    | inr no_read ↦ rw (no_put, no_put_if, no_remove, no_get, no_stamp, no_begin, no_write, no_read) refl
+                    | inr no_read ↦ elim (is_word name (codes "reopen")) [
+                      | inl e ↦ subst P (sym e) (reopen_says v words)
+                      | inr no_reopen ↦ rw (no_put, no_put_if, no_remove, no_get, no_stamp, no_begin, no_write, no_read, no_reopen) refl
+                    ]
                   ]
                 ]
               ]

@@ -6,7 +6,7 @@ use Rattle.std.specs.Str.Parse.{digits_value}
 use Rattle.mc_script.specs.declared.command.LineFault.{LineFault}
 use Rattle.mc_script.specs.declared.command.LineFault.TheVariants.{NotACommand, BadNumber}
 use Rattle.mc_script.specs.declared.command.Command.{Command}
-use Rattle.mc_script.specs.declared.command.Command.TheVariants.{Put, PutIf, Remove, Get, Stamp, BeginPut, BeginPutIf, BeginRemove, Write, BeginGet, Read}
+use Rattle.mc_script.specs.declared.command.Command.TheVariants.{Put, PutIf, Remove, Get, Stamp, BeginPut, BeginPutIf, BeginRemove, Write, BeginGet, Read, Reopen}
 use Rattle.mc_script.specs.Words.{words_of}
 use Rattle.mc_script.specs.Numbers.{is_number}
 
@@ -46,6 +46,7 @@ forms v =
     ∷ form (Fixed (codes "begin") ∷ Number ∷ Fixed (codes "get") ∷ Number ∷ []) (λ numbers. BeginGet (first numbers) (second numbers))
     ∷ form (Fixed (codes "r") ∷ Number ∷ []) (λ numbers. Read (first numbers) 1)
     ∷ form (Fixed (codes "r") ∷ Number ∷ Steps ∷ []) (λ numbers. Read (first numbers) (second numbers))
+    ∷ form (Fixed (codes "reopen") ∷ Number ∷ Number ∷ []) (λ numbers. Reopen (first numbers) (second numbers))
     ∷ []
 
 -- a fixed word stands only for itself, any word for a number

@@ -33,6 +33,8 @@ pub enum Command<const V: usize> {
     BeginGet(u64, u64),
     /// So many accesses of a reader, of which there is at least one.
     Read(u64, u64),
+    /// The entries go into another world, with so many buckets and items.
+    Reopen(u64, u64),
 }
 
 /// Why a line is no command.
@@ -86,6 +88,10 @@ fn form<const V: usize>(name: &[u8], words: &[u8]) -> Result<Command<V>, LineFau
     }
     if is_word(name, b"r") {
         return read(words);
+    }
+    if is_word(name, b"reopen") {
+        let sizes = numbers::<2>(words)?;
+        return Ok(Command::Reopen(sizes[0], sizes[1]));
     }
     Err(LineFault::NotACommand)
 }

@@ -85,9 +85,10 @@ impl Finder {
         ensures words { P.words peek.new ≡ P.words peek.old }
         ensures kept { peek.new ≡ peek.old }
     {
-        let first = self.checked.first(key);
-        let second = self.checked.alt(first, self.checked.tag(key));
-        hole_in_either(&self.checked, peek, first, second)
+        let checked = self.checked;
+        let first = checked.first(key);
+        let second = checked.alt(first, checked.tag(key));
+        hole_in_either(&checked, peek, first, second)
     }
 
     /// A shortest path for the key, if there is one within the depth of the shape.

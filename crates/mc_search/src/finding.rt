@@ -60,12 +60,14 @@ pub fn find<const V: usize, P: Peek>(
     ensures none { IfNone result (IsAbsent V (shape_of checked.now) (P.words peek.old) key) }
     ensures kept { peek.new ≡ peek.old }
 {
-    let tag = checked.tag(key);
-    let base = checked.slot_word(tag, 0);
-    let first = checked.first(key);
-    if let Some(found) = find_in::<V, P>(checked, peek, key, base, first) {
+    // A copy, which stays in registers while words are read.
+    let table = *checked;
+    let tag = table.tag(key);
+    let base = table.slot_word(tag, 0);
+    let first = table.first(key);
+    if let Some(found) = find_in::<V, P>(&table, peek, key, base, first) {
         return Some(found);
     }
-    let second = checked.alt(first, tag);
-    find_in::<V, P>(checked, peek, key, base, second)
+    let second = table.alt(first, tag);
+    find_in::<V, P>(&table, peek, key, base, second)
 }

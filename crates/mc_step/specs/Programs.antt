@@ -29,6 +29,7 @@ status_of fault.BadNumber = refused
 status_of fault.NoSuchReader = refused
 status_of fault.StillRunning = refused
 status_of fault.NothingToStep = refused
+status_of fault.BadShape = refused
 status_of fault.WriteFailed = failed
 
 -- the exit status of a replay

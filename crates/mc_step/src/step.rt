@@ -23,7 +23,8 @@ fn status_of(fault: Fault) -> u8
         | Fault::BadNumber
         | Fault::NoSuchReader
         | Fault::StillRunning
-        | Fault::NothingToStep => REFUSED,
+        | Fault::NothingToStep
+        | Fault::BadShape => REFUSED,
     }
 }
 

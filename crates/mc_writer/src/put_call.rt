@@ -25,6 +25,7 @@ impl<'a, const V: usize> Pen<'a, V> {
     ghost use Rattle.mc_writer.specs.Inside.Pens.{state_at};
 
     /// Decides a put, as far as one look for the key tells.
+    #[inline(always)]
     pub(crate) fn decide(&mut self, books: &mut Books, key: u64, value: &[u64; V]) -> Decision
         requires rested { IsRested V books.old self.old.seat.now }
         ensures pen { self.new ≡ self.old }
@@ -66,6 +67,7 @@ impl<'a, const V: usize> Pen<'a, V> {
     ghost use Rattle.mc_writer.specs.Inside.Pens.{IsDue, HasMade};
 
     /// Makes the acts of a renewal, and the mark of its item.
+    #[inline(always)]
     pub(crate) fn make_renewal(&mut self, key: u64, value: &[u64; V], at: u64, item: u32)
         requires width { IsWidth V }
         requires due { IsDue V (renewal_acts key value.now at item) self.old }
@@ -161,7 +163,7 @@ impl<'a, const V: usize> Pen<'a, V> {
     }
 
     /// Puts a key for which a hole is at hand, but no item.
-    #[inline(never)]
+    #[inline(always)]
     fn put_evicting(
         &mut self,
         books: &mut Books,

@@ -3,6 +3,7 @@
 
 mod beside;
 mod fresh_puts;
+mod growing;
 mod keys;
 mod lookups;
 mod memory;
@@ -29,6 +30,7 @@ fn run<R: Runtime + AllocGlobal + CpuClock + Threads + Sync>(rt: &R) -> io::Resu
                 Workload::Mixed | Workload::Half | Workload::Absent => {
                     beside::measure(rt, alloc, &options)?
                 }
+                Workload::Grow => growing::measure(rt, alloc, &options)?,
                 _ => fresh_puts::measure(rt, alloc, &options)?,
             };
             println!(rt; "{report}")?;

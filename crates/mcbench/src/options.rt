@@ -21,6 +21,8 @@ pub(crate) enum Workload {
     Evict,
     /// Fresh keys are put until one is refused.
     Load,
+    /// The entries of a full cache are taken into a larger one.
+    Grow,
 }
 
 #[derive(Clone, Copy)]
@@ -39,7 +41,9 @@ pub(crate) struct Options {
 }
 
 /// The names of the workloads.
-const WORKLOADS: [&str; 7] = ["hit", "half", "miss", "mixed", "fill", "evict", "load"];
+const WORKLOADS: [&str; 8] = [
+    "hit", "half", "miss", "mixed", "fill", "evict", "load", "grow",
+];
 
 /// An option with one value.
 struct Row {
@@ -55,7 +59,7 @@ const ROWS: [Row; 9] = [
         name: "workload",
         takes: ValueParser::Names(&WORKLOADS),
         default: "hit",
-        help: "Keys that are there (hit, mixed), half of them (half) or none (miss); fresh keys into empty tables, into a full one, or until one is refused",
+        help: "Keys that are there (hit, mixed), half of them (half) or none (miss); fresh keys into empty tables (fill), into a full one (evict), or until one is refused (load); a full one's entries into a larger one (grow)",
     },
     Row {
         name: "seconds",
@@ -133,6 +137,7 @@ fn workload_in(matches: &ArgMatches<'_>) -> Workload {
         Some("fill") => Workload::Fill,
         Some("evict") => Workload::Evict,
         Some("load") => Workload::Load,
+        Some("grow") => Workload::Grow,
         _ => Workload::Mixed,
     }
 }

@@ -29,6 +29,8 @@ pub(crate) struct Report {
     pub bytes_key: Quotient,
     /// Keys that were put until one was refused, by the slots.
     pub load_factor: Quotient,
+    /// Nanoseconds in which a cache was closed and its entries listed.
+    pub listed_ns: u64,
 }
 
 impl Display for Report {
@@ -50,8 +52,8 @@ impl Display for Report {
         )?;
         write!(
             f,
-            "\"load_factor\":{},\"bytes_key\":{}}}",
-            self.load_factor, self.bytes_key
+            "\"load_factor\":{},\"bytes_key\":{},\"written_ns\":{},\"listed_ns\":{}}}",
+            self.load_factor, self.bytes_key, self.written.nanos, self.listed_ns
         )
     }
 }

@@ -100,7 +100,7 @@ fn a_failed_read_is_told_unless_the_line_is_too_long(rt: HostRuntime) -> Result<
 
 #[test]
 fn a_line_says_its_command(rt: HostRuntime) {
-    let cases: [(&[u8], Result<Option<Command<2>>, LineFault>); 23] = [
+    let cases: [(&[u8], Result<Option<Command<2>>, LineFault>); 26] = [
         (b"\t # get 0", Ok(None)),
         (b"\t get \t\t 7 \t", Ok(Some(Command::Get(7)))),
         (b"remove 007", Ok(Some(Command::Remove(7)))),
@@ -116,6 +116,7 @@ fn a_line_says_its_command(rt: HostRuntime) {
         (b"begin 1 get 5", Ok(Some(Command::BeginGet(1, 5)))),
         (b"w", Ok(Some(Command::Write(1)))),
         (b"r 2 12", Ok(Some(Command::Read(2, 12)))),
+        (b"reopen 2 08", Ok(Some(Command::Reopen(2, 8)))),
         (b"r 2 0", Err(LineFault::BadNumber)),
         (b"w 12", Ok(Some(Command::Write(12)))),
         (b"w 0", Err(LineFault::BadNumber)),
@@ -124,6 +125,8 @@ fn a_line_says_its_command(rt: HostRuntime) {
         (b"begin put get 5", Err(LineFault::BadNumber)),
         (b"begin put 1 2", Err(LineFault::NotACommand)),
         (b"putif 1 2 3", Err(LineFault::NotACommand)),
+        (b"reopen 2", Err(LineFault::NotACommand)),
+        (b"reopen 2 x", Err(LineFault::BadNumber)),
         (b"begin", Err(LineFault::NotACommand)),
         (b"put 1 2", Err(LineFault::NotACommand)),
         (b"get \xff", Err(LineFault::NotACommand)),

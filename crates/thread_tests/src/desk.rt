@@ -7,6 +7,7 @@ use mc_cache::{
 };
 use std::alloc::{AllocError, Global};
 use std::test::Fail;
+use std::thread;
 use std::thread::Threads;
 
 const SMALL: Shape = Shape {
@@ -74,15 +75,17 @@ fn a_put_on_a_condition_is_told_why_not(rt: HostRuntime) -> Result<(), Fail> {
 }
 
 /// Fewer keys than items, so that none is evicted.
-const WIDE: Shape = Shape {
-    buckets: 32,
-    items: 64,
-    stripes: 4,
-    depth: 2,
-    tries: 2,
-    limit: 1 << 62,
-    mix: Mix::Fmix,
-};
+fn wide(stripes: u32, tries: u8) -> Shape {
+    Shape {
+        buckets: 32,
+        items: 64,
+        stripes,
+        depth: 2,
+        tries,
+        limit: 1 << 62,
+        mix: Mix::Fmix,
+    }
+}
 
 // A caller for each reader: so many write, the others only look keys up.
 fn callers_of(
@@ -104,14 +107,24 @@ fn callers_of(
     Ok(callers)
 }
 
-// Whether all that so many writers and readers are told is true of one history, in which each change that was made stands once.
-fn are_turns_true<R: Threads + Sync>(
+/// What came of the turns that threads took.
+#[derive(Drop)]
+struct Turns {
+    /// All that they were told is true of one history, in which each change that was made stands once.
+    right: bool,
+    /// A try was held.
+    held: bool,
+}
+
+// So many writers take turns beside so many readers.
+fn take_turns<R: Threads + Sync>(
     rt: &R,
     alloc: Global,
+    shape: Shape,
     writers: u32,
     readers: u32,
-) -> Result<bool, Fail> {
-    let (cache, writer, passes) = open::<1>(alloc, WIDE, writers.saturating_add(readers))?;
+) -> Result<Turns, Fail> {
+    let (cache, writer, passes) = open::<1>(alloc, shape, writers.saturating_add(readers))?;
     let callers = callers_of(alloc, &cache, passes, writers as u64)?;
     let desk = Desk::new(writer);
     let callers = call_in_threads(rt, &cache, &desk, callers)?;
@@ -122,20 +135,50 @@ fn are_turns_true<R: Threads + Sync>(
         return Err(Fail::new("a moment is missing, or there twice"));
     };
     let mut right = history.len() > 0;
+    let mut held = false;
     for caller in callers.as_slice() {
         right = right && caller.was_told_the_truth(history.as_slice());
+        held = held || caller.was_held();
     }
-    Ok(right)
+    Ok(Turns { right, held })
+}
+
+/// How often threads take turns at most until a try is held.
+const ROUNDS: u32 = 100;
+
+// Whether a try is held in some round, and no thread is told what isn't true. On one processor turns hardly ever meet, and
+// none has to be held.
+fn do_turns_meet<R: Threads + Sync>(
+    rt: &R,
+    alloc: Global,
+    shape: Shape,
+    writers: u32,
+    readers: u32,
+) -> Result<bool, Fail> {
+    for _round in 0..ROUNDS {
+        let turns = take_turns(rt, alloc, shape, writers, readers)?;
+        if turns.held || !turns.right {
+            return Ok(turns.right);
+        }
+    }
+    Ok(thread::available_parallelism(rt)?.get() == 1)
 }
 
 #[test]
 fn two_threads_take_turns_beside_two_readers(rt: HostRuntime) -> Result<(), Fail> {
-    assert!(rt; are_turns_true(&rt, rt.alloc(), 2, 2)?);
+    assert!(rt; do_turns_meet(&rt, rt.alloc(), wide(4, 2), 2, 2)?);
     Ok(())
 }
 
 #[test]
 fn eight_threads_take_turns_beside_four_readers(rt: HostRuntime) -> Result<(), Fail> {
-    assert!(rt; are_turns_true(&rt, rt.alloc(), 8, 4)?);
+    assert!(rt; do_turns_meet(&rt, rt.alloc(), wide(4, 2), 8, 4)?);
+    Ok(())
+}
+
+// One thread alone writes, so whoever holds it up looks a key up.
+#[test]
+fn a_busy_lookup_tries_for_the_turn(rt: HostRuntime) -> Result<(), Fail> {
+    assert!(rt; do_turns_meet(&rt, rt.alloc(), wide(1, 1), 1, 3)?);
     Ok(())
 }

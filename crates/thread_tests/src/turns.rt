@@ -16,6 +16,9 @@ const CALLS: usize = 400;
 /// The numbers of the changes that are tried for until they win.
 const STUBBORN: usize = 16;
 
+/// How often one of these is tried for at most.
+const TRIES: u32 = 1 << 20;
+
 /// What came of a try.
 #[derive(Clone, Copy, Debug, PartialEq, Eq)]
 enum Tried {
@@ -61,11 +64,12 @@ fn put_stubbornly(
     requires { (desk.now ≡ cache.now) × (pass.old.of ≡ cache.now) }
     ensures { pass.new.of ≡ pass.old.of }
 {
-    for _turn in 0..TURNS {
+    for _turn in 0..TRIES {
         let tried = try_put(cache, desk, pass, key, word);
         if tried != Tried::Held {
             return tried;
         }
+        thread::yield_now();
     }
     Tried::Held
 }
@@ -89,6 +93,11 @@ fn try_change(
     } else {
         try_put(cache, desk, pass, key, word)
     }
+}
+
+// Whether the change of this number was tried for stubbornly, and never came to its turn.
+fn is_lost(n: usize, tried: Tried) -> bool {
+    n % STUBBORN == 0 && tried == Tried::Held
 }
 
 /// What a thread was told by one try, and by the lookup after it.
@@ -122,6 +131,7 @@ impl Told {
 }
 
 /// Where threads wait for each other.
+#[derive(Drop)]
 struct Meeting {
     here: AtomicU64,
     due: u64,
@@ -194,6 +204,16 @@ impl Caller {
         true
     }
 
+    /// Whether a try of it was held.
+    pub fn was_held(&self) -> bool {
+        for told in self.told.as_slice() {
+            if told.tried == Tried::Held {
+                return true;
+            }
+        }
+        false
+    }
+
     /// Whether all came together, its answers are true of the history, their moments don't fall, and whatever it tried for
     /// stubbornly came to its turn.
     pub fn was_told_the_truth(&self, history: &[Change<1>]) -> bool {
@@ -204,8 +224,7 @@ impl Caller {
                 return false;
             };
             last = at;
-            let lost = n % STUBBORN == 0 && told[n].tried == Tried::Held;
-            if lost || !is_true(history, told[n].key, told[n].reply) {
+            if is_lost(n, told[n].tried) || !is_true(history, told[n].key, told[n].reply) {
                 return false;
             }
         }
@@ -213,7 +232,7 @@ impl Caller {
     }
 }
 
-// One try and one lookup for each place.
+// One try and one lookup for each place. Ends where a change was tried for stubbornly, and lost.
 fn call_each(
     cache: &Cache<1>,
     desk: &Desk<1>,
@@ -234,6 +253,9 @@ fn call_each(
         };
         let reply = pass.get_or_desk(cache, desk, key);
         told[n] = Told { tried, key, reply };
+        if is_lost(n, tried) {
+            return;
+        }
     }
 }
 

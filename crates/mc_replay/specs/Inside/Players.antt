@@ -19,7 +19,7 @@ use Rattle.mc_replay.specs.declared.fault.Fault.TheVariants.{ReadFailed, NoMemor
 use Rattle.mc_replay.specs.declared.player.Call as asked
 use Rattle.mc_replay.specs.declared.player.Call.TheVariants as asked_as
 use Rattle.mc_replay.specs.declared.player.Player.{Player}
-use Rattle.mc_replay.specs.Replay.{Replay, Pending, pending, WriterMakes, LooksUp, ActDoes}
+use Rattle.mc_replay.specs.Replay.{Replay, Scene, Pending, pending, WriterMakes, LooksUp, ActDoes}
 use Rattle.mc_words.specs.Readers.{HasReaders}
 
 abbrev pub shape_of_player : {V : ℕ} → Player V → Shape
@@ -27,11 +27,19 @@ shape_of_player player = player.world.shape
 
 -- how many events one line has at most
 abbrev pub most_steps : ℕ
-most_steps = 2 ^ 24 - 1
+most_steps = 2 ^ 23 + 64
 
--- how many events there are at most before so many lines are done
+-- how many entries a table has at most
+abbrev pub most_entries : ℕ
+most_entries = 2 ^ 22
+
+-- how many events there are at most when they are put into another world
+abbrev pub most_loading : ℕ
+most_loading = most_entries * most_steps
+
+-- how many events there are at most in a world before so many lines are done
 abbrev pub most_before : ℕ → ℕ
-most_before lines = lines * most_steps
+most_before lines = most_loading + lines * most_steps
 
 -- how many accesses one lookup makes at most, in as many tries as there can be, of as many words as an item can have
 abbrev pub most_accesses : ℕ
@@ -86,6 +94,7 @@ abbrev pub call_of : {V : ℕ} → asked.Call V → Call
 call_of (asked_as.Put k v) = whole.PutCall k v
 call_of (asked_as.PutIf k since v) = whole.PutIfCall k since v
 call_of (asked_as.Remove k) = whole.RemoveCall k
+call_of (asked_as.PutKept k v) = whole.KeptCall k v
 
 -- a call began, or is answered where it needs no act
 abbrev pub BeginsAs : (V : ℕ) → Shape → Player V → ℕ → Call → Trace V → Option Answer → Type 0
@@ -160,7 +169,7 @@ bit_given (stepped.Word bit) = bit
 bit_given given = 0
 
 -- what was done and written, or the fault; where memory was wanting nothing is said
-abbrev pub DoneAs : {V : ℕ} → (List ℕ → Option Fault → Replay V → Type 0) → List ℕ → Replay V → Result (Unit {0}) Fault → Type 0
+abbrev pub DoneAs : {A : Type 0} → (List ℕ → Option Fault → A → Type 0) → List ℕ → A → Result (Unit {0}) Fault → Type 0
 DoneAs P text t (Ok u) = P text None t
 DoneAs P text t (Err NoMemory) = Unit {0}
 DoneAs P text t (Err ReadFailed) = ⊥
@@ -170,6 +179,10 @@ DoneAs P text t (Err fault) = P text (Some fault) t
 -- the player is this replay, over a table of the same shape
 abbrev pub FitsStill : (V : ℕ) → Player V → Player V → ℕ → Replay V → Type 0
 FitsStill V old new most t = (shape_of_player new ≡ shape_of_player old) × Fits V new most t
+
+-- the player is this replay, over a table of this shape
+abbrev pub FitsScene : (V : ℕ) → Player V → ℕ → Scene V → Type 0
+FitsScene V player most s = (shape_of_player player ≡ s.shape) × Fits V player most s.now
 
 -- whatever replay the player was, it leads on as P says
 abbrev pub DoesBy : (V : ℕ) → Player V → Player V → List ℕ → Result (Unit {0}) Fault → (Shape → Replay V → List ℕ → Option Fault → Replay V → Type 0) → Type 0

@@ -4,7 +4,7 @@ use Rattle.std.specs.Str.{bytes_eq}
 use Rattle.mc_script.specs.declared.command.LineFault.{LineFault}
 use Rattle.mc_script.specs.declared.command.LineFault.TheVariants.{NotACommand, BadNumber}
 use Rattle.mc_script.specs.declared.command.Command.{Command}
-use Rattle.mc_script.specs.declared.command.Command.TheVariants.{Put, PutIf, Remove, Get, Stamp, BeginPut, BeginPutIf, BeginRemove, Write, BeginGet, Read}
+use Rattle.mc_script.specs.declared.command.Command.TheVariants.{Put, PutIf, Remove, Get, Stamp, BeginPut, BeginPutIf, BeginRemove, Write, BeginGet, Read, Reopen}
 use Rattle.mc_script.specs.Inside.Numbers.{numbers_in}
 
 -- the command that is made of a line's numbers
@@ -84,4 +84,5 @@ form_in v name words =
     else if bytes_eq name (codes "begin") then begin_in v words
     else if bytes_eq name (codes "w") then write_in v words
     else if bytes_eq name (codes "r") then read_in v words
+    else if bytes_eq name (codes "reopen") then command_from (λ numbers. Reopen (slice_index numbers 0) (slice_index numbers 1)) (numbers_in 2 words)
     else Err NotACommand

@@ -1,77 +1,33 @@
-use Rattle.std.proofs.Common.{List, string_bytes, subst, sym, rules}
-use Rattle.std.specs.Prelude.{ℕ}
+use Rattle.std.proofs.Common.{◌+◌, ◌∙◌, arith, refl, sym, subst, string_bytes}
+use Rattle.mc_words.specs.declared.shape.Shape.{Shape}
 use Rattle.mc_script.specs.declared.command.Command.{Command}
-use Rattle.mc_script.specs.declared.command.Command.TheVariants.{BeginGet}
-use Rattle.mc_replay.specs.Inside.Players.{DoesBy}
-use Rattle.mc_replay.specs.Replay.{Does}
 use Rattle.mc_replay.specs.declared.player.Player.{Player}
-use Rattle.mc_replay.proofs.CommandLines.{still_running}
+use Rattle.mc_replay.specs.Replay.{CommandDoes, Does}
+use Rattle.mc_replay.specs.Inside.Players.{DoneAs, most_steps, shape_of_player}
+use Rattle.mc_replay.proofs.SceneLines.{fits_wider, is_reopen, stays_done, staying, still_fits}
+use Rattle.mc_replay.proofs.ReaderLines.{player_room, width_can}
 use Rattle.mc_replay.proofs.command.do_command.Goals as goal
 
--- The calls are not named, so that a body that makes another one is refused for what that one does.
-pub returns-in-Put-false : goal.returns-in-Put-false
-returns-in-Put-false g c = rw c.in-Put-false.is-0 (search rules)
+pub returns-in-Some : goal.returns-in-Some
+returns-in-Some g c = λ most s room more fits.
+    let did = c.reopen.ensures.does most s fits in
+    let is = is_reopen c.args.command c.in-Some.buckets c.in-Some.items (sym c.sizes_of.ensures ∙ c.in-Some.is) in (
+      did.0,
+      subst (λ (x : Command g.row.V). DoneAs (CommandDoes s x) (string_bytes c.reopen.new.text) did.0 c.reopen.result) (sym is) did.1,
+      fits_wider g.row.V c.reopen.new.player most did.0 c.reopen.result more did.2,
+    )
 
-pub returns-in-Remove-false : goal.returns-in-Remove-false
-returns-in-Remove-false g c = rw c.in-Remove-false.is-0 (search rules)
-
-pub returns-in-Get-false : goal.returns-in-Get-false
-returns-in-Get-false g c = rw c.in-Get-false.is-0 (search rules)
-
-pub returns-in-BeginPut-false : goal.returns-in-BeginPut-false
-returns-in-BeginPut-false g c = rw c.in-BeginPut-false.is-0 (search rules)
-
-pub returns-in-BeginRemove-false : goal.returns-in-BeginRemove-false
-returns-in-BeginRemove-false g c = rw c.in-BeginRemove-false.is-0 (search rules)
-
-pub returns-in-PutIf-false : goal.returns-in-PutIf-false
-returns-in-PutIf-false g c = rw c.in-PutIf-false.is-0 (search rules)
-
-pub returns-in-Stamp-false : goal.returns-in-Stamp-false
-returns-in-Stamp-false g c = rw c.in-Stamp-false.is-0 (search rules)
-
-pub returns-in-BeginPutIf-false : goal.returns-in-BeginPutIf-false
-returns-in-BeginPutIf-false g c = rw c.in-BeginPutIf-false.is-0 (search rules)
-
-pub returns-in-Read-default : goal.returns-in-Read-default
-returns-in-Read-default g c = rw c.in-Read-default.is-0 (search rules)
-
-pub returns-in-BeginGet-default : goal.returns-in-BeginGet-default
-returns-in-BeginGet-default g c =
+pub returns-in-None : goal.returns-in-None
+returns-in-None g c = λ most s room more fits.
     let old : Player g.row.V = c.args.player.now in
-    let new : Player g.row.V = c.begin_get.new.player in
-    subst (λ (x : Command g.row.V). DoesBy g.row.V old new (string_bytes c.args.text.now) c.begin_get.result (λ sh s. Does sh s x)) (sym c.in-BeginGet-default.is-0)
-    (subst (λ (t : List ℕ). DoesBy g.row.V old new t c.begin_get.result (λ sh s. Does sh s (BeginGet c.in-BeginGet-default.reader c.in-BeginGet-default.key))) (sym c.requires.0) c.begin_get.ensures)
+    let did = c.do_here.ensures most s.now room fits.1 in
+    let does = subst (λ (sh : Shape). DoneAs (Does sh s.now c.args.command) (string_bytes c.do_here.new.text) did.0 c.do_here.result) fits.0 did.1 in (
+      staying s did.0,
+      stays_done s c.args.command (string_bytes c.do_here.new.text) did.0 c.do_here.result (sym c.sizes_of.ensures ∙ c.in-None.is) does,
+      still_fits g.row.V old c.do_here.new.player s (most + most_steps) did.0 c.do_here.result fits.0 did.2,
+    )
 
--- a call runs: each of the eight commands that start one, or look up, is refused
-pub returns-in_default-true : goal.returns-in_default-true
-returns-in_default-true g c = λ most s room fits.
-    (s, rw c.in_default-true.is-0 (still_running g.row.V c.args.player.now most s (string_bytes c.args.text.now) _ fits (sym c.in_default-true.ensures) c.requires.0), tt)
-
-pub returns-in_default-true-2 : goal.returns-in_default-true-2
-returns-in_default-true-2 g c = λ most s room fits.
-    (s, rw c.in_default-true.is-0 (still_running g.row.V c.args.player.now most s (string_bytes c.args.text.now) _ fits (sym c.in_default-true.ensures) c.requires.0), tt)
-
-pub returns-in_default-true-3 : goal.returns-in_default-true-3
-returns-in_default-true-3 g c = λ most s room fits.
-    (s, rw c.in_default-true.is-0 (still_running g.row.V c.args.player.now most s (string_bytes c.args.text.now) _ fits (sym c.in_default-true.ensures) c.requires.0), tt)
-
-pub returns-in_default-true-4 : goal.returns-in_default-true-4
-returns-in_default-true-4 g c = λ most s room fits.
-    (s, rw c.in_default-true.is-0 (still_running g.row.V c.args.player.now most s (string_bytes c.args.text.now) _ fits (sym c.in_default-true.ensures) c.requires.0), tt)
-
-pub returns-in_default-true-5 : goal.returns-in_default-true-5
-returns-in_default-true-5 g c = λ most s room fits.
-    (s, rw c.in_default-true.is-0 (still_running g.row.V c.args.player.now most s (string_bytes c.args.text.now) _ fits (sym c.in_default-true.ensures) c.requires.0), tt)
-
-pub returns-in_default-true-6 : goal.returns-in_default-true-6
-returns-in_default-true-6 g c = λ most s room fits.
-    (s, rw c.in_default-true.is-0 (still_running g.row.V c.args.player.now most s (string_bytes c.args.text.now) _ fits (sym c.in_default-true.ensures) c.requires.0), tt)
-
-pub returns-in_default-true-7 : goal.returns-in_default-true-7
-returns-in_default-true-7 g c = λ most s room fits.
-    (s, rw c.in_default-true.is-0 (still_running g.row.V c.args.player.now most s (string_bytes c.args.text.now) _ fits (sym c.in_default-true.ensures) c.requires.0), tt)
-
-pub returns-in_default-true-8 : goal.returns-in_default-true-8
-returns-in_default-true-8 g c = λ most s room fits.
-    (s, rw c.in_default-true.is-0 (still_running g.row.V c.args.player.now most s (string_bytes c.args.text.now) _ fits (sym c.in_default-true.ensures) c.requires.0), tt)
+pub reopen-requires : goal.reopen-requires
+reopen-requires g c =
+    let width = width_can g.row.V c.args.player.now (string_bytes c.args.text.now) c.requires in
+    (player_room _ _ (omega (arith, width)) (omega (arith, width)), (c.requires.0, (c.requires.1.0, record { shape = shape_of_player {V = g.row.V} c.args.player.now; now = c.requires.1.1 }, (refl, c.requires.1.3))))

@@ -1,14 +1,14 @@
 use Rattle.std.proofs.Common.{◌≡◌, arith, refl, ap, sym, subst}
 use Rattle.mc_theory.specs.Lists.{state_of}
 use Rattle.mc_theory.specs.States.{State}
-use Rattle.mc_plan.specs.WholeCalls.{PutCall, PutIfCall, RemoveCall}
+use Rattle.mc_plan.specs.WholeCalls.{PutCall, PutIfCall, RemoveCall, KeptCall}
 use Rattle.mc_replay.specs.Inside.Players.{shape_of_player, call_of, IsInCall}
 use Rattle.mc_replay.specs.Replay.{pending}
 use Rattle.mc_replay.specs.declared.player.Call.{Call}
 use Rattle.mc_replay.specs.declared.player.Player.{Player}
 use Rattle.mc_replay.proofs.WriterCalls.{begun, begins_as, TellsAs}
 use Rattle.mc_replay.proofs.player.Player.begin.Goals as goal
-use Rattle.mc_replay.proofs.player.Player.begin.Goals.{in-Put, in-PutIf, in-Remove}
+use Rattle.mc_replay.proofs.player.Player.begin.Goals.{in-Put, in-PutIf, in-Remove, in-PutKept}
 
 pub returns : goal.returns
 returns g c = λ most w idle.
@@ -35,6 +35,12 @@ returns g c = λ most w idle.
           let on = b.remove.ensures.on s idle.knows words in
           let begins = begun g.row.V old removed most (RemoveCall b.in-Remove.key) w idle refl b.remove.ensures.shape on (omega (arith, b.remove.ensures.left)) in
           subst (λ (m : Player g.row.V). (shape_of_player m ≡ shape_of_player old) × IsInCall g.row.V m most (pending (call_of c.args.call) s) w) (sym b.self-is) (refl, subst (λ (x : Call g.row.V). IsInCall g.row.V removed most (pending (call_of x) s) w) (sym b.in-Remove.is) begins)
+          )
+      | in-PutKept b ↦ (
+          let put : Player g.row.V = record { world = old.world; clerk = b.put_kept.new.self } in
+          let on = b.put_kept.ensures.on s idle.knows words in
+          let begins = begun g.row.V old put most (KeptCall b.in-PutKept.key b.in-PutKept.value) w idle refl b.put_kept.ensures.shape on (omega (arith, b.put_kept.ensures.left)) in
+          subst (λ (m : Player g.row.V). (shape_of_player m ≡ shape_of_player old) × IsInCall g.row.V m most (pending (call_of c.args.call) s) w) (sym b.self-is) (refl, subst (λ (x : Call g.row.V). IsInCall g.row.V put most (pending (call_of x) s) w) (sym b.in-PutKept.is) begins)
           )
     ] in
     let tells : TellsAs g.row.V mid new c.answer.result = record { world = refl; shape = c.answer.ensures.shape; ends = c.answer.ensures.some; some = c.answer.ensures.told; none = c.answer.ensures.none } in
