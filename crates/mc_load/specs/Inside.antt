@@ -1,1 +1,2 @@
 pub mod Histograms
+pub mod Told

@@ -1,5 +1,5 @@
 -- What the program `mcload` writes and tells, and its exit status.
-use Rattle.std.specs.Prelude.{◌≡◌, ◌≢◌, ◌+◌, ◌==◌, ℕ, ◌⊎◌, ◌++◌, ◌∷◌, Bool, false, List, [], take, codes, if◌then◌else◌}
+use Rattle.std.specs.Prelude.{◌≡◌, ◌≢◌, ◌+◌, ◌==◌, ◌&&◌, ℕ, ◌⊎◌, ◌++◌, ◌∷◌, Bool, false, List, [], take, codes, if◌then◌else◌}
 use Rattle.std.specs.Fmt.{decimal}
 use Rattle.std.specs.Io.KnownBytes.{Appends}
 use Rattle.clap.specs.declared.error.kind.ErrorKind.{ErrorKind}
@@ -7,23 +7,29 @@ use Rattle.clap.specs.declared.error.kind.ErrorKind.TheVariants as kind
 use Rattle.mc_options.specs.LoadOptions.{GivesLoad, HasLoadFault, SaysNoLoad}
 use Rattle.mc_options.specs.declared.load_options.LoadOptions.{LoadOptions}
 use Rattle.mc_cache.specs.declared.opening.OpenError.TheVariants as opening
+use Rattle.mc_workers.specs.DeskLoads.{RefusesTurns, ReportsTurns}
 use Rattle.mc_workers.specs.Loads.{RefusesLoad, Reports}
 use Rattle.mc_workers.specs.declared.asked.Load.{Load}
 use Rattle.mc_workers.specs.declared.error.LoadError.{LoadError}
 use Rattle.mc_workers.specs.declared.error.LoadError.TheVariants as error
 use Rattle.mc_workers.specs.declared.report.Report.{Report}
+use Rattle.mc_workers.specs.declared.turns.DeskReport.{DeskReport}
 use Rattle.mc_options.specs.Statuses.{failed, refused}
 use Rattle.mc_options.specs.Streams.{IsShort, IsUntouched, Prints, Stream, Tells}
 use Rattle.mc_options.specs.ShapeTexts.{shape_text}
 
--- whether the answers add up to the lookups
-abbrev pub sum_text : Report → List ℕ
-sum_text r = if r.found + r.absent + r.busy == r.lookups then codes "ok" else codes "bad"
-
 -- the four lines of a report, without the last one's end
+abbrev pub lines_text : (lookups writes : ℕ) → Bool → (wrong : ℕ) → List ℕ
+lines_text lookups writes sum wrong =
+    codes "lookups " ++ decimal lookups ++ codes "\nwrites " ++ decimal writes ++ codes "\nsum " ++ (if sum then codes "ok" else codes "bad") ++ codes "\nwrong " ++ decimal wrong
+
+-- the sum is of the answers
 abbrev pub report_text : Report → List ℕ
-report_text r =
-    codes "lookups " ++ decimal r.lookups ++ codes "\nwrites " ++ decimal r.writes ++ codes "\nsum " ++ sum_text r ++ codes "\nwrong " ++ decimal r.wrong
+report_text r = lines_text r.lookups r.writes (r.found + r.absent + r.busy == r.lookups) r.wrong
+
+-- of the answers, and of the tries
+abbrev pub turns_text : DeskReport → List ℕ
+turns_text r = lines_text r.lookups r.calls ((r.found + r.absent + r.busy == r.lookups) && (r.held + r.answered == r.calls)) r.wrong
 
 -- what is told of a load that is refused
 abbrev pub load_text : LoadError → List ℕ
@@ -31,6 +37,7 @@ load_text (error.Open (opening.Shape why)) = shape_text why
 load_text (error.Open opening.Readers) = codes "readers must be from 1 to 1024"
 load_text (error.Open opening.NoMemory) = codes "no memory"
 load_text error.NoMemory = codes "no memory"
+load_text error.Writers = codes "writers must be from 1 to 8"
 load_text error.Keys = codes "keys must be from 1 to 4294967296"
 load_text (error.Gate who call) = codes "gate"
 
@@ -40,6 +47,7 @@ load_status (error.Open (opening.Shape why)) = refused
 load_status (error.Open opening.Readers) = refused
 load_status (error.Open opening.NoMemory) = failed
 load_status error.NoMemory = failed
+load_status error.Writers = refused
 load_status error.Keys = refused
 load_status (error.Gate who call) = failed
 
@@ -56,14 +64,23 @@ WritesLines asked output text status =
 abbrev pub WritesReport : LoadOptions → Stream → Stream → ℕ → Type 0
 WritesReport o output errors status = (r : Report) × Reports 4 (load_of o) r × WritesLines o.histogram output (report_text r) status × IsUntouched errors
 
--- the load is refused, though not by its gate, which lets every call through
+-- so was a load whose writers take turns
+abbrev pub WritesTurns : LoadOptions → Stream → Stream → ℕ → Type 0
+WritesTurns o output errors status = (r : DeskReport) × ReportsTurns (load_of o) o.writers r × WritesLines o.histogram output (turns_text r) status × IsUntouched errors
+
+-- why a load is refused, though not by its gate, which lets every call through
+abbrev pub IsRefused : LoadOptions → LoadError → Type 0
+IsRefused o why = ((o.writers ≡ 1) × RefusesLoad (λ who call. ⊥) (load_of o) why) ⊎ ((o.writers ≢ 1) × RefusesTurns (λ who call. ⊥) (load_of o) o.writers why)
+
+-- the refusal is told
 abbrev pub TellsRefusal : LoadOptions → Stream → Stream → ℕ → Type 0
 TellsRefusal o output errors status =
-    (why : LoadError) × RefusesLoad (λ who call. ⊥) (load_of o) why × IsUntouched output × Tells errors (codes "refused: " ++ load_text why) × (status ≡ load_status why)
+    (why : LoadError) × IsRefused o why × IsUntouched output × Tells errors (codes "refused: " ++ load_text why) × (status ≡ load_status why)
 
--- a load with these options
+-- a load with these options: one writer has the cache for itself, several take turns
 abbrev pub RunsLoad : LoadOptions → Stream → Stream → ℕ → Type 0
-RunsLoad o output errors status = WritesReport o output errors status ⊎ TellsRefusal o output errors status
+RunsLoad o output errors status =
+    ((o.writers ≡ 1) × WritesReport o output errors status) ⊎ ((o.writers ≢ 1) × WritesTurns o output errors status) ⊎ TellsRefusal o output errors status
 
 -- the words have a fault that is neither help nor version
 abbrev pub IsLoadFaulty : List (List ℕ) → Type 0

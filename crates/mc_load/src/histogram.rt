@@ -1,22 +1,31 @@
 //! What `mcload` prints of how its workers fared.
-use mc_workers::{Figures, Meter};
+use mc_workers::{Figures, Meter, Turns};
 use std::alloc::Global;
 use std::fmt;
 use std::fmt::{Display, Write as _};
 
+/// Whose line it is.
+#[derive(Clone, Copy)]
+enum Worker {
+    Writer,
+    Reader(u32),
+    /// One of several writers, and what came of its tries.
+    Trying(u32, Turns),
+}
+
 /// One worker's line.
 #[derive(Clone, Copy)]
 struct Row {
-    who: u32,
+    worker: Worker,
     figures: Figures,
 }
 
 impl Display for Row {
     fn fmt<W: fmt::Write>(&self, f: &mut fmt::Formatter<W>) -> fmt::Result {
-        if self.who == 0 {
-            write!(f, "writer")?;
-        } else {
-            write!(f, "reader {}", self.who - 1)?;
+        match self.worker {
+            Worker::Writer => write!(f, "writer")?,
+            Worker::Reader(number) => write!(f, "reader {number}")?,
+            Worker::Trying(number, _) => write!(f, "writer {number}")?,
         }
         let Figures {
             calls_a_second,
@@ -27,26 +36,47 @@ impl Display for Row {
             f,
             " calls/s {calls_a_second} busy {busy} behind {} {} {} {} {}",
             behind[0], behind[1], behind[2], behind[3], behind[4]
-        )
+        )?;
+        match self.worker {
+            Worker::Trying(_, turns) => {
+                write!(f, " held {} answered {}", turns.held, turns.answered)
+            }
+            _ => Ok(()),
+        }
     }
 }
 
-/// A line for the writer and one for each reader: calls a second, answers without a moment, and how many answers were how many
-/// changes behind the newest.
+/// The worker of this number, of so many readers. Where several writers took turns, this is what came of their tries.
+fn worker_of(who: u32, readers: u32, turns: &[Turns]) -> Worker {
+    if 0 < who && who <= readers {
+        return Worker::Reader(who - 1);
+    }
+    let number = who.saturating_sub(readers);
+    match turns.get(number as usize) {
+        Some(tried) => Worker::Trying(number, *tried),
+        None => Worker::Writer,
+    }
+}
+
+/// A line for each worker: calls a second, answers without a moment, and how many answers were how many changes behind the
+/// newest; of several writers also how many of its tries were held and answered.
 pub(crate) fn histogram<C>(
     alloc: Global,
     meter: &Meter<'_, C>,
-    readers: u32,
+    turns: &[Turns],
 ) -> Result<String, fmt::Error> {
     let mut text = String::new(alloc);
     writeln!(
         text,
         "changes behind: 0, 1 to 9, 10 to 99, 100 to 999, more"
     )?;
-    for who in 0..=readers {
-        if let Some(figures) = meter.figures(who as usize) {
-            writeln!(text, "{}", Row { who, figures })?;
-        }
+    let readers = meter.readers();
+    for who in 0..u32::MAX {
+        let Some(figures) = meter.figures(who as usize) else {
+            break;
+        };
+        let worker = worker_of(who, readers, turns);
+        writeln!(text, "{}", Row { worker, figures })?;
     }
     Ok(text)
 }

@@ -1,16 +1,19 @@
 //! The whole program `mcload`, over any streams.
-ghost use Rattle.std.specs.Prelude.{◌≡◌, ◌++◌, codes, false, map, true};
+ghost use Rattle.std.specs.Prelude.{◌≡◌, ◌≢◌, ◌++◌, codes, false, map, true};
 ghost use Rattle.mc_options.specs.Streams.{Tells, stream};
 ghost use Rattle.mc_workers.specs.Loads.{MayAskAtOnce};
-ghost use Rattle.mc_load.specs.LoadPrograms.{Loads, RunsLoad, WritesLines, load_of, load_status, load_text, report_text};
+ghost use Rattle.mc_load.specs.LoadPrograms.{Loads, RunsLoad, WritesLines, load_of, load_status, load_text};
 ghost use Rattle.mc_load.specs.Inside.Histograms.{AppendsSome};
+ghost use Rattle.mc_load.specs.Inside.Told.{text_of};
 
 use crate::histogram::histogram;
 use crate::load_told::{Lines, LoadRefusal};
 use mc_options::{FAILED, LoadOptions, REFUSED, load_options_of, tell, tell_fault};
 use mc_script::send;
 use mc_words::MOST_READERS;
-use mc_workers::{Free, Load, LoadError, Meter, OpenError, Report, load_many};
+use mc_workers::{
+    Free, Load, LoadError, MOST_WRITERS, Meter, OpenError, Turns, load_desk, load_many, run_desk,
+};
 use std::alloc::Global;
 use std::convert::AsStr;
 use std::fmt::{InlineText, Write as _};
@@ -22,11 +25,11 @@ use std::time::Clock;
 const ROOM: usize = 128;
 
 /// Writes the lines of a report. 3 where a write failed.
-fn write_report<W: Write>(output: &mut W, report: Report) -> u8
-    ensures { WritesLines false (stream (W.contents output.old) (W.contents output.new)) (report_text report) result }
+fn write_report<W: Write>(output: &mut W, told: Lines) -> u8
+    ensures { WritesLines false (stream (W.contents output.old) (W.contents output.new)) (text_of told) result }
 {
     let mut lines = InlineText::<ROOM>::new();
-    if writeln!(lines, "{}", Lines(report)).is_err() {
+    if writeln!(lines, "{told}").is_err() {
         return FAILED;
     }
     let (_, all) = send(output, lines.as_str().as_bytes());
@@ -38,11 +41,11 @@ fn write_histogram<W: Write, C>(
     alloc: Global,
     output: &mut W,
     meter: &Meter<'_, C>,
-    readers: u32,
+    turns: &[Turns],
 ) -> u8
     ensures { AppendsSome (stream (W.contents output.old) (W.contents output.new)) result }
 {
-    let Ok(text) = histogram(alloc, meter, readers) else {
+    let Ok(text) = histogram(alloc, meter, turns) else {
         return FAILED;
     };
     let (_, all) = send(output, text.as_bytes());
@@ -53,15 +56,15 @@ fn write_histogram<W: Write, C>(
 fn write_measured<W: Write, C>(
     alloc: Global,
     output: &mut W,
-    report: Report,
+    told: Lines,
     meter: &Meter<'_, C>,
-    readers: u32,
+    turns: &[Turns],
 ) -> u8
-    ensures { WritesLines true (stream (W.contents output.old) (W.contents output.new)) (report_text report) result }
+    ensures { WritesLines true (stream (W.contents output.old) (W.contents output.new)) (text_of told) result }
 {
-    let status = write_report(output, report);
+    let status = write_report(output, told);
     if status == 0 {
-        write_histogram(alloc, output, meter, readers)
+        write_histogram(alloc, output, meter, turns)
     } else {
         status
     }
@@ -72,7 +75,9 @@ fn status_of(why: LoadError) -> u8
     ensures { result ≡ load_status why }
 {
     match why {
-        LoadError::Keys | LoadError::Open(OpenError::Shape(_) | OpenError::Readers) => REFUSED,
+        LoadError::Writers
+        | LoadError::Keys
+        | LoadError::Open(OpenError::Shape(_) | OpenError::Readers) => REFUSED,
         LoadError::NoMemory | LoadError::Open(OpenError::NoMemory) | LoadError::Gate { .. } => {
             FAILED
         }
@@ -111,7 +116,7 @@ fn refuse<E: Write>(errors: &mut E, why: LoadError) -> u8
     status_of(why)
 }
 
-/// Runs a load and writes its report.
+/// Runs a load with one writer and writes its report.
 fn run_plain<R: Threads + Sync, W: Write, E: Write>(
     rt: &R,
     alloc: Global,
@@ -119,11 +124,12 @@ fn run_plain<R: Threads + Sync, W: Write, E: Write>(
     output: &mut W,
     errors: &mut E,
 ) -> u8
+    requires one { options.writers ≡ 1 }
     requires many { MayAskAtOnce options.many }
     ensures { RunsLoad options (stream (W.contents output.old) (W.contents output.new)) (stream (E.contents errors.old) (E.contents errors.new)) result }
 {
     match load_many::<4, R, Free>(rt, alloc, load_for(options), &Free, options.many) {
-        Ok(report) => write_report(output, report),
+        Ok(report) => write_report(output, Lines::of(report)),
         Err(why) => refuse(errors, why),
     }
 }
@@ -138,12 +144,82 @@ fn run_measured<R: Threads + Sync + Clock, W: Write, E: Write>(
     errors: &mut E,
 ) -> u8
     requires histogram { options.histogram ≡ true }
+    requires one { options.writers ≡ 1 }
     requires many { MayAskAtOnce options.many }
     ensures { RunsLoad options (stream (W.contents output.old) (W.contents output.new)) (stream (E.contents errors.old) (E.contents errors.new)) result }
 {
     match load_many::<4, R, Meter<'_, R>>(rt, alloc, load_for(options), meter, options.many) {
-        Ok(report) => write_measured(alloc, output, report, meter, options.readers),
+        Ok(report) => write_measured(alloc, output, Lines::of(report), meter, &[]),
         Err(why) => refuse(errors, why),
+    }
+}
+
+/// Runs a load whose writers take turns, and writes its report.
+fn run_turns<R: Threads + Sync, W: Write, E: Write>(
+    rt: &R,
+    alloc: Global,
+    options: LoadOptions,
+    output: &mut W,
+    errors: &mut E,
+) -> u8
+    requires several { options.writers ≢ 1 }
+    ensures { RunsLoad options (stream (W.contents output.old) (W.contents output.new)) (stream (E.contents errors.old) (E.contents errors.new)) result }
+{
+    match load_desk::<4, R, Free>(rt, alloc, load_for(options), options.writers, &Free) {
+        Ok(report) => write_report(output, Lines::of_turns(report)),
+        Err(why) => refuse(errors, why),
+    }
+}
+
+/// The same with a meter for a gate, whose figures are written too.
+fn run_turns_measured<R: Threads + Sync + Clock, W: Write, E: Write>(
+    rt: &R,
+    alloc: Global,
+    options: LoadOptions,
+    meter: &Meter<'_, R>,
+    output: &mut W,
+    errors: &mut E,
+) -> u8
+    requires several { options.writers ≢ 1 }
+    requires histogram { options.histogram ≡ true }
+    ensures { RunsLoad options (stream (W.contents output.old) (W.contents output.new)) (stream (E.contents errors.old) (E.contents errors.new)) result }
+{
+    match run_desk::<4, R, Meter<'_, R>>(rt, alloc, load_for(options), options.writers, meter) {
+        Ok(run) => {
+            let told = Lines::of_turns(run.report);
+            write_measured(alloc, output, told, meter, &run.turns)
+        }
+        Err(why) => refuse(errors, why),
+    }
+}
+
+/// Runs what the options ask for.
+fn run_for<R: Threads + Sync + Clock, W: Write, E: Write>(
+    rt: &R,
+    alloc: Global,
+    options: LoadOptions,
+    output: &mut W,
+    errors: &mut E,
+) -> u8
+    requires many { MayAskAtOnce options.many }
+    ensures { RunsLoad options (stream (W.contents output.old) (W.contents output.new)) (stream (E.contents errors.old) (E.contents errors.new)) result }
+{
+    let several = options.writers != 1;
+    if options.histogram {
+        let readers = options.readers.min(MOST_READERS);
+        let writers = options.writers.min(MOST_WRITERS as u32);
+        if let Ok(meter) = Meter::new(alloc, rt, readers, writers) {
+            return if several {
+                run_turns_measured(rt, alloc, options, &meter, output, errors)
+            } else {
+                run_measured(rt, alloc, options, &meter, output, errors)
+            };
+        }
+    }
+    if several {
+        run_turns(rt, alloc, options, output, errors)
+    } else {
+        run_plain(rt, alloc, options, output, errors)
     }
 }
 
@@ -165,10 +241,5 @@ pub fn run_load<S: AsStr, R: Threads + Sync + Clock, W: Write, E: Write>(
         Ok(options) => options,
         Err(error) => return tell_fault(error, output, errors),
     };
-    if options.histogram {
-        if let Ok(meter) = Meter::new(alloc, rt, options.readers.min(MOST_READERS)) {
-            return run_measured(rt, alloc, options, &meter, output, errors);
-        }
-    }
-    run_plain(rt, alloc, options, output, errors)
+    run_for(rt, alloc, options, output, errors)
 }

@@ -1,9 +1,10 @@
 //! What `mcload` writes, and what it tells on standard error.
 ghost use Rattle.std.specs.Prelude.{◌≡◌, ◌+◌, ◌==◌, ◌++◌, Some, codes};
-ghost use Rattle.mc_load.specs.LoadPrograms.{load_text, report_text};
+ghost use Rattle.mc_load.specs.LoadPrograms.{load_text, report_text, turns_text};
+ghost use Rattle.mc_load.specs.Inside.Told.{text_of};
 
 use mc_options::Refusal;
-use mc_workers::{LoadError, OpenError, Report};
+use mc_workers::{DeskReport, LoadError, OpenError, Report};
 use std::fmt;
 use std::fmt::Display;
 
@@ -16,22 +17,51 @@ fn adds_up(found: u64, absent: u64, busy: u64, lookups: u64) -> bool
 
 /// The four lines of a report.
 #[derive(Clone, Copy)]
-pub(crate) struct Lines(pub(crate) Report);
+pub(crate) struct Lines {
+    lookups: u64,
+    writes: u64,
+    /// Whether the answers add up.
+    adds_up: bool,
+    wrong: u64,
+}
+
+impl Lines {
+    /// Of a load with one writer.
+    pub(crate) fn of(report: Report) -> Lines
+        ensures { text_of result ≡ report_text report }
+    {
+        Lines {
+            lookups: report.lookups,
+            writes: report.writes,
+            adds_up: adds_up(report.found, report.absent, report.busy, report.lookups),
+            wrong: report.wrong,
+        }
+    }
+
+    /// Of a load whose writers take turns.
+    pub(crate) fn of_turns(report: DeskReport) -> Lines
+        ensures { text_of result ≡ turns_text report }
+    {
+        let are_answers = adds_up(report.found, report.absent, report.busy, report.lookups);
+        let are_tries = adds_up(report.held, report.answered, 0, report.calls);
+        Lines {
+            lookups: report.lookups,
+            writes: report.calls,
+            adds_up: are_answers && are_tries,
+            wrong: report.wrong,
+        }
+    }
+}
 
 impl Display for Lines {
-    ghost output = { λ lines. Some (report_text lines.0) };
+    ghost output = { λ lines. Some (text_of lines) };
 
     fn fmt<W: fmt::Write>(&self, f: &mut fmt::Formatter<W>) -> fmt::Result {
-        let report = self.0;
-        let sum = if adds_up(report.found, report.absent, report.busy, report.lookups) {
-            "ok"
-        } else {
-            "bad"
-        };
+        let sum = if self.adds_up { "ok" } else { "bad" };
         write!(
             f,
             "lookups {}\nwrites {}\nsum {}\nwrong {}",
-            report.lookups, report.writes, sum, report.wrong
+            self.lookups, self.writes, sum, self.wrong
         )
     }
 }
@@ -52,6 +82,7 @@ impl Display for LoadRefusal {
             LoadError::Open(OpenError::NoMemory) | LoadError::NoMemory => {
                 write!(f, "refused: no memory")
             }
+            LoadError::Writers => write!(f, "refused: writers must be from 1 to 8"),
             LoadError::Keys => write!(f, "refused: keys must be from 1 to 4294967296"),
             LoadError::Gate { .. } => write!(f, "refused: gate"),
         }

@@ -23,7 +23,8 @@ pub struct LoadOptions {
     pub lookups: u32,
     /// Keys of each call of a reader, from 1 to 64.
     pub many: u32,
-    /// Calls of the writer, at most 2^20.
+    pub writers: u32,
+    /// Calls of each writer, at most 2^20.
     pub writes: u32,
     pub keys: u64,
     pub seed: u64,
@@ -31,7 +32,7 @@ pub struct LoadOptions {
     pub histogram: bool,
 }
 
-/// The most lookups of a reader, and the most calls of the writer.
+/// The most lookups of a reader, and the most calls of a writer.
 const MOST_CALLS: u64 = 1_048_576;
 
 /// The most keys of a reader's call.
@@ -41,6 +42,7 @@ const MOST_AT_ONCE: u64 = 64;
 const RUNS: &str = "\
 One writer and the readers run in threads. The writer puts and removes keys that it draws, one call in eight a removal; each
 reader looks up keys that it draws. Then each answer is compared with what the map held at the answer's moment.
+Several writers share the cache by turns: each call is tried once, and what another's turn kept from it is counted too.
 
 Example:
   mcload run --readers 2 --keys 1000
@@ -67,7 +69,7 @@ fn shared_load_rows<'a>() -> [OptionRow<'a>; 8]
 }
 
 /// The other options of `mcload` that have values, in the order of its help.
-fn load_rows<'a>() -> [OptionRow<'a>; 5]
+fn load_rows<'a>() -> [OptionRow<'a>; 6]
     ensures { map row_rule result ≡ load_draws }
 {
     let word = value_parser!(u64);
@@ -83,13 +85,19 @@ fn load_rows<'a>() -> [OptionRow<'a>; 5]
             name: "many",
             takes: ValueParser::Signed(1, 64),
             default: "1",
-            help: "Keys that a reader looks up by one call, from 1 to 64",
+            help: "Keys that a reader looks up by one call, from 1 to 64, where there is one writer",
+        },
+        OptionRow {
+            name: "writers",
+            takes: ValueParser::Signed(0, 4_294_967_295),
+            default: "1",
+            help: "Writers, from 1 to 8; where there are several, they take turns",
         },
         OptionRow {
             name: "writes",
             takes: calls,
             default: "2000",
-            help: "Calls of the writer, from 0 to 1048576",
+            help: "Calls of each writer, from 0 to 1048576",
         },
         OptionRow {
             name: "keys",
@@ -170,6 +178,7 @@ fn load_options_in(matches: &ArgMatches) -> Result<LoadOptions, &'static str>
     let readers = number(matches, "readers", 0, MOST_SIZE)?;
     let lookups = number(matches, "lookups", 0, MOST_CALLS)?;
     let many = number(matches, "many", 1, MOST_AT_ONCE)?;
+    let writers = number(matches, "writers", 0, MOST_SIZE)?;
     let writes = number(matches, "writes", 0, MOST_CALLS)?;
     let keys = number(matches, "keys", 0, u64::MAX)?;
     let seed = number(matches, "seed", 0, u64::MAX)?;
@@ -178,6 +187,7 @@ fn load_options_in(matches: &ArgMatches) -> Result<LoadOptions, &'static str>
         readers: readers as u32,
         lookups: lookups as u32,
         many: many as u32,
+        writers: writers as u32,
         writes: writes as u32,
         keys,
         seed,

@@ -1,4 +1,8 @@
 pub mod Batches
+pub mod DeskLookups
+pub mod DeskRefusals
+pub mod DeskTurns
+pub mod Each
 pub mod Histories
 pub mod Readers
 pub mod FreshReaders

@@ -8,6 +8,7 @@ use Rattle.mc_words.specs.Readers.{HasReaders, most_readers}
 use Rattle.mc_words.specs.Shapes.{IsShape}
 use Rattle.mc_shared.specs.Records.{Opening}
 use Rattle.mc_workers.specs.Loads.{HasKeys, IsCall, RefusesLoad}
+use Rattle.mc_workers.proofs.Each.{each_front, each_last, each_more}
 use Rattle.mc_workers.specs.Inside.Parted.{AreFirst, AreRest}
 use Rattle.mc_workers.specs.Inside.Refusals.{AreRefusedBy, IsFirstRefusal, IsFirstRefused}
 use Rattle.mc_workers.specs.declared.asked.Load.{Load}
@@ -18,11 +19,7 @@ use Rattle.mc_workers.specs.Inside.Workers.{AreReady, AreWhole, HasEnded, HaveEn
 
 -- one reader more that may begin
 pub ready_more : {V : ℕ} (o : Opening) (load : Load) (ls : List (Looking V)) (x : Looking V) → AreReady V o load ls → IsReady V o load (length ls) x → AreReady V o load (ls ++ x ∷ [])
-ready_more {V} o load ls x all one = λ n d low.
-    below_more (λ (k : ℕ). (e : Looking V) → IsReady V o load k (get_or (ls ++ x ∷ []) k e)) (length ls)
-    (λ k under e. subst (IsReady V o load k) (sym (get_or_append_left ls (x ∷ []) e k under)) (all k e under))
-    (λ e. subst (IsReady V o load (length ls)) (sym (get_or-append_seam ls x [] e)) one)
-    n (omega (arith, low, length-append ls (x ∷ []))) d
+ready_more {V} o load ls x all one = each_more (IsReady V o load) ls x all one
 
 -- an element of a list that has some
 pub some_element : {X : Type 0} (xs : List X) (n : ℕ) → n < length xs → X
@@ -30,20 +27,16 @@ some_element [] n low = absurd (omega (arith, low))
 some_element (x ∷ xs) n low = x
 
 pub ended_front : {V : ℕ} (o : Opening) (k : Load) (all xs : List (Looking V)) (x : Looking V) → all ≡ xs ++ x ∷ [] → HaveEnded V o k all → HaveEnded V o k xs
-ended_front {V} o k all xs x e h = λ n d low.
-    subst (HasEnded V o k n) (ap (λ (z : List (Looking V)). get_or z n d) e ∙ get_or_append_left xs (x ∷ []) d n low) (h n d (omega (arith, ap length e, length-append xs (x ∷ []), low)))
+ended_front {V} o k all xs x e h = each_front (HasEnded V o k) all xs x e h
 
 pub ended_last : {V : ℕ} (o : Opening) (k : Load) (all xs : List (Looking V)) (x : Looking V) → all ≡ xs ++ x ∷ [] → HaveEnded V o k all → HasEnded V o k (length xs) x
-ended_last {V} o k all xs x e h =
-    subst (HasEnded V o k (length xs)) (ap (λ (z : List (Looking V)). get_or z (length xs) x) e ∙ get_or-append_seam xs x [] x) (h (length xs) x (omega (arith, ap length e, length-append xs (x ∷ []))))
+ended_last {V} o k all xs x e h = each_last (HasEnded V o k) all xs x e h
 
 pub whole_front : {V : ℕ} (all xs : List (Looking V)) (x : Looking V) → all ≡ xs ++ x ∷ [] → AreWhole all → AreWhole xs
-whole_front {V} all xs x e h = λ n d low.
-    subst (λ (l : Looking V). l.refused ≡ None) (ap (λ (z : List (Looking V)). get_or z n d) e ∙ get_or_append_left xs (x ∷ []) d n low) (h n d (omega (arith, ap length e, length-append xs (x ∷ []), low)))
+whole_front {V} all xs x e h = each_front (λ n (l : Looking V). l.refused ≡ None) all xs x e h
 
 pub whole_last : {V : ℕ} (all xs : List (Looking V)) (x : Looking V) → all ≡ xs ++ x ∷ [] → AreWhole all → x.refused ≡ None
-whole_last {V} all xs x e h =
-    subst (λ (l : Looking V). l.refused ≡ None) (ap (λ (z : List (Looking V)). get_or z (length xs) x) e ∙ get_or-append_seam xs x [] x) (h (length xs) x (omega (arith, ap length e, length-append xs (x ∷ []))))
+whole_last {V} all xs x e h = each_last (λ n (l : Looking V). l.refused ≡ None) all xs x e h
 
 -- an element less is left
 pub first_less : {X : Type 0} (all xs rest : List X) (x : X) → xs ≡ rest ++ x ∷ [] → AreFirst xs all → AreFirst rest all
@@ -69,14 +62,18 @@ pub few_lookups : (sum n k readers : ℕ) → readers ≤ most_readers → k < 2
 few_lookups sum n k readers few small e = omega (arith, e, mul-le-mul_right k few)
 
 -- the call that the gate refused is one of the reader's
-reader_call : {V : ℕ} (o : Opening) (may : ℕ → ℕ → Type 0) (load : Load) (ls : List (Looking V)) (n call who : ℕ) → length ls ≡ load.readers → HaveEnded V o load ls → AreRefusedBy may ls → who ≡ n + 1 → IsFirstRefused ls n call
-    → IsCall load who call × may who call
-reader_call {V} o may load ls n call who many ended by place r =
+pub reader_seat : {V : ℕ} (o : Opening) (may : ℕ → ℕ → Type 0) (load : Load) (ls : List (Looking V)) (n call who : ℕ) → length ls ≡ load.readers → HaveEnded V o load ls → AreRefusedBy may ls → who ≡ n + 1 → IsFirstRefused ls n call
+    → (1 ≤ call) × ((1 ≤ who) × (who ≤ load.readers) × (call ≤ load.lookups)) × may who call
+reader_seat {V} o may load ls n call who many ended by place r =
     let end = subst (HasEnded V o load n) (sym r.is) (ended n r.reader r.below) in
     let made : (1 ≤ call) × (call ≤ load.lookups) = subst (λ (x : Option ℕ). IfSome x (λ c. (1 ≤ c) × (c ≤ load.lookups))) r.refused end.refused in
     let mine = subst (λ (l : Looking V). IfSome l.refused (λ c. may (n + 1) c)) (sym r.is) (by n r.reader r.below) in
     let told : may (n + 1) call = subst (λ (x : Option ℕ). IfSome x (λ c. may (n + 1) c)) r.refused mine in
-    let low = r.below in ((made.0, inr (omega arith, omega (arith, many), made.1)), subst (λ (w : ℕ). may w call) (sym place) told)
+    let low = r.below in (made.0, (omega arith, omega (arith, many), made.1), subst (λ (w : ℕ). may w call) (sym place) told)
+
+reader_call : {V : ℕ} (o : Opening) (may : ℕ → ℕ → Type 0) (load : Load) (ls : List (Looking V)) (n call who : ℕ) → length ls ≡ load.readers → HaveEnded V o load ls → AreRefusedBy may ls → who ≡ n + 1 → IsFirstRefused ls n call
+    → IsCall load who call × may who call
+reader_call o may load ls n call who many ended by place r = let one = reader_seat o may load ls n call who many ended by place r in ((one.0, inr one.1), one.2)
 
 -- the gate's refusal is one of the load's
 pub refused_call : {V : ℕ} (o : Opening) (may : ℕ → ℕ → Type 0) (load : Load) (ls : List (Looking V)) (why : LoadError) → HasKeys load.keys → IsShape load.shape → HasReaders load.readers
@@ -86,6 +83,7 @@ refused_call o may load ls (error.Gate who call) keys shape readers many ended b
 refused_call o may load ls (error.Open x) keys shape readers many ended by r = absurd r
 refused_call o may load ls error.NoMemory keys shape readers many ended by r = absurd r
 refused_call o may load ls error.Keys keys shape readers many ended by r = absurd r
+refused_call o may load ls error.Writers keys shape readers many ended by r = absurd r
 
 -- what no gate refuses is refused whatever the gate may refuse
 pub refused_by_none : (may : ℕ → ℕ → Type 0) (load : Load) (why : LoadError) → RefusesLoad (λ who call. ⊥) load why → RefusesLoad may load why
@@ -93,3 +91,4 @@ refused_by_none may load (error.Gate who call) r = absurd r.4
 refused_by_none may load (error.Open x) r = r
 refused_by_none may load error.NoMemory r = r
 refused_by_none may load error.Keys r = r
+refused_by_none may load error.Writers r = absurd r

@@ -1,9 +1,11 @@
 -- How many answers there are of each kind.
-use Rattle.std.proofs.Common.{ℕ, ◌≡◌, ◌+◌, Bool, List, [], ◌∷◌, ◌++◌, cond, length, map, ap, refl, sym, ◌∙◌, arith}
+use Rattle.std.proofs.Common.{ℕ, ◌≡◌, ◌+◌, ◌≤◌, inl, inr, Bool, List, [], ◌∷◌, ◌++◌, cond, length, map, ap, refl, sym, ◌∙◌, arith}
 use Rattle.std.specs.Prelude.{count_by, sum_by}
 use Rattle.std.proofs.lemmas.List.Sums.{sum_by-append, sum_by-cons}
+use Rattle.mc_words.specs.declared.history.Change.{Change}
 use Rattle.mc_words.specs.declared.history.Reply.{Reply}
 use Rattle.mc_words.specs.declared.history.Reply.TheVariants.{Found, Absent, Busy}
+use Rattle.mc_check.specs.Wrong.{AreWrong}
 use Rattle.mc_check.specs.declared.record.Record.{Record}
 use Rattle.mc_workers.specs.Loads.{is_absent, is_busy, is_found, total_of}
 use Rattle.mc_workers.specs.declared.looking.Looking.{Looking}
@@ -56,3 +58,9 @@ total_counted {V} kind (l ∷ ls) =
 pub none_counted : {V : ℕ} (kind : Reply V → Bool) (ls : List (Looking V)) → length ls ≡ 0 → counted kind ls ≡ 0
 none_counted kind [] e = refl
 none_counted kind (l ∷ ls) e = absurd (omega (arith, e))
+
+-- no more records are wrong than there are
+pub few_wrong : {V : ℕ} (h : List (Change V)) (records : List (Record V)) (n : ℕ) → AreWrong h records n → n ≤ length records
+few_wrong h [] n w = omega (arith, w)
+few_wrong h (r ∷ rs) n (inl w) = let rest = few_wrong h rs n w.1 in omega (arith, rest)
+few_wrong h (r ∷ rs) n (inr w) = let rest = few_wrong h rs w.1.0 w.1.2 in omega (arith, rest, w.1.1)

@@ -1,3 +1,4 @@
+pub mod DeskLoads
 pub mod Draws
 pub mod Inside
 pub mod Loads

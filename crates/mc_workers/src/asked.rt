@@ -9,7 +9,7 @@ pub struct Load {
     pub readers: u32,
     /// Of each reader.
     pub lookups: u32,
-    /// Calls of the writer, of which about one in eight is a removal.
+    /// Calls of each writer, of which about one in eight is a removal.
     pub writes: u32,
     /// Keys are drawn from 0 up to this number, which is from 1 to 2^32.
     pub keys: u64,

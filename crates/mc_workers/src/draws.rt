@@ -17,12 +17,12 @@ pub(crate) struct Draws {
 impl Draws {
     ghost use Rattle.mc_workers.specs.Inside.Drawn.{HasDrawn};
 
-    pub(crate) fn new(load: Load, who: u32) -> Draws
+    pub(crate) fn new(load: Load, stream: u64) -> Draws
         requires { 1 ≤ load.keys }
-        ensures { HasDrawn load who 0 result }
+        ensures { HasDrawn load stream 0 result }
     {
         Draws {
-            generator: Lcg64Xsh32::new(load.seed, u64::from(who)),
+            generator: Lcg64Xsh32::new(load.seed, stream),
             keys: load.keys,
         }
     }

@@ -36,10 +36,11 @@ pub struct Figures {
     pub behind: [u64; DELAYS],
 }
 
-/// Measures the writer, which is worker 0, and the readers.
+/// Measures the writers and the readers. A writer is worker 0; the readers come behind it, and then the other writers.
 #[derive(Drop)]
 pub struct Meter<'c, C> {
     clock: &'c C,
+    readers: u32,
     newest: AtomicU64,
     workers: Vec<Counts>,
 }
@@ -102,17 +103,31 @@ fn class_of(behind: u64) -> usize
 }
 
 impl<'c, C> Meter<'c, C> {
-    /// For the writer and so many readers.
-    pub fn new(alloc: Global, clock: &'c C, readers: u32) -> Result<Meter<'c, C>, AllocError> {
+    /// For so many readers and writers, of which there is one at least.
+    pub fn new(
+        alloc: Global,
+        clock: &'c C,
+        readers: u32,
+        writers: u32,
+    ) -> Result<Meter<'c, C>, AllocError> {
         let mut workers = Vec::new(alloc);
         for _worker in 0..=readers {
             workers.push(Counts::new())?;
         }
+        for _writer in 1..writers {
+            workers.push(Counts::new())?;
+        }
         Ok(Meter {
             clock,
+            readers,
             newest: AtomicU64::new(0),
             workers,
         })
+    }
+
+    /// How many readers there are.
+    pub fn readers(&self) -> u32 {
+        self.readers
     }
 
     /// How a worker fared, if there is one.
@@ -138,7 +153,9 @@ impl<'c, C: Clock + Sync> Gate for Meter<'c, C> {
             return;
         };
         match at {
-            Some(moment) if who == 0 => self.newest.store(moment, Ordering::SeqCst),
+            Some(moment) if who == 0 || who > self.readers => {
+                self.newest.fetch_max(moment, Ordering::SeqCst);
+            }
             Some(moment) => {
                 let behind = self.newest.load(Ordering::SeqCst).saturating_sub(moment);
                 counts.behind[class_of(behind)].fetch_add(1, Ordering::SeqCst);

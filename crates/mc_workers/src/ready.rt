@@ -59,7 +59,7 @@ fn looking_of<const V: usize>(
     requires few { number + 1 < 2 ^ 32 }
     ensures { IfOk result (λ l. IsReady V reader.entry.of load number l) }
 {
-    let draws = Draws::new(load, number + 1);
+    let draws = Draws::new(load, u64::from(number) + 1);
     let records = Vec::with_capacity(alloc, load.lookups as usize)?;
     Ok(Looking {
         reader,
@@ -72,7 +72,7 @@ fn looking_of<const V: usize>(
 }
 
 /// The readers.
-fn lookings_of<const V: usize>(
+pub(crate) fn lookings_of<const V: usize>(
     alloc: Global,
     load: Load,
     many: u32,

@@ -12,6 +12,8 @@ mod drawing;
 #[cfg(test)]
 mod drawn_events;
 #[cfg(test)]
+mod drawn_lines;
+#[cfg(test)]
 mod drawn_scripts;
 #[cfg(test)]
 mod finding;
@@ -19,6 +21,8 @@ mod finding;
 mod paths;
 #[cfg(test)]
 mod plain;
+#[cfg(test)]
+mod reopened;
 #[cfg(test)]
 mod script;
 #[cfg(test)]

@@ -7,19 +7,19 @@ pub(crate) const ALL_RECENT: &str = "refused all recent";
 
 /// What a key has from a put on: its value, its item, and the number of that change.
 #[derive(Clone, Copy)]
-struct Held {
-    value: u64,
+pub(crate) struct Held {
+    pub(crate) value: u64,
     item: usize,
     since: usize,
 }
 
 /// What a key has from a change on, or nothing.
-type Entry = Option<Held>;
+pub(crate) type Entry = Option<Held>;
 
 /// The key that holds an item, and the item's mark.
 #[derive(Clone, Copy, Default)]
-struct Item {
-    key: Option<u64>,
+pub(crate) struct Item {
+    pub(crate) key: Option<u64>,
     marked: bool,
 }
 
@@ -44,16 +44,18 @@ pub(crate) enum Asked {
     Reading,
     Begin(usize, u64),
     End(usize),
+    /// The buckets and the items of the other world. A line for each entry that is left comes behind the first.
+    Reopen(u32, u32),
 }
 
 /// The map after each change, with the items and the hand of now, and the lookups that run.
 #[derive(Drop)]
 pub(crate) struct Plain {
-    alloc: Global,
-    shape: Shape,
-    changes: Vec<(u64, Entry)>,
+    pub(crate) alloc: Global,
+    pub(crate) shape: Shape,
+    pub(crate) changes: Vec<(u64, Entry)>,
     versions: u64,
-    items: Vec<Item>,
+    pub(crate) items: Vec<Item>,
     hand: usize,
     /// How many bits the hand has read for the put that runs.
     readings: usize,
@@ -63,6 +65,11 @@ pub(crate) struct Plain {
 /// The number of moves in the line of a put.
 fn moves_in(told: &str) -> Option<u64> {
     told.split(' ').nth(4)?.parse::<u64>().ok()
+}
+
+/// The number of entries that were left, in the line of another world.
+fn left_in(told: &str) -> Option<usize> {
+    told.split(' ').nth(4)?.parse::<usize>().ok()
 }
 
 /// The moment in the line of a lookup.
@@ -85,7 +92,7 @@ impl Plain {
     }
 
     /// What the key had after so many changes.
-    fn entry(&self, key: u64, changes: usize) -> Entry {
+    pub(crate) fn entry(&self, key: u64, changes: usize) -> Entry {
         let made = self.changes.as_slice().get(..changes)?;
         let last = made.iter().rev().find(|change| change.0 == key)?;
         last.1
@@ -98,7 +105,7 @@ impl Plain {
     }
 
     /// Puts the key at the item. The moment after it.
-    fn hold(&mut self, key: u64, value: u64, item: usize) -> Result<usize, AllocError> {
+    pub(crate) fn hold(&mut self, key: u64, value: u64, item: usize) -> Result<usize, AllocError> {
         let since = self.changes.len().saturating_add(1);
         self.change(key, Some(Held { value, item, since }))?;
         Ok(since)
@@ -116,7 +123,7 @@ impl Plain {
         self.versions.saturating_add(more) > self.shape.limit
     }
 
-    fn set(&mut self, item: usize, key: Option<u64>, marked: bool) {
+    pub(crate) fn set(&mut self, item: usize, key: Option<u64>, marked: bool) {
         if let Some(place) = self.items.get_mut(item) {
             *place = Item { key, marked };
         }
@@ -129,7 +136,7 @@ impl Plain {
     }
 
     /// The first free item.
-    fn free(&self) -> Option<usize> {
+    pub(crate) fn free(&self) -> Option<usize> {
         self.items.iter().position(|item| item.key.is_none())
     }
 
@@ -163,12 +170,12 @@ impl Plain {
     }
 
     /// How many keys the map has.
-    fn held(&self) -> usize {
+    pub(crate) fn held(&self) -> usize {
         self.items.iter().filter(|item| item.key.is_some()).count()
     }
 
     /// How many keys the table can hold.
-    fn slots(&self) -> usize {
+    pub(crate) fn slots(&self) -> usize {
         (self.shape.buckets as usize).saturating_mul(4)
     }
 
@@ -332,7 +339,13 @@ impl Plain {
                 Asked::Begin(_, _) | Asked::Reading => None,
                 _ => lines.next(),
             };
-            if !self.allows(*line, told)? {
+            let mut left = Vec::new(self.alloc);
+            if let Asked::Reopen(_, _) = *line {
+                for _ in 0..told.and_then(left_in).unwrap_or(0) {
+                    left.push(lines.next().unwrap_or(""))?;
+                }
+            }
+            if !self.allows(*line, told, left.as_slice())? {
                 return Ok(Some(number));
             }
         }
@@ -342,7 +355,12 @@ impl Plain {
         })
     }
 
-    fn allows(&mut self, asked: Asked, told: Option<&str>) -> Result<bool, AllocError> {
+    fn allows(
+        &mut self,
+        asked: Asked,
+        told: Option<&str>,
+        left: &[&str],
+    ) -> Result<bool, AllocError> {
         match (asked, told) {
             (Asked::Begin(reader, key), None) => Ok(self.begin(reader, key)),
             (Asked::Put(key, value), Some(told)) => {
@@ -356,6 +374,7 @@ impl Plain {
             (Asked::Get(key), Some(told)) => self.get(key, told),
             (Asked::Stamp(key), Some(told)) => self.stamp(key, told),
             (Asked::End(reader), Some(told)) => self.end(reader, told),
+            (Asked::Reopen(buckets, items), Some(told)) => self.reopen(buckets, items, told, left),
             _ => Ok(false),
         }
     }

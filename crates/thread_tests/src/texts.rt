@@ -19,6 +19,7 @@ fn refusals_are_told_in_these_words(rt: HostRuntime) -> Result<(), AllocError> {
         (LoadError::NoMemory, "no memory"),
         (LoadError::Keys, "keys must be from 1 to 4294967296"),
         (LoadError::Gate { who: 1, call: 2 }, "gate"),
+        (LoadError::Writers, "writers must be from 1 to 8"),
     ] {
         let told = format!(in alloc; "{why}")?;
         assert!(rt; told.as_str() == text, "{text}");

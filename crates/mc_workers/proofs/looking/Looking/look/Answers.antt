@@ -4,14 +4,7 @@ use Rattle.mc_workers.proofs.Histories.{told_later}
 use Rattle.mc_workers.proofs.looking.Looking.look.Goals as goal
 
 pub returns-then-keys-eq1-clause-looking : goal.returns-then-keys-eq1-clause-looking
-returns-then-keys-eq1-clause-looking g c =
-    let o = c.args.cache.now in
-    let before = c.args.self.now in
-    let after = c.get-reply.new.self in
-    c.note.ensures.looking o (record {
-      of = c.get-reply.ensures.looked.of ∙ c.requires.looking.of;
-      told = told_later g.row.V o.layout.shape before.reader.front after.front before.records.items c.get-reply.ensures.looked.begins c.requires.looking.told;
-    }) c.get-reply.ensures.truth
+returns-then-keys-eq1-clause-looking g c = c.note.ensures.looking c.args.cache.now c.get-reply.ensures.looking c.get-reply.ensures.truth
 
 pub returns-else-keys-eq1-clause-looking : goal.returns-else-keys-eq1-clause-looking
 returns-else-keys-eq1-clause-looking g c =

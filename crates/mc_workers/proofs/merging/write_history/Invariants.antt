@@ -1,0 +1,8 @@
+use Rattle.std.proofs.Common.{◌≡◌, ◌+◌, vec_capacity, vec_len}
+use Rattle.mc_workers.proofs.merging.write_history.Given as goal
+
+abbrev pub invariant-loop-n : goal.invariant-loop-n
+invariant-loop-n g l = record {
+  len : vec_len l.history ≡ vec_len l.fn.history + l.n;
+  capacity : vec_capacity l.history ≡ vec_capacity l.fn.history;
+}

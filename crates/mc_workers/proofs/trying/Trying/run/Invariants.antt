@@ -1,0 +1,11 @@
+use Rattle.std.proofs.Common.{◌≡◌, ◌*◌, ◌≤◌, None, vec_capacity}
+use Rattle.mc_workers.specs.Inside.Tries.{HasTriedTimes, IsTrying}
+use Rattle.mc_workers.proofs.trying.Trying.run.Given as goal
+
+abbrev pub invariant-loop-n : goal.invariant-loop-n
+invariant-loop-n g l = record {
+  trying : IsTrying g.row.V l.fn.cache l.fn.load l.fn.self.number l.self;
+  tried : HasTriedTimes g.row.V l.fn.load l.n l.self;
+  refused : l.self.refused ≡ None;
+  room : 2 * l.fn.load.writes ≤ vec_capacity l.self.journal;
+}

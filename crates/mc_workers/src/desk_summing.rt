@@ -1,0 +1,100 @@
+//! What came of a load at a desk is checked and added up.
+ghost use Rattle.std.specs.Prelude.{ℕ, ◌≡◌, ◌+◌, ◌*◌, ◌≤◌, ◌<◌, length, slice_index_or, vec_len};
+ghost use Rattle.mc_words.specs.Places.{IsWidth};
+ghost use Rattle.mc_words.specs.Readers.{most_readers};
+ghost use Rattle.mc_workers.specs.DeskLoads.{HasSeats, HasWriters, ReportsTurns, RunsTurns, most_writers};
+ghost use Rattle.mc_workers.specs.Inside.DeskSums.{HasRun, HaveAllLookedUp};
+ghost use Rattle.mc_workers.specs.Inside.Tries.{HaveTriedWhole};
+
+use crate::asked::Load;
+use crate::desk_ready::Seated;
+use crate::looking::Looking;
+use crate::merging::{gather, misplaced, write_history};
+use crate::report::{Report, Tally};
+use crate::trying::Trying;
+use crate::turns::{DeskReport, DeskRun, MOST_WRITERS, Turns};
+use mc_cache::Desk;
+use mc_check::Checker;
+use std::alloc::Global;
+
+/// Checks every reader's answers against the history, and adds them up.
+fn add_up<const V: usize>(
+    load: Load,
+    checker: &Checker<'_, V>,
+    mut lookings: Vec<Looking<V>>,
+    changes: u64,
+) -> Report
+    requires few { vec_len lookings ≤ most_readers }
+    requires looked { HaveAllLookedUp load lookings.items }
+    ensures lookups { result.lookups ≡ vec_len lookings.entry * load.lookups }
+    ensures sum { result.found + result.absent + result.busy ≡ result.lookups }
+    ensures changes { result.changes ≡ changes }
+{
+    let mut report = Report::none(0, changes);
+    while let Some(looking) = lookings.pop() {
+        let records = looking.records.as_slice();
+        report.add(Tally::of(records), checker.check(records));
+    }
+    report
+}
+
+/// What came of each writer's tries.
+fn turns_of<const V: usize>(load: Load, tryings: &[Trying<V>]) -> [Turns; MOST_WRITERS]
+    requires few { length tryings.now ≤ most_writers }
+    requires tried { HaveTriedWhole load tryings.now }
+    ensures { (n : ℕ) (d : Turns) → n < length tryings.now → (slice_index_or result n d).held + (slice_index_or result n d).answered ≡ load.writes }
+{
+    let mut turns = [Turns::none(); MOST_WRITERS];
+    for n in 0..tryings.len() {
+        turns[n] = tryings[n].turns;
+    }
+    turns
+}
+
+/// The length of the history, or 0 where the writer was dropped.
+fn moment_at<const V: usize>(desk: Desk<V>) -> u64 {
+    match desk.end() {
+        Some(writer) => writer.moment(),
+        None => 0,
+    }
+}
+
+/// Puts the changes of all writers in order, and checks every reader's answers against them.
+pub(crate) fn desk_run_of<const V: usize>(
+    alloc: Global,
+    load: Load,
+    desk: Desk<V>,
+    seated: Seated<V>,
+) -> DeskRun
+    requires width { IsWidth V }
+    requires run { HasRun load seated }
+    ensures { RunsTurns load (vec_len seated.entry.tryings) result }
+{
+    let Seated {
+        tryings,
+        lookings,
+        mut dated,
+        mut history,
+    } = seated;
+    let turns = gather(load, tryings.as_slice(), &mut dated);
+    dated.sort_unstable_by_key(|change| change.at);
+    let misplaced = misplaced(dated.as_slice(), moment_at(desk));
+    write_history(&mut history, dated.as_slice());
+    let checker = Checker::sorted(alloc, history.as_slice());
+    let report = add_up(load, &checker, lookings, history.len() as u64);
+    let report = DeskReport {
+        lookups: report.lookups,
+        found: report.found,
+        absent: report.absent,
+        busy: report.busy,
+        calls: turns.held + turns.answered,
+        held: turns.held,
+        answered: turns.answered,
+        changes: report.changes,
+        wrong: report.wrong.saturating_add(misplaced),
+    };
+    DeskRun {
+        report,
+        turns: turns_of(load, tryings.as_slice()),
+    }
+}

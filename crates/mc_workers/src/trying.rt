@@ -1,0 +1,104 @@
+//! A writer at work that tries for turns at a desk.
+ghost use Rattle.std.specs.Prelude.{ℕ, ◌≡◌, ◌+◌, ◌*◌, ◌^◌, ◌≤◌, ◌<◌, IfSome, vec_len, vec_capacity};
+ghost use Rattle.mc_workers.specs.DeskLoads.{most_writers, stream_of};
+
+use crate::asked::Load;
+use crate::dated::{Dated, note_put_at, note_removal_at};
+use crate::draws::Draws;
+use crate::gate::Gate;
+use crate::turns::Turns;
+use mc_cache::{Cache, Desk, Reader};
+
+/// A writer's pass, what it draws, and what came of its calls.
+#[derive(Drop)]
+pub(crate) struct Trying<const V: usize> {
+    pub(crate) pass: Reader<V>,
+    /// Among the writers, counted from 0.
+    pub(crate) number: u32,
+    /// Among all workers, as the gate is told.
+    pub(crate) who: u32,
+    pub(crate) draws: Draws,
+    pub(crate) turns: Turns,
+    /// The changes that its calls have made.
+    pub(crate) journal: Vec<Dated<V>>,
+    /// The call that the gate refused.
+    pub(crate) refused: Option<u64>,
+    ghost some_words: { 1 ≤ V },
+    ghost most_words: { V ≤ 8 },
+}
+
+impl<const V: usize> Trying<V> {
+    ghost use Rattle.mc_workers.specs.Inside.Drawn.{HasDrawn};
+    ghost use Rattle.mc_workers.specs.Inside.Tries.{CanTry, HasTriedAll, HasTriedOnce};
+
+    /// Tries once to remove a key. The moment of the answer, where it has one.
+    fn try_remove(&mut self, cache: &Cache<V>, desk: &Desk<V>, key: u64) -> Option<u64>
+        requires of { (desk.now ≡ cache.now) × (self.old.pass.of ≡ cache.now) }
+        requires few { self.old.turns.held + self.old.turns.answered + 1 < 2 ^ 64 }
+        requires room { vec_len self.old.journal + 2 ≤ vec_capacity self.old.journal }
+        ensures draws { self.new.draws ≡ self.old.draws }
+        ensures tried { HasTriedOnce V self.old self.new }
+    {
+        let told = desk.try_remove(cache, &mut self.pass, key);
+        self.turns.count(&told);
+        note_removal_at(&mut self.journal, key, told)
+    }
+
+    /// Tries once to put a key. The moment of the answer, where it has one.
+    fn try_put(
+        &mut self,
+        cache: &Cache<V>,
+        desk: &Desk<V>,
+        key: u64,
+        value: [u64; V],
+    ) -> Option<u64>
+        requires of { (desk.now ≡ cache.now) × (self.old.pass.of ≡ cache.now) }
+        requires few { self.old.turns.held + self.old.turns.answered + 1 < 2 ^ 64 }
+        requires room { vec_len self.old.journal + 2 ≤ vec_capacity self.old.journal }
+        ensures draws { self.new.draws ≡ self.old.draws }
+        ensures tried { HasTriedOnce V self.old self.new }
+    {
+        let told = desk.try_put(cache, &mut self.pass, key, value);
+        self.turns.count(&told);
+        note_put_at(&mut self.journal, key, value, told)
+    }
+
+    /// Makes one call, and tells the moment of its answer. Each word of a value names the call and the writer.
+    fn make_call(&mut self, cache: &Cache<V>, desk: &Desk<V>, call: u64) -> Option<u64>
+        requires of { (desk.now ≡ cache.now) × (self.old.pass.of ≡ cache.now) }
+        requires few { (self.old.number < most_writers) × (call < 2 ^ 33) }
+        requires counted { self.old.turns.held + self.old.turns.answered + 1 < 2 ^ 64 }
+        requires room { vec_len self.old.journal + 2 ≤ vec_capacity self.old.journal }
+        ensures tried { HasTriedOnce V self.old self.new }
+        ensures drawn { (load : Load) (n : ℕ) → HasDrawn load (stream_of self.old.number) (2 * n) self.old.draws →
+            HasDrawn load (stream_of self.old.number) (2 * (n + 1)) self.new.draws }
+    {
+        let key = self.draws.key();
+        let is_removal = self.draws.is_removal();
+        if is_removal {
+            self.try_remove(cache, desk, key)
+        } else {
+            let word = call + (u64::from(self.number) << 32);
+            self.try_put(cache, desk, key, [word; V])
+        }
+    }
+
+    /// Makes the load's calls, or fewer where the gate refuses one.
+    pub(crate) fn run<G: Gate>(&mut self, cache: &Cache<V>, desk: &Desk<V>, gate: &G, load: Load)
+        requires desk { desk.now ≡ cache.now }
+        requires few { self.old.number < most_writers }
+        requires ready { CanTry V cache.now load self.old.number self.old }
+        ensures ended { HasTriedAll V cache.now load self.old.number self.new }
+        ensures refused { IfSome self.new.refused (λ call. G.may_refuse gate.now self.old.who call) }
+    {
+        for n in 0..load.writes {
+            let call = u64::from(n) + 1;
+            if !gate.before(self.who, call) {
+                self.refused = Some(call);
+                return;
+            }
+            let at = self.make_call(cache, desk, call);
+            gate.after(self.who, call, at);
+        }
+    }
+}

@@ -1,0 +1,70 @@
+//! A plain map in the place of another, whose entries were put into it.
+use crate::plain::Plain;
+use mc_words::Shape;
+use std::alloc::AllocError;
+
+impl Plain {
+    /// Puts an entry that may be left. The line that tells why it was is among these, if it was: it is taken for the
+    /// next one. Whether it may be so.
+    fn load(
+        &mut self,
+        key: u64,
+        value: u64,
+        left: &[&str],
+        next: &mut usize,
+    ) -> Result<bool, AllocError> {
+        let told = left.get(*next).copied().unwrap_or("");
+        let held = self.held();
+        let no_path = format!(in self.alloc; "left {key} no path")?;
+        let no_item = format!(in self.alloc; "left {key} no item")?;
+        if told == no_path.as_str() {
+            *next = next.saturating_add(1);
+            return Ok(held >= 8);
+        }
+        if held == self.slots() {
+            return Ok(false);
+        }
+        let Some(item) = self.free() else {
+            *next = next.saturating_add(1);
+            return Ok(told == no_item.as_str());
+        };
+        self.hold(key, value, item)?;
+        self.set(item, Some(key), true);
+        Ok(true)
+    }
+
+    /// Puts the entries of the map into a new one of these sizes, in the order of their items. Whether the lines tell it so.
+    pub(crate) fn reopen(
+        &mut self,
+        buckets: u32,
+        items: u32,
+        told: &str,
+        left: &[&str],
+    ) -> Result<bool, AllocError> {
+        let shape = Shape {
+            buckets,
+            items,
+            ..self.shape
+        };
+        let mut other = Plain::new(self.alloc, shape)?;
+        let mut next = 0;
+        for item in self.items.iter() {
+            let Some(key) = item.key else {
+                continue;
+            };
+            let Some(held) = self.entry(key, self.changes.len()) else {
+                return Ok(false);
+            };
+            if !other.load(key, held.value, left, &mut next)? {
+                return Ok(false);
+            }
+        }
+        let line = format!(in self.alloc;
+            "reopened at {} left {}",
+            other.changes.len(),
+            left.len()
+        )?;
+        *self = other;
+        Ok(next == left.len() && line.as_str() == told)
+    }
+}
