@@ -1,0 +1,73 @@
+/* Threads that write by turns: each adds to counters of the cache, and no addition is lost. Reads as C and as C++. */
+#include "cefrodil.h"
+#include <pthread.h>
+#include <sched.h>
+#include <stdio.h>
+#include <stdlib.h>
+
+enum { THREADS = 4, COUNTERS = 8, ADDITIONS = 20000 };
+
+static cefrodil_handle passes[THREADS];
+
+static void must(uint32_t status, const char *what) {
+    if (status != CEFRODIL_OK) {
+        fprintf(stderr, "%s: %s\n", what, cefrodil_text(status));
+        exit(1);
+    }
+}
+
+/* Reads the counter, and puts one more if nobody has put it since. */
+static uint32_t add_one(cefrodil_handle *pass, uint64_t key) {
+    uint64_t value = 0;
+    cefrodil_reply reply;
+    uint32_t status = cefrodil_get(pass, key, &value, 1, &reply);
+    if (status != CEFRODIL_OK) {
+        return status;
+    }
+    value++;
+    return cefrodil_try_put_if(pass, key, reply.since, &value, 1, &reply);
+}
+
+static void *add_many(void *handle) {
+    cefrodil_handle *pass = (cefrodil_handle *)handle;
+    for (uint64_t i = 0; i < ADDITIONS; i++) {
+        uint32_t status = add_one(pass, i % COUNTERS);
+        while (status == CEFRODIL_BUSY || status == CEFRODIL_HELD || status == CEFRODIL_CHANGED) {
+            sched_yield();
+            status = add_one(pass, i % COUNTERS);
+        }
+        must(status, "add");
+    }
+    return NULL;
+}
+
+int main(void) {
+    cefrodil_shape shape;
+    cefrodil_reply reply;
+    pthread_t threads[THREADS];
+    uint64_t sum = 0;
+    must(cefrodil_shape_for_items(100, &shape), "shape");
+    must(cefrodil_open_desk(&shape, 1, passes, THREADS), "open");
+    for (uint64_t key = 0; key < COUNTERS; key++) {
+        uint64_t none = 0;
+        must(cefrodil_try_put(&passes[0], key, &none, 1, &reply), "put");
+    }
+    for (int i = 0; i < THREADS; i++) {
+        if (pthread_create(&threads[i], NULL, add_many, &passes[i]) != 0) {
+            return 1;
+        }
+    }
+    for (int i = 0; i < THREADS; i++) {
+        pthread_join(threads[i], NULL);
+    }
+    for (uint64_t key = 0; key < COUNTERS; key++) {
+        uint64_t value = 0;
+        must(cefrodil_get_or_desk(&passes[0], key, &value, 1, &reply), "get");
+        sum += value;
+    }
+    for (int i = 0; i < THREADS; i++) {
+        must(cefrodil_close(&passes[i]), "close");
+    }
+    printf("%llu additions\n", (unsigned long long)sum);
+    return sum != (uint64_t)THREADS * ADDITIONS;
+}

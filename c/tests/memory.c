@@ -1,0 +1,88 @@
+/* Each allocation of an opening is refused in turn: no handle is open then, and nothing is kept. Linked with --wrap. */
+#include "cefrodil.h"
+#include <stdio.h>
+
+void *__real_malloc(size_t size);
+void *__real_realloc(void *block, size_t size);
+void __real_free(void *block);
+
+static long left = -1, kept;
+
+static int refused(void) {
+    if (left == 0) {
+        return 1;
+    }
+    left -= left > 0;
+    return 0;
+}
+
+void *__wrap_malloc(size_t size) {
+    if (refused()) {
+        return NULL;
+    }
+    kept++;
+    return __real_malloc(size);
+}
+
+void *__wrap_realloc(void *block, size_t size) {
+    if (refused()) {
+        return NULL;
+    }
+    kept += block == NULL;
+    return __real_realloc(block, size);
+}
+
+void __wrap_free(void *block) {
+    kept -= block != NULL;
+    __real_free(block);
+}
+
+static cefrodil_handle writer, handles[4];
+
+static uint32_t open_one(const cefrodil_shape *shape, size_t words, int desk) {
+    return desk ? cefrodil_open_desk(shape, words, handles, 4) : cefrodil_open(shape, words, &writer, handles, 4);
+}
+
+static int open_handles(void) {
+    int open = writer.live_;
+    for (int i = 0; i < 4; i++) {
+        open += handles[i].live_;
+    }
+    return open;
+}
+
+/* How many allocations an opening takes; -1 where a refusal leaves something behind. */
+static long allocations(const cefrodil_shape *shape, size_t words, int desk) {
+    for (long allowed = 0; allowed < 100; allowed++) {
+        left = allowed, kept = 0;
+        uint32_t status = open_one(shape, words, desk);
+        left = -1;
+        if (status == CEFRODIL_OK) {
+            for (int i = 0; i < 4; i++) {
+                cefrodil_close(&handles[i]);
+            }
+            cefrodil_close(&writer);
+            return kept == 0 ? allowed : -1;
+        }
+        if (status != CEFRODIL_NO_MEMORY || kept != 0 || open_handles() != 0) {
+            return -1;
+        }
+    }
+    return -1;
+}
+
+int main(void) {
+    cefrodil_shape shape;
+    if (cefrodil_shape_for_items(100, &shape) != CEFRODIL_OK) {
+        return 1;
+    }
+    for (size_t words = 1; words <= 8; words++) {
+        long apart = allocations(&shape, words, 0), by_turns = allocations(&shape, words, 1);
+        if (apart < 5 || by_turns < 5) {
+            printf("memory: %zu words: %ld, %ld\n", words, apart, by_turns);
+            return 1;
+        }
+    }
+    puts("memory: ok");
+    return 0;
+}

@@ -1,0 +1,168 @@
+/* Each status of each call, and what a call leaves alone. */
+#include "cefrodil.h"
+#include <stdio.h>
+#include <stdlib.h>
+
+static cefrodil_handle writer, readers[2], passes[2], none;
+static cefrodil_shape shape;
+static cefrodil_reply reply;
+static int line_of_failure;
+
+#define MUST(condition) \
+    do { \
+        if (!(condition) && line_of_failure == 0) { \
+            line_of_failure = __LINE__; \
+        } \
+    } while (0)
+
+static uint32_t opened(void) { return cefrodil_open(&shape, 2, &writer, readers, 2); }
+
+static void shapes(void) {
+    cefrodil_shape good;
+    MUST(cefrodil_shape_for_items(0, &shape) == CEFRODIL_BAD_ITEMS);
+    MUST(cefrodil_shape_for_items(3774874, &shape) == CEFRODIL_BAD_ITEMS && shape.buckets == 0);
+    MUST(cefrodil_shape_for_items(20, &shape) == CEFRODIL_OK && shape.items == 20 && shape.buckets == 8);
+    good = shape;
+    shape.mix = 2, shape.buckets = 3;
+    MUST(cefrodil_open(&shape, 0, &writer, readers, 2) == CEFRODIL_BAD_WORDS);
+    MUST(cefrodil_open(&shape, 9, &writer, readers, 2) == CEFRODIL_BAD_WORDS);
+    MUST(opened() == CEFRODIL_BAD_MIX);
+    shape.mix = 1, shape.items = 0;
+    MUST(opened() == CEFRODIL_BAD_BUCKETS);
+    shape.buckets = 8, shape.stripes = 3;
+    MUST(opened() == CEFRODIL_BAD_ITEMS);
+    shape.items = 20, shape.depth = 256 + 5;
+    MUST(opened() == CEFRODIL_BAD_STRIPES);
+    shape.stripes = 4, shape.tries = 0;
+    MUST(opened() == CEFRODIL_BAD_DEPTH);
+    shape.depth = 5, shape.limit = UINT64_C(1) << 63;
+    MUST(opened() == CEFRODIL_BAD_TRIES);
+    shape.tries = 256 + 8;
+    MUST(opened() == CEFRODIL_BAD_TRIES);
+    shape.tries = 8;
+    MUST(opened() == CEFRODIL_BAD_LIMIT);
+    shape = good;
+    MUST(cefrodil_open(&shape, 2, &writer, readers, 0) == CEFRODIL_BAD_READERS);
+    MUST(!writer.live_ && !readers[0].live_ && !readers[1].live_);
+}
+
+static void closed(void) {
+    uint64_t value[2] = {1, 2};
+    MUST(cefrodil_get(&none, 1, value, 2, &reply) == CEFRODIL_CLOSED && value[0] == 1 && value[1] == 2);
+    MUST(cefrodil_get_or_desk(&none, 1, value, 2, &reply) == CEFRODIL_CLOSED);
+    MUST(cefrodil_put(&none, 1, value, 2, &reply) == CEFRODIL_CLOSED);
+    MUST(cefrodil_put_if(&none, 1, 0, value, 2, &reply) == CEFRODIL_CLOSED);
+    MUST(cefrodil_remove(&none, 1, &reply) == CEFRODIL_CLOSED);
+    MUST(cefrodil_try_put(&none, 1, value, 2, &reply) == CEFRODIL_CLOSED);
+    MUST(cefrodil_try_put_if(&none, 1, 0, value, 2, &reply) == CEFRODIL_CLOSED);
+    MUST(cefrodil_try_remove(&none, 1, &reply) == CEFRODIL_CLOSED);
+    MUST(cefrodil_close(&none) == CEFRODIL_CLOSED);
+}
+
+static void writes(void) {
+    uint64_t value[2] = {7, 8}, found[2] = {0, 0};
+    MUST(opened() == CEFRODIL_OK && writer.live_ && readers[0].live_ && readers[1].live_);
+    MUST(opened() == CEFRODIL_IN_USE);
+    MUST(cefrodil_open_desk(&shape, 2, readers, 2) == CEFRODIL_IN_USE);
+    MUST(cefrodil_get(&readers[0], 1, found, 2, &reply) == CEFRODIL_ABSENT && found[0] == 0 && reply.at == 0);
+    MUST(cefrodil_put(&writer, 1, value, 2, &reply) == CEFRODIL_OK && reply.at == 1 && reply.put == CEFRODIL_PUT_STORED);
+    MUST(cefrodil_get(&readers[0], 1, found, 2, &reply) == CEFRODIL_OK && found[0] == 7 && found[1] == 8 && reply.at == 1 && reply.since == 1);
+    MUST(cefrodil_put(&writer, 1, value, 2, &reply) == CEFRODIL_OK && reply.at == 2 && reply.put == CEFRODIL_PUT_RENEWED);
+    MUST(cefrodil_put_if(&writer, 1, 1, value, 2, &reply) == CEFRODIL_CHANGED && reply.since == 2);
+    MUST(cefrodil_put_if(&writer, 1, 2, value, 2, &reply) == CEFRODIL_OK && reply.at == 3);
+    MUST(cefrodil_put_if(&writer, 2, 2, value, 2, &reply) == CEFRODIL_ABSENT && reply.at == 3);
+    MUST(cefrodil_remove(&writer, 1, &reply) == CEFRODIL_OK && reply.at == 4);
+    MUST(cefrodil_remove(&writer, 1, &reply) == CEFRODIL_ABSENT && reply.at == 4);
+    MUST(cefrodil_put(&writer, 1, value, 1, &reply) == CEFRODIL_WIDTH && reply.at == 0);
+    MUST(cefrodil_put_if(&writer, 1, 1, value, 1, &reply) == CEFRODIL_WIDTH);
+    MUST(cefrodil_get(&readers[0], 1, found, 1, &reply) == CEFRODIL_WIDTH);
+    MUST(cefrodil_get(&writer, 1, found, 2, &reply) == CEFRODIL_KIND);
+    MUST(cefrodil_get_or_desk(&readers[0], 1, found, 2, &reply) == CEFRODIL_KIND);
+    MUST(cefrodil_put(&readers[0], 1, value, 2, &reply) == CEFRODIL_KIND);
+    MUST(cefrodil_remove(&readers[0], 1, &reply) == CEFRODIL_KIND);
+    MUST(cefrodil_try_put(&writer, 1, value, 2, &reply) == CEFRODIL_KIND);
+    MUST(cefrodil_try_remove(&readers[1], 1, &reply) == CEFRODIL_KIND);
+}
+
+/* With every item put just now, and each found since, a put finds none to evict or evicts one. */
+static void evictions(void) {
+    uint64_t value[2] = {0, 0};
+    int evicted = 0;
+    for (uint64_t key = 0; key < 200; key++) {
+        uint32_t status = cefrodil_put(&writer, key, value, 2, &reply);
+        MUST(status == CEFRODIL_OK || status == CEFRODIL_NO_PATH || status == CEFRODIL_ALL_RECENT);
+        evicted += status == CEFRODIL_OK && reply.put == CEFRODIL_PUT_EVICTED;
+    }
+    MUST(evicted > 0);
+}
+
+static void spent(void) {
+    uint64_t value[2] = {7, 8};
+    cefrodil_shape few = shape;
+    few.limit = 0;
+    MUST(cefrodil_open(&few, 2, &writer, readers, 1) == CEFRODIL_OK);
+    MUST(cefrodil_put(&writer, 1, value, 2, &reply) == CEFRODIL_SPENT);
+    MUST(cefrodil_put_if(&writer, 1, 0, value, 2, &reply) == CEFRODIL_SPENT);
+    MUST(cefrodil_remove(&writer, 1, &reply) == CEFRODIL_SPENT);
+    MUST(cefrodil_close(&writer) == CEFRODIL_OK && cefrodil_close(&readers[0]) == CEFRODIL_OK);
+    MUST(cefrodil_open_desk(&few, 2, passes, 1) == CEFRODIL_OK);
+    MUST(cefrodil_try_put(&passes[0], 1, value, 2, &reply) == CEFRODIL_SPENT);
+    MUST(cefrodil_try_remove(&passes[0], 1, &reply) == CEFRODIL_SPENT);
+    MUST(cefrodil_close(&passes[0]) == CEFRODIL_OK);
+}
+
+static void turns(void) {
+    uint64_t value[2] = {7, 8}, found[2] = {0, 0};
+    MUST(cefrodil_open_desk(&shape, 2, passes, 2) == CEFRODIL_OK);
+    MUST(cefrodil_try_put(&passes[0], 1, value, 2, &reply) == CEFRODIL_OK && reply.at == 1);
+    MUST(cefrodil_get(&passes[1], 1, found, 2, &reply) == CEFRODIL_OK && found[1] == 8);
+    MUST(cefrodil_get_or_desk(&passes[1], 2, found, 2, &reply) == CEFRODIL_ABSENT && reply.at == 1);
+    MUST(cefrodil_try_put_if(&passes[1], 1, 1, value, 2, &reply) == CEFRODIL_OK && reply.at == 2);
+    MUST(cefrodil_try_put_if(&passes[1], 1, 1, value, 2, &reply) == CEFRODIL_CHANGED && reply.since == 2);
+    MUST(cefrodil_try_remove(&passes[0], 1, &reply) == CEFRODIL_OK && reply.at == 3);
+    MUST(cefrodil_try_put(&passes[0], 1, value, 1, &reply) == CEFRODIL_WIDTH);
+    MUST(cefrodil_put(&passes[0], 1, value, 2, &reply) == CEFRODIL_KIND);
+    MUST(cefrodil_close(&passes[0]) == CEFRODIL_OK && cefrodil_close(&passes[0]) == CEFRODIL_CLOSED);
+    MUST(cefrodil_try_remove(&passes[1], 1, &reply) == CEFRODIL_ABSENT);
+    MUST(cefrodil_close(&passes[1]) == CEFRODIL_OK);
+}
+
+/* The writer goes first: its readers can still look up. */
+static void last_close(void) {
+    uint64_t found[2];
+    MUST(cefrodil_close(&writer) == CEFRODIL_OK && cefrodil_close(&writer) == CEFRODIL_CLOSED);
+    MUST(cefrodil_get(&readers[0], 500, found, 2, &reply) == CEFRODIL_ABSENT);
+    MUST(cefrodil_close(&readers[0]) == CEFRODIL_OK && cefrodil_close(&readers[1]) == CEFRODIL_OK);
+    MUST(cefrodil_get(&readers[0], 500, found, 2, &reply) == CEFRODIL_CLOSED);
+}
+
+static void widths(void) {
+    for (size_t words = 1; words <= 8; words++) {
+        uint64_t value[8] = {1, 2, 3, 4, 5, 6, 7, 8}, found[8] = {0};
+        MUST(cefrodil_open(&shape, words, &writer, readers, 1) == CEFRODIL_OK);
+        MUST(cefrodil_put(&writer, words, value, words, &reply) == CEFRODIL_OK);
+        MUST(cefrodil_get(&readers[0], words, found, words, &reply) == CEFRODIL_OK);
+        for (size_t i = 0; i < 8; i++) {
+            MUST(found[i] == (i < words ? value[i] : 0));
+        }
+        MUST(cefrodil_get(&readers[0], words, found, words % 8 + 1, &reply) == CEFRODIL_WIDTH);
+        MUST(cefrodil_close(&writer) == CEFRODIL_OK && cefrodil_close(&readers[0]) == CEFRODIL_OK);
+    }
+}
+
+int main(void) {
+    shapes();
+    closed();
+    writes();
+    evictions();
+    last_close();
+    spent();
+    turns();
+    widths();
+    if (line_of_failure != 0) {
+        printf("statuses: line %d fails\n", line_of_failure);
+        return 1;
+    }
+    puts("statuses: ok");
+    return 0;
+}

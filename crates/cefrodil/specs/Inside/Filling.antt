@@ -1,0 +1,15 @@
+-- Handles are opened one after the other.
+use Rattle.std.specs.Prelude.{ℕ, ◌≡◌, ◌+◌, List, length}
+use Rattle.std.specs.List.{AllWithin}
+use Rattle.mc_door.specs.NewSides.{count_in, has_desk_in, opening_in, width_in}
+use Rattle.mc_door.specs.declared.rest.Rest.{Rest}
+use Rattle.cefrodil.specs.Openings.{IsNewAt}
+use Rattle.cefrodil.specs.declared.slot.Slot.{Slot}
+
+-- so many handles have a side of the new cache, and of the sides as many are left as there are handles without one
+pub record IsFilledTo (first rest : Rest) (slots : List Slot) (n : ℕ) : Type 0 where
+  pub opening : opening_in rest ≡ opening_in first
+  pub desk : has_desk_in rest ≡ has_desk_in first
+  pub width : width_in rest ≡ width_in first
+  pub left : count_in rest + n ≡ length slots
+  pub filled : AllWithin (IsNewAt (opening_in first) (has_desk_in first) (width_in first)) slots 0 n

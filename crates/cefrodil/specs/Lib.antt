@@ -1,0 +1,7 @@
+pub mod Calls
+pub mod Kept
+pub mod Open
+pub mod Openings
+pub mod RawShapes
+pub mod Tellings
+pub mod Inside

@@ -1,0 +1,24 @@
+-- The shape that C writes, as the cache reads it.
+use Rattle.std.specs.Prelude.{ℕ, ◌≡◌, ◌⊎◌, min}
+use Rattle.mc_words.specs.declared.mix.Mix.{Mix}
+use Rattle.mc_words.specs.declared.mix.Mix.TheVariants.{Plain, Fmix}
+use Rattle.mc_words.specs.declared.shape.Shape.{Shape}
+use Rattle.cefrodil.specs.declared.shape.RawShape.{RawShape}
+use Rattle.cefrodil.specs.declared.shape.TheConstants.{FMIX, PLAIN}
+
+abbrev pub HasMix : RawShape → Type 0
+HasMix raw = (raw.mix ≡ FMIX) ⊎ (raw.mix ≡ PLAIN)
+
+abbrev pub number_of : Mix → ℕ
+number_of Fmix = FMIX
+number_of Plain = PLAIN
+
+-- depth and tries keep out of their ranges where they are
+pub record IsShapeOf (raw : RawShape) (sh : Shape) : Type 0 where
+  pub limit : sh.limit ≡ raw.limit
+  pub buckets : sh.buckets ≡ raw.buckets
+  pub items : sh.items ≡ raw.items
+  pub stripes : sh.stripes ≡ raw.stripes
+  pub depth : sh.depth ≡ min raw.depth 255
+  pub tries : sh.tries ≡ min raw.tries 255
+  pub mix : raw.mix ≡ number_of sh.mix

@@ -1,0 +1,22 @@
+//! A handle is closed.
+ghost use Rattle.std.specs.Prelude.{◌≡◌, false, true};
+
+use crate::slot::Slot;
+use crate::status::{CLOSED, OK};
+use std::alloc::Global;
+
+/// Closes a handle. With the last of its handles the cache goes.
+#[unsafe(no_mangle)]
+pub extern "C" fn cefrodil_close(alloc: Global, handle: &mut Slot) -> u32
+    ensures closed { handle.new.live ≡ false }
+    ensures done { handle.old.live ≡ true → result ≡ OK }
+    ensures twice { handle.old.live ≡ false → result ≡ CLOSED }
+{
+    match handle.take(alloc) {
+        Some(held) => {
+            drop(held);
+            OK
+        }
+        None => CLOSED,
+    }
+}

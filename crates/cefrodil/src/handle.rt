@@ -1,0 +1,62 @@
+// A handle that C keeps: the address of a box, as a pointer to nothing that C may read.
+ghost use Rattle.std.specs.Prelude.{◌≡◌, ℕ};
+ghost use mathlib.Core.Option.{Option, none, some};
+ghost use Rattle.cefrodil.specs.Kept.{kept_at};
+ghost use Rattle.mc_door.specs.declared.held.Held.{Held};
+
+use crate::unboxed::Unboxed;
+use mc_door::Held;
+use std::alloc::Global;
+use std::marker::{Model, Send};
+
+#[repr(C)]
+pub struct Nothing {
+    unused: u8,
+}
+
+#[repr(C)]
+#[derive(Drop)]
+pub struct Handle {
+    at: *mut Nothing,
+    alloc: Global,
+    pub ghost value: { Option Held },
+}
+
+impl Model for Handle {
+    ghost also_owns = { λ h. kept_at h.alloc h.at h.value };
+}
+
+// It may go to another thread, as what lies behind it may.
+unsafe impl Send for Handle {}
+
+impl Handle {
+    pub(crate) fn empty(alloc: Global) -> Handle
+        ensures { result.value ≡ none }
+    {
+        Handle {
+            at: std::ptr::null_mut(),
+            alloc,
+        }
+    }
+
+    pub(crate) fn of(value: Unboxed<Held, Global>) -> Handle
+        ensures { result.value ≡ some value.value }
+    {
+        let Unboxed { at, alloc } = value;
+        Handle {
+            at: at as *mut Nothing,
+            alloc,
+        }
+    }
+
+    pub(crate) fn into_unboxed(self) -> Unboxed<Held, Global>
+        requires { ¬ (self.value ≡ none) }
+        ensures { some result.value ≡ self.value }
+    {
+        let Handle { at, alloc } = self;
+        Unboxed {
+            at: at as *mut Held,
+            alloc,
+        }
+    }
+}

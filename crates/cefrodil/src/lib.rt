@@ -1,0 +1,15 @@
+//! The door: a static library by which programs in C, C++ and Rust call the cache. `c/include/cefrodil.h` says what each call does,
+//! and what its caller promises.
+#![tactic(auto)]
+
+mod closing;
+pub mod handle;
+mod lookups;
+mod opening;
+mod shape;
+pub mod slot;
+mod status;
+mod told;
+mod turns;
+mod unboxed;
+mod writes;

@@ -1,0 +1,185 @@
+//! Handles are opened.
+ghost use Rattle.std.specs.Prelude.{◌≡◌, ◌≢◌, ◌↔◌, All, MatchResult, false, length, true};
+ghost use Rattle.mc_words.specs.Places.{IsWidth};
+ghost use Rattle.mc_words.specs.Readers.{HasReaders};
+ghost use Rattle.mc_door.specs.NewSides.{count_in, has_desk_in, opening_in, width_in};
+ghost use Rattle.mc_shared.specs.Records.{Opening};
+ghost use Rattle.cefrodil.specs.Openings.{IsClosed, IsNewAt, IsNewWriterAt, IsOfShape, RefusesAsked, RefusesHandles, RefusesOpen, open_status};
+ghost use Rattle.cefrodil.specs.RawShapes.{HasMix, IsShapeOf};
+
+use crate::shape::RawShape;
+use crate::slot::Slot;
+use crate::status::{
+    BUCKETS, DEPTH, IN_USE, ITEMS, LIMIT, MIX, NO_MEMORY, OK, READERS, STRIPES, TRIES, WORDS,
+};
+use mc_door::{OpenError, Rest, Shape, ShapeError, open, open_desk};
+use std::alloc::Global;
+
+/// The most words of a value.
+const MOST_WORDS: usize = 8;
+
+fn status_of(why: OpenError) -> u32
+    ensures { result ≡ open_status why }
+{
+    match why {
+        OpenError::Shape(ShapeError::Buckets) => BUCKETS,
+        OpenError::Shape(ShapeError::Items) => ITEMS,
+        OpenError::Shape(ShapeError::Stripes) => STRIPES,
+        OpenError::Shape(ShapeError::Depth) => DEPTH,
+        OpenError::Shape(ShapeError::Tries) => TRIES,
+        OpenError::Shape(ShapeError::Limit) => LIMIT,
+        OpenError::Readers => READERS,
+        OpenError::NoMemory => NO_MEMORY,
+    }
+}
+
+fn all_closed(slots: &[Slot]) -> bool
+    ensures yes { result ≡ true → All IsClosed slots.now }
+    ensures no { result ≡ false → ¬ All IsClosed slots.now }
+{
+    for slot in slots {
+        if slot.is_live() {
+            return false;
+        }
+    }
+    true
+}
+
+fn close_all(alloc: Global, slots: &mut [Slot])
+    ensures { All IsClosed slots.new }
+{
+    for slot in slots.iter_mut() {
+        drop(slot.take(alloc));
+    }
+}
+
+// A side for each of the slots. `false` where there is no memory.
+fn fill(alloc: Global, mut rest: Rest, slots: &mut [Slot]) -> bool
+    requires { count_in rest ≡ length slots.old }
+    ensures { result ≡ true → All (IsNewAt (opening_in rest) (has_desk_in rest) (width_in rest)) slots.new }
+{
+    for slot in slots.iter_mut() {
+        let Ok(Some(held)) = rest.next() else {
+            return false;
+        };
+        let Ok(held) = Box::new(alloc, held) else {
+            return false;
+        };
+        slot.put(held);
+    }
+    true
+}
+
+// The shape that is asked for, or the first fault before those that the cache tells.
+fn asked(shape: &RawShape, words: usize) -> Result<Shape, u32>
+    ensures { MatchResult result (λ sh. IsWidth words × HasMix shape.now × IsShapeOf shape.now sh) (λ status. RefusesAsked shape.now words status) }
+{
+    if words == 0 || words > MOST_WORDS {
+        return Err(WORDS);
+    }
+    match shape.shape() {
+        Some(shape) => Ok(shape),
+        None => Err(MIX),
+    }
+}
+
+// As many, or more than there may be.
+fn count_of(handles: usize) -> u32
+    ensures right { HasReaders result ↔ HasReaders handles }
+    ensures same { HasReaders handles → result ≡ handles }
+{
+    handles.min(4_294_967_295) as u32
+}
+
+// The handles are closed.
+fn open_all(
+    alloc: Global,
+    shape: &RawShape,
+    words: usize,
+    writer: &mut Slot,
+    readers: &mut [Slot],
+) -> u32
+    requires { IsClosed writer.old × All IsClosed readers.old }
+    ensures opened { result ≡ OK → (o : Opening) × IsOfShape shape.now words o × IsNewWriterAt o words writer.new × All (IsNewAt o false words) readers.new }
+    ensures refused { result ≢ OK → RefusesOpen shape.now words (length readers.old) result }
+    ensures closed { result ≢ OK → (writer.new ≡ writer.old) × All IsClosed readers.new }
+{
+    let shape = match asked(shape, words) {
+        Ok(shape) => shape,
+        Err(status) => return status,
+    };
+    let (held, rest) = match open(alloc, shape, words, count_of(readers.len())) {
+        Ok(opened) => opened,
+        Err(why) => return status_of(why),
+    };
+    let Ok(held) = Box::new(alloc, held) else {
+        return NO_MEMORY;
+    };
+    if !fill(alloc, rest, readers) {
+        close_all(alloc, readers);
+        return NO_MEMORY;
+    }
+    writer.put(held);
+    OK
+}
+
+/// A cache for values of so many words: its writer goes into one handle, and a reader into each of the others.
+#[unsafe(no_mangle)]
+pub extern "C" fn cefrodil_open(
+    alloc: Global,
+    shape: &RawShape,
+    words: usize,
+    writer: &mut Slot,
+    readers: &mut [Slot],
+) -> u32
+    ensures opened { result ≡ OK → (o : Opening) × IsOfShape shape.now words o × IsNewWriterAt o words writer.new × All (IsNewAt o false words) readers.new }
+    ensures refused { result ≢ OK → RefusesHandles (IsClosed writer.old × All IsClosed readers.old) shape.now words (length readers.old) result }
+    ensures in_use { result ≡ IN_USE → (writer.new ≡ writer.old) × (readers.new ≡ readers.old) }
+    ensures closed { result ≢ OK → result ≢ IN_USE → IsClosed writer.new × All IsClosed readers.new }
+{
+    if writer.is_live() || !all_closed(readers) {
+        return IN_USE;
+    }
+    open_all(alloc, shape, words, writer, readers)
+}
+
+// The handles are closed.
+fn open_all_passes(alloc: Global, shape: &RawShape, words: usize, passes: &mut [Slot]) -> u32
+    requires { All IsClosed passes.old }
+    ensures opened { result ≡ OK → (o : Opening) × IsOfShape shape.now words o × All (IsNewAt o true words) passes.new }
+    ensures refused { result ≢ OK → RefusesOpen shape.now words (length passes.old) result }
+    ensures closed { result ≢ OK → All IsClosed passes.new }
+{
+    let shape = match asked(shape, words) {
+        Ok(shape) => shape,
+        Err(status) => return status,
+    };
+    let rest = match open_desk(alloc, shape, words, count_of(passes.len())) {
+        Ok(rest) => rest,
+        Err(why) => return status_of(why),
+    };
+    if !fill(alloc, rest, passes) {
+        close_all(alloc, passes);
+        return NO_MEMORY;
+    }
+    OK
+}
+
+/// A cache for values of so many words, whose writer lies on a desk: a pass goes into each of the handles.
+#[unsafe(no_mangle)]
+pub extern "C" fn cefrodil_open_desk(
+    alloc: Global,
+    shape: &RawShape,
+    words: usize,
+    passes: &mut [Slot],
+) -> u32
+    ensures opened { result ≡ OK → (o : Opening) × IsOfShape shape.now words o × All (IsNewAt o true words) passes.new }
+    ensures refused { result ≢ OK → RefusesHandles (All IsClosed passes.old) shape.now words (length passes.old) result }
+    ensures in_use { result ≡ IN_USE → passes.new ≡ passes.old }
+    ensures closed { result ≢ OK → result ≢ IN_USE → All IsClosed passes.new }
+{
+    if !all_closed(passes) {
+        return IN_USE;
+    }
+    open_all_passes(alloc, shape, words, passes)
+}

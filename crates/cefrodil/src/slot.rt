@@ -1,0 +1,67 @@
+//! What C keeps in memory of its own: a handle, or nothing.
+ghost use Rattle.std.specs.Prelude.{◌≡◌, ℕ, true, false, MatchOption};
+ghost use mathlib.Core.Option.{none, some};
+ghost use Rattle.cefrodil.specs.Open.{kept};
+
+use crate::handle::Handle;
+use crate::unboxed::Unboxed;
+use mc_door::Held;
+use std::alloc::Global;
+use std::mem::replace;
+
+/// A handle that is open, or none.
+#[repr(C)]
+#[derive(Drop)]
+pub struct Slot {
+    pub handle: Handle,
+    pub live: bool,
+    ghost known: { live ≡ true → ¬ (handle.value ≡ none) },
+}
+
+impl Slot {
+    fn empty(alloc: Global) -> Slot
+        ensures { result.live ≡ false }
+    {
+        Slot {
+            handle: Handle::empty(alloc),
+            live: false,
+        }
+    }
+
+    pub(crate) fn is_live(&self) -> bool
+        ensures { result ≡ self.now.live }
+    {
+        self.live
+    }
+
+    /// What it keeps. It is closed then.
+    pub(crate) fn take(&mut self, alloc: Global) -> Option<Box<Held, Global>>
+        ensures closed { self.new.live ≡ false }
+        ensures kept { MatchOption result (self.old.live ≡ false) (λ held. (self.old.live ≡ true) × (kept self.old ≡ some held.value)) }
+    {
+        let Slot { handle, live } = replace(self, Slot::empty(alloc));
+        if live {
+            Some(handle.into_unboxed().into_box())
+        } else {
+            None
+        }
+    }
+
+    /// It keeps this, and is open.
+    pub(crate) fn put(&mut self, held: Box<Held, Global>)
+        requires { self.old.live ≡ false }
+        ensures { (self.new.live ≡ true) × (kept self.new ≡ some held.value) }
+    {
+        *self = Slot {
+            handle: Handle::of(Unboxed::of(held)),
+            live: true,
+        };
+    }
+}
+
+fn crosses<T: Send>(_value: &T) {}
+
+/// It compiles only where C may hand a slot to another thread. It does nothing when it runs.
+pub fn slots_cross(slot: &Slot) {
+    crosses(slot);
+}

@@ -1,0 +1,221 @@
+//! What a call tells C: a status, and the numbers of a reply.
+ghost use Rattle.std.specs.Prelude.{◌≡◌};
+ghost use Rattle.cefrodil.specs.Tellings.{closed_told, done_told, gone_told, lookup_told, misuse_told, not_put_if_told, not_put_told, plain, put_if_told, put_told, removal_told, told_at, try_put_if_told, try_put_told, try_removal_told};
+ghost use Rattle.mc_plan.specs.declared.answer.Put.TheVariants.{Renewed};
+
+use crate::status;
+use mc_door::{DeskError, IfError, Looked, Misuse, Put, PutError, Remove, Spent};
+
+/// No change of a key is told.
+const NOTHING: u32 = 0;
+
+/// The key is new.
+const STORED: u32 = 1;
+
+/// The key is new, and another was taken out for it.
+const EVICTED: u32 = 2;
+
+/// The key was there.
+const RENEWED: u32 = 3;
+
+/// The numbers of a reply. What a status has no use for is 0.
+#[repr(C)]
+#[derive(Clone, Copy)]
+pub struct RawReply {
+    /// The moment at which the answer held, or of the change that was made.
+    pub at: u64,
+    /// The moment of the key's last put.
+    pub since: u64,
+    /// The key that was taken out.
+    pub evicted: u64,
+    /// How many keys were moved.
+    pub moves: u32,
+    /// What a put did.
+    pub put: u32,
+}
+
+/// A status with its reply.
+#[derive(Clone, Copy)]
+pub(crate) struct Told {
+    pub(crate) status: u32,
+    pub(crate) reply: RawReply,
+}
+
+impl Told {
+    fn plain(status: u32) -> Told
+        ensures { result ≡ plain status }
+    {
+        Told {
+            status,
+            reply: RawReply {
+                at: 0,
+                since: 0,
+                evicted: 0,
+                moves: 0,
+                put: NOTHING,
+            },
+        }
+    }
+}
+
+impl Told {
+    pub(crate) fn closed() -> Told
+        ensures { result ≡ closed_told }
+    {
+        Told::plain(status::CLOSED)
+    }
+
+    pub(crate) fn misuse(why: Misuse) -> Told
+        ensures { result ≡ misuse_told why }
+    {
+        match why {
+            Misuse::Kind => Told::plain(status::KIND),
+            Misuse::Width => Told::plain(status::WIDTH),
+        }
+    }
+
+    // A status and a moment.
+    fn at(status: u32, at: u64) -> Told
+        ensures { result ≡ told_at status at }
+    {
+        let mut told = Told::plain(status);
+        told.reply.at = at;
+        told
+    }
+
+    pub(crate) fn looked(answer: Looked) -> Told
+        ensures { result ≡ lookup_told answer }
+    {
+        match answer {
+            Looked::Found { at, since } => {
+                let mut told = Told::at(status::OK, at);
+                told.reply.since = since;
+                told
+            }
+            Looked::Absent { at } => Told::at(status::ABSENT, at),
+            Looked::Busy => Told::plain(status::BUSY),
+        }
+    }
+
+    fn done(put: Put) -> Told
+        ensures { result ≡ done_told put }
+    {
+        let (at, moves, evicted) = match put {
+            Put::Renewed { at } => {
+                let mut told = Told::at(status::OK, at);
+                told.reply.put = RENEWED;
+                return told;
+            }
+            Put::Stored { at, moves, evicted } => (at, moves, evicted),
+        };
+        let mut told = Told::at(status::OK, at);
+        told.reply.moves = u32::from(moves);
+        match evicted {
+            None => told.reply.put = STORED,
+            Some(key) => {
+                told.reply.put = EVICTED;
+                told.reply.evicted = key;
+            }
+        }
+        told
+    }
+
+    fn not_put(why: PutError) -> Told
+        ensures { result ≡ not_put_told why }
+    {
+        match why {
+            PutError::NoPath => Told::plain(status::NO_PATH),
+            PutError::AllRecent => Told::plain(status::ALL_RECENT),
+            PutError::Spent => Told::plain(status::SPENT),
+        }
+    }
+
+    pub(crate) fn put(answer: Result<Put, PutError>) -> Told
+        ensures { result ≡ put_told answer }
+    {
+        match answer {
+            Ok(put) => Told::done(put),
+            Err(why) => Told::not_put(why),
+        }
+    }
+
+    fn not_put_if(why: IfError) -> Told
+        ensures { result ≡ not_put_if_told why }
+    {
+        match why {
+            IfError::Spent => Told::plain(status::SPENT),
+            IfError::NotThere { at } => Told::at(status::ABSENT, at),
+            IfError::Changed { since } => {
+                let mut told = Told::plain(status::CHANGED);
+                told.reply.since = since;
+                told
+            }
+        }
+    }
+
+    // A put on a condition always finds its key.
+    fn done_if(at: u64) -> Told
+        ensures { result ≡ done_told (Renewed at) }
+    {
+        Told::done(Put::Renewed { at })
+    }
+
+    pub(crate) fn put_if(answer: Result<u64, IfError>) -> Told
+        ensures { result ≡ put_if_told answer }
+    {
+        match answer {
+            Ok(at) => Told::done_if(at),
+            Err(why) => Told::not_put_if(why),
+        }
+    }
+
+    fn gone(answer: Remove) -> Told
+        ensures { result ≡ gone_told answer }
+    {
+        match answer {
+            Remove::Removed { at } => Told::at(status::OK, at),
+            Remove::NotThere { at } => Told::at(status::ABSENT, at),
+        }
+    }
+
+    pub(crate) fn removal(answer: Result<Remove, Spent>) -> Told
+        ensures { result ≡ removal_told answer }
+    {
+        match answer {
+            Ok(done) => Told::gone(done),
+            Err(Spent) => Told::plain(status::SPENT),
+        }
+    }
+}
+
+impl Told {
+    pub(crate) fn try_put(answer: Result<Put, DeskError<PutError>>) -> Told
+        ensures { result ≡ try_put_told answer }
+    {
+        match answer {
+            Ok(put) => Told::done(put),
+            Err(DeskError::Held) => Told::plain(status::HELD),
+            Err(DeskError::Call(why)) => Told::not_put(why),
+        }
+    }
+
+    pub(crate) fn try_put_if(answer: Result<u64, DeskError<IfError>>) -> Told
+        ensures { result ≡ try_put_if_told answer }
+    {
+        match answer {
+            Ok(at) => Told::done_if(at),
+            Err(DeskError::Held) => Told::plain(status::HELD),
+            Err(DeskError::Call(why)) => Told::not_put_if(why),
+        }
+    }
+
+    pub(crate) fn try_removal(answer: Result<Remove, DeskError<Spent>>) -> Told
+        ensures { result ≡ try_removal_told answer }
+    {
+        match answer {
+            Ok(done) => Told::gone(done),
+            Err(DeskError::Held) => Told::plain(status::HELD),
+            Err(DeskError::Call(Spent)) => Told::plain(status::SPENT),
+        }
+    }
+}

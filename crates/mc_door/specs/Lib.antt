@@ -1,0 +1,5 @@
+pub mod Looks
+pub mod Roles
+pub mod Means
+pub mod Held
+pub mod NewSides

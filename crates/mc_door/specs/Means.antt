@@ -1,0 +1,79 @@
+-- What the calls of a side mean.
+use Rattle.std.specs.Prelude.{ℕ, ◌≡◌, ◌≢◌, List, length, Result}
+use Rattle.mc_cache.specs.Plain.{HasAnswered, history, seen, PutMeans as PutOf, PutIfMeans as PutIfOf, RemovalMeans as RemovalOf, TurnMeans}
+use Rattle.mc_cache.specs.declared.desk.DeskError.{DeskError}
+use Rattle.mc_plan.specs.declared.answer.IfError.{IfError}
+use Rattle.mc_plan.specs.declared.answer.Put.{Put}
+use Rattle.mc_plan.specs.declared.answer.PutError.{PutError}
+use Rattle.mc_plan.specs.declared.answer.Remove.{Remove}
+use Rattle.mc_plan.specs.declared.answer.Spent.{Spent}
+use Rattle.mc_words.specs.declared.history.Reply.{Reply}
+use Rattle.mc_door.specs.declared.looked.Looked.{Looked}
+use Rattle.mc_door.specs.declared.side.Misuse.{Misuse}
+use Rattle.mc_door.specs.declared.side.Misuse.TheVariants.{Kind, Width}
+use Rattle.mc_door.specs.Looks.{reply_of, LeavesUnlessFound}
+use Rattle.mc_door.specs.Roles.{Role, Writes, Reads, Passes}
+
+abbrev pub CanLook : Role → Type 0
+CanLook (Writes w) = ⊥
+CanLook (Reads r) = Unit {0}
+CanLook (Passes r) = Unit {0}
+
+abbrev pub CanWrite : Role → Type 0
+CanWrite (Writes w) = Unit {0}
+CanWrite (Reads r) = ⊥
+CanWrite (Passes r) = ⊥
+
+abbrev pub HasTurns : Role → Type 0
+HasTurns (Writes w) = ⊥
+HasTurns (Reads r) = ⊥
+HasTurns (Passes r) = Unit {0}
+
+-- the first that applies: the side has no such call; the value has another width
+abbrev pub IsMisuse : (Role → Type 0) → ℕ → Role → ℕ → Misuse → Type 0
+IsMisuse Can V role words Kind = ¬ Can role
+IsMisuse Can V role words Width = Can role × (words ≢ V)
+
+-- a lookup by a reader or a pass: the answer is true of what it has seen
+abbrev pub Looks : (V : ℕ) → Role → Role → ℕ → Reply V → Type 0
+Looks V (Reads r) (Reads r') key reply = (r'.of ≡ r.of) × HasAnswered V (seen V r) (seen V r') key reply
+Looks V (Passes r) (Passes r') key reply = (r'.of ≡ r.of) × HasAnswered V (seen V r) (seen V r') key reply
+Looks V _ _ key reply = ⊥
+
+-- the same by a pass alone, which tries for the turn where it is busy
+abbrev pub LooksAtDesk : (V : ℕ) → Role → Role → ℕ → Reply V → Type 0
+LooksAtDesk V (Passes r) (Passes r') key reply = (r'.of ≡ r.of) × HasAnswered V (seen V r) (seen V r') key reply
+LooksAtDesk V _ _ key reply = ⊥
+
+-- a lookup whose value is written beside its answer
+abbrev pub GetMeans : (V : ℕ) → Role → Role → ℕ → List ℕ → List ℕ → Looked → Type 0
+GetMeans V role role' key old new told = (length old ≡ V) × Looks V role role' key (reply_of V new told) × LeavesUnlessFound old new told
+
+abbrev pub GetOrDeskMeans : (V : ℕ) → Role → Role → ℕ → List ℕ → List ℕ → Looked → Type 0
+GetOrDeskMeans V role role' key old new told = (length old ≡ V) × LooksAtDesk V role role' key (reply_of V new told) × LeavesUnlessFound old new told
+
+-- a put by the writer
+abbrev pub PutMeans : (V : ℕ) → Role → Role → ℕ → List ℕ → Result Put PutError → Type 0
+PutMeans V (Writes w) (Writes w') key v told = (length v ≡ V) × (w'.of ≡ w.of) × PutOf V (history V w) (history V w') key v told
+PutMeans V _ _ key v told = ⊥
+
+abbrev pub PutIfMeans : (V : ℕ) → Role → Role → ℕ → ℕ → List ℕ → Result ℕ IfError → Type 0
+PutIfMeans V (Writes w) (Writes w') key since v told = (length v ≡ V) × (w'.of ≡ w.of) × PutIfOf V (history V w) (history V w') key since v told
+PutIfMeans V _ _ key since v told = ⊥
+
+abbrev pub RemovalMeans : (V : ℕ) → Role → Role → ℕ → Result Remove Spent → Type 0
+RemovalMeans V (Writes w) (Writes w') key told = (w'.of ≡ w.of) × RemovalOf V (history V w) (history V w') key told
+RemovalMeans V _ _ key told = ⊥
+
+-- tries for the turn, by a pass
+abbrev pub TryPutMeans : (V : ℕ) → Role → Role → ℕ → List ℕ → Result Put (DeskError PutError) → Type 0
+TryPutMeans V (Passes r) (Passes r') key v told = (length v ≡ V) × (r'.of ≡ r.of) × TurnMeans (λ h h' answer. PutOf V h h' key v answer) (seen V r) (seen V r') told
+TryPutMeans V _ _ key v told = ⊥
+
+abbrev pub TryPutIfMeans : (V : ℕ) → Role → Role → ℕ → ℕ → List ℕ → Result ℕ (DeskError IfError) → Type 0
+TryPutIfMeans V (Passes r) (Passes r') key since v told = (length v ≡ V) × (r'.of ≡ r.of) × TurnMeans (λ h h' answer. PutIfOf V h h' key since v answer) (seen V r) (seen V r') told
+TryPutIfMeans V _ _ key since v told = ⊥
+
+abbrev pub TryRemovalMeans : (V : ℕ) → Role → Role → ℕ → Result Remove (DeskError Spent) → Type 0
+TryRemovalMeans V (Passes r) (Passes r') key told = (r'.of ≡ r.of) × TurnMeans (λ h h' answer. RemovalOf V h h' key answer) (seen V r) (seen V r') told
+TryRemovalMeans V _ _ key told = ⊥

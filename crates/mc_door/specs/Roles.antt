@@ -1,0 +1,15 @@
+-- What contracts see of a side, whatever the width of its values.
+use Rattle.std.specs.Prelude.{ℕ}
+use Rattle.mc_shared.specs.Records.{Opening, ReaderRecord, WriterRecord}
+use Rattle.mc_door.specs.declared.side.Side.{Side}
+use Rattle.mc_door.specs.declared.side.Side.TheVariants as side
+
+pub data Role : Type 0 where
+  Writes : WriterRecord → Role
+  Reads : ReaderRecord → Role
+  Passes : ReaderRecord → Role
+
+abbrev pub role_of : {V : ℕ} → Side V → Role
+role_of (side.Writer s) = Writes s.writer
+role_of (side.Reader s) = Reads s.reader
+role_of (side.Pass s) = Passes s.pass

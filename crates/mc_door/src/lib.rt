@@ -1,0 +1,24 @@
+//! What lies behind a handle that a program in C keeps: a side of a cache, for values of one of eight widths.
+//!
+//! A side keeps the cache with it, and that the two belong together. So a call of a side has no condition that its caller would have to
+//! know of: a call that the side can't make, or a value of another width, is a `Misuse`.
+#![tactic(auto)]
+
+mod held;
+mod looked;
+mod new_sides;
+mod pass_side;
+mod reader_side;
+mod rest;
+mod side;
+mod words;
+mod writer_side;
+
+pub use held::Held;
+pub use looked::Looked;
+pub use mc_cache::{
+    DeskError, IfError, OpenError, Put, PutError, Remove, Shape, ShapeError, Spent, Why,
+};
+pub use new_sides::NewSides;
+pub use rest::{Rest, open, open_desk};
+pub use side::{Misuse, Side};

@@ -1,0 +1,64 @@
+//! A pass at the desk of a cache, with the desk and the cache.
+ghost use Rattle.std.specs.Prelude.{◌≡◌, length};
+ghost use Rattle.mc_cache.specs.Plain.{HasAnswered, PutIfMeans, PutMeans, RemovalMeans, TurnMeans, seen};
+
+use crate::words::array_of;
+use mc_cache::{Cache, Desk, DeskError, IfError, Put, PutError, Reader, Remove, Reply, Spent};
+use std::alloc::Global;
+use std::sync::Arc;
+
+/// A reader of a cache whose writer lies on a desk.
+#[derive(Drop)]
+pub struct PassSide<const V: usize> {
+    pub cache: Arc<Cache<V>, Global>,
+    pub desk: Arc<Desk<V>, Global>,
+    pub pass: Reader<V>,
+    ghost belongs: { (pass.of ≡ cache.value) × (desk.value ≡ cache.value) },
+}
+
+impl<const V: usize> PassSide<V> {
+    pub(crate) fn get(&mut self, key: u64) -> Reply<V>
+        ensures of { self.new.pass.of ≡ self.old.pass.of }
+        ensures plain { HasAnswered V (seen V self.old.pass) (seen V self.new.pass) key result }
+    {
+        self.pass.get(&self.cache, key)
+    }
+
+    pub(crate) fn get_or_desk(&mut self, key: u64) -> Reply<V>
+        ensures of { self.new.pass.of ≡ self.old.pass.of }
+        ensures plain { HasAnswered V (seen V self.old.pass) (seen V self.new.pass) key result }
+    {
+        self.pass.get_or_desk(&self.cache, &self.desk, key)
+    }
+
+    pub(crate) fn try_put(&mut self, key: u64, value: &[u64]) -> Result<Put, DeskError<PutError>>
+        requires { length value.now ≡ V }
+        ensures of { self.new.pass.of ≡ self.old.pass.of }
+        ensures plain { TurnMeans (λ h h' told. PutMeans V h h' key value.now told) (seen V self.old.pass) (seen V self.new.pass) result }
+    {
+        self.desk
+            .try_put(&self.cache, &mut self.pass, key, array_of::<V>(value))
+    }
+
+    pub(crate) fn try_put_if(
+        &mut self,
+        key: u64,
+        since: u64,
+        value: &[u64],
+    ) -> Result<u64, DeskError<IfError>>
+        requires { length value.now ≡ V }
+        ensures of { self.new.pass.of ≡ self.old.pass.of }
+        ensures plain { TurnMeans (λ h h' told. PutIfMeans V h h' key since value.now told) (seen V self.old.pass) (seen V self.new.pass) result }
+    {
+        let value = array_of::<V>(value);
+        self.desk
+            .try_put_if(&self.cache, &mut self.pass, key, since, value)
+    }
+
+    pub(crate) fn try_remove(&mut self, key: u64) -> Result<Remove, DeskError<Spent>>
+        ensures of { self.new.pass.of ≡ self.old.pass.of }
+        ensures plain { TurnMeans (λ h h' told. RemovalMeans V h h' key told) (seen V self.old.pass) (seen V self.new.pass) result }
+    {
+        self.desk.try_remove(&self.cache, &mut self.pass, key)
+    }
+}

@@ -1,0 +1,115 @@
+//! A cache is opened for values of one of eight widths.
+ghost use Rattle.std.specs.Prelude.{◌≡◌, ◌+◌, IfOk, MatchOption, MatchResult, true, false};
+ghost use Rattle.mc_cache.specs.Openings.{RefusesOpening};
+ghost use Rattle.mc_shared.specs.Views.{layout_of};
+ghost use Rattle.mc_words.specs.Places.{IsWidth};
+ghost use Rattle.mc_words.specs.Readers.{HasReaders};
+ghost use Rattle.mc_door.specs.Held.{role_in, width_of};
+ghost use Rattle.mc_door.specs.NewSides.{IsNewSide, IsNewWriter, count_in, has_desk_in, opening_in, width_in};
+
+use crate::held::Held;
+use crate::new_sides::NewSides;
+use mc_cache::{OpenError, Shape};
+use mc_words::NoMemory;
+use std::alloc::Global;
+
+/// The sides of a new cache that no handle keeps yet.
+#[derive(Drop)]
+pub enum Rest {
+    One(NewSides<1>),
+    Two(NewSides<2>),
+    Three(NewSides<3>),
+    Four(NewSides<4>),
+    Five(NewSides<5>),
+    Six(NewSides<6>),
+    Seven(NewSides<7>),
+    Eight(NewSides<8>),
+}
+
+impl Rest {
+    /// One of them, if any is left. `Err` only where there is no memory.
+    pub fn next(&mut self) -> Result<Option<Held>, NoMemory>
+        ensures same { (opening_in self.new ≡ opening_in self.old) × (has_desk_in self.new ≡ has_desk_in self.old) × (width_in self.new ≡ width_in self.old) }
+        ensures given { IfOk result (λ given. MatchOption given (count_in self.old ≡ 0)
+            (λ held. (width_of held ≡ width_in self.old) × IsNewSide (opening_in self.old) (has_desk_in self.old) (role_in held) × (count_in self.old ≡ count_in self.new + 1))) }
+    {
+        match self {
+            Rest::One(sides) => Ok(sides.next()?.map(Held::One)),
+            Rest::Two(sides) => Ok(sides.next()?.map(Held::Two)),
+            Rest::Three(sides) => Ok(sides.next()?.map(Held::Three)),
+            Rest::Four(sides) => Ok(sides.next()?.map(Held::Four)),
+            Rest::Five(sides) => Ok(sides.next()?.map(Held::Five)),
+            Rest::Six(sides) => Ok(sides.next()?.map(Held::Six)),
+            Rest::Seven(sides) => Ok(sides.next()?.map(Held::Seven)),
+            Rest::Eight(sides) => Ok(sides.next()?.map(Held::Eight)),
+        }
+    }
+}
+
+/// A cache for values of so many words: its writer, and as many readers as were asked for, which `Rest::next` gives.
+pub fn open(
+    alloc: Global,
+    shape: Shape,
+    words: usize,
+    readers: u32,
+) -> Result<(Held, Rest), OpenError>
+    requires width { IsWidth words }
+    ensures refused { MatchResult result (λ r. (opening_in r.1).layout ≡ layout_of words shape) (λ e. RefusesOpening shape readers e) }
+    ensures writer { IfOk result (λ r. (width_of r.0 ≡ words) × IsNewWriter (opening_in r.1) (role_in r.0)) }
+    ensures rest { IfOk result (λ r. (width_in r.1 ≡ words) × (has_desk_in r.1 ≡ false) × (count_in r.1 ≡ readers) × HasReaders readers) }
+{
+    match words {
+        1 => {
+            let (side, rest) = NewSides::<1>::open(alloc, shape, readers)?;
+            Ok((Held::One(side), Rest::One(rest)))
+        }
+        2 => {
+            let (side, rest) = NewSides::<2>::open(alloc, shape, readers)?;
+            Ok((Held::Two(side), Rest::Two(rest)))
+        }
+        3 => {
+            let (side, rest) = NewSides::<3>::open(alloc, shape, readers)?;
+            Ok((Held::Three(side), Rest::Three(rest)))
+        }
+        4 => {
+            let (side, rest) = NewSides::<4>::open(alloc, shape, readers)?;
+            Ok((Held::Four(side), Rest::Four(rest)))
+        }
+        5 => {
+            let (side, rest) = NewSides::<5>::open(alloc, shape, readers)?;
+            Ok((Held::Five(side), Rest::Five(rest)))
+        }
+        6 => {
+            let (side, rest) = NewSides::<6>::open(alloc, shape, readers)?;
+            Ok((Held::Six(side), Rest::Six(rest)))
+        }
+        7 => {
+            let (side, rest) = NewSides::<7>::open(alloc, shape, readers)?;
+            Ok((Held::Seven(side), Rest::Seven(rest)))
+        }
+        8 => {
+            let (side, rest) = NewSides::<8>::open(alloc, shape, readers)?;
+            Ok((Held::Eight(side), Rest::Eight(rest)))
+        }
+        _ => unreachable!(),
+    }
+}
+
+/// A cache for values of so many words, whose writer lies on a desk: as many passes as were asked for, which `Rest::next` gives.
+pub fn open_desk(alloc: Global, shape: Shape, words: usize, passes: u32) -> Result<Rest, OpenError>
+    requires width { IsWidth words }
+    ensures refused { MatchResult result (λ r. (opening_in r).layout ≡ layout_of words shape) (λ e. RefusesOpening shape passes e) }
+    ensures rest { IfOk result (λ r. (width_in r ≡ words) × (has_desk_in r ≡ true) × (count_in r ≡ passes) × HasReaders passes) }
+{
+    match words {
+        1 => Ok(Rest::One(NewSides::<1>::open_desk(alloc, shape, passes)?)),
+        2 => Ok(Rest::Two(NewSides::<2>::open_desk(alloc, shape, passes)?)),
+        3 => Ok(Rest::Three(NewSides::<3>::open_desk(alloc, shape, passes)?)),
+        4 => Ok(Rest::Four(NewSides::<4>::open_desk(alloc, shape, passes)?)),
+        5 => Ok(Rest::Five(NewSides::<5>::open_desk(alloc, shape, passes)?)),
+        6 => Ok(Rest::Six(NewSides::<6>::open_desk(alloc, shape, passes)?)),
+        7 => Ok(Rest::Seven(NewSides::<7>::open_desk(alloc, shape, passes)?)),
+        8 => Ok(Rest::Eight(NewSides::<8>::open_desk(alloc, shape, passes)?)),
+        _ => unreachable!(),
+    }
+}

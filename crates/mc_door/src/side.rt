@@ -1,0 +1,149 @@
+//! A side of a cache, for values of so many words.
+ghost use Rattle.std.specs.Prelude.{◌≡◌, length, MatchResult};
+ghost use Rattle.mc_door.specs.Roles.{role_of};
+ghost use Rattle.mc_door.specs.Means.{CanLook, CanWrite, HasTurns, IsMisuse, Looks, LooksAtDesk, PutIfMeans, PutMeans, RemovalMeans, TryPutIfMeans, TryPutMeans, TryRemovalMeans};
+
+use crate::pass_side::PassSide;
+use crate::reader_side::ReaderSide;
+use crate::writer_side::WriterSide;
+use mc_cache::{DeskError, IfError, Put, PutError, Remove, Reply, Spent};
+
+/// Why a call was not made. Nothing was changed.
+#[derive(Clone, Copy, Debug, PartialEq, Eq)]
+pub enum Misuse {
+    /// A side of this kind has no such call.
+    Kind,
+    /// The value has another number of words than those of the cache.
+    Width,
+}
+
+/// The side of a cache that a handle is for.
+#[derive(Drop)]
+pub enum Side<const V: usize> {
+    Writer(WriterSide<V>),
+    Reader(ReaderSide<V>),
+    Pass(PassSide<V>),
+}
+
+impl<const V: usize> Side<V> {
+    pub(crate) fn get(&mut self, key: u64, words: usize) -> Result<Reply<V>, Misuse>
+        ensures { MatchResult result (λ reply. (words ≡ V) × Looks V (role_of self.old) (role_of self.new) key reply)
+            (λ why. IsMisuse CanLook V (role_of self.old) words why × (self.new ≡ self.old)) }
+    {
+        if let Side::Writer(_) = self {
+            return Err(Misuse::Kind);
+        }
+        if words != V {
+            return Err(Misuse::Width);
+        }
+        match self {
+            Side::Reader(side) => Ok(side.get(key)),
+            Side::Pass(side) => Ok(side.get(key)),
+            Side::Writer(_) => Err(Misuse::Kind),
+        }
+    }
+
+    pub(crate) fn get_or_desk(&mut self, key: u64, words: usize) -> Result<Reply<V>, Misuse>
+        ensures { MatchResult result (λ reply. (words ≡ V) × LooksAtDesk V (role_of self.old) (role_of self.new) key reply)
+            (λ why. IsMisuse HasTurns V (role_of self.old) words why × (self.new ≡ self.old)) }
+    {
+        let Side::Pass(side) = self else {
+            return Err(Misuse::Kind);
+        };
+        if words != V {
+            return Err(Misuse::Width);
+        }
+        Ok(side.get_or_desk(key))
+    }
+
+    pub(crate) fn put(&mut self, key: u64, value: &[u64]) -> Result<Result<Put, PutError>, Misuse>
+        ensures { MatchResult result (λ told. PutMeans V (role_of self.old) (role_of self.new) key value.now told)
+            (λ why. IsMisuse CanWrite V (role_of self.old) (length value.now) why × (self.new ≡ self.old)) }
+    {
+        let Side::Writer(side) = self else {
+            return Err(Misuse::Kind);
+        };
+        if value.len() != V {
+            return Err(Misuse::Width);
+        }
+        Ok(side.put(key, value))
+    }
+
+    pub(crate) fn put_if(
+        &mut self,
+        key: u64,
+        since: u64,
+        value: &[u64],
+    ) -> Result<Result<u64, IfError>, Misuse>
+        ensures { MatchResult result (λ told. PutIfMeans V (role_of self.old) (role_of self.new) key since value.now told)
+            (λ why. IsMisuse CanWrite V (role_of self.old) (length value.now) why × (self.new ≡ self.old)) }
+    {
+        let Side::Writer(side) = self else {
+            return Err(Misuse::Kind);
+        };
+        if value.len() != V {
+            return Err(Misuse::Width);
+        }
+        Ok(side.put_if(key, since, value))
+    }
+
+    pub(crate) fn remove(&mut self, key: u64) -> Result<Result<Remove, Spent>, Misuse>
+        ensures { MatchResult result (λ told. RemovalMeans V (role_of self.old) (role_of self.new) key told)
+            (λ why. IsMisuse CanWrite V (role_of self.old) V why × (self.new ≡ self.old)) }
+    {
+        let Side::Writer(side) = self else {
+            return Err(Misuse::Kind);
+        };
+        Ok(side.remove(key))
+    }
+}
+
+impl<const V: usize> Side<V> {
+    pub(crate) fn try_put(
+        &mut self,
+        key: u64,
+        value: &[u64],
+    ) -> Result<Result<Put, DeskError<PutError>>, Misuse>
+        ensures { MatchResult result (λ told. TryPutMeans V (role_of self.old) (role_of self.new) key value.now told)
+            (λ why. IsMisuse HasTurns V (role_of self.old) (length value.now) why × (self.new ≡ self.old)) }
+    {
+        let Side::Pass(side) = self else {
+            return Err(Misuse::Kind);
+        };
+        if value.len() != V {
+            return Err(Misuse::Width);
+        }
+        Ok(side.try_put(key, value))
+    }
+
+    pub(crate) fn try_put_if(
+        &mut self,
+        key: u64,
+        since: u64,
+        value: &[u64],
+    ) -> Result<Result<u64, DeskError<IfError>>, Misuse>
+        ensures { MatchResult result (λ told. TryPutIfMeans V (role_of self.old) (role_of self.new) key since value.now told)
+            (λ why. IsMisuse HasTurns V (role_of self.old) (length value.now) why × (self.new ≡ self.old)) }
+    {
+        let Side::Pass(side) = self else {
+            return Err(Misuse::Kind);
+        };
+        if value.len() != V {
+            return Err(Misuse::Width);
+        }
+        Ok(side.try_put_if(key, since, value))
+    }
+
+    pub(crate) fn try_remove(
+        &mut self,
+        key: u64,
+    ) -> Result<Result<Remove, DeskError<Spent>>, Misuse>
+        ensures { MatchResult result (λ told. TryRemovalMeans V (role_of self.old) (role_of self.new) key told)
+            (λ why. IsMisuse HasTurns V (role_of self.old) V why × (self.new ≡ self.old)) }
+    {
+        let Side::Pass(side) = self else {
+            return Err(Misuse::Kind);
+        };
+        Ok(side.try_remove(key))
+    }
+}

@@ -1,0 +1,42 @@
+//! The writer of a cache, with the cache.
+ghost use Rattle.std.specs.Prelude.{◌≡◌, length};
+ghost use Rattle.mc_cache.specs.Plain.{PutIfMeans, PutMeans, RemovalMeans, history};
+
+use crate::words::array_of;
+use mc_cache::{Cache, IfError, Put, PutError, Remove, Spent, Writer};
+use std::alloc::Global;
+use std::sync::Arc;
+
+/// The writer of a cache.
+#[derive(Drop)]
+pub struct WriterSide<const V: usize> {
+    pub cache: Arc<Cache<V>, Global>,
+    pub writer: Writer<V>,
+    ghost belongs: { writer.of ≡ cache.value },
+}
+
+impl<const V: usize> WriterSide<V> {
+    pub(crate) fn put(&mut self, key: u64, value: &[u64]) -> Result<Put, PutError>
+        requires { length value.now ≡ V }
+        ensures of { self.new.writer.of ≡ self.old.writer.of }
+        ensures plain { PutMeans V (history V self.old.writer) (history V self.new.writer) key value.now result }
+    {
+        self.writer.put(&self.cache, key, array_of::<V>(value))
+    }
+
+    pub(crate) fn put_if(&mut self, key: u64, since: u64, value: &[u64]) -> Result<u64, IfError>
+        requires { length value.now ≡ V }
+        ensures of { self.new.writer.of ≡ self.old.writer.of }
+        ensures plain { PutIfMeans V (history V self.old.writer) (history V self.new.writer) key since value.now result }
+    {
+        self.writer
+            .put_if(&self.cache, key, since, array_of::<V>(value))
+    }
+
+    pub(crate) fn remove(&mut self, key: u64) -> Result<Remove, Spent>
+        ensures of { self.new.writer.of ≡ self.old.writer.of }
+        ensures plain { RemovalMeans V (history V self.old.writer) (history V self.new.writer) key result }
+    {
+        self.writer.remove(&self.cache, key)
+    }
+}

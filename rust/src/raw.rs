@@ -1,0 +1,85 @@
+//! The calls of the archive, as `cefrodil.h` declares them.
+use std::ffi::c_void;
+
+/// A handle, or none: memory that only the archive writes, once it was zeroed.
+#[repr(C)]
+pub struct RawHandle {
+    pub at: *mut c_void,
+    pub live: bool,
+}
+
+#[repr(C)]
+pub struct RawShape {
+    pub limit: u64,
+    pub buckets: u32,
+    pub items: u32,
+    pub stripes: u32,
+    pub depth: u32,
+    pub tries: u32,
+    pub mix: u32,
+}
+
+#[repr(C)]
+#[derive(Default)]
+pub struct RawReply {
+    pub at: u64,
+    pub since: u64,
+    pub evicted: u64,
+    pub moves: u32,
+    pub put: u32,
+}
+
+pub const OK: u32 = 0;
+pub const ABSENT: u32 = 1;
+pub const BUSY: u32 = 2;
+pub const NO_PATH: u32 = 3;
+pub const ALL_RECENT: u32 = 4;
+pub const SPENT: u32 = 5;
+pub const CHANGED: u32 = 6;
+pub const HELD: u32 = 7;
+pub const NO_MEMORY: u32 = 12;
+pub const BAD_BUCKETS: u32 = 15;
+pub const BAD_ITEMS: u32 = 16;
+pub const BAD_STRIPES: u32 = 17;
+pub const BAD_DEPTH: u32 = 18;
+pub const BAD_TRIES: u32 = 19;
+pub const BAD_LIMIT: u32 = 20;
+pub const BAD_READERS: u32 = 21;
+
+pub const PUT_EVICTED: u32 = 2;
+pub const PUT_RENEWED: u32 = 3;
+
+unsafe extern "C" {
+    pub fn cefrodil_shape_for_items(items: u32, shape: *mut RawShape) -> u32;
+    pub fn cefrodil_open(
+        shape: *const RawShape,
+        words: usize,
+        writer: *mut RawHandle,
+        readers: *mut RawHandle,
+        reader_count: usize,
+    ) -> u32;
+    pub fn cefrodil_open_desk(shape: *const RawShape, words: usize, passes: *mut RawHandle, pass_count: usize) -> u32;
+    pub fn cefrodil_get(reader: *mut RawHandle, key: u64, value: *mut u64, words: usize, reply: *mut RawReply) -> u32;
+    pub fn cefrodil_get_or_desk(pass: *mut RawHandle, key: u64, value: *mut u64, words: usize, reply: *mut RawReply) -> u32;
+    pub fn cefrodil_put(writer: *mut RawHandle, key: u64, value: *const u64, words: usize, reply: *mut RawReply) -> u32;
+    pub fn cefrodil_put_if(
+        writer: *mut RawHandle,
+        key: u64,
+        since: u64,
+        value: *const u64,
+        words: usize,
+        reply: *mut RawReply,
+    ) -> u32;
+    pub fn cefrodil_remove(writer: *mut RawHandle, key: u64, reply: *mut RawReply) -> u32;
+    pub fn cefrodil_try_put(pass: *mut RawHandle, key: u64, value: *const u64, words: usize, reply: *mut RawReply) -> u32;
+    pub fn cefrodil_try_put_if(
+        pass: *mut RawHandle,
+        key: u64,
+        since: u64,
+        value: *const u64,
+        words: usize,
+        reply: *mut RawReply,
+    ) -> u32;
+    pub fn cefrodil_try_remove(pass: *mut RawHandle, key: u64, reply: *mut RawReply) -> u32;
+    pub fn cefrodil_close(handle: *mut RawHandle) -> u32;
+}

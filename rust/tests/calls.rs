@@ -1,0 +1,94 @@
+use cefrodil::{Cache, Desk, OpenError, Put, PutIfError, Removal, Reply, Shape, TurnError};
+use std::error::Error;
+use std::thread;
+
+fn is_send<T: Send>(_: &T) {}
+
+fn is_sync<T: Sync>(_: &T) {}
+
+#[test]
+fn each_call_answers() -> Result<(), Box<dyn Error>> {
+    let (mut writer, mut readers) = Cache::<2>::open(&Shape::for_items(100)?, 1)?;
+    assert_eq!(readers[0].get(1), Reply::Absent { at: 0 });
+    assert_eq!(writer.put(1, &[2, 3])?, Put::Stored { at: 1, moves: 0, evicted: None });
+    assert_eq!(writer.put(1, &[2, 4])?, Put::Renewed { at: 2 });
+    assert_eq!(readers[0].get(1), Reply::Found { value: [2, 4], at: 2, since: 2 });
+    assert_eq!(writer.put_if(1, 1, &[0, 0]), Err(PutIfError::Changed { since: 2 }));
+    assert_eq!(writer.put_if(9, 1, &[0, 0]), Err(PutIfError::NotThere { at: 2 }));
+    assert_eq!(writer.put_if(1, 2, &[2, 5])?, 3);
+    assert_eq!(writer.remove(1)?, Removal::Removed { at: 4 });
+    assert_eq!(writer.remove(1)?, Removal::NotThere { at: 4 });
+    is_send(&writer);
+    is_send(&readers[0]);
+    Ok(())
+}
+
+#[test]
+fn openings_are_refused() -> Result<(), OpenError> {
+    let shape = Shape::for_items(100)?;
+    assert_eq!(Shape::for_items(0), Err(OpenError::Items));
+    assert_eq!(Cache::<1>::open(&shape, 0).err(), Some(OpenError::Readers));
+    assert_eq!(Cache::<1>::open(&shape, 1025).err(), Some(OpenError::Readers));
+    assert_eq!(Cache::<1>::open(&Shape { buckets: 3, ..shape }, 1).err(), Some(OpenError::Buckets));
+    assert_eq!(Desk::<1>::open(&Shape { tries: 0, ..shape }, 1).err(), Some(OpenError::Tries));
+    assert_eq!(OpenError::Depth.to_string(), "depth must be from 0 to 8");
+    Ok(())
+}
+
+#[test]
+fn threads_read_whole_values() -> Result<(), Box<dyn Error>> {
+    let (mut writer, readers) = Cache::<4>::open(&Shape::for_items(64)?, 3)?;
+    thread::scope(|threads| {
+        for mut reader in readers {
+            threads.spawn(move || {
+                let mut last = 0;
+                for n in 0..200_000u64 {
+                    if let Reply::Found { value, at, since } = reader.get(n % 64) {
+                        assert!(value[0] % 64 == n % 64 && value == [value[0]; 4]);
+                        assert!(last <= at && since <= at);
+                        last = at;
+                    }
+                }
+            });
+        }
+        for n in 0..200_000u64 {
+            let _ = writer.put(n % 64, &[n; 4]);
+        }
+    });
+    Ok(())
+}
+
+#[test]
+fn threads_take_turns() -> Result<(), Box<dyn Error>> {
+    let desk = Desk::<1>::open(&Shape::for_items(10)?, 3)?;
+    is_sync(&desk);
+    desk.pass().ok_or("no pass")?.try_put(7, &[0])?;
+    thread::scope(|threads| {
+        for _ in 0..3 {
+            threads.spawn(|| {
+                let mut pass = desk.pass().expect("there are three passes");
+                for _ in 0..5000 {
+                    add_one(&mut pass);
+                }
+            });
+        }
+    });
+    let mut pass = desk.pass().ok_or("no pass came back")?;
+    assert!(matches!(pass.get_or_desk(7), Reply::Found { value: [15_000], .. }));
+    assert!(matches!(pass.try_remove(7)?, Removal::Removed { .. }));
+    Ok(())
+}
+
+// Puts one more, if nobody has put since.
+fn add_one(pass: &mut cefrodil::Pass<1>) {
+    loop {
+        if let Reply::Found { value: [count], since, .. } = pass.get(7) {
+            match pass.try_put_if(7, since, &[count + 1]) {
+                Ok(_) => return,
+                Err(TurnError::Held | TurnError::Call(PutIfError::Changed { .. })) => {}
+                Err(why) => panic!("{why}"),
+            }
+        }
+        thread::yield_now();
+    }
+}
