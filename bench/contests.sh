@@ -28,6 +28,8 @@ build_peers() {
     g++ "${flags[@]}" libcuckoo.cpp -o libcuckoo
     g++ "${flags[@]}" tbb.cpp -o tbb -ltbb
     g++ "${flags[@]}" urcu.cpp -o urcu -lurcu-qsbr -lurcu-cds -lurcu-common
+    "$top/c/build" "$folder/archive"
+    g++ "${flags[@]}" -Iarchive/include door.cpp archive/lib/libcefrodil.a -o door
     mkdir -p twin/.cargo
     printf '[source.crates-io]\nreplace-with = "debian"\n[source.debian]\ndirectory = "%s"\n' "$crates" > twin/.cargo/config.toml
     (cd twin && RUSTFLAGS='-C target-cpu=x86-64-v2' cargo build --quiet --release --features dashmap)

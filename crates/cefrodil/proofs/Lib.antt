@@ -1,2 +1,5 @@
-mod Apart
-mod Behind
+pub mod Apart
+pub mod Behind
+pub mod Filling
+pub mod Gives
+pub mod Opened

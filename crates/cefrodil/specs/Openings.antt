@@ -1,5 +1,5 @@
 -- Handles that were opened just now.
-use Rattle.std.specs.Prelude.{ℕ, ◌≡◌, ◌⊎◌, Bool, true, false}
+use Rattle.std.specs.Prelude.{ℕ, ◌≡◌, ◌⊎◌, All, Bool, List, true, false}
 use mathlib.Core.Option.{Option, none, some}
 use Rattle.mc_cache.specs.Openings.{RefusesOpening}
 use Rattle.mc_cache.specs.declared.opening.OpenError.{OpenError}
@@ -46,6 +46,19 @@ open_status error.NoMemory = NO_MEMORY
 -- the cache has the shape that was asked for, with values of so many words
 abbrev pub IsOfShape : RawShape → ℕ → Opening → Type 0
 IsOfShape raw words o = (sh : Shape) × IsShapeOf raw sh × (o.layout ≡ layout_of words sh)
+
+-- the writer and the readers of a new cache
+pub record AreOpened (raw : RawShape) (words : ℕ) (writer : Slot) (readers : List Slot) : Type 0 where
+  pub opening : Opening
+  pub shape : IsOfShape raw words opening
+  pub has_writer : IsNewWriterAt opening words writer
+  pub has_readers : All (IsNewAt opening false words) readers
+
+-- the passes of a new cache
+pub record ArePasses (raw : RawShape) (words : ℕ) (passes : List Slot) : Type 0 where
+  pub opening : Opening
+  pub shape : IsOfShape raw words opening
+  pub has_passes : All (IsNewAt opening true words) passes
 
 -- the first fault, in this order: the width, the mix, those of the shape, the number of readers, memory
 abbrev pub RefusesAsked : RawShape → ℕ → ℕ → Type 0

@@ -86,3 +86,8 @@ abbrev pub try_removal_told : Result Remove (DeskError Spent) → Told
 try_removal_told (Ok done) = gone_told done
 try_removal_told (Err desk.Held) = plain HELD
 try_removal_told (Err (desk.Call spent)) = plain SPENT
+
+-- a call that was made tells its answer, and one that was not the misuse
+abbrev pub told_of : {Answer : Type 0} → (Answer → Told) → Result Answer Misuse → Told
+told_of tells (Ok answer) = tells answer
+told_of tells (Err why) = misuse_told why

@@ -7,7 +7,7 @@ ghost use Rattle.mc_door.specs.declared.held.Held.{Held};
 use crate::unboxed::Unboxed;
 use mc_door::Held;
 use std::alloc::Global;
-use std::marker::{Model, Send};
+use std::marker::Model;
 
 #[repr(C)]
 pub struct Nothing {
@@ -25,9 +25,6 @@ pub struct Handle {
 impl Model for Handle {
     ghost also_owns = { λ h. kept_at h.alloc h.at h.value };
 }
-
-// It may go to another thread, as what lies behind it may.
-unsafe impl Send for Handle {}
 
 impl Handle {
     pub(crate) fn empty(alloc: Global) -> Handle

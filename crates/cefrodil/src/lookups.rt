@@ -9,6 +9,7 @@ use crate::told::{RawReply, Told};
 use std::alloc::Global;
 
 /// What the cache holds of the key, by a reader's handle or a pass. The value is written only where it was found.
+#[tactic(auto, using(crate::proofs::Gives::gives_open, crate::proofs::Gives::gives_closed))]
 #[unsafe(no_mangle)]
 pub extern "C" fn cefrodil_get(
     alloc: Global,
@@ -20,22 +21,16 @@ pub extern "C" fn cefrodil_get(
     ensures open { reader.new.live ≡ reader.old.live }
     ensures told { LookupGives CanLook GetMeans (kept reader.old) (kept reader.new) key value.old value.new (record { status = result; reply = reply.new }) }
 {
-    let told = match reader.take(alloc) {
-        None => Told::closed(),
-        Some(mut held) => {
-            let answer = held.get(key, value);
-            reader.put(held);
-            match answer {
-                Ok(answer) => Told::looked(answer),
-                Err(why) => Told::misuse(why),
-            }
-        }
+    let Some(mut held) = reader.take(alloc) else {
+        return Told::closed().tell(reply);
     };
-    *reply = told.reply;
-    told.status
+    let made = held.get(key, value);
+    reader.put(held);
+    Told::lookup(made).tell(reply)
 }
 
 /// The same by a pass. Where the lookup is busy it tries once for the turn, with which it always tells.
+#[tactic(auto, using(crate::proofs::Gives::gives_open, crate::proofs::Gives::gives_closed))]
 #[unsafe(no_mangle)]
 pub extern "C" fn cefrodil_get_or_desk(
     alloc: Global,
@@ -47,17 +42,10 @@ pub extern "C" fn cefrodil_get_or_desk(
     ensures open { pass.new.live ≡ pass.old.live }
     ensures told { LookupGives HasTurns GetOrDeskMeans (kept pass.old) (kept pass.new) key value.old value.new (record { status = result; reply = reply.new }) }
 {
-    let told = match pass.take(alloc) {
-        None => Told::closed(),
-        Some(mut held) => {
-            let answer = held.get_or_desk(key, value);
-            pass.put(held);
-            match answer {
-                Ok(answer) => Told::looked(answer),
-                Err(why) => Told::misuse(why),
-            }
-        }
+    let Some(mut held) = pass.take(alloc) else {
+        return Told::closed().tell(reply);
     };
-    *reply = told.reply;
-    told.status
+    let made = held.get_or_desk(key, value);
+    pass.put(held);
+    Told::lookup(made).tell(reply)
 }

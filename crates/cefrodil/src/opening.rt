@@ -3,8 +3,7 @@ ghost use Rattle.std.specs.Prelude.{◌≡◌, ◌≢◌, ◌↔◌, All, MatchR
 ghost use Rattle.mc_words.specs.Places.{IsWidth};
 ghost use Rattle.mc_words.specs.Readers.{HasReaders};
 ghost use Rattle.mc_door.specs.NewSides.{count_in, has_desk_in, opening_in, width_in};
-ghost use Rattle.mc_shared.specs.Records.{Opening};
-ghost use Rattle.cefrodil.specs.Openings.{IsClosed, IsNewAt, IsNewWriterAt, IsOfShape, RefusesAsked, RefusesHandles, RefusesOpen, open_status};
+ghost use Rattle.cefrodil.specs.Openings.{AreOpened, ArePasses, IsClosed, IsNewAt, RefusesAsked, RefusesHandles, RefusesOpen, open_status};
 ghost use Rattle.cefrodil.specs.RawShapes.{HasMix, IsShapeOf};
 
 use crate::shape::RawShape;
@@ -54,8 +53,9 @@ fn close_all(alloc: Global, slots: &mut [Slot])
 }
 
 // A side for each of the slots. `false` where there is no memory.
+#[tactic(auto, using(crate::proofs::Filling::filled_more, crate::proofs::Filling::all_filled))]
 fn fill(alloc: Global, mut rest: Rest, slots: &mut [Slot]) -> bool
-    requires { count_in rest ≡ length slots.old }
+    requires { (count_in rest ≡ length slots.old) × All IsClosed slots.old }
     ensures { result ≡ true → All (IsNewAt (opening_in rest) (has_desk_in rest) (width_in rest)) slots.new }
 {
     for slot in slots.iter_mut() {
@@ -92,6 +92,7 @@ fn count_of(handles: usize) -> u32
 }
 
 // The handles are closed.
+#[tactic(auto, using(crate::proofs::Opened::are_opened, crate::proofs::Opened::refused_so_many))]
 fn open_all(
     alloc: Global,
     shape: &RawShape,
@@ -100,7 +101,7 @@ fn open_all(
     readers: &mut [Slot],
 ) -> u32
     requires { IsClosed writer.old × All IsClosed readers.old }
-    ensures opened { result ≡ OK → (o : Opening) × IsOfShape shape.now words o × IsNewWriterAt o words writer.new × All (IsNewAt o false words) readers.new }
+    ensures opened { result ≡ OK → AreOpened shape.now words writer.new readers.new }
     ensures refused { result ≢ OK → RefusesOpen shape.now words (length readers.old) result }
     ensures closed { result ≢ OK → (writer.new ≡ writer.old) × All IsClosed readers.new }
 {
@@ -132,7 +133,7 @@ pub extern "C" fn cefrodil_open(
     writer: &mut Slot,
     readers: &mut [Slot],
 ) -> u32
-    ensures opened { result ≡ OK → (o : Opening) × IsOfShape shape.now words o × IsNewWriterAt o words writer.new × All (IsNewAt o false words) readers.new }
+    ensures opened { result ≡ OK → AreOpened shape.now words writer.new readers.new }
     ensures refused { result ≢ OK → RefusesHandles (IsClosed writer.old × All IsClosed readers.old) shape.now words (length readers.old) result }
     ensures in_use { result ≡ IN_USE → (writer.new ≡ writer.old) × (readers.new ≡ readers.old) }
     ensures closed { result ≢ OK → result ≢ IN_USE → IsClosed writer.new × All IsClosed readers.new }
@@ -144,9 +145,10 @@ pub extern "C" fn cefrodil_open(
 }
 
 // The handles are closed.
+#[tactic(auto, using(crate::proofs::Opened::are_passes, crate::proofs::Opened::refused_so_many))]
 fn open_all_passes(alloc: Global, shape: &RawShape, words: usize, passes: &mut [Slot]) -> u32
     requires { All IsClosed passes.old }
-    ensures opened { result ≡ OK → (o : Opening) × IsOfShape shape.now words o × All (IsNewAt o true words) passes.new }
+    ensures opened { result ≡ OK → ArePasses shape.now words passes.new }
     ensures refused { result ≢ OK → RefusesOpen shape.now words (length passes.old) result }
     ensures closed { result ≢ OK → All IsClosed passes.new }
 {
@@ -173,7 +175,7 @@ pub extern "C" fn cefrodil_open_desk(
     words: usize,
     passes: &mut [Slot],
 ) -> u32
-    ensures opened { result ≡ OK → (o : Opening) × IsOfShape shape.now words o × All (IsNewAt o true words) passes.new }
+    ensures opened { result ≡ OK → ArePasses shape.now words passes.new }
     ensures refused { result ≢ OK → RefusesHandles (All IsClosed passes.old) shape.now words (length passes.old) result }
     ensures in_use { result ≡ IN_USE → passes.new ≡ passes.old }
     ensures closed { result ≢ OK → result ≢ IN_USE → All IsClosed passes.new }

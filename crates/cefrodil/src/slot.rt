@@ -1,7 +1,6 @@
 //! What C keeps in memory of its own: a handle, or nothing.
-ghost use Rattle.std.specs.Prelude.{◌≡◌, ℕ, true, false, MatchOption};
+ghost use Rattle.std.specs.Prelude.{◌≡◌, MatchOption, false, true};
 ghost use mathlib.Core.Option.{none, some};
-ghost use Rattle.cefrodil.specs.Open.{kept};
 
 use crate::handle::Handle;
 use crate::unboxed::Unboxed;
@@ -19,6 +18,8 @@ pub struct Slot {
 }
 
 impl Slot {
+    ghost use Rattle.cefrodil.specs.Open.{kept};
+
     fn empty(alloc: Global) -> Slot
         ensures { result.live ≡ false }
     {
@@ -57,11 +58,4 @@ impl Slot {
             live: true,
         };
     }
-}
-
-fn crosses<T: Send>(_value: &T) {}
-
-/// It compiles only where C may hand a slot to another thread. It does nothing when it runs.
-pub fn slots_cross(slot: &Slot) {
-    crosses(slot);
 }

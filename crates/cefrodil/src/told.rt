@@ -1,6 +1,6 @@
 //! What a call tells C: a status, and the numbers of a reply.
 ghost use Rattle.std.specs.Prelude.{◌≡◌};
-ghost use Rattle.cefrodil.specs.Tellings.{closed_told, done_told, gone_told, lookup_told, misuse_told, not_put_if_told, not_put_told, plain, put_if_told, put_told, removal_told, told_at, try_put_if_told, try_put_told, try_removal_told};
+ghost use Rattle.cefrodil.specs.Tellings.{closed_told, done_told, gone_told, lookup_told, misuse_told, not_put_if_told, not_put_told, plain, put_if_told, put_told, removal_told, told_at, try_put_if_told, told_of, try_put_told, try_removal_told};
 ghost use Rattle.mc_plan.specs.declared.answer.Put.TheVariants.{Renewed};
 
 use crate::status;
@@ -65,7 +65,7 @@ impl Told {
         Told::plain(status::CLOSED)
     }
 
-    pub(crate) fn misuse(why: Misuse) -> Told
+    fn misuse(why: Misuse) -> Told
         ensures { result ≡ misuse_told why }
     {
         match why {
@@ -83,7 +83,7 @@ impl Told {
         told
     }
 
-    pub(crate) fn looked(answer: Looked) -> Told
+    fn looked_answer(answer: Looked) -> Told
         ensures { result ≡ lookup_told answer }
     {
         match answer {
@@ -130,7 +130,7 @@ impl Told {
         }
     }
 
-    pub(crate) fn put(answer: Result<Put, PutError>) -> Told
+    fn put_answer(answer: Result<Put, PutError>) -> Told
         ensures { result ≡ put_told answer }
     {
         match answer {
@@ -160,7 +160,7 @@ impl Told {
         Told::done(Put::Renewed { at })
     }
 
-    pub(crate) fn put_if(answer: Result<u64, IfError>) -> Told
+    fn put_if_answer(answer: Result<u64, IfError>) -> Told
         ensures { result ≡ put_if_told answer }
     {
         match answer {
@@ -178,7 +178,7 @@ impl Told {
         }
     }
 
-    pub(crate) fn removal(answer: Result<Remove, Spent>) -> Told
+    fn removal_answer(answer: Result<Remove, Spent>) -> Told
         ensures { result ≡ removal_told answer }
     {
         match answer {
@@ -189,7 +189,7 @@ impl Told {
 }
 
 impl Told {
-    pub(crate) fn try_put(answer: Result<Put, DeskError<PutError>>) -> Told
+    fn try_put_answer(answer: Result<Put, DeskError<PutError>>) -> Told
         ensures { result ≡ try_put_told answer }
     {
         match answer {
@@ -199,7 +199,7 @@ impl Told {
         }
     }
 
-    pub(crate) fn try_put_if(answer: Result<u64, DeskError<IfError>>) -> Told
+    fn try_put_if_answer(answer: Result<u64, DeskError<IfError>>) -> Told
         ensures { result ≡ try_put_if_told answer }
     {
         match answer {
@@ -209,13 +209,86 @@ impl Told {
         }
     }
 
-    pub(crate) fn try_removal(answer: Result<Remove, DeskError<Spent>>) -> Told
+    fn try_removal_answer(answer: Result<Remove, DeskError<Spent>>) -> Told
         ensures { result ≡ try_removal_told answer }
     {
         match answer {
             Ok(done) => Told::gone(done),
             Err(DeskError::Held) => Told::plain(status::HELD),
             Err(DeskError::Call(Spent)) => Told::plain(status::SPENT),
+        }
+    }
+}
+
+impl Told {
+    /// Writes the reply, and gives the status.
+    pub(crate) fn tell(self, reply: &mut RawReply) -> u32
+        ensures { record { status = result; reply = reply.new } ≡ self }
+    {
+        *reply = self.reply;
+        self.status
+    }
+
+    pub(crate) fn lookup(made: Result<Looked, Misuse>) -> Told
+        ensures { result ≡ told_of lookup_told made }
+    {
+        match made {
+            Ok(answer) => Told::looked_answer(answer),
+            Err(why) => Told::misuse(why),
+        }
+    }
+
+    pub(crate) fn put(made: Result<Result<Put, PutError>, Misuse>) -> Told
+        ensures { result ≡ told_of put_told made }
+    {
+        match made {
+            Ok(answer) => Told::put_answer(answer),
+            Err(why) => Told::misuse(why),
+        }
+    }
+
+    pub(crate) fn put_if(made: Result<Result<u64, IfError>, Misuse>) -> Told
+        ensures { result ≡ told_of put_if_told made }
+    {
+        match made {
+            Ok(answer) => Told::put_if_answer(answer),
+            Err(why) => Told::misuse(why),
+        }
+    }
+
+    pub(crate) fn removal(made: Result<Result<Remove, Spent>, Misuse>) -> Told
+        ensures { result ≡ told_of removal_told made }
+    {
+        match made {
+            Ok(answer) => Told::removal_answer(answer),
+            Err(why) => Told::misuse(why),
+        }
+    }
+
+    pub(crate) fn try_put(made: Result<Result<Put, DeskError<PutError>>, Misuse>) -> Told
+        ensures { result ≡ told_of try_put_told made }
+    {
+        match made {
+            Ok(answer) => Told::try_put_answer(answer),
+            Err(why) => Told::misuse(why),
+        }
+    }
+
+    pub(crate) fn try_put_if(made: Result<Result<u64, DeskError<IfError>>, Misuse>) -> Told
+        ensures { result ≡ told_of try_put_if_told made }
+    {
+        match made {
+            Ok(answer) => Told::try_put_if_answer(answer),
+            Err(why) => Told::misuse(why),
+        }
+    }
+
+    pub(crate) fn try_removal(made: Result<Result<Remove, DeskError<Spent>>, Misuse>) -> Told
+        ensures { result ≡ told_of try_removal_told made }
+    {
+        match made {
+            Ok(answer) => Told::try_removal_answer(answer),
+            Err(why) => Told::misuse(why),
         }
     }
 }

@@ -8,6 +8,7 @@ use crate::told::{RawReply, Told};
 use std::alloc::Global;
 
 /// Tries once for the turn, to put a key, by a pass.
+#[tactic(auto, using(crate::proofs::Gives::gives_open, crate::proofs::Gives::gives_closed))]
 #[unsafe(no_mangle)]
 pub extern "C" fn cefrodil_try_put(
     alloc: Global,
@@ -19,22 +20,16 @@ pub extern "C" fn cefrodil_try_put(
     ensures open { pass.new.live ≡ pass.old.live }
     ensures told { TryPutGives (kept pass.old) (kept pass.new) key value.now (record { status = result; reply = reply.new }) }
 {
-    let told = match pass.take(alloc) {
-        None => Told::closed(),
-        Some(mut held) => {
-            let answer = held.try_put(key, value);
-            pass.put(held);
-            match answer {
-                Ok(answer) => Told::try_put(answer),
-                Err(why) => Told::misuse(why),
-            }
-        }
+    let Some(mut held) = pass.take(alloc) else {
+        return Told::closed().tell(reply);
     };
-    *reply = told.reply;
-    told.status
+    let made = held.try_put(key, value);
+    pass.put(held);
+    Told::try_put(made).tell(reply)
 }
 
 /// Tries once for the turn, to put a key anew on a condition, by a pass.
+#[tactic(auto, using(crate::proofs::Gives::gives_open, crate::proofs::Gives::gives_closed))]
 #[unsafe(no_mangle)]
 pub extern "C" fn cefrodil_try_put_if(
     alloc: Global,
@@ -47,22 +42,16 @@ pub extern "C" fn cefrodil_try_put_if(
     ensures open { pass.new.live ≡ pass.old.live }
     ensures told { TryPutIfGives (kept pass.old) (kept pass.new) key since value.now (record { status = result; reply = reply.new }) }
 {
-    let told = match pass.take(alloc) {
-        None => Told::closed(),
-        Some(mut held) => {
-            let answer = held.try_put_if(key, since, value);
-            pass.put(held);
-            match answer {
-                Ok(answer) => Told::try_put_if(answer),
-                Err(why) => Told::misuse(why),
-            }
-        }
+    let Some(mut held) = pass.take(alloc) else {
+        return Told::closed().tell(reply);
     };
-    *reply = told.reply;
-    told.status
+    let made = held.try_put_if(key, since, value);
+    pass.put(held);
+    Told::try_put_if(made).tell(reply)
 }
 
 /// Tries once for the turn, to take a key out, by a pass.
+#[tactic(auto, using(crate::proofs::Gives::gives_open, crate::proofs::Gives::gives_closed))]
 #[unsafe(no_mangle)]
 pub extern "C" fn cefrodil_try_remove(
     alloc: Global,
@@ -73,17 +62,10 @@ pub extern "C" fn cefrodil_try_remove(
     ensures open { pass.new.live ≡ pass.old.live }
     ensures told { TryRemovalGives (kept pass.old) (kept pass.new) key (record { status = result; reply = reply.new }) }
 {
-    let told = match pass.take(alloc) {
-        None => Told::closed(),
-        Some(mut held) => {
-            let answer = held.try_remove(key);
-            pass.put(held);
-            match answer {
-                Ok(answer) => Told::try_removal(answer),
-                Err(why) => Told::misuse(why),
-            }
-        }
+    let Some(mut held) = pass.take(alloc) else {
+        return Told::closed().tell(reply);
     };
-    *reply = told.reply;
-    told.status
+    let made = held.try_remove(key);
+    pass.put(held);
+    Told::try_removal(made).tell(reply)
 }

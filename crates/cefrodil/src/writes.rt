@@ -8,6 +8,7 @@ use crate::told::{RawReply, Told};
 use std::alloc::Global;
 
 /// Puts a key, by the writer's handle.
+#[tactic(auto, using(crate::proofs::Gives::gives_open, crate::proofs::Gives::gives_closed))]
 #[unsafe(no_mangle)]
 pub extern "C" fn cefrodil_put(
     alloc: Global,
@@ -19,22 +20,16 @@ pub extern "C" fn cefrodil_put(
     ensures open { writer.new.live ≡ writer.old.live }
     ensures told { PutGives (kept writer.old) (kept writer.new) key value.now (record { status = result; reply = reply.new }) }
 {
-    let told = match writer.take(alloc) {
-        None => Told::closed(),
-        Some(mut held) => {
-            let answer = held.put(key, value);
-            writer.put(held);
-            match answer {
-                Ok(answer) => Told::put(answer),
-                Err(why) => Told::misuse(why),
-            }
-        }
+    let Some(mut held) = writer.take(alloc) else {
+        return Told::closed().tell(reply);
     };
-    *reply = told.reply;
-    told.status
+    let made = held.put(key, value);
+    writer.put(held);
+    Told::put(made).tell(reply)
 }
 
 /// Puts a key anew, if its last put was at the moment `since`, by the writer's handle.
+#[tactic(auto, using(crate::proofs::Gives::gives_open, crate::proofs::Gives::gives_closed))]
 #[unsafe(no_mangle)]
 pub extern "C" fn cefrodil_put_if(
     alloc: Global,
@@ -47,22 +42,16 @@ pub extern "C" fn cefrodil_put_if(
     ensures open { writer.new.live ≡ writer.old.live }
     ensures told { PutIfGives (kept writer.old) (kept writer.new) key since value.now (record { status = result; reply = reply.new }) }
 {
-    let told = match writer.take(alloc) {
-        None => Told::closed(),
-        Some(mut held) => {
-            let answer = held.put_if(key, since, value);
-            writer.put(held);
-            match answer {
-                Ok(answer) => Told::put_if(answer),
-                Err(why) => Told::misuse(why),
-            }
-        }
+    let Some(mut held) = writer.take(alloc) else {
+        return Told::closed().tell(reply);
     };
-    *reply = told.reply;
-    told.status
+    let made = held.put_if(key, since, value);
+    writer.put(held);
+    Told::put_if(made).tell(reply)
 }
 
 /// Takes a key out, by the writer's handle.
+#[tactic(auto, using(crate::proofs::Gives::gives_open, crate::proofs::Gives::gives_closed))]
 #[unsafe(no_mangle)]
 pub extern "C" fn cefrodil_remove(
     alloc: Global,
@@ -73,17 +62,10 @@ pub extern "C" fn cefrodil_remove(
     ensures open { writer.new.live ≡ writer.old.live }
     ensures told { RemovalGives (kept writer.old) (kept writer.new) key (record { status = result; reply = reply.new }) }
 {
-    let told = match writer.take(alloc) {
-        None => Told::closed(),
-        Some(mut held) => {
-            let answer = held.remove(key);
-            writer.put(held);
-            match answer {
-                Ok(answer) => Told::removal(answer),
-                Err(why) => Told::misuse(why),
-            }
-        }
+    let Some(mut held) = writer.take(alloc) else {
+        return Told::closed().tell(reply);
     };
-    *reply = told.reply;
-    told.status
+    let made = held.remove(key);
+    writer.put(held);
+    Told::removal(made).tell(reply)
 }

@@ -3,3 +3,4 @@ pub mod Roles
 pub mod Means
 pub mod Held
 pub mod NewSides
+pub mod Inside

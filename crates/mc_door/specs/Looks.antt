@@ -1,10 +1,9 @@
 -- What a lookup tells, where its value is written beside its answer.
-use Rattle.std.specs.Prelude.{ℕ, ◌≡◌, List, Result, Ok, Err}
+use Rattle.std.specs.Prelude.{ℕ, ◌≡◌, List}
 use Rattle.mc_words.specs.declared.history.Reply.{Reply}
 use Rattle.mc_words.specs.declared.history.Reply.TheVariants as reply
 use Rattle.mc_door.specs.declared.looked.Looked.{Looked}
 use Rattle.mc_door.specs.declared.looked.Looked.TheVariants as looked
-use Rattle.mc_door.specs.declared.side.Misuse.{Misuse}
 
 -- the reply that was told so; the value stands in these words where there is one
 abbrev pub reply_of : (V : ℕ) → List ℕ → Looked → Reply V
@@ -17,9 +16,3 @@ abbrev pub LeavesUnlessFound : List ℕ → List ℕ → Looked → Type 0
 LeavesUnlessFound old new (looked.Found at since) = Unit {0}
 LeavesUnlessFound old new (looked.Absent at) = new ≡ old
 LeavesUnlessFound old new looked.Busy = new ≡ old
-
--- an answer is told, and its value written
-abbrev pub Tells : (V : ℕ) → List ℕ → List ℕ → Result (Reply V) Misuse → Result Looked Misuse → Type 0
-Tells V old new (Ok reply) (Ok told) = (reply ≡ reply_of V new told) × LeavesUnlessFound old new told
-Tells V old new (Err why) (Err told) = (told ≡ why) × (new ≡ old)
-Tells V old new answer told = ⊥

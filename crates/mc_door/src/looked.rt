@@ -1,6 +1,6 @@
 //! What a lookup tells, where its value is written beside its answer.
 ghost use Rattle.std.specs.Prelude.{◌≡◌, IfOk, length};
-ghost use Rattle.mc_door.specs.Looks.{Tells};
+ghost use Rattle.mc_door.specs.Inside.Tells.{Tells};
 
 use crate::side::Misuse;
 use mc_cache::Reply;

@@ -6,6 +6,7 @@ ghost use Rattle.mc_shared.specs.Records.{IsNewReader};
 ghost use Rattle.mc_shared.specs.Views.{layout_of};
 ghost use Rattle.mc_words.specs.Places.{IsWidth};
 ghost use Rattle.mc_words.specs.Readers.{HasReaders};
+ghost use Rattle.mc_words.specs.Shapes.{IsShape};
 ghost use Rattle.mc_door.specs.Roles.{role_of};
 
 use crate::pass_side::PassSide;
@@ -68,7 +69,7 @@ impl<const V: usize> NewSides<V> {
         requires width { IsWidth V }
         ensures refused { MatchResult result (λ r. (opening_of r.1).layout ≡ layout_of V shape) (λ e. RefusesOpening shape readers e) }
         ensures writer { IfOk result (λ r. IsNewWriter (opening_of r.1) (role_of r.0)) }
-        ensures readers { IfOk result (λ r. (has_desk r.1 ≡ false) × (count_of r.1 ≡ readers) × HasReaders readers) }
+        ensures readers { IfOk result (λ r. (has_desk r.1 ≡ false) × (count_of r.1 ≡ readers) × IsShape shape × HasReaders readers) }
     {
         let (cache, writer, readers) = mc_cache::open::<V>(alloc, shape, readers)?;
         let Ok(cache) = Arc::new(alloc, cache) else {
@@ -95,7 +96,7 @@ impl<const V: usize> NewSides<V> {
     ) -> Result<NewSides<V>, OpenError>
         requires width { IsWidth V }
         ensures refused { MatchResult result (λ r. (opening_of r).layout ≡ layout_of V shape) (λ e. RefusesOpening shape passes e) }
-        ensures passes { IfOk result (λ r. (has_desk r ≡ true) × (count_of r ≡ passes) × HasReaders passes) }
+        ensures passes { IfOk result (λ r. (has_desk r ≡ true) × (count_of r ≡ passes) × IsShape shape × HasReaders passes) }
     {
         let (cache, writer, readers) = mc_cache::open::<V>(alloc, shape, passes)?;
         let Ok(desk) = Arc::new(alloc, Desk::new(writer)) else {

@@ -4,6 +4,7 @@ ghost use Rattle.mc_cache.specs.Openings.{RefusesOpening};
 ghost use Rattle.mc_shared.specs.Views.{layout_of};
 ghost use Rattle.mc_words.specs.Places.{IsWidth};
 ghost use Rattle.mc_words.specs.Readers.{HasReaders};
+ghost use Rattle.mc_words.specs.Shapes.{IsShape};
 ghost use Rattle.mc_door.specs.Held.{role_in, width_of};
 ghost use Rattle.mc_door.specs.NewSides.{IsNewSide, IsNewWriter, count_in, has_desk_in, opening_in, width_in};
 
@@ -56,7 +57,7 @@ pub fn open(
     requires width { IsWidth words }
     ensures refused { MatchResult result (λ r. (opening_in r.1).layout ≡ layout_of words shape) (λ e. RefusesOpening shape readers e) }
     ensures writer { IfOk result (λ r. (width_of r.0 ≡ words) × IsNewWriter (opening_in r.1) (role_in r.0)) }
-    ensures rest { IfOk result (λ r. (width_in r.1 ≡ words) × (has_desk_in r.1 ≡ false) × (count_in r.1 ≡ readers) × HasReaders readers) }
+    ensures rest { IfOk result (λ r. (width_in r.1 ≡ words) × (has_desk_in r.1 ≡ false) × (count_in r.1 ≡ readers) × IsShape shape × HasReaders readers) }
 {
     match words {
         1 => {
@@ -99,7 +100,7 @@ pub fn open(
 pub fn open_desk(alloc: Global, shape: Shape, words: usize, passes: u32) -> Result<Rest, OpenError>
     requires width { IsWidth words }
     ensures refused { MatchResult result (λ r. (opening_in r).layout ≡ layout_of words shape) (λ e. RefusesOpening shape passes e) }
-    ensures rest { IfOk result (λ r. (width_in r ≡ words) × (has_desk_in r ≡ true) × (count_in r ≡ passes) × HasReaders passes) }
+    ensures rest { IfOk result (λ r. (width_in r ≡ words) × (has_desk_in r ≡ true) × (count_in r ≡ passes) × IsShape shape × HasReaders passes) }
 {
     match words {
         1 => Ok(Rest::One(NewSides::<1>::open_desk(alloc, shape, passes)?)),

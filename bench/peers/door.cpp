@@ -1,0 +1,55 @@
+#include "harness.hpp"
+#include "cefrodil.h"
+#include <mutex>
+
+// The cache as programs in C call it. A thread has a handle of its own while it looks up.
+struct Door {
+    enum { READERS = 64 };
+    cefrodil_shape shape;
+    cefrodil_handle writer = CEFRODIL_EMPTY;
+    cefrodil_handle readers[READERS] = {};
+    int left = READERS;
+    std::mutex lending;
+    static thread_local cefrodil_handle mine;
+
+    explicit Door(size_t keys) {
+        if (cefrodil_shape_for_items(uint32_t(keys), &shape) != CEFRODIL_OK || cefrodil_open(&shape, 4, &writer, readers, READERS) != CEFRODIL_OK) abort();
+    }
+
+    ~Door() {
+        for (auto &reader : readers) cefrodil_close(&reader);
+        cefrodil_close(&writer);
+    }
+
+    bool get(uint64_t key, Value &value) {
+        cefrodil_reply reply;
+        return cefrodil_get(&mine, key, value.data(), value.size(), &reply) == CEFRODIL_OK;
+    }
+
+    bool put(uint64_t key, const Value &value) {
+        cefrodil_reply reply;
+        return cefrodil_put(&writer, key, value.data(), value.size(), &reply) == CEFRODIL_OK;
+    }
+
+    size_t slots() { return size_t(4) * shape.buckets; }
+
+    // A handle moves by a copy, and its old place is zeroed.
+    void enter() {
+        std::lock_guard<std::mutex> lent(lending);
+        if (left == 0) abort();
+        mine = readers[--left];
+        readers[left] = CEFRODIL_EMPTY;
+    }
+
+    void tick() {}
+
+    void leave() {
+        std::lock_guard<std::mutex> lent(lending);
+        readers[left++] = mine;
+        mine = CEFRODIL_EMPTY;
+    }
+};
+
+thread_local cefrodil_handle Door::mine = CEFRODIL_EMPTY;
+
+int main(int count, char **words) { return contest<Door>(count, words); }

@@ -1,0 +1,53 @@
+-- Handles are all open, or none is.
+use Rattle.std.proofs.Common.{ℕ, ◌≡◌, ◌↔◌, List, All, sym, subst, inl, inr}
+use mathlib.Core.Bool.{Bool, true, false}
+use mathlib.Core.Option.{some}
+use Rattle.mc_cache.specs.Openings.{RefusesOpening}
+use Rattle.mc_cache.specs.declared.opening.OpenError.{OpenError}
+use Rattle.mc_cache.specs.declared.opening.OpenError.TheVariants as error
+use Rattle.mc_words.specs.Readers.{HasReaders}
+use Rattle.mc_words.specs.declared.shape.Shape.{Shape}
+use Rattle.mc_shared.specs.Records.{Opening}
+use Rattle.mc_shared.specs.Views.{layout_of}
+use Rattle.mc_door.specs.Held.{role_in, width_of}
+use Rattle.mc_door.specs.NewSides.{IsNewWriter, has_desk_in, opening_in, width_in}
+use Rattle.mc_door.specs.declared.held.Held.{Held}
+use Rattle.mc_door.specs.declared.rest.Rest.{Rest}
+use Rattle.cefrodil.specs.Open.{kept}
+use Rattle.cefrodil.specs.Openings.{AreOpened, ArePasses, IsNewAt, IsNewWriterAt}
+use Rattle.cefrodil.specs.RawShapes.{IsShapeOf}
+use Rattle.cefrodil.specs.declared.shape.RawShape.{RawShape}
+use Rattle.cefrodil.specs.declared.slot.Slot.{Slot}
+use Rattle.cefrodil.proofs.Filling.{keeps}
+
+-- the same, of what is known of the sides
+all_at : (first : Rest) (desk : Bool) (words : ℕ) (slots : List Slot) → has_desk_in first ≡ desk → width_in first ≡ words
+    → All (IsNewAt (opening_in first) (has_desk_in first) (width_in first)) slots → All (IsNewAt (opening_in first) desk words) slots
+all_at first desk words slots is wide new =
+    subst (λ (d : Bool). All (IsNewAt (opening_in first) d words) slots) is (subst (λ (w : ℕ). All (IsNewAt (opening_in first) (has_desk_in first) w) slots) wide new)
+
+pub are_opened : (raw : RawShape) (words : ℕ) (writer : Slot) (readers : List Slot) (sh : Shape) (first : Rest) (held : Held) → IsShapeOf raw sh
+    → (opening_in first).layout ≡ layout_of words sh → width_in first ≡ words → has_desk_in first ≡ false
+    → kept writer ≡ some held → width_of held ≡ words → IsNewWriter (opening_in first) (role_in held)
+    → All (IsNewAt (opening_in first) (has_desk_in first) (width_in first)) readers → AreOpened raw words writer readers
+are_opened raw words writer readers sh first held of layout wide none is width new all = record {
+  opening = opening_in first;
+  shape = (sh, of, layout);
+  has_writer = keeps (λ h. (width_of h ≡ words) × IsNewWriter (opening_in first) (role_in h)) (kept writer) held is (width, new);
+  has_readers = all_at first false words readers none wide all;
+}
+
+pub are_passes : (raw : RawShape) (words : ℕ) (passes : List Slot) (sh : Shape) (first : Rest) → IsShapeOf raw sh
+    → (opening_in first).layout ≡ layout_of words sh → width_in first ≡ words → has_desk_in first ≡ true
+    → All (IsNewAt (opening_in first) (has_desk_in first) (width_in first)) passes → ArePasses raw words passes
+are_passes raw words passes sh first of layout wide desk all = record {
+  opening = opening_in first;
+  shape = (sh, of, layout);
+  has_passes = all_at first true words passes desk wide all;
+}
+
+-- the fault is one of the number of handles, where that is cut to what the cache takes
+pub refused_so_many : (sh : Shape) (cut handles : ℕ) (why : OpenError) → (HasReaders cut ↔ HasReaders handles) → RefusesOpening sh cut why → RefusesOpening sh handles why
+refused_so_many sh cut handles (error.Shape fault) same refused = refused
+refused_so_many sh cut handles error.Readers same refused = (refused.0, λ has. refused.1 (same.1 has))
+refused_so_many sh cut handles error.NoMemory same refused = (refused.0, same.0 refused.1)
