@@ -1,11 +1,13 @@
 -- Handles are all open, or none is.
-use Rattle.std.proofs.Common.{ℕ, ◌≡◌, ◌↔◌, List, All, sym, subst, inl, inr}
+use Rattle.std.proofs.Common.{ℕ, ◌≡◌, ◌↔◌, List, All, refl, sym, subst, inr}
 use mathlib.Core.Bool.{Bool, true, false}
 use mathlib.Core.Option.{some}
 use Rattle.mc_cache.specs.Openings.{RefusesOpening}
 use Rattle.mc_cache.specs.declared.opening.OpenError.{OpenError}
 use Rattle.mc_cache.specs.declared.opening.OpenError.TheVariants as error
+use Rattle.mc_words.specs.Places.{IsWidth}
 use Rattle.mc_words.specs.Readers.{HasReaders}
+use Rattle.mc_words.specs.Shapes.{IsShape}
 use Rattle.mc_words.specs.declared.shape.Shape.{Shape}
 use Rattle.mc_shared.specs.Records.{Opening}
 use Rattle.mc_shared.specs.Views.{layout_of}
@@ -14,10 +16,11 @@ use Rattle.mc_door.specs.NewSides.{IsNewWriter, has_desk_in, opening_in, width_i
 use Rattle.mc_door.specs.declared.held.Held.{Held}
 use Rattle.mc_door.specs.declared.rest.Rest.{Rest}
 use Rattle.cefrodil.specs.Open.{kept}
-use Rattle.cefrodil.specs.Openings.{AreOpened, ArePasses, IsNewAt, IsNewWriterAt}
-use Rattle.cefrodil.specs.RawShapes.{IsShapeOf}
+use Rattle.cefrodil.specs.Openings.{AreOpened, ArePasses, IsNewAt, IsNewWriterAt, RefusesOpen}
+use Rattle.cefrodil.specs.RawShapes.{HasMix, IsShapeOf}
 use Rattle.cefrodil.specs.declared.shape.RawShape.{RawShape}
 use Rattle.cefrodil.specs.declared.slot.Slot.{Slot}
+use Rattle.cefrodil.specs.declared.status.TheConstants.{NO_MEMORY}
 use Rattle.cefrodil.proofs.Filling.{keeps}
 
 -- the same, of what is known of the sides
@@ -51,3 +54,8 @@ pub refused_so_many : (sh : Shape) (cut handles : ℕ) (why : OpenError) → (Ha
 refused_so_many sh cut handles (error.Shape fault) same refused = refused
 refused_so_many sh cut handles error.Readers same refused = (refused.0, λ has. refused.1 (same.1 has))
 refused_so_many sh cut handles error.NoMemory same refused = (refused.0, same.0 refused.1)
+
+-- and where there is none, memory was refused
+pub refused_memory : (raw : RawShape) (words handles cut : ℕ) (sh : Shape) → IsWidth words → HasMix raw → IsShapeOf raw sh → IsShape sh → HasReaders cut
+    → (HasReaders cut ↔ HasReaders handles) → RefusesOpen raw words handles NO_MEMORY
+refused_memory raw words handles cut sh wide mixed of shaped has same = inr (sh, error.NoMemory, wide, mixed, of, (shaped, same.0 has), refl)

@@ -1,5 +1,5 @@
 //! Handles are opened.
-ghost use Rattle.std.specs.Prelude.{◌≡◌, ◌≢◌, ◌↔◌, All, MatchResult, false, length, true};
+ghost use Rattle.std.specs.Prelude.{◌≡◌, ◌≢◌, ◌↔◌, All, IfSome, MatchResult, false, length, true};
 ghost use Rattle.mc_words.specs.Places.{IsWidth};
 ghost use Rattle.mc_words.specs.Readers.{HasReaders};
 ghost use Rattle.mc_door.specs.NewSides.{count_in, has_desk_in, opening_in, width_in};
@@ -11,7 +11,7 @@ use crate::slot::Slot;
 use crate::status::{
     BUCKETS, DEPTH, IN_USE, ITEMS, LIMIT, MIX, NO_MEMORY, OK, READERS, STRIPES, TRIES, WORDS,
 };
-use mc_door::{OpenError, Rest, Shape, ShapeError, open, open_desk};
+use mc_door::{Held, OpenError, Rest, Shape, ShapeError, open, open_desk};
 use std::alloc::Global;
 
 /// The most words of a value.
@@ -52,8 +52,18 @@ fn close_all(alloc: Global, slots: &mut [Slot])
     }
 }
 
+// The side on the heap, if there is memory.
+fn boxed(alloc: Global, held: Held) -> Option<Box<Held, Global>>
+    ensures { IfSome result (λ b. b.value ≡ held) }
+{
+    match Box::new(alloc, held) {
+        Ok(kept) => Some(kept),
+        Err(_) => None,
+    }
+}
+
 // A side for each of the slots. `false` where there is no memory.
-#[tactic(auto, using(crate::proofs::Filling::filled_more, crate::proofs::Filling::all_filled))]
+#[tactic(auto, using(crate::proofs::Filling::all_filled))]
 fn fill(alloc: Global, mut rest: Rest, slots: &mut [Slot]) -> bool
     requires { (count_in rest ≡ length slots.old) × All IsClosed slots.old }
     ensures { result ≡ true → All (IsNewAt (opening_in rest) (has_desk_in rest) (width_in rest)) slots.new }
@@ -62,7 +72,7 @@ fn fill(alloc: Global, mut rest: Rest, slots: &mut [Slot]) -> bool
         let Ok(Some(held)) = rest.next() else {
             return false;
         };
-        let Ok(held) = Box::new(alloc, held) else {
+        let Some(held) = boxed(alloc, held) else {
             return false;
         };
         slot.put(held);
@@ -92,7 +102,7 @@ fn count_of(handles: usize) -> u32
 }
 
 // The handles are closed.
-#[tactic(auto, using(crate::proofs::Opened::are_opened, crate::proofs::Opened::refused_so_many))]
+#[tactic(auto, using(crate::proofs::Opened::refused_so_many))]
 fn open_all(
     alloc: Global,
     shape: &RawShape,
@@ -113,7 +123,7 @@ fn open_all(
         Ok(opened) => opened,
         Err(why) => return status_of(why),
     };
-    let Ok(held) = Box::new(alloc, held) else {
+    let Some(held) = boxed(alloc, held) else {
         return NO_MEMORY;
     };
     if !fill(alloc, rest, readers) {
