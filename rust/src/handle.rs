@@ -9,7 +9,7 @@ use crate::raw::{self, RawHandle, RawReply, RawShape};
 #[repr(transparent)]
 pub struct Handle(RawHandle);
 
-// SAFETY: the archive's handle may go to another thread: it is proved of what lies behind it (`slots_cross` in the proved crate).
+// SAFETY: the archive's handle may go to another thread: the cache's writers and readers may, and the cache and its desk may be shared.
 // It is not `Sync`, by its pointer.
 unsafe impl Send for Handle {}
 

@@ -102,7 +102,7 @@ fn count_of(handles: usize) -> u32
 }
 
 // The handles are closed.
-#[tactic(auto, using(crate::proofs::Opened::refused_so_many))]
+#[tactic(auto, using(crate::proofs::Opened::are_opened, crate::proofs::Opened::refused_so_many))]
 fn open_all(
     alloc: Global,
     shape: &RawShape,

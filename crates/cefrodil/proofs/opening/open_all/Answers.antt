@@ -1,14 +1,13 @@
-use Rattle.std.proofs.Common.{◌∙◌, ap, length}
-use mathlib.Core.Option.{some}
-use Rattle.mc_door.specs.declared.held.Held.{Held}
-use Rattle.cefrodil.proofs.Opened.{are_opened, refused_memory}
+use Rattle.std.proofs.Common.{length}
+use Rattle.cefrodil.proofs.Opened.{refused_memory}
 use Rattle.cefrodil.proofs.opening.open_all.Goals as goal
 
 pub returns-in_default-clause-refused : goal.returns-in_default-clause-refused
-returns-in_default-clause-refused c = ?
+returns-in_default-clause-refused c =
+    λ _. refused_memory c.args.shape.now c.args.words (length c.args.readers.now) c.count_of.result c.in-Ok.shape c.in-Ok.ensures.0 c.in-Ok.ensures.1 c.in-Ok.ensures.2
+    c.in-Ok-open.ensures.rest.3 c.in-Ok-open.ensures.rest.4 c.count_of.ensures.right
 
 pub returns-then-not-fill-clause-refused : goal.returns-then-not-fill-clause-refused
-returns-then-not-fill-clause-refused c = ?
-
-pub returns-clause-opened : goal.returns-clause-opened
-returns-clause-opened c = ?
+returns-then-not-fill-clause-refused c =
+    λ _. refused_memory c.args.shape.now c.args.words (length c.args.readers.now) c.count_of.result c.in-Ok.shape c.in-Ok.ensures.0 c.in-Ok.ensures.1 c.in-Ok.ensures.2
+    c.in-Ok-open.ensures.rest.3 c.in-Ok-open.ensures.rest.4 c.count_of.ensures.right
