@@ -1,6 +1,7 @@
 //! The shared words of a table whose values have `V` words: they are opened, and closed.
 ghost use Rattle.std.specs.Prelude.{◌≡◌, ◌^◌, ◌<◌, ℕ, [], IfOk, All, length, slice_index};
 ghost use Rattle.mc_words.specs.Checks.{shape_of};
+ghost use Rattle.mc_words.specs.KeyParts.{HasParts};
 ghost use Rattle.mc_words.specs.Places.{IsWidth, all_words, item_place, word_count};
 ghost use Rattle.mc_words.specs.Readers.{HasReaders};
 ghost use Rattle.mc_theory.specs.Lists.{state_of};
@@ -12,7 +13,7 @@ use crate::opening::{close_words, open_words};
 use crate::ruled_words::RuledWords;
 use crate::seats::{ReaderSeat, WriterSeat};
 use crate::words::Words;
-use mc_words::{Checked, NoMemory};
+use mc_words::{Checked, KeyParts, NoMemory};
 use std::alloc::Global;
 use std::marker::Model;
 
@@ -44,6 +45,22 @@ impl<const V: usize> Cells<V> {
         ensures width { IsWidth V }
     {
         &self.checked
+    }
+
+    /// The parts of the key.
+    #[inline(always)]
+    pub fn parts(&self, key: u64) -> KeyParts
+        ensures { HasParts self.now.layout.shape key result }
+    {
+        self.checked.parts(key)
+    }
+
+    /// Where the recency words begin.
+    pub fn recency_start(&self) -> usize
+        ensures value { result ≡ word_count V self.now.layout.shape }
+        ensures small { result < 2 ^ 40 }
+    {
+        self.checked.recency_start::<V>()
     }
 
     /// Where the items begin.

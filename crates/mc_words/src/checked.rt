@@ -6,6 +6,7 @@ ghost use Rattle.mc_words.specs.Recency.{recency_bit};
 ghost use Rattle.mc_words.specs.Shapes.{IsShape};
 
 use crate::item::item_stride;
+use crate::key_parts::KeyParts;
 use crate::place::Place;
 use crate::shape::Shape;
 
@@ -18,6 +19,7 @@ pub struct Checked {
 
 impl Checked {
     ghost use Rattle.mc_words.specs.Checks.{shape_of, Parts};
+    ghost use Rattle.mc_words.specs.KeyParts.{HasParts};
 
     /// The shape that was checked.
     pub fn shape(&self) -> Shape
@@ -69,6 +71,22 @@ impl Checked {
         ensures range { result < (shape_of self.now).stripes }
     {
         ((self.shape.mix.mix(key) >> 32) & u64::from(self.shape.stripes - 1)) as u32
+    }
+
+    /// The parts of the key, with one mixing.
+    #[inline(always)]
+    pub fn parts(&self, key: u64) -> KeyParts
+        ensures { HasParts (shape_of self.now) key result }
+    {
+        let tag = self.tag(key);
+        let first = self.first(key);
+        let stripe = self.stripe(key);
+        KeyParts {
+            tag,
+            first,
+            second: self.alt(first, tag),
+            stripe,
+        }
     }
 
     /// The word of a slot that names the item under the tag. Condition: the item is one of the table.
