@@ -131,7 +131,7 @@ pub fn set_mark<const V: usize>(cells: &Cells<V>, writer: &mut WriterSeat, i: u3
     ensures acted { HasActed writer.old writer.new (Mark i) 0 }
 {
     writer.known();
-    let place = cells.checked.recency_place::<V>(i);
+    let place = cells.recency_place(i);
     set_mark_on_words(&cells.ruled, writer, i, place, cells.checked.recency_bit(i));
 }
 
@@ -142,7 +142,7 @@ pub fn set_mark_unless_set<const V: usize>(cells: &Cells<V>, writer: &mut Writer
     ensures acted { HasActed writer.old writer.new (Mark i) 0 }
 {
     writer.known();
-    let place = cells.checked.recency_place::<V>(i);
+    let place = cells.recency_place(i);
     set_mark_unless_set_on_words(&cells.ruled, writer, i, place, cells.checked.recency_bit(i));
 }
 

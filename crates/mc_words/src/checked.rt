@@ -167,8 +167,9 @@ impl Checked {
         requires { IsPlace (shape_of self.now) place }
         ensures { result ≡ slot_place (shape_of self.now) (slot_number place) }
     {
-        let number = 4 * place.bucket as usize + usize::from(place.slot);
-        1 + self.shape.stripes as usize + number
+        // The sum of a bucket first: it serves all of its slots.
+        let bucket = 1 + self.shape.stripes as usize + 4 * place.bucket as usize;
+        bucket + usize::from(place.slot)
     }
 
     /// Where the items begin.
