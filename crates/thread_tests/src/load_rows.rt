@@ -143,7 +143,8 @@ fn a_histogram_tells_what_came_of_each_writers_tries(rt: HostRuntime) -> Result<
         "0",
         "--histogram",
     ];
-    let lines = "lookups 0\nwrites 0\nsum ok\nwrong 0\nchanges behind: 0, 1 to 9, 10 to 99, 100 to 999, more\n\
+    let lines =
+        "lookups 0\nwrites 0\nsum ok\nwrong 0\nchanges behind: 0, 1 to 9, 10 to 99, 100 to 999, more\n\
         writer 0 calls/s 0 busy 0 behind 0 0 0 0 0 held 0 answered 0\nreader 0 calls/s 0 busy 0 behind 0 0 0 0 0\n\
         writer 1 calls/s 0 busy 0 behind 0 0 0 0 0 held 0 answered 0\n";
     assert!(rt; tells(&rt, rt.alloc(), words.as_slice(), lines, "", 0));
