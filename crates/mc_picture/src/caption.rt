@@ -133,7 +133,7 @@ impl fmt::Display for Piece {
                 write!(f, "i{short}")
             }
             Piece::ItemPart(item, part) => {
-                if item < 100 {
+                if item < 10 {
                     write!(f, "i{item} {part}")
                 } else {
                     write!(f, "{part}")

@@ -28,8 +28,8 @@ text{fill:#000;font:9px Helvetica,Arial,sans-serif}
 .title{font-size:10px;font-weight:bold}
 .reply{font-size:10px;font-weight:bold}
 .reply,.small,.word,.detail{paint-order:stroke;stroke:#fff;stroke-width:2px;stroke-linejoin:round}
-.word{font-size:8.7px}
-.detail{font-size:8px}
+.word{font-size:8.2px}
+.detail{font-size:7.6px}
 .word,.detail,.middle{text-anchor:middle}
 .end{text-anchor:end}
 </style>
