@@ -4,7 +4,7 @@ ghost use Rattle.mc_options.specs.Streams.{Tells, stream};
 ghost use Rattle.mc_workers.specs.Loads.{MayAskAtOnce};
 ghost use Rattle.mc_load.specs.LoadPrograms.{Loads, RunsLoad, WritesLines, load_of, load_status, load_text};
 ghost use Rattle.mc_load.specs.Inside.Histograms.{AppendsSome};
-ghost use Rattle.mc_load.specs.Inside.Told.{text_of};
+ghost use Rattle.mc_load.specs.Told.{text_of};
 
 use crate::histogram::histogram;
 use crate::load_told::{Lines, LoadRefusal};

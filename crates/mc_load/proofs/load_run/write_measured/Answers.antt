@@ -1,4 +1,4 @@
-use Rattle.mc_load.specs.Inside.Told.{text_of}
+use Rattle.mc_load.specs.Told.{text_of}
 use Rattle.mc_load.proofs.WrittenLines.{lines_more}
 use Rattle.mc_load.proofs.load_run.write_measured.Goals as goal
 

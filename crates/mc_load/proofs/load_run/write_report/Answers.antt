@@ -1,5 +1,5 @@
 use Rattle.std.proofs.Common.{[], ◌∙◌, Some, inl, inr, refl, rules}
-use Rattle.mc_load.specs.Inside.Told.{text_of}
+use Rattle.mc_load.specs.Told.{text_of}
 use Rattle.mc_options.specs.Streams.{stream}
 use Rattle.mc_options.proofs.ToldLines.{told, written}
 use Rattle.mc_load.proofs.load_run.write_report.Goals as goal
