@@ -1,5 +1,4 @@
 //! The whole program `mcpicture`, over any streams.
-ghost use Rattle.std.specs.Prelude.{◌≤◌};
 ghost use Rattle.mc_words.specs.Places.{IsWidth};
 
 use crate::film::{Film, MOST_STEPS, Trouble};
