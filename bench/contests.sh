@@ -103,10 +103,10 @@ run_rounds() {
     done > "$folder/told"
 }
 
-# The table, of the lines of all rounds.
+# The table, of the lines of all rounds. The base's row has its own figures.
 # Arguments, each a list with bars between: the heads, the columns (workload and figure), the contestants, and how they are shown.
 print_table() {
-    awk -v rounds="$rounds" -v heads="$1" -v columns="$2" -v names="$3" -v shown_names="$4" '
+    awk -v rounds="$rounds" -v base="${base:-twin}" -v heads="$1" -v columns="$2" -v names="$3" -v shown_names="$4" '
         function median(many, values,    i, j, x) {
             for (i = 2; i <= many; i++) {
                 x = values[i]
@@ -115,19 +115,19 @@ print_table() {
             }
             return many % 2 ? values[(many + 1) / 2] : (values[many / 2] + values[many / 2 + 1]) / 2
         }
-        # The median of a contestant in a column: its own figure, or its ratio to the twin.
-        function of(name, column, own,    r, many, value, twin, values) {
+        # The median of a contestant in a column: its own figure, or its ratio to the base.
+        function of(name, column, own,    r, many, value, other, values) {
             many = 0
             for (r = 1; r <= rounds; r++) {
                 value = told[r, column, name]
-                twin = told[r, column, "twin"]
+                other = told[r, column, base]
                 if (value == "") return ""
-                values[++many] = own ? value : column ~ /ns_lookup/ ? twin / value : value / twin
+                values[++many] = own ? value : column ~ /ns_lookup/ ? other / value : value / other
             }
             return median(many, values)
         }
         function cell(name, column,    own, x) {
-            own = name == "twin" || column ~ /bytes_key|load_factor/
+            own = name == base || column ~ /bytes_key|load_factor/
             x = of(name, column, own)
             if (x == "") return "-"
             if (column ~ /load_factor/) return sprintf("%.3f", x)

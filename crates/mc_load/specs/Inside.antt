@@ -1,2 +1,1 @@
 pub mod Histograms
-pub mod Told

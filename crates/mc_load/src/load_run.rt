@@ -4,7 +4,7 @@ ghost use Rattle.mc_options.specs.Streams.{Tells, stream};
 ghost use Rattle.mc_workers.specs.Loads.{MayAskAtOnce};
 ghost use Rattle.mc_load.specs.LoadPrograms.{Loads, RunsLoad, WritesLines, load_of, load_status, load_text};
 ghost use Rattle.mc_load.specs.Inside.Histograms.{AppendsSome};
-ghost use Rattle.mc_load.specs.Inside.Told.{text_of};
+ghost use Rattle.mc_load.specs.Told.{text_of};
 
 use crate::histogram::histogram;
 use crate::load_told::{Lines, LoadRefusal};
@@ -193,6 +193,26 @@ fn run_turns_measured<R: Threads + Sync + Clock, W: Write, E: Write>(
     }
 }
 
+/// Runs what the options ask for, with a meter for a gate.
+fn run_with_meter<R: Threads + Sync + Clock, W: Write, E: Write>(
+    rt: &R,
+    alloc: Global,
+    options: LoadOptions,
+    meter: &Meter<'_, R>,
+    output: &mut W,
+    errors: &mut E,
+) -> u8
+    requires histogram { options.histogram ≡ true }
+    requires many { MayAskAtOnce options.many }
+    ensures { RunsLoad options (stream (W.contents output.old) (W.contents output.new)) (stream (E.contents errors.old) (E.contents errors.new)) result }
+{
+    if options.writers == 1 {
+        run_measured(rt, alloc, options, meter, output, errors)
+    } else {
+        run_turns_measured(rt, alloc, options, meter, output, errors)
+    }
+}
+
 /// Runs what the options ask for.
 fn run_for<R: Threads + Sync + Clock, W: Write, E: Write>(
     rt: &R,
@@ -204,22 +224,17 @@ fn run_for<R: Threads + Sync + Clock, W: Write, E: Write>(
     requires many { MayAskAtOnce options.many }
     ensures { RunsLoad options (stream (W.contents output.old) (W.contents output.new)) (stream (E.contents errors.old) (E.contents errors.new)) result }
 {
-    let several = options.writers != 1;
     if options.histogram {
         let readers = options.readers.min(MOST_READERS);
         let writers = options.writers.min(MOST_WRITERS as u32);
         if let Ok(meter) = Meter::new(alloc, rt, readers, writers) {
-            return if several {
-                run_turns_measured(rt, alloc, options, &meter, output, errors)
-            } else {
-                run_measured(rt, alloc, options, &meter, output, errors)
-            };
+            return run_with_meter(rt, alloc, options, &meter, output, errors);
         }
     }
-    if several {
-        run_turns(rt, alloc, options, output, errors)
-    } else {
+    if options.writers == 1 {
         run_plain(rt, alloc, options, output, errors)
+    } else {
+        run_turns(rt, alloc, options, output, errors)
     }
 }
 

@@ -1,7 +1,7 @@
 //! What `mcload` writes, and what it tells on standard error.
 ghost use Rattle.std.specs.Prelude.{◌≡◌, ◌+◌, ◌==◌, ◌++◌, Some, codes};
 ghost use Rattle.mc_load.specs.LoadPrograms.{load_text, report_text, turns_text};
-ghost use Rattle.mc_load.specs.Inside.Told.{text_of};
+ghost use Rattle.mc_load.specs.Told.{text_of};
 
 use mc_options::Refusal;
 use mc_workers::{DeskReport, LoadError, OpenError, Report};

@@ -2,6 +2,7 @@
 use Rattle.std.specs.Prelude.{ℕ, ◌≡◌, ◌+◌, ◌<◌, List, [], Some, None, Result, Ok, Err}
 use Rattle.mc_words.specs.Answers.{PutIsSpent}
 use Rattle.mc_words.specs.Checks.{shape_of}
+use Rattle.mc_words.specs.KeyParts.{HasParts}
 use Rattle.mc_words.specs.Places.{moment}
 use Rattle.mc_words.specs.Standing.{IsAbsent}
 use Rattle.mc_theory.specs.States.{State}
@@ -70,6 +71,7 @@ pub record IsReplaced (V : ℕ) (books : Books) (waiting : Waiting V) (call : Ca
 -- the same, where no key moves
 pub record IsExchanged (V : ℕ) (books : Books) (waiting : Waiting V) (call : Call) (s : State V) (rs : List Swept) (x : Exchange) : Type 0 where
   pub in_items : x.item < (shape_of books.checked).items
+  pub parts : HasParts (shape_of books.checked) x.evicted x.parts
   pub planned : IsPlanned V books (exchange_acts (shape_of books.checked) waiting.key waiting.value x) call s (state_after_sweep V (shape_of books.checked) s rs) (answer.Put (Ok (put.Stored x.at 0 (Some x.evicted))))
   pub sweeps : IsSweepOf V (shape_of books.checked) s rs (answer.Put (Ok (put.Stored x.at 0 (Some x.evicted))))
 

@@ -1,6 +1,7 @@
 //! What the writer keeps of its table beside the words, and how it decides a call.
 ghost use Rattle.std.specs.Prelude.{ℕ, ◌≡◌, ◌+◌, ◌*◌, ◌^◌, ◌<◌, ◌≤◌, [], ◌↔◌, IfOk, IsTrue, List, length};
 ghost use Rattle.mc_words.specs.Checks.{shape_of};
+ghost use Rattle.mc_words.specs.KeyParts.{HasParts};
 ghost use Rattle.mc_words.specs.Places.{IsWidth, word_count};
 ghost use Rattle.mc_theory.specs.States.{State, opening};
 ghost use Rattle.mc_plan.specs.Moves.{AreTaken, AreKeys};
@@ -15,9 +16,9 @@ use crate::decision::{
 use crate::moves::path_moves;
 use crate::value::have_words;
 use crate::waiting::Waiting;
-use mc_search::{Finder, FreeItems, Path, Sweep, find, key_at, moment, stamp_at};
+use mc_search::{Finder, FreeItems, Path, Sweep, find, find_by, key_at, moment, stamp_at};
 use mc_theory::Peek;
-use mc_words::{Checked, NoMemory, Place};
+use mc_words::{Checked, KeyParts, NoMemory, Place};
 use std::alloc::Global;
 
 /// The writer's bookkeeping beside the words: which items are free, where the hand stands, how many version changes were made.
@@ -111,15 +112,17 @@ impl Books {
     }
 
     /// Decides a put, as far as one look for the key tells.
-    /// Condition: the books are those of the table whose words are looked at, between two calls.
+    /// Condition: the books are those of the table whose words are looked at, between two calls, and the parts are the key's.
     #[inline(always)]
     pub fn decide<const V: usize, P: Peek>(
         &mut self,
         peek: &mut P,
         key: u64,
+        parts: KeyParts,
         value: &[u64; V],
     ) -> Decision
         requires books { (s : State V) × AreBooksOf V self.old s × (P.words peek.old ≡ s.words) }
+        requires parts { HasParts (shape_of self.old.checked) key parts }
         ensures decided { (s : State V) → AreBooksOf V self.old s → P.words peek.old ≡ s.words → IsDecided V self.new key value.now s result }
         ensures shape { self.new.checked ≡ self.old.checked }
         ensures kept { peek.new ≡ peek.old }
@@ -130,7 +133,7 @@ impl Books {
             return Decision::Refuse(PutError::Spent);
         }
         let at = moment(&self.checked, peek) + 1;
-        match find::<V, P>(&self.checked, peek, key) {
+        match find_by::<V, P>(&self.checked, peek, key, parts) {
             Some((_, item)) => {
                 self.version_steps += 2;
                 Decision::Renew { item, at }
@@ -172,22 +175,24 @@ impl Books {
     }
 
     /// Decides the put of a key that is not there, where one of its two buckets has a hole.
-    /// Condition: `decide` has just answered `Insert` for the key, with this `at`.
+    /// Condition: `decide` has just answered `Insert` for the key and these parts, with this `at`.
     #[inline(always)]
     pub fn insert_near<const V: usize, P: Peek>(
         &mut self,
         peek: &mut P,
         key: u64,
+        parts: KeyParts,
         value: &[u64; V],
         at: u64,
     ) -> Nearby
         requires books { (s : State V) × IsLackingKey V self.old key s at × (P.words peek.old ≡ s.words) }
+        requires parts { HasParts (shape_of self.old.checked) key parts }
         ensures near { (s : State V) → IsLackingKey V self.old key s at → P.words peek.old ≡ s.words → IsNear V self.new key value.now s at result }
         ensures shape { self.new.checked ≡ self.old.checked }
         ensures kept { peek.new ≡ peek.old }
     {
         have_words(value);
-        let Some(hole) = self.finder.near(peek, key) else {
+        let Some(hole) = self.finder.near(peek, key, parts) else {
             return Nearby::Far;
         };
         let Some(item) = self.free.take_least() else {
@@ -291,12 +296,14 @@ impl Books {
         have_words(&waiting.value);
         let at = moment(&self.checked, peek) + 2;
         let evicted = key_at::<V, P>(&self.checked, peek, item);
-        let Some((victim, _)) = find::<V, P>(&self.checked, peek, evicted) else {
+        let parts = self.checked.parts(evicted);
+        let Some((victim, _)) = find_by::<V, P>(&self.checked, peek, evicted, parts) else {
             unreachable!();
         };
         self.version_steps += 4;
         Exchange {
             evicted,
+            parts,
             victim,
             item,
             place: waiting.path.hole,

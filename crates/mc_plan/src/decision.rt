@@ -4,7 +4,7 @@ ghost use Rattle.std.specs.Prelude.{◌≡◌};
 use crate::answer::{Put, PutError, Remove, Spent};
 use arrayvec::ArrayVec;
 use mc_search::Path;
-use mc_words::Place;
+use mc_words::{KeyParts, Place};
 
 /// A key's way from one slot to an empty one. `word` is what its slot holds.
 #[derive(Clone, Copy, Default)]
@@ -76,6 +76,8 @@ pub struct Replacement {
 #[derive(Clone, Copy)]
 pub struct Exchange {
     pub evicted: u64,
+    /// The parts of that key.
+    pub parts: KeyParts,
     pub victim: Place,
     pub item: u32,
     pub place: Place,

@@ -135,7 +135,8 @@ pub(crate) fn start_put<const V: usize, P: Peek>(
     ensures shape { books.new.checked ≡ books.old.checked }
     ensures kept { peek.new ≡ peek.old }
 {
-    match books.decide::<V, P>(peek, key, value) {
+    let parts = books.checked.parts(key);
+    match books.decide::<V, P>(peek, key, parts, value) {
         Decision::Refuse(why) => Start::Planned(Err(why)),
         Decision::Renew { item, at } => {
             add_renewal(plan, key, value, at, item);

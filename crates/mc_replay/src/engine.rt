@@ -13,6 +13,7 @@ ghost use Rattle.mc_replay.specs.declared.fault.Stop.{Stop};
 use crate::command::do_command;
 use crate::fault::{Fault, ReplayError, Stop};
 use crate::player::Player;
+use crate::watch::{Nobody, Watch};
 use mc_script::{Line, ReadFault, parse, read_line, send};
 use mc_words::Checked;
 use std::alloc::Global;
@@ -22,12 +23,13 @@ use std::io::{BufRead, Write};
 const MOST_LINES: u64 = 1 << 40;
 
 /// Does what a line says, and puts the lines of its answers into `text`.
-fn do_line<const V: usize>(
+fn do_line<const V: usize, O: Watch<V>>(
     alloc: Global,
     player: &mut Player<V>,
     text: &mut String,
     before: u64,
     line: &[u8],
+    watch: &mut O,
 ) -> Result<(), Fault>
     requires fits { (s : Scene V) × FitsScene V player.old (most_before before) s }
     requires short { length line.now ≤ 4096 }
@@ -43,7 +45,7 @@ fn do_line<const V: usize>(
     match parse(line) {
         Err(fault) => Err(Fault::of_line(fault)),
         Ok(None) => Ok(()),
-        Ok(Some(command)) => do_command(alloc, player, text, command),
+        Ok(Some(command)) => do_command(alloc, player, text, command, watch),
     }
 }
 
@@ -58,13 +60,14 @@ fn is_wanting(done: Result<(), Fault>) -> bool
 }
 
 /// Reads the next line, does it and writes its answers: `false` where there is none.
-fn play_line<const V: usize, R: BufRead, W: Write>(
+fn play_line<const V: usize, R: BufRead, W: Write, O: Watch<V>>(
     alloc: Global,
     player: &mut Player<V>,
     text: &mut String,
     before: u64,
     input: &mut R,
     output: &mut W,
+    watch: &mut O,
 ) -> Result<bool, Fault>
     requires { (s : Scene V) × FitsScene V player.old (most_before before) s }
     ensures plays { (s : Scene V) → FitsScene V player.old (most_before before) s → (t : Scene V) ×
@@ -80,7 +83,7 @@ fn play_line<const V: usize, R: BufRead, W: Write>(
         Ok(false) => return Ok(false),
         Ok(true) => {}
     }
-    let done = do_line(alloc, player, text, before, line.as_slice());
+    let done = do_line(alloc, player, text, before, line.as_slice(), watch);
     if is_wanting(done) {
         return Err(Fault::NoMemory);
     }
@@ -93,11 +96,12 @@ fn play_line<const V: usize, R: BufRead, W: Write>(
 }
 
 /// Plays the lines one after the other, up to the first that is refused.
-fn play_lines<const V: usize, R: BufRead, W: Write>(
+fn play_lines<const V: usize, R: BufRead, W: Write, O: Watch<V>>(
     alloc: Global,
     player: &mut Player<V>,
     input: &mut R,
     output: &mut W,
+    watch: &mut O,
 ) -> Result<(), Stop>
     requires { (readers : ℕ) × HasReaders readers × Fits V player.old 0 (first_replay V (shape_of_player player.old) readers) }
     ensures { (readers : ℕ) → HasReaders readers →
@@ -107,9 +111,12 @@ fn play_lines<const V: usize, R: BufRead, W: Write>(
 {
     let mut text = String::new(alloc);
     'lines: for before in 0..u64::MAX {
-        match play_line(alloc, player, &mut text, before, input, output) {
+        match play_line(alloc, player, &mut text, before, input, output, watch) {
             Ok(true) => {}
-            Ok(false) => return Ok(()),
+            Ok(false) => {
+                watch.ended(&player.world);
+                return Ok(());
+            }
             Err(fault) => {
                 let line = before + 1;
                 return Err(Stop { line, fault });
@@ -117,6 +124,28 @@ fn play_lines<const V: usize, R: BufRead, W: Write>(
         }
     }
     unreachable!()
+}
+
+/// Replays the script that is left to read, before one who watches. Condition: a value has from 1 to 8 words.
+pub fn play_watched<const V: usize, R: BufRead, W: Write, O: Watch<V>>(
+    alloc: Global,
+    checked: &Checked,
+    readers: u32,
+    input: &mut R,
+    output: &mut W,
+    watch: &mut O,
+) -> Result<(), Stop>
+    requires { IsWidth V }
+    ensures { ReplaysKnown V (shape_of checked.now) readers (R.remaining input.old) (R.remaining input.new)
+        (W.contents output.old) (W.contents output.new) result }
+{
+    match Player::<V>::new(alloc, checked, readers) {
+        Ok(mut player) => {
+            watch.opened(&player.world);
+            play_lines(alloc, &mut player, input, output, watch)
+        }
+        Err(fault) => Err(Stop { line: 0, fault }),
+    }
 }
 
 /// Replays the script that is left to read. Condition: a value has from 1 to 8 words.
@@ -131,10 +160,7 @@ pub fn play<const V: usize, R: BufRead, W: Write>(
     ensures { ReplaysKnown V (shape_of checked.now) readers (R.remaining input.old) (R.remaining input.new)
         (W.contents output.old) (W.contents output.new) result }
 {
-    match Player::<V>::new(alloc, checked, readers) {
-        Ok(mut player) => play_lines(alloc, &mut player, input, output),
-        Err(fault) => Err(Stop { line: 0, fault }),
-    }
+    play_watched::<V, R, W, Nobody>(alloc, checked, readers, input, output, &mut Nobody)
 }
 
 /// Replays the script that is left to read, and writes the lines of its answers.

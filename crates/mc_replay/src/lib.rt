@@ -20,6 +20,8 @@ mod player;
 mod reading;
 mod reopening;
 mod text;
+mod watch;
 
-pub use engine::{play, replay};
+pub use engine::{play, play_watched, replay};
 pub use fault::{Fault, ReplayError, Stop};
+pub use watch::Watch;

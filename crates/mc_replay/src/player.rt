@@ -14,6 +14,7 @@ ghost use Rattle.mc_replay.specs.Inside.Players.{Begins, Completes, Fits, HasRoo
 ghost use Rattle.mc_replay.specs.declared.fault.Fault.TheVariants.{NoMemory};
 
 use crate::fault::Fault;
+use crate::watch::Watch;
 use mc_core::{Act, Event, Reply, Stepped, Unlawful, World, WorldError};
 use mc_plan::{Answer, Clerk, Put, Why, entries, moment, read};
 use mc_words::Checked;
@@ -75,7 +76,7 @@ impl<const V: usize> Player<V> {
 
     /// The writer makes the next act of its call, and answers the call after its last one. Only memory for the history
     /// may be wanting.
-    pub(crate) fn act(&mut self) -> Result<Option<Answer>, Fault>
+    pub(crate) fn act<O: Watch<V>>(&mut self, watch: &mut O) -> Result<Option<Answer>, Fault>
         requires runs { IsSome (next_act self.old.clerk) }
         requires call { (most : ℕ) × (p : Pending V) × (w : traces.Trace V) × IsInCall V self.old most p w × (most + acts_left self.old.clerk < 2 ^ 64 - 1) }
         ensures made { IfOk result (λ told. (most : ℕ) (p : Pending V) (w : traces.Trace V) →
@@ -87,6 +88,7 @@ impl<const V: usize> Player<V> {
             None => Ok(None),
             Some(act) => match self.world.step(Event::Write(act)) {
                 Ok(given) => {
+                    watch.saw(Event::Write(act), &given);
                     self.clerk.after(&mut &self.world, bit_in(given));
                     Ok(self.clerk.answer())
                 }
@@ -98,7 +100,7 @@ impl<const V: usize> Player<V> {
     }
 
     /// Makes the acts of the call that runs, up to its answer.
-    fn finish(&mut self) -> Result<Answer, Fault>
+    fn finish<O: Watch<V>>(&mut self, watch: &mut O) -> Result<Answer, Fault>
         requires runs { IsSome (next_act self.old.clerk) }
         requires call { (most : ℕ) × (p : Pending V) × (w : traces.Trace V) × IsInCall V self.old most p w × (most + acts_left self.old.clerk < 2 ^ 64 - 1) }
         ensures made { IfOk result (λ a. (most : ℕ) (p : Pending V) (w : traces.Trace V) →
@@ -107,7 +109,7 @@ impl<const V: usize> Player<V> {
         ensures refused { OnErr result (result ≡ Err NoMemory) }
     {
         'acts: loop {
-            if let Some(answer) = self.act()? {
+            if let Some(answer) = self.act(watch)? {
                 return Ok(answer);
             }
         }
@@ -130,7 +132,11 @@ impl<const V: usize> Player<V> {
     }
 
     /// A whole call.
-    pub(crate) fn whole(&mut self, call: Call<V>) -> Result<Answer, Fault>
+    pub(crate) fn whole<O: Watch<V>>(
+        &mut self,
+        call: Call<V>,
+        watch: &mut O,
+    ) -> Result<Answer, Fault>
         requires { (most : ℕ) × (w : traces.Trace V) × IsIdle V self.old most w × HasRoom most }
         ensures made { IfOk result (λ a. (most : ℕ) (w : traces.Trace V) → IsIdle V self.old most w → HasRoom most →
             CallIsWhole V self.old self.new most (call_of call.entry) w a) }
@@ -138,18 +144,23 @@ impl<const V: usize> Player<V> {
     {
         match self.begin(call) {
             Some(answer) => Ok(answer),
-            None => self.finish(),
+            None => self.finish(watch),
         }
     }
 
     /// Puts a key, as long as no other one has to go.
-    pub(crate) fn put_kept(&mut self, key: u64, value: [u64; V]) -> Result<Result<Put, Why>, Fault>
+    pub(crate) fn put_kept<O: Watch<V>>(
+        &mut self,
+        key: u64,
+        value: [u64; V],
+        watch: &mut O,
+    ) -> Result<Result<Put, Why>, Fault>
         requires { (most : ℕ) × (w : traces.Trace V) × IsIdle V self.old most w × HasRoom most }
         ensures made { IfOk result (λ told. (most : ℕ) (w : traces.Trace V) → IsIdle V self.old most w → HasRoom most →
             CallIsWhole V self.old self.new most (KeptCall key value.entry) w (Kept told)) }
         ensures refused { OnErr result (result ≡ Err NoMemory) }
     {
-        match self.whole(Call::PutKept(key, value))? {
+        match self.whole(Call::PutKept(key, value), watch)? {
             Answer::Kept(told) => Ok(told),
             Answer::Put(_) | Answer::PutIf(_) | Answer::Remove(_) => unreachable!(),
         }
@@ -179,18 +190,19 @@ impl<const V: usize> Player<V> {
     }
 
     /// Marks an item.
-    fn mark(&mut self, item: u32)
+    fn mark<O: Watch<V>>(&mut self, item: u32, watch: &mut O)
         requires { (most : ℕ) × (w : traces.Trace V) × IsIdle V self.old most w × HasRoom most × (item < (shape_of_player self.old).items) }
         ensures { (most : ℕ) (w : traces.Trace V) → IsIdle V self.old most w → HasRoom most → IsMarked V self.old self.new most item w }
     {
-        match self.world.step(Event::Write(Act::Mark(item))) {
-            Ok(_) => {}
+        let event = Event::Write(Act::Mark(item));
+        match self.world.step(event) {
+            Ok(given) => watch.saw(event, &given),
             Err(_) => unreachable!(),
         }
     }
 
     /// Looks a key up for the writer, which marks its item.
-    pub(crate) fn get(&mut self, key: u64) -> Reply<V>
+    pub(crate) fn get<O: Watch<V>>(&mut self, key: u64, watch: &mut O) -> Reply<V>
         requires { (most : ℕ) × (w : traces.Trace V) × IsIdle V self.old most w × HasRoom most }
         ensures { (most : ℕ) (w : traces.Trace V) → IsIdle V self.old most w → HasRoom most → Looks V self.old self.new most key w result }
     {
@@ -201,7 +213,7 @@ impl<const V: usize> Player<V> {
             Some(held) => {
                 let value = held.value;
                 let since = held.since;
-                self.mark(held.item);
+                self.mark(held.item, watch);
                 Reply::Found { value, at, since }
             }
         }

@@ -9,6 +9,7 @@ use crate::fault::Fault;
 use crate::lines::DoneLine;
 use crate::player::Player;
 use crate::text::add_line;
+use crate::watch::Watch;
 use mc_core::{Event, Stepped, Unlawful};
 
 /// The reader of this number.
@@ -24,17 +25,22 @@ fn reader_of<const V: usize>(player: &Player<V>, reader: u64) -> Result<u32, Fau
 }
 
 /// A reader begins a lookup.
-pub(crate) fn begin_get<const V: usize>(
+pub(crate) fn begin_get<const V: usize, O: Watch<V>>(
     player: &mut Player<V>,
     reader: u64,
     key: u64,
+    watch: &mut O,
 ) -> Result<(), Fault>
     requires { CanDo V player.old [] }
     ensures { DoesBy V player.old player.new [] result (λ sh s. LookUpDoes sh s reader key) }
 {
     let reader = reader_of(player, reader)?;
-    match player.world.step(Event::Begin(reader, key)) {
-        Ok(_) => Ok(()),
+    let event = Event::Begin(reader, key);
+    match player.world.step(event) {
+        Ok(given) => {
+            watch.saw(event, &given);
+            Ok(())
+        }
         Err(Unlawful::StillRunning) => Err(Fault::StillRunning),
         Err(_) => unreachable!(),
     }
@@ -52,11 +58,12 @@ fn tell_end<const V: usize>(text: &mut String, given: Stepped<V>) -> Result<(), 
 }
 
 /// So many accesses of a reader, up to the last of its lookup.
-fn accesses<const V: usize>(
+fn accesses<const V: usize, O: Watch<V>>(
     player: &mut Player<V>,
     text: &mut String,
     reader: u32,
     many: u64,
+    watch: &mut O,
 ) -> Result<(), Fault>
     requires can { CanDo V player.old (string_bytes text.old) }
     requires reader { reader < length player.old.world.readers }
@@ -68,21 +75,23 @@ fn accesses<const V: usize>(
             Err(Unlawful::NotLawful) => return Err(Fault::NothingToStep),
             Err(_) => unreachable!(),
         };
+        watch.saw(Event::Read(reader), &given);
         tell_end(text, given)?;
     }
     Ok(())
 }
 
 /// A reader's accesses, if there is such a reader.
-pub(crate) fn reads<const V: usize>(
+pub(crate) fn reads<const V: usize, O: Watch<V>>(
     player: &mut Player<V>,
     text: &mut String,
     reader: u64,
     many: u64,
+    watch: &mut O,
 ) -> Result<(), Fault>
     requires { CanDo V player.old (string_bytes text.old) }
     ensures { DoesBy V player.old player.new (string_bytes text.new) result (λ sh s. ReadsDo sh s reader many) }
 {
     let reader = reader_of(player, reader)?;
-    accesses(player, text, reader, many)
+    accesses(player, text, reader, many, watch)
 }

@@ -14,6 +14,7 @@ use crate::fault::Fault;
 use crate::lines::{LeftLine, ReopenedLine};
 use crate::player::Player;
 use crate::text::add_line;
+use crate::watch::Watch;
 use mc_plan::{Put, Why};
 use mc_words::{Checked, Shape};
 use std::alloc::Global;
@@ -55,10 +56,11 @@ fn name(left: &mut Vec<(usize, Why)>, index: usize, told: Result<Put, Why>) -> R
 }
 
 /// Puts entries into a new world, one after the other, as long as no other key has to go; those that are left are named.
-fn load<const V: usize>(
+fn load<const V: usize, O: Watch<V>>(
     alloc: Global,
     player: &mut Player<V>,
     entries: &[(u64, [u64; V])],
+    watch: &mut O,
 ) -> Result<Vec<(usize, Why)>, Fault>
     requires few { length entries.now ≤ most_entries }
     requires idle { (w : traces.Trace V) × IsIdle V player.old 0 w }
@@ -68,7 +70,7 @@ fn load<const V: usize>(
     let mut left = Vec::new(alloc);
     for index in 0..entries.len() {
         let entry = entries[index];
-        let told = player.put_kept(entry.0, entry.1)?;
+        let told = player.put_kept(entry.0, entry.1, watch)?;
         name(&mut left, index, told)?;
     }
     Ok(left)
@@ -122,11 +124,12 @@ fn tell<const V: usize>(
 }
 
 /// A new world with this shape and the entries of another, which is told.
-fn moved<const V: usize>(
+fn moved<const V: usize, O: Watch<V>>(
     alloc: Global,
     player: &Player<V>,
     checked: &Checked,
     text: &mut String,
+    watch: &mut O,
 ) -> Result<Player<V>, Fault>
     requires { (most : ℕ) × (w : traces.Trace V) × IsIdle V player.now most w }
     ensures moved { IfOk result (λ new. (b c : ℕ) → shape_of checked.now ≡ with_sizes (shape_of_player player.now) b c →
@@ -138,18 +141,20 @@ fn moved<const V: usize>(
     let Ok(mut new) = Player::new(alloc, checked, player.world.readers()) else {
         return Err(Fault::NoMemory);
     };
-    let left = load(alloc, &mut new, &entries)?;
+    watch.opened(&new.world);
+    let left = load(alloc, &mut new, &entries, watch)?;
     tell(text, new.moment(), &entries, &left)?;
     Ok(new)
 }
 
 /// Opens a world with so many buckets and items in the place of the present one, which stands until the other one does.
-pub(crate) fn reopen<const V: usize>(
+pub(crate) fn reopen<const V: usize, O: Watch<V>>(
     alloc: Global,
     player: &mut Player<V>,
     text: &mut String,
     buckets: u64,
     items: u64,
+    watch: &mut O,
 ) -> Result<(), Fault>
     requires { CanReopen V player.old (string_bytes text.old) }
     ensures does { ReopensBy V player.old player.new (string_bytes text.new) result buckets items }
@@ -162,7 +167,7 @@ pub(crate) fn reopen<const V: usize>(
         return Err(Fault::StillRunning);
     }
     let checked = resized(&player.world.checked(), buckets, items)?;
-    let new = moved(alloc, player, &checked, text)?;
+    let new = moved(alloc, player, &checked, text, watch)?;
     *player = new;
     Ok(())
 }

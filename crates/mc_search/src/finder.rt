@@ -2,6 +2,7 @@
 ghost use Rattle.std.specs.Prelude.{◌≡◌, ◌⊎◌, ◌<◌, IfOk, IfSome, IfNone};
 ghost use Rattle.mc_words.specs.Chains.{NoChain};
 ghost use Rattle.mc_words.specs.Checks.{shape_of};
+ghost use Rattle.mc_words.specs.KeyParts.{HasParts};
 ghost use Rattle.mc_search.specs.Paths.{IsLeastPath, direct_path};
 ghost use Rattle.mc_search.specs.Readable.{HasSlots, IsFilled};
 ghost use Rattle.mc_search.specs.Inside.Readable.{IsFull, IsHoleIn};
@@ -12,7 +13,7 @@ use crate::queue::{Entry, clean, start};
 use crate::search::{search, trace};
 use arrayvec::ArrayVec;
 use mc_theory::Peek;
-use mc_words::{Checked, NoMemory, Place};
+use mc_words::{Checked, KeyParts, NoMemory, Place};
 use std::alloc::Global;
 use std::marker::Model;
 
@@ -77,18 +78,18 @@ impl Finder {
     }
 
     /// A hole in one of the key's two buckets, of which the path moves nothing.
-    /// Condition: the words reach as far as the last slot of the finder's shape.
+    /// Condition: the words reach as far as the last slot of the finder's shape, and the parts are the key's.
     #[inline(always)]
-    pub fn near<P: Peek>(&self, peek: &mut P, key: u64) -> Option<Place>
+    pub fn near<P: Peek>(&self, peek: &mut P, key: u64, parts: KeyParts) -> Option<Place>
         requires words { HasSlots self.now (P.words peek.old) }
+        requires parts { HasParts self.now key parts }
         ensures found { IfSome result (λ hole. IsLeastPath self.now (P.words peek.old) key (direct_path hole)) }
         ensures words { P.words peek.new ≡ P.words peek.old }
         ensures kept { peek.new ≡ peek.old }
     {
+        let _ = key;
         let checked = self.checked;
-        let first = checked.first(key);
-        let second = checked.alt(first, checked.tag(key));
-        hole_in_either(&checked, peek, first, second)
+        hole_in_either(&checked, peek, parts.first, parts.second)
     }
 
     /// A shortest path for the key, if there is one within the depth of the shape.

@@ -1,6 +1,7 @@
 //! Where a key stands.
 ghost use Rattle.std.specs.Prelude.{◌≡◌, ◌<◌, ◌≤◌, length, IfSome, IfNone};
 ghost use Rattle.mc_words.specs.Checks.{shape_of};
+ghost use Rattle.mc_words.specs.KeyParts.{HasParts};
 ghost use Rattle.mc_words.specs.Keys.{tag_of, slot_word};
 ghost use Rattle.mc_words.specs.Places.{IsPlace, IsWidth, slot_number, word_count};
 ghost use Rattle.mc_words.specs.Standing.{Stands, IsAbsent};
@@ -9,7 +10,7 @@ ghost use Rattle.mc_search.specs.Inside.Readable.{IsNotAmong};
 
 use crate::word::{key_at, slot_at};
 use mc_theory::Peek;
-use mc_words::{Checked, Place};
+use mc_words::{Checked, KeyParts, Place};
 
 /// The slot of the bucket that names an item of the key under the key's tag, and the item.
 #[inline(always)]
@@ -60,14 +61,31 @@ pub fn find<const V: usize, P: Peek>(
     ensures none { IfNone result (IsAbsent V (shape_of checked.now) (P.words peek.old) key) }
     ensures kept { peek.new ≡ peek.old }
 {
+    find_by::<V, P>(checked, peek, key, checked.parts(key))
+}
+
+/// The same, for a caller that has worked out the key's parts. Condition: as for `find`, and the parts are the key's.
+#[inline(always)]
+pub fn find_by<const V: usize, P: Peek>(
+    checked: &Checked,
+    peek: &mut P,
+    key: u64,
+    parts: KeyParts,
+) -> Option<(Place, u32)>
+    requires width { IsWidth V }
+    requires words { word_count V (shape_of checked.now) ≤ length (P.words peek.old) }
+    requires placed { IsPlaced V (shape_of checked.now) (P.words peek.old) key }
+    requires parts { HasParts (shape_of checked.now) key parts }
+    ensures found { IfSome result (λ r. Stands V (shape_of checked.now) (P.words peek.old) key (slot_number r.0) r.1) }
+    ensures place { IfSome result (λ r. IsPlace (shape_of checked.now) r.0) }
+    ensures none { IfNone result (IsAbsent V (shape_of checked.now) (P.words peek.old) key) }
+    ensures kept { peek.new ≡ peek.old }
+{
     // A copy, which stays in registers while words are read.
     let table = *checked;
-    let tag = table.tag(key);
-    let base = table.slot_word(tag, 0);
-    let first = table.first(key);
-    if let Some(found) = find_in::<V, P>(&table, peek, key, base, first) {
+    let base = table.slot_word(parts.tag, 0);
+    if let Some(found) = find_in::<V, P>(&table, peek, key, base, parts.first) {
         return Some(found);
     }
-    let second = table.alt(first, tag);
-    find_in::<V, P>(&table, peek, key, base, second)
+    find_in::<V, P>(&table, peek, key, base, parts.second)
 }

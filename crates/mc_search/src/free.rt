@@ -33,6 +33,7 @@ impl FreeItems {
     }
 
     /// Takes the least free item.
+    #[inline(always)]
     pub fn take_least(&mut self) -> Option<u32>
         requires { IsConsistent self.old }
         ensures kept { IsConsistent self.new }

@@ -1,7 +1,8 @@
 //! The shared words of a table whose values have `V` words: they are opened, and closed.
 ghost use Rattle.std.specs.Prelude.{◌≡◌, ◌^◌, ◌<◌, ℕ, [], IfOk, All, length, slice_index};
 ghost use Rattle.mc_words.specs.Checks.{shape_of};
-ghost use Rattle.mc_words.specs.Places.{IsWidth, all_words, item_place, word_count};
+ghost use Rattle.mc_words.specs.KeyParts.{HasParts};
+ghost use Rattle.mc_words.specs.Places.{IsWidth, all_words, item_place, recency_place, word_count};
 ghost use Rattle.mc_words.specs.Readers.{HasReaders};
 ghost use Rattle.mc_theory.specs.Lists.{state_of};
 ghost use Rattle.mc_shared.specs.Views.{layout_of};
@@ -12,7 +13,7 @@ use crate::opening::{close_words, open_words};
 use crate::ruled_words::RuledWords;
 use crate::seats::{ReaderSeat, WriterSeat};
 use crate::words::Words;
-use mc_words::{Checked, NoMemory};
+use mc_words::{Checked, KeyParts, NoMemory};
 use std::alloc::Global;
 use std::marker::Model;
 
@@ -21,12 +22,17 @@ use std::marker::Model;
 pub struct Cells<const V: usize> {
     pub(crate) ruled: RuledWords,
     pub(crate) checked: Checked,
+    /// Where the items begin, worked out once.
+    items_start: usize,
+    /// Where the recency words begin.
+    recency_start: usize,
 }
 
 impl<const V: usize> Model for Cells<V> {
     ghost use Rattle.std.specs.Prelude.{◌≡◌};
     ghost use Rattle.mc_words.specs.Checks.{shape_of};
     ghost use Rattle.mc_words.specs.Places.{IsWidth};
+    ghost use Rattle.mc_shared.specs.Inside.Starts.{AreStarts};
     ghost use Rattle.mc_shared.specs.Records.{Opening};
     ghost use Rattle.mc_shared.specs.Views.{layout_of};
 
@@ -34,7 +40,7 @@ impl<const V: usize> Model for Cells<V> {
 
     ghost view = { λ c. c.ruled };
 
-    ghost invariant = { λ c. (c.ruled.layout ≡ layout_of V (shape_of c.checked)) × IsWidth V };
+    ghost invariant = { λ c. (c.ruled.layout ≡ layout_of V (shape_of c.checked)) × IsWidth V × AreStarts V (shape_of c.checked) c.items_start c.recency_start };
 }
 
 impl<const V: usize> Cells<V> {
@@ -46,12 +52,37 @@ impl<const V: usize> Cells<V> {
         &self.checked
     }
 
+    /// The parts of the key.
+    #[inline(always)]
+    pub fn parts(&self, key: u64) -> KeyParts
+        ensures { HasParts self.now.layout.shape key result }
+    {
+        self.checked.parts(key)
+    }
+
+    /// Where the recency words begin.
+    pub fn recency_start(&self) -> usize
+        ensures value { result ≡ word_count V self.now.layout.shape }
+        ensures small { result < 2 ^ 40 }
+    {
+        self.recency_start
+    }
+
+    /// Where the word that holds the recency bit of an item lies.
+    #[inline(always)]
+    #[tactic(auto, unfolding(mc_words::specs::Recency::recency_word))]
+    pub(crate) fn recency_place(&self, i: u32) -> usize
+        ensures { result ≡ recency_place V self.now.layout.shape i }
+    {
+        self.recency_start + i as usize / 64
+    }
+
     /// Where the items begin.
     pub fn items_start(&self) -> usize
         ensures value { result ≡ item_place V self.now.layout.shape 0 0 }
         ensures small { result < 2 ^ 40 }
     {
-        self.checked.item_place::<V>(0, 0)
+        self.items_start
     }
 }
 
@@ -78,6 +109,8 @@ pub fn open<const V: usize>(
     let cells = Cells {
         ruled,
         checked: *checked,
+        items_start: checked.item_place::<V>(0, 0),
+        recency_start: checked.recency_start::<V>(),
     };
     Ok((cells, writer, seats))
 }
@@ -90,6 +123,6 @@ pub fn close<const V: usize>(cells: Cells<V>, writer: WriterSeat, readers: Vec<R
     ensures words { (n : ℕ) → n < word_count V cells.entry.layout.shape →
         slice_index result n ≡ slice_index (state_of V cells.entry.layout.shape writer.acts).words n }
 {
-    let Cells { ruled, checked: _ } = cells;
+    let Cells { ruled, .. } = cells;
     close_words(ruled, writer, readers)
 }

@@ -73,7 +73,7 @@ pub fn mark<const V: usize>(cells: &Cells<V>, reader: &mut ReaderSeat, i: u32)
     requires item { i < cells.now.layout.shape.items }
     ensures { reader.new ≡ reader_record reader.old.of reader.old.number reader.old.front (reader.old.done ++ mark_at i reader.old.front ∷ []) }
 {
-    let place = cells.checked.recency_place::<V>(i);
+    let place = cells.recency_place(i);
     mark_on_words(&cells.ruled, reader, i, place, cells.checked.recency_bit(i));
 }
 
@@ -83,7 +83,7 @@ pub fn mark_unless_set<const V: usize>(cells: &Cells<V>, reader: &mut ReaderSeat
     requires item { i < cells.now.layout.shape.items }
     ensures { reader.new ≡ reader_record reader.old.of reader.old.number reader.old.front (reader.old.done ++ mark_at i reader.old.front ∷ []) }
 {
-    let place = cells.checked.recency_place::<V>(i);
+    let place = cells.recency_place(i);
     mark_unless_set_on_words(&cells.ruled, reader, i, place, cells.checked.recency_bit(i));
 }
 

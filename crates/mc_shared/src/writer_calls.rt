@@ -1,5 +1,6 @@
 //! The writer's steps on shared words: one call an act, and a load that changes no record.
 ghost use Rattle.std.specs.Prelude.{◌≡◌, ◌^◌, ◌<◌, slice_index};
+ghost use Rattle.mc_words.specs.KeyParts.{HasParts};
 ghost use Rattle.mc_words.specs.Places.{IsWidth, item_place, word_count};
 ghost use Rattle.mc_theory.specs.Acts.{IsAllowed};
 ghost use Rattle.mc_theory.specs.Lists.{state_of};
@@ -15,7 +16,7 @@ use crate::writer_steps::{
     set_mark_unless_set_on_words, turn_hand_on_words, write_word,
 };
 use mc_theory::{Act, Deed};
-use mc_words::Place;
+use mc_words::{KeyParts, Place};
 
 /// Opens a deed on a key: a load of its version, and a store of one more.
 /// Condition: the seat is that of these words, the act is allowed now, and leaves room for its close within the limit.
@@ -25,8 +26,26 @@ pub fn open_deed<const V: usize>(cells: &Cells<V>, writer: &mut WriterSeat, key:
     requires limit { HasVersionSteps cells.now.layout.shape.limit (state_of V cells.now.layout.shape writer.old.acts).version_steps (Open key deed) }
     ensures acted { HasActed writer.old writer.new (Open key deed) 0 }
 {
-    let checked = &cells.checked;
-    let place = checked.version_place(checked.stripe(key));
+    let parts = cells.parts(key);
+    open_deed_by(cells, writer, key, deed, parts);
+}
+
+/// The same, for a caller that has worked out the key's parts. Condition: as for `open_deed`, and the parts are the key's.
+#[inline(always)]
+pub fn open_deed_by<const V: usize>(
+    cells: &Cells<V>,
+    writer: &mut WriterSeat,
+    key: u64,
+    deed: Deed,
+    parts: KeyParts,
+)
+    requires of { writer.old.of ≡ cells.now }
+    requires parts { HasParts cells.now.layout.shape key parts }
+    requires allowed { IsAllowed cells.now.layout.shape (state_of V cells.now.layout.shape writer.old.acts) (Open key deed) }
+    requires limit { HasVersionSteps cells.now.layout.shape.limit (state_of V cells.now.layout.shape writer.old.acts).version_steps (Open key deed) }
+    ensures acted { HasActed writer.old writer.new (Open key deed) 0 }
+{
+    let place = cells.checked.version_place(parts.stripe);
     open_deed_on_words(&cells.ruled, writer, key, deed, place);
 }
 
@@ -112,7 +131,7 @@ pub fn set_mark<const V: usize>(cells: &Cells<V>, writer: &mut WriterSeat, i: u3
     ensures acted { HasActed writer.old writer.new (Mark i) 0 }
 {
     writer.known();
-    let place = cells.checked.recency_place::<V>(i);
+    let place = cells.recency_place(i);
     set_mark_on_words(&cells.ruled, writer, i, place, cells.checked.recency_bit(i));
 }
 
@@ -123,7 +142,7 @@ pub fn set_mark_unless_set<const V: usize>(cells: &Cells<V>, writer: &mut Writer
     ensures acted { HasActed writer.old writer.new (Mark i) 0 }
 {
     writer.known();
-    let place = cells.checked.recency_place::<V>(i);
+    let place = cells.recency_place(i);
     set_mark_unless_set_on_words(&cells.ruled, writer, i, place, cells.checked.recency_bit(i));
 }
 
@@ -134,8 +153,25 @@ pub fn turn_hand<const V: usize>(cells: &Cells<V>, writer: &mut WriterSeat, i: u
     requires allowed { IsAllowed cells.now.layout.shape (state_of V cells.now.layout.shape writer.old.acts) (Hand i) }
     ensures acted { HasActed writer.old writer.new (Hand i) result }
 {
-    writer.known();
-    let place = cells.checked.recency_place::<V>(i);
+    let start = cells.recency_start();
+    turn_hand_from(cells, writer, start, i)
+}
+
+/// The same, for a caller that has worked out where the recency words begin.
+#[inline(always)]
+#[tactic(auto, unfolding(mc_words::specs::Recency::recency_word))]
+pub fn turn_hand_from<const V: usize>(
+    cells: &Cells<V>,
+    writer: &mut WriterSeat,
+    start: usize,
+    i: u32,
+) -> u64
+    requires of { writer.old.of ≡ cells.now }
+    requires start { (start ≡ word_count V cells.now.layout.shape) × (start < 2 ^ 40) }
+    requires allowed { IsAllowed cells.now.layout.shape (state_of V cells.now.layout.shape writer.old.acts) (Hand i) }
+    ensures acted { HasActed writer.old writer.new (Hand i) result }
+{
+    let place = start + i as usize / 64;
     turn_hand_on_words(&cells.ruled, writer, i, place, cells.checked.recency_bit(i))
 }
 

@@ -10,4 +10,4 @@
 
 mod step;
 
-pub use step::run_step;
+pub use step::{run_step, status_of};

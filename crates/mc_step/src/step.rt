@@ -13,7 +13,7 @@ use std::convert::AsStr;
 use std::io::{BufRead, Write};
 
 /// The exit status of a replay that stops by a fault.
-fn status_of(fault: Fault) -> u8
+pub fn status_of(fault: Fault) -> u8
     ensures { result ≡ status_of fault }
 {
     match fault {

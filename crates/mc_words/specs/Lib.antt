@@ -1,4 +1,5 @@
 pub mod Keys
+pub mod KeyParts
 pub mod Shapes
 pub mod Checks
 pub mod Recency

@@ -6,6 +6,7 @@ ghost use Rattle.mc_words.specs.Recency.{recency_bit};
 ghost use Rattle.mc_words.specs.Shapes.{IsShape};
 
 use crate::item::item_stride;
+use crate::key_parts::KeyParts;
 use crate::place::Place;
 use crate::shape::Shape;
 
@@ -18,6 +19,7 @@ pub struct Checked {
 
 impl Checked {
     ghost use Rattle.mc_words.specs.Checks.{shape_of, Parts};
+    ghost use Rattle.mc_words.specs.KeyParts.{HasParts};
 
     /// The shape that was checked.
     pub fn shape(&self) -> Shape
@@ -69,6 +71,22 @@ impl Checked {
         ensures range { result < (shape_of self.now).stripes }
     {
         ((self.shape.mix.mix(key) >> 32) & u64::from(self.shape.stripes - 1)) as u32
+    }
+
+    /// The parts of the key, with one mixing.
+    #[inline(always)]
+    pub fn parts(&self, key: u64) -> KeyParts
+        ensures { HasParts (shape_of self.now) key result }
+    {
+        let tag = self.tag(key);
+        let first = self.first(key);
+        let stripe = self.stripe(key);
+        KeyParts {
+            tag,
+            first,
+            second: self.alt(first, tag),
+            stripe,
+        }
     }
 
     /// The word of a slot that names the item under the tag. Condition: the item is one of the table.
@@ -149,8 +167,9 @@ impl Checked {
         requires { IsPlace (shape_of self.now) place }
         ensures { result ≡ slot_place (shape_of self.now) (slot_number place) }
     {
-        let number = 4 * place.bucket as usize + usize::from(place.slot);
-        1 + self.shape.stripes as usize + number
+        // The sum of a bucket first: it serves all of its slots.
+        let bucket = 1 + self.shape.stripes as usize + 4 * place.bucket as usize;
+        bucket + usize::from(place.slot)
     }
 
     /// Where the items begin.

@@ -15,6 +15,7 @@
 mod checked;
 mod history;
 mod item;
+mod key_parts;
 mod mix;
 mod no_memory;
 mod place;
@@ -25,6 +26,7 @@ mod sizing;
 pub use checked::Checked;
 pub use history::{Change, Reply};
 pub use item::{item_stride, payload_words};
+pub use key_parts::KeyParts;
 pub use mix::Mix;
 pub use no_memory::NoMemory;
 pub use place::Place;

@@ -1,10 +1,8 @@
 -- What a load reports whose writers take turns at a desk, and why there may be no report.
-use Rattle.std.specs.Prelude.{ℕ, ◌≡◌, ◌==◌, ◌+◌, ◌*◌, ◌^◌, ◌<◌, ◌≤◌, ◌⊎◌, Result, Ok, Err, slice_index_or, if◌then◌else◌}
+use Rattle.std.specs.Prelude.{ℕ, ◌≡◌, ◌==◌, ◌+◌, ◌*◌, ◌<◌, ◌≤◌, ◌⊎◌, slice_index_or, if◌then◌else◌}
 use Rattle.mc_words.specs.Readers.{most_readers}
 use Rattle.mc_words.specs.Shapes.{IsShape, RefusesShape}
 use Rattle.mc_words.specs.declared.shape.Shape.{Shape}
-use Rattle.mc_cache.specs.declared.desk.DeskError.{DeskError}
-use Rattle.mc_cache.specs.declared.desk.DeskError.TheVariants as desk
 use Rattle.mc_cache.specs.declared.opening.OpenError.{OpenError}
 use Rattle.mc_cache.specs.declared.opening.OpenError.TheVariants as opening
 use Rattle.mc_workers.specs.Loads.{HasKeys}
@@ -14,19 +12,6 @@ use Rattle.mc_workers.specs.declared.error.LoadError.TheVariants as error
 use Rattle.mc_workers.specs.declared.turns.DeskReport.{DeskReport}
 use Rattle.mc_workers.specs.declared.turns.DeskRun.{DeskRun}
 use Rattle.mc_workers.specs.declared.turns.Turns.{Turns}
-
--- ---- tries for the turn
-
--- what a try counts as
-abbrev pub held_of : {T E : Type 0} → Result T (DeskError E) → ℕ
-held_of (Ok done) = 0
-held_of (Err desk.Held) = 1
-held_of (Err (desk.Call why)) = 0
-
-abbrev pub answered_of : {T E : Type 0} → Result T (DeskError E) → ℕ
-answered_of (Ok done) = 1
-answered_of (Err desk.Held) = 0
-answered_of (Err (desk.Call why)) = 1
 
 -- ---- the workers
 
@@ -44,10 +29,6 @@ HasSeats readers writers = (1 ≤ readers) × (readers + writers ≤ most_reader
 -- the worker that a writer is, by its number, which is counted from 0: the first, or one behind the readers
 abbrev pub who_of : ℕ → ℕ → ℕ
 who_of readers writer = if writer == 0 then 0 else readers + writer
-
--- the stream of its draws, which no other worker has
-abbrev pub stream_of : ℕ → ℕ
-stream_of writer = if writer == 0 then 0 else 2 ^ 32 + writer
 
 -- ---- what is reported
 

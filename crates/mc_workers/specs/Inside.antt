@@ -9,3 +9,4 @@ pub mod Parted
 pub mod Refusals
 pub mod Tries
 pub mod Workers
+pub mod Turns

@@ -1,6 +1,7 @@
 //! A writer at work that tries for turns at a desk.
 ghost use Rattle.std.specs.Prelude.{ℕ, ◌≡◌, ◌+◌, ◌*◌, ◌^◌, ◌≤◌, ◌<◌, IfSome, vec_len, vec_capacity};
-ghost use Rattle.mc_workers.specs.DeskLoads.{most_writers, stream_of};
+ghost use Rattle.mc_workers.specs.DeskLoads.{most_writers};
+ghost use Rattle.mc_workers.specs.Inside.Turns.{stream_of};
 
 use crate::asked::Load;
 use crate::dated::{Dated, note_put_at, note_removal_at};

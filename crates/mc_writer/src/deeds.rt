@@ -1,5 +1,6 @@
 //! The writer's deeds, step by step.
 ghost use Rattle.std.specs.Prelude.{◌≡◌, ◌^◌, ◌<◌};
+ghost use Rattle.mc_words.specs.KeyParts.{HasParts};
 ghost use Rattle.mc_words.specs.Places.{IsWidth, item_place};
 ghost use Rattle.mc_plan.specs.Decisions.{acts_of_moves};
 ghost use Rattle.mc_plan.specs.Plans.{value_acts, payload_acts, fill_acts, renew_acts, take_out_acts, move_acts};
@@ -7,7 +8,7 @@ ghost use Rattle.mc_plan.specs.Plans.{value_acts, payload_acts, fill_acts, renew
 use crate::pen::Pen;
 use mc_plan::Move;
 use mc_theory::Deed;
-use mc_words::Place;
+use mc_words::{KeyParts, Place};
 
 // The condition of each deed is that its acts are due next.
 impl<'a, const V: usize> Pen<'a, V> {
@@ -38,14 +39,15 @@ impl<'a, const V: usize> Pen<'a, V> {
 
     /// Puts a new value of the key that stands at the item, at the moment `at`.
     #[inline(always)]
-    pub(crate) fn renew(&mut self, key: u64, value: &[u64; V], at: u64, i: u32)
+    pub(crate) fn renew(&mut self, key: u64, parts: KeyParts, value: &[u64; V], at: u64, i: u32)
         requires width { IsWidth V }
         requires due { IsDue V (renew_acts key value.now at i) self.old }
+        requires parts { HasParts self.old.cells.now.layout.shape key parts }
         ensures made { HasMade V (renew_acts key value.now at i) self.old self.new }
     {
         let items = self.cells.items_start();
         // The value and its stamp change only while the version is odd: a lookup that reads words of both values sees the version changed.
-        self.open_deed(key, Deed::Renew);
+        self.open_deed(key, parts, Deed::Renew);
         self.write_payload(items, i, value, at);
         self.count_moment();
         self.close_deed();
@@ -53,18 +55,26 @@ impl<'a, const V: usize> Pen<'a, V> {
 
     /// Puts a key at a free item and in an empty slot of one of its buckets, at the moment `at`.
     #[inline(always)]
-    pub(crate) fn fill(&mut self, key: u64, value: &[u64; V], at: u64, i: u32, place: Place)
+    pub(crate) fn fill(
+        &mut self,
+        key: u64,
+        parts: KeyParts,
+        value: &[u64; V],
+        at: u64,
+        i: u32,
+        place: Place,
+    )
         requires width { IsWidth V }
         requires item { i < self.old.cells.now.layout.shape.items }
         requires due { IsDue V (fill_acts self.old.cells.now.layout.shape key value.now at i place) self.old }
+        requires parts { HasParts self.old.cells.now.layout.shape key parts }
         ensures made { HasMade V (fill_acts self.old.cells.now.layout.shape key value.now at i place) self.old self.new }
     {
-        let checked = self.cells.checked();
-        let named = checked.slot_word(checked.tag(key), i);
+        let named = self.cells.checked().slot_word(parts.tag, i);
         let items = self.cells.items_start();
         // The key word of a reused item changes only while the new key's version is odd: whoever still reads the item for its
         // old key finds another key there, and whoever looks for the new one looks again.
-        self.open_deed(key, Deed::Fill);
+        self.open_deed(key, parts, Deed::Fill);
         self.write_item_from(items, i, 0, key);
         self.write_payload(items, i, value, at);
         self.write_slot(place, named);
@@ -75,11 +85,12 @@ impl<'a, const V: usize> Pen<'a, V> {
 
     /// Clears the slot of a key: a removal or an eviction.
     #[inline(always)]
-    pub(crate) fn take_out(&mut self, key: u64, deed: Deed, place: Place)
+    pub(crate) fn take_out(&mut self, key: u64, parts: KeyParts, deed: Deed, place: Place)
         requires due { IsDue V (take_out_acts key deed place) self.old }
+        requires parts { HasParts self.old.cells.now.layout.shape key parts }
         ensures made { HasMade V (take_out_acts key deed place) self.old self.new }
     {
-        self.open_deed(key, deed);
+        self.open_deed(key, parts, deed);
         self.write_slot(place, 0);
         self.count_moment();
         self.close_deed();
@@ -90,7 +101,8 @@ impl<'a, const V: usize> Pen<'a, V> {
         requires due { IsDue V (move_acts key named from to) self.old }
         ensures made { HasMade V (move_acts key named from to) self.old self.new }
     {
-        self.open_deed(key, Deed::Move);
+        let parts = self.cells.parts(key);
+        self.open_deed(key, parts, Deed::Move);
         // The new slot first: at no instant is the key in no slot.
         self.write_slot(to, named);
         self.write_slot(from, 0);

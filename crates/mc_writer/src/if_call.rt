@@ -43,7 +43,8 @@ impl<'a, const V: usize> Pen<'a, V> {
     {
         match self.decide_if(books, key, since, value) {
             Ok(renewal) => {
-                self.make_renewal(key, value, renewal.at, renewal.item);
+                let parts = self.cells.parts(key);
+                self.make_renewal(key, parts, value, renewal.at, renewal.item);
                 Ok(renewal.at)
             }
             Err(why) => Err(why),

@@ -46,10 +46,11 @@ impl<'a, const V: usize> Pen<'a, V> {
         ensures called { HasCalled V self.old.cells.now.layout.shape (KeptCall key value.now) self.old.seat.now self.new.seat.now (answer.Kept result) }
         ensures rested { IsRested V books.new self.new.seat.now }
     {
-        match self.decide(books, key, value) {
+        let parts = self.cells.parts(key);
+        match self.decide(books, key, parts, value) {
             Decision::Refuse(why) => Err(Why::of(why)),
             Decision::Renew { item, at } => {
-                self.make_renewal(key, value, at, item);
+                self.make_renewal(key, parts, value, at, item);
                 Ok(Put::Renewed { at })
             }
             Decision::Insert { at } => self.put_kept_new(books, key, value, at),

@@ -1,15 +1,16 @@
 //! What the writer looks through and writes with, and its acts, one by one.
 ghost use Rattle.std.specs.Prelude.{◌≡◌, ◌^◌, ◌<◌, [], ◌∷◌};
+ghost use Rattle.mc_words.specs.KeyParts.{HasParts};
 ghost use Rattle.mc_words.specs.Places.{IsWidth, item_place};
 ghost use Rattle.mc_theory.specs.Lists.{state_of};
 ghost use Rattle.mc_theory.specs.declared.act.Act.TheVariants as act;
 
 use mc_shared::{
-    Cells, WriterSeat, close_deed, count_moment, fetch, open_deed, set_mark_unless_set,
+    Cells, WriterSeat, close_deed, count_moment, fetch, open_deed_by, set_mark_unless_set,
     write_item_from, write_slot,
 };
 use mc_theory::{Deed, Peek};
-use mc_words::Place;
+use mc_words::{KeyParts, Place};
 
 /// The words of a table and the seat of its writer: each word is loaded where it is looked at, and each act is made on them.
 #[derive(Drop)]
@@ -31,12 +32,13 @@ impl<'a, const V: usize> Peek for Pen<'a, V> {
 impl<'a, const V: usize> Pen<'a, V> {
     ghost use Rattle.mc_writer.specs.Inside.Pens.{IsDue, HasMade};
 
-    /// Opens a deed on a key.
-    pub(crate) fn open_deed(&mut self, key: u64, deed: Deed)
+    /// Opens a deed on a key, which has these parts.
+    pub(crate) fn open_deed(&mut self, key: u64, parts: KeyParts, deed: Deed)
         requires due { IsDue V (act.Open key deed ∷ []) self.old }
+        requires parts { HasParts self.old.cells.now.layout.shape key parts }
         ensures made { HasMade V (act.Open key deed ∷ []) self.old self.new }
     {
-        open_deed(self.cells, self.seat, key, deed);
+        open_deed_by(self.cells, self.seat, key, deed, parts);
     }
 
     /// Writes word `j` of an item, for a caller that has worked out where the items begin.

@@ -9,6 +9,7 @@ ghost use Rattle.mc_plan.specs.declared.answer.Answer.TheVariants as answer;
 ghost use Rattle.mc_search.specs.Paths.{direct_path};
 ghost use Rattle.mc_shared.specs.Views.{layout_of};
 ghost use Rattle.mc_words.specs.Checks.{shape_of};
+ghost use Rattle.mc_words.specs.KeyParts.{HasParts};
 ghost use Rattle.mc_writer.specs.WriterCalls.{HasCalled, IsRested};
 
 use crate::pen::Pen;
@@ -18,7 +19,7 @@ use mc_plan::{
 };
 use mc_shared::{Cells, WriterSeat};
 use mc_theory::Deed;
-use mc_words::Place;
+use mc_words::{KeyParts, Place};
 
 // What is decided. The pen is as it was.
 impl<'a, const V: usize> Pen<'a, V> {
@@ -26,23 +27,38 @@ impl<'a, const V: usize> Pen<'a, V> {
 
     /// Decides a put, as far as one look for the key tells.
     #[inline(always)]
-    pub(crate) fn decide(&mut self, books: &mut Books, key: u64, value: &[u64; V]) -> Decision
+    pub(crate) fn decide(
+        &mut self,
+        books: &mut Books,
+        key: u64,
+        parts: KeyParts,
+        value: &[u64; V],
+    ) -> Decision
         requires rested { IsRested V books.old self.old.seat.now }
+        requires parts { HasParts (shape_of books.old.checked) key parts }
         ensures pen { self.new ≡ self.old }
         ensures decided { IsDecided V books.new key value.now (state_at V self.old) result }
         ensures shape { books.new.checked ≡ books.old.checked }
     {
-        books.decide::<V, Pen<V>>(self, key, value)
+        books.decide::<V, Pen<V>>(self, key, parts, value)
     }
 
     /// Decides the put of a key that is not there, as far as its two buckets tell.
-    fn decide_near(&mut self, books: &mut Books, key: u64, value: &[u64; V], at: u64) -> Nearby
+    fn decide_near(
+        &mut self,
+        books: &mut Books,
+        key: u64,
+        parts: KeyParts,
+        value: &[u64; V],
+        at: u64,
+    ) -> Nearby
         requires lacks { IsLackingKey V books.old key (state_at V self.old) at }
+        requires parts { HasParts (shape_of books.old.checked) key parts }
         ensures pen { self.new ≡ self.old }
         ensures near { IsNear V books.new key value.now (state_at V self.old) at result }
         ensures shape { books.new.checked ≡ books.old.checked }
     {
-        books.insert_near::<V, Pen<V>>(self, key, value, at)
+        books.insert_near::<V, Pen<V>>(self, key, parts, value, at)
     }
 
     /// Decides the put of a key that is not there.
@@ -68,37 +84,68 @@ impl<'a, const V: usize> Pen<'a, V> {
 
     /// Makes the acts of a renewal, and the mark of its item.
     #[inline(always)]
-    pub(crate) fn make_renewal(&mut self, key: u64, value: &[u64; V], at: u64, item: u32)
+    pub(crate) fn make_renewal(
+        &mut self,
+        key: u64,
+        parts: KeyParts,
+        value: &[u64; V],
+        at: u64,
+        item: u32,
+    )
         requires width { IsWidth V }
         requires due { IsDue V (renewal_acts key value.now at item) self.old }
+        requires parts { HasParts self.old.cells.now.layout.shape key parts }
         ensures made { HasMade V (renewal_acts key value.now at item) self.old self.new }
     {
-        self.renew(key, value, at, item);
+        self.renew(key, parts, value, at, item);
         self.set_mark_unless_set(item);
     }
 
     /// Makes the fill, and the mark of its item.
     #[inline(always)]
-    fn make_filling(&mut self, key: u64, value: &[u64; V], at: u64, item: u32, place: Place)
+    fn make_filling(
+        &mut self,
+        key: u64,
+        parts: KeyParts,
+        value: &[u64; V],
+        at: u64,
+        item: u32,
+        place: Place,
+    )
         requires width { IsWidth V }
         requires item { item < self.old.cells.now.layout.shape.items }
         requires due { IsDue V (filling_acts self.old.cells.now.layout.shape key value.now at item place) self.old }
+        requires parts { HasParts self.old.cells.now.layout.shape key parts }
         ensures made { HasMade V (filling_acts self.old.cells.now.layout.shape key value.now at item place) self.old self.new }
     {
-        self.fill(key, value, at, item, place);
+        self.fill(key, parts, value, at, item, place);
         self.set_mark_unless_set(item);
     }
 
     /// Takes another key out, and makes the fill and the mark of a put in its place.
     #[inline(always)]
-    fn make_exchange(&mut self, key: u64, value: &[u64; V], exchange: Exchange)
+    fn make_exchange(&mut self, key: u64, parts: KeyParts, value: &[u64; V], exchange: Exchange)
         requires width { IsWidth V }
         requires item { exchange.item < self.old.cells.now.layout.shape.items }
         requires due { IsDue V (exchange_acts self.old.cells.now.layout.shape key value.now exchange) self.old }
+        requires parts { HasParts self.old.cells.now.layout.shape key parts }
+        requires evicted { HasParts self.old.cells.now.layout.shape exchange.evicted exchange.parts }
         ensures made { HasMade V (exchange_acts self.old.cells.now.layout.shape key value.now exchange) self.old self.new }
     {
-        self.take_out(exchange.evicted, Deed::Evict, exchange.victim);
-        self.make_filling(key, value, exchange.at, exchange.item, exchange.place);
+        self.take_out(
+            exchange.evicted,
+            exchange.parts,
+            Deed::Evict,
+            exchange.victim,
+        );
+        self.make_filling(
+            key,
+            parts,
+            value,
+            exchange.at,
+            exchange.item,
+            exchange.place,
+        );
     }
 
     /// Makes the moves and the fill, and the mark of its item.
@@ -109,7 +156,8 @@ impl<'a, const V: usize> Pen<'a, V> {
         ensures made { HasMade V (storing_acts self.old.cells.now.layout.shape key value.now storing.now) self.old self.new }
     {
         self.make_moves(storing.moves.as_slice());
-        self.fill(key, value, storing.at, storing.item, storing.place);
+        let parts = self.cells.parts(key);
+        self.fill(key, parts, value, storing.at, storing.item, storing.place);
         self.set_mark_unless_set(storing.item);
     }
 
@@ -126,7 +174,8 @@ impl<'a, const V: usize> Pen<'a, V> {
         requires due { IsDue V (replacement_acts self.old.cells.now.layout.shape key value.now replacement storing.now) self.old }
         ensures made { HasMade V (replacement_acts self.old.cells.now.layout.shape key value.now replacement storing.now) self.old self.new }
     {
-        self.take_out(replacement.evicted, Deed::Evict, replacement.victim);
+        let parts = self.cells.parts(replacement.evicted);
+        self.take_out(replacement.evicted, parts, Deed::Evict, replacement.victim);
         self.make_storing(key, value, storing);
     }
 }
@@ -168,10 +217,12 @@ impl<'a, const V: usize> Pen<'a, V> {
         &mut self,
         books: &mut Books,
         key: u64,
+        parts: KeyParts,
         value: &[u64; V],
         hole: Place,
     ) -> Result<Put, PutError>
         requires layout { self.old.cells.now.layout ≡ layout_of V (shape_of books.old.checked) }
+        requires parts { HasParts self.old.cells.now.layout.shape key parts }
         requires waits { Waits V books.old key (state_at V self.old) (direct_path hole) }
         ensures same { IsSamePen V self.old self.new }
         ensures called { HasCalled V self.old.cells.now.layout.shape (PutCall key value.now) self.old.seat.now self.new.seat.now (answer.Put result) }
@@ -181,7 +232,7 @@ impl<'a, const V: usize> Pen<'a, V> {
         self.turn_round(books, &mut waiting);
         match self.finish_near(books, &waiting) {
             Ok(exchange) => {
-                self.make_exchange(key, value, exchange);
+                self.make_exchange(key, parts, value, exchange);
                 Ok(Put::Stored {
                     at: exchange.at,
                     moves: 0,
@@ -224,25 +275,27 @@ impl<'a, const V: usize> Pen<'a, V> {
         &mut self,
         books: &mut Books,
         key: u64,
+        parts: KeyParts,
         value: &[u64; V],
         at: u64,
     ) -> Result<Put, PutError>
         requires layout { self.old.cells.now.layout ≡ layout_of V (shape_of books.old.checked) }
+        requires parts { HasParts self.old.cells.now.layout.shape key parts }
         requires lacks { IsLackingKey V books.old key (state_at V self.old) at }
         ensures same { IsSamePen V self.old self.new }
         ensures called { HasCalled V self.old.cells.now.layout.shape (PutCall key value.now) self.old.seat.now self.new.seat.now (answer.Put result) }
         ensures rested { IsRested V books.new self.new.seat.now }
     {
-        match self.decide_near(books, key, value, at) {
+        match self.decide_near(books, key, parts, value, at) {
             Nearby::Fill { item, place } => {
-                self.make_filling(key, value, at, item, place);
+                self.make_filling(key, parts, value, at, item, place);
                 Ok(Put::Stored {
                     at,
                     moves: 0,
                     evicted: None,
                 })
             }
-            Nearby::Wait(hole) => self.put_evicting(books, key, value, hole),
+            Nearby::Wait(hole) => self.put_evicting(books, key, parts, value, hole),
             Nearby::Far => self.put_far(books, key, value, at),
         }
     }
@@ -255,13 +308,14 @@ impl<'a, const V: usize> Pen<'a, V> {
         ensures called { HasCalled V self.old.cells.now.layout.shape (PutCall key value.now) self.old.seat.now self.new.seat.now (answer.Put result) }
         ensures rested { IsRested V books.new self.new.seat.now }
     {
-        match self.decide(books, key, value) {
+        let parts = self.cells.parts(key);
+        match self.decide(books, key, parts, value) {
             Decision::Refuse(why) => Err(why),
             Decision::Renew { item, at } => {
-                self.make_renewal(key, value, at, item);
+                self.make_renewal(key, parts, value, at, item);
                 Ok(Put::Renewed { at })
             }
-            Decision::Insert { at } => self.put_new(books, key, value, at),
+            Decision::Insert { at } => self.put_new(books, key, parts, value, at),
         }
     }
 }

@@ -34,7 +34,8 @@ impl<'a, const V: usize> Pen<'a, V> {
         match self.decide_removal(books, key) {
             Removal::Refuse(spent) => Err(spent),
             Removal::TakeOut { place, at } => {
-                self.take_out(key, Deed::Remove, place);
+                let parts = self.cells.parts(key);
+                self.take_out(key, parts, Deed::Remove, place);
                 Ok(Remove::Removed { at })
             }
             Removal::Leave { at } => Ok(Remove::NotThere { at }),

@@ -1,6 +1,7 @@
 //! The hand's way round the shared words, for a put that waits.
-ghost use Rattle.std.specs.Prelude.{◌≡◌, ◌<◌, [], List, Some};
+ghost use Rattle.std.specs.Prelude.{◌≡◌, ◌^◌, ◌<◌, [], List, Some};
 ghost use Rattle.mc_words.specs.Checks.{shape_of};
+ghost use Rattle.mc_words.specs.Places.{word_count};
 ghost use Rattle.mc_theory.specs.States.{State};
 ghost use Rattle.mc_search.specs.Sweeps.{Swept, IsOver, next_item};
 ghost use Rattle.mc_plan.specs.WholeCalls.{Call};
@@ -10,7 +11,7 @@ ghost use Rattle.mc_shared.specs.Records.{WriterRecord};
 
 use crate::pen::Pen;
 use mc_plan::{Books, Exchange, PutError, Replacement, Waiting};
-use mc_shared::turn_hand;
+use mc_shared::turn_hand_from;
 
 impl<'a, const V: usize> Pen<'a, V> {
     ghost use Rattle.mc_writer.specs.Inside.Pens.{IsSamePen};
@@ -50,8 +51,9 @@ impl<'a, const V: usize> Pen<'a, V> {
         books.finish_near::<V, Pen<V>>(self, waiting)
     }
 
-    /// Reads one bit, while one is to be read.
-    fn turn_hand(&mut self, books: &Books, waiting: &mut Waiting<V>, i: u32)
+    /// Reads one bit, while one is to be read. The recency words begin at this place.
+    fn turn_hand(&mut self, start: usize, books: &Books, waiting: &mut Waiting<V>, i: u32)
+        requires start { (start ≡ word_count V self.old.cells.now.layout.shape) × (start < 2 ^ 40) }
         requires shape { shape_of books.now.checked ≡ self.old.cells.now.layout.shape }
         requires next { next_item waiting.old.sweep ≡ Some i }
         requires turned { (call : Call) × (before : WriterRecord) × IsTurned V books.now waiting.old call before self.old }
@@ -63,7 +65,7 @@ impl<'a, const V: usize> Pen<'a, V> {
         ensures path { waiting.new.path ≡ waiting.old.path }
         ensures value { waiting.new.value ≡ waiting.old.value }
     {
-        let bit = turn_hand(self.cells, self.seat, i);
+        let bit = turn_hand_from(self.cells, self.seat, start, i);
         waiting.after(bit);
         let _books = books;
     }
@@ -81,8 +83,9 @@ impl<'a, const V: usize> Pen<'a, V> {
         ensures path { waiting.new.path ≡ waiting.old.path }
         ensures value { waiting.new.value ≡ waiting.old.value }
     {
+        let start = self.cells.recency_start();
         while let Some(i) = waiting.next() {
-            self.turn_hand(books, waiting, i);
+            self.turn_hand(start, books, waiting, i);
         }
     }
 }

@@ -1,4 +1,4 @@
-//! Readers and a writer, each in a thread of its own.
+//! Readers and writers, each in a thread of its own.
 ghost use Rattle.std.specs.Prelude.{◌≡◌, All, IfOk};
 
 use crate::lookups::{Task, look_on};
@@ -6,8 +6,9 @@ use crate::memory::resident;
 use crate::options::{Options, Workload};
 use crate::report::{Quotient, Report};
 use crate::tally::Tally;
+use crate::turns::work_by_turns;
 use crate::writes::{get_all, put_all, write_on};
-use mc_cache::{Cache, Reader, Writer, open};
+use mc_cache::{Cache, Desk, Reader, Writer, open};
 use std::alloc::{AllocError, Global};
 use std::rt::Files;
 use std::thread::{Threads, join};
@@ -16,9 +17,9 @@ use std::{io, thread};
 
 /// A reader, and what it is to do.
 #[derive(Drop)]
-struct Job {
-    reader: Reader<4>,
-    task: Task,
+pub(crate) struct Job {
+    pub reader: Reader<4>,
+    pub task: Task,
 }
 
 /// What the threads do.
@@ -35,23 +36,24 @@ fn task_of(options: &Options, number: u64) -> Task {
         seed: u64::from(options.seed) * 1000 ^ number,
         time: options.time,
         many: options.many,
-        alone: options.readers == 0 || options.readers == 1 && options.writers == 0,
+        alone: options.readers.saturating_add(options.writers) <= 1,
     }
 }
 
-// A job for each reader of the cache.
-fn jobs_of(
+/// A job for each reader of the cache. What they draw differs by their numbers.
+pub(crate) fn jobs_of(
     alloc: Global,
     cache: &Cache<4>,
     mut readers: Vec<Reader<4>>,
     options: &Options,
+    first: u64,
 ) -> Result<Vec<Job>, AllocError>
     requires { All (λ r. r.of ≡ cache.now) readers.items }
     ensures { IfOk result (λ jobs. All (λ job. job.reader.of ≡ cache.now) jobs.items) }
 {
     let _cache = cache;
     let mut jobs = Vec::new(alloc);
-    let mut number = 0u64;
+    let mut number = first;
     while let Some(reader) = readers.pop() {
         let task = task_of(options, number);
         jobs.push(Job { reader, task })?;
@@ -60,8 +62,8 @@ fn jobs_of(
     Ok(jobs)
 }
 
-// All readers look keys up.
-fn look_in_threads<R: Threads + Sync + Clock + CpuClock>(
+/// All readers look keys up.
+pub(crate) fn look_in_threads<R: Threads + Sync + Clock + CpuClock>(
     rt: &R,
     alloc: Global,
     cache: &Cache<4>,
@@ -70,7 +72,7 @@ fn look_in_threads<R: Threads + Sync + Clock + CpuClock>(
 ) -> io::Result<Tally>
     requires { All (λ r. r.of ≡ cache.now) readers.items }
 {
-    let jobs = jobs_of(alloc, cache, readers, options)?;
+    let jobs = jobs_of(alloc, cache, readers, options, 0)?;
     let tallies = thread::map_vec(
         rt,
         jobs,
@@ -124,14 +126,17 @@ pub(crate) fn measure<R: Threads + Sync + Files + AllocGlobal + Clock + CpuClock
     options: &Options,
 ) -> io::Result<Report> {
     let before = resident(rt)?;
-    let Ok((cache, mut writer, readers)) = open::<4>(alloc, options.shape(), options.readers.max(1))
-    else {
+    let Ok((cache, mut writer, readers)) = open::<4>(alloc, options.shape(), options.seats()) else {
         return Err(io::Error::other("the cache can't be opened"));
     };
     let filled = put_all(&cache, &mut writer, 0, options.keys);
     let bytes = resident(rt)?.saturating_sub(before);
     get_all(&cache, &mut writer, options.keys);
-    let (looked, mut written) = work(rt, alloc, &cache, &mut writer, readers, options)?;
+    let (looked, mut written) = if options.writers > 1 {
+        work_by_turns(rt, alloc, &cache, &Desk::new(writer), readers, options)?
+    } else {
+        work(rt, alloc, &cache, &mut writer, readers, options)?
+    };
     written.refused = written.refused.wrapping_add(filled.refused);
     Ok(Report {
         looked,

@@ -11,6 +11,7 @@ mod options;
 mod report;
 mod stopwatch;
 mod tally;
+mod turns;
 mod writes;
 
 use crate::options::{Options, Workload, options_of};

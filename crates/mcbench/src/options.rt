@@ -93,9 +93,9 @@ const ROWS: [Row; 9] = [
     },
     Row {
         name: "writers",
-        takes: ValueParser::Signed(0, 1),
+        takes: ValueParser::Signed(0, 8),
         default: "0",
-        help: "Threads that put keys",
+        help: "Threads that put keys; where there are several, they take turns at keys that are there, and try once for each put",
     },
     Row {
         name: "many",
@@ -178,6 +178,15 @@ impl Options {
     /// The number of the first key that no other measurement puts.
     pub(crate) fn fresh(&self) -> u64 {
         u64::from(self.seed % 256) << 32
+    }
+
+    /// How many readers the cache is opened with, the passes of writers that take turns among them.
+    pub(crate) fn seats(&self) -> u32 {
+        if self.writers > 1 {
+            self.readers.saturating_add(self.writers)
+        } else {
+            self.readers.max(1)
+        }
     }
 
     /// The table: as many items as keys, but as many as slots where it is to be filled until a put is refused.

@@ -47,8 +47,15 @@ impl Display for Report {
         )?;
         write!(
             f,
-            "\"lookups\":{},\"hits\":{},\"busy\":{},\"torn\":{},\"writes\":{},\"evicted\":{},\"refused\":{},",
-            all.lookups, all.hits, all.busy, all.torn, all.writes, all.evicted, all.refused
+            "\"lookups\":{},\"hits\":{},\"busy\":{},\"torn\":{},\"writes\":{},\"held\":{},\"evicted\":{},\"refused\":{},",
+            all.lookups,
+            all.hits,
+            all.busy,
+            all.torn,
+            all.writes,
+            all.held,
+            all.evicted,
+            all.refused
         )?;
         write!(
             f,

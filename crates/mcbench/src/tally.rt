@@ -1,7 +1,7 @@
 //! What threads have done, and how long it took them.
 ghost use Rattle.std.specs.Prelude.{◌≡◌};
 
-use mc_cache::{Put, PutError, Reply};
+use mc_cache::{DeskError, Put, PutError, Reply};
 use std::time::Duration;
 
 /// What a thread has done, or several together.
@@ -13,6 +13,8 @@ pub(crate) struct Tally {
     /// Hits whose value was put together of several.
     pub torn: u64,
     pub writes: u64,
+    /// Tries to put that didn't win the turn. They are no writes.
+    pub held: u64,
     pub refused: u64,
     pub evicted: u64,
     pub nanos: u64,
@@ -71,6 +73,16 @@ impl Tally {
         }
     }
 
+    /// Counts a try to put.
+    #[inline(always)]
+    pub(crate) fn count_try(&mut self, tried: Result<Put, DeskError<PutError>>) {
+        match tried {
+            Ok(put) => self.count_put(Ok(put)),
+            Err(DeskError::Call(why)) => self.count_put(Err(why)),
+            Err(DeskError::Held) => self.held = self.held.wrapping_add(1),
+        }
+    }
+
     /// What was done took so long.
     pub(crate) fn over(self, time: Duration) -> Tally {
         let nanos = nanos_of(time);
@@ -90,6 +102,7 @@ impl Tally {
             busy: self.busy.wrapping_add(other.busy),
             torn: self.torn.wrapping_add(other.torn),
             writes: self.writes.wrapping_add(other.writes),
+            held: self.held.wrapping_add(other.held),
             refused: self.refused.wrapping_add(other.refused),
             evicted: self.evicted.wrapping_add(other.evicted),
             nanos: self.nanos.wrapping_add(other.nanos),

@@ -13,6 +13,8 @@ mod deeds;
 #[cfg(test)]
 mod desk;
 #[cfg(test)]
+mod desk_draws;
+#[cfg(test)]
 mod evictions;
 #[cfg(test)]
 mod journal;

@@ -59,6 +59,39 @@ fn keys_are_refused_before_readers(rt: HostRuntime) -> Result<(), Fail> {
     Ok(())
 }
 
+#[test]
+fn writers_take_turns(rt: HostRuntime) -> Result<(), Fail> {
+    let words = ["mcload", "run", "--writers", "2", "--lookups", "2000"];
+    let lines = "lookups 6000\nwrites 4000\nsum ok\nwrong 0\n";
+    assert!(rt; tells(&rt, rt.alloc(), words.as_slice(), lines, "", 0));
+    Ok(())
+}
+
+#[test]
+fn writers_are_refused_before_keys_and_readers(rt: HostRuntime) -> Result<(), Fail> {
+    for (writers, readers, keys, why) in [
+        ("0", "0", "0", "writers must be from 1 to 8"),
+        ("9", "1", "64", "writers must be from 1 to 8"),
+        ("8", "0", "0", "keys must be from 1 to 4294967296"),
+        ("8", "0", "64", "readers must be from 1 to 1024"),
+        ("8", "1017", "64", "readers must be from 1 to 1024"),
+    ] {
+        let words = [
+            "mcload",
+            "run",
+            "--writers",
+            writers,
+            "--readers",
+            readers,
+            "--keys",
+            keys,
+        ];
+        let told = format!(in rt.alloc(); "refused: {why}\n")?;
+        assert!(rt; tells(&rt, rt.alloc(), words.as_slice(), "", told.as_str(), 2));
+    }
+    Ok(())
+}
+
 /// Whether the text is the first part, some digits, and then the last part.
 fn is_number_between(text: &[u8], first: &[u8], last: &[u8]) -> bool {
     let Some(rest) = text.strip_prefix(first) else {
@@ -92,5 +125,28 @@ fn a_histogram_has_a_line_for_each_worker(rt: HostRuntime) -> Result<(), Fail> {
     let behind = " busy 0 behind 5 0 0 0 0\n";
     assert!(rt; status == 0 && errors.is_empty());
     assert!(rt; is_number_between(output.as_slice(), before.as_bytes(), behind.as_bytes()));
+    Ok(())
+}
+
+#[test]
+fn a_histogram_tells_what_came_of_each_writers_tries(rt: HostRuntime) -> Result<(), Fail> {
+    let words = [
+        "mcload",
+        "run",
+        "--readers",
+        "1",
+        "--lookups",
+        "0",
+        "--writers",
+        "2",
+        "--writes",
+        "0",
+        "--histogram",
+    ];
+    let lines =
+        "lookups 0\nwrites 0\nsum ok\nwrong 0\nchanges behind: 0, 1 to 9, 10 to 99, 100 to 999, more\n\
+        writer 0 calls/s 0 busy 0 behind 0 0 0 0 0 held 0 answered 0\nreader 0 calls/s 0 busy 0 behind 0 0 0 0 0\n\
+        writer 1 calls/s 0 busy 0 behind 0 0 0 0 0 held 0 answered 0\n";
+    assert!(rt; tells(&rt, rt.alloc(), words.as_slice(), lines, "", 0));
     Ok(())
 }

@@ -1,7 +1,8 @@
 -- A writer that tries for turns at the desk, between two calls.
 use Rattle.std.specs.Prelude.{ℕ, ◌≡◌, ◌+◌, ◌*◌, ◌≤◌, ◌<◌, List, None, IfSome, length, slice_index_or, vec_capacity, vec_len}
 use Rattle.mc_shared.specs.Records.{Opening}
-use Rattle.mc_workers.specs.DeskLoads.{stream_of, who_of}
+use Rattle.mc_workers.specs.DeskLoads.{who_of}
+use Rattle.mc_workers.specs.Inside.Turns.{stream_of}
 use Rattle.mc_workers.specs.Inside.Drawn.{HasDrawn}
 use Rattle.mc_workers.specs.declared.asked.Load.{Load}
 use Rattle.mc_workers.specs.declared.trying.Trying.{Trying}

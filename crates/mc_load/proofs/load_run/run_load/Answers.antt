@@ -7,14 +7,8 @@ use Rattle.mc_load.proofs.load_run.run_load.Goals as goal
 pub returns-in-Err : goal.returns-in-Err
 returns-in-Err g c = load_fault (map g.S.AsStr.text c.args.words.now) (kind_of c.in-Err.error) _ _ _ c.in-Err.ensures c.tell_fault.ensures
 
-pub returns-in-Ok-new : goal.returns-in-Ok-new
-returns-in-Ok-new g c = loads c.in-Ok.options c.in-Ok.ensures c.run_measured.ensures
-
 pub returns : goal.returns
-returns g c = loads c.in-Ok.options c.in-Ok.ensures c.run_plain.ensures
+returns g c = loads c.in-Ok.options c.in-Ok.ensures c.run_for.ensures
 
-pub run_measured-requires-clause-many : goal.run_measured-requires-clause-many
-run_measured-requires-clause-many g c κs lives = few_at_once (map g.S.AsStr.text c.args.words.now) c.in-Ok.options c.in-Ok.ensures
-
-pub run_plain-requires-clause-many : goal.run_plain-requires-clause-many
-run_plain-requires-clause-many g c κs lives = few_at_once (map g.S.AsStr.text c.args.words.now) c.in-Ok.options c.in-Ok.ensures
+pub run_for-requires-clause-many : goal.run_for-requires-clause-many
+run_for-requires-clause-many g c κs lives = few_at_once (map g.S.AsStr.text c.args.words.now) c.in-Ok.options c.in-Ok.ensures

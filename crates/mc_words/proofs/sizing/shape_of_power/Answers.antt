@@ -1,6 +1,5 @@
-use Rattle.std.proofs.Common.{ℕ, ◌≡◌, ◌*◌, ◌%◌, ◌^◌, ◌<◌, ◌≤◌, min, arith, ap, refl, subst, sym, ◌∙◌}
+use Rattle.std.proofs.Common.{ℕ, ◌≡◌, ◌*◌, ◌%◌, ◌^◌, min, arith, ap, refl, subst, sym, ◌∙◌}
 use Rattle.mc_words.specs.Shapes.{IsPower}
-use Rattle.mc_words.specs.Sizing.{IsSizedFor}
 use Rattle.mc_words.proofs.Powers.{is_power-pow}
 use Rattle.mc_words.proofs.Sizes.{few_buckets, few_stripes, some_power}
 use Rattle.mc_words.proofs.sizing.shape_of_power.Goals as goal

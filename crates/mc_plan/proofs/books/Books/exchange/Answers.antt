@@ -28,8 +28,8 @@ victim_at g c call s rs on same =
     let there = (victim_stands V c.args.self.now c.args.waiting.now call s rs c.args.item on).1 in
     (there.0, subst (λ (k : ℕ). Stands V sh s.words k there.0 c.args.item) (sym is) there.1)
 
-pub find-requires-clause-placed : goal.find-requires-clause-placed
-find-requires-clause-placed g c =
+pub find_by-requires-clause-placed : goal.find_by-requires-clause-placed
+find_by-requires-clause-placed g c =
     let r = c.requires.books in
     placed_in g.row.V (record c.args.self.now { hand = r.3.before }) r.1 _ r.3.sweeping.waits.known (ap g.P.Peek.words (c.key_at-evicted.ensures.kept ∙ c.moment-at.ensures.kept) ∙ r.4) c.key_at-evicted.result
 
@@ -62,4 +62,4 @@ returns-clause-exchanged g c call s rs on same =
     let none : length ps ≡ 0 = ap length c.requires.near in
     let cut : IsCut p ps waiting.path.hole [] waiting.path.hole = inr ((λ h. absurd (omega (arith, h.1, none))), sym c.requires.near, refl) in
     let planned = replaced_planned V b waiting call s rs i (c.moment-at.result + 2) on e p [] waiting.path.hole (b.version_steps + 4) c.have_words.ensures.words (omega (arith, c.key_at-evicted.type_inv)) c.in-Some.ensures.place stands cut tt at refl in
-    record { in_items = (victim_stands V b waiting call s rs i on).0; planned = planned.0; sweeps = planned.1 }
+    record { in_items = (victim_stands V b waiting call s rs i on).0; parts = c.parts-parts.ensures; planned = planned.0; sweeps = planned.1 }

@@ -1,10 +1,15 @@
-use Rattle.std.proofs.Common.{◌<◌, arith}
+use Rattle.std.proofs.Common.{◌<◌, arith, subst, sym}
 use Rattle.mc_words.specs.Checks.{shape_of}
+use Rattle.mc_words.specs.KeyParts.{HasParts}
+use Rattle.mc_words.specs.declared.shape.Shape.{Shape}
 use Rattle.mc_plan.specs.Books.{Waits}
 use Rattle.mc_search.specs.Paths.{direct_path}
 use Rattle.mc_search.proofs.TakenItems.{free_below}
 use Rattle.mc_plan.proofs.Calls.AfterPlan.{books_still, stored_planned, least_in}
 use Rattle.mc_plan.proofs.books.Books.insert_near.Goals as goal
+
+pub near-requires-clause-parts : goal.near-requires-clause-parts
+near-requires-clause-parts g c = subst (λ (x : Shape). HasParts x c.args.key c.args.parts) (sym c.requires.books.1.known.finder) c.requires.parts
 
 pub returns-in_default-take_least-clause-near : goal.returns-in_default-take_least-clause-near
 returns-in_default-take_least-clause-near g c s lacks same =

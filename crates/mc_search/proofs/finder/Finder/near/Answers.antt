@@ -1,9 +1,9 @@
-use Rattle.std.proofs.Common.{◌≡◌, ◌∙◌, Option, Some, None, ap, refl, subst}
+use Rattle.std.proofs.Common.{Option, Some, None, refl, subst, sym}
 use Rattle.std.specs.Option.{IfSome}
 use Rattle.mc_words.specs.Checks.{shape_of}
 use Rattle.mc_words.specs.declared.place.Place.{Place}
 use Rattle.mc_words.specs.declared.shape.Shape.{Shape}
-use Rattle.mc_words.specs.Keys.{alternate, first_of, second_of}
+use Rattle.mc_words.specs.KeyParts.{HasParts}
 use Rattle.mc_search.specs.Paths.{IsLeastPath, direct_path}
 use Rattle.mc_search.proofs.Shortest.{least_direct}
 use Rattle.mc_search.proofs.finder.Finder.near.Goals as goal
@@ -17,8 +17,7 @@ pub returns-clause-found : goal.returns-clause-found
 returns-clause-found g c =
     let sh = shape_of c.self.inside.checked in
     let w = g.P.Peek.words c.args.peek.now in
-    let second : c.alt-second.result ≡ second_of sh c.args.key =
-    c.alt-second.ensures.bucket ∙ ap (λ b. alternate sh b c.tag.result) c.first-first.ensures.bucket ∙ ap (alternate sh (first_of sh c.args.key)) c.tag.ensures in
+    let parts = subst (λ (x : Shape). HasParts x c.args.key c.args.parts) (sym c.self.view_is) c.requires.parts in
     if_some _ (λ (hole : Place). IsLeastPath c.args.self.now w c.args.key (direct_path hole)) c.hole_in_either.result
-    (λ hole h. subst (λ (x : Shape). IsLeastPath x w c.args.key (direct_path hole)) c.self.view_is (least_direct sh w c.args.key c.first-first.result c.alt-second.result (direct_path hole) c.first-first.ensures.bucket second refl h))
+    (λ hole h. subst (λ (x : Shape). IsLeastPath x w c.args.key (direct_path hole)) c.self.view_is (least_direct sh w c.args.key c.args.parts.first c.args.parts.second (direct_path hole) parts.first parts.second refl h))
     c.hole_in_either.ensures.found

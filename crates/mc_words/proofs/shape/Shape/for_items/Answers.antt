@@ -1,4 +1,4 @@
-use Rattle.std.proofs.Common.{ℕ, ◌≡◌, ◌*◌, ◌%◌, ◌^◌, ◌<◌, ap, arith, refl, sym}
+use Rattle.std.proofs.Common.{ℕ, ◌≡◌, ◌^◌, ap, arith, refl}
 use Rattle.mc_words.proofs.Sizes.{few_buckets, pow_next}
 use Rattle.mc_words.proofs.shape.Shape.for_items.Goals as goal
 

@@ -1,11 +1,10 @@
 use Rattle.std.proofs.Common.{◌≡◌, ◌∙◌, ℕ, arith, ap, sym, subst, [], ◌∷◌}
-use Rattle.mc_words.specs.Keys.{slot_word, tag_of}
+use Rattle.mc_words.specs.Keys.{slot_word}
 use Rattle.mc_words.specs.Places.{item_place}
 use Rattle.mc_words.specs.declared.shape.Shape.{Shape}
 use Rattle.mc_theory.specs.declared.act.Act.TheVariants as act
 use Rattle.mc_theory.specs.declared.act.Deed.TheVariants as deed
 use Rattle.mc_plan.specs.Plans.{payload_acts}
-use Rattle.mc_shared.specs.declared.layout.Layout.{Layout}
 use Rattle.mc_writer.specs.Inside.Pens.{IsDue, HasMade}
 use Rattle.mc_writer.proofs.Pens.{first_due, made_then, rest_due, same_then, shape_kept}
 use Rattle.mc_writer.proofs.pen.Pen.fill.Goals as goal
@@ -13,7 +12,7 @@ use Rattle.mc_writer.proofs.pen.Pen.fill.Goals.{After-write_payload, After-write
 use Rattle.mc_writer.proofs.pen.Pen.fill.Given.{Over}
 
 pub open_deed-requires : goal.open_deed-requires
-open_deed-requires g c = (omega arith, first_due g.row.V (act.Open c.args.key deed.Fill ∷ []) _ _ c.requires.due)
+open_deed-requires g c = (omega arith, (first_due g.row.V (act.Open c.args.key deed.Fill ∷ []) _ _ c.requires.due, c.requires.parts))
 
 pub write_item_from-requires : goal.write_item_from-requires
 write_item_from-requires g c =
@@ -33,7 +32,7 @@ due_after_value g c =
     let d1 = rest_due _ c.open_deed.ensures.made c.requires.due in
     let d2 = rest_due _ c.write_item_from.ensures.made d1 in
     let d3 = rest_due _ c.write_payload.ensures.made d2 in
-    let named = c.slot_word-named.ensures ∙ ap (λ (t : ℕ). slot_word t c.args.i) (c.tag.ensures ∙ ap (λ (l : Layout). tag_of l.shape c.args.key) (sym c.checked-checked.ensures.layout)) in
+    let named = c.slot_word-named.ensures ∙ ap (λ (t : ℕ). slot_word t c.args.i) c.requires.parts.tag in
     subst (λ (x : ℕ). IsDue g.row.V (act.Slot c.args.place x ∷ act.Moment ∷ act.Close ∷ []) c.write_payload.new.self) (sym named) d3
 
 pub write_slot-requires : goal.write_slot-requires
@@ -52,6 +51,6 @@ close_deed-requires g c =
 
 pub returns : goal.returns
 returns g c =
-    let named = c.slot_word-named.ensures ∙ ap (λ (t : ℕ). slot_word t c.args.i) (c.tag.ensures ∙ ap (λ (l : Layout). tag_of l.shape c.args.key) (sym c.checked-checked.ensures.layout)) in
+    let named = c.slot_word-named.ensures ∙ ap (λ (t : ℕ). slot_word t c.args.i) c.requires.parts.tag in
     let m4 = subst (λ (x : ℕ). HasMade g.row.V (act.Slot c.args.place x ∷ []) c.write_payload.new.self c.write_slot.new.self) named c.write_slot.ensures.made in
     record { made = made_then c.open_deed.ensures.made (made_then c.write_item_from.ensures.made (made_then c.write_payload.ensures.made (made_then m4 (made_then c.count_moment.ensures.made c.close_deed.ensures.made)))) }

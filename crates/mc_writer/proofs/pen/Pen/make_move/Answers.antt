@@ -6,7 +6,7 @@ use Rattle.mc_writer.proofs.pen.Pen.make_move.Goals as goal
 
 pub open_deed-requires : goal.open_deed-requires
 open_deed-requires g c =
-    (omega arith, first_due g.row.V (act.Open c.args.key deed.Move ∷ []) _ _ c.requires.due)
+    (omega arith, (first_due g.row.V (act.Open c.args.key deed.Move ∷ []) _ _ c.requires.due, c.parts-parts.ensures))
 
 pub write_slot-requires : goal.write_slot-requires
 write_slot-requires g c =

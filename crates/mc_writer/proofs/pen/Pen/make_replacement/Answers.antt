@@ -7,7 +7,7 @@ use Rattle.mc_writer.proofs.Pens.{first_due, made_then, rest_due, shape_kept}
 use Rattle.mc_writer.proofs.pen.Pen.make_replacement.Goals as goal
 
 pub take_out-requires : goal.take_out-requires
-take_out-requires g c = (omega arith, first_due g.row.V (evict_acts c.args.replacement.evicted c.args.replacement.victim) (storing_acts c.args.self.now.cells.now.layout.shape c.args.key c.args.value.now c.args.storing.now) _ c.requires.due)
+take_out-requires g c = (omega arith, (first_due g.row.V (evict_acts c.args.replacement.evicted c.args.replacement.victim) (storing_acts c.args.self.now.cells.now.layout.shape c.args.key c.args.value.now c.args.storing.now) _ c.requires.due, c.parts-parts.ensures))
 
 pub make_storing-requires : goal.make_storing-requires
 make_storing-requires g c =

@@ -34,7 +34,7 @@ fill-requires g c =
         omega (arith, c.requires.width),
         (
           c.requires.width,
-          (subst (λ (sh : Shape). storing.item < sh.items) shape c.requires.item, subst (λ (sh : Shape). IsDue g.row.V (fill_acts sh c.args.key c.args.value.now storing.at storing.item storing.place) c.make_moves.new.self) shape fills),
+          (subst (λ (sh : Shape). storing.item < sh.items) shape c.requires.item, (subst (λ (sh : Shape). IsDue g.row.V (fill_acts sh c.args.key c.args.value.now storing.at storing.item storing.place) c.make_moves.new.self) shape fills, c.parts-parts.ensures)),
         ),
       ),
     )

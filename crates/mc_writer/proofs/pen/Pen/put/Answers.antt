@@ -1,4 +1,7 @@
-use Rattle.std.proofs.Common.{Ok, Err, arith, refl, sym, subst}
+use Rattle.std.proofs.Common.{rules, Ok, Err, ap, arith, refl, sym, subst}
+use Rattle.mc_words.specs.KeyParts.{HasParts}
+use Rattle.mc_words.specs.declared.shape.Shape.{Shape}
+use Rattle.mc_shared.specs.declared.layout.Layout.{Layout}
 use Rattle.mc_plan.specs.WholeCalls.{PutCall}
 use Rattle.mc_plan.specs.Decisions.{renewal_acts}
 use Rattle.mc_plan.specs.declared.answer.Answer.TheVariants as answer
@@ -19,6 +22,12 @@ renewed : (g : Over) (c : After-make_renewal g) → HasCalled g.row.V c.args.sel
 renewed g c =
     made_now g.row.V c.args.self.now c.decide.new.books (PutCall c.args.key c.args.value.now) (answer.Put (Ok (put.Renewed c.in-Renew.at))) (layout_rested g.row.V c.args.self.now c.args.books.now c.decide.new.books c.requires.rested c.decide.ensures.shape) (renewal_acts c.args.key c.args.value.now c.in-Renew.at c.in-Renew.item) c.make_renewal.new.self (made g c) refl c.in-Renew.ensures.decided
 
+pub decide-requires : goal.decide-requires
+decide-requires g c =
+    let layout = layout_rested g.row.V c.args.self.now c.args.books.now c.args.books.now c.requires.rested refl in
+    let parts = subst (λ (x : Shape). HasParts x c.args.key c.parts-parts.result) (ap (λ (l : Layout). l.shape) layout) c.parts-parts.ensures in
+    search (rules, parts)
+
 pub make_renewal-requires : goal.make_renewal-requires
 make_renewal-requires g c =
     let V = g.row.V in
@@ -27,7 +36,12 @@ make_renewal-requires g c =
     let layout = layout_rested V pen c.args.books.now c.decide.new.books c.requires.rested c.decide.ensures.shape in
     let due = due_now V pen c.decide.new.books (PutCall c.args.key c.args.value.now) (answer.Put (Ok (put.Renewed c.in-Renew.at))) layout plan c.in-Renew.ensures.decided in
     let width = c.requires.rested.known.width in
-    (omega arith, (omega (arith, width.most), (width, subst (λ (x : Pen V). IsDue V plan x) (sym c.decide.ensures.pen) due)))
+    (omega arith, (omega (arith, width.most), (width, (subst (λ (x : Pen V). IsDue V plan x) (sym c.decide.ensures.pen) due, subst (λ (x : Pen V). HasParts x.cells.now.layout.shape c.args.key c.parts-parts.result) (sym c.decide.ensures.pen) c.parts-parts.ensures))))
+
+pub put_new-requires : goal.put_new-requires
+put_new-requires g c =
+    let parts = subst (λ (x : Pen g.row.V). HasParts x.cells.now.layout.shape c.args.key c.parts-parts.result) (sym c.decide.ensures.pen) c.parts-parts.ensures in
+    search (rules, parts)
 
 pub returns-in-Renew-clause-same : goal.returns-in-Renew-clause-same
 returns-in-Renew-clause-same g c = (made g (goal.at.returns-in-Renew-clause-same g c).After-make_renewal).same

@@ -1,4 +1,5 @@
 use Rattle.std.proofs.Common.{rules, arith, ℕ, ◌≡◌, ◌∙◌, ◌<◌, List, Ok, Err, Some, ap, sym, subst}
+use Rattle.mc_words.specs.KeyParts.{HasParts}
 use Rattle.mc_words.specs.Checks.{shape_of}
 use Rattle.mc_words.specs.declared.shape.Shape.{Shape}
 use Rattle.mc_plan.specs.WholeCalls.{PutCall, state_after_sweep}
@@ -81,7 +82,7 @@ make_exchange-requires g c =
     let due = plan_due V pen c.turn_round.new.self c.finish_near.new.self c.args.books.now c.finish_near.new.books c.turn_round.new.waiting key value c.requires.layout c.turn_round.ensures.same t c.finish_near.ensures.pen c.finish_near.ensures.shape (exchange_acts sh key value r) told planned in
     let there = sym (shape_there V pen c.turn_round.new.self c.finish_near.new.self c.args.books.now c.finish_near.new.books c.turn_round.new.waiting key value c.requires.layout c.turn_round.ensures.same t c.finish_near.ensures.pen c.finish_near.ensures.shape) in
     let within = subst (λ (z : Shape). r.item < z.items) shape f.in_items in
-    (omega arith, (omega (arith, c.requires.waits.known.width.most), (c.requires.waits.known.width, (subst (λ (z : Shape). r.item < z.items) there within, subst (λ (z : Shape). IsDue V (exchange_acts z key value r) c.finish_near.new.self) there due))))
+    (omega arith, (omega (arith, c.requires.waits.known.width.most), (c.requires.waits.known.width, (subst (λ (z : Shape). r.item < z.items) there within, (subst (λ (z : Shape). IsDue V (exchange_acts z key value r) c.finish_near.new.self) there due, (subst (λ (z : Shape). HasParts z key c.args.parts) there c.requires.parts, subst (λ (z : Shape). HasParts z r.evicted r.parts) there (subst (λ (z : Shape). HasParts z r.evicted r.parts) shape f.parts)))))))
 
 -- the call is over
 replaced : (g : Over) (c : After-make_exchange g) → IsSamePen g.row.V c.args.self.now c.make_exchange.new.self × HasCalled g.row.V c.args.self.now.cells.now.layout.shape (PutCall c.args.key c.args.value.now) c.args.self.now.seat.now c.make_exchange.new.self.seat.now (answer.Put (Ok (put.Stored c.in-Ok.exchange.at 0 (Some c.in-Ok.exchange.evicted)))) × IsRested g.row.V c.finish_near.new.books c.make_exchange.new.self.seat.now

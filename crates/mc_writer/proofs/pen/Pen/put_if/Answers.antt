@@ -26,7 +26,7 @@ make_renewal-requires g c =
     let layout = layout_rested V pen c.args.books.now c.decide_if.new.books c.requires.rested c.decide_if.ensures.shape in
     let due = due_now V pen c.decide_if.new.books (PutIfCall c.args.key c.args.since c.args.value.now) (answer.PutIf (Ok c.in-Ok.renewal.at)) layout plan c.in-Ok.ensures.decided in
     let width = c.requires.rested.known.width in
-    (omega arith, (omega (arith, width.most), (width, subst (λ (x : Pen V). IsDue V plan x) (sym c.decide_if.ensures.pen) due)))
+    (omega arith, (omega (arith, width.most), (width, (subst (λ (x : Pen V). IsDue V plan x) (sym c.decide_if.ensures.pen) due, c.parts-parts.ensures))))
 
 pub returns-in-Ok-clause-same : goal.returns-in-Ok-clause-same
 returns-in-Ok-clause-same g c = (made g (goal.at.returns-in-Ok-clause-same g c).After-make_renewal).same

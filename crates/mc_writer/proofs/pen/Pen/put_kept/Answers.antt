@@ -1,4 +1,7 @@
-use Rattle.std.proofs.Common.{[], Ok, Err, arith, refl, sym, subst}
+use Rattle.std.proofs.Common.{rules, [], Ok, Err, ap, arith, refl, sym, subst}
+use Rattle.mc_words.specs.KeyParts.{HasParts}
+use Rattle.mc_words.specs.declared.shape.Shape.{Shape}
+use Rattle.mc_shared.specs.declared.layout.Layout.{Layout}
 use Rattle.mc_plan.specs.WholeCalls.{KeptCall}
 use Rattle.mc_plan.specs.Decisions.{renewal_acts}
 use Rattle.mc_plan.specs.declared.answer.Answer.TheVariants as answer
@@ -26,6 +29,12 @@ renewed : (g : Over) (c : After-make_renewal g) → HasCalled g.row.V c.args.sel
 renewed g c =
     made_now g.row.V c.args.self.now c.decide.new.books (KeptCall c.args.key c.args.value.now) (answer.Kept (Ok (put.Renewed c.in-Renew.at))) (layout_rested g.row.V c.args.self.now c.args.books.now c.decide.new.books c.requires.rested c.decide.ensures.shape) (renewal_acts c.args.key c.args.value.now c.in-Renew.at c.in-Renew.item) c.make_renewal.new.self (made g c) refl (renewal_kept g c)
 
+pub decide-requires : goal.decide-requires
+decide-requires g c =
+    let layout = layout_rested g.row.V c.args.self.now c.args.books.now c.args.books.now c.requires.rested refl in
+    let parts = subst (λ (x : Shape). HasParts x c.args.key c.parts-parts.result) (ap (λ (l : Layout). l.shape) layout) c.parts-parts.ensures in
+    search (rules, parts)
+
 pub make_renewal-requires : goal.make_renewal-requires
 make_renewal-requires g c =
     let V = g.row.V in
@@ -34,7 +43,7 @@ make_renewal-requires g c =
     let layout = layout_rested V pen c.args.books.now c.decide.new.books c.requires.rested c.decide.ensures.shape in
     let due = due_now V pen c.decide.new.books (KeptCall c.args.key c.args.value.now) (answer.Kept (Ok (put.Renewed c.in-Renew.at))) layout plan (kept_planned V c.decide.new.books plan c.args.key c.args.value.now (state_at V pen) (Ok (put.Renewed c.in-Renew.at)) refl c.in-Renew.ensures.decided) in
     let width = c.requires.rested.known.width in
-    (omega arith, (omega (arith, width.most), (width, subst (λ (x : Pen V). IsDue V plan x) (sym c.decide.ensures.pen) due)))
+    (omega arith, (omega (arith, width.most), (width, (subst (λ (x : Pen V). IsDue V plan x) (sym c.decide.ensures.pen) due, subst (λ (x : Pen V). HasParts x.cells.now.layout.shape c.args.key c.parts-parts.result) (sym c.decide.ensures.pen) c.parts-parts.ensures))))
 
 pub returns-in-Renew-clause-same : goal.returns-in-Renew-clause-same
 returns-in-Renew-clause-same g c = (made g (goal.at.returns-in-Renew-clause-same g c).After-make_renewal).same

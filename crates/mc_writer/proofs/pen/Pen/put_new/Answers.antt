@@ -1,4 +1,5 @@
-use Rattle.std.proofs.Common.{arith, ℕ, List, ◌≡◌, ◌<◌, Ok, None, ap, refl, sym, subst}
+use Rattle.std.proofs.Common.{rules, arith, ℕ, List, ◌≡◌, ◌<◌, Ok, None, ap, refl, sym, subst}
+use Rattle.mc_words.specs.KeyParts.{HasParts}
 use Rattle.mc_words.specs.Checks.{shape_of}
 use Rattle.mc_words.specs.declared.shape.Shape.{Shape}
 use Rattle.mc_words.specs.declared.place.Place.{Place}
@@ -24,6 +25,16 @@ planned : (V : ℕ) (pen : Pen V) (b : Books) (key : ℕ) (value : List ℕ) (at
     → IsPlanned V b (filling_acts pen.cells.now.layout.shape key value at i p) (PutCall key value) (state_at V pen) (state_at V pen) told
 planned V pen b key value at i p told layout = subst (λ (x : Shape). IsPlanned V b (filling_acts x key value at i p) (PutCall key value) (state_at V pen) (state_at V pen) told) (sym (ap (λ (l : Layout). l.shape) layout))
 
+pub decide_near-requires : goal.decide_near-requires
+decide_near-requires g c =
+    let parts = subst (λ (x : Shape). HasParts x c.args.key c.args.parts) (ap (λ (l : Layout). l.shape) c.requires.layout) c.requires.parts in
+    search (rules, parts)
+
+pub put_evicting-requires : goal.put_evicting-requires
+put_evicting-requires g c =
+    let parts = subst (λ (x : Pen g.row.V). HasParts x.cells.now.layout.shape c.args.key c.args.parts) (sym c.decide_near.ensures.pen) c.requires.parts in
+    search (rules, parts)
+
 pub make_filling-requires : goal.make_filling-requires
 make_filling-requires g c =
     let V = g.row.V in
@@ -42,7 +53,10 @@ make_filling-requires g c =
           c.requires.lacks.known.width,
           (
             subst (λ (x : Pen V). c.in-Fill.item < x.cells.now.layout.shape.items) same within,
-            subst (λ (x : Pen V). IsDue V (filling_acts x.cells.now.layout.shape c.args.key c.args.value.now c.args.at c.in-Fill.item c.in-Fill.place) x) same due,
+            (
+              subst (λ (x : Pen V). IsDue V (filling_acts x.cells.now.layout.shape c.args.key c.args.value.now c.args.at c.in-Fill.item c.in-Fill.place) x) same due,
+              subst (λ (x : Pen V). HasParts x.cells.now.layout.shape c.args.key c.args.parts) same c.requires.parts,
+            ),
           ),
         ),
       ),

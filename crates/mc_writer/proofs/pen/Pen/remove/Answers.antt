@@ -16,7 +16,7 @@ take_out-requires g c =
     let layout = layout_rested g.row.V c.args.self.now c.args.books.now c.decide_removal.new.books c.requires.rested c.decide_removal.ensures.shape in
     let plan = remove_acts c.args.key c.in-TakeOut.place in
     let due = due_now g.row.V c.args.self.now c.decide_removal.new.books (RemoveCall c.args.key) (answer.Remove (Ok (remove.Removed c.in-TakeOut.at))) layout plan c.in-TakeOut.ensures.decided in
-    (omega arith, subst (λ (x : Pen g.row.V). IsDue g.row.V plan x) (sym c.decide_removal.ensures.pen) due)
+    (omega arith, (subst (λ (x : Pen g.row.V). IsDue g.row.V plan x) (sym c.decide_removal.ensures.pen) due, c.parts-parts.ensures))
 
 made : (g : Over) (c : After-take_out g) → HasMade g.row.V (remove_acts c.args.key c.in-TakeOut.place) c.args.self.now c.take_out.new.self
 made g c = subst (λ (x : Pen g.row.V). HasMade g.row.V (remove_acts c.args.key c.in-TakeOut.place) x c.take_out.new.self) c.decide_removal.ensures.pen c.take_out.ensures.made

@@ -8,7 +8,7 @@ use Rattle.mc_writer.proofs.Pens.{first_due, made_then, rest_due, shape_kept}
 use Rattle.mc_writer.proofs.pen.Pen.renew.Goals as goal
 
 pub open_deed-requires : goal.open_deed-requires
-open_deed-requires g c = (omega arith, first_due g.row.V (act.Open c.args.key deed.Renew ∷ []) _ _ c.requires.due)
+open_deed-requires g c = (omega arith, (first_due g.row.V (act.Open c.args.key deed.Renew ∷ []) _ _ c.requires.due, c.requires.parts))
 
 pub write_payload-requires : goal.write_payload-requires
 write_payload-requires g c =

@@ -5,7 +5,7 @@ use Rattle.mc_writer.proofs.pen.Pen.take_out.Goals as goal
 
 pub open_deed-requires : goal.open_deed-requires
 open_deed-requires g c =
-    (omega arith, first_due g.row.V (act.Open c.args.key c.args.deed ∷ []) _ _ c.requires.due)
+    (omega arith, (first_due g.row.V (act.Open c.args.key c.args.deed ∷ []) _ _ c.requires.due, c.requires.parts))
 
 pub write_slot-requires : goal.write_slot-requires
 write_slot-requires g c =

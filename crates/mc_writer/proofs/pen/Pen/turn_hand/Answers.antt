@@ -8,14 +8,14 @@ use Rattle.mc_plan.proofs.Calls.SweptStates.{hand_acts_then}
 use Rattle.mc_shared.proofs.GrownNotes.{grow_trans, grow_acted}
 use Rattle.mc_writer.proofs.pen.Pen.turn_hand.Goals as goal
 
-pub turn_hand-bit-requires : goal.turn_hand-bit-requires
-turn_hand-bit-requires g c =
+pub turn_hand_from-bit-requires : goal.turn_hand_from-bit-requires
+turn_hand_from-bit-requires g c =
     let pen = c.args.self.now in
     let sh = pen.cells.now.layout.shape in
     let r = c.requires.turned in
     let may = (sweep_may g.row.V sh c.args.books.now c.args.waiting.now r.0 r.1.acts r.2.readings c.requires.shape r.2.sweeping).1 c.args.i c.requires.next in
     let at : r.1.acts ++ hand_acts r.2.readings ≡ pen.seat.now.acts = sym r.2.acts in
-    (omega arith, (pen.of, subst (λ (xs : List Made). IsAllowed sh (state_of g.row.V sh xs) (Hand c.args.i)) at may))
+    (omega arith, (pen.of, (c.requires.start, subst (λ (xs : List Made). IsAllowed sh (state_of g.row.V sh xs) (Hand c.args.i)) at may)))
 
 pub after-requires : goal.after-requires
 after-requires g c =
@@ -24,16 +24,16 @@ after-requires g c =
 
 pub returns-clause-turned : goal.returns-clause-turned
 returns-clause-turned g c call before turned =
-    let read : Swept = record { item = c.args.i; bit = c.turn_hand-bit.result } in
-    let acts : c.turn_hand-bit.new.writer.acts ≡ before.acts ++ hand_acts (turned.readings ++ read ∷ []) =
-    c.turn_hand-bit.ensures.acted.acts
-    ∙ ap (λ (xs : List Made). xs ++ record { act = Hand c.args.i; bit = c.turn_hand-bit.result } ∷ []) turned.acts
-    ∙ append_assoc before.acts (hand_acts turned.readings) (record { act = Hand c.args.i; bit = c.turn_hand-bit.result } ∷ [])
+    let read : Swept = record { item = c.args.i; bit = c.turn_hand_from-bit.result } in
+    let acts : c.turn_hand_from-bit.new.writer.acts ≡ before.acts ++ hand_acts (turned.readings ++ read ∷ []) =
+    c.turn_hand_from-bit.ensures.acted.acts
+    ∙ ap (λ (xs : List Made). xs ++ record { act = Hand c.args.i; bit = c.turn_hand_from-bit.result } ∷ []) turned.acts
+    ∙ append_assoc before.acts (hand_acts turned.readings) (record { act = Hand c.args.i; bit = c.turn_hand_from-bit.result } ∷ [])
     ∙ ap (λ (xs : List Made). before.acts ++ xs) (sym (hand_acts_then turned.readings (read ∷ []))) in
     record {
       readings = turned.readings ++ read ∷ [];
-      of = c.turn_hand-bit.ensures.acted.of ∙ turned.of;
+      of = c.turn_hand_from-bit.ensures.acted.of ∙ turned.of;
       acts = acts;
-      notes = grow_trans turned.notes (grow_acted c.turn_hand-bit.ensures.acted);
+      notes = grow_trans turned.notes (grow_acted c.turn_hand_from-bit.ensures.acted);
       sweeping = c.after.ensures.swept c.args.books.now call _ turned.readings c.args.i turned.sweeping c.requires.next;
     }

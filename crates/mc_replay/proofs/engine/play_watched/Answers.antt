@@ -5,7 +5,7 @@ use Rattle.mc_replay.specs.Replay.{first_replay}
 use Rattle.mc_replay.specs.Inside.Players.{Fits}
 use Rattle.mc_replay.proofs.ScriptLines.{replays_none}
 use Rattle.mc_replay.proofs.ReaderLines.{player_room}
-use Rattle.mc_replay.proofs.engine.play.Goals as goal
+use Rattle.mc_replay.proofs.engine.play_watched.Goals as goal
 
 pub play_lines-requires : goal.play_lines-requires
 play_lines-requires g c =

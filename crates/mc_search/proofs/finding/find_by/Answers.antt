@@ -1,9 +1,8 @@
-use Rattle.std.proofs.Common.{ℕ, ◌∙◌, List, Option, Some, None, IfNone, ap, subst}
+use Rattle.std.proofs.Common.{ℕ, List, Option, Some, None, IfNone, ap, subst}
 use Rattle.mc_words.specs.Checks.{shape_of}
-use Rattle.mc_words.specs.Keys.{alternate, first_of}
 use Rattle.mc_search.specs.Inside.Readable.{IsNotAmong}
 use Rattle.mc_search.proofs.KeySlots.{absent_from-buckets}
-use Rattle.mc_search.proofs.finding.find.Goals as goal
+use Rattle.mc_search.proofs.finding.find_by.Goals as goal
 
 -- what follows where nothing was found
 where_none : (A : Type 0) (P Q : Type 0) (o : Option A) → (P → Q) → IfNone o P → IfNone o Q
@@ -15,10 +14,9 @@ returns-clause-none g c =
     let w = g.P.Peek.words c.args.peek.now in
     let sh = shape_of c.args.checked.now in
     let k = c.args.key in
-    let second = c.alt-second.ensures.bucket ∙ ap (λ b. alternate sh b c.tag-tag.result) c.first-first.ensures.bucket ∙ ap (alternate sh (first_of sh k)) c.tag-tag.ensures in
     where_none _ _ _ c.find_in-2.result
     (λ none. absent_from-buckets g.row.V sh w k c.requires.placed
-    (subst (λ (b : ℕ). IsNotAmong g.row.V sh w k b 4) c.first-first.ensures.bucket c.in_default.ensures.none)
-    (subst (λ (b : ℕ). IsNotAmong g.row.V sh w k b 4) second
-    (subst (λ (v : List ℕ). IsNotAmong g.row.V sh v k c.alt-second.result 4) (ap g.P.Peek.words c.in_default.ensures.kept) none)))
+    (subst (λ (b : ℕ). IsNotAmong g.row.V sh w k b 4) c.requires.parts.first c.in_default.ensures.none)
+    (subst (λ (b : ℕ). IsNotAmong g.row.V sh w k b 4) c.requires.parts.second
+    (subst (λ (v : List ℕ). IsNotAmong g.row.V sh v k c.args.parts.second 4) (ap g.P.Peek.words c.in_default.ensures.kept) none)))
     c.find_in-2.ensures.none

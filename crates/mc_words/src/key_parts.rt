@@ -1,0 +1,13 @@
+//! A key cut into its parts.
+/// What a key is cut into in tables of one shape, worked out once for all that a call asks of it.
+#[derive(Clone, Copy, Debug, PartialEq, Eq)]
+pub struct KeyParts {
+    /// The byte that its slot keeps.
+    pub tag: u8,
+    /// The first of its two buckets.
+    pub first: u32,
+    /// The other one.
+    pub second: u32,
+    /// The stripe whose version counts its changes.
+    pub stripe: u32,
+}
