@@ -3,3 +3,4 @@ pub mod Behind
 pub mod Filling
 pub mod Gives
 pub mod Opened
+pub mod GivenSides

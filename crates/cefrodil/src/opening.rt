@@ -69,7 +69,10 @@ fn fill(alloc: Global, mut rest: Rest, slots: &mut [Slot]) -> bool
     ensures { result ≡ true → All (IsNewAt (opening_in rest) (has_desk_in rest) (width_in rest)) slots.new }
 {
     for slot in slots.iter_mut() {
-        let Ok(Some(held)) = rest.next() else {
+        let Ok(given) = rest.next() else {
+            return false;
+        };
+        let Some(held) = given else {
             return false;
         };
         let Some(held) = boxed(alloc, held) else {
