@@ -9,7 +9,7 @@ use crate::raw::{self, RawHandle, RawReply, RawShape};
 #[repr(transparent)]
 pub struct Handle(RawHandle);
 
-// SAFETY: the archive's handle may go to another thread: the cache's writers and readers may, and the cache and its desk may be shared.
+// SAFETY: the archive's handle may go to another thread, which is proved of it: what it owns may, and what it shares may be shared.
 // It is not `Sync`, by its pointer.
 unsafe impl Send for Handle {}
 

@@ -1,11 +1,10 @@
 -- A box that is taken apart. Its parts are the box's own fields, so they own what it owned, at the same machine value. Assumes `Logic`.
 use Rattle.std.proofs.Common.{◌≡◌, ℕ, List, [], ◌∷◌}
 use mir.Syntax.{Dict}
-use mir.Val.{Val, vptr}
-use mir.Raw.{raw as bare}
+use mir.Val.{Val}
 use seplogic.Ra.Ura.{Ura}
-use base.Logic.{never, fst∗, id⊢}
-use types.Logic.{Logic, sem}
+use base.Logic.{id⊢}
+use types.Logic.{Logic}
 use types.Kit.{Item, Goal, Seq, Step, step, ‵, ◌$◌, use1, fsplit, fjoin}
 use denote.RattleType.{RattleType}
 use denote.Param.Laws.{Laws}
@@ -13,7 +12,7 @@ use denote.RawPtr.{block_ptr}
 use Rattle.core.specs.declared.alloc.Allocator.{Ghosts}
 use Rattle.core.proofs.alloc.Calls.{Fits, token}
 use Rattle.std_alloc.specs.Box.Ownership.{box_owns}
-use Rattle.std_alloc.proofs.BoxSteps.Form.{Bx, R, P, B, word}
+use Rattle.std_alloc.proofs.BoxSteps.Form.{Bx, R, P, word}
 use Rattle.std_alloc.proofs.BoxSteps.Steps.{box_out, box_in}
 use Rattle.cefrodil.specs.contracts.unboxed.Unboxed as unboxed
 

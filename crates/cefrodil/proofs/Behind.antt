@@ -1,25 +1,21 @@
 -- The machine values of a `Handle`, and of the box that lies behind it. Assumes `Logic`.
-use Rattle.std.proofs.Common.{◌≡◌, ℕ, List, [], ◌∷◌, ◌++◌, refl, subst, lit<}
+use Rattle.std.proofs.Common.{◌≡◌, ℕ, List, [], ◌∷◌, refl, lit<}
 use mathlib.Core.Bool.{true, ◌&&◌}
 use mathlib.Core.Option.{Option, none, some}
 use lib.Dec.{T}
 use mir.Syntax.{impl, tnil, dnil}
-use mir.Raw.{raw as bare}
-use mir.Val.{Val, vptr, vnull, vstruct, of_list, has_ty, WT}
-use base.Logic.{never, fst∗, id⊢}
-use types.Logic.{Logic, sem}
-use types.Kit.{Item, Goal, Seq, Step, step, ‵, ◌$◌, move, drop, use1, fsplit, fjoin, fpick, fpack, rewrite, feq_i, feq_l}
+use mir.Val.{Val, vnull, vstruct, of_list, has_ty, WT}
+use base.Logic.{id⊢}
+use types.Logic.{Logic}
+use types.Kit.{Item, Goal, Seq, Step, step, ‵, ◌$◌, move, use1, fsplit, fjoin, fpack, rewrite, feq_i}
 use seplogic.Ra.Ura.{Ura}
 use denote.RattleType.{RattleType, Valss}
 use denote.Builtin.{RawPtr}
-use denote.Memory.{lone}
-use denote.RawPtr.{Ptr, block_ptr, null_ptr, ptr_val, in_a_block}
+use denote.RawPtr.{block_ptr, null_ptr}
 use denote.Steps.{nothing}
 use denote.Param.{layout}
-use denote.Param.Laws.{Laws}
 use denote.Struct.Struct.{within}
 use denote.Struct.Owning.{shape}
-use Rattle.core.proofs.alloc.Calls.{Al, handle_tells}
 use Rattle.core.proofs.cell.Inside.{Good}
 use Rattle.std_alloc.specs.Box.Ownership.{box_owns}
 use Rattle.std_alloc.proofs.ResultValues.{and_tt}

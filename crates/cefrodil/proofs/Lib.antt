@@ -4,3 +4,4 @@ pub mod Filling
 pub mod Gives
 pub mod Opened
 pub mod GivenSides
+pub mod Sent

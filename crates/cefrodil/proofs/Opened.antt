@@ -1,5 +1,5 @@
 -- Handles are all open, or none is.
-use Rattle.std.proofs.Common.{ℕ, ◌≡◌, ◌↔◌, List, All, refl, sym, subst, inr}
+use Rattle.std.proofs.Common.{ℕ, ◌≡◌, ◌↔◌, List, All, refl, subst, inr}
 use mathlib.Core.Bool.{Bool, true, false}
 use mathlib.Core.Option.{some}
 use Rattle.mc_cache.specs.Openings.{RefusesOpening}
@@ -9,14 +9,13 @@ use Rattle.mc_words.specs.Places.{IsWidth}
 use Rattle.mc_words.specs.Readers.{HasReaders}
 use Rattle.mc_words.specs.Shapes.{IsShape}
 use Rattle.mc_words.specs.declared.shape.Shape.{Shape}
-use Rattle.mc_shared.specs.Records.{Opening}
 use Rattle.mc_shared.specs.Views.{layout_of}
 use Rattle.mc_door.specs.Held.{role_in, width_of}
 use Rattle.mc_door.specs.NewSides.{IsNewWriter, has_desk_in, opening_in, width_in}
 use Rattle.mc_door.specs.declared.held.Held.{Held}
 use Rattle.mc_door.specs.declared.rest.Rest.{Rest}
 use Rattle.cefrodil.specs.Open.{kept}
-use Rattle.cefrodil.specs.Openings.{AreOpened, ArePasses, IsNewAt, IsNewWriterAt, RefusesOpen}
+use Rattle.cefrodil.specs.Openings.{AreOpened, ArePasses, IsNewAt, RefusesOpen}
 use Rattle.cefrodil.specs.RawShapes.{HasMix, IsShapeOf}
 use Rattle.cefrodil.specs.declared.shape.RawShape.{RawShape}
 use Rattle.cefrodil.specs.declared.slot.Slot.{Slot}

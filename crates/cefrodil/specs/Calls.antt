@@ -1,12 +1,6 @@
 -- What the calls by handles give. Before a call the first thing lies behind the handle, after it the second; nothing does where it is closed.
 use Rattle.std.specs.Prelude.{ℕ, ◌≡◌, List, length, MatchResult, Result}
 use mathlib.Core.Option.{Option, none, some}
-use Rattle.mc_cache.specs.declared.desk.DeskError.{DeskError}
-use Rattle.mc_plan.specs.declared.answer.IfError.{IfError}
-use Rattle.mc_plan.specs.declared.answer.Put.{Put}
-use Rattle.mc_plan.specs.declared.answer.PutError.{PutError}
-use Rattle.mc_plan.specs.declared.answer.Remove.{Remove}
-use Rattle.mc_plan.specs.declared.answer.Spent.{Spent}
 use Rattle.mc_door.specs.Held.{role_in, width_of}
 use Rattle.mc_door.specs.Means.{CanWrite, HasTurns, IsMisuse, PutIfMeans, PutMeans, RemovalMeans, TryPutIfMeans, TryPutMeans, TryRemovalMeans}
 use Rattle.mc_door.specs.Roles.{Role}

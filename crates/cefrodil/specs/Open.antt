@@ -1,6 +1,6 @@
 -- What an open handle keeps.
 use Rattle.std.specs.Prelude.{Bool, true, false}
-use mathlib.Core.Option.{Option, none, some}
+use mathlib.Core.Option.{Option, none}
 use Rattle.mc_door.specs.declared.held.Held.{Held}
 use Rattle.cefrodil.specs.declared.slot.Slot.{Slot}
 

@@ -1,5 +1,5 @@
 -- What each answer of a call is told as: a status, and the numbers of a reply.
-use Rattle.std.specs.Prelude.{ℕ, Option, Some, None, Result, Ok, Err}
+use Rattle.std.specs.Prelude.{ℕ, Some, None, Result, Ok, Err}
 use Rattle.mc_cache.specs.declared.desk.DeskError.{DeskError}
 use Rattle.mc_cache.specs.declared.desk.DeskError.TheVariants as desk
 use Rattle.mc_plan.specs.declared.answer.IfError.{IfError}
@@ -15,7 +15,6 @@ use Rattle.mc_door.specs.declared.looked.Looked.{Looked}
 use Rattle.mc_door.specs.declared.looked.Looked.TheVariants as looked
 use Rattle.mc_door.specs.declared.side.Misuse.{Misuse}
 use Rattle.mc_door.specs.declared.side.Misuse.TheVariants as misuse
-use Rattle.cefrodil.specs.declared.told.RawReply.{RawReply}
 use Rattle.cefrodil.specs.declared.told.Told.{Told}
 use Rattle.cefrodil.specs.declared.status.TheConstants.{OK, ABSENT, BUSY, NO_PATH, ALL_RECENT, SPENT, CHANGED, HELD, CLOSED, KIND, WIDTH}
 use Rattle.cefrodil.specs.declared.told.TheConstants.{NOTHING, STORED, EVICTED, RENEWED}

@@ -7,7 +7,7 @@ ghost use Rattle.mc_door.specs.declared.held.Held.{Held};
 use crate::unboxed::Unboxed;
 use mc_door::Held;
 use std::alloc::Global;
-use std::marker::Model;
+use std::marker::{Model, Send};
 
 #[repr(C)]
 pub struct Nothing {
@@ -25,6 +25,9 @@ pub struct Handle {
 impl Model for Handle {
     ghost also_owns = { λ h. kept_at h.alloc h.at h.value };
 }
+
+// What lies behind it may go to another thread, and any thread may free that block.
+unsafe impl Send for Handle {}
 
 impl Handle {
     pub(crate) fn empty(alloc: Global) -> Handle

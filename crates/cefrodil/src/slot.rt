@@ -59,3 +59,10 @@ impl Slot {
         };
     }
 }
+
+fn crosses<T: Send>(_value: &T) {}
+
+/// It is proved only if C may hand a slot to another thread. It does nothing when it runs.
+pub fn slots_cross(slot: &Slot) {
+    crosses(slot);
+}

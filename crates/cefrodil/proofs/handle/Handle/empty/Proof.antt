@@ -1,5 +1,5 @@
 -- `empty`: nothing lies behind the null pointer.
-use Rattle.std.proofs.Common.{◌≡◌, List, [], ◌∷◌, ◌++◌, refl, sym, subst}
+use Rattle.std.proofs.Common.{List, [], ◌∷◌, ◌++◌, refl, sym, subst}
 use mathlib.Core.Option.{none}
 use mir.Syntax.{Fn}
 use mir.Val.{Val}

@@ -1,6 +1,6 @@
 -- `into_unboxed`: what lies behind the handle is what the parts of a box own.
 use Rattle.std.proofs.Common.{◌≡◌, List, [], ◌∷◌, ◌++◌, refl, sym, subst}
-use mathlib.Core.Option.{none, some}
+use mathlib.Core.Option.{none}
 use mir.Syntax.{Fn}
 use mir.Val.{Val}
 use base.Logic.{SProp, ent, id⊢}

@@ -1,5 +1,5 @@
 -- `of`: what the parts of a box own lies behind the handle.
-use Rattle.std.proofs.Common.{◌≡◌, List, [], ◌∷◌, ◌++◌, refl, sym, subst}
+use Rattle.std.proofs.Common.{List, [], ◌∷◌, ◌++◌, refl, sym, subst}
 use mathlib.Core.Option.{some}
 use mir.Syntax.{Fn}
 use mir.Val.{Val}

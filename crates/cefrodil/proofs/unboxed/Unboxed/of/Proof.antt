@@ -18,7 +18,7 @@ use denote.Builtin.{RawPtr}
 use denote.Exit.{no}
 use denote.Param.{bounded}
 use denote.RawPtr.{Ptr, block_ptr, null_ptr, ptr_val, in_a_block}
-use denote.RattleType.{RattleType, owns}
+use denote.RattleType.{owns}
 use denote.Signature.{types_at, plain}
 use denote.Steps.{nothing, only, heard}
 use denote.Struct.Tuple.{Tuple}

@@ -1,0 +1,30 @@
+-- What lies behind a handle may go to another thread: each side of a cache does, as its parts do.
+use denote.RattleType.{RattleType}
+use denote.Param.Send.{IsSend, sendable}
+use Rattle.std.proofs.Crossing.{crosses}
+use Rattle.mc_cache.proofs.Sent.{desk_sync}
+use Rattle.mc_cache.proofs.cache.Cache.TheSendSync.{the_send as cache_send, the_sync as cache_sync}
+use Rattle.mc_cache.proofs.desk.Desk.TheSendSync.{the_send as desk_send}
+use Rattle.mc_cache.proofs.reader.Reader.TheSendSync.{the_send as reader_send}
+use Rattle.mc_cache.proofs.writer.Writer.TheSendSync.{the_send as writer_send}
+use Rattle.mc_door.specs.contracts.held.Held as held
+use Rattle.mc_door.specs.contracts.pass_side.PassSide as pass
+use Rattle.mc_door.specs.contracts.reader_side.ReaderSide as reader
+use Rattle.mc_door.specs.contracts.side.Side as side
+use Rattle.mc_door.specs.contracts.writer_side.WriterSide as writer
+
+-- each at its field's row, since a `search` that goes down through all of them runs out of steps
+pass_send : (V : RattleType) → IsSend (pass.the_field V).row
+pass_send V = search (sendable, crosses, cache_send, cache_sync, desk_send, desk_sync, reader_send) depth 30
+
+reader_side_send : (V : RattleType) → IsSend (reader.the_field V).row
+reader_side_send V = search (sendable, crosses, cache_send, cache_sync, reader_send) depth 30
+
+writer_side_send : (V : RattleType) → IsSend (writer.the_field V).row
+writer_side_send V = search (sendable, crosses, cache_send, cache_sync, writer_send) depth 30
+
+side_send : (V : RattleType) → IsSend (side.the_field V).row
+side_send V = search (sendable, pass_send, reader_side_send, writer_side_send) depth 20
+
+pub held_send : IsSend held.the_row
+held_send = search (sendable, side_send) depth 20
