@@ -32,7 +32,7 @@ load load_factor --workload load --readers 0 --writers 1 --capacity 100000
 # Whether a contestant has a workload: only the table evicts, and only tables of slots have a load factor.
 takes() {
     case "$2:$1" in
-        evict-*:cefrodil | evict-*:twin | load:cefrodil | load:door | load:twin | load:libcuckoo) true ;;
+        evict-*:cefrodil | evict-*:twin | load:cefrodil | load:twin | load:libcuckoo) true ;;
         evict-*:* | load:*) false ;;
     esac
 }

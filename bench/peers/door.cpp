@@ -12,8 +12,13 @@ struct Door {
     std::mutex lending;
     static thread_local cefrodil_handle mine;
 
+    // Of the size of the other tables, at most 0.96 full.
     explicit Door(size_t keys) {
-        if (cefrodil_shape_for_items(uint32_t(keys), &shape) != CEFRODIL_OK || cefrodil_open(&shape, 4, &writer, readers, READERS) != CEFRODIL_OK) abort();
+        if (cefrodil_shape_for_items(uint32_t(keys), &shape) != CEFRODIL_OK) abort();
+        shape.buckets = 2;
+        while (384 * size_t(shape.buckets) < 100 * keys) shape.buckets *= 2;
+        shape.stripes = 8192;
+        if (cefrodil_open(&shape, 4, &writer, readers, READERS) != CEFRODIL_OK) abort();
     }
 
     ~Door() {
