@@ -5,6 +5,7 @@ use mc_load::{Gate, Load, LoadError, load_desk};
 use mc_words::{Mix, Shape};
 use std::sync::atomic::{AtomicU64, Ordering};
 use std::test::Fail;
+use std::thread;
 
 /// How often a loop that waits turns at most.
 const TURNS: u32 = 1 << 26;
@@ -39,6 +40,7 @@ impl OneByOne {
             if self.answered.load(Ordering::SeqCst) >= due {
                 return true;
             }
+            thread::yield_now();
         }
         false
     }

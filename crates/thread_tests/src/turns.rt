@@ -17,7 +17,7 @@ const CALLS: usize = 400;
 const STUBBORN: usize = 16;
 
 /// How often one of these is tried for at most.
-const TRIES: u32 = 1 << 20;
+const TRIES: u32 = 1 << 24;
 
 /// What came of a try.
 #[derive(Clone, Copy, Debug, PartialEq, Eq)]
@@ -145,6 +145,7 @@ impl Meeting {
             if self.here.load(Ordering::SeqCst) >= self.due {
                 return true;
             }
+            thread::yield_now();
         }
         false
     }
