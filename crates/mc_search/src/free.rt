@@ -17,6 +17,7 @@ pub struct FreeItems {
 
 impl FreeItems {
     ghost use Rattle.mc_search.specs.Free.{IsConsistent, IsFreeIn, TakesFree, GivesBack};
+    ghost use Rattle.std.specs.BinaryHeap.{heap_len};
 
     /// All items of a table.
     pub fn new(alloc: Global, items: u32) -> Result<FreeItems, AllocError>
@@ -32,6 +33,23 @@ impl FreeItems {
         })
     }
 
+    // Takes the least of the items that were given back. It is a call of its own, as most tables give none back between two puts.
+    #[inline(never)]
+    fn take_returned(&mut self) -> u32
+        requires kept { IsConsistent self.old }
+        requires some { 0 < heap_len self.old.returned }
+        ensures kept { IsConsistent self.new }
+        ensures items { self.new.items ≡ self.old.items }
+        ensures free { IsFreeIn self.old result }
+        ensures takes { TakesFree self.old self.new result }
+        ensures least { (j : ℕ) → IsFreeIn self.old j → result ≤ j }
+    {
+        let Some(item) = self.returned.pop() else {
+            unreachable!();
+        };
+        item.0
+    }
+
     /// Takes the least free item.
     #[inline(always)]
     pub fn take_least(&mut self) -> Option<u32>
@@ -44,8 +62,8 @@ impl FreeItems {
         ensures none { IfNone result ((j : ℕ) → IsFreeIn self.old j → ⊥) }
         ensures same { IfNone result ((j : ℕ) → IsFreeIn self.new j → ⊥) }
     {
-        if let Some(item) = self.returned.pop() {
-            return Some(item.0);
+        if !self.returned.is_empty() {
+            return Some(self.take_returned());
         }
         if self.fresh == self.items {
             return None;

@@ -35,11 +35,11 @@ use Rattle.mc_shared.specs.RecencyTrace.{Trace, new_trace, trace_after, trace_of
 use Rattle.mc_shared.specs.Views.{Note, Tally, new_tally, tally_for, with_reader, with_note, seated_in, Role, Spent, Writes, Reads, Both, View, IsWriters, view_as, writer_view, reader_view, new_writer_view, spent_view, acts_of, tally_of, number_of, front_of, done_of, layout_state, with_bit, IsFrontOf}
 use Rattle.mc_shared.specs.ExactFronts.{IsExact}
 use Rattle.mc_shared.specs.TableRule.{word_after, IsRecord, FitsRole, Fits, AllFit, HasWriter, seats_of, marks_of, bit_in, Ruled}
-use Rattle.mc_shared.specs.Steps.{SeatView, bit_of, AddsAct, AddsActIfSet, FetchesWord, reading, ReadsWord, mark_at, AddsMark, AddsMarkIfSet, ComparesMoment, with_reader_view, new_reader_view, joined_view, writer_part, reader_part}
+use Rattle.mc_shared.specs.Steps.{SeatView, bit_of, AddsAct, AddsActIfSet, AddsActIfClear, FetchesWord, reading, ReadsWord, mark_at, AddsMark, AddsMarkIfSet, ComparesMoment, with_reader_view, new_reader_view, joined_view, writer_part, reader_part}
 use Rattle.mc_shared.specs.Inside.Steps.{WritesAt, only, all_but}
 use Rattle.mc_shared.specs.Inside.Seats.{MayMake}
 use Rattle.mc_shared.proofs.WrittenPlaces.{act_names_in, place_below, word_written}
-use Rattle.mc_shared.proofs.PackedBits.{bit_low, recency_below, or_here, or_spares, and_spares, or_same, bit_there, bit_spared}
+use Rattle.mc_shared.proofs.PackedBits.{bit_low, recency_below, or_here, or_spares, and_spares, or_same, and_same, bit_there, bit_spared}
 use Rattle.mc_shared.proofs.Coherence.{trace-push, coherent_marked, marks_in-push, total_set, total_push}
 use Rattle.mc_shared.proofs.ReaderRecords.{front_self, front_none, front_push, front_length, record_none, record_longer, record_read, record_mark}
 use Rattle.mc_shared.proofs.ExactSteps.{stands_here, exact_none, exact_act, exact_entry, note_at, Counted, counted}
@@ -209,6 +209,19 @@ module _ (l : Layout) (id slots : ℕ) (c : List (ℕ × Unit {0})) where
       (λ (e : bit_at w (recency_bit i) ≡ 1).
       let m = makes acts tally (Mark i) n (only i) (λ z. bit_or z (only i)) (λ z. z) st may (refl, refl) (λ low. absurd (omega arith)) (touch_bits l i) (spared_past l i (λ z. bit_or z (only i)) (act_names_in l acts (Mark i) may) (or_spares (recency_bit i) (bit_low i))) s r long at fits in
       (m.0, m.1, m.2, subst (λ (x : ℕ). Ruled l (stepped s n x id c m.0 m.1)) (or_same (recency_bit i) w e) m.3, ((λ _. m.4), (λ z. absurd (omega (arith, e, z))))))
+      (λ ne. (v, keeps, tt, unmoved s r n v v at (λ k. refl) (λ a. refl) (λ z. z) (r.views id v at), ((λ z. absurd (ne z)), (λ _. refl))))
+
+  -- a load of the word that holds the bit at which the hand stands. Where it finds the bit clear, it is the very step that clears it
+  pub passes : (acts : List Made) (tally : Tally) (i : ℕ) (st : Step (Unit {0})) → MayMake l acts (Hand i)
+      → Allows (Ruled l) slots id (writer_view l acts tally, c) (recency_place l.width l.shape i) (λ w. w) (AddsActIfClear (Hand i) st (writer_view l acts tally, c))
+  passes acts tally i st may s r long at fits =
+      let v : View = writer_view l acts tally in
+      let n : ℕ = recency_place l.width l.shape i in
+      let w : ℕ = get_or s.words n 0 in
+      dite (ℕ_discrete (bit_at w (recency_bit i)) 0)
+      (λ (e : bit_at w (recency_bit i) ≡ 0).
+      let m = makes acts tally (Hand i) n (all_but i) (λ z. bit_and z (all_but i)) (λ z. z) st may (refl, refl) (λ low. absurd (omega arith)) (hand_bits l i) (spared_past l i (λ z. bit_and z (all_but i)) (act_names_in l acts (Hand i) may) (and_spares (recency_bit i) (bit_low i))) s r long at fits in
+      (m.0, m.1, m.2, subst (λ (x : ℕ). Ruled l (stepped s n x id c m.0 m.1)) (and_same (recency_bit i) w (bit_low i) fits e) m.3, ((λ _. m.4), (λ z. absurd (omega (arith, e, z))))))
       (λ ne. (v, keeps, tt, unmoved s r n v v at (λ k. refl) (λ a. refl) (λ z. z) (r.views id v at), ((λ z. absurd (ne z)), (λ _. refl))))
 
   pub looks : (acts : List Made) (tally : Tally) (n : ℕ) (st : Step (Unit {0})) → st.word ≡ n → n < word_count l.width l.shape → Allows (Ruled l) slots id (writer_view l acts tally, c) n (λ r. r) (FetchesWord st (writer_view l acts tally, c))
@@ -439,6 +452,11 @@ module _ (key l : Layout) (key-is : key ≡ l) (id slots : ℕ) (me : SeatView) 
   remarks_as is a i n st act may here = subst (λ (y : Act × ℕ). Allows (Ruled key) slots id me y.1 (λ w. w) (AddsActIfSet y.0 st me)) (λ j. (sym act j, sym here j))
       (subst (λ (k : Layout). Allows (Ruled k) slots id me (recency_place l.width l.shape i) (λ w. w) (AddsActIfSet (Mark i) st me)) (sym key-is)
       (subst (λ (z : SeatView). Allows (Ruled l) slots id z (recency_place l.width l.shape i) (λ w. w) (AddsActIfSet (Mark i) st z)) (sym is) (remarks l id slots [] (acts_of me.0) (tally_of me.0) i st may)))
+
+  pub passes_as : me ≡ (writer_view l (acts_of me.0) (tally_of me.0), []) → (a : Act) (i n : ℕ) (st : Step (Unit {0})) → a ≡ Hand i → MayMake l (acts_of me.0) (Hand i) → n ≡ recency_place l.width l.shape i → Allows (Ruled key) slots id me n (λ w. w) (AddsActIfClear a st me)
+  passes_as is a i n st act may here = subst (λ (y : Act × ℕ). Allows (Ruled key) slots id me y.1 (λ w. w) (AddsActIfClear y.0 st me)) (λ j. (sym act j, sym here j))
+      (subst (λ (k : Layout). Allows (Ruled k) slots id me (recency_place l.width l.shape i) (λ w. w) (AddsActIfClear (Hand i) st me)) (sym key-is)
+      (subst (λ (z : SeatView). Allows (Ruled l) slots id z (recency_place l.width l.shape i) (λ w. w) (AddsActIfClear (Hand i) st z)) (sym is) (passes l id slots [] (acts_of me.0) (tally_of me.0) i st may)))
 
   pub looks_as : me ≡ (writer_view l (acts_of me.0) (tally_of me.0), []) → (n : ℕ) → n < word_count l.width l.shape → Allows (Ruled key) slots id me n (λ r. r) (FetchesWord (step slots n 0 0 none) me)
   looks_as is n below = subst (λ (k : Layout). Allows (Ruled k) slots id me n (λ r. r) (FetchesWord (step slots n 0 0 none) me)) (sym key-is)

@@ -3,9 +3,11 @@ use Rattle.std.proofs.Common.{◌≡◌, ◌≢◌, ℕ, ◌-◌, ◌*◌, ◌/�
 use Rattle.std.specs.Int.{bit_at, w64}
 use Rattle.std.specs.Int.RustNames.{bit_or}
 use lib.Bits.{bit_and}
-use Rattle.std.proofs.lemmas.Nat.Bits.{bit_at_or, bit_at-pow_same, bit_at-pow_other, bit_at_set_same, bit_at_set_other, bit_at_clear_same, bit_at_clear_other, same_from_bits, shr_and_one}
+use Rattle.std.proofs.lemmas.Nat.Bits.{bit_at_or, bit_at-pow_same, bit_at-pow_other, bit_at_set_same, bit_at_set_other, bit_at_above, bit_at_clear_same, bit_at_clear_other, same_from_bits, shr_and_one}
 use Rattle.std.proofs.Math.Nat.{mod-eq_of_lt}
+use Rattle.std.proofs.Math.Decide.{dec_lt}
 use Rattle.std.proofs.Math.Pow.{pow-lt}
+use Rattle.std.proofs.lemmas.Nat.{and_le_l}
 use mathlib.Core.Logic.{dite}
 use native.Mathlib.Decide.{ℕ_discrete}
 use Rattle.mc_words.specs.Places.{recency_place, all_words}
@@ -59,6 +61,16 @@ pub or_same : (b w : ℕ) → bit_at w b ≡ 1 → bit_or w (2 ^ b) ≡ w
 or_same b w is = same_from_bits (bit_or w (2 ^ b)) w (λ c. dite (ℕ_discrete c b)
     (λ (e : c ≡ b). let o = bit_at_or w (2 ^ b) c in let p : bit_at (2 ^ b) c ≡ 1 = ap (bit_at (2 ^ b)) e ∙ bit_at-pow_same b in let h : bit_at w c ≡ 1 = ap (bit_at w) e ∙ is in omega (arith, o, p, h))
     (λ ne. let o = bit_at_or w (2 ^ b) c in let p = bit_at-pow_other b c ne in omega (arith, o, p)))
+
+-- to clear a bit that is clear changes nothing
+pub and_same : (b w : ℕ) → b < 64 → w < 2 ^ 64 → bit_at w b ≡ 0 → bit_and w (2 ^ 64 - 1 - 2 ^ b) ≡ w
+and_same b w l small is =
+    let f : ℕ = bit_and w (2 ^ 64 - 1 - 2 ^ b) in
+    same_from_bits f w (λ c. dite (ℕ_discrete c b)
+    (λ (e : c ≡ b). ap (bit_at f) e ∙ (and_here b w l ∙ sym (ap (bit_at w) e ∙ is)))
+    (λ ne. dite (dec_lt c 64)
+    (λ below. and_spares b l w c below ne)
+    (λ past. bit_at_above f 64 c (omega (arith, small, and_le_l w (2 ^ 64 - 1 - 2 ^ b))) (omega (arith, past)) ∙ sym (bit_at_above w 64 c small (omega (arith, past))))))
 
 -- ---- the bits in the words
 -- a step at another word

@@ -34,14 +34,19 @@ bit_of _ found = 0
 abbrev pub AddsAct : Act → Step (Unit {0}) → SeatView → ℕ → SeatView → Type 0
 AddsAct a st me found me' = (note : Note) × (me' ≡ (writer_view me.0.layout (acts_of me.0 ++ with_bit a (bit_of a found) ∷ []) (with_note (tally_of me.0) note), me.1))
 
--- the number of the bit that a mark sets
-abbrev pub mark_bit : Act → ℕ
-mark_bit (Mark i) = recency_bit i
-mark_bit _ = 0
+-- the number of the bit that a mark sets and the hand clears
+abbrev pub item_bit : Act → ℕ
+item_bit (Mark i) = recency_bit i
+item_bit (Hand i) = recency_bit i
+item_bit _ = 0
 
 -- a load that finds the bit of its item set is that mark, and one that finds it clear adds nothing
 abbrev pub AddsActIfSet : Act → Step (Unit {0}) → SeatView → ℕ → SeatView → Type 0
-AddsActIfSet a st me found me' = (bit_at found (mark_bit a) ≡ 1 → AddsAct a st me found me') × (bit_at found (mark_bit a) ≡ 0 → me' ≡ me)
+AddsActIfSet a st me found me' = (bit_at found (item_bit a) ≡ 1 → AddsAct a st me found me') × (bit_at found (item_bit a) ≡ 0 → me' ≡ me)
+
+-- a load that finds the bit of its item clear is that reading of the hand, and one that finds it set adds nothing
+abbrev pub AddsActIfClear : Act → Step (Unit {0}) → SeatView → ℕ → SeatView → Type 0
+AddsActIfClear a st me found me' = (bit_at found (item_bit a) ≡ 0 → AddsAct a st me found me') × (bit_at found (item_bit a) ≡ 1 → me' ≡ me)
 
 -- nothing changes, and what is found is the word of the place in the writer's state
 abbrev pub FetchesWord : Step (Unit {0}) → SeatView → ℕ → SeatView → Type 0

@@ -39,5 +39,6 @@ pub use seats::{ReaderSeat, WriterSeat};
 pub use words::Words;
 pub use writer_calls::{
     close_deed, count_moment, fetch, open_deed, open_deed_by, perform, set_mark,
-    set_mark_unless_set, turn_hand, turn_hand_from, write_item, write_item_from, write_slot,
+    set_mark_unless_set, turn_hand, turn_hand_unless_clear, write_item, write_item_from,
+    write_slot,
 };

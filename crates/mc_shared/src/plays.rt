@@ -87,6 +87,17 @@ impl<J: NamesAct> Play<(), Known> for MakesMarkIfSet<J> {
     ghost then = { AddsActIfSet J.act };
 }
 
+/// A load by the writer that is the hand's reading of the item if it finds its bit clear.
+pub struct MakesReadingIfClear<J> {
+    of: PhantomData<J>,
+}
+
+impl<J: NamesAct> Play<(), Known> for MakesReadingIfClear<J> {
+    ghost use Rattle.mc_shared.specs.Steps.{AddsActIfClear};
+
+    ghost then = { AddsActIfClear J.act };
+}
+
 /// A load by the writer that adds nothing to its record.
 pub struct Fetches;
 

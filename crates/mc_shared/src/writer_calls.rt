@@ -13,7 +13,7 @@ use crate::cells::Cells;
 use crate::seats::WriterSeat;
 use crate::writer_steps::{
     close_deed_on_words, count_moment_on_words, fetch_word, open_deed_on_words, set_mark_on_words,
-    set_mark_unless_set_on_words, turn_hand_on_words, write_word,
+    set_mark_unless_set_on_words, turn_hand_on_words, turn_hand_unless_clear_on_words, write_word,
 };
 use mc_theory::{Act, Deed};
 use mc_words::{KeyParts, Place};
@@ -153,14 +153,16 @@ pub fn turn_hand<const V: usize>(cells: &Cells<V>, writer: &mut WriterSeat, i: u
     requires allowed { IsAllowed cells.now.layout.shape (state_of V cells.now.layout.shape writer.old.acts) (Hand i) }
     ensures acted { HasActed writer.old writer.new (Hand i) result }
 {
-    let start = cells.recency_start();
-    turn_hand_from(cells, writer, start, i)
+    writer.known();
+    let place = cells.recency_place(i);
+    turn_hand_on_words(&cells.ruled, writer, i, place, cells.checked.recency_bit(i))
 }
 
-/// The same, for a caller that has worked out where the recency words begin.
+/// The same as `turn_hand`, for a caller that has worked out where the recency words begin. Where the bit is clear already, the load
+/// that finds it so is the reading, and nothing is written.
 #[inline(always)]
 #[tactic(auto, unfolding(mc_words::specs::Recency::recency_word))]
-pub fn turn_hand_from<const V: usize>(
+pub fn turn_hand_unless_clear<const V: usize>(
     cells: &Cells<V>,
     writer: &mut WriterSeat,
     start: usize,
@@ -172,7 +174,7 @@ pub fn turn_hand_from<const V: usize>(
     ensures acted { HasActed writer.old writer.new (Hand i) result }
 {
     let place = start + i as usize / 64;
-    turn_hand_on_words(&cells.ruled, writer, i, place, cells.checked.recency_bit(i))
+    turn_hand_unless_clear_on_words(&cells.ruled, writer, i, place, cells.checked.recency_bit(i))
 }
 
 /// Makes one act. It gives the bit that the hand read, else 0.

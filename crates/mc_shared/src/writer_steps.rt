@@ -14,7 +14,7 @@ ghost use Rattle.mc_shared.specs.Inside.Seats.{MayMake};
 ghost use Rattle.mc_shared.specs.Records.{HasActed};
 ghost use Rattle.mc_shared.specs.Inside.Seats.{opening_of};
 
-use crate::plays::{Fetches, Known, Makes, MakesMarkIfSet, NamesAct};
+use crate::plays::{Fetches, Known, Makes, MakesMarkIfSet, MakesReadingIfClear, NamesAct};
 use crate::ruled_words::RuledWords;
 use crate::seats::WriterSeat;
 use atomic_table::Seat;
@@ -88,6 +88,34 @@ fn turn_hand_as_writer<J: NamesAct>(
         .shared
         .fetch_and::<Makes<J>>(seat, place, !(1u64 << bit));
     (found >> bit) & 1
+}
+
+// The hand's reading. Where the bit is clear, the load that found it so is the reading. Where it is set, the step that clears it is made.
+fn turn_hand_unless_clear_as_writer<J: NamesAct>(
+    ruled: &RuledWords,
+    seat: &mut Seat<(), Known>,
+    item: u32,
+    place: usize,
+    bit: u8,
+) -> u64
+    requires of { opening_of seat.old.table_id seat.old.me.0.layout ≡ ruled.now }
+    requires seat { seat.old.me ≡ (writer_view ruled.now.layout (acts_of seat.old.me.0) (tally_of seat.old.me.0), []) }
+    requires act { J.act ≡ Hand item }
+    requires may { MayMake ruled.now.layout (acts_of seat.old.me.0) (Hand item) }
+    requires place { place ≡ recency_place ruled.now.layout.width ruled.now.layout.shape item }
+    requires bit { (bit ≡ recency_bit item) × (bit < 64) }
+    ensures table { (seat.new.table_id ≡ seat.old.table_id) × (seat.new.id ≡ seat.old.id) }
+    ensures acts { seat.new.me ≡ (writer_view ruled.now.layout (acts_of seat.old.me.0 ++ with_bit (Hand item) result ∷ []) (tally_of seat.new.me.0), []) }
+    ensures noted { AddsNote seat.old.me seat.new.me }
+{
+    let found = ruled
+        .table
+        .shared
+        .load::<MakesReadingIfClear<J>>(seat, place);
+    if (found >> bit) & 1 == 0 {
+        return 0;
+    }
+    turn_hand_as_writer::<J>(ruled, seat, item, place, bit)
 }
 
 // A step of the writer that sets one bit of a word and makes a mark.
@@ -212,6 +240,23 @@ pub(crate) fn turn_hand_on_words(
     ensures { HasActed writer.old writer.new (Hand item) result }
 {
     turn_hand_as_writer::<Brand>(ruled, &mut writer.seat, item, place, bit)
+}
+
+/// The same, with nothing written where the bit is clear already.
+pub(crate) fn turn_hand_unless_clear_on_words(
+    ruled: &RuledWords,
+    writer: &mut WriterSeat,
+    item: u32,
+    place: usize,
+    bit: u8,
+) -> u64
+    requires of { writer.old.of ≡ ruled.now }
+    requires allowed { IsAllowed ruled.now.layout.shape (layout_state ruled.now.layout writer.old.acts) (Hand item) }
+    requires place { place ≡ recency_place ruled.now.layout.width ruled.now.layout.shape item }
+    requires bit { (bit ≡ recency_bit item) × (bit < 64) }
+    ensures { HasActed writer.old writer.new (Hand item) result }
+{
+    turn_hand_unless_clear_as_writer::<Brand>(ruled, &mut writer.seat, item, place, bit)
 }
 
 /// Sets the bit of an item.

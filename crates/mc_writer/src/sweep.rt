@@ -11,7 +11,7 @@ ghost use Rattle.mc_shared.specs.Records.{WriterRecord};
 
 use crate::pen::Pen;
 use mc_plan::{Books, Exchange, PutError, Replacement, Waiting};
-use mc_shared::turn_hand_from;
+use mc_shared::turn_hand_unless_clear;
 
 impl<'a, const V: usize> Pen<'a, V> {
     ghost use Rattle.mc_writer.specs.Inside.Pens.{IsSamePen};
@@ -65,7 +65,7 @@ impl<'a, const V: usize> Pen<'a, V> {
         ensures path { waiting.new.path ≡ waiting.old.path }
         ensures value { waiting.new.value ≡ waiting.old.value }
     {
-        let bit = turn_hand_from(self.cells, self.seat, start, i);
+        let bit = turn_hand_unless_clear(self.cells, self.seat, start, i);
         waiting.after(bit);
         let _books = books;
     }

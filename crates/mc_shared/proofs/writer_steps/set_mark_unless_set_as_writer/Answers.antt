@@ -7,7 +7,7 @@ use Rattle.mc_theory.specs.declared.act.Act.{Act}
 use Rattle.mc_theory.specs.declared.act.Act.TheVariants.{Mark}
 use Rattle.mc_words.specs.Recency.{recency_bit}
 use Rattle.mc_shared.specs.Records.{Opening}
-use Rattle.mc_shared.specs.Steps.{SeatView, mark_bit}
+use Rattle.mc_shared.specs.Steps.{SeatView, item_bit}
 use Rattle.mc_shared.specs.Inside.Steps.{only, AddsNote}
 use Rattle.mc_shared.specs.Inside.Seats.{MayMake}
 use Rattle.mc_shared.specs.Views.{writer_view, acts_of, tally_of, with_bit}
@@ -30,8 +30,8 @@ load-found-requires g c =
     )
 
 -- the bit that the load found, as the play has it
-found_is : (found bit item : ℕ) (a : Act) → a ≡ Mark item → bit ≡ recency_bit item → bit_at found (mark_bit a) ≡ bit_at found (recency_bit item)
-found_is found bit item a same here = ap (λ (b : Act). bit_at found (mark_bit b)) same
+found_is : (found bit item : ℕ) (a : Act) → a ≡ Mark item → bit ≡ recency_bit item → bit_at found (item_bit a) ≡ bit_at found (recency_bit item)
+found_is found bit item a same here = ap (λ (b : Act). bit_at found (item_bit b)) same
 
 pub set_mark_as_writer-requires-clause-seat : goal.set_mark_as_writer-requires-clause-seat
 set_mark_as_writer-requires-clause-seat g c =

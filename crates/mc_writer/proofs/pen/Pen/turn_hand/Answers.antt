@@ -8,8 +8,8 @@ use Rattle.mc_plan.proofs.Calls.SweptStates.{hand_acts_then}
 use Rattle.mc_shared.proofs.GrownNotes.{grow_trans, grow_acted}
 use Rattle.mc_writer.proofs.pen.Pen.turn_hand.Goals as goal
 
-pub turn_hand_from-bit-requires : goal.turn_hand_from-bit-requires
-turn_hand_from-bit-requires g c =
+pub turn_hand_unless_clear-bit-requires : goal.turn_hand_unless_clear-bit-requires
+turn_hand_unless_clear-bit-requires g c =
     let pen = c.args.self.now in
     let sh = pen.cells.now.layout.shape in
     let r = c.requires.turned in
@@ -24,16 +24,16 @@ after-requires g c =
 
 pub returns-clause-turned : goal.returns-clause-turned
 returns-clause-turned g c call before turned =
-    let read : Swept = record { item = c.args.i; bit = c.turn_hand_from-bit.result } in
-    let acts : c.turn_hand_from-bit.new.writer.acts ≡ before.acts ++ hand_acts (turned.readings ++ read ∷ []) =
-    c.turn_hand_from-bit.ensures.acted.acts
-    ∙ ap (λ (xs : List Made). xs ++ record { act = Hand c.args.i; bit = c.turn_hand_from-bit.result } ∷ []) turned.acts
-    ∙ append_assoc before.acts (hand_acts turned.readings) (record { act = Hand c.args.i; bit = c.turn_hand_from-bit.result } ∷ [])
+    let read : Swept = record { item = c.args.i; bit = c.turn_hand_unless_clear-bit.result } in
+    let acts : c.turn_hand_unless_clear-bit.new.writer.acts ≡ before.acts ++ hand_acts (turned.readings ++ read ∷ []) =
+    c.turn_hand_unless_clear-bit.ensures.acted.acts
+    ∙ ap (λ (xs : List Made). xs ++ record { act = Hand c.args.i; bit = c.turn_hand_unless_clear-bit.result } ∷ []) turned.acts
+    ∙ append_assoc before.acts (hand_acts turned.readings) (record { act = Hand c.args.i; bit = c.turn_hand_unless_clear-bit.result } ∷ [])
     ∙ ap (λ (xs : List Made). before.acts ++ xs) (sym (hand_acts_then turned.readings (read ∷ []))) in
     record {
       readings = turned.readings ++ read ∷ [];
-      of = c.turn_hand_from-bit.ensures.acted.of ∙ turned.of;
+      of = c.turn_hand_unless_clear-bit.ensures.acted.of ∙ turned.of;
       acts = acts;
-      notes = grow_trans turned.notes (grow_acted c.turn_hand_from-bit.ensures.acted);
+      notes = grow_trans turned.notes (grow_acted c.turn_hand_unless_clear-bit.ensures.acted);
       sweeping = c.after.ensures.swept c.args.books.now call _ turned.readings c.args.i turned.sweeping c.requires.next;
     }
