@@ -38,6 +38,7 @@ impl<const V: usize> Model for Reader<V> {
 impl<const V: usize> Reader<V> {
     /// What the cache holds of the key. `Busy` where each of the shape's tries was spoiled by a change of a key of the same
     /// stripe. A hit marks the key's item as recently used. Condition: the reader is one of this cache.
+    #[inline(always)]
     pub fn get(&mut self, cache: &Cache<V>, key: u64) -> Reply<V>
         requires of { self.old.of ≡ cache.now }
         ensures looked { HasLooked V cache.now.layout.shape key self.old self.new result }

@@ -69,11 +69,11 @@ impl Books {
 
     /// Whether so many version changes more could pass the limit.
     fn is_spent(&self, changes: u64) -> bool
-        requires { changes < 2 ^ 8 }
+        requires few { changes < 2 ^ 8 }
+        requires within { self.now.version_steps ≤ (shape_of self.now.checked).limit }
         ensures { IsTrue result ↔ ((shape_of self.now.checked).limit < self.now.version_steps + changes) }
     {
-        let limit = self.checked.shape().limit;
-        changes > limit || self.version_steps > limit - changes
+        self.version_steps + changes > self.checked.shape().limit
     }
 
     /// The sweep for an item, from where the hand stands.

@@ -6,8 +6,8 @@ ghost use Rattle.mc_theory.specs.Lists.{state_of};
 ghost use Rattle.mc_theory.specs.declared.act.Act.TheVariants as act;
 
 use mc_shared::{
-    Cells, WriterSeat, close_deed, count_moment, fetch, open_deed_by, set_mark_unless_set,
-    write_item_from, write_slot,
+    Cells, WriterSeat, close_deed, count_moment, fetch, open_deed_by, set_mark,
+    set_mark_unless_set, write_item_from, write_slot,
 };
 use mc_theory::{Deed, Peek};
 use mc_words::{KeyParts, Place};
@@ -73,6 +73,14 @@ impl<'a, const V: usize> Pen<'a, V> {
         ensures made { HasMade V (act.Close ∷ []) self.old self.new }
     {
         close_deed(self.cells, self.seat);
+    }
+
+    /// Marks an item whose bit is likely clear: it was free, or the hand has just passed it.
+    pub(crate) fn set_mark(&mut self, i: u32)
+        requires due { IsDue V (act.Mark i ∷ []) self.old }
+        ensures made { HasMade V (act.Mark i ∷ []) self.old self.new }
+    {
+        set_mark(self.cells, self.seat, i);
     }
 
     /// Marks an item.

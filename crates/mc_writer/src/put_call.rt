@@ -44,6 +44,7 @@ impl<'a, const V: usize> Pen<'a, V> {
     }
 
     /// Decides the put of a key that is not there, as far as its two buckets tell.
+    #[inline(always)]
     fn decide_near(
         &mut self,
         books: &mut Books,
@@ -119,7 +120,7 @@ impl<'a, const V: usize> Pen<'a, V> {
         ensures made { HasMade V (filling_acts self.old.cells.now.layout.shape key value.now at item place) self.old self.new }
     {
         self.fill(key, parts, value, at, item, place);
-        self.set_mark_unless_set(item);
+        self.set_mark(item);
     }
 
     /// Takes another key out, and makes the fill and the mark of a put in its place.
@@ -322,6 +323,7 @@ impl<'a, const V: usize> Pen<'a, V> {
 
 /// Puts a key: the acts that are made are a whole call, and the answer is a true one of it.
 /// Condition: the seat is that of these words, and the books are those of the table between two calls.
+#[inline(always)]
 pub fn put<const V: usize>(
     cells: &Cells<V>,
     seat: &mut WriterSeat,

@@ -9,8 +9,8 @@ fill-requires g c =
     let sh = c.args.self.now.cells.now.layout.shape in
     (omega arith, (omega (arith, c.requires.width), (c.requires.width, (c.requires.item, (first_due g.row.V (fill_acts sh c.args.key c.args.value.now c.args.at c.args.item c.args.place) (act.Mark c.args.item ∷ []) _ c.requires.due, c.requires.parts)))))
 
-pub set_mark_unless_set-requires : goal.set_mark_unless_set-requires
-set_mark_unless_set-requires g c = (omega arith, rest_due (act.Mark c.args.item ∷ []) c.fill.ensures.made c.requires.due)
+pub set_mark-requires : goal.set_mark-requires
+set_mark-requires g c = (omega arith, rest_due (act.Mark c.args.item ∷ []) c.fill.ensures.made c.requires.due)
 
 pub returns : goal.returns
-returns g c = record { made = made_then c.fill.ensures.made c.set_mark_unless_set.ensures.made }
+returns g c = record { made = made_then c.fill.ensures.made c.set_mark.ensures.made }
