@@ -16,7 +16,9 @@ use crate::decision::{
 use crate::moves::path_moves;
 use crate::value::have_words;
 use crate::waiting::Waiting;
-use mc_search::{Finder, FreeItems, Path, Sweep, find, find_by, key_at, moment, stamp_at};
+use mc_search::{
+    Finder, FreeItems, Path, Sweep, find, find_by, key_at, moment, place_of, stamp_at,
+};
 use mc_theory::Peek;
 use mc_words::{Checked, KeyParts, NoMemory, Place};
 use std::alloc::Global;
@@ -297,7 +299,7 @@ impl Books {
         let at = moment(&self.checked, peek) + 2;
         let evicted = key_at::<V, P>(&self.checked, peek, item);
         let parts = self.checked.parts(evicted);
-        let Some((victim, _)) = find_by::<V, P>(&self.checked, peek, evicted, parts) else {
+        let Some(victim) = place_of::<V, P>(&self.checked, peek, evicted, parts, item) else {
             unreachable!();
         };
         self.version_steps += 4;

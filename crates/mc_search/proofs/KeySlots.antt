@@ -1,5 +1,5 @@
 -- Where a key does not stand, slot by slot, and that a key stands in its buckets alone.
-use Rattle.std.proofs.Common.{ℕ, ◌≡◌, ◌≢◌, ◌+◌, ◌*◌, ◌/◌, ◌%◌, ◌^◌, ◌<◌, inl, inr, List, [], ◌∷◌, ◌++◌, Option, Some, None, sym, ◌∙◌, ap, subst, arith}
+use Rattle.std.proofs.Common.{ℕ, ◌≡◌, ◌≢◌, ◌+◌, ◌*◌, ◌/◌, ◌%◌, ◌^◌, ◌<◌, inl, inr, List, [], ◌∷◌, ◌++◌, Option, Some, None, IfNone, sym, ◌∙◌, ap, subst, arith}
 use Rattle.mc_words.specs.declared.shape.Shape.{Shape}
 use Rattle.mc_words.specs.Keys.{tag_of, slot_word, first_of, second_of, IsBucketOf, MatchesTag}
 use Rattle.mc_words.specs.Places.{payload, slot, item}
@@ -13,7 +13,7 @@ use Rattle.mc_words.proofs.Frames.{slot_word-parts}
 use Rattle.mc_words.proofs.Keys.{tag_of-lt}
 use Rattle.mc_words.proofs.Payload.{payload_from}
 use Rattle.mc_search.specs.Readable.{IsPlaced}
-use Rattle.mc_search.specs.Inside.Readable.{IsNotAt, IsNotAmong}
+use Rattle.mc_search.specs.Inside.Readable.{HasNot, IsNotAt, IsNotAmong}
 
 -- a slot whose word names no item under the key's tag
 pub not_at-none : (V : ℕ) (sh : Shape) (w v : List ℕ) (k q word : ℕ) → v ≡ w → word ≡ slot sh v q → MatchesTag sh (tag_of sh k) word None → IsNotAt V sh w k q
@@ -43,6 +43,11 @@ stands_at V sh w v u k q word g stored fits below same read names again key is =
   key = sym (key ∙ ap (λ (y : List ℕ). item V sh y g 0) (again ∙ same)) ∙ is;
 }
 
+-- what follows where nothing was found
+pub where_none : (A : Type 0) (P Q : Type 0) (o : Option A) → (P → Q) → IfNone o P → IfNone o Q
+where_none A P Q None f h = f h
+where_none A P Q (Some a) f h = tt
+
 -- a key that stands under its tag in its buckets alone, and not there, stands nowhere
 pub absent_from-buckets : (V : ℕ) (sh : Shape) (w : List ℕ) (k : ℕ) → IsPlaced V sh w k → IsNotAmong V sh w k (first_of sh k) 4 → IsNotAmong V sh w k (second_of sh k) 4 → IsAbsent V sh w k
 absent_from-buckets V sh w k placed one two q i s =
@@ -51,6 +56,16 @@ absent_from-buckets V sh w k placed one two q i s =
     λ b e none.
     let is : q ≡ 4 * b + q % 4 = omega arith in
     none (q % 4) (omega arith) i s.names.in_items (ap (slot sh w) (sym is) ∙ at.0) s.key in
+    elim at.1 [ inl e ↦ there (first_of sh k) e one | inr e ↦ there (second_of sh k) e two ]
+
+-- where no slot of its buckets names the item under its tag, it doesn't stand at the item
+pub not_at_item : (V : ℕ) (sh : Shape) (w : List ℕ) (k i : ℕ) → IsPlaced V sh w k → HasNot sh w (first_of sh k) (slot_word (tag_of sh k) i) 4 → HasNot sh w (second_of sh k) (slot_word (tag_of sh k) i) 4 → (q : ℕ) → Stands V sh w k q i → ⊥
+not_at_item V sh w k i placed one two q s =
+    let at = placed q i s in
+    let there : (b : ℕ) → q / 4 ≡ b → HasNot sh w b (slot_word (tag_of sh k) i) 4 → ⊥ =
+    λ b e none.
+    let is : q ≡ 4 * b + q % 4 = omega arith in
+    none (q % 4) (omega arith) (ap (slot sh w) (sym is) ∙ at.0) in
     elim at.1 [ inl e ↦ there (first_of sh k) e one | inr e ↦ there (second_of sh k) e two ]
 
 -- where the words agree with what a map says of the key, the key is found

@@ -1,10 +1,10 @@
 //! The slots of a bucket: which is empty, and where the key of one may go.
-ghost use Rattle.std.specs.Prelude.{ℕ, ◌≡◌, ◌≢◌, ◌+◌, ◌*◌, ◌<◌, IfSome, MatchOption};
+ghost use Rattle.std.specs.Prelude.{ℕ, ◌≡◌, ◌≢◌, ◌+◌, ◌*◌, ◌<◌, IfNone, IfSome, MatchOption};
 ghost use Rattle.mc_words.specs.Checks.{shape_of};
 ghost use Rattle.mc_words.specs.Keys.{alternate, tag_in, NamesSome};
 ghost use Rattle.mc_words.specs.Places.{slot};
 ghost use Rattle.mc_search.specs.Readable.{HasSlots};
-ghost use Rattle.mc_search.specs.Inside.Readable.{IsFull, IsHoleIn};
+ghost use Rattle.mc_search.specs.Inside.Readable.{HasNot, IsFull, IsHoleIn, IsSlotWith};
 
 use crate::word::slot_at;
 use mc_theory::Peek;
@@ -20,6 +20,30 @@ pub(crate) fn other_bucket(checked: &Checked, bucket: u32, word: u64) -> u32
     checked.alt(bucket, checked.tag_in(word))
 }
 
+/// The least slot of the bucket that has this word.
+#[inline(always)]
+pub(crate) fn slot_with<P: Peek>(
+    checked: &Checked,
+    peek: &mut P,
+    bucket: u32,
+    word: u64,
+) -> Option<Place>
+    requires words { HasSlots (shape_of checked.now) (P.words peek.old) }
+    requires in_table { bucket < (shape_of checked.now).buckets }
+    ensures found { IfSome result (IsSlotWith (shape_of checked.now) (P.words peek.old) bucket word) }
+    ensures none { IfNone result (HasNot (shape_of checked.now) (P.words peek.old) bucket word 4) }
+    ensures least { IfSome result (λ p. HasNot (shape_of checked.now) (P.words peek.old) bucket word p.slot) }
+    ensures kept { peek.new ≡ peek.old }
+{
+    for slot in 0..4 {
+        let place = Place { bucket, slot };
+        if slot_at(checked, peek, place) == word {
+            return Some(place);
+        }
+    }
+    None
+}
+
 /// The least empty slot of the bucket.
 pub(crate) fn hole_in<P: Peek>(checked: &Checked, peek: &mut P, bucket: u32) -> Option<Place>
     requires words { HasSlots (shape_of checked.now) (P.words peek.old) }
@@ -28,11 +52,5 @@ pub(crate) fn hole_in<P: Peek>(checked: &Checked, peek: &mut P, bucket: u32) -> 
     ensures least { IfSome result (λ h. (j : ℕ) → j < h.slot → slot (shape_of checked.now) (P.words peek.old) (4 * bucket + j) ≢ 0) }
     ensures kept { peek.new ≡ peek.old }
 {
-    for slot in 0..4 {
-        let place = Place { bucket, slot };
-        if slot_at(checked, peek, place) == 0 {
-            return Some(place);
-        }
-    }
-    None
+    slot_with(checked, peek, bucket, 0)
 }

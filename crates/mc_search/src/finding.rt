@@ -1,13 +1,14 @@
 //! Where a key stands.
-ghost use Rattle.std.specs.Prelude.{◌≡◌, ◌<◌, ◌≤◌, length, IfSome, IfNone};
+ghost use Rattle.std.specs.Prelude.{ℕ, ◌≡◌, ◌<◌, ◌≤◌, length, IfSome, IfNone};
 ghost use Rattle.mc_words.specs.Checks.{shape_of};
 ghost use Rattle.mc_words.specs.KeyParts.{HasParts};
 ghost use Rattle.mc_words.specs.Keys.{tag_of, slot_word};
-ghost use Rattle.mc_words.specs.Places.{IsPlace, IsWidth, slot_number, word_count};
+ghost use Rattle.mc_words.specs.Places.{IsPlace, IsWidth, item, slot_number, word_count};
 ghost use Rattle.mc_words.specs.Standing.{Stands, IsAbsent};
 ghost use Rattle.mc_search.specs.Readable.{IsPlaced};
 ghost use Rattle.mc_search.specs.Inside.Readable.{IsNotAmong};
 
+use crate::bucket::slot_with;
 use crate::word::{key_at, slot_at};
 use mc_theory::Peek;
 use mc_words::{Checked, KeyParts, Place};
@@ -88,4 +89,33 @@ pub fn find_by<const V: usize, P: Peek>(
         return Some(found);
     }
     find_in::<V, P>(&table, peek, key, base, parts.second)
+}
+
+/// The slot in which the key stands, for a caller that knows its item: it looks for the word that names the item under the key's
+/// tag, and reads no item. Condition: as for `find`, the parts are the key's, and the item's key is this one.
+#[inline(always)]
+pub fn place_of<const V: usize, P: Peek>(
+    checked: &Checked,
+    peek: &mut P,
+    key: u64,
+    parts: KeyParts,
+    i: u32,
+) -> Option<Place>
+    requires width { IsWidth V }
+    requires words { word_count V (shape_of checked.now) ≤ length (P.words peek.old) }
+    requires placed { IsPlaced V (shape_of checked.now) (P.words peek.old) key }
+    requires parts { HasParts (shape_of checked.now) key parts }
+    requires in_items { i < (shape_of checked.now).items }
+    requires item { item V (shape_of checked.now) (P.words peek.old) i 0 ≡ key }
+    ensures found { IfSome result (λ p. Stands V (shape_of checked.now) (P.words peek.old) key (slot_number p) i) }
+    ensures place { IfSome result (λ p. IsPlace (shape_of checked.now) p) }
+    ensures none { IfNone result ((q : ℕ) → Stands V (shape_of checked.now) (P.words peek.old) key q i → ⊥) }
+    ensures kept { peek.new ≡ peek.old }
+{
+    let table = *checked;
+    let word = table.slot_word(parts.tag, i);
+    if let Some(found) = slot_with(&table, peek, parts.first, word) {
+        return Some(found);
+    }
+    slot_with(&table, peek, parts.second, word)
 }

@@ -25,7 +25,7 @@ mod sweep;
 mod word;
 
 pub use finder::Finder;
-pub use finding::{find, find_by};
+pub use finding::{find, find_by, place_of};
 pub use free::FreeItems;
 pub use listed::entries;
 pub use mc_theory::Peek;

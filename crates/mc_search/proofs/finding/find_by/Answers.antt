@@ -1,13 +1,8 @@
-use Rattle.std.proofs.Common.{ℕ, List, Option, Some, None, IfNone, ap, subst}
+use Rattle.std.proofs.Common.{ℕ, List, ap, subst}
 use Rattle.mc_words.specs.Checks.{shape_of}
 use Rattle.mc_search.specs.Inside.Readable.{IsNotAmong}
-use Rattle.mc_search.proofs.KeySlots.{absent_from-buckets}
+use Rattle.mc_search.proofs.KeySlots.{absent_from-buckets, where_none}
 use Rattle.mc_search.proofs.finding.find_by.Goals as goal
-
--- what follows where nothing was found
-where_none : (A : Type 0) (P Q : Type 0) (o : Option A) → (P → Q) → IfNone o P → IfNone o Q
-where_none A P Q None f h = f h
-where_none A P Q (Some a) f h = tt
 
 pub returns-clause-none : goal.returns-clause-none
 returns-clause-none g c =

@@ -8,7 +8,7 @@ use Rattle.mc_search.specs.Paths.{IsCut}
 use Rattle.mc_plan.specs.Inside.Clerks.{IsReplacing}
 use Rattle.mc_plan.proofs.Calls.AfterPlan.{placed_in}
 use Rattle.mc_plan.proofs.Calls.SweptStates.{swept_still}
-use Rattle.mc_plan.proofs.Calls.AfterSweep.{one_item, victim_stands, replaced_planned}
+use Rattle.mc_plan.proofs.Calls.AfterSweep.{victim_stands, replaced_planned}
 use Rattle.mc_plan.proofs.books.Books.exchange.Goals as goal
 use Rattle.mc_plan.proofs.books.Books.exchange.Goals.{After-key_at-evicted}
 use Rattle.mc_plan.proofs.books.Books.exchange.Given.{Over}
@@ -28,8 +28,13 @@ victim_at g c call s rs on same =
     let there = (victim_stands V c.args.self.now c.args.waiting.now call s rs c.args.item on).1 in
     (there.0, subst (λ (k : ℕ). Stands V sh s.words k there.0 c.args.item) (sym is) there.1)
 
-pub find_by-requires-clause-placed : goal.find_by-requires-clause-placed
-find_by-requires-clause-placed g c =
+pub place_of-requires-clause-in_items : goal.place_of-requires-clause-in_items
+place_of-requires-clause-in_items g c =
+    let r = c.requires.books in
+    (victim_stands g.row.V c.args.self.now c.args.waiting.now r.0 r.1 r.2 c.args.item r.3).0
+
+pub place_of-requires-clause-placed : goal.place_of-requires-clause-placed
+place_of-requires-clause-placed g c =
     let r = c.requires.books in
     placed_in g.row.V (record c.args.self.now { hand = r.3.before }) r.1 _ r.3.sweeping.waits.known (ap g.P.Peek.words (c.key_at-evicted.ensures.kept ∙ c.moment-at.ensures.kept) ∙ r.4) c.key_at-evicted.result
 
@@ -39,7 +44,7 @@ unreachable-requires g c =
     let sh = shape_of c.args.self.now.checked in
     let there = victim_at g (goal.at.unreachable-requires g c).After-key_at-evicted r.0 r.1 r.2 r.3 r.4 in
     let now = ap g.P.Peek.words (c.key_at-evicted.ensures.kept ∙ c.moment-at.ensures.kept) ∙ r.4 in
-    c.in_default.ensures.none there.0 c.args.item (subst (λ (w : List ℕ). Stands g.row.V sh w c.key_at-evicted.result there.0 c.args.item) (sym now) there.1)
+    c.in_default.ensures.none there.0 (subst (λ (w : List ℕ). Stands g.row.V sh w c.key_at-evicted.result there.0 c.args.item) (sym now) there.1)
 
 pub returns-clause-exchanged : goal.returns-clause-exchanged
 returns-clause-exchanged g c call s rs on same =
@@ -54,10 +59,7 @@ returns-clause-exchanged g c call s rs on same =
     let mid = state_after_sweep V sh s rs in
     let back : s.words ≡ mid.words = sym (swept_still V sh s rs).words in
     let read = ap g.P.Peek.words (c.key_at-evicted.ensures.kept ∙ c.moment-at.ensures.kept) ∙ same in
-    let there = victim_at g (goal.at.returns-clause-exchanged g c).After-key_at-evicted call s rs on same in
-    let found = subst (λ (w : List ℕ). Stands V sh w e (slot_number p) c.in-Some.field-0-1) read c.in-Some.ensures.found in
-    let one = one_item V sh s e there.0 i (slot_number p) c.in-Some.field-0-1 on.sweeping.waits.known.quiet there.1 found in
-    let stands = subst (λ (w : List ℕ). Stands V sh w e (slot_number p) i) back (subst (λ (j : ℕ). Stands V sh s.words e (slot_number p) j) one found) in
+    let stands = subst (λ (w : List ℕ). Stands V sh w e (slot_number p) i) (read ∙ back) c.in-Some.ensures.found in
     let at : c.moment-at.result + 2 ≡ moment mid.words + 2 = ap (λ (n : ℕ). n + 2) c.moment-at.ensures.value ∙ ap (λ (w : List ℕ). moment w + 2) (same ∙ back) in
     let none : length ps ≡ 0 = ap length c.requires.near in
     let cut : IsCut p ps waiting.path.hole [] waiting.path.hole = inr ((λ h. absurd (omega (arith, h.1, none))), sym c.requires.near, refl) in
