@@ -89,4 +89,23 @@ impl<const WORDS: usize> Reader<WORDS> {
         let told = self.0.get(key, &mut value);
         Reply::of(told, value)
     }
+    /// What the cache holds of each of the keys: a [`get`](Reader::get) for each, in their order. Each reply has a moment of its own.
+    ///
+    /// ```
+    /// use cefrodil::{Cache, Reply, Shape};
+    ///
+    /// let (mut writer, mut readers) = Cache::<1>::open(&Shape::for_items(100)?, 1)?;
+    /// writer.put(7, &[70])?;
+    /// let mut replies = [Reply::Busy; 2];
+    /// readers[0].get_many(&[6, 7], &mut replies);
+    /// assert_eq!(replies, [Reply::Absent { at: 1 }, Reply::Found { value: [70], at: 1, since: 1 }]);
+    /// # Ok::<(), Box<dyn std::error::Error>>(())
+    /// ```
+    ///
+    /// # Panics
+    ///
+    /// Where there are more replies than keys, or fewer.
+    pub fn get_many(&mut self, keys: &[u64], replies: &mut [Reply<WORDS>]) {
+        reply::many(&mut self.0, keys, replies);
+    }
 }

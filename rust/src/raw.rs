@@ -29,6 +29,15 @@ pub struct RawReply {
     pub put: u32,
 }
 
+#[repr(C)]
+#[derive(Clone, Copy, Default)]
+pub struct RawAnswer {
+    pub at: u64,
+    pub since: u64,
+    pub status: u32,
+    pub unused: u32,
+}
+
 pub const OK: u32 = 0;
 pub const ABSENT: u32 = 1;
 pub const BUSY: u32 = 2;
@@ -60,6 +69,15 @@ unsafe extern "C" {
     ) -> u32;
     pub fn cefrodil_open_desk(shape: *const RawShape, words: usize, passes: *mut RawHandle, pass_count: usize) -> u32;
     pub fn cefrodil_get(reader: *mut RawHandle, key: u64, value: *mut u64, words: usize, reply: *mut RawReply) -> u32;
+    pub fn cefrodil_get_many(
+        reader: *mut RawHandle,
+        keys: *const u64,
+        key_count: usize,
+        values: *mut u64,
+        value_words: usize,
+        answers: *mut RawAnswer,
+        answer_count: usize,
+    ) -> u32;
     pub fn cefrodil_get_or_desk(pass: *mut RawHandle, key: u64, value: *mut u64, words: usize, reply: *mut RawReply) -> u32;
     pub fn cefrodil_put(writer: *mut RawHandle, key: u64, value: *const u64, words: usize, reply: *mut RawReply) -> u32;
     pub fn cefrodil_put_if(

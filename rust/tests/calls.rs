@@ -24,6 +24,41 @@ fn each_call_answers() -> Result<(), Box<dyn Error>> {
 }
 
 #[test]
+fn many_keys_are_looked_up() -> Result<(), Box<dyn Error>> {
+    let (mut writer, mut readers) = Cache::<3>::open(&Shape::for_items(100)?, 1)?;
+    for key in 0..50 {
+        writer.put(2 * key, &[key; 3])?;
+    }
+    // More than one call of the archive takes.
+    let keys: Vec<u64> = (0..77).collect();
+    let mut replies = [Reply::Busy; 77];
+    readers[0].get_many(&keys, &mut replies);
+    for key in 0..77 {
+        let expected = if key % 2 == 0 {
+            Reply::Found { value: [key / 2; 3], at: 50, since: key / 2 + 1 }
+        } else {
+            Reply::Absent { at: 50 }
+        };
+        assert_eq!(replies[key as usize], expected);
+    }
+    readers[0].get_many(&[], &mut []);
+    let desk = Desk::<3>::open(&Shape::for_items(100)?, 1)?;
+    let mut pass = desk.pass().ok_or("no pass")?;
+    pass.try_put(8, &[1, 2, 3])?;
+    pass.get_many(&[9, 8], &mut replies[..2]);
+    assert_eq!(replies[..2], [Reply::Absent { at: 1 }, Reply::Found { value: [1, 2, 3], at: 1, since: 1 }]);
+    Ok(())
+}
+
+#[test]
+#[should_panic(expected = "as many replies as keys")]
+fn replies_are_missing() {
+    let shape = Shape::for_items(100).expect("a shape");
+    let (_writer, mut readers) = Cache::<1>::open(&shape, 1).expect("a cache");
+    readers[0].get_many(&[1, 2], &mut [Reply::Busy]);
+}
+
+#[test]
 fn openings_are_refused() -> Result<(), OpenError> {
     let shape = Shape::for_items(100)?;
     assert_eq!(Shape::for_items(0), Err(OpenError::Items));

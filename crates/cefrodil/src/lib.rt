@@ -5,6 +5,7 @@
 mod closing;
 pub mod handle;
 mod lookups;
+mod many;
 mod opening;
 mod shape;
 pub mod slot;

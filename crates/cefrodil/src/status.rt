@@ -65,3 +65,6 @@ pub const LIMIT: u32 = 20;
 
 /// Readers must be from 1 to 1024.
 pub const READERS: u32 = 21;
+
+/// There must be as many answers as keys.
+pub const COUNT: u32 = 22;
