@@ -108,7 +108,8 @@ enum {
     CEFRODIL_BAD_TRIES = 19,
     CEFRODIL_BAD_LIMIT = 20,
     CEFRODIL_BAD_READERS = 21, /* there must be from 1 to 1024 readers */
-    CEFRODIL_BAD_COUNT = 22    /* counts that belong together don't fit */
+    CEFRODIL_BAD_COUNT = 22,   /* counts that belong together don't fit */
+    CEFRODIL_NO_ITEM = 23      /* every item is in use */
 };
 
 /* A shape for so many items, from 1 to 3,774,873.
@@ -120,6 +121,16 @@ uint32_t cefrodil_shape_for_items(uint32_t items, cefrodil_shape *shape);
  * BAD_WORDS, a member of the shape, BAD_READERS, NO_MEMORY: no handle is open, and nothing is kept. */
 uint32_t cefrodil_open(const cefrodil_shape *shape, size_t words, cefrodil_handle *writer, cefrodil_handle *readers,
                        size_t reader_count);
+
+/* As cefrodil_open, with `status_count` entries, which are put one after the other: none takes another's place, and a key that is
+ * named twice is put again. An entry is its key and then the words of its value, so `entries` has `status_count` times
+ * (1 + `words`) words.
+ * OK: the handles are open, and `statuses` tells what became of each entry: OK, where it was put, or why it was left: NO_PATH,
+ * NO_ITEM, SPENT. The puts are the first changes of the table. Else as of cefrodil_open, with BAD_COUNT, `entry_words` doesn't fit,
+ * next after BAD_WORDS; and `statuses` is as it was. */
+uint32_t cefrodil_open_with(const cefrodil_shape *shape, size_t words, const uint64_t *entries, size_t entry_words,
+                            uint32_t *statuses, size_t status_count, cefrodil_handle *writer, cefrodil_handle *readers,
+                            size_t reader_count);
 
 /* A cache whose writer lies on a desk, for threads that write by turns: each of `pass_count` handles is a pass, which looks up
  * as a reader does and tries for turns. Statuses as of cefrodil_open. */
@@ -196,6 +207,7 @@ static inline const char *cefrodil_text(uint32_t status) {
     case CEFRODIL_BAD_LIMIT: return "limit must be from 0 to 4611686018427387904";
     case CEFRODIL_BAD_READERS: return "readers must be from 1 to 1024";
     case CEFRODIL_BAD_COUNT: return "counts that belong together do not fit";
+    case CEFRODIL_NO_ITEM: return "no item";
     default: return "no status";
     }
 }

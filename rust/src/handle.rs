@@ -42,6 +42,37 @@ impl Handle {
         }
     }
 
+    /// The same with entries, which stand one after the other. What became of each is told.
+    pub fn open_with(
+        shape: &RawShape,
+        words: usize,
+        entries: &[u64],
+        statuses: &mut [u32],
+        readers: usize,
+    ) -> Result<(Handle, Vec<Handle>), u32> {
+        let mut writer = Handle::empty();
+        let mut all = Handle::many(readers);
+        // SAFETY: as in `open`; and the two arrays have the lengths that are said.
+        let status = unsafe {
+            raw::cefrodil_open_with(
+                shape,
+                words,
+                entries.as_ptr(),
+                entries.len(),
+                statuses.as_mut_ptr(),
+                statuses.len(),
+                &mut writer.0,
+                all.as_mut_ptr().cast(),
+                readers,
+            )
+        };
+        if status == raw::OK {
+            Ok((writer, all))
+        } else {
+            Err(status)
+        }
+    }
+
     /// The passes of a cache whose writer lies on a desk, or a status.
     pub fn open_desk(shape: &RawShape, words: usize, passes: usize) -> Result<Vec<Handle>, u32> {
         let mut all = Handle::many(passes);

@@ -54,6 +54,7 @@ pub const BAD_DEPTH: u32 = 18;
 pub const BAD_TRIES: u32 = 19;
 pub const BAD_LIMIT: u32 = 20;
 pub const BAD_READERS: u32 = 21;
+pub const NO_ITEM: u32 = 23;
 
 pub const PUT_EVICTED: u32 = 2;
 pub const PUT_RENEWED: u32 = 3;
@@ -63,6 +64,17 @@ unsafe extern "C" {
     pub fn cefrodil_open(
         shape: *const RawShape,
         words: usize,
+        writer: *mut RawHandle,
+        readers: *mut RawHandle,
+        reader_count: usize,
+    ) -> u32;
+    pub fn cefrodil_open_with(
+        shape: *const RawShape,
+        words: usize,
+        entries: *const u64,
+        entry_words: usize,
+        statuses: *mut u32,
+        status_count: usize,
         writer: *mut RawHandle,
         readers: *mut RawHandle,
         reader_count: usize,

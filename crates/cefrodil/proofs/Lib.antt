@@ -1,6 +1,7 @@
 pub mod Apart
 pub mod Behind
 pub mod Filling
+pub mod Loaded
 pub mod Gives
 pub mod ManyLookups
 pub mod Opened

@@ -4,6 +4,7 @@
 
 mod closing;
 pub mod handle;
+mod loading;
 mod lookups;
 mod many;
 mod opening;
