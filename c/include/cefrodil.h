@@ -9,13 +9,13 @@
  *   2. A handle is given to one call at a time. It goes from one thread to another by a lock, a thread's start or join,
  *      or a sequentially consistent atomic. Calls with different handles of one cache need nothing of each other.
  *   3. The pointers are to memory of the caller's for the whole call, aligned for their types, and none of it overlaps.
- *      They are not null, also where a count is 0. `value` has `words` words; an array has as many members as it is said.
+ *      They are not null, also where a count is 0. `value` has `words` words; an array has as many members as its count says.
  *   4. No call comes from a signal handler, nor from the forked child of a process with threads. malloc, realloc and
  *      free are one allocator's, with blocks aligned to 16.
  *   5. The program is linked with the archive that belongs to this header, and the names below mean its functions alone.
  *
- * What a caller need not promise: that a handle is open, that it is of the right kind, or that a value has the right
- * width. Each of these is a status, and then nothing was done.
+ * What a caller need not promise: that a handle is open, that it is of the right kind, that a value has the right width, or
+ * that counts fit together. Each of these is a status, and then nothing was done.
  */
 #ifndef CEFRODIL_H
 #define CEFRODIL_H
@@ -63,6 +63,14 @@ typedef struct cefrodil_reply {
     uint32_t put;     /* what a put did: one of the numbers below */
 } cefrodil_reply;
 
+/* One answer of many. What its status has no use for is 0. */
+typedef struct cefrodil_answer {
+    uint64_t at;     /* as of cefrodil_reply */
+    uint64_t since;
+    uint32_t status; /* OK, ABSENT or BUSY, as of cefrodil_get */
+    uint32_t unused; /* 0 */
+} cefrodil_answer;
+
 /* What a put did. */
 enum {
     CEFRODIL_PUT_NOTHING = 0, /* no put was made */
@@ -74,6 +82,7 @@ enum {
 CEFRODIL_SAME_SIZE(sizeof(cefrodil_handle) == 16, "as the library lays it out");
 CEFRODIL_SAME_SIZE(sizeof(cefrodil_shape) == 32, "as the library lays it out");
 CEFRODIL_SAME_SIZE(sizeof(cefrodil_reply) == 32, "as the library lays it out");
+CEFRODIL_SAME_SIZE(sizeof(cefrodil_answer) == 24, "as the library lays it out");
 
 /* The status that a call returns. */
 enum {
@@ -98,7 +107,9 @@ enum {
     CEFRODIL_BAD_DEPTH = 18,
     CEFRODIL_BAD_TRIES = 19,
     CEFRODIL_BAD_LIMIT = 20,
-    CEFRODIL_BAD_READERS = 21 /* there must be from 1 to 1024 readers */
+    CEFRODIL_BAD_READERS = 21, /* there must be from 1 to 1024 readers */
+    CEFRODIL_BAD_COUNT = 22,   /* counts that belong together don't fit */
+    CEFRODIL_NO_ITEM = 23      /* every item is in use */
 };
 
 /* A shape for so many items, from 1 to 3,774,873.
@@ -111,6 +122,16 @@ uint32_t cefrodil_shape_for_items(uint32_t items, cefrodil_shape *shape);
 uint32_t cefrodil_open(const cefrodil_shape *shape, size_t words, cefrodil_handle *writer, cefrodil_handle *readers,
                        size_t reader_count);
 
+/* As cefrodil_open, with `status_count` entries, which are put one after the other: none takes another's place, and a key that is
+ * named twice is put again. An entry is its key and then the words of its value, so `entries` has `status_count` times
+ * (1 + `words`) words.
+ * OK: the handles are open, and `statuses` tells what became of each entry: OK, where it was put, or why it was left: NO_PATH,
+ * NO_ITEM, SPENT. The puts are the first changes of the table. Else as of cefrodil_open, with BAD_COUNT, `entry_words` doesn't fit,
+ * next after BAD_WORDS; and `statuses` is as it was. */
+uint32_t cefrodil_open_with(const cefrodil_shape *shape, size_t words, const uint64_t *entries, size_t entry_words,
+                            uint32_t *statuses, size_t status_count, cefrodil_handle *writer, cefrodil_handle *readers,
+                            size_t reader_count);
+
 /* A cache whose writer lies on a desk, for threads that write by turns: each of `pass_count` handles is a pass, which looks up
  * as a reader does and tries for turns. Statuses as of cefrodil_open. */
 uint32_t cefrodil_open_desk(const cefrodil_shape *shape, size_t words, cefrodil_handle *passes, size_t pass_count);
@@ -120,7 +141,14 @@ uint32_t cefrodil_open_desk(const cefrodil_shape *shape, size_t words, cefrodil_
  * CLOSED, KIND, WIDTH. `value` is written with OK alone. */
 uint32_t cefrodil_get(cefrodil_handle *reader, uint64_t key, uint64_t *value, size_t words, cefrodil_reply *reply);
 
-/* The same by a pass. Where the lookup is busy, it tries once for the turn, and with it tells what is there. */
+/* What the cache holds of each of `key_count` keys: a lookup for each, as by cefrodil_get, one after the other in the order of
+ * the keys. The values stand one after the other, so `value_words` is `key_count` times the width of the cache's values.
+ * OK: the i-th answer tells of the i-th key, and the i-th value was written where its status is OK, and else is as it was.
+ * CLOSED, KIND; BAD_COUNT: `answer_count` is not `key_count`; WIDTH: `value_words` doesn't fit. With these nothing is written. */
+uint32_t cefrodil_get_many(cefrodil_handle *reader, const uint64_t *keys, size_t key_count, uint64_t *values,
+                           size_t value_words, cefrodil_answer *answers, size_t answer_count);
+
+/* The same as cefrodil_get by a pass. Where the lookup is busy, it tries once for the turn, and with it tells what is there. */
 uint32_t cefrodil_get_or_desk(cefrodil_handle *pass, uint64_t key, uint64_t *value, size_t words,
                               cefrodil_reply *reply);
 
@@ -178,6 +206,8 @@ static inline const char *cefrodil_text(uint32_t status) {
     case CEFRODIL_BAD_TRIES: return "tries must be from 1 to 64";
     case CEFRODIL_BAD_LIMIT: return "limit must be from 0 to 4611686018427387904";
     case CEFRODIL_BAD_READERS: return "readers must be from 1 to 1024";
+    case CEFRODIL_BAD_COUNT: return "counts that belong together do not fit";
+    case CEFRODIL_NO_ITEM: return "no item";
     default: return "no status";
     }
 }

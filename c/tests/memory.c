@@ -39,9 +39,22 @@ void __wrap_free(void *block) {
 
 static cefrodil_handle writer, handles[4];
 
-static uint32_t open_one(const cefrodil_shape *shape, size_t words, int desk) {
-    return desk ? cefrodil_open_desk(shape, words, handles, 4) : cefrodil_open(shape, words, &writer, handles, 4);
+enum how { APART, BY_TURNS, WITH_ENTRIES };
+
+/* Three entries of 1 to 8 words, and what is told of them. */
+static const uint64_t entries[27];
+static uint32_t statuses[3];
+
+static uint32_t open_one(const cefrodil_shape *shape, size_t words, enum how how) {
+    statuses[0] = statuses[1] = statuses[2] = 99;
+    switch (how) {
+    case APART: return cefrodil_open(shape, words, &writer, handles, 4);
+    case BY_TURNS: return cefrodil_open_desk(shape, words, handles, 4);
+    default: return cefrodil_open_with(shape, words, entries, 3 * (1 + words), statuses, 3, &writer, handles, 4);
+    }
 }
+
+static int is_told(uint32_t status) { return statuses[0] == status && statuses[1] == status && statuses[2] == status; }
 
 static int open_handles(void) {
     int open = writer.live_;
@@ -52,19 +65,19 @@ static int open_handles(void) {
 }
 
 /* How many allocations an opening takes; -1 where a refusal leaves something behind. */
-static long allocations(const cefrodil_shape *shape, size_t words, int desk) {
+static long allocations(const cefrodil_shape *shape, size_t words, enum how how) {
     for (long allowed = 0; allowed < 100; allowed++) {
         left = allowed, kept = 0;
-        uint32_t status = open_one(shape, words, desk);
+        uint32_t status = open_one(shape, words, how);
         left = -1;
         if (status == CEFRODIL_OK) {
             for (int i = 0; i < 4; i++) {
                 cefrodil_close(&handles[i]);
             }
             cefrodil_close(&writer);
-            return kept == 0 ? allowed : -1;
+            return kept == 0 && is_told(how == WITH_ENTRIES ? CEFRODIL_OK : 99) ? allowed : -1;
         }
-        if (status != CEFRODIL_NO_MEMORY || kept != 0 || open_handles() != 0) {
+        if (status != CEFRODIL_NO_MEMORY || kept != 0 || open_handles() != 0 || !is_told(99)) {
             return -1;
         }
     }
@@ -77,9 +90,10 @@ int main(void) {
         return 1;
     }
     for (size_t words = 1; words <= 8; words++) {
-        long apart = allocations(&shape, words, 0), by_turns = allocations(&shape, words, 1);
-        if (apart < 5 || by_turns < 5) {
-            printf("memory: %zu words: %ld, %ld\n", words, apart, by_turns);
+        long apart = allocations(&shape, words, APART), by_turns = allocations(&shape, words, BY_TURNS);
+        long with_entries = allocations(&shape, words, WITH_ENTRIES);
+        if (apart < 5 || by_turns < 5 || with_entries != apart + 2) {
+            printf("memory: %zu words: %ld, %ld, %ld\n", words, apart, by_turns, with_entries);
             return 1;
         }
     }

@@ -6,6 +6,7 @@
 static cefrodil_handle writer, readers[2], passes[2], none;
 static cefrodil_shape shape;
 static cefrodil_reply reply;
+static cefrodil_answer answers[4];
 static int line_of_failure;
 
 #define MUST(condition) \
@@ -49,6 +50,7 @@ static void shapes(void) {
 static void closed(void) {
     uint64_t value[2] = {1, 2};
     MUST(cefrodil_get(&none, 1, value, 2, &reply) == CEFRODIL_CLOSED && value[0] == 1 && value[1] == 2);
+    MUST(cefrodil_get_many(&none, value, 1, value + 1, 1, answers, 4) == CEFRODIL_CLOSED && value[1] == 2);
     MUST(cefrodil_get_or_desk(&none, 1, value, 2, &reply) == CEFRODIL_CLOSED);
     MUST(cefrodil_put(&none, 1, value, 2, &reply) == CEFRODIL_CLOSED);
     MUST(cefrodil_put_if(&none, 1, 0, value, 2, &reply) == CEFRODIL_CLOSED);
@@ -82,6 +84,50 @@ static void writes(void) {
     MUST(cefrodil_remove(&readers[0], 1, &reply) == CEFRODIL_KIND);
     MUST(cefrodil_try_put(&writer, 1, value, 2, &reply) == CEFRODIL_KIND);
     MUST(cefrodil_try_remove(&readers[1], 1, &reply) == CEFRODIL_KIND);
+}
+
+/* The cache has the key 1 alone, with the value 7, 8 of its fourth change. */
+static void many(cefrodil_handle *reader, cefrodil_handle *other) {
+    uint64_t keys[4] = {2, 1, 3, 1}, values[8] = {1, 2, 3, 4, 5, 6, 0, 0};
+    const uint64_t expected[8] = {1, 2, 7, 8, 5, 6, 7, 8};
+    answers[0].status = answers[3].status = 99, answers[1].unused = 99;
+    MUST(cefrodil_get_many(other, keys, 4, values, 7, answers, 3) == CEFRODIL_KIND);
+    MUST(cefrodil_get_many(reader, keys, 4, values, 7, answers, 3) == CEFRODIL_BAD_COUNT);
+    MUST(cefrodil_get_many(reader, keys, 3, values, 6, answers, 4) == CEFRODIL_BAD_COUNT);
+    MUST(cefrodil_get_many(reader, keys, 4, values, 7, answers, 4) == CEFRODIL_WIDTH);
+    MUST(cefrodil_get_many(reader, keys, 3, values, 8, answers, 3) == CEFRODIL_WIDTH);
+    MUST(cefrodil_get_many(reader, keys, 0, values, 1, answers, 0) == CEFRODIL_WIDTH);
+    MUST(values[2] == 3 && values[7] == 0 && answers[0].status == 99 && answers[3].status == 99);
+    MUST(cefrodil_get_many(reader, keys, 0, values, 0, answers, 0) == CEFRODIL_OK && answers[0].status == 99);
+    MUST(cefrodil_get_many(reader, keys, 4, values, 8, answers, 4) == CEFRODIL_OK);
+    for (size_t i = 0; i < 8; i++) {
+        MUST(values[i] == expected[i]);
+    }
+    for (size_t i = 0; i < 4; i++) {
+        MUST(answers[i].status == (i % 2 == 0 ? CEFRODIL_ABSENT : CEFRODIL_OK));
+        MUST(answers[i].at == 4 && answers[i].since == (i % 2 == 0 ? 0 : 4) && answers[i].unused == 0);
+    }
+}
+
+static void many_by_a_reader(void) {
+    uint64_t value[2] = {7, 8};
+    MUST(opened() == CEFRODIL_OK);
+    for (int i = 0; i < 4; i++) {
+        MUST(cefrodil_put(&writer, 1, value, 2, &reply) == CEFRODIL_OK);
+    }
+    many(&readers[1], &writer);
+    MUST(cefrodil_close(&writer) == CEFRODIL_OK && cefrodil_close(&readers[0]) == CEFRODIL_OK && cefrodil_close(&readers[1]) == CEFRODIL_OK);
+}
+
+static void many_by_a_pass(void) {
+    uint64_t value[2] = {7, 8};
+    MUST(cefrodil_open_desk(&shape, 2, passes, 1) == CEFRODIL_OK);
+    MUST(cefrodil_open(&shape, 2, &writer, readers, 1) == CEFRODIL_OK);
+    for (int i = 0; i < 4; i++) {
+        MUST(cefrodil_try_put(&passes[0], 1, value, 2, &reply) == CEFRODIL_OK);
+    }
+    many(&passes[0], &writer);
+    MUST(cefrodil_close(&passes[0]) == CEFRODIL_OK && cefrodil_close(&writer) == CEFRODIL_OK && cefrodil_close(&readers[0]) == CEFRODIL_OK);
 }
 
 /* With every item put just now, and each found since, a put finds none to evict or evicts one. */
@@ -136,6 +182,15 @@ static void last_close(void) {
     MUST(cefrodil_get(&readers[0], 500, found, 2, &reply) == CEFRODIL_CLOSED);
 }
 
+/* Twice the same key, whose value is 1, 2, 3 and so on. */
+static void two_of_width(size_t words) {
+    uint64_t keys[2] = {words, words}, found[17] = {0};
+    MUST(cefrodil_get_many(&readers[0], keys, 2, found, 2 * words, answers, 2) == CEFRODIL_OK);
+    for (size_t i = 0; i < 17; i++) {
+        MUST(found[i] == (i < 2 * words ? i % words + 1 : 0));
+    }
+}
+
 static void widths(void) {
     for (size_t words = 1; words <= 8; words++) {
         uint64_t value[8] = {1, 2, 3, 4, 5, 6, 7, 8}, found[8] = {0};
@@ -146,6 +201,7 @@ static void widths(void) {
             MUST(found[i] == (i < words ? value[i] : 0));
         }
         MUST(cefrodil_get(&readers[0], words, found, words % 8 + 1, &reply) == CEFRODIL_WIDTH);
+        two_of_width(words);
         MUST(cefrodil_close(&writer) == CEFRODIL_OK && cefrodil_close(&readers[0]) == CEFRODIL_OK);
     }
 }
@@ -158,6 +214,8 @@ int main(void) {
     last_close();
     spent();
     turns();
+    many_by_a_reader();
+    many_by_a_pass();
     widths();
     if (line_of_failure != 0) {
         printf("statuses: line %d fails\n", line_of_failure);

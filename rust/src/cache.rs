@@ -1,6 +1,7 @@
 //! A cache with a writer and readers.
-use crate::error::{OpenError, PutError, PutIfError, Spent};
+use crate::error::{OpenError, PutError, PutIfError, Spent, Why};
 use crate::handle::Handle;
+use crate::raw;
 use crate::reply::{self, Put, Removal, Reply};
 use crate::shape::Shape;
 
@@ -20,6 +21,16 @@ pub struct Writer<const WORDS: usize>(Handle);
 
 /// A reader of a cache. It may go to another thread, and two threads can't share it.
 pub struct Reader<const WORDS: usize>(Handle);
+
+/// A cache that was opened with entries: its writer and its readers.
+pub struct Opened<const WORDS: usize> {
+    /// The writer.
+    pub writer: Writer<WORDS>,
+    /// The readers.
+    pub readers: Vec<Reader<WORDS>>,
+    /// The index of each entry that was left, in order, and why.
+    pub left: Vec<(usize, Why)>,
+}
 
 impl<const WORDS: usize> Cache<WORDS> {
     pub(crate) const IS_WIDTH: () = assert!(WORDS >= 1 && WORDS <= 8, "a value has from 1 to 8 words");
@@ -52,6 +63,31 @@ impl<const WORDS: usize> Cache<WORDS> {
         let () = Self::IS_WIDTH;
         let (writer, readers) = Handle::open(&shape.raw(), WORDS, readers).map_err(OpenError::of)?;
         Ok((Writer(writer), readers.into_iter().map(Reader).collect()))
+    }
+
+    /// The same with entries, keys and their values, which are put one after the other. None takes another's place: one that finds none
+    /// is left, and named. A key that is named twice is put again. The puts are the first changes of the table.
+    ///
+    /// ```
+    /// use cefrodil::{Cache, Reply, Shape, Why};
+    ///
+    /// let small = Shape { items: 2, ..Shape::for_items(100)? };
+    /// let mut opened = Cache::<1>::open_with(&small, 1, &[(7, [70]), (8, [80]), (9, [90])])?;
+    /// assert_eq!(opened.left, [(2, Why::NoItem)]);
+    /// assert_eq!(opened.readers[0].get(8), Reply::Found { value: [80], at: 2, since: 2 });
+    /// # Ok::<(), Box<dyn std::error::Error>>(())
+    /// ```
+    pub fn open_with(shape: &Shape, readers: usize, entries: &[(u64, [u64; WORDS])]) -> Result<Opened<WORDS>, OpenError> {
+        let () = Self::IS_WIDTH;
+        let mut words = Vec::with_capacity(entries.len() * (1 + WORDS));
+        for (key, value) in entries {
+            words.push(*key);
+            words.extend_from_slice(value);
+        }
+        let mut statuses = vec![raw::OK; entries.len()];
+        let (writer, readers) = Handle::open_with(&shape.raw(), WORDS, &words, &mut statuses, readers).map_err(OpenError::of)?;
+        let left = statuses.iter().enumerate().filter_map(|(index, status)| Some((index, Why::of(*status)?)));
+        Ok(Opened { writer: Writer(writer), readers: readers.into_iter().map(Reader).collect(), left: left.collect() })
     }
 }
 
@@ -88,5 +124,24 @@ impl<const WORDS: usize> Reader<WORDS> {
         let mut value = [0; WORDS];
         let told = self.0.get(key, &mut value);
         Reply::of(told, value)
+    }
+    /// What the cache holds of each of the keys: a [`get`](Reader::get) for each, in their order. Each reply has a moment of its own.
+    ///
+    /// ```
+    /// use cefrodil::{Cache, Reply, Shape};
+    ///
+    /// let (mut writer, mut readers) = Cache::<1>::open(&Shape::for_items(100)?, 1)?;
+    /// writer.put(7, &[70])?;
+    /// let mut replies = [Reply::Busy; 2];
+    /// readers[0].get_many(&[6, 7], &mut replies);
+    /// assert_eq!(replies, [Reply::Absent { at: 1 }, Reply::Found { value: [70], at: 1, since: 1 }]);
+    /// # Ok::<(), Box<dyn std::error::Error>>(())
+    /// ```
+    ///
+    /// # Panics
+    ///
+    /// Where there are more replies than keys, or fewer.
+    pub fn get_many(&mut self, keys: &[u64], replies: &mut [Reply<WORDS>]) {
+        reply::many(&mut self.0, keys, replies);
     }
 }

@@ -69,7 +69,16 @@ impl<const WORDS: usize> Pass<'_, WORDS> {
         Reply::of(told, value)
     }
 
-    /// The same; where that is busy, it tries once for the turn, and with it tells what is there.
+    /// What the cache holds of each of the keys: a [`get`](Pass::get) for each, in their order. Each reply has a moment of its own.
+    ///
+    /// # Panics
+    ///
+    /// Where there are more replies than keys, or fewer.
+    pub fn get_many(&mut self, keys: &[u64], replies: &mut [Reply<WORDS>]) {
+        reply::many(self.handle(), keys, replies);
+    }
+
+    /// The same as [`get`](Pass::get); where that is busy, it tries once for the turn, and with it tells what is there.
     pub fn get_or_desk(&mut self, key: u64) -> Reply<WORDS> {
         let mut value = [0; WORDS];
         let told = self.handle().get_or_desk(key, &mut value);

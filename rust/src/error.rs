@@ -52,6 +52,17 @@ pub enum PutIfError {
     },
 }
 
+/// Why an entry was left, with which a cache was to be opened.
+#[derive(Clone, Copy, Debug, PartialEq, Eq)]
+pub enum Why {
+    /// No path of displacements leads to an empty slot.
+    NoPath,
+    /// Every item is in use.
+    NoItem,
+    /// The limit on version changes could be passed.
+    Spent,
+}
+
 /// The limit on version changes could be passed.
 #[derive(Clone, Copy, Debug, PartialEq, Eq)]
 pub struct Spent;
@@ -82,6 +93,18 @@ impl OpenError {
     }
 }
 
+impl Why {
+    pub(crate) fn of(status: u32) -> Option<Why> {
+        match status {
+            raw::OK => None,
+            raw::NO_PATH => Some(Why::NoPath),
+            raw::NO_ITEM => Some(Why::NoItem),
+            raw::SPENT => Some(Why::Spent),
+            other => unreachable!("an entry has no status {other}"),
+        }
+    }
+}
+
 impl Display for OpenError {
     fn fmt(&self, text: &mut Formatter) -> fmt::Result {
         text.write_str(match self {
@@ -103,6 +126,16 @@ impl Display for PutError {
             PutError::NoPath => "no path",
             PutError::AllRecent => "all recent",
             PutError::Spent => "spent",
+        })
+    }
+}
+
+impl Display for Why {
+    fn fmt(&self, text: &mut Formatter) -> fmt::Result {
+        text.write_str(match self {
+            Why::NoPath => "no path",
+            Why::NoItem => "no item",
+            Why::Spent => "spent",
         })
     }
 }
@@ -134,6 +167,7 @@ impl<E: Display> Display for TurnError<E> {
 
 impl Error for OpenError {}
 impl Error for PutError {}
+impl Error for Why {}
 impl Error for PutIfError {}
 impl Error for Spent {}
 impl<E: Error> Error for TurnError<E> {}

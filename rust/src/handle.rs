@@ -3,7 +3,7 @@
 //! What the archive asks of its caller is kept so. A handle is zeroed at first, and only the archive writes it. It is private and no
 //! `Clone`, and a call borrows it as `&mut`: so one call at a time uses it. The pointers of a call are to borrows, which last as long
 //! as the call and don't overlap.
-use crate::raw::{self, RawHandle, RawReply, RawShape};
+use crate::raw::{self, RawAnswer, RawHandle, RawReply, RawShape};
 
 /// An open handle, or none.
 #[repr(transparent)]
@@ -42,6 +42,37 @@ impl Handle {
         }
     }
 
+    /// The same with entries, which stand one after the other. What became of each is told.
+    pub fn open_with(
+        shape: &RawShape,
+        words: usize,
+        entries: &[u64],
+        statuses: &mut [u32],
+        readers: usize,
+    ) -> Result<(Handle, Vec<Handle>), u32> {
+        let mut writer = Handle::empty();
+        let mut all = Handle::many(readers);
+        // SAFETY: as in `open`; and the two arrays have the lengths that are said.
+        let status = unsafe {
+            raw::cefrodil_open_with(
+                shape,
+                words,
+                entries.as_ptr(),
+                entries.len(),
+                statuses.as_mut_ptr(),
+                statuses.len(),
+                &mut writer.0,
+                all.as_mut_ptr().cast(),
+                readers,
+            )
+        };
+        if status == raw::OK {
+            Ok((writer, all))
+        } else {
+            Err(status)
+        }
+    }
+
     /// The passes of a cache whose writer lies on a desk, or a status.
     pub fn open_desk(shape: &RawShape, words: usize, passes: usize) -> Result<Vec<Handle>, u32> {
         let mut all = Handle::many(passes);
@@ -59,6 +90,22 @@ impl Handle {
         // SAFETY: all that the call is given is borrowed for it alone, and `value` has the length that is said.
         let status = unsafe { raw::cefrodil_get(&mut self.0, key, value.as_mut_ptr(), value.len(), &mut reply) };
         (status, reply)
+    }
+
+    pub fn get_many(&mut self, keys: &[u64], values: &mut [u64], answers: &mut [RawAnswer]) -> u32 {
+        let (value_words, answer_count) = (values.len(), answers.len());
+        // SAFETY: as in `get`: the three arrays have the lengths that are said.
+        unsafe {
+            raw::cefrodil_get_many(
+                &mut self.0,
+                keys.as_ptr(),
+                keys.len(),
+                values.as_mut_ptr(),
+                value_words,
+                answers.as_mut_ptr(),
+                answer_count,
+            )
+        }
     }
 
     pub fn get_or_desk(&mut self, key: u64, value: &mut [u64]) -> (u32, RawReply) {

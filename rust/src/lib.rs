@@ -22,8 +22,8 @@ mod raw;
 mod reply;
 mod shape;
 
-pub use cache::{Cache, Reader, Writer};
+pub use cache::{Cache, Opened, Reader, Writer};
 pub use desk::{Desk, Pass};
-pub use error::{OpenError, PutError, PutIfError, Spent, TurnError};
+pub use error::{OpenError, PutError, PutIfError, Spent, TurnError, Why};
 pub use reply::{Put, Removal, Reply};
 pub use shape::{Mix, Shape};

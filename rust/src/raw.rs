@@ -29,6 +29,15 @@ pub struct RawReply {
     pub put: u32,
 }
 
+#[repr(C)]
+#[derive(Clone, Copy, Default)]
+pub struct RawAnswer {
+    pub at: u64,
+    pub since: u64,
+    pub status: u32,
+    pub unused: u32,
+}
+
 pub const OK: u32 = 0;
 pub const ABSENT: u32 = 1;
 pub const BUSY: u32 = 2;
@@ -45,6 +54,7 @@ pub const BAD_DEPTH: u32 = 18;
 pub const BAD_TRIES: u32 = 19;
 pub const BAD_LIMIT: u32 = 20;
 pub const BAD_READERS: u32 = 21;
+pub const NO_ITEM: u32 = 23;
 
 pub const PUT_EVICTED: u32 = 2;
 pub const PUT_RENEWED: u32 = 3;
@@ -58,8 +68,28 @@ unsafe extern "C" {
         readers: *mut RawHandle,
         reader_count: usize,
     ) -> u32;
+    pub fn cefrodil_open_with(
+        shape: *const RawShape,
+        words: usize,
+        entries: *const u64,
+        entry_words: usize,
+        statuses: *mut u32,
+        status_count: usize,
+        writer: *mut RawHandle,
+        readers: *mut RawHandle,
+        reader_count: usize,
+    ) -> u32;
     pub fn cefrodil_open_desk(shape: *const RawShape, words: usize, passes: *mut RawHandle, pass_count: usize) -> u32;
     pub fn cefrodil_get(reader: *mut RawHandle, key: u64, value: *mut u64, words: usize, reply: *mut RawReply) -> u32;
+    pub fn cefrodil_get_many(
+        reader: *mut RawHandle,
+        keys: *const u64,
+        key_count: usize,
+        values: *mut u64,
+        value_words: usize,
+        answers: *mut RawAnswer,
+        answer_count: usize,
+    ) -> u32;
     pub fn cefrodil_get_or_desk(pass: *mut RawHandle, key: u64, value: *mut u64, words: usize, reply: *mut RawReply) -> u32;
     pub fn cefrodil_put(writer: *mut RawHandle, key: u64, value: *const u64, words: usize, reply: *mut RawReply) -> u32;
     pub fn cefrodil_put_if(

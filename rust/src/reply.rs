@@ -1,6 +1,7 @@
 //! What calls answer.
 use crate::error::{PutError, PutIfError, Spent, TurnError};
-use crate::raw::{self, RawReply};
+use crate::handle::Handle;
+use crate::raw::{self, RawAnswer, RawReply};
 
 /// What a lookup answers. `at` is the moment at which the answer held: how many changes of the table had been made.
 #[derive(Clone, Copy, Debug, PartialEq, Eq)]
@@ -71,6 +72,26 @@ impl<const WORDS: usize> Reply<WORDS> {
             raw::ABSENT => Reply::Absent { at: reply.at },
             raw::BUSY => Reply::Busy,
             other => not_told(other),
+        }
+    }
+}
+
+// How many keys go to the archive by one call.
+const KEYS_A_CALL: usize = 32;
+
+/// The reply of each key, by lookups one after the other.
+pub(crate) fn many<const WORDS: usize>(handle: &mut Handle, keys: &[u64], replies: &mut [Reply<WORDS>]) {
+    assert_eq!(keys.len(), replies.len(), "there must be as many replies as keys");
+    for (keys, replies) in keys.chunks(KEYS_A_CALL).zip(replies.chunks_mut(KEYS_A_CALL)) {
+        let mut values = [[0; WORDS]; KEYS_A_CALL];
+        let mut answers = [RawAnswer::default(); KEYS_A_CALL];
+        let count = keys.len();
+        let status = handle.get_many(keys, values[..count].as_flattened_mut(), &mut answers[..count]);
+        if status != raw::OK {
+            not_told(status);
+        }
+        for ((reply, answer), value) in replies.iter_mut().zip(answers).zip(values) {
+            *reply = Reply::of((answer.status, RawReply { at: answer.at, since: answer.since, ..RawReply::default() }), value);
         }
     }
 }

@@ -1,4 +1,4 @@
-use cefrodil::{Cache, Desk, OpenError, Put, PutIfError, Removal, Reply, Shape, TurnError};
+use cefrodil::{Cache, Desk, Mix, OpenError, Put, PutIfError, Removal, Reply, Shape, TurnError, Why};
 use std::error::Error;
 use std::thread;
 
@@ -20,6 +20,59 @@ fn each_call_answers() -> Result<(), Box<dyn Error>> {
     assert_eq!(writer.remove(1)?, Removal::NotThere { at: 4 });
     is_send(&writer);
     is_send(&readers[0]);
+    Ok(())
+}
+
+#[test]
+fn many_keys_are_looked_up() -> Result<(), Box<dyn Error>> {
+    let (mut writer, mut readers) = Cache::<3>::open(&Shape::for_items(100)?, 1)?;
+    for key in 0..50 {
+        writer.put(2 * key, &[key; 3])?;
+    }
+    // More than one call of the archive takes.
+    let keys: Vec<u64> = (0..77).collect();
+    let mut replies = [Reply::Busy; 77];
+    readers[0].get_many(&keys, &mut replies);
+    for key in 0..77 {
+        let expected = if key % 2 == 0 {
+            Reply::Found { value: [key / 2; 3], at: 50, since: key / 2 + 1 }
+        } else {
+            Reply::Absent { at: 50 }
+        };
+        assert_eq!(replies[key as usize], expected);
+    }
+    readers[0].get_many(&[], &mut []);
+    let desk = Desk::<3>::open(&Shape::for_items(100)?, 1)?;
+    let mut pass = desk.pass().ok_or("no pass")?;
+    pass.try_put(8, &[1, 2, 3])?;
+    pass.get_many(&[9, 8], &mut replies[..2]);
+    assert_eq!(replies[..2], [Reply::Absent { at: 1 }, Reply::Found { value: [1, 2, 3], at: 1, since: 1 }]);
+    Ok(())
+}
+
+#[test]
+#[should_panic(expected = "as many replies as keys")]
+fn replies_are_missing() {
+    let shape = Shape::for_items(100).expect("a shape");
+    let (_writer, mut readers) = Cache::<1>::open(&shape, 1).expect("a cache");
+    readers[0].get_many(&[1, 2], &mut [Reply::Busy]);
+}
+
+#[test]
+fn entries_are_loaded() -> Result<(), Box<dyn Error>> {
+    let shape = Shape { buckets: 2, items: 8, stripes: 1, depth: 2, tries: 2, limit: 1 << 62, mix: Mix::None };
+    let entries: Vec<(u64, [u64; 2])> = [0, 4, 8, 12, 16, 20, 24, 28, 2].iter().map(|key| (*key, [*key, key + 1])).collect();
+    let mut opened = Cache::<2>::open_with(&shape, 2, &entries)?;
+    assert_eq!(opened.left, [(8, Why::NoPath)]);
+    assert_eq!(opened.readers[1].get(28), Reply::Found { value: [28, 29], at: 8, since: 8 });
+    assert_eq!(opened.readers[0].get(2), Reply::Absent { at: 8 });
+    assert_eq!(opened.writer.put(28, &[0, 0])?, Put::Renewed { at: 9 });
+    let opened = Cache::<2>::open_with(&Shape { limit: 10, buckets: 4, ..shape }, 1, &entries[..3])?;
+    assert_eq!(opened.left, [(2, Why::Spent)]);
+    assert_eq!(opened.readers.len(), 1);
+    assert!(Cache::<2>::open_with(&shape, 1, &[])?.left.is_empty());
+    assert_eq!(Cache::<2>::open_with(&shape, 0, &entries).err(), Some(OpenError::Readers));
+    assert_eq!(Cache::<2>::open_with(&Shape { items: 0, ..shape }, 0, &entries).err(), Some(OpenError::Items));
     Ok(())
 }
 

@@ -1,7 +1,9 @@
 pub mod Apart
 pub mod Behind
 pub mod Filling
+pub mod Loaded
 pub mod Gives
+pub mod ManyLookups
 pub mod Opened
 pub mod GivenSides
 pub mod Sent

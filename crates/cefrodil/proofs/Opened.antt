@@ -23,7 +23,7 @@ use Rattle.cefrodil.specs.declared.status.TheConstants.{NO_MEMORY}
 use Rattle.cefrodil.proofs.Filling.{keeps}
 
 -- the same, of what is known of the sides
-all_at : (first : Rest) (desk : Bool) (words : ℕ) (slots : List Slot) → has_desk_in first ≡ desk → width_in first ≡ words
+pub all_at : (first : Rest) (desk : Bool) (words : ℕ) (slots : List Slot) → has_desk_in first ≡ desk → width_in first ≡ words
     → All (IsNewAt (opening_in first) (has_desk_in first) (width_in first)) slots → All (IsNewAt (opening_in first) desk words) slots
 all_at first desk words slots is wide new =
     subst (λ (d : Bool). All (IsNewAt (opening_in first) d words) slots) is (subst (λ (w : ℕ). All (IsNewAt (opening_in first) (has_desk_in first) w) slots) wide new)

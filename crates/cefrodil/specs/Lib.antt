@@ -1,5 +1,7 @@
 pub mod Calls
 pub mod Kept
+pub mod Loading
+pub mod Many
 pub mod Open
 pub mod Openings
 pub mod RawShapes

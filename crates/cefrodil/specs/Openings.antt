@@ -70,5 +70,5 @@ RefusesOpen raw words handles status =
     ((sh : Shape) × (why : OpenError) × IsWidth words × HasMix raw × IsShapeOf raw sh × RefusesOpening sh handles why × (status ≡ open_status why))
 
 -- and before all of them that a handle is open
-abbrev pub RefusesHandles : Type 0 → RawShape → ℕ → ℕ → ℕ → Type 0
-RefusesHandles AreClosed raw words handles status = ((status ≡ IN_USE) × (¬ AreClosed)) ⊎ (AreClosed × RefusesOpen raw words handles status)
+abbrev pub RefusesHandles : Type 0 → (ℕ → Type 0) → ℕ → Type 0
+RefusesHandles AreClosed Refuses status = ((status ≡ IN_USE) × (¬ AreClosed)) ⊎ (AreClosed × Refuses status)

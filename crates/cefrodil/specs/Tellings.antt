@@ -15,6 +15,7 @@ use Rattle.mc_door.specs.declared.looked.Looked.{Looked}
 use Rattle.mc_door.specs.declared.looked.Looked.TheVariants as looked
 use Rattle.mc_door.specs.declared.side.Misuse.{Misuse}
 use Rattle.mc_door.specs.declared.side.Misuse.TheVariants as misuse
+use Rattle.cefrodil.specs.declared.many.RawAnswer.{RawAnswer}
 use Rattle.cefrodil.specs.declared.told.Told.{Told}
 use Rattle.cefrodil.specs.declared.status.TheConstants.{OK, ABSENT, BUSY, NO_PATH, ALL_RECENT, SPENT, CHANGED, HELD, CLOSED, KIND, WIDTH}
 use Rattle.cefrodil.specs.declared.told.TheConstants.{NOTHING, STORED, EVICTED, RENEWED}
@@ -37,6 +38,12 @@ abbrev pub lookup_told : Looked → Told
 lookup_told (looked.Found at since) = record { status = OK; reply = record { at = at; since = since; evicted = 0; moves = 0; put = NOTHING } }
 lookup_told (looked.Absent at) = told_at ABSENT at
 lookup_told looked.Busy = plain BUSY
+
+-- one answer of many
+abbrev pub answer_of : Looked → RawAnswer
+answer_of (looked.Found at since) = record { at = at; since = since; status = OK; unused = 0 }
+answer_of (looked.Absent at) = record { at = at; since = 0; status = ABSENT; unused = 0 }
+answer_of looked.Busy = record { at = 0; since = 0; status = BUSY; unused = 0 }
 
 abbrev pub done_told : Put → Told
 done_told (Stored at moves None) = record { status = OK; reply = record { at = at; since = 0; evicted = 0; moves = moves; put = STORED } }

@@ -4,7 +4,9 @@
 
 mod closing;
 pub mod handle;
+mod loading;
 mod lookups;
+mod many;
 mod opening;
 mod shape;
 pub mod slot;

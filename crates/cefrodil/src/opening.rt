@@ -1,5 +1,5 @@
 //! Handles are opened.
-ghost use Rattle.std.specs.Prelude.{◌≡◌, ◌≢◌, ◌↔◌, All, IfSome, MatchResult, false, length, true};
+ghost use Rattle.std.specs.Prelude.{◌≡◌, ◌≢◌, ◌↔◌, All, IfNone, IfSome, MatchResult, false, length, true};
 ghost use Rattle.mc_words.specs.Places.{IsWidth};
 ghost use Rattle.mc_words.specs.Readers.{HasReaders};
 ghost use Rattle.mc_door.specs.NewSides.{count_in, has_desk_in, opening_in, width_in};
@@ -15,9 +15,9 @@ use mc_door::{Held, OpenError, Rest, Shape, ShapeError, open, open_desk};
 use std::alloc::Global;
 
 /// The most words of a value.
-const MOST_WORDS: usize = 8;
+pub(crate) const MOST_WORDS: usize = 8;
 
-fn status_of(why: OpenError) -> u32
+pub(crate) fn status_of(why: OpenError) -> u32
     ensures { result ≡ open_status why }
 {
     match why {
@@ -32,7 +32,7 @@ fn status_of(why: OpenError) -> u32
     }
 }
 
-fn all_closed(slots: &[Slot]) -> bool
+pub(crate) fn all_closed(slots: &[Slot]) -> bool
     ensures yes { result ≡ true → All IsClosed slots.now }
     ensures no { result ≡ false → ¬ All IsClosed slots.now }
 {
@@ -83,8 +83,27 @@ fn fill(alloc: Global, mut rest: Rest, slots: &mut [Slot]) -> bool
     true
 }
 
+// The writer on the heap, and a reader in each of the handles, which are closed. None where there is no memory: they are closed then.
+pub(crate) fn given_out(
+    alloc: Global,
+    held: Held,
+    rest: Rest,
+    readers: &mut [Slot],
+) -> Option<Box<Held, Global>>
+    requires { (count_in rest ≡ length readers.old) × All IsClosed readers.old }
+    ensures given { IfSome result (λ b. (b.value ≡ held) × All (IsNewAt (opening_in rest) (has_desk_in rest) (width_in rest)) readers.new) }
+    ensures refused { IfNone result (All IsClosed readers.new) }
+{
+    let kept = boxed(alloc, held)?;
+    if !fill(alloc, rest, readers) {
+        close_all(alloc, readers);
+        return None;
+    }
+    Some(kept)
+}
+
 // The shape that is asked for, or the first fault before those that the cache tells.
-fn asked(shape: &RawShape, words: usize) -> Result<Shape, u32>
+pub(crate) fn asked(shape: &RawShape, words: usize) -> Result<Shape, u32>
     ensures { MatchResult result (λ sh. IsWidth words × HasMix shape.now × IsShapeOf shape.now sh) (λ status. RefusesAsked shape.now words status) }
 {
     if words == 0 || words > MOST_WORDS {
@@ -97,7 +116,7 @@ fn asked(shape: &RawShape, words: usize) -> Result<Shape, u32>
 }
 
 // As many, or more than there may be.
-fn count_of(handles: usize) -> u32
+pub(crate) fn count_of(handles: usize) -> u32
     ensures right { HasReaders result ↔ HasReaders handles }
     ensures same { HasReaders handles → result ≡ handles }
 {
@@ -126,13 +145,9 @@ fn open_all(
         Ok(opened) => opened,
         Err(why) => return status_of(why),
     };
-    let Some(held) = boxed(alloc, held) else {
+    let Some(held) = given_out(alloc, held, rest, readers) else {
         return NO_MEMORY;
     };
-    if !fill(alloc, rest, readers) {
-        close_all(alloc, readers);
-        return NO_MEMORY;
-    }
     writer.put(held);
     OK
 }
@@ -147,7 +162,7 @@ pub extern "C" fn cefrodil_open(
     readers: &mut [Slot],
 ) -> u32
     ensures opened { result ≡ OK → AreOpened shape.now words writer.new readers.new }
-    ensures refused { result ≢ OK → RefusesHandles (IsClosed writer.old × All IsClosed readers.old) shape.now words (length readers.old) result }
+    ensures refused { result ≢ OK → RefusesHandles (IsClosed writer.old × All IsClosed readers.old) (RefusesOpen shape.now words (length readers.old)) result }
     ensures in_use { result ≡ IN_USE → (writer.new ≡ writer.old) × (readers.new ≡ readers.old) }
     ensures closed { result ≢ OK → result ≢ IN_USE → IsClosed writer.new × All IsClosed readers.new }
 {
@@ -189,7 +204,7 @@ pub extern "C" fn cefrodil_open_desk(
     passes: &mut [Slot],
 ) -> u32
     ensures opened { result ≡ OK → ArePasses shape.now words passes.new }
-    ensures refused { result ≢ OK → RefusesHandles (All IsClosed passes.old) shape.now words (length passes.old) result }
+    ensures refused { result ≢ OK → RefusesHandles (All IsClosed passes.old) (RefusesOpen shape.now words (length passes.old)) result }
     ensures in_use { result ≡ IN_USE → passes.new ≡ passes.old }
     ensures closed { result ≢ OK → result ≢ IN_USE → All IsClosed passes.new }
 {

@@ -65,3 +65,9 @@ pub const LIMIT: u32 = 20;
 
 /// Readers must be from 1 to 1024.
 pub const READERS: u32 = 21;
+
+/// Counts that belong together don't fit.
+pub const COUNT: u32 = 22;
+
+/// Every item is in use.
+pub const NO_ITEM: u32 = 23;

@@ -1,1 +1,3 @@
+pub mod LoadedSides
+pub mod MoreEntries
 pub mod NewReaders

@@ -1,6 +1,6 @@
 -- What contracts see of a side, whatever the width of its values.
 use Rattle.std.specs.Prelude.{ℕ}
-use Rattle.mc_shared.specs.Records.{Opening, ReaderRecord, WriterRecord}
+use Rattle.mc_shared.specs.Records.{ReaderRecord, WriterRecord}
 use Rattle.mc_door.specs.declared.side.Side.{Side}
 use Rattle.mc_door.specs.declared.side.Side.TheVariants as side
 

@@ -1,5 +1,5 @@
 //! A side of a cache whose values have one of eight widths.
-ghost use Rattle.std.specs.Prelude.{◌≡◌, length, MatchResult};
+ghost use Rattle.std.specs.Prelude.{◌≡◌, ◌↔◌, IsTrue, length, MatchResult};
 ghost use Rattle.mc_door.specs.Held.{role_in, width_of};
 ghost use Rattle.mc_door.specs.Means.{CanLook, CanWrite, GetMeans, GetOrDeskMeans, HasTurns, IsMisuse, PutIfMeans, PutMeans, RemovalMeans, TryPutIfMeans, TryPutMeans, TryRemovalMeans};
 
@@ -18,6 +18,40 @@ pub enum Held {
     Six(Side<6>),
     Seven(Side<7>),
     Eight(Side<8>),
+}
+
+impl Held {
+    /// How many words a value has.
+    pub fn words(&self) -> usize
+        ensures { result ≡ width_of self.now }
+    {
+        match self {
+            Held::One(_) => 1,
+            Held::Two(_) => 2,
+            Held::Three(_) => 3,
+            Held::Four(_) => 4,
+            Held::Five(_) => 5,
+            Held::Six(_) => 6,
+            Held::Seven(_) => 7,
+            Held::Eight(_) => 8,
+        }
+    }
+
+    /// Whether it looks up: a reader does, and a pass.
+    pub fn can_look(&self) -> bool
+        ensures { IsTrue result ↔ CanLook (role_in self.now) }
+    {
+        match self {
+            Held::One(side) => side.can_look(),
+            Held::Two(side) => side.can_look(),
+            Held::Three(side) => side.can_look(),
+            Held::Four(side) => side.can_look(),
+            Held::Five(side) => side.can_look(),
+            Held::Six(side) => side.can_look(),
+            Held::Seven(side) => side.can_look(),
+            Held::Eight(side) => side.can_look(),
+        }
+    }
 }
 
 impl Held {

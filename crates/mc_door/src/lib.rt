@@ -4,6 +4,7 @@
 //! know of: a call that the side can't make, or a value of another width, is a `Misuse`.
 #![tactic(auto)]
 
+mod entries;
 mod held;
 mod looked;
 mod new_sides;
@@ -20,5 +21,5 @@ pub use mc_cache::{
     DeskError, IfError, OpenError, Put, PutError, Remove, Shape, ShapeError, Spent, Why,
 };
 pub use new_sides::NewSides;
-pub use rest::{Rest, open, open_desk};
+pub use rest::{Rest, open, open_desk, open_with};
 pub use side::{Misuse, Side};

@@ -1,19 +1,21 @@
 //! A cache is opened, and its sides are given out.
 ghost use Rattle.std.specs.Option.{ForSome};
-ghost use Rattle.std.specs.Prelude.{◌≡◌, ◌+◌, All, IfOk, MatchOption, MatchResult, false, true};
+ghost use Rattle.std.specs.Prelude.{◌≡◌, ◌+◌, ◌*◌, All, IfOk, MatchOption, MatchResult, false, length, true};
 ghost use Rattle.mc_cache.specs.Openings.{RefusesOpening};
 ghost use Rattle.mc_shared.specs.Records.{IsNewReader};
 ghost use Rattle.mc_shared.specs.Views.{layout_of};
 ghost use Rattle.mc_words.specs.Places.{IsWidth};
 ghost use Rattle.mc_words.specs.Readers.{HasReaders};
 ghost use Rattle.mc_words.specs.Shapes.{IsShape};
-ghost use Rattle.mc_door.specs.Roles.{role_of};
+ghost use Rattle.mc_door.specs.Loading.{IsLoadedWriter, entries_in};
+ghost use Rattle.mc_door.specs.Roles.{Writes, role_of};
 
+use crate::entries::{check, entries_of};
 use crate::pass_side::PassSide;
 use crate::reader_side::ReaderSide;
 use crate::side::Side;
 use crate::writer_side::WriterSide;
-use mc_cache::{Cache, Desk, OpenError, Reader, Shape};
+use mc_cache::{Cache, Desk, OpenError, Opened, Reader, Shape, Why, Writer, open_with};
 use mc_words::NoMemory;
 use std::alloc::Global;
 use std::sync::Arc;
@@ -59,6 +61,33 @@ impl<const V: usize> NewSides<V> {
         Ok(Some(side))
     }
 
+    // The writer of a new cache in hand, and its readers.
+    fn of(
+        alloc: Global,
+        cache: Cache<V>,
+        writer: Writer<V>,
+        readers: Vec<Reader<V>>,
+    ) -> Result<(Side<V>, NewSides<V>), NoMemory>
+        requires of { writer.of ≡ cache }
+        requires fresh { All (IsNewReader cache) readers.items }
+        ensures writer { IfOk result (λ r. role_of r.0 ≡ Writes writer.entry) }
+        ensures rest { IfOk result (λ r. (opening_of r.1 ≡ cache.entry) × (has_desk r.1 ≡ false) × (r.1.readers.items ≡ readers.entry.items)) }
+    {
+        let Ok(cache) = Arc::new(alloc, cache) else {
+            return Err(NoMemory);
+        };
+        let Ok(own) = Arc::try_clone(&cache) else {
+            return Err(NoMemory);
+        };
+        let side = Side::Writer(WriterSide { cache: own, writer });
+        let rest = NewSides {
+            cache,
+            desk: None,
+            readers,
+        };
+        Ok((side, rest))
+    }
+
     /// A cache with its writer in hand, and as many readers as were asked for.
     #[tactic(auto, using(crate::proofs::NewReaders::as_many))]
     pub(crate) fn open(
@@ -72,19 +101,43 @@ impl<const V: usize> NewSides<V> {
         ensures readers { IfOk result (λ r. (has_desk r.1 ≡ false) × (count_of r.1 ≡ readers) × IsShape shape × HasReaders readers) }
     {
         let (cache, writer, readers) = mc_cache::open::<V>(alloc, shape, readers)?;
-        let Ok(cache) = Arc::new(alloc, cache) else {
+        match NewSides::of(alloc, cache, writer, readers) {
+            Ok(sides) => Ok(sides),
+            Err(NoMemory) => Err(OpenError::NoMemory),
+        }
+    }
+
+    /// A cache with so many entries, which stand one after the other as words, its writer in hand, as many readers as were asked for, and
+    /// the index of each entry that was left, with the reason.
+    #[tactic(auto, using(crate::proofs::NewReaders::as_many))]
+    pub(crate) fn open_with(
+        alloc: Global,
+        shape: Shape,
+        readers: u32,
+        count: usize,
+        entries: &[u64],
+    ) -> Result<(Side<V>, NewSides<V>, Vec<(usize, Why)>), OpenError>
+        requires width { IsWidth V }
+        requires entries { length entries.now ≡ count * (1 + V) }
+        ensures refused { MatchResult result (λ r. (opening_of r.1).layout ≡ layout_of V shape) (λ e. RefusesOpening shape readers e) }
+        ensures writer { IfOk result (λ r. IsLoadedWriter V (opening_of r.1) (entries_in V count entries.now) r.2.items (role_of r.0)) }
+        ensures readers { IfOk result (λ r. (has_desk r.1 ≡ false) × (count_of r.1 ≡ readers) × IsShape shape × HasReaders readers) }
+    {
+        check(shape, readers)?;
+        let Ok(entries) = entries_of::<V>(alloc, count, entries) else {
             return Err(OpenError::NoMemory);
         };
-        let Ok(own) = Arc::try_clone(&cache) else {
-            return Err(OpenError::NoMemory);
-        };
-        let side = Side::Writer(WriterSide { cache: own, writer });
-        let rest = NewSides {
+        let opened = open_with::<V>(alloc, shape, readers, entries.as_slice())?;
+        let Opened {
             cache,
-            desk: None,
+            writer,
             readers,
-        };
-        Ok((side, rest))
+            left,
+        } = opened;
+        match NewSides::of(alloc, cache, writer, readers) {
+            Ok((side, rest)) => Ok((side, rest, left)),
+            Err(NoMemory) => Err(OpenError::NoMemory),
+        }
     }
 
     /// A cache whose writer lies on a desk, and as many passes as were asked for.

@@ -1,16 +1,17 @@
 //! A cache is opened for values of one of eight widths.
-ghost use Rattle.std.specs.Prelude.{◌≡◌, ◌+◌, IfOk, MatchOption, MatchResult, true, false};
+ghost use Rattle.std.specs.Prelude.{◌≡◌, ◌+◌, ◌*◌, IfOk, MatchOption, MatchResult, length, true, false};
 ghost use Rattle.mc_cache.specs.Openings.{RefusesOpening};
 ghost use Rattle.mc_shared.specs.Views.{layout_of};
 ghost use Rattle.mc_words.specs.Places.{IsWidth};
 ghost use Rattle.mc_words.specs.Readers.{HasReaders};
 ghost use Rattle.mc_words.specs.Shapes.{IsShape};
 ghost use Rattle.mc_door.specs.Held.{role_in, width_of};
+ghost use Rattle.mc_door.specs.Loading.{IsLoadedWriter, entries_in};
 ghost use Rattle.mc_door.specs.NewSides.{IsNewSide, IsNewWriter, count_in, has_desk_in, opening_in, width_in};
 
 use crate::held::Held;
 use crate::new_sides::NewSides;
-use mc_cache::{OpenError, Shape};
+use mc_cache::{OpenError, Shape, Why};
 use mc_words::NoMemory;
 use std::alloc::Global;
 
@@ -91,6 +92,75 @@ pub fn open(
         8 => {
             let (side, rest) = NewSides::<8>::open(alloc, shape, readers)?;
             Ok((Held::Eight(side), Rest::Eight(rest)))
+        }
+        _ => unreachable!(),
+    }
+}
+
+/// A cache for values of so many words, with so many entries: its writer, as many readers as were asked for, which `Rest::next` gives,
+/// and the index of each entry that was left, with the reason. The entries stand one after the other, each as its key and then its value.
+pub fn open_with(
+    alloc: Global,
+    shape: Shape,
+    words: usize,
+    readers: u32,
+    count: usize,
+    entries: &[u64],
+) -> Result<(Held, Rest, Vec<(usize, Why)>), OpenError>
+    requires width { IsWidth words }
+    requires entries { length entries.now ≡ count * (1 + words) }
+    ensures refused { MatchResult result (λ r. (opening_in r.1).layout ≡ layout_of words shape) (λ e. RefusesOpening shape readers e) }
+    ensures writer { IfOk result (λ r. (width_of r.0 ≡ words) × IsLoadedWriter words (opening_in r.1) (entries_in words count entries.now) r.2.items (role_in r.0)) }
+    ensures rest { IfOk result (λ r. (width_in r.1 ≡ words) × (has_desk_in r.1 ≡ false) × (count_in r.1 ≡ readers) × IsShape shape × HasReaders readers) }
+{
+    match words {
+        1 => {
+            let (side, rest, left) = NewSides::<1>::open_with(
+                alloc, shape, readers, count, entries,
+            )?;
+            Ok((Held::One(side), Rest::One(rest), left))
+        }
+        2 => {
+            let (side, rest, left) = NewSides::<2>::open_with(
+                alloc, shape, readers, count, entries,
+            )?;
+            Ok((Held::Two(side), Rest::Two(rest), left))
+        }
+        3 => {
+            let (side, rest, left) = NewSides::<3>::open_with(
+                alloc, shape, readers, count, entries,
+            )?;
+            Ok((Held::Three(side), Rest::Three(rest), left))
+        }
+        4 => {
+            let (side, rest, left) = NewSides::<4>::open_with(
+                alloc, shape, readers, count, entries,
+            )?;
+            Ok((Held::Four(side), Rest::Four(rest), left))
+        }
+        5 => {
+            let (side, rest, left) = NewSides::<5>::open_with(
+                alloc, shape, readers, count, entries,
+            )?;
+            Ok((Held::Five(side), Rest::Five(rest), left))
+        }
+        6 => {
+            let (side, rest, left) = NewSides::<6>::open_with(
+                alloc, shape, readers, count, entries,
+            )?;
+            Ok((Held::Six(side), Rest::Six(rest), left))
+        }
+        7 => {
+            let (side, rest, left) = NewSides::<7>::open_with(
+                alloc, shape, readers, count, entries,
+            )?;
+            Ok((Held::Seven(side), Rest::Seven(rest), left))
+        }
+        8 => {
+            let (side, rest, left) = NewSides::<8>::open_with(
+                alloc, shape, readers, count, entries,
+            )?;
+            Ok((Held::Eight(side), Rest::Eight(rest), left))
         }
         _ => unreachable!(),
     }

@@ -1,5 +1,5 @@
 //! A side of a cache, for values of so many words.
-ghost use Rattle.std.specs.Prelude.{◌≡◌, length, MatchResult};
+ghost use Rattle.std.specs.Prelude.{◌≡◌, ◌↔◌, IsTrue, length, MatchResult};
 ghost use Rattle.mc_door.specs.Roles.{role_of};
 ghost use Rattle.mc_door.specs.Means.{CanLook, CanWrite, HasTurns, IsMisuse, Looks, LooksAtDesk, PutIfMeans, PutMeans, RemovalMeans, TryPutIfMeans, TryPutMeans, TryRemovalMeans};
 
@@ -26,6 +26,16 @@ pub enum Side<const V: usize> {
 }
 
 impl<const V: usize> Side<V> {
+    pub(crate) fn can_look(&self) -> bool
+        ensures { IsTrue result ↔ CanLook (role_of self.now) }
+    {
+        match self {
+            Side::Writer(_) => false,
+            Side::Reader(_) => true,
+            Side::Pass(_) => true,
+        }
+    }
+
     pub(crate) fn get(&mut self, key: u64, words: usize) -> Result<Reply<V>, Misuse>
         ensures { MatchResult result (λ reply. (words ≡ V) × Looks V (role_of self.old) (role_of self.new) key reply)
             (λ why. IsMisuse CanLook V (role_of self.old) words why × (self.new ≡ self.old)) }

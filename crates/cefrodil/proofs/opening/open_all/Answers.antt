@@ -9,13 +9,8 @@ returns-in_default-clause-refused c =
     λ _. refused_memory c.args.shape.now c.args.words (length c.args.readers.now) c.count_of.result c.in-Ok.shape c.in-Ok.ensures.0 c.in-Ok.ensures.1 c.in-Ok.ensures.2
     c.in-Ok-open.ensures.rest.3 c.in-Ok-open.ensures.rest.4 c.count_of.ensures.right
 
-pub returns-then-not-fill-clause-refused : goal.returns-then-not-fill-clause-refused
-returns-then-not-fill-clause-refused c =
-    λ _. refused_memory c.args.shape.now c.args.words (length c.args.readers.now) c.count_of.result c.in-Ok.shape c.in-Ok.ensures.0 c.in-Ok.ensures.1 c.in-Ok.ensures.2
-    c.in-Ok-open.ensures.rest.3 c.in-Ok-open.ensures.rest.4 c.count_of.ensures.right
-
 pub returns-clause-opened : goal.returns-clause-opened
 returns-clause-opened c =
-    λ _. are_opened c.args.shape.now c.args.words c.put.new.self c.fill.new.slots c.in-Ok.shape c.in-Ok-open.opened.1 c.in-Ok-open.opened.0 c.in-Ok.ensures.2
-    c.in-Ok-open.ensures.refused c.in-Ok-open.ensures.rest.0 c.in-Ok-open.ensures.rest.1 (c.put.ensures.1 ∙ ap (λ (h : Held). some h) c.in-Some.ensures)
-    c.in-Ok-open.ensures.writer.0 c.in-Ok-open.ensures.writer.1 (c.fill.ensures c.if-not-fill.false)
+    λ _. are_opened c.args.shape.now c.args.words c.put.new.self c.given_out.new.readers c.in-Ok.shape c.in-Ok-open.opened.1 c.in-Ok-open.opened.0 c.in-Ok.ensures.2
+    c.in-Ok-open.ensures.refused c.in-Ok-open.ensures.rest.0 c.in-Ok-open.ensures.rest.1 (c.put.ensures.1 ∙ ap (λ (h : Held). some h) c.in-Some.ensures.given.0)
+    c.in-Ok-open.ensures.writer.0 c.in-Ok-open.ensures.writer.1 c.in-Some.ensures.given.1

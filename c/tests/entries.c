@@ -1,0 +1,124 @@
+/* A cache is opened with entries: what becomes of each, and what is refused. */
+#include "cefrodil.h"
+#include <stdio.h>
+
+static cefrodil_handle writer, readers[2];
+static cefrodil_reply reply;
+static int line_of_failure;
+
+#define MUST(condition) \
+    do { \
+        if (!(condition) && line_of_failure == 0) { \
+            line_of_failure = __LINE__; \
+        } \
+    } while (0)
+
+/* So many buckets and items, one stripe, and chains of at most two. */
+static cefrodil_shape shape_of(uint32_t buckets, uint32_t items, uint64_t limit) {
+    cefrodil_shape shape = {limit, buckets, items, 1, 2, 2, CEFRODIL_MIX_NONE};
+    return shape;
+}
+
+static const uint64_t most = UINT64_C(1) << 62;
+
+/* Nine keys of bucket 0 in tables of two buckets, each with its key for a value. */
+static const uint64_t nine[18] = {0, 0, 4, 4, 8, 8, 12, 12, 16, 16, 20, 20, 24, 24, 28, 28, 2, 2};
+
+static void close_all(void) {
+    MUST(cefrodil_close(&writer) == CEFRODIL_OK);
+    for (int i = 0; i < 2; i++) {
+        cefrodil_close(&readers[i]);
+    }
+}
+
+/* The first `put` of so many entries are put, and the others have this status. */
+static void loads(cefrodil_shape shape, size_t count, size_t put, uint32_t others) {
+    uint32_t statuses[10];
+    uint64_t value[1];
+    for (size_t i = 0; i < 10; i++) {
+        statuses[i] = 99;
+    }
+    MUST(cefrodil_open_with(&shape, 1, nine, 2 * count, statuses, count, &writer, readers, 2) == CEFRODIL_OK);
+    for (size_t i = 0; i < 10; i++) {
+        MUST(statuses[i] == (i < put ? CEFRODIL_OK : i < count ? others : 99));
+    }
+    for (size_t i = 0; i < count; i++) {
+        uint32_t status = cefrodil_get(&readers[1], nine[2 * i], value, 1, &reply);
+        MUST(i < put ? status == CEFRODIL_OK && value[0] == nine[2 * i + 1] && reply.since == i + 1 : status == CEFRODIL_ABSENT);
+        MUST(reply.at == put);
+    }
+    close_all();
+}
+
+static void twice(void) {
+    const uint64_t entries[9] = {5, 50, 51, 6, 60, 61, 5, 52, 53};
+    uint64_t value[2] = {0, 0};
+    uint32_t statuses[3] = {99, 99, 99};
+    cefrodil_shape shape = shape_of(4, 2, most);
+    MUST(cefrodil_open_with(&shape, 2, entries, 9, statuses, 3, &writer, readers, 1) == CEFRODIL_OK);
+    MUST(statuses[0] == CEFRODIL_OK && statuses[1] == CEFRODIL_OK && statuses[2] == CEFRODIL_OK);
+    MUST(cefrodil_get(&readers[0], 5, value, 2, &reply) == CEFRODIL_OK && value[0] == 52 && value[1] == 53 && reply.since == 3);
+    MUST(cefrodil_put_if(&writer, 6, 2, value, 2, &reply) == CEFRODIL_OK && reply.at == 4);
+    close_all();
+}
+
+static void widths(void) {
+    cefrodil_shape shape = shape_of(4, 3, most);
+    for (size_t words = 1; words <= 8; words++) {
+        uint64_t entries[18], found[8] = {0};
+        uint32_t statuses[2] = {99, 99};
+        for (size_t i = 0; i < 18; i++) {
+            entries[i] = 100 + i;
+        }
+        MUST(cefrodil_open_with(&shape, words, entries, 2 * (words + 1), statuses, 2, &writer, readers, 1) == CEFRODIL_OK);
+        MUST(statuses[0] == CEFRODIL_OK && statuses[1] == CEFRODIL_OK);
+        MUST(cefrodil_get(&readers[0], 101 + words, found, words, &reply) == CEFRODIL_OK);
+        for (size_t i = 0; i < 8; i++) {
+            MUST(found[i] == (i < words ? 102 + words + i : 0));
+        }
+        close_all();
+    }
+}
+
+/* Each refusal, with the faults behind it still there. */
+static void refused(void) {
+    cefrodil_shape shape = shape_of(3, 3, most);
+    uint32_t statuses[9] = {99, 99, 99, 99, 99, 99, 99, 99, 99};
+    shape.mix = 2;
+    MUST(cefrodil_open_with(&shape, 0, nine, 17, statuses, 9, &writer, readers, 0) == CEFRODIL_BAD_WORDS);
+    MUST(cefrodil_open_with(&shape, 9, nine, 17, statuses, 9, &writer, readers, 0) == CEFRODIL_BAD_WORDS);
+    MUST(cefrodil_open_with(&shape, 1, nine, 17, statuses, 9, &writer, readers, 0) == CEFRODIL_BAD_COUNT);
+    MUST(cefrodil_open_with(&shape, 1, nine, 18, statuses, 8, &writer, readers, 0) == CEFRODIL_BAD_COUNT);
+    MUST(cefrodil_open_with(&shape, 2, nine, 18, statuses, 9, &writer, readers, 0) == CEFRODIL_BAD_COUNT);
+    MUST(cefrodil_open_with(&shape, 1, nine, 18, statuses, 9, &writer, readers, 0) == CEFRODIL_BAD_MIX);
+    shape.mix = CEFRODIL_MIX_NONE;
+    MUST(cefrodil_open_with(&shape, 1, nine, 18, statuses, 9, &writer, readers, 0) == CEFRODIL_BAD_BUCKETS);
+    shape.buckets = 4;
+    MUST(cefrodil_open_with(&shape, 1, nine, 18, statuses, 9, &writer, readers, 0) == CEFRODIL_BAD_READERS);
+    MUST(!writer.live_ && !readers[0].live_ && !readers[1].live_);
+    MUST(cefrodil_open_with(&shape, 1, nine, 0, statuses, 0, &writer, readers, 1) == CEFRODIL_OK);
+    MUST(cefrodil_open_with(&shape, 0, nine, 17, statuses, 9, &writer, readers, 0) == CEFRODIL_IN_USE);
+    MUST(writer.live_ && readers[0].live_);
+    MUST(cefrodil_close(&writer) == CEFRODIL_OK);
+    MUST(cefrodil_open_with(&shape, 0, nine, 17, statuses, 9, &writer, readers, 2) == CEFRODIL_IN_USE);
+    MUST(cefrodil_close(&readers[0]) == CEFRODIL_OK);
+    for (int i = 0; i < 9; i++) {
+        MUST(statuses[i] == 99);
+    }
+}
+
+int main(void) {
+    loads(shape_of(4, 3, most), 8, 3, CEFRODIL_NO_ITEM);
+    loads(shape_of(2, 8, most), 9, 8, CEFRODIL_NO_PATH);
+    loads(shape_of(4, 16, 10), 3, 2, CEFRODIL_SPENT);
+    loads(shape_of(4, 16, most), 0, 0, CEFRODIL_OK);
+    twice();
+    widths();
+    refused();
+    if (line_of_failure != 0) {
+        printf("entries: line %d fails\n", line_of_failure);
+        return 1;
+    }
+    puts("entries: ok");
+    return 0;
+}

@@ -1,0 +1,47 @@
+-- Handles of a cache that was opened with entries.
+use Rattle.std.specs.Prelude.{ℕ, ◌≡◌, ◌⊎◌, ◌*◌, ◌+◌, ◌==◌, [], ◌∷◌, All, EachIndex, List, if◌then◌else◌, false, length, slice_index}
+use Rattle.mc_plan.specs.declared.answer.Why.{Why}
+use Rattle.mc_plan.specs.declared.answer.Why.TheVariants as why
+use Rattle.mc_words.specs.Places.{IsWidth}
+use Rattle.mc_shared.specs.Records.{Opening}
+use Rattle.mc_door.specs.Held.{role_in, width_of}
+use Rattle.mc_door.specs.Loading.{IsLoadedWriter, entries_in}
+use Rattle.cefrodil.specs.Open.{kept}
+use Rattle.cefrodil.specs.Openings.{IsNewAt, IsOfShape, Keeps}
+use Rattle.cefrodil.specs.declared.shape.RawShape.{RawShape}
+use Rattle.cefrodil.specs.declared.slot.Slot.{Slot}
+use Rattle.cefrodil.specs.declared.status.TheConstants.{OK, COUNT, NO_ITEM, NO_PATH, SPENT}
+
+abbrev pub left_status : Why → ℕ
+left_status why.NoPath = NO_PATH
+left_status why.NoItem = NO_ITEM
+left_status why.Spent = SPENT
+
+-- the status of the entry with this index: why it was left, where it was
+abbrev pub entry_status : List (ℕ × Why) → ℕ → ℕ
+entry_status [] i = OK
+entry_status (l ∷ left) i = if l.0 == i then left_status l.1 else entry_status left i
+
+-- so many entries have so many words in all: a key each, and a value
+abbrev pub AreEntries : ℕ → ℕ → ℕ → Type 0
+AreEntries words entry_words count = entry_words ≡ count * (1 + words)
+
+-- the writer of a new cache, which has put these entries but those that were left
+abbrev pub IsLoadedAt : Opening → ℕ → List (ℕ × List ℕ) → List (ℕ × Why) → Slot → Type 0
+IsLoadedAt o words entries left s = Keeps (λ h. (width_of h ≡ words) × IsLoadedWriter words o entries left (role_in h)) (kept s)
+
+-- the writer and the readers of a new cache with these entries, and what became of each of them
+pub record AreLoaded (raw : RawShape) (words : ℕ) (entries statuses : List ℕ) (writer : Slot) (readers : List Slot) : Type 0 where
+  pub opening : Opening
+  pub left : List (ℕ × Why)
+  pub shape : IsOfShape raw words opening
+  pub fits : AreEntries words (length entries) (length statuses)
+  pub has_writer : IsLoadedAt opening words (entries_in words (length statuses) entries) left writer
+  pub has_readers : All (IsNewAt opening false words) readers
+  pub told : EachIndex statuses (λ i. slice_index statuses i ≡ entry_status left i)
+
+-- the first fault: that of the width, then the number of words of the entries, then the others as of an opening with none
+abbrev pub RefusesWith : ℕ → ℕ → ℕ → (ℕ → Type 0) → ℕ → Type 0
+RefusesWith words entry_words count Refuses status =
+    ((status ≡ COUNT) × IsWidth words × (¬ AreEntries words entry_words count)) ⊎
+    ((IsWidth words → AreEntries words entry_words count) × Refuses status)

@@ -1,0 +1,132 @@
+//! Handles are opened, with entries.
+ghost use Rattle.std.specs.Prelude.{◌≡◌, ◌≢◌, ◌<◌, ◌^◌, ◌↔◌, All, EachIndex, IsTrue, MatchResult, length, slice_index};
+ghost use Rattle.mc_words.specs.Places.{IsWidth};
+ghost use Rattle.cefrodil.specs.Loading.{AreEntries, AreLoaded, RefusesWith, entry_status, left_status};
+ghost use Rattle.cefrodil.specs.Openings.{IsClosed, RefusesAsked, RefusesHandles, RefusesOpen};
+ghost use Rattle.cefrodil.specs.RawShapes.{HasMix, IsShapeOf};
+
+use crate::opening::{MOST_WORDS, all_closed, asked, count_of, given_out, status_of};
+use crate::shape::RawShape;
+use crate::slot::Slot;
+use crate::status::{COUNT, IN_USE, NO_ITEM, NO_MEMORY, NO_PATH, OK, SPENT};
+use mc_door::{Shape, Why, open_with};
+use std::alloc::Global;
+
+fn status_of_left(why: Why) -> u32
+    ensures { result ≡ left_status why }
+{
+    match why {
+        Why::NoPath => NO_PATH,
+        Why::NoItem => NO_ITEM,
+        Why::Spent => SPENT,
+    }
+}
+
+// Whether there are as many words as so many entries have.
+fn are_entries(words: usize, entry_words: usize, count: usize) -> bool
+    requires { words < 2 ^ 63 }
+    ensures { IsTrue result ↔ AreEntries words entry_words count }
+{
+    count.checked_mul(1 + words) == Some(entry_words)
+}
+
+// The shape that is asked for, or the first fault before those that the cache tells.
+fn asked_with(
+    shape: &RawShape,
+    words: usize,
+    entry_words: usize,
+    count: usize,
+) -> Result<Shape, u32>
+    ensures { MatchResult result (λ sh. IsWidth words × AreEntries words entry_words count × HasMix shape.now × IsShapeOf shape.now sh)
+        (λ status. RefusesWith words entry_words count (RefusesAsked shape.now words) status) }
+{
+    if words <= MOST_WORDS && words > 0 && !are_entries(words, entry_words, count) {
+        return Err(COUNT);
+    }
+    asked(shape, words)
+}
+
+fn tell_done(statuses: &mut [u32])
+    ensures { All (λ status. status ≡ OK) statuses.new }
+{
+    for status in statuses.iter_mut() {
+        *status = OK;
+    }
+}
+
+// The statuses of the entries that were left. The others are told as done.
+fn tell_left(left: &[(usize, Why)], statuses: &mut [u32])
+    requires done { All (λ status. status ≡ OK) statuses.old }
+    requires named { All (λ l. l.0 < length statuses.old) left.now }
+    ensures { EachIndex statuses.new (λ i. slice_index statuses.new i ≡ entry_status left.now i) }
+{
+    for told in 0..left.len() {
+        let (index, why) = left[left.len() - 1 - told];
+        statuses[index] = status_of_left(why);
+    }
+}
+
+// The handles are closed.
+fn open_all_with(
+    alloc: Global,
+    shape: &RawShape,
+    words: usize,
+    entries: &[u64],
+    statuses: &mut [u32],
+    writer: &mut Slot,
+    readers: &mut [Slot],
+) -> u32
+    requires { IsClosed writer.old × All IsClosed readers.old }
+    ensures opened { result ≡ OK → AreLoaded shape.now words entries.now statuses.new writer.new readers.new }
+    ensures refused { result ≢ OK → RefusesWith words (length entries.now) (length statuses.old) (RefusesOpen shape.now words (length readers.old)) result }
+    ensures closed { result ≢ OK → (statuses.new ≡ statuses.old) × (writer.new ≡ writer.old) × All IsClosed readers.new }
+{
+    let shape = match asked_with(shape, words, entries.len(), statuses.len()) {
+        Ok(shape) => shape,
+        Err(status) => return status,
+    };
+    let opened = open_with(
+        alloc,
+        shape,
+        words,
+        count_of(readers.len()),
+        statuses.len(),
+        entries,
+    );
+    let (held, rest, left) = match opened {
+        Ok(opened) => opened,
+        Err(why) => return status_of(why),
+    };
+    let Some(held) = given_out(alloc, held, rest, readers) else {
+        return NO_MEMORY;
+    };
+    tell_done(statuses);
+    tell_left(left.as_slice(), statuses);
+    writer.put(held);
+    OK
+}
+
+/// A cache for values of so many words, as by `cefrodil_open`, with entries, which are put one after the other and none of which takes
+/// another's place. `statuses` tells what became of each.
+#[unsafe(no_mangle)]
+pub extern "C" fn cefrodil_open_with(
+    alloc: Global,
+    shape: &RawShape,
+    words: usize,
+    entries: &[u64],
+    statuses: &mut [u32],
+    writer: &mut Slot,
+    readers: &mut [Slot],
+) -> u32
+    ensures opened { result ≡ OK → AreLoaded shape.now words entries.now statuses.new writer.new readers.new }
+    ensures refused { result ≢ OK → RefusesHandles (IsClosed writer.old × All IsClosed readers.old)
+        (RefusesWith words (length entries.now) (length statuses.old) (RefusesOpen shape.now words (length readers.old))) result }
+    ensures untold { result ≢ OK → statuses.new ≡ statuses.old }
+    ensures in_use { result ≡ IN_USE → (writer.new ≡ writer.old) × (readers.new ≡ readers.old) }
+    ensures closed { result ≢ OK → result ≢ IN_USE → IsClosed writer.new × All IsClosed readers.new }
+{
+    if writer.is_live() || !all_closed(readers) {
+        return IN_USE;
+    }
+    open_all_with(alloc, shape, words, entries, statuses, writer, readers)
+}
