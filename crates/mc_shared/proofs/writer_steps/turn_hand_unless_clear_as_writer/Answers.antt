@@ -60,7 +60,7 @@ returns-then-found-bit-eq0-clause-noted g c =
 pub returns-clause-acts : goal.returns-clause-acts
 returns-clause-acts g c =
     subst (λ (m : SeatView). c.turn_hand_as_writer.new.seat.me ≡ (writer_view c.args.ruled.now.layout (acts_of m.0 ++ with_bit (Hand c.args.item) c.turn_hand_as_writer.result ∷ []) (tally_of c.turn_hand_as_writer.new.seat.me.0), []))
-      (still _ _ g.J.NamesAct.act c.load-found.result c.args.bit c.args.item c.requires.act c.requires.bit.0 c.if-found-bit-eq0.false c.load-found.ensures.2.1) c.turn_hand_as_writer.ensures.acts
+    (still _ _ g.J.NamesAct.act c.load-found.result c.args.bit c.args.item c.requires.act c.requires.bit.0 c.if-found-bit-eq0.false c.load-found.ensures.2.1) c.turn_hand_as_writer.ensures.acts
 
 pub returns-clause-noted : goal.returns-clause-noted
 returns-clause-noted g c =
