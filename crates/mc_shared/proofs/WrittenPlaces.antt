@@ -1,7 +1,6 @@
 -- What an allowed act names, where it writes, and what it leaves of the words.
-use Rattle.std.proofs.Common.{ℕ, ◌≡◌, ◌⊎◌, ◌+◌, ◌*◌, ◌^◌, ◌<◌, ◌≤◌, List, [], ◌∷◌, ◌++◌, get_or, set, Option, Some, None, refl, ap, sym, ◌∙◌, subst, inl, inr, ⊎_elim, arith, get_or-set_other}
+use Rattle.std.proofs.Common.{ℕ, ◌≡◌, ◌⊎◌, ◌^◌, ◌<◌, ◌≤◌, List, [], ◌∷◌, ◌++◌, get_or, set, Option, Some, None, refl, ap, sym, ◌∙◌, subst, inl, inr, ⊎_elim, arith, get_or-set_other}
 use Rattle.mc_words.specs.Places.{word_count, all_words}
-use Rattle.mc_words.specs.declared.shape.Shape.{Shape}
 use Rattle.mc_theory.specs.Effects.{after_act}
 use Rattle.mc_theory.specs.Lists.{Made}
 use Rattle.mc_theory.specs.States.{State}
