@@ -1,6 +1,7 @@
 -- What the books' decisions say of the state in which they were made.
 use Rattle.std.specs.Prelude.{ℕ, ◌≡◌, ◌+◌, ◌<◌, List, [], Some, None, Result, Ok, Err}
 use Rattle.mc_words.specs.Answers.{PutIsSpent}
+use Rattle.mc_words.specs.Chains.{NoChain}
 use Rattle.mc_words.specs.Checks.{shape_of}
 use Rattle.mc_words.specs.KeyParts.{HasParts}
 use Rattle.mc_words.specs.Places.{moment}
@@ -35,6 +36,11 @@ pub record IsLackingKey (V : ℕ) (books : Books) (k : ℕ) (s : State V) (at : 
   pub absent : IsAbsent V (shape_of books.checked) s.words k
   pub next : at ≡ moment s.words + 1
 
+-- and both of its buckets are full: each chain from the key moves another
+pub record IsCrowdedOut (V : ℕ) (books : Books) (k : ℕ) (s : State V) (at : ℕ) : Type 0 where
+  pub lacks : IsLackingKey V books k s at
+  pub full : NoChain (shape_of books.checked) s.words k 0
+
 -- a put in state s is decided: the acts of its plan and its answer, or what is known where the key is not there
 abbrev pub IsDecided : (V : ℕ) → Books → ℕ → List ℕ → State V → Decision → Type 0
 IsDecided V books k v s (decision.Refuse why) =
@@ -60,11 +66,12 @@ abbrev pub IsNear : (V : ℕ) → Books → ℕ → List ℕ → State V → ℕ
 IsNear V books k v s at (nearby.Fill item place) =
     (item < (shape_of books.checked).items) × IsPlanned V books (filling_acts (shape_of books.checked) k v at item place) (PutCall k v) s s (answer.Put (Ok (put.Stored at 0 None)))
 IsNear V books k v s at (nearby.Wait hole) = Waits V books k s (direct_path hole)
-IsNear V books k v s at nearby.Far = IsLackingKey V books k s at
+IsNear V books k v s at nearby.Far = IsCrowdedOut V books k s at
 
 -- the sweep of a put has these readings, and the item that it found is taken from its key
 pub record IsReplaced (V : ℕ) (books : Books) (waiting : Waiting V) (call : Call) (s : State V) (rs : List Swept) (r : Replacement) : Type 0 where
   pub in_items : books.decided.item < (shape_of books.checked).items
+  pub parts : HasParts (shape_of books.checked) r.evicted r.parts
   pub planned : IsPlanned V books (replacement_acts (shape_of books.checked) waiting.key waiting.value r books.decided) call s (state_after_sweep V (shape_of books.checked) s rs) (answer.Put (Ok (storing_told books.decided (Some r.evicted))))
   pub sweeps : IsSweepOf V (shape_of books.checked) s rs (answer.Put (Ok (storing_told books.decided (Some r.evicted))))
 

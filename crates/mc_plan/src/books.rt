@@ -1,12 +1,13 @@
 //! What the writer keeps of its table beside the words, and how it decides a call.
-ghost use Rattle.std.specs.Prelude.{ℕ, ◌≡◌, ◌+◌, ◌*◌, ◌^◌, ◌<◌, ◌≤◌, [], ◌↔◌, IfOk, IsTrue, List, length};
+ghost use Rattle.std.specs.Prelude.{ℕ, ◌≡◌, ◌+◌, ◌*◌, ◌^◌, ◌<◌, ◌≤◌, [], ◌↔◌, IfNone, IfOk, IfSome, IsTrue, List, length};
+ghost use Rattle.mc_words.specs.Chains.{NoChain};
 ghost use Rattle.mc_words.specs.Checks.{shape_of};
 ghost use Rattle.mc_words.specs.KeyParts.{HasParts};
 ghost use Rattle.mc_words.specs.Places.{IsWidth, word_count};
 ghost use Rattle.mc_theory.specs.States.{State, opening};
 ghost use Rattle.mc_plan.specs.Moves.{AreTaken, AreKeys};
 ghost use Rattle.mc_plan.specs.Plans.{moves_acts};
-ghost use Rattle.mc_search.specs.Paths.{first_place};
+ghost use Rattle.mc_search.specs.Paths.{IsLeastPath, first_place};
 ghost use Rattle.mc_search.specs.Readable.{IsFilled};
 
 use crate::answer::{IfError, PutError, Spent};
@@ -40,7 +41,7 @@ pub struct Books {
 impl Books {
     ghost use Rattle.mc_plan.specs.WholeCalls.{Call};
     ghost use Rattle.mc_plan.specs.Books.{AreBooksOf, IsSweeping};
-    ghost use Rattle.mc_plan.specs.Deciding.{IsDecided, IsExchanged, IsFinished, IsFinishedNear, IsIfDecided, IsInserted, IsLackingKey, IsNear, IsRemovalDecided, IsReplaced};
+    ghost use Rattle.mc_plan.specs.Deciding.{IsDecided, IsExchanged, IsFinished, IsFinishedNear, IsIfDecided, IsInserted, IsCrowdedOut, IsLackingKey, IsNear, IsRemovalDecided, IsReplaced};
     ghost use Rattle.mc_plan.specs.Decisions.{acts_of_moves};
     ghost use Rattle.mc_plan.specs.Inside.Clerks.{IsReplacing};
     ghost use Rattle.mc_search.specs.Sweeps.{HasSwept, IsOver, Swept};
@@ -204,9 +205,36 @@ impl Books {
         Nearby::Fill { item, place: hole }
     }
 
+    /// Decides the put of a key that is not there, by the path that was found for it.
+    #[inline(always)]
+    fn insert_by<const V: usize, P: Peek>(
+        &mut self,
+        peek: &mut P,
+        key: u64,
+        path: Option<Path>,
+        value: &[u64; V],
+        at: u64,
+    ) -> Insertion
+        requires books { (s : State V) × IsLackingKey V self.old key s at × (P.words peek.old ≡ s.words) }
+        requires none { IfNone path (NoChain self.old.finder (P.words peek.old) key self.old.finder.depth) }
+        requires least { IfSome path (IsLeastPath self.old.finder (P.words peek.old) key) }
+        ensures inserted { (s : State V) → IsLackingKey V self.old key s at → P.words peek.old ≡ s.words → IsInserted V self.new key value.now s result }
+        ensures shape { self.new.checked ≡ self.old.checked }
+        ensures kept { peek.new ≡ peek.old }
+    {
+        have_words(value);
+        let Some(path) = path else {
+            return Insertion::Refuse(PutError::NoPath);
+        };
+        let Some(item) = self.free.take_least() else {
+            return Insertion::Wait(path);
+        };
+        self.store::<V, P>(peek, &path, item, at);
+        Insertion::Store
+    }
+
     /// Decides the put of a key that is not there: it is refused where no path leads to a hole, and waits where no item is free.
     /// Condition: `decide` has just answered `Insert` for the key, with this `at`.
-    #[inline(never)]
     pub fn insert<const V: usize, P: Peek>(
         &mut self,
         peek: &mut P,
@@ -219,56 +247,76 @@ impl Books {
         ensures shape { self.new.checked ≡ self.old.checked }
         ensures kept { peek.new ≡ peek.old }
     {
-        have_words(value);
-        let Some(path) = self.finder.path(peek, key) else {
-            return Insertion::Refuse(PutError::NoPath);
-        };
-        let Some(item) = self.free.take_least() else {
-            return Insertion::Wait(path);
-        };
-        self.store::<V, P>(peek, &path, item, at);
-        Insertion::Store
+        let path = self.finder.path(peek, key);
+        self.insert_by::<V, P>(peek, key, path, value, at)
     }
 
-    /// Decides how the key at the item is replaced.
+    /// The same, of a key whose two buckets are full.
+    /// Condition: `insert_near` has just answered `Far` for the key and these parts, with this `at`.
+    #[inline(always)]
+    pub fn insert_far<const V: usize, P: Peek>(
+        &mut self,
+        peek: &mut P,
+        key: u64,
+        parts: KeyParts,
+        value: &[u64; V],
+        at: u64,
+    ) -> Insertion
+        requires books { (s : State V) × IsCrowdedOut V self.old key s at × (P.words peek.old ≡ s.words) }
+        requires parts { HasParts (shape_of self.old.checked) key parts }
+        ensures inserted { (s : State V) → IsCrowdedOut V self.old key s at → P.words peek.old ≡ s.words → IsInserted V self.new key value.now s result }
+        ensures shape { self.new.checked ≡ self.old.checked }
+        ensures kept { peek.new ≡ peek.old }
+    {
+        let path = self.finder.far(peek, key, parts);
+        self.insert_by::<V, P>(peek, key, path, value, at)
+    }
+
+    /// Decides how the key at the item is replaced. The path is cut where that key stands.
+    #[inline(always)]
     fn replace<const V: usize, P: Peek>(
         &mut self,
         peek: &mut P,
-        waiting: Waiting<V>,
+        waiting: &mut Waiting<V>,
         item: u32,
     ) -> Replacement
-        requires books { (call : Call) × (s : State V) × (rs : List Swept) × IsReplacing V self.old waiting call s rs item × (P.words peek.old ≡ s.words) }
+        requires books { (call : Call) × (s : State V) × (rs : List Swept) × IsReplacing V self.old waiting.old call s rs item × (P.words peek.old ≡ s.words) }
         ensures replaced { (call : Call) (s : State V) (rs : List Swept) →
-            IsReplacing V self.old waiting.entry call s rs item → P.words peek.old ≡ s.words →
-            IsReplaced V self.new waiting.entry call s rs result }
+            IsReplacing V self.old waiting.old call s rs item → P.words peek.old ≡ s.words →
+            IsReplaced V self.new waiting.old call s rs result }
         ensures shape { self.new.checked ≡ self.old.checked }
         ensures kept { peek.new ≡ peek.old }
     {
         have_words(&waiting.value);
         let at = moment(&self.checked, peek) + 2;
         let evicted = key_at::<V, P>(&self.checked, peek, item);
-        let Some((victim, _)) = find::<V, P>(&self.checked, peek, evicted) else {
+        let parts = self.checked.parts(evicted);
+        let Some(victim) = place_of::<V, P>(&self.checked, peek, evicted, parts, item) else {
             unreachable!();
         };
-        let path = waiting.path.cut_at(victim);
-        self.store::<V, P>(peek, &path, item, at);
+        waiting.path.cut_at(victim);
+        self.store::<V, P>(peek, &waiting.path, item, at);
         self.version_steps += 2;
-        Replacement { evicted, victim }
+        Replacement {
+            evicted,
+            parts,
+            victim,
+        }
     }
 
     /// Decides the rest of a put whose sweep is over.
     /// Condition: the put waits by these books, its sweep is over, and the words are those of its beginning.
-    #[inline(never)]
+    #[inline(always)]
     pub fn finish<const V: usize, P: Peek>(
         &mut self,
         peek: &mut P,
-        waiting: Waiting<V>,
+        waiting: &mut Waiting<V>,
     ) -> Result<Replacement, PutError>
-        requires over { (call : Call) × (s : State V) × (rs : List Swept) × IsSweeping V self.old waiting call s rs ×
+        requires over { (call : Call) × (s : State V) × (rs : List Swept) × IsSweeping V self.old waiting.old call s rs ×
             IsOver (shape_of self.old.checked).items rs × (P.words peek.old ≡ s.words) }
         ensures finished { (call : Call) (s : State V) (rs : List Swept) →
-            IsSweeping V self.old waiting.entry call s rs → IsOver (shape_of self.old.checked).items rs →
-            P.words peek.old ≡ s.words → IsFinished V self.new waiting.entry call s rs result }
+            IsSweeping V self.old waiting.old call s rs → IsOver (shape_of self.old.checked).items rs →
+            P.words peek.old ≡ s.words → IsFinished V self.new waiting.old call s rs result }
         ensures shape { self.new.checked ≡ self.old.checked }
         ensures kept { peek.new ≡ peek.old }
     {

@@ -40,7 +40,7 @@ pub enum Nearby {
     Fill { item: u32, place: Place },
     /// This is a hole, and every item is in use: the hand looks for one.
     Wait(Place),
-    /// Both are full: `Books::insert` decides.
+    /// Both are full: `Books::insert_far` decides.
     Far,
 }
 
@@ -69,6 +69,8 @@ pub struct Storing {
 #[derive(Clone, Copy)]
 pub struct Replacement {
     pub evicted: u64,
+    /// The parts of that key.
+    pub parts: KeyParts,
     pub victim: Place,
 }
 

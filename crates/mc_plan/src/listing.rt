@@ -198,7 +198,7 @@ pub(crate) fn finish_put<const V: usize, P: Peek>(
     books: &mut Books,
     peek: &mut P,
     plan: &mut Plan,
-    waiting: Waiting<V>,
+    mut waiting: Waiting<V>,
 ) -> Result<Put, PutError>
     requires over { (call : Call) × (s : State V) × (rs : List Swept) × IsSweeping V books.old waiting call s rs ×
         IsOver (shape_of books.old.checked).items rs × (P.words peek.old ≡ s.words) }
@@ -213,7 +213,7 @@ pub(crate) fn finish_put<const V: usize, P: Peek>(
 {
     let key = waiting.key;
     let value = waiting.value;
-    let replacement = books.finish::<V, P>(peek, waiting)?;
+    let replacement = books.finish::<V, P>(peek, &mut waiting)?;
     let storing = books.decided();
     add_replacement(&books.checked, plan, key, &value, replacement, storing);
     Ok(storing.told(Some(replacement.evicted)))

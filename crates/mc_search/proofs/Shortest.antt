@@ -95,6 +95,37 @@ least_direct sh w k a b p ea eb none hole =
       least = λ ps g c. omega arith;
     }
 
+-- so it is with no bucket but the key's two, where both are full
+pub none_near : (sh : Shape) (w : List ℕ) (k a b : ℕ) → a ≡ first_of sh k → b ≡ second_of sh k → IsFull sh w a → IsFull sh w b → NoChain sh w k 0
+none_near sh w k a b ea eb fa fb (p ∷ ps) h c = omega arith
+none_near sh w k a b ea eb fa fb [] h c = elim c.leads [
+  | inl x ↦ absurd (subst (λ (y : ℕ). IsFull sh w y) (ea ∙ sym x.1) fa h.slot x.0.0.in_bucket x.0.1)
+  | inr x ↦ absurd (subst (λ (y : ℕ). IsFull sh w y) (eb ∙ sym x.1) fb h.slot x.0.0.in_bucket x.0.1)
+]
+
+-- and where no chain is that short, both are full
+pub first_full : (sh : Shape) (w : List ℕ) (k a : ℕ) → a ≡ first_of sh k → a < sh.buckets → NoChain sh w k 0 → IsFull sh w a
+unfolding IsDistinct
+first_full sh w k a ea in_table none j l empty =
+    let hole : Place = record { bucket = a; slot = j } in
+    let long = none [] hole (record { leads = inl ((record { in_table = in_table; in_bucket = l }, empty), ea); distinct = (tt, tt) }) in
+    omega arith
+
+pub second_full : (sh : Shape) (w : List ℕ) (k b : ℕ) → b ≡ second_of sh k → b < sh.buckets → NoChain sh w k 0 → IsFull sh w b
+unfolding IsDistinct
+second_full sh w k b eb in_table none j l empty =
+    let hole : Place = record { bucket = b; slot = j } in
+    let long = none [] hole (record { leads = inr ((record { in_table = in_table; in_bucket = l }, empty), eb); distinct = (tt, tt) }) in
+    omega arith
+
+-- so the way back from where the search ended is a least path
+pub least_traced : (sh : Shape) (w : List ℕ) (k i : ℕ) (q : List Entry) (p : Path) → IsFound sh w k q i p.hole → IsChain sh w k p.places.items p.hole → length p.places.items ≡ depth_at q i → IsLeastPath sh w k p
+least_traced sh w k i q p found chain many = record {
+  chain = chain;
+  within = let deep = found.tree.deep i found.queued in omega arith;
+  least = λ ps g c. let least = found.least ps g c in omega arith;
+}
+
 -- its length is the least
 pub least_length : (sh : Shape) (w : List ℕ) (k : ℕ) (p : Path) → IsLeastPath sh w k p → IsLeastLength sh w k (length p.places.items)
 least_length sh w k p l = record { places = p.places.items; hole = p.hole; chain = l.chain; many = refl; least = l.least }

@@ -11,7 +11,6 @@ use crate::bucket::hole_in;
 use crate::path::Path;
 use crate::queue::{Entry, clean, start};
 use crate::search::{search, trace};
-use arrayvec::ArrayVec;
 use mc_theory::Peek;
 use mc_words::{Checked, KeyParts, NoMemory, Place};
 use std::alloc::Global;
@@ -84,6 +83,7 @@ impl Finder {
         requires words { HasSlots self.now (P.words peek.old) }
         requires parts { HasParts self.now key parts }
         ensures found { IfSome result (λ hole. IsLeastPath self.now (P.words peek.old) key (direct_path hole)) }
+        ensures none { IfNone result (NoChain self.now (P.words peek.old) key 0) }
         ensures words { P.words peek.new ≡ P.words peek.old }
         ensures kept { peek.new ≡ peek.old }
     {
@@ -92,29 +92,24 @@ impl Finder {
         hole_in_either(&checked, peek, parts.first, parts.second)
     }
 
-    /// A shortest path for the key, if there is one within the depth of the shape.
+    /// A shortest path for a key whose two buckets are full, if there is one within the depth of the shape.
     ///
     /// Of several it is the first of a search breadth first, which looks at a bucket's slots in order.
-    /// Condition: the words reach as far as the last slot of the finder's shape, and each slot is empty or names an item.
-    pub fn path<P: Peek>(&mut self, peek: &mut P, key: u64) -> Option<Path>
+    /// Condition: as for `path`; `near` finds no hole, and the parts are the key's.
+    pub fn far<P: Peek>(&mut self, peek: &mut P, key: u64, parts: KeyParts) -> Option<Path>
         requires words { HasSlots self.old (P.words peek.old) }
         requires filled { IsFilled self.old (P.words peek.old) }
+        requires parts { HasParts self.old key parts }
+        requires full { NoChain self.old (P.words peek.old) key 0 }
         ensures found { IfSome result (IsLeastPath self.old (P.words peek.old) key) }
         ensures none { IfNone result (NoChain self.old (P.words peek.old) key self.old.depth) }
         ensures finder { self.new ≡ self.old }
         ensures words { P.words peek.new ≡ P.words peek.old }
         ensures kept { peek.new ≡ peek.old }
     {
+        let _ = key;
         let checked = self.checked;
-        let first = checked.first(key);
-        let second = checked.alt(first, checked.tag(key));
-        if let Some(hole) = hole_in_either(&checked, peek, first, second) {
-            return Some(Path {
-                places: ArrayVec::new(),
-                hole,
-            });
-        }
-        start(&mut self.queue, &mut self.seen, first, second);
+        start(&mut self.queue, &mut self.seen, parts.first, parts.second);
         let found = search(&checked, &mut self.queue, &mut self.seen, peek);
         let path = match found {
             Some(hole) => Some(Path {
@@ -125,5 +120,24 @@ impl Finder {
         };
         clean(&mut self.queue, &mut self.seen);
         path
+    }
+
+    /// A shortest path for the key, if there is one within the depth of the shape.
+    ///
+    /// Condition: the words reach as far as the last slot of the finder's shape, and each slot is empty or names an item.
+    pub fn path<P: Peek>(&mut self, peek: &mut P, key: u64) -> Option<Path>
+        requires words { HasSlots self.old (P.words peek.old) }
+        requires filled { IsFilled self.old (P.words peek.old) }
+        ensures found { IfSome result (IsLeastPath self.old (P.words peek.old) key) }
+        ensures none { IfNone result (NoChain self.old (P.words peek.old) key self.old.depth) }
+        ensures finder { self.new ≡ self.old }
+        ensures words { P.words peek.new ≡ P.words peek.old }
+        ensures kept { peek.new ≡ peek.old }
+    {
+        let parts = self.checked.parts(key);
+        match self.near(peek, key, parts) {
+            Some(hole) => Some(Path::direct(hole)),
+            None => self.far(peek, key, parts),
+        }
     }
 }

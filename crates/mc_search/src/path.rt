@@ -54,24 +54,17 @@ impl Path {
         }
     }
 
-    /// The path up to the victim's place, which is empty once the victim is taken out. It stays as it is where that is none of
-    /// its places.
-    pub fn cut_at(self, victim: Place) -> Path
-        ensures cut { IsCut victim self.places.items self.hole result.places.items result.hole }
+    /// Cuts the path at the victim's place, which is empty once the victim is taken out: what is left leads there. It stays as it
+    /// is where that is none of its places.
+    pub fn cut_at(&mut self, victim: Place)
+        ensures cut { IsCut victim self.old.places.items self.old.hole self.new.places.items self.new.hole }
         ensures chain { (sh : Shape) (w later : List ℕ) (k : ℕ) → IsPlace sh victim →
-            IsChain sh w k self.places.items self.hole → SetsSlot sh w later (slot_number victim) 0 →
-            IsChain sh later k result.places.items result.hole }
+            IsChain sh w k self.old.places.items self.old.hole → SetsSlot sh w later (slot_number victim) 0 →
+            IsChain sh later k self.new.places.items self.new.hole }
     {
-        match index_of(self.places.as_slice(), victim) {
-            Some(n) => {
-                let mut places = self.places;
-                places.truncate(n);
-                Path {
-                    places,
-                    hole: victim,
-                }
-            }
-            None => self,
+        if let Some(n) = index_of(self.places.as_slice(), victim) {
+            self.places.truncate(n);
+            self.hole = victim;
         }
     }
 }

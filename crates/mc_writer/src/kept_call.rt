@@ -5,11 +5,13 @@ ghost use Rattle.mc_plan.specs.WholeCalls.{KeptCall};
 ghost use Rattle.mc_plan.specs.declared.answer.Answer.TheVariants as answer;
 ghost use Rattle.mc_shared.specs.Views.{layout_of};
 ghost use Rattle.mc_words.specs.Checks.{shape_of};
+ghost use Rattle.mc_words.specs.KeyParts.{HasParts};
 ghost use Rattle.mc_writer.specs.WriterCalls.{HasCalled, IsRested};
 
 use crate::pen::Pen;
 use mc_plan::{Books, Decision, Insertion, Put, Why};
 use mc_shared::{Cells, WriterSeat};
+use mc_words::KeyParts;
 
 impl<'a, const V: usize> Pen<'a, V> {
     ghost use Rattle.mc_writer.specs.Inside.Pens.{IsSamePen, state_at};
@@ -19,10 +21,12 @@ impl<'a, const V: usize> Pen<'a, V> {
         &mut self,
         books: &mut Books,
         key: u64,
+        parts: KeyParts,
         value: &[u64; V],
         at: u64,
     ) -> Result<Put, Why>
         requires layout { self.old.cells.now.layout ≡ layout_of V (shape_of books.old.checked) }
+        requires parts { HasParts self.old.cells.now.layout.shape key parts }
         requires lacks { IsLackingKey V books.old key (state_at V self.old) at }
         ensures same { IsSamePen V self.old self.new }
         ensures called { HasCalled V self.old.cells.now.layout.shape (KeptCall key value.now) self.old.seat.now self.new.seat.now (answer.Kept result) }
@@ -32,7 +36,7 @@ impl<'a, const V: usize> Pen<'a, V> {
             Insertion::Refuse(why) => Err(Why::of(why)),
             Insertion::Store => {
                 let storing = books.decided();
-                self.make_storing(key, value, storing);
+                self.make_storing(key, parts, value, storing);
                 Ok(storing.told(None))
             }
             Insertion::Wait(_) => Err(Why::NoItem),
@@ -53,7 +57,7 @@ impl<'a, const V: usize> Pen<'a, V> {
                 self.make_renewal(key, parts, value, at, item);
                 Ok(Put::Renewed { at })
             }
-            Decision::Insert { at } => self.put_kept_new(books, key, value, at),
+            Decision::Insert { at } => self.put_kept_new(books, key, parts, value, at),
         }
     }
 }

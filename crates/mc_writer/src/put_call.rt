@@ -1,7 +1,7 @@
 //! The writer's put.
 ghost use Rattle.std.specs.Prelude.{◌≡◌, ◌<◌};
 ghost use Rattle.mc_words.specs.Places.{IsWidth};
-ghost use Rattle.mc_plan.specs.Deciding.{IsDecided, IsInserted, IsLackingKey, IsNear};
+ghost use Rattle.mc_plan.specs.Deciding.{IsCrowdedOut, IsDecided, IsInserted, IsLackingKey, IsNear};
 ghost use Rattle.mc_plan.specs.Decisions.{exchange_acts, filling_acts, renewal_acts, replacement_acts, storing_acts};
 ghost use Rattle.mc_plan.specs.Books.{Waits};
 ghost use Rattle.mc_plan.specs.WholeCalls.{PutCall};
@@ -60,6 +60,25 @@ impl<'a, const V: usize> Pen<'a, V> {
         ensures shape { books.new.checked ≡ books.old.checked }
     {
         books.insert_near::<V, Pen<V>>(self, key, parts, value, at)
+    }
+
+    /// Decides the put of a key whose two buckets are full.
+    #[inline(always)]
+    fn decide_far(
+        &mut self,
+        books: &mut Books,
+        key: u64,
+        parts: KeyParts,
+        value: &[u64; V],
+        at: u64,
+    ) -> Insertion
+        requires crowded { IsCrowdedOut V books.old key (state_at V self.old) at }
+        requires parts { HasParts (shape_of books.old.checked) key parts }
+        ensures pen { self.new ≡ self.old }
+        ensures inserted { IsInserted V books.new key value.now (state_at V self.old) result }
+        ensures shape { books.new.checked ≡ books.old.checked }
+    {
+        books.insert_far::<V, Pen<V>>(self, key, parts, value, at)
     }
 
     /// Decides the put of a key that is not there.
@@ -150,14 +169,20 @@ impl<'a, const V: usize> Pen<'a, V> {
     }
 
     /// Makes the moves and the fill, and the mark of its item.
-    pub(crate) fn make_storing(&mut self, key: u64, value: &[u64; V], storing: &Storing)
+    pub(crate) fn make_storing(
+        &mut self,
+        key: u64,
+        parts: KeyParts,
+        value: &[u64; V],
+        storing: &Storing,
+    )
         requires width { IsWidth V }
         requires item { storing.now.item < self.old.cells.now.layout.shape.items }
+        requires parts { HasParts self.old.cells.now.layout.shape key parts }
         requires due { IsDue V (storing_acts self.old.cells.now.layout.shape key value.now storing.now) self.old }
         ensures made { HasMade V (storing_acts self.old.cells.now.layout.shape key value.now storing.now) self.old self.new }
     {
         self.make_moves(storing.moves.as_slice());
-        let parts = self.cells.parts(key);
         self.fill(key, parts, value, storing.at, storing.item, storing.place);
         self.set_mark_unless_set(storing.item);
     }
@@ -166,18 +191,25 @@ impl<'a, const V: usize> Pen<'a, V> {
     fn make_replacement(
         &mut self,
         key: u64,
+        parts: KeyParts,
         value: &[u64; V],
         replacement: Replacement,
         storing: &Storing,
     )
         requires width { IsWidth V }
         requires item { storing.now.item < self.old.cells.now.layout.shape.items }
+        requires parts { HasParts self.old.cells.now.layout.shape key parts }
+        requires evicted { HasParts self.old.cells.now.layout.shape replacement.evicted replacement.parts }
         requires due { IsDue V (replacement_acts self.old.cells.now.layout.shape key value.now replacement storing.now) self.old }
         ensures made { HasMade V (replacement_acts self.old.cells.now.layout.shape key value.now replacement storing.now) self.old self.new }
     {
-        let parts = self.cells.parts(replacement.evicted);
-        self.take_out(replacement.evicted, parts, Deed::Evict, replacement.victim);
-        self.make_storing(key, value, storing);
+        self.take_out(
+            replacement.evicted,
+            replacement.parts,
+            Deed::Evict,
+            replacement.victim,
+        );
+        self.make_storing(key, parts, value, storing);
     }
 }
 
@@ -186,15 +218,17 @@ impl<'a, const V: usize> Pen<'a, V> {
     ghost use Rattle.mc_writer.specs.Inside.Pens.{IsSamePen, state_at};
 
     /// Puts a key for which no item is free.
-    #[inline(never)]
+    #[inline(always)]
     fn put_waiting(
         &mut self,
         books: &mut Books,
         key: u64,
+        parts: KeyParts,
         value: &[u64; V],
         path: Path,
     ) -> Result<Put, PutError>
         requires layout { self.old.cells.now.layout ≡ layout_of V (shape_of books.old.checked) }
+        requires parts { HasParts self.old.cells.now.layout.shape key parts }
         requires waits { Waits V books.old key (state_at V self.old) path }
         ensures same { IsSamePen V self.old self.new }
         ensures called { HasCalled V self.old.cells.now.layout.shape (PutCall key value.now) self.old.seat.now self.new.seat.now (answer.Put result) }
@@ -202,10 +236,10 @@ impl<'a, const V: usize> Pen<'a, V> {
     {
         let mut waiting = Waiting::new(books, key, *value, path);
         self.turn_round(books, &mut waiting);
-        match self.finish(books, waiting) {
+        match self.finish(books, &mut waiting) {
             Ok(replacement) => {
                 let storing = books.decided();
-                self.make_replacement(key, value, replacement, storing);
+                self.make_replacement(key, parts, value, replacement, storing);
                 Ok(storing.told(Some(replacement.evicted)))
             }
             Err(why) => Err(why),
@@ -250,23 +284,25 @@ impl<'a, const V: usize> Pen<'a, V> {
         &mut self,
         books: &mut Books,
         key: u64,
+        parts: KeyParts,
         value: &[u64; V],
         at: u64,
     ) -> Result<Put, PutError>
         requires layout { self.old.cells.now.layout ≡ layout_of V (shape_of books.old.checked) }
-        requires lacks { IsLackingKey V books.old key (state_at V self.old) at }
+        requires parts { HasParts self.old.cells.now.layout.shape key parts }
+        requires crowded { IsCrowdedOut V books.old key (state_at V self.old) at }
         ensures same { IsSamePen V self.old self.new }
         ensures called { HasCalled V self.old.cells.now.layout.shape (PutCall key value.now) self.old.seat.now self.new.seat.now (answer.Put result) }
         ensures rested { IsRested V books.new self.new.seat.now }
     {
-        match self.decide_insert(books, key, value, at) {
+        match self.decide_far(books, key, parts, value, at) {
             Insertion::Refuse(why) => Err(why),
             Insertion::Store => {
                 let storing = books.decided();
-                self.make_storing(key, value, storing);
+                self.make_storing(key, parts, value, storing);
                 Ok(storing.told(None))
             }
-            Insertion::Wait(path) => self.put_waiting(books, key, value, path),
+            Insertion::Wait(path) => self.put_waiting(books, key, parts, value, path),
         }
     }
 
@@ -297,7 +333,7 @@ impl<'a, const V: usize> Pen<'a, V> {
                 })
             }
             Nearby::Wait(hole) => self.put_evicting(books, key, parts, value, hole),
-            Nearby::Far => self.put_far(books, key, value, at),
+            Nearby::Far => self.put_far(books, key, parts, value, at),
         }
     }
 

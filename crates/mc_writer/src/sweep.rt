@@ -18,16 +18,17 @@ impl<'a, const V: usize> Pen<'a, V> {
     ghost use Rattle.mc_writer.specs.Inside.Turns.{IsSwept, IsTurned};
 
     /// Decides the rest of a put whose sweep is over.
+    #[inline(always)]
     pub(crate) fn finish(
         &mut self,
         books: &mut Books,
-        waiting: Waiting<V>,
+        waiting: &mut Waiting<V>,
     ) -> Result<Replacement, PutError>
-        requires over { (call : Call) × (s : State V) × (rs : List Swept) × IsSwept V books.old waiting call s rs self.old }
+        requires over { (call : Call) × (s : State V) × (rs : List Swept) × IsSwept V books.old waiting.old call s rs self.old }
         ensures pen { self.new ≡ self.old }
         ensures finished { (call : Call) (s : State V) (rs : List Swept) →
-            IsSwept V books.old waiting.entry call s rs self.old →
-            IsFinished V books.new waiting.entry call s rs result }
+            IsSwept V books.old waiting.old call s rs self.old →
+            IsFinished V books.new waiting.old call s rs result }
         ensures shape { books.new.checked ≡ books.old.checked }
     {
         books.finish::<V, Pen<V>>(self, waiting)

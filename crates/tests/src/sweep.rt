@@ -41,18 +41,18 @@ fn a_path_is_cut_at_the_victim(rt: HostRuntime) -> Result<(), Fail> {
     for bucket in 0..3 {
         let _ = places.try_push(place(bucket, 1));
     }
-    let path = Path {
+    let mut path = Path {
         places,
         hole: place(3, 0),
     };
-    let path = path.cut_at(place(2, 0));
+    path.cut_at(place(2, 0));
     assert!(rt; path.places.len() == 3);
     assert!(rt; path.hole == place(3, 0));
-    let path = path.cut_at(place(1, 1));
+    path.cut_at(place(1, 1));
     assert!(rt; path.places.as_slice() == [place(0, 1)].as_slice());
     assert!(rt; path.hole == place(1, 1));
     assert!(rt; path.first() == place(0, 1));
-    let path = path.cut_at(place(0, 1));
+    path.cut_at(place(0, 1));
     assert!(rt; path.places.is_empty());
     assert!(rt; path.hole == place(0, 1));
     Ok(())

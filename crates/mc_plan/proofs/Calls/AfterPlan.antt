@@ -332,6 +332,9 @@ module _ (V : ℕ) (b : Books) (s : State V) (w : List ℕ) (old : AreBooksOf V 
   pub none_in : (k : ℕ) → NoChain b.finder w k b.finder.depth → NoChain (shape_of b.checked) s.words k (shape_of b.checked).depth
   none_in k none = subst (λ (sh : Shape). NoChain sh s.words k sh.depth) old.finder (subst (λ (x : List ℕ). NoChain b.finder x k b.finder.depth) same none)
 
+  pub full_in : (k : ℕ) → NoChain b.finder w k 0 → NoChain (shape_of b.checked) s.words k 0
+  full_in k full = subst (λ (sh : Shape). NoChain sh s.words k 0) old.finder (subst (λ (x : List ℕ). NoChain b.finder x k 0) same full)
+
   pub least_in : (k : ℕ) (path : Path) → IsLeastPath b.finder w k path → IsLeastPath (shape_of b.checked) s.words k path
   least_in k path least = subst (λ (sh : Shape). IsLeastPath sh s.words k path) old.finder (subst (λ (x : List ℕ). IsLeastPath b.finder x k path) same least)
 

@@ -15,4 +15,4 @@ pub returns-in-None-clause-finished : goal.returns-in-None-clause-finished
 returns-in-None-clause-finished g c call s rs on over same =
     let items = (shape_of c.args.self.now.checked).items in
     let none : victim_of rs ≡ None = sym (c.victim.ensures items s.hand rs on.has) ∙ c.in-None.is in
-    recent_planned g.row.V c.args.self.now c.args.waiting call s rs c.hand-self.result on over none (c.hand-self.ensures.home items s.hand rs on.has (over_without items rs over none))
+    recent_planned g.row.V c.args.self.now c.args.waiting.now call s rs c.hand-self.result on over none (c.hand-self.ensures.home items s.hand rs on.has (over_without items rs over none))

@@ -5,7 +5,7 @@ use Rattle.mc_words.specs.declared.shape.Shape.{Shape}
 use Rattle.mc_plan.specs.Books.{Waits}
 use Rattle.mc_search.specs.Paths.{direct_path}
 use Rattle.mc_search.proofs.TakenItems.{free_below}
-use Rattle.mc_plan.proofs.Calls.AfterPlan.{books_still, stored_planned, least_in}
+use Rattle.mc_plan.proofs.Calls.AfterPlan.{books_still, full_in, stored_planned, least_in}
 use Rattle.mc_plan.proofs.books.Books.insert_near.Goals as goal
 
 pub near-requires-clause-parts : goal.near-requires-clause-parts
@@ -44,3 +44,6 @@ returns-clause-near g c s lacks same =
     let item = free_below b.free i old.kept was in
     let below : i < sh.items = omega (arith, item, old.items) in
     (below, stored_planned V b k v i c.args.at path free s b.checked.sound (omega arith) (c.told-value, c.have_words.ensures.words) old lacks.absent least tt below lacks.unspent lacks.next was c.take_least.ensures.kept c.take_least.ensures.items c.in-Some-take_least.ensures.takes)
+
+pub returns-in_default-clause-near : goal.returns-in_default-clause-near
+returns-in_default-clause-near g c s lacks same = record { lacks = lacks; full = full_in g.row.V c.args.self.now s (g.P.Peek.words c.args.peek.now) lacks.known same c.args.key c.in_default.ensures.none }

@@ -1,4 +1,5 @@
 use Rattle.std.proofs.Common.{◌<◌, arith, sym, subst}
+use Rattle.mc_words.specs.KeyParts.{HasParts}
 use Rattle.mc_words.specs.declared.shape.Shape.{Shape}
 use Rattle.mc_plan.specs.Decisions.{storing_acts}
 use Rattle.mc_plan.specs.Plans.{evict_acts}
@@ -7,7 +8,7 @@ use Rattle.mc_writer.proofs.Pens.{first_due, made_then, rest_due, shape_kept}
 use Rattle.mc_writer.proofs.pen.Pen.make_replacement.Goals as goal
 
 pub take_out-requires : goal.take_out-requires
-take_out-requires g c = (omega arith, (first_due g.row.V (evict_acts c.args.replacement.evicted c.args.replacement.victim) (storing_acts c.args.self.now.cells.now.layout.shape c.args.key c.args.value.now c.args.storing.now) _ c.requires.due, c.parts-parts.ensures))
+take_out-requires g c = (omega arith, (first_due g.row.V (evict_acts c.args.replacement.evicted c.args.replacement.victim) (storing_acts c.args.self.now.cells.now.layout.shape c.args.key c.args.value.now c.args.storing.now) _ c.requires.due, c.requires.evicted))
 
 pub make_storing-requires : goal.make_storing-requires
 make_storing-requires g c =
@@ -18,7 +19,7 @@ make_storing-requires g c =
         omega (arith, c.requires.width.most),
         (
           c.requires.width,
-          (subst (λ (sh : Shape). c.args.storing.now.item < sh.items) shape c.requires.item, subst (λ (sh : Shape). IsDue g.row.V (storing_acts sh c.args.key c.args.value.now c.args.storing.now) c.take_out.new.self) shape due),
+          (subst (λ (sh : Shape). c.args.storing.now.item < sh.items) shape c.requires.item, (subst (λ (sh : Shape). HasParts sh c.args.key c.args.parts) shape c.requires.parts, subst (λ (sh : Shape). IsDue g.row.V (storing_acts sh c.args.key c.args.value.now c.args.storing.now) c.take_out.new.self) shape due)),
         ),
       ),
     )

@@ -1,4 +1,5 @@
 use Rattle.std.proofs.Common.{◌<◌, List, arith, [], ◌∷◌, sym, subst}
+use Rattle.mc_words.specs.KeyParts.{HasParts}
 use Rattle.mc_words.specs.declared.shape.Shape.{Shape}
 use Rattle.mc_theory.specs.declared.act.Act.TheVariants as act
 use Rattle.mc_plan.specs.Decisions.{acts_of_moves, filling_acts}
@@ -34,7 +35,7 @@ fill-requires g c =
         omega (arith, c.requires.width),
         (
           c.requires.width,
-          (subst (λ (sh : Shape). storing.item < sh.items) shape c.requires.item, (subst (λ (sh : Shape). IsDue g.row.V (fill_acts sh c.args.key c.args.value.now storing.at storing.item storing.place) c.make_moves.new.self) shape fills, c.parts-parts.ensures)),
+          (subst (λ (sh : Shape). storing.item < sh.items) shape c.requires.item, (subst (λ (sh : Shape). IsDue g.row.V (fill_acts sh c.args.key c.args.value.now storing.at storing.item storing.place) c.make_moves.new.self) shape fills, subst (λ (sh : Shape). HasParts sh c.args.key c.args.parts) shape c.requires.parts)),
         ),
       ),
     )

@@ -1,5 +1,6 @@
 use Rattle.std.proofs.Common.{◌≡◌, ◌<◌, Ok, Err, None, ap, arith, refl, sym, subst}
 use Rattle.mc_words.specs.Checks.{shape_of}
+use Rattle.mc_words.specs.KeyParts.{HasParts}
 use Rattle.mc_words.specs.declared.shape.Shape.{Shape}
 use Rattle.mc_plan.specs.Books.{IsPlanned}
 use Rattle.mc_plan.specs.WholeCalls.{PutCall}
@@ -18,19 +19,19 @@ use Rattle.mc_writer.proofs.pen.Pen.put_far.Given.{Over}
 
 made : (g : Over) (c : After-told g) → HasMade g.row.V (storing_acts c.args.self.now.cells.now.layout.shape c.args.key c.args.value.now c.decided-storing.result.now) c.args.self.now c.make_storing.new.self
 made g c =
-    subst (λ (x : Pen g.row.V). HasMade g.row.V (storing_acts x.cells.now.layout.shape c.args.key c.args.value.now c.decided-storing.result.now) x c.make_storing.new.self) c.decide_insert.ensures.pen c.make_storing.ensures.made
+    subst (λ (x : Pen g.row.V). HasMade g.row.V (storing_acts x.cells.now.layout.shape c.args.key c.args.value.now c.decided-storing.result.now) x c.make_storing.new.self) c.decide_far.ensures.pen c.make_storing.ensures.made
 
 -- the moves, the fill and the mark are a whole call
-stored : (g : Over) (c : After-told g) → HasCalled g.row.V c.args.self.now.cells.now.layout.shape (PutCall c.args.key c.args.value.now) c.args.self.now.seat.now c.make_storing.new.self.seat.now (answer.Put (Ok c.told.result)) × IsRested g.row.V c.decide_insert.new.books c.make_storing.new.self.seat.now
+stored : (g : Over) (c : After-told g) → HasCalled g.row.V c.args.self.now.cells.now.layout.shape (PutCall c.args.key c.args.value.now) c.args.self.now.seat.now c.make_storing.new.self.seat.now (answer.Put (Ok c.told.result)) × IsRested g.row.V c.decide_far.new.books c.make_storing.new.self.seat.now
 stored g c =
     let V = g.row.V in
     let pen = c.args.self.now in
     let sh = pen.cells.now.layout.shape in
-    let b = c.decide_insert.new.books in
+    let b = c.decide_far.new.books in
     let s = state_at V pen in
     let storing = c.decided-storing.result.now in
     let call = PutCall c.args.key c.args.value.now in
-    let layout = layout_kept g.row.V c.args.self.now c.args.books.now c.decide_insert.new.books c.requires.layout c.decide_insert.ensures.shape in
+    let layout = layout_kept g.row.V c.args.self.now c.args.books.now c.decide_far.new.books c.requires.layout c.decide_far.ensures.shape in
     let shape : shape_of b.checked ≡ sh = sym (ap (λ (l : Layout). l.shape) layout) in
     let told = answer.Put (Ok (storing_told storing None)) in
     let planned : IsPlanned V b (storing_acts sh c.args.key c.args.value.now storing) call s s told =
@@ -44,11 +45,11 @@ make_storing-requires g c =
     let V = g.row.V in
     let pen = c.args.self.now in
     let sh = pen.cells.now.layout.shape in
-    let b = c.decide_insert.new.books in
+    let b = c.decide_far.new.books in
     let s = state_at V pen in
     let storing = c.decided-storing.result.now in
     let call = PutCall c.args.key c.args.value.now in
-    let layout = layout_kept g.row.V c.args.self.now c.args.books.now c.decide_insert.new.books c.requires.layout c.decide_insert.ensures.shape in
+    let layout = layout_kept g.row.V c.args.self.now c.args.books.now c.decide_far.new.books c.requires.layout c.decide_far.ensures.shape in
     let shape : shape_of b.checked ≡ sh = sym (ap (λ (l : Layout). l.shape) layout) in
     let told = answer.Put (Ok (storing_told storing None)) in
     let planned : IsPlanned V b (storing_acts sh c.args.key c.args.value.now storing) call s s told =
@@ -56,15 +57,18 @@ make_storing-requires g c =
     (subst (λ (d : Storing). IsPlanned V b (storing_acts (shape_of b.checked) c.args.key c.args.value.now d) call s s (answer.Put (Ok (storing_told d None)))) (sym c.decided-storing.ensures) c.in-Store.ensures.inserted.1) in
     let due = due_now V pen b call told layout (storing_acts sh c.args.key c.args.value.now storing) planned in
     let within = subst (λ (d : Storing). d.item < sh.items) (sym c.decided-storing.ensures) (subst (λ (z : Shape). b.decided.item < z.items) shape c.in-Store.ensures.inserted.0) in
-    let same = sym c.decide_insert.ensures.pen in (
+    let same = sym c.decide_far.ensures.pen in (
       omega arith,
       (
-        omega (arith, c.requires.lacks.known.width.most),
+        omega (arith, c.requires.crowded.lacks.known.width.most),
         (
-          c.requires.lacks.known.width,
+          c.requires.crowded.lacks.known.width,
           (
             subst (λ (x : Pen V). storing.item < x.cells.now.layout.shape.items) same within,
-            subst (λ (x : Pen V). IsDue V (storing_acts x.cells.now.layout.shape c.args.key c.args.value.now storing) x) same due,
+            (
+              subst (λ (x : Pen V). HasParts x.cells.now.layout.shape c.args.key c.args.parts) same c.requires.parts,
+              subst (λ (x : Pen V). IsDue V (storing_acts x.cells.now.layout.shape c.args.key c.args.value.now storing) x) same due,
+            ),
           ),
         ),
       ),
@@ -81,5 +85,5 @@ returns-in-Store-clause-rested g c = (stored g (goal.at.returns-in-Store-clause-
 
 pub returns-in-Refuse-clause-called : goal.returns-in-Refuse-clause-called
 returns-in-Refuse-clause-called g c =
-    let layout = layout_kept g.row.V c.args.self.now c.args.books.now c.decide_insert.new.books c.requires.layout c.decide_insert.ensures.shape in
-    (refused_now g.row.V c.args.self.now c.decide_insert.new.books (PutCall c.args.key c.args.value.now) (answer.Put (Err c.in-Refuse.why)) layout c.decide_insert.new.self c.decide_insert.ensures.pen c.in-Refuse.ensures.inserted.1 c.in-Refuse.ensures.inserted.0).0
+    let layout = layout_kept g.row.V c.args.self.now c.args.books.now c.decide_far.new.books c.requires.layout c.decide_far.ensures.shape in
+    (refused_now g.row.V c.args.self.now c.decide_far.new.books (PutCall c.args.key c.args.value.now) (answer.Put (Err c.in-Refuse.why)) layout c.decide_far.new.self c.decide_far.ensures.pen c.in-Refuse.ensures.inserted.1 c.in-Refuse.ensures.inserted.0).0

@@ -45,6 +45,11 @@ make_renewal-requires g c =
     let width = c.requires.rested.known.width in
     (omega arith, (omega (arith, width.most), (width, (subst (λ (x : Pen V). IsDue V plan x) (sym c.decide.ensures.pen) due, subst (λ (x : Pen V). HasParts x.cells.now.layout.shape c.args.key c.parts-parts.result) (sym c.decide.ensures.pen) c.parts-parts.ensures))))
 
+pub put_kept_new-requires : goal.put_kept_new-requires
+put_kept_new-requires g c =
+    let parts = subst (λ (x : Pen g.row.V). HasParts x.cells.now.layout.shape c.args.key c.parts-parts.result) (sym c.decide.ensures.pen) c.parts-parts.ensures in
+    search (rules, parts)
+
 pub returns-in-Renew-clause-same : goal.returns-in-Renew-clause-same
 returns-in-Renew-clause-same g c = (made g (goal.at.returns-in-Renew-clause-same g c).After-make_renewal).same
 

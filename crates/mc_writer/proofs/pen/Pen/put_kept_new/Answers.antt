@@ -1,5 +1,6 @@
 use Rattle.std.proofs.Common.{[], ◌≡◌, ◌<◌, Ok, Err, None, ap, arith, refl, sym, subst}
 use Rattle.mc_words.specs.Checks.{shape_of}
+use Rattle.mc_words.specs.KeyParts.{HasParts}
 use Rattle.mc_words.specs.declared.shape.Shape.{Shape}
 use Rattle.mc_plan.specs.Books.{IsPlanned}
 use Rattle.mc_plan.specs.WholeCalls.{KeptCall}
@@ -68,7 +69,10 @@ make_storing-requires g c =
           c.requires.lacks.known.width,
           (
             subst (λ (x : Pen V). storing.item < x.cells.now.layout.shape.items) same within,
-            subst (λ (x : Pen V). IsDue V (storing_acts x.cells.now.layout.shape c.args.key c.args.value.now storing) x) same due,
+            (
+              subst (λ (x : Pen V). HasParts x.cells.now.layout.shape c.args.key c.args.parts) same c.requires.parts,
+              subst (λ (x : Pen V). IsDue V (storing_acts x.cells.now.layout.shape c.args.key c.args.value.now storing) x) same due,
+            ),
           ),
         ),
       ),

@@ -1,5 +1,6 @@
 use Rattle.std.proofs.Common.{rules, arith, ℕ, ◌≡◌, ◌∙◌, ◌<◌, List, Ok, Err, Some, sym, subst}
 use Rattle.mc_words.specs.Checks.{shape_of}
+use Rattle.mc_words.specs.KeyParts.{HasParts}
 use Rattle.mc_words.specs.declared.shape.Shape.{Shape}
 use Rattle.mc_plan.specs.WholeCalls.{IsSweepOf, PutCall, state_after_sweep}
 use Rattle.mc_plan.specs.Books.{IsPlanned}
@@ -84,7 +85,7 @@ make_replacement-requires g c =
     let due = plan_due V pen c.turn_round.new.self c.finish.new.self c.args.books.now c.finish.new.books c.turn_round.new.waiting key value c.requires.layout c.turn_round.ensures.same t c.finish.ensures.pen c.finish.ensures.shape (replacement_acts sh key value r d) told planned in
     let there = sym (shape_there V pen c.turn_round.new.self c.finish.new.self c.args.books.now c.finish.new.books c.turn_round.new.waiting key value c.requires.layout c.turn_round.ensures.same t c.finish.ensures.pen c.finish.ensures.shape) in
     let within = subst (λ (x : Storing). x.item < sh.items) (sym c.decided-storing.ensures) (subst (λ (z : Shape). b.decided.item < z.items) shape f.in_items) in
-    (omega arith, (omega (arith, c.requires.waits.known.width.most), (c.requires.waits.known.width, (subst (λ (z : Shape). d.item < z.items) there within, subst (λ (z : Shape). IsDue V (replacement_acts z key value r d) c.finish.new.self) there due))))
+    (omega arith, (omega (arith, c.requires.waits.known.width.most), (c.requires.waits.known.width, (subst (λ (z : Shape). d.item < z.items) there within, (subst (λ (z : Shape). HasParts z key c.args.parts) there c.requires.parts, (subst (λ (z : Shape). HasParts z r.evicted r.parts) (shape ∙ there) f.parts, subst (λ (z : Shape). IsDue V (replacement_acts z key value r d) c.finish.new.self) there due))))))
 
 -- the call is over
 replaced : (g : Over) (c : After-told g) → IsSamePen g.row.V c.args.self.now c.make_replacement.new.self × HasCalled g.row.V c.args.self.now.cells.now.layout.shape (PutCall c.args.key c.args.value.now) c.args.self.now.seat.now c.make_replacement.new.self.seat.now (answer.Put (Ok c.told.result)) × IsRested g.row.V c.finish.new.books c.make_replacement.new.self.seat.now

@@ -1,4 +1,6 @@
-use Rattle.std.proofs.Common.{ℕ, List, refl, ◌∷◌, ◌++◌, [], None, Ok, Err, ◌≡◌, ◌+◌, ◌*◌, ◌<◌, ◌∙◌, ap, arith, length, sym, subst}
+use Rattle.std.proofs.Common.{ℕ, List, Option, refl, ◌∷◌, ◌++◌, [], None, Ok, Err, ◌≡◌, ◌+◌, ◌*◌, ◌<◌, ◌∙◌, ap, arith, length, sym, subst}
+use Rattle.std.specs.Option.{IfNone, IfSome}
+use Rattle.mc_words.specs.Chains.{NoChain}
 use Rattle.mc_words.specs.Checks.{shape_of}
 use Rattle.mc_words.specs.declared.shape.Shape.{Shape}
 use Rattle.mc_theory.specs.declared.act.Act.{Act}
@@ -14,23 +16,24 @@ use Rattle.mc_plan.specs.declared.books.Books.{Books}
 use Rattle.mc_plan.specs.Moves.{AreTaken, AreKeys}
 use Rattle.mc_plan.specs.Plans.{moves_acts}
 use Rattle.mc_plan.specs.Puts.{put_acts}
-use Rattle.mc_search.specs.Readable.{IsFilled}
+use Rattle.mc_search.specs.Paths.{IsLeastPath}
+use Rattle.mc_search.specs.declared.path.Path.{Path}
 use Rattle.mc_search.proofs.TakenItems.{free_below}
 use Rattle.mc_plan.proofs.Puts.MoveLists.{stored_acts}
 use Rattle.mc_plan.proofs.Puts.PathSteps.{chain_taken}
 use Rattle.mc_plan.proofs.Calls.AfterPlan.{decided_planned, idle_planned, books_still, path_refused, stored_planned, filled_in, none_in, least_in}
-use Rattle.mc_plan.proofs.books.Books.insert.Goals as goal
+use Rattle.mc_plan.proofs.books.Books.insert_by.Goals as goal
 
 pub returns-in_default-clause-inserted : goal.returns-in_default-clause-inserted
 returns-in_default-clause-inserted g c s lacks same =
     let V = g.row.V in
     let b = c.args.self.now in
     let call = PutCall c.args.key c.args.value.now in
-    let none = none_in V b s (g.P.Peek.words c.args.peek.now) lacks.known same c.args.key c.in_default.ensures.none in
+    let none = none_in V b s (g.P.Peek.words c.args.peek.now) lacks.known same c.args.key (subst (λ (o : Option Path). IfNone o (NoChain b.finder (g.P.Peek.words c.args.peek.now) c.args.key b.finder.depth)) c.in_default.is c.requires.none) in
     let refused = path_refused V (shape_of b.checked) s c.args.key lacks.known.quiet lacks.unspent lacks.absent none in
     let told = answer.Put (Err why.NoPath) in
     let planned : IsPlanned V b [] call s s told = idle_planned V b call s told lacks.known refused tt in
-    (subst (λ (f : Shape). IsPlanned V (record b { finder = f }) [] call s s told) (sym c.path.ensures.finder) planned, refl)
+    (planned, refl)
 
 pub returns-in_default-take_least-clause-inserted : goal.returns-in_default-take_least-clause-inserted
 returns-in_default-take_least-clause-inserted g c s lacks same =
@@ -45,23 +48,23 @@ returns-in_default-take_least-clause-inserted g c s lacks same =
       known = still;
       unspent = lacks.unspent;
       absent = lacks.absent;
-      least = least_in V b s (g.P.Peek.words c.args.peek.now) old same k c.in-Some.path c.in-Some.ensures.found;
+      least = least_in V b s (g.P.Peek.words c.args.peek.now) old same k c.in-Some.path (subst (λ (o : Option Path). IfSome o (IsLeastPath b.finder (g.P.Peek.words c.args.peek.now) c.args.key)) c.in-Some.is c.requires.least);
       none = c.in_default-take_least.ensures.same;
     } in
-    subst (λ (f : Shape). Waits V (record b { finder = f; free = free }) k s c.in-Some.path) (sym c.path.ensures.finder) waits
+    waits
 
 pub store-requires-clause-filled : goal.store-requires-clause-filled
 store-requires-clause-filled g c =
     let r = c.requires.books in
-    subst (λ (x : List ℕ). IsFilled (shape_of c.args.self.now.checked) x) (sym c.path.ensures.words) (filled_in g.row.V c.args.self.now r.0 _ r.1.known r.2)
+    filled_in g.row.V c.args.self.now r.0 _ r.1.known r.2
 
 pub store-requires-clause-taken : goal.store-requires-clause-taken
 store-requires-clause-taken g c =
     let b = c.args.self.now in
     let r = c.requires.books in
     let path = c.in-Some.path in
-    let least = least_in g.row.V b r.0 (g.P.Peek.words c.args.peek.now) r.1.known r.2 c.args.key path c.in-Some.ensures.found in
-    subst (λ (x : List ℕ). AreTaken (shape_of b.checked) x path.places.items) (sym (c.path.ensures.words ∙ r.2)) (chain_taken (shape_of b.checked) r.0.words c.args.key path.places.items path.hole least.chain)
+    let least = least_in g.row.V b r.0 (g.P.Peek.words c.args.peek.now) r.1.known r.2 c.args.key path (subst (λ (o : Option Path). IfSome o (IsLeastPath b.finder (g.P.Peek.words c.args.peek.now) c.args.key)) c.in-Some.is c.requires.least) in
+    subst (λ (x : List ℕ). AreTaken (shape_of b.checked) x path.places.items) (sym r.2) (chain_taken (shape_of b.checked) r.0.words c.args.key path.places.items path.hole least.chain)
 
 pub returns-clause-inserted : goal.returns-clause-inserted
 returns-clause-inserted g c s lacks same =
@@ -76,10 +79,10 @@ returns-clause-inserted g c s lacks same =
     let ps = path.places.items in
     let free = c.take_least.new.self in
     let steps = 2 * length ps + 2 in
-    let now = c.path.ensures.words ∙ same in
+    let now = same in
     let storing = c.store.new.self.decided in
     let told = answer.Put (Ok (storing_told storing None)) in
-    let least = least_in V b s (g.P.Peek.words c.args.peek.now) old same k path c.in-Some.ensures.found in
+    let least = least_in V b s (g.P.Peek.words c.args.peek.now) old same k path (subst (λ (o : Option Path). IfSome o (IsLeastPath b.finder (g.P.Peek.words c.args.peek.now) c.args.key)) c.in-Some.is c.requires.least) in
     let keys = subst (λ (x : List ℕ). AreKeys V sh x ps) now c.store.ensures.keys in
     let was = c.in-Some-take_least.ensures.free in
     let item = free_below b.free i old.kept was in
@@ -98,6 +101,5 @@ returns-clause-inserted g c s lacks same =
     let all : IsPlanned V (record b { free = free; version_steps = b.version_steps + steps; decided = storing }) (storing_acts sh k v storing) (PutCall k v) s s told =
     decided_planned V (record b { free = free; version_steps = b.version_steps + steps }) (storing_acts sh k v storing) (PutCall k v) s s told storing listed in (
       subst (λ (x : Books). storing.item < (shape_of x.checked).items) (sym c.store.ensures.books) (subst (λ (j : ℕ). j < sh.items) (sym c.store.ensures.item) below),
-      subst (λ (x : Books). IsPlanned V x (storing_acts (shape_of x.checked) k v storing) (PutCall k v) s s told) (sym c.store.ensures.books)
-          (subst (λ (f : Shape). IsPlanned V (record b { finder = f; free = free; version_steps = b.version_steps + steps; decided = storing }) (storing_acts sh k v storing) (PutCall k v) s s told) (sym c.path.ensures.finder) all),
+      subst (λ (x : Books). IsPlanned V x (storing_acts (shape_of x.checked) k v storing) (PutCall k v) s s told) (sym c.store.ensures.books) all,
     )
