@@ -14,11 +14,12 @@ use crate::answer::{IfError, PutError, Spent};
 use crate::decision::{
     Decision, Exchange, Insertion, Nearby, Removal, Renewal, Replacement, Storing,
 };
-use crate::moves::path_moves;
+use crate::moves::{path_moves, touch_path};
 use crate::value::have_words;
 use crate::waiting::Waiting;
 use mc_search::{
-    Finder, FreeItems, Path, Sweep, find, find_by, key_at, moment, place_of, stamp_at,
+    Finder, FreeItems, Path, Sweep, find, find_by, is_large, key_at, moment, place_of, stamp_at,
+    touch_bucket,
 };
 use mc_theory::Peek;
 use mc_words::{Checked, KeyParts, NoMemory, Place};
@@ -177,6 +178,22 @@ impl Books {
         Ok(Renewal { item, at: now + 1 })
     }
 
+    /// Loads a word of each bucket in which the key of the item at the hand may stand, where the table is large and no item is free: the put is
+    /// likely to evict that key, and the processor waits for these words while it still waits for those of the put's own buckets.
+    #[inline(always)]
+    fn look_ahead<const V: usize, P: Peek>(&self, peek: &mut P)
+        requires books { (s : State V) × AreBooksOf V self.now s × (P.words peek.old ≡ s.words) }
+        ensures kept { peek.new ≡ peek.old }
+    {
+        if !is_large(&self.checked) || !self.free.is_empty() {
+            return;
+        }
+        let key = key_at::<V, P>(&self.checked, peek, self.hand);
+        let parts = self.checked.parts(key);
+        touch_bucket(&self.checked, peek, parts.first);
+        touch_bucket(&self.checked, peek, parts.second);
+    }
+
     /// Decides the put of a key that is not there, where one of its two buckets has a hole.
     /// Condition: `decide` has just answered `Insert` for the key and these parts, with this `at`.
     #[inline(always)]
@@ -195,6 +212,7 @@ impl Books {
         ensures kept { peek.new ≡ peek.old }
     {
         have_words(value);
+        self.look_ahead::<V, P>(peek);
         let Some(hole) = self.finder.near(peek, key, parts) else {
             return Nearby::Far;
         };
@@ -269,6 +287,7 @@ impl Books {
         ensures kept { peek.new ≡ peek.old }
     {
         let path = self.finder.far(peek, key, parts);
+        touch_path::<V, P>(&self.checked, peek, &path);
         self.insert_by::<V, P>(peek, key, path, value, at)
     }
 

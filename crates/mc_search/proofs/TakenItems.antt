@@ -96,16 +96,17 @@ module _ (f g : FreeItems) (x : Reverse ℕ) (kept : IsConsistent f) (items : g.
   popped_least top j (Fresh above l) = let b = was_below in omega arith
   popped_least top j (Returned c) = All-contains (λ i. x.0 ≤ i) (returned_items f) j (All-from_recursion (λ i. x.0 ≤ i) (returned_items f) (bounded x (heap_items f.returned) top)) c
 
+-- an empty list has no element
+absent_from_none : (j : ℕ) (ns : List ℕ) → ns ≡ [] → Contains ns j → ⊥
+absent_from_none j ns e c = let l : c.0 < length ns = c.1 in omega (arith, ap length e, l)
+
 -- ---- nothing was given back, and the first fresh item is taken
 module _ (f g : FreeItems) (kept : IsConsistent f) (items : g.items ≡ f.items) (fresh : g.fresh ≡ f.fresh + 1) (same : heap_items g.returned ≡ heap_items f.returned) (none : heap_items f.returned ≡ []) (some : f.fresh < f.items) where
-  none_there : (j : ℕ) (ns : List ℕ) → ns ≡ [] → Contains ns j → ⊥
-  none_there j ns e c = let l : c.0 < length ns = c.1 in omega (arith, ap length e, l)
-
   nothing_back : (j : ℕ) → Contains (returned_items f) j → ⊥
-  nothing_back j = none_there j (returned_items f) (ap numbers none)
+  nothing_back j = absent_from_none j (returned_items f) (ap numbers none)
 
   nothing_now : (j : ℕ) → Contains (returned_items g) j → ⊥
-  nothing_now j = none_there j (returned_items g) (ap numbers (same ∙ none))
+  nothing_now j = absent_from_none j (returned_items g) (ap numbers (same ∙ none))
 
   fresh_gone : IsFreeIn g f.fresh → ⊥
   fresh_gone (Fresh above l) = absurd (omega arith)
@@ -124,6 +125,18 @@ module _ (f g : FreeItems) (kept : IsConsistent f) (items : g.items ≡ f.items)
 
 pub fresh_free : (f : FreeItems) (i : ℕ) → i ≡ f.fresh → f.fresh < f.items → IsFreeIn f i
 fresh_free f i e some = Fresh (omega arith) (omega arith)
+
+-- ---- whether an item is free
+pub none_free : (f : FreeItems) → f.items ≤ f.fresh → heap_items f.returned ≡ [] → (i : ℕ) → IsFreeIn f i → ⊥
+none_free f full none i (Fresh above l) = absurd (omega arith)
+none_free f full none i (Returned c) = absent_from_none i (returned_items f) (ap numbers none) c
+
+first_number : (rs : List (Reverse ℕ)) → 0 < length rs → (i : ℕ) × Contains (numbers rs) i
+first_number [] some = absurd (omega arith)
+first_number (r ∷ rs) some = (r.0, (0, omega arith, refl))
+
+pub returned_free : (f : FreeItems) → 0 < length (heap_items f.returned) → (i : ℕ) × IsFreeIn f i
+returned_free f some = let first = first_number (heap_items f.returned) some in (first.0, Returned first.1)
 
 -- ---- an item is given back
 module _ (f : FreeItems) (item : ℕ) (kept : IsConsistent f) (in_items : item < f.items) (taken : IsFreeIn f item → ⊥) where

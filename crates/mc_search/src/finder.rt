@@ -7,6 +7,7 @@ ghost use Rattle.mc_search.specs.Paths.{IsLeastPath, direct_path};
 ghost use Rattle.mc_search.specs.Readable.{HasSlots, IsFilled};
 ghost use Rattle.mc_search.specs.Inside.Readable.{IsFull, IsHoleIn};
 
+use crate::ahead::touch_beyond;
 use crate::bucket::hole_in;
 use crate::path::Path;
 use crate::queue::{Entry, clean, start};
@@ -109,6 +110,7 @@ impl Finder {
     {
         let _ = key;
         let checked = self.checked;
+        touch_beyond(&checked, peek, parts.first);
         start(&mut self.queue, &mut self.seen, parts.first, parts.second);
         let found = search(&checked, &mut self.queue, &mut self.seen, peek);
         let path = match found {

@@ -1,5 +1,5 @@
 //! Which items are free.
-ghost use Rattle.std.specs.Prelude.{ℕ, ◌≡◌, ◌<◌, ◌≤◌, IfOk, IfSome, IfNone};
+ghost use Rattle.std.specs.Prelude.{ℕ, ◌≡◌, ◌<◌, ◌≤◌, ◌↔◌, IfOk, IfSome, IfNone, IsTrue};
 
 use std::alloc::{AllocError, Global};
 use std::cmp::Reverse;
@@ -31,6 +31,15 @@ impl FreeItems {
             fresh: 0,
             returned,
         })
+    }
+
+    /// Whether no item is free.
+    #[inline(always)]
+    pub fn is_empty(&self) -> bool
+        requires { IsConsistent self.now }
+        ensures { IsTrue result ↔ ((i : ℕ) → IsFreeIn self.now i → ⊥) }
+    {
+        self.fresh == self.items && self.returned.is_empty()
     }
 
     // Takes the least of the items that were given back. It is a call of its own, as most tables give none back between two puts.

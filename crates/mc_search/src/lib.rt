@@ -12,6 +12,7 @@
 //! ```
 #![tactic(auto)]
 
+mod ahead;
 mod bucket;
 mod finder;
 mod finding;
@@ -24,6 +25,7 @@ mod search;
 mod sweep;
 mod word;
 
+pub use ahead::{is_large, touch_bucket};
 pub use finder::Finder;
 pub use finding::{find, find_by, place_of};
 pub use free::FreeItems;

@@ -284,17 +284,17 @@ impl<'a, const V: usize> Pen<'a, V> {
         &mut self,
         books: &mut Books,
         key: u64,
-        parts: KeyParts,
         value: &[u64; V],
         at: u64,
     ) -> Result<Put, PutError>
         requires layout { self.old.cells.now.layout ≡ layout_of V (shape_of books.old.checked) }
-        requires parts { HasParts self.old.cells.now.layout.shape key parts }
         requires crowded { IsCrowdedOut V books.old key (state_at V self.old) at }
         ensures same { IsSamePen V self.old self.new }
         ensures called { HasCalled V self.old.cells.now.layout.shape (PutCall key value.now) self.old.seat.now self.new.seat.now (answer.Put result) }
         ensures rested { IsRested V books.new self.new.seat.now }
     {
+        // The parts once more: to hand them on would keep the puts that don't come here from keeping other things in registers.
+        let parts = self.cells.parts(key);
         match self.decide_far(books, key, parts, value, at) {
             Insertion::Refuse(why) => Err(why),
             Insertion::Store => {
@@ -333,7 +333,7 @@ impl<'a, const V: usize> Pen<'a, V> {
                 })
             }
             Nearby::Wait(hole) => self.put_evicting(books, key, parts, value, hole),
-            Nearby::Far => self.put_far(books, key, parts, value, at),
+            Nearby::Far => self.put_far(books, key, value, at),
         }
     }
 

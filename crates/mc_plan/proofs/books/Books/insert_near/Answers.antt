@@ -1,4 +1,4 @@
-use Rattle.std.proofs.Common.{◌<◌, arith, subst, sym}
+use Rattle.std.proofs.Common.{◌<◌, ◌∙◌, ap, arith, subst, sym}
 use Rattle.mc_words.specs.Checks.{shape_of}
 use Rattle.mc_words.specs.KeyParts.{HasParts}
 use Rattle.mc_words.specs.declared.shape.Shape.{Shape}
@@ -23,7 +23,7 @@ returns-in_default-take_least-clause-near g c s lacks same =
       known = still;
       unspent = lacks.unspent;
       absent = lacks.absent;
-      least = least_in V b s (g.P.Peek.words c.args.peek.now) lacks.known same k path c.in-Some.ensures.found;
+      least = least_in V b s (g.P.Peek.words c.look_ahead.new.peek) lacks.known (ap g.P.Peek.words c.look_ahead.ensures.kept ∙ same) k path c.in-Some.ensures.found;
       none = c.in_default-take_least.ensures.same;
     } in
     waits
@@ -39,11 +39,11 @@ returns-clause-near g c s lacks same =
     let i = c.in-Some-take_least.item in
     let path = direct_path c.in-Some.hole in
     let free = c.take_least.new.self in
-    let least = least_in V b s (g.P.Peek.words c.args.peek.now) old same k path c.in-Some.ensures.found in
+    let least = least_in V b s (g.P.Peek.words c.look_ahead.new.peek) old (ap g.P.Peek.words c.look_ahead.ensures.kept ∙ same) k path c.in-Some.ensures.found in
     let was = c.in-Some-take_least.ensures.free in
     let item = free_below b.free i old.kept was in
     let below : i < sh.items = omega (arith, item, old.items) in
     (below, stored_planned V b k v i c.args.at path free s b.checked.sound (omega arith) (c.told-value, c.have_words.ensures.words) old lacks.absent least tt below lacks.unspent lacks.next was c.take_least.ensures.kept c.take_least.ensures.items c.in-Some-take_least.ensures.takes)
 
 pub returns-in_default-clause-near : goal.returns-in_default-clause-near
-returns-in_default-clause-near g c s lacks same = record { lacks = lacks; full = full_in g.row.V c.args.self.now s (g.P.Peek.words c.args.peek.now) lacks.known same c.args.key c.in_default.ensures.none }
+returns-in_default-clause-near g c s lacks same = record { lacks = lacks; full = full_in g.row.V c.args.self.now s (g.P.Peek.words c.look_ahead.new.peek) lacks.known (ap g.P.Peek.words c.look_ahead.ensures.kept ∙ same) c.args.key c.in_default.ensures.none }

@@ -1,4 +1,4 @@
-use Rattle.std.proofs.Common.{ℕ, ◌≡◌, ◌-◌, List, Option, length, sym, subst, arith}
+use Rattle.std.proofs.Common.{ℕ, ◌≡◌, ◌-◌, List, Option, length, sym, ap, subst, arith}
 use Rattle.std.specs.Option.{IfSome}
 use Rattle.mc_words.specs.Chains.{NoChain}
 use Rattle.mc_words.specs.Checks.{shape_of}
@@ -23,7 +23,9 @@ found : (g : Over) (c : In-Some g) → IsFound (shape_of c.self.inside.checked) 
 found g c =
     let sh = shape_of c.self.inside.checked in
     let at = parts g (goal.at.In-Some g c).After-self in
-    c.in-Some.ensures.found c.args.key (c.start.ensures.searching sh (g.P.Peek.words c.args.peek.now) c.args.key at.first at.second)
+    let q = c.search-found.new.queue.items in
+    subst (λ (w : List ℕ). IsFound sh w c.args.key q (length q - 1) c.in-Some.hole) (ap g.P.Peek.words c.touch_beyond.ensures.kept)
+    (c.in-Some.ensures.found c.args.key (c.start.ensures.searching sh (g.P.Peek.words c.touch_beyond.new.peek) c.args.key at.first at.second))
 
 -- the way back from there
 back : (g : Over) (c : After-len g) → IsTraceable c.deref.result.now (c.len.result - 1)
@@ -46,12 +48,23 @@ start-requires-clause-second g c =
     let at = parts g (goal.at.start-requires-clause-second g c).After-self in
     omega (arith, at.second_in_table, c.self.invariant.size)
 
+-- no slot of the two buckets is empty
+none : (g : Over) (c : After-self g) → NoChain (shape_of c.self.inside.checked) (g.P.Peek.words c.args.peek.now) c.args.key 0
+none g c = subst (λ (x : Shape). NoChain x (g.P.Peek.words c.args.peek.now) c.args.key 0) (sym c.self.view_is) c.requires.full
+
+pub touch_beyond-requires-clause-full : goal.touch_beyond-requires-clause-full
+touch_beyond-requires-clause-full g c =
+    let start = (goal.at.touch_beyond-requires-clause-full g c).After-self in
+    let at = parts g start in
+    first_full (shape_of c.self.inside.checked) (g.P.Peek.words c.args.peek.now) c.args.key c.args.parts.first at.first at.first_in_table (none g start)
+
 pub search-found-requires-clause-full : goal.search-found-requires-clause-full
 search-found-requires-clause-full g c =
     let sh = shape_of c.self.inside.checked in
-    let w = g.P.Peek.words c.args.peek.now in
-    let at = parts g (goal.at.search-found-requires-clause-full g c).After-self in
-    let none = subst (λ (x : Shape). NoChain x w c.args.key 0) (sym c.self.view_is) c.requires.full in
+    let start = (goal.at.search-found-requires-clause-full g c).After-self in
+    let at = parts g start in
+    let w = g.P.Peek.words c.touch_beyond.new.peek in
+    let none = subst (λ (v : List ℕ). NoChain sh v c.args.key 0) (sym (ap g.P.Peek.words c.touch_beyond.ensures.kept)) (none g start) in
     c.start.ensures.full sh w (first_full sh w c.args.key c.args.parts.first at.first at.first_in_table none) (second_full sh w c.args.key c.args.parts.second at.second at.second_in_table none)
 
 pub overflow_sub-len : goal.overflow_sub-len
@@ -81,7 +94,8 @@ returns-clause-found g c =
           let q = w.deref.result.now in
           let same = sym w.deref.ensures.value in
           let hole = w.in-Some.hole in
-          let ended = w.in-Some.ensures.found k (c.start.ensures.searching sh words k at.first at.second) in
+          let ended = subst (λ (v : List ℕ). IsFound sh v k c.search-found.new.queue.items (length c.search-found.new.queue.items - 1) hole) (ap g.P.Peek.words c.touch_beyond.ensures.kept)
+              (w.in-Some.ensures.found k (c.start.ensures.searching sh (g.P.Peek.words c.touch_beyond.new.peek) k at.first at.second)) in
           let last : length c.search-found.new.queue.items - 1 ≡ w.len.result - 1 = omega (arith, w.len.ensures) in
           let end = subst (λ (i : ℕ). IsFound sh words k q i hole) last (subst (λ (v : List Entry). IsFound sh words k v (length c.search-found.new.queue.items - 1) hole) same ended) in
           let chain = w.trace.ensures.chain sh words k c.search-found.new.seen.items hole (subst (λ (v : List Entry). IsQueue v c.search-found.new.seen.items) same ready.queue) ready.size end in

@@ -1,8 +1,8 @@
 use Rattle.std.proofs.Common.{Option, Some, None, refl, subst, sym}
-use Rattle.std.specs.Option.{IfNone, IfSome}
+use Rattle.std.proofs.lemmas.Option.{IfSome_then}
+use Rattle.std.specs.Option.{IfNone}
 use Rattle.mc_words.specs.Chains.{NoChain}
 use Rattle.mc_words.specs.Checks.{shape_of}
-use Rattle.mc_words.specs.declared.place.Place.{Place}
 use Rattle.mc_words.specs.declared.shape.Shape.{Shape}
 use Rattle.mc_words.specs.KeyParts.{HasParts}
 use Rattle.mc_search.specs.Paths.{IsLeastPath, direct_path}
@@ -10,12 +10,7 @@ use Rattle.mc_search.specs.Inside.Readable.{IsFull}
 use Rattle.mc_search.proofs.Shortest.{least_direct, none_near}
 use Rattle.mc_search.proofs.finder.Finder.near.Goals as goal
 
--- what follows from one fact of a value follows where there is one
-if_some : {T : Type 0} (P Q : T → Type 0) (o : Option T) → ((x : T) → P x → Q x) → IfSome o P → IfSome o Q
-if_some P Q (Some x) f p = f x p
-if_some P Q None f p = tt
-
--- and what follows from two facts follows where there is none
+-- what follows from two facts follows where there is none
 if_none : {T : Type 0} (A B C : Type 0) (o : Option T) → (A → B → C) → IfNone o A → IfNone o B → IfNone o C
 if_none A B C (Some x) f a b = tt
 if_none A B C None f a b = f a b
@@ -25,9 +20,8 @@ returns-clause-found g c =
     let sh = shape_of c.self.inside.checked in
     let w = g.P.Peek.words c.args.peek.now in
     let parts = subst (λ (x : Shape). HasParts x c.args.key c.args.parts) (sym c.self.view_is) c.requires.parts in
-    if_some _ (λ (hole : Place). IsLeastPath c.args.self.now w c.args.key (direct_path hole)) c.hole_in_either.result
+    IfSome_then c.hole_in_either.result c.hole_in_either.ensures.found
     (λ hole h. subst (λ (x : Shape). IsLeastPath x w c.args.key (direct_path hole)) c.self.view_is (least_direct sh w c.args.key c.args.parts.first c.args.parts.second (direct_path hole) parts.first parts.second refl h))
-    c.hole_in_either.ensures.found
 
 pub returns-clause-none : goal.returns-clause-none
 returns-clause-none g c =

@@ -66,7 +66,7 @@ make_storing-requires g c =
           (
             subst (λ (x : Pen V). storing.item < x.cells.now.layout.shape.items) same within,
             (
-              subst (λ (x : Pen V). HasParts x.cells.now.layout.shape c.args.key c.args.parts) same c.requires.parts,
+              subst (λ (x : Pen V). HasParts x.cells.now.layout.shape c.args.key c.parts-parts.result) same c.parts-parts.ensures,
               subst (λ (x : Pen V). IsDue V (storing_acts x.cells.now.layout.shape c.args.key c.args.value.now storing) x) same due,
             ),
           ),

@@ -35,11 +35,6 @@ put_evicting-requires g c =
     let parts = subst (λ (x : Pen g.row.V). HasParts x.cells.now.layout.shape c.args.key c.args.parts) (sym c.decide_near.ensures.pen) c.requires.parts in
     search (rules, parts)
 
-pub put_far-requires : goal.put_far-requires
-put_far-requires g c =
-    let parts = subst (λ (x : Pen g.row.V). HasParts x.cells.now.layout.shape c.args.key c.args.parts) (sym c.decide_near.ensures.pen) c.requires.parts in
-    search (rules, parts)
-
 pub make_filling-requires : goal.make_filling-requires
 make_filling-requires g c =
     let V = g.row.V in
