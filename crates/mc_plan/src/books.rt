@@ -14,7 +14,7 @@ use crate::answer::{IfError, PutError, Spent};
 use crate::decision::{
     Decision, Exchange, Insertion, Nearby, Removal, Renewal, Replacement, Storing,
 };
-use crate::moves::{path_moves, touch_path};
+use crate::moves::path_moves;
 use crate::value::have_words;
 use crate::waiting::Waiting;
 use mc_search::{
@@ -287,7 +287,6 @@ impl Books {
         ensures kept { peek.new ≡ peek.old }
     {
         let path = self.finder.far(peek, key, parts);
-        touch_path::<V, P>(&self.checked, peek, &path);
         self.insert_by::<V, P>(peek, key, path, value, at)
     }
 

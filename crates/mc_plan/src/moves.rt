@@ -1,5 +1,5 @@
 //! The acts of a move, and the moves of a whole path.
-ghost use Rattle.std.specs.Prelude.{ℕ, ◌≡◌, ◌+◌, ◌*◌, ◌≤◌, ◌++◌, IfSome, length};
+ghost use Rattle.std.specs.Prelude.{ℕ, ◌≡◌, ◌+◌, ◌*◌, ◌≤◌, ◌++◌, length};
 ghost use Rattle.arrayvec.specs.ArrayVec.{array_vec_len};
 ghost use Rattle.mc_words.specs.Chains.{IsChain};
 ghost use Rattle.mc_words.specs.Checks.{shape_of};
@@ -13,7 +13,7 @@ ghost use Rattle.mc_search.specs.Readable.{IsFilled};
 use crate::Plan;
 use crate::decision::Move;
 use arrayvec::ArrayVec;
-use mc_search::{Path, is_large, key_at, slot_at};
+use mc_search::{Path, key_at, slot_at};
 use mc_theory::{Act, Deed, Peek};
 use mc_words::{Checked, Place};
 
@@ -39,31 +39,6 @@ fn key_in<const V: usize, P: Peek>(checked: &Checked, peek: &mut P, word: u64) -
     ensures kept { peek.new ≡ peek.old }
 {
     key_at::<V, P>(checked, peek, checked.item_in(word))
-}
-
-/// Loads the key that a path moves first, where the table is large and the path moves any.
-/// Condition: the words reach as far as the shape says, each slot is empty or names an item, and the path's places are occupied.
-#[inline(always)]
-pub(crate) fn touch_path<const V: usize, P: Peek>(
-    checked: &Checked,
-    peek: &mut P,
-    path: &Option<Path>,
-)
-    requires width { IsWidth V }
-    requires words { word_count V (shape_of checked.now) ≤ length (P.words peek.old) }
-    requires filled { IsFilled (shape_of checked.now) (P.words peek.old) }
-    requires taken { IfSome path.now (λ p. AreTaken (shape_of checked.now) (P.words peek.old) p.places.items) }
-    ensures kept { peek.new ≡ peek.old }
-{
-    let Some(path) = path else {
-        return;
-    };
-    let n = path.places.len();
-    if !is_large(checked) || n == 0 {
-        return;
-    }
-    let word = slot_at(checked, peek, path.places[n - 1]);
-    let _ = key_in::<V, P>(checked, peek, word);
 }
 
 /// Lists the moves of a path, in place of those that were listed: the item at its last place goes to the hole, the item at the place before it to the place that

@@ -1,10 +1,8 @@
 //! Words that are loaded before they are looked at, so that the processor waits for several of them at once.
 ghost use Rattle.std.specs.Prelude.{◌≡◌, ◌<◌, ◌≤◌, ◌↔◌, IsTrue, length};
 ghost use Rattle.mc_words.specs.Checks.{shape_of};
-ghost use Rattle.mc_search.specs.Readable.{HasSlots, IsFilled};
-ghost use Rattle.mc_search.specs.Inside.Readable.{IsFull};
+ghost use Rattle.mc_search.specs.Readable.{HasSlots};
 
-use crate::bucket::other_bucket;
 use crate::word::slot_at;
 use mc_theory::Peek;
 use mc_words::{Checked, Place};
@@ -20,7 +18,7 @@ pub fn is_large(checked: &Checked) -> bool
     checked.shape().buckets >= LARGE
 }
 
-/// Loads a word of the bucket. Condition: the words reach as far as the last slot of the shape.
+/// Loads the first slot of the bucket. Condition: the words reach as far as the last slot of the shape.
 #[inline(always)]
 pub fn touch_bucket<P: Peek>(checked: &Checked, peek: &mut P, bucket: u32)
     requires words { HasSlots (shape_of checked.now) (P.words peek.old) }
@@ -28,22 +26,4 @@ pub fn touch_bucket<P: Peek>(checked: &Checked, peek: &mut P, bucket: u32)
     ensures kept { peek.new ≡ peek.old }
 {
     let _ = slot_at(checked, peek, Place { bucket, slot: 0 });
-}
-
-/// Loads a word of each bucket to which a key of this one can move, where the table is large.
-#[inline(always)]
-pub(crate) fn touch_beyond<P: Peek>(checked: &Checked, peek: &mut P, bucket: u32)
-    requires words { HasSlots (shape_of checked.now) (P.words peek.old) }
-    requires filled { IsFilled (shape_of checked.now) (P.words peek.old) }
-    requires in_table { bucket < (shape_of checked.now).buckets }
-    requires full { IsFull (shape_of checked.now) (P.words peek.old) bucket }
-    ensures kept { peek.new ≡ peek.old }
-{
-    if !is_large(checked) {
-        return;
-    }
-    for slot in 0..4 {
-        let word = slot_at(checked, peek, Place { bucket, slot });
-        touch_bucket(checked, peek, other_bucket(checked, bucket, word));
-    }
 }

@@ -7,7 +7,6 @@ ghost use Rattle.mc_search.specs.Paths.{IsLeastPath, direct_path};
 ghost use Rattle.mc_search.specs.Readable.{HasSlots, IsFilled};
 ghost use Rattle.mc_search.specs.Inside.Readable.{IsFull, IsHoleIn};
 
-use crate::ahead::touch_beyond;
 use crate::bucket::hole_in;
 use crate::path::Path;
 use crate::queue::{Entry, clean, start};
@@ -110,18 +109,15 @@ impl Finder {
     {
         let _ = key;
         let checked = self.checked;
-        touch_beyond(&checked, peek, parts.first);
         start(&mut self.queue, &mut self.seen, parts.first, parts.second);
         let found = search(&checked, &mut self.queue, &mut self.seen, peek);
-        let path = match found {
-            Some(hole) => Some(Path {
-                places: trace(&self.queue, self.queue.len() - 1),
-                hole,
-            }),
-            None => None,
+        let Some(hole) = found else {
+            clean(&mut self.queue, &mut self.seen);
+            return None;
         };
+        let places = trace(&self.queue, self.queue.len() - 1);
         clean(&mut self.queue, &mut self.seen);
-        path
+        Some(Path { places, hole })
     }
 
     /// A shortest path for the key, if there is one within the depth of the shape.

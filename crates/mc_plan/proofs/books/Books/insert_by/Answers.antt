@@ -2,7 +2,6 @@ use Rattle.std.proofs.Common.{ℕ, List, Option, refl, ◌∷◌, ◌++◌, [], 
 use Rattle.std.specs.Option.{IfNone, IfSome}
 use Rattle.mc_words.specs.Chains.{NoChain}
 use Rattle.mc_words.specs.Checks.{shape_of}
-use Rattle.mc_words.specs.declared.shape.Shape.{Shape}
 use Rattle.mc_theory.specs.declared.act.Act.{Act}
 use Rattle.mc_theory.specs.declared.act.Act.TheVariants as act
 use Rattle.mc_plan.specs.WholeCalls.{PutCall}

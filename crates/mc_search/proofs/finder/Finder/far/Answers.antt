@@ -1,5 +1,4 @@
-use Rattle.std.proofs.Common.{ℕ, ◌≡◌, ◌-◌, List, Option, length, sym, ap, subst, arith}
-use Rattle.std.specs.Option.{IfSome}
+use Rattle.std.proofs.Common.{ℕ, ◌≡◌, ◌-◌, List, length, sym, subst, arith}
 use Rattle.mc_words.specs.Chains.{NoChain}
 use Rattle.mc_words.specs.Checks.{shape_of}
 use Rattle.mc_words.specs.KeyParts.{HasParts}
@@ -11,7 +10,7 @@ use Rattle.mc_search.specs.Inside.Search.{IsFound, IsQueue}
 use Rattle.mc_search.proofs.Shortest.{first_full, least_traced, second_full}
 use Rattle.mc_search.proofs.Trace.{IsTraceable, traceable}
 use Rattle.mc_search.proofs.finder.Finder.far.Goals as goal
-use Rattle.mc_search.proofs.finder.Finder.far.Goals.{After-self, In-Some, After-len, in-Some, in-None}
+use Rattle.mc_search.proofs.finder.Finder.far.Goals.{After-self, In-Some, After-len}
 use Rattle.mc_search.proofs.finder.Finder.far.Given.{Over}
 
 -- the parts, by the finder's own shape
@@ -23,9 +22,7 @@ found : (g : Over) (c : In-Some g) → IsFound (shape_of c.self.inside.checked) 
 found g c =
     let sh = shape_of c.self.inside.checked in
     let at = parts g (goal.at.In-Some g c).After-self in
-    let q = c.search-found.new.queue.items in
-    subst (λ (w : List ℕ). IsFound sh w c.args.key q (length q - 1) c.in-Some.hole) (ap g.P.Peek.words c.touch_beyond.ensures.kept)
-    (c.in-Some.ensures.found c.args.key (c.start.ensures.searching sh (g.P.Peek.words c.touch_beyond.new.peek) c.args.key at.first at.second))
+    c.in-Some.ensures.found c.args.key (c.start.ensures.searching sh (g.P.Peek.words c.args.peek.now) c.args.key at.first at.second)
 
 -- the way back from there
 back : (g : Over) (c : After-len g) → IsTraceable c.deref.result.now (c.len.result - 1)
@@ -48,23 +45,12 @@ start-requires-clause-second g c =
     let at = parts g (goal.at.start-requires-clause-second g c).After-self in
     omega (arith, at.second_in_table, c.self.invariant.size)
 
--- no slot of the two buckets is empty
-none : (g : Over) (c : After-self g) → NoChain (shape_of c.self.inside.checked) (g.P.Peek.words c.args.peek.now) c.args.key 0
-none g c = subst (λ (x : Shape). NoChain x (g.P.Peek.words c.args.peek.now) c.args.key 0) (sym c.self.view_is) c.requires.full
-
-pub touch_beyond-requires-clause-full : goal.touch_beyond-requires-clause-full
-touch_beyond-requires-clause-full g c =
-    let start = (goal.at.touch_beyond-requires-clause-full g c).After-self in
-    let at = parts g start in
-    first_full (shape_of c.self.inside.checked) (g.P.Peek.words c.args.peek.now) c.args.key c.args.parts.first at.first at.first_in_table (none g start)
-
 pub search-found-requires-clause-full : goal.search-found-requires-clause-full
 search-found-requires-clause-full g c =
     let sh = shape_of c.self.inside.checked in
-    let start = (goal.at.search-found-requires-clause-full g c).After-self in
-    let at = parts g start in
-    let w = g.P.Peek.words c.touch_beyond.new.peek in
-    let none = subst (λ (v : List ℕ). NoChain sh v c.args.key 0) (sym (ap g.P.Peek.words c.touch_beyond.ensures.kept)) (none g start) in
+    let w = g.P.Peek.words c.args.peek.now in
+    let at = parts g (goal.at.search-found-requires-clause-full g c).After-self in
+    let none = subst (λ (x : Shape). NoChain x w c.args.key 0) (sym c.self.view_is) c.requires.full in
     c.start.ensures.full sh w (first_full sh w c.args.key c.args.parts.first at.first at.first_in_table none) (second_full sh w c.args.key c.args.parts.second at.second at.second_in_table none)
 
 pub overflow_sub-len : goal.overflow_sub-len
@@ -73,34 +59,27 @@ overflow_sub-len g c =
     let some = (found g (goal.at.After-len g c).In-Some).queued in
     omega (arith, c.len.ensures)
 
-pub trace-requires-clause-queued : goal.trace-requires-clause-queued
-trace-requires-clause-queued g c = (back g (goal.at.trace-requires-clause-queued g c).After-len).queued
+pub trace-places-requires-clause-queued : goal.trace-places-requires-clause-queued
+trace-places-requires-clause-queued g c = (back g (goal.at.trace-places-requires-clause-queued g c).After-len).queued
 
-pub trace-requires-clause-shallow : goal.trace-requires-clause-shallow
-trace-requires-clause-shallow g c = (back g (goal.at.trace-requires-clause-shallow g c).After-len).shallow
+pub trace-places-requires-clause-shallow : goal.trace-places-requires-clause-shallow
+trace-places-requires-clause-shallow g c = (back g (goal.at.trace-places-requires-clause-shallow g c).After-len).shallow
 
-pub trace-requires-clause-back : goal.trace-requires-clause-back
-trace-requires-clause-back g c = (back g (goal.at.trace-requires-clause-back g c).After-len).back
+pub trace-places-requires-clause-back : goal.trace-places-requires-clause-back
+trace-places-requires-clause-back g c = (back g (goal.at.trace-places-requires-clause-back g c).After-len).back
 
 pub returns-clause-found : goal.returns-clause-found
 returns-clause-found g c =
     let sh = shape_of c.self.inside.checked in
     let k = c.args.key in
     let words = g.P.Peek.words c.args.peek.now in
-    let ready = c.search-found.ensures in
-    let at = parts g (goal.at.returns-clause-found g c).After-self in
-    elim c.match-found.branch [
-      | in-Some w ↦
-          let q = w.deref.result.now in
-          let same = sym w.deref.ensures.value in
-          let hole = w.in-Some.hole in
-          let ended = subst (λ (v : List ℕ). IsFound sh v k c.search-found.new.queue.items (length c.search-found.new.queue.items - 1) hole) (ap g.P.Peek.words c.touch_beyond.ensures.kept)
-              (w.in-Some.ensures.found k (c.start.ensures.searching sh (g.P.Peek.words c.touch_beyond.new.peek) k at.first at.second)) in
-          let last : length c.search-found.new.queue.items - 1 ≡ w.len.result - 1 = omega (arith, w.len.ensures) in
-          let end = subst (λ (i : ℕ). IsFound sh words k q i hole) last (subst (λ (v : List Entry). IsFound sh words k v (length c.search-found.new.queue.items - 1) hole) same ended) in
-          let chain = w.trace.ensures.chain sh words k c.search-found.new.seen.items hole (subst (λ (v : List Entry). IsQueue v c.search-found.new.seen.items) same ready.queue) ready.size end in
-          let path : Path = record { places = w.trace.result; hole = hole } in
-          subst (λ (o : Option Path). IfSome o (IsLeastPath c.args.self.now words k)) (sym w.path-is)
-          (subst (λ (x : Shape). IsLeastPath x words k path) c.self.view_is (least_traced sh words k (w.len.result - 1) q path end chain w.trace.ensures.many))
-      | in-None w ↦ subst (λ (o : Option Path). IfSome o (IsLeastPath c.args.self.now words k)) (sym w.path-is) tt
-    ]
+    let q = c.deref.result.now in
+    let hole = c.in-Some.hole in
+    let same = sym c.deref.ensures.value in
+    let last : length c.search-found.new.queue.items - 1 ≡ c.len.result - 1 = omega (arith, c.len.ensures) in
+    let ended = found g (goal.at.returns-clause-found g c).In-Some in
+    let end = subst (λ (i : ℕ). IsFound sh words k q i hole) last (subst (λ (v : List Entry). IsFound sh words k v (length c.search-found.new.queue.items - 1) hole) same ended) in
+    let queue = subst (λ (v : List Entry). IsQueue v c.search-found.new.seen.items) same c.search-found.ensures.queue in
+    let path : Path = record { places = c.trace-places.result; hole = hole } in
+    let chain = c.trace-places.ensures.chain sh words k c.search-found.new.seen.items hole queue c.search-found.ensures.size end in
+    subst (λ (x : Shape). IsLeastPath x words k path) c.self.view_is (least_traced sh words k (c.len.result - 1) q path end chain c.trace-places.ensures.many)

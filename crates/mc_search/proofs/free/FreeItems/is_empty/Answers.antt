@@ -1,8 +1,7 @@
-use Rattle.std.proofs.Common.{ℕ, ◌<◌, arith, inl, inr, length, refl}
+use Rattle.std.proofs.Common.{arith, inl, inr, length, refl}
 use Rattle.std.proofs.lemmas.Bool.{cases_lt}
 use Rattle.std.proofs.lemmas.List.{nil_from_length}
 use Rattle.std.specs.BinaryHeap.{heap_items}
-use Rattle.mc_search.specs.Free.{IsFreeIn}
 use Rattle.mc_search.proofs.TakenItems.{fresh_free, none_free, returned_free}
 use Rattle.mc_search.proofs.free.FreeItems.is_empty.Goals as goal
 
