@@ -1,6 +1,6 @@
 -- The events of readers, in the world and for a player.
 use Rattle.mc_theory.specs.declared.event.Unlawful.{Unlawful}
-use Rattle.std.proofs.Common.{◌≡◌, ℕ, zero, suc, ◌+◌, ◌<◌, ◌≤◌, List, [], ◌∷◌, ◌++◌, All, Option, Some, None, refl, sym, ap, ◌∙◌, subst, inl, inr, arith, length, Err}
+use Rattle.std.proofs.Common.{◌≡◌, ℕ, zero, suc, ◌+◌, ◌<◌, ◌≤◌, List, [], ◌∷◌, ◌++◌, All, Option, Some, None, refl, sym, ap, ◌∙◌, subst, inl, inr, arith, length}
 use Rattle.std.specs.Prelude.{◌^◌, IsSome, slice_get}
 use prog.Memory.{up}
 use Rattle.std.proofs.lemmas.List.{length-set}
@@ -13,7 +13,7 @@ use Rattle.mc_core.proofs.PairedLists.{set_there}
 use Rattle.mc_core.proofs.WorldSteps.{reached_push}
 use Rattle.mc_theory.specs.Lists.{after_all, state_of}
 use Rattle.mc_core.specs.Seen.{WorldView, Shows, Both, IsOpenLookup}
-use Rattle.mc_theory.specs.Traces.{Trace, OpenLookup, Ended, IsReached, IsTrueEnd, Steps, EventGives, RefusesEvent, IsWithin}
+use Rattle.mc_theory.specs.Traces.{Trace, OpenLookup, Ended, IsReached, IsTrueEnd, Steps, EventGives, RefusesEvent}
 use Rattle.mc_theory.specs.declared.event.Done.{Done}
 use Rattle.mc_theory.specs.declared.event.Event.TheVariants as event
 use Rattle.mc_theory.specs.declared.event.Stepped.{Stepped}

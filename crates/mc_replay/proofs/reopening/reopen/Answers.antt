@@ -1,6 +1,5 @@
 use Rattle.mc_replay.proofs.ReaderLines.{player_room, width_of}
 use Rattle.std.specs.Prelude.{Option}
-use Rattle.mc_replay.specs.declared.player.Player.{Player}
 use Rattle.mc_replay.specs.Inside.Players.{FitsCall}
 use Rattle.mc_replay.specs.Replay.{Pending}
 use Rattle.std.proofs.Common.{◌≡◌, ◌∙◌, Err, ap, inl, inr, refl, rules, subst, sym, string_bytes, arith}
