@@ -1,4 +1,5 @@
 -- The events of readers, in the world and for a player.
+use Rattle.mc_theory.specs.declared.event.Unlawful.{Unlawful}
 use Rattle.std.proofs.Common.{◌≡◌, ℕ, zero, suc, ◌+◌, ◌<◌, ◌≤◌, List, [], ◌∷◌, ◌++◌, All, Option, Some, None, refl, sym, ap, ◌∙◌, subst, inl, inr, arith, length}
 use Rattle.std.specs.Prelude.{◌^◌, IsSome, slice_get}
 use prog.Memory.{up}
@@ -25,7 +26,7 @@ use Rattle.mc_plan.specs.declared.clerk.Clerk.{Clerk}
 use Rattle.mc_replay.specs.declared.fault.Fault.TheVariants.{StillRunning}
 use Rattle.mc_replay.specs.declared.player.Player.{Player}
 use Rattle.mc_replay.specs.Replay.{Replay, Pending, AccessDoes, LookUpDoes}
-use Rattle.mc_replay.specs.Inside.Players.{shape_of_player, most_steps, IsAt, FitsCall, Fits, CanDo, ReadsSoFar}
+use Rattle.mc_replay.specs.Inside.Players.{shape_of_player, most_steps, IsAt, FitsCall, Fits, CanDo, ReadsSoFar, HasRoom}
 use Rattle.mc_replay.specs.Texts.{done_line}
 use Rattle.mc_replay.specs.Inside.Texts.{end_text}
 use Rattle.mc_replay.proofs.FewAccesses.{made_more}
@@ -202,3 +203,18 @@ width_can V player text can = width_of V player can.1.0 can.1.1.running can.1.1.
 -- a player has room in memory where its world and its clerk have: they lie side by side
 pub player_room : (world clerk : ℕ) → world < 2 ^ 32 → clerk < 2 ^ 32 → up 8 (up 8 (0 + world) + clerk) < 2 ^ 63
 player_room world clerk some few = omega arith
+
+-- ---- an event of a reader that is there is refused for one reason alone
+pub begin_refused : (V : ℕ) (old : Player V) (most r k : ℕ) (s : Replay V) (why : Unlawful) → HasRoom most → Fits V old most s → r < length old.world.readers → RefusesEvent (shape_of_player old) s.world (event.Begin r k) why → why ≡ unlawful.StillRunning
+begin_refused V old most r k s unlawful.NotLawful room fits there refused = absurd refused
+begin_refused V old most r k s unlawful.NoReader room fits there refused = absurd (let at = at_of V old most s.running s.world fits in omega (arith, there, refused, at.readers))
+begin_refused V old most r k s unlawful.StillRunning room fits there refused = refl
+begin_refused V old most r k s unlawful.Limit room fits there refused = absurd (refused.1 (let at = at_of V old most s.running s.world fits in omega (arith, at.events, room)))
+begin_refused V old most r k s unlawful.NoMemory room fits there refused = absurd refused
+
+pub read_refused : (V : ℕ) (old : Player V) (most n r : ℕ) (s : Replay V) (why : Unlawful) → HasRoom most → n ≤ most_steps → FitsCall V old (most + n) s.running s.world → r < length old.world.readers → RefusesEvent (shape_of_player old) s.world (event.Read r) why → why ≡ unlawful.NotLawful
+read_refused V old most n r s unlawful.NotLawful room few fits there refused = refl
+read_refused V old most n r s unlawful.NoReader room few fits there refused = absurd (let at = at_of V old (most + n) s.running s.world fits in omega (arith, there, refused, at.readers))
+read_refused V old most n r s unlawful.StillRunning room few fits there refused = absurd refused
+read_refused V old most n r s unlawful.Limit room few fits there refused = absurd (refused.1 (let at = at_of V old (most + n) s.running s.world fits in omega (arith, at.events, few, room)))
+read_refused V old most n r s unlawful.NoMemory room few fits there refused = absurd refused

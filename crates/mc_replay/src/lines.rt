@@ -15,16 +15,13 @@ impl fmt::Display for PutLine {
 
     fn fmt<W: fmt::Write>(&self, f: &mut fmt::Formatter<W>) -> fmt::Result {
         match self.0 {
-            Put::Stored {
-                at,
-                moves,
-                evicted: None,
-            } => write!(f, "stored at {at} moves {moves}"),
-            Put::Stored {
-                at,
-                moves,
-                evicted: Some(key),
-            } => write!(f, "stored at {at} moves {moves} evicted {key}"),
+            Put::Stored { at, moves, evicted } => {
+                write!(f, "stored at {at} moves {moves}")?;
+                match evicted {
+                    None => Ok(()),
+                    Some(key) => write!(f, " evicted {key}"),
+                }
+            }
             Put::Renewed { at } => write!(f, "renewed at {at}"),
         }
     }
@@ -39,29 +36,26 @@ impl fmt::Display for AnswerLine {
 
     fn fmt<W: fmt::Write>(&self, f: &mut fmt::Formatter<W>) -> fmt::Result {
         match self.0 {
-            Answer::Put(Ok(put)) => {
+            Answer::Put(Ok(put)) | Answer::Kept(Ok(put)) => {
                 let put = PutLine(put);
                 write!(f, "{put}")
             }
-            Answer::Put(Err(PutError::NoPath)) => write!(f, "refused no path"),
+            Answer::Put(Err(PutError::NoPath)) | Answer::Kept(Err(Why::NoPath)) => {
+                write!(f, "refused no path")
+            }
             Answer::Put(Err(PutError::AllRecent)) => write!(f, "refused all recent"),
-            Answer::Put(Err(PutError::Spent)) => write!(f, "refused spent"),
-            Answer::PutIf(Ok(at)) => write!(f, "renewed at {at}"),
-            Answer::PutIf(Err(IfError::Spent)) => write!(f, "refused spent"),
-            Answer::PutIf(Err(IfError::NotThere { at })) => write!(f, "not there at {at}"),
+            Answer::Kept(Err(Why::NoItem)) => write!(f, "refused no item"),
             Answer::PutIf(Err(IfError::Changed { since })) => {
                 write!(f, "refused changed since {since}")
             }
+            Answer::Put(Err(PutError::Spent))
+            | Answer::PutIf(Err(IfError::Spent))
+            | Answer::Remove(Err(Spent))
+            | Answer::Kept(Err(Why::Spent)) => write!(f, "refused spent"),
+            Answer::PutIf(Ok(at)) => write!(f, "renewed at {at}"),
             Answer::Remove(Ok(Remove::Removed { at })) => write!(f, "removed at {at}"),
-            Answer::Remove(Ok(Remove::NotThere { at })) => write!(f, "not there at {at}"),
-            Answer::Remove(Err(Spent)) => write!(f, "refused spent"),
-            Answer::Kept(Ok(put)) => {
-                let put = PutLine(put);
-                write!(f, "{put}")
-            }
-            Answer::Kept(Err(Why::NoPath)) => write!(f, "refused no path"),
-            Answer::Kept(Err(Why::NoItem)) => write!(f, "refused no item"),
-            Answer::Kept(Err(Why::Spent)) => write!(f, "refused spent"),
+            Answer::PutIf(Err(IfError::NotThere { at }))
+            | Answer::Remove(Ok(Remove::NotThere { at })) => write!(f, "not there at {at}"),
         }
     }
 }

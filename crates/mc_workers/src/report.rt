@@ -67,6 +67,51 @@ pub(crate) struct Tally {
     pub(crate) busy: u64,
 }
 
+/// How many answers found the key.
+fn found<const V: usize>(records: &[Record<V>]) -> u64
+    ensures { result ≡ count_by (λ r. is_found r.reply) records.now }
+{
+    let many = records
+        .iter()
+        .filter(
+            |record: &&Record<V>| -> bool
+                ensures { result ≡ is_found record.entry.now.now.reply }
+            { matches!(record.reply, Reply::Found { .. }) },
+        )
+        .count();
+    many as u64
+}
+
+/// How many answers did not find it.
+fn absent<const V: usize>(records: &[Record<V>]) -> u64
+    ensures { result ≡ count_by (λ r. is_absent r.reply) records.now }
+{
+    let many = records
+        .iter()
+        .filter(
+            |record: &&Record<V>| -> bool
+                ensures { result ≡ is_absent record.entry.now.now.reply }
+            { matches!(record.reply, Reply::Absent { .. }) },
+        )
+        .count();
+    many as u64
+}
+
+/// How many answers have no moment.
+fn busy<const V: usize>(records: &[Record<V>]) -> u64
+    ensures { result ≡ count_by (λ r. is_busy r.reply) records.now }
+{
+    let many = records
+        .iter()
+        .filter(
+            |record: &&Record<V>| -> bool
+                ensures { result ≡ is_busy record.entry.now.now.reply }
+            { matches!(record.reply, Reply::Busy) },
+        )
+        .count();
+    many as u64
+}
+
 impl Tally {
     /// The answers of one reader.
     pub(crate) fn of<const V: usize>(records: &[Record<V>]) -> Tally
@@ -74,34 +119,10 @@ impl Tally {
         ensures absent { result.absent ≡ count_by (λ r. is_absent r.reply) records.now }
         ensures busy { result.busy ≡ count_by (λ r. is_busy r.reply) records.now }
     {
-        let found = records
-            .iter()
-            .filter(
-                |record: &&Record<V>| -> bool
-                    ensures { result ≡ is_found record.entry.now.now.reply }
-                { matches!(record.reply, Reply::Found { .. }) },
-            )
-            .count();
-        let absent = records
-            .iter()
-            .filter(
-                |record: &&Record<V>| -> bool
-                    ensures { result ≡ is_absent record.entry.now.now.reply }
-                { matches!(record.reply, Reply::Absent { .. }) },
-            )
-            .count();
-        let busy = records
-            .iter()
-            .filter(
-                |record: &&Record<V>| -> bool
-                    ensures { result ≡ is_busy record.entry.now.now.reply }
-                { matches!(record.reply, Reply::Busy) },
-            )
-            .count();
         Tally {
-            found: found as u64,
-            absent: absent as u64,
-            busy: busy as u64,
+            found: found(records),
+            absent: absent(records),
+            busy: busy(records),
         }
     }
 }

@@ -31,3 +31,8 @@ pub reopen-requires : goal.reopen-requires
 reopen-requires g c =
     let width = width_can g.row.V c.args.player.now (string_bytes c.args.text.now) c.requires in
     (player_room _ _ (omega (arith, width)) (omega (arith, width)), (c.requires.0, (c.requires.1.0, record { shape = shape_of_player {V = g.row.V} c.args.player.now; now = c.requires.1.1 }, (refl, c.requires.1.3))))
+
+pub do_here-requires : goal.do_here-requires
+do_here-requires g c =
+    let width = width_can g.row.V c.args.player.now (string_bytes c.args.text.now) c.requires in
+    (player_room _ _ (omega (arith, width)) (omega (arith, width)), (omega (arith, width), (c.requires, sym c.sizes_of.ensures ∙ c.in-None.is)))

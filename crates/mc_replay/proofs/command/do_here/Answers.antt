@@ -1,4 +1,5 @@
-use Rattle.std.proofs.Common.{List, string_bytes, subst, sym, rules}
+use Rattle.mc_replay.proofs.ReaderLines.{player_room, width_can}
+use Rattle.std.proofs.Common.{List, string_bytes, subst, sym, rules, arith, refl}
 use Rattle.std.specs.Prelude.{ℕ}
 use Rattle.mc_script.specs.declared.command.Command.{Command}
 use Rattle.mc_script.specs.declared.command.Command.TheVariants.{BeginGet}
@@ -8,7 +9,7 @@ use Rattle.mc_replay.specs.declared.player.Player.{Player}
 use Rattle.mc_replay.proofs.CommandLines.{still_running}
 use Rattle.mc_replay.proofs.command.do_here.Goals as goal
 
--- The calls are not named, so that a body that makes another one is refused for what that one does.
+-- A call is named only where no wrong body makes another one there: such a body has to be refused for what that one does.
 pub returns-in-Put-false : goal.returns-in-Put-false
 returns-in-Put-false g c = rw c.in-Put-false.is-0 (search rules)
 
@@ -75,3 +76,42 @@ returns-in_default-true-7 g c = λ most s room fits.
 pub returns-in_default-true-8 : goal.returns-in_default-true-8
 returns-in_default-true-8 g c = λ most s room fits.
     (s, rw c.in_default-true.is-0 (still_running g.row.V c.args.player.now most s (string_bytes c.args.text.now) _ fits (sym c.in_default-true.ensures) c.requires.can.0), tt)
+
+pub is_running-requires : goal.is_running-requires
+is_running-requires g c =
+    let width = width_can g.row.V c.args.player.now (string_bytes c.args.text.now) c.requires.can in player_room _ _ (omega (arith, width)) (omega (arith, width))
+
+pub acts-requires : goal.acts-requires
+acts-requires g c =
+    let width = width_can g.row.V c.args.player.now (string_bytes c.args.text.now) c.requires.can in
+    (player_room _ _ (omega (arith, width)) (omega (arith, width)), c.requires.can)
+
+pub reads-requires : goal.reads-requires
+reads-requires g c =
+    let width = width_can g.row.V c.args.player.now (string_bytes c.args.text.now) c.requires.can in
+    (player_room _ _ (omega (arith, width)) (omega (arith, width)), c.requires.can)
+
+pub begin_get-requires : goal.begin_get-requires
+begin_get-requires g c =
+    let width = width_can g.row.V c.args.player.now (string_bytes c.args.text.now) c.requires.can in
+    (player_room _ _ (omega (arith, width)) (omega (arith, width)), (refl, c.requires.can.1))
+
+pub get-requires : goal.get-requires
+get-requires g c =
+    let width = width_can g.row.V c.args.player.now (string_bytes c.args.text.now) c.requires.can in
+    (player_room _ _ (omega (arith, width)) (omega (arith, width)), (c.requires.can, sym c.in-Get-false.ensures))
+
+pub stamp-requires : goal.stamp-requires
+stamp-requires g c =
+    let width = width_can g.row.V c.args.player.now (string_bytes c.args.text.now) c.requires.can in
+    (player_room _ _ (omega (arith, width)) (omega (arith, width)), (c.requires.can, sym c.in-Stamp-false.ensures))
+
+pub whole-requires-in-Remove-false : goal.whole-requires-in-Remove-false
+whole-requires-in-Remove-false g c =
+    let width = width_can g.row.V c.args.player.now (string_bytes c.args.text.now) c.requires.can in
+    (player_room _ _ (omega (arith, width)) (omega (arith, width)), (omega (arith, width), (c.requires.can, sym c.in-Remove-false.ensures)))
+
+pub begin-requires-in-BeginRemove-false : goal.begin-requires-in-BeginRemove-false
+begin-requires-in-BeginRemove-false g c =
+    let width = width_can g.row.V c.args.player.now (string_bytes c.args.text.now) c.requires.can in
+    (player_room _ _ (omega (arith, width)) (omega (arith, width)), (omega (arith, width), (c.requires.can, sym c.in-BeginRemove-false.ensures)))

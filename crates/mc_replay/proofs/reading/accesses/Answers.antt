@@ -1,4 +1,4 @@
-use Rattle.std.proofs.Common.{◌≡◌, ℕ, ◌+◌, ◌++◌, All, List, refl, subst, sym, ◌∙◌, arith, Some, None, string_bytes}
+use Rattle.std.proofs.Common.{◌≡◌, ℕ, ◌+◌, ◌++◌, All, List, refl, subst, sym, ◌∙◌, arith, Some, None, string_bytes, rules, ◌<◌, ◌≤◌, length}
 use Rattle.mc_words.specs.declared.shape.Shape.{Shape}
 use Rattle.mc_theory.specs.Traces.{IsTrueEnd, Steps}
 use Rattle.mc_theory.specs.declared.event.Event.TheVariants as event
@@ -7,7 +7,7 @@ use Rattle.mc_replay.specs.declared.fault.Fault.TheVariants.{NothingToStep}
 use Rattle.mc_replay.specs.Replay.{AccessesDo}
 use Rattle.mc_replay.specs.Inside.Players.{shape_of_player, most_steps}
 use Rattle.mc_replay.specs.Inside.Texts.{end_text}
-use Rattle.mc_replay.proofs.ReaderLines.{SameWriter, at_of, sound_of, width_of, access_done, readers_after, reads_more, after_access, fits_more}
+use Rattle.mc_replay.proofs.ReaderLines.{SameWriter, at_of, sound_of, width_of, access_done, readers_after, reads_more, after_access, fits_more, read_refused}
 use Rattle.mc_replay.proofs.StepAfterStep.{accesses_push, accesses_stop, left_over, one_more}
 use Rattle.mc_replay.proofs.ReaderLines.{width_can}
 use Rattle.mc_replay.proofs.reading.accesses.Goals as goal
@@ -62,3 +62,17 @@ step-requires g c = (omega (arith, width_can g.row.V c.args.player.now (string_b
 
 pub tell_end-requires : goal.tell_end-requires
 tell_end-requires g c = omega (arith, width_can g.row.V c.args.player.now (string_bytes c.args.text.now) c.requires.can)
+
+pub saw-requires : goal.saw-requires
+saw-requires g c = omega (arith, width_can g.row.V c.args.player.now (string_bytes c.args.text.now) c.requires.can)
+
+pub unreachable-requires : goal.unreachable-requires
+unreachable-requires g c =
+    let mid : Player g.row.V = c.accesses.player in
+    let first = c.requires.can.1 in
+    let some = c.accesses.invariant.made first.0 first.1 first.2 first.3 in
+    let at = at_of g.row.V mid _ some.0.running some.0.world some.2.fits in
+    let few : c.accesses.counter ≤ most_steps = omega (arith, some.2.few) in
+    let there : c.args.reader < length mid.world.readers = omega (arith, c.requires.reader, c.accesses.invariant.readers) in
+    let none = read_refused g.row.V mid first.0 c.accesses.counter c.args.reader some.0 c.in-Err.field-0 first.2 few some.2.fits there (c.in-Err.ensures.refused some.0.world at.world) in
+    search rules

@@ -3,7 +3,7 @@ use Rattle.mc_replay.specs.declared.fault.Fault.TheVariants.{NoSuchReader, Still
 use Rattle.mc_replay.specs.declared.player.Player.{Player}
 use Rattle.mc_replay.specs.Replay.{LookUpDoes}
 use Rattle.mc_replay.specs.Inside.Players.{shape_of_player, DoneAs}
-use Rattle.mc_replay.proofs.ReaderLines.{SameWriter, at_of, look_up_begins, look_up_runs, no_reader}
+use Rattle.mc_replay.proofs.ReaderLines.{SameWriter, at_of, look_up_begins, look_up_runs, no_reader, begin_refused}
 use Rattle.mc_replay.proofs.ReaderLines.{player_room, width_can}
 use Rattle.mc_replay.proofs.reading.begin_get.Goals as goal
 
@@ -36,3 +36,13 @@ reader_of-requires g c = player_room _ _ (omega (arith, width_can g.row.V c.args
 
 pub step-requires : goal.step-requires
 step-requires g c = (omega (arith, width_can g.row.V c.args.player.now [] c.requires), omega (arith, width_can g.row.V c.args.player.now [] c.requires))
+
+pub saw-requires : goal.saw-requires
+saw-requires g c = omega (arith, width_can g.row.V c.args.player.now [] c.requires)
+
+pub unreachable-requires : goal.unreachable-requires
+unreachable-requires g c =
+    let can = c.requires.1 in
+    let at = at_of g.row.V c.args.player.now can.0 can.1.running can.1.world can.3 in
+    let runs = begin_refused g.row.V c.args.player.now can.0 c.in_ok-reader.reader c.args.key can.1 c.in-Err.field-0 can.2 can.3 c.in_ok-reader.ensures.ok.1 (c.in-Err.ensures.refused can.1.world at.world) in
+    search rules

@@ -30,3 +30,14 @@ returns-clause-moved g c = λ b n sizes empty.
     let told = c.in_ok-tell.ensures.ok ∙ ap (λ (l : List ℕ). l ++ reopened_lines at c.deref-2.result.now c.deref-3.result.now) empty
     ∙ ap (λ (xs : List (ℕ × List ℕ)). reopened_lines at xs c.deref-3.result.now) c.deref-2.ensures.value ∙ ap (λ (l : List (ℕ × Why)). reopened_lines at es l) c.deref-3.ensures.value in
     moves_to V old first new sh c.readers.result at b n es left (string_bytes c.tell.new.text) c.readers.ensures c.in-Ok.ensures.shape sizes c.in_ok-entries.ensures.few c.in_ok-entries.ensures.entries loaded (c.moment.ensures _ loaded.after loaded.idle) told
+
+pub entries-requires : goal.entries-requires
+entries-requires g c =
+    let width = c.requires.2.knows.books.width in
+    (player_room _ _ (omega (arith, width)) (omega (arith, width)), (omega (arith, width), c.requires))
+
+pub readers-requires : goal.readers-requires
+readers-requires g c = omega (arith, c.requires.2.knows.books.width)
+
+pub opened-requires : goal.opened-requires
+opened-requires g c = omega (arith, c.requires.2.knows.books.width)

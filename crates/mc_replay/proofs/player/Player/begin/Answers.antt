@@ -45,3 +45,38 @@ returns g c = λ most w idle.
     ] in
     let tells : TellsAs g.row.V mid new c.answer.result = record { world = refl; shape = c.answer.ensures.shape; ends = c.answer.ensures.some; some = c.answer.ensures.told; none = c.answer.ensures.none } in
     (in_call.0, begins_as g.row.V old mid new most (call_of c.args.call) w c.answer.result in_call.1 in_call.0 tells)
+
+pub put-requires-room-P-Peek : goal.put-requires-room-P-Peek
+put-requires-room-P-Peek g c κs = omega (arith, c.requires.2.knows.books.width)
+
+pub put-requires : goal.put-requires
+put-requires g c =
+    let idle = c.requires.2 in
+    (omega (arith, idle.knows.books.width), (omega (arith, idle.knows.books.width), (state_of g.row.V (shape_of_player {V = g.row.V} c.args.self.now) c.requires.1.acts, idle.knows, ap (λ (y : State g.row.V). y.words) idle.at.world.state)))
+
+pub put_if-requires-room-P-Peek : goal.put_if-requires-room-P-Peek
+put_if-requires-room-P-Peek g c κs = omega (arith, c.requires.2.knows.books.width)
+
+pub put_if-requires : goal.put_if-requires
+put_if-requires g c =
+    let idle = c.requires.2 in
+    (omega (arith, idle.knows.books.width), (omega (arith, idle.knows.books.width), (state_of g.row.V (shape_of_player {V = g.row.V} c.args.self.now) c.requires.1.acts, idle.knows, ap (λ (y : State g.row.V). y.words) idle.at.world.state)))
+
+pub remove-requires-room-P-Peek : goal.remove-requires-room-P-Peek
+remove-requires-room-P-Peek g c κs = omega (arith, c.requires.2.knows.books.width)
+
+pub remove-requires : goal.remove-requires
+remove-requires g c =
+    let idle = c.requires.2 in
+    (omega (arith, idle.knows.books.width), (state_of g.row.V (shape_of_player {V = g.row.V} c.args.self.now) c.requires.1.acts, idle.knows, ap (λ (y : State g.row.V). y.words) idle.at.world.state))
+
+pub put_kept-requires-room-P-Peek : goal.put_kept-requires-room-P-Peek
+put_kept-requires-room-P-Peek g c κs = omega (arith, c.requires.2.knows.books.width)
+
+pub put_kept-requires : goal.put_kept-requires
+put_kept-requires g c =
+    let idle = c.requires.2 in
+    (omega (arith, idle.knows.books.width), (omega (arith, idle.knows.books.width), (state_of g.row.V (shape_of_player {V = g.row.V} c.args.self.now) c.requires.1.acts, idle.knows, ap (λ (y : State g.row.V). y.words) idle.at.world.state)))
+
+pub answer-requires : goal.answer-requires
+answer-requires g c = omega (arith, c.requires.2.knows.books.width)

@@ -1,4 +1,5 @@
-use Rattle.std.proofs.Common.{inl, inr}
+use Rattle.mc_replay.proofs.ReaderLines.{player_room}
+use Rattle.std.proofs.Common.{inl, inr, arith}
 use Rattle.mc_replay.proofs.LoadedWorlds.{only_kept}
 use Rattle.mc_replay.proofs.player.Player.put_kept.Goals as goal
 
@@ -13,3 +14,8 @@ unreachable-requires g c =
         | inr remove ↦ absurd (cc (remove.1, kept.1))
       ]
     ]
+
+pub whole-requires : goal.whole-requires
+whole-requires g c =
+    let width = c.requires.2.knows.books.width in
+    (player_room _ _ (omega (arith, width)) (omega (arith, width)), (omega (arith, width), c.requires))
