@@ -10,16 +10,14 @@ ghost use Rattle.mc_plan.specs.Plans.{moves_acts};
 ghost use Rattle.mc_search.specs.Paths.{IsLeastPath, first_place};
 ghost use Rattle.mc_search.specs.Readable.{IsFilled};
 
+mod finishing;
+
 use crate::answer::{IfError, PutError, Spent};
-use crate::decision::{
-    Decision, Exchange, Insertion, Nearby, Removal, Renewal, Replacement, Storing,
-};
+use crate::decision::{Decision, Insertion, Nearby, Removal, Renewal, Storing};
 use crate::moves::path_moves;
 use crate::value::have_words;
-use crate::waiting::Waiting;
 use mc_search::{
-    Finder, FreeItems, Path, Sweep, find, find_by, is_large, key_at, moment, place_of, stamp_at,
-    touch_bucket,
+    Finder, FreeItems, Path, Sweep, find, find_by, is_large, key_at, moment, stamp_at, touch_bucket,
 };
 use mc_theory::Peek;
 use mc_words::{Checked, KeyParts, NoMemory, Place};
@@ -40,12 +38,10 @@ pub struct Books {
 }
 
 impl Books {
-    ghost use Rattle.mc_plan.specs.WholeCalls.{Call};
-    ghost use Rattle.mc_plan.specs.Books.{AreBooksOf, IsSweeping};
-    ghost use Rattle.mc_plan.specs.Deciding.{IsDecided, IsExchanged, IsFinished, IsFinishedNear, IsIfDecided, IsInserted, IsCrowdedOut, IsLackingKey, IsNear, IsRemovalDecided, IsReplaced};
+    ghost use Rattle.mc_plan.specs.Books.{AreBooksOf};
+    ghost use Rattle.mc_plan.specs.Deciding.{IsCrowdedOut, IsDecided, IsIfDecided, IsInserted, IsLackingKey, IsNear, IsRemovalDecided};
     ghost use Rattle.mc_plan.specs.Decisions.{acts_of_moves};
-    ghost use Rattle.mc_plan.specs.Inside.Clerks.{IsReplacing};
-    ghost use Rattle.mc_search.specs.Sweeps.{HasSwept, IsOver, Swept};
+    ghost use Rattle.mc_search.specs.Sweeps.{HasSwept};
 
     /// The books of a new table.
     pub fn new(alloc: Global, checked: &Checked) -> Result<Books, NoMemory>
@@ -288,120 +284,6 @@ impl Books {
     {
         let path = self.finder.far(peek, key, parts);
         self.insert_by::<V, P>(peek, key, path, value, at)
-    }
-
-    /// Decides how the key at the item is replaced. The path is cut where that key stands.
-    #[inline(always)]
-    fn replace<const V: usize, P: Peek>(
-        &mut self,
-        peek: &mut P,
-        waiting: &mut Waiting<V>,
-        item: u32,
-    ) -> Replacement
-        requires books { (call : Call) × (s : State V) × (rs : List Swept) × IsReplacing V self.old waiting.old call s rs item × (P.words peek.old ≡ s.words) }
-        ensures replaced { (call : Call) (s : State V) (rs : List Swept) →
-            IsReplacing V self.old waiting.old call s rs item → P.words peek.old ≡ s.words →
-            IsReplaced V self.new waiting.old call s rs result }
-        ensures shape { self.new.checked ≡ self.old.checked }
-        ensures kept { peek.new ≡ peek.old }
-    {
-        have_words(&waiting.value);
-        let at = moment(&self.checked, peek) + 2;
-        let evicted = key_at::<V, P>(&self.checked, peek, item);
-        let parts = self.checked.parts(evicted);
-        let Some(victim) = place_of::<V, P>(&self.checked, peek, evicted, parts, item) else {
-            unreachable!();
-        };
-        waiting.path.cut_at(victim);
-        self.store::<V, P>(peek, &waiting.path, item, at);
-        self.version_steps += 2;
-        Replacement {
-            evicted,
-            parts,
-            victim,
-        }
-    }
-
-    /// Decides the rest of a put whose sweep is over.
-    /// Condition: the put waits by these books, its sweep is over, and the words are those of its beginning.
-    #[inline(always)]
-    pub fn finish<const V: usize, P: Peek>(
-        &mut self,
-        peek: &mut P,
-        waiting: &mut Waiting<V>,
-    ) -> Result<Replacement, PutError>
-        requires over { (call : Call) × (s : State V) × (rs : List Swept) × IsSweeping V self.old waiting.old call s rs ×
-            IsOver (shape_of self.old.checked).items rs × (P.words peek.old ≡ s.words) }
-        ensures finished { (call : Call) (s : State V) (rs : List Swept) →
-            IsSweeping V self.old waiting.old call s rs → IsOver (shape_of self.old.checked).items rs →
-            P.words peek.old ≡ s.words → IsFinished V self.new waiting.old call s rs result }
-        ensures shape { self.new.checked ≡ self.old.checked }
-        ensures kept { peek.new ≡ peek.old }
-    {
-        self.hand = waiting.sweep.hand();
-        match waiting.sweep.victim() {
-            Some(item) => Ok(self.replace::<V, P>(peek, waiting, item)),
-            None => Err(PutError::AllRecent),
-        }
-    }
-
-    /// Decides how the key at the item is replaced by one that goes to a hole.
-    #[inline(always)]
-    fn exchange<const V: usize, P: Peek>(
-        &mut self,
-        peek: &mut P,
-        waiting: &Waiting<V>,
-        item: u32,
-    ) -> Exchange
-        requires books { (call : Call) × (s : State V) × (rs : List Swept) × IsReplacing V self.old waiting.now call s rs item × (P.words peek.old ≡ s.words) }
-        requires near { waiting.now.path.places.items ≡ [] }
-        ensures exchanged { (call : Call) (s : State V) (rs : List Swept) →
-            IsReplacing V self.old waiting.now call s rs item → P.words peek.old ≡ s.words →
-            IsExchanged V self.new waiting.now call s rs result }
-        ensures shape { self.new.checked ≡ self.old.checked }
-        ensures kept { peek.new ≡ peek.old }
-    {
-        have_words(&waiting.value);
-        let at = moment(&self.checked, peek) + 2;
-        let evicted = key_at::<V, P>(&self.checked, peek, item);
-        let parts = self.checked.parts(evicted);
-        let Some(victim) = place_of::<V, P>(&self.checked, peek, evicted, parts, item) else {
-            unreachable!();
-        };
-        self.version_steps += 4;
-        Exchange {
-            evicted,
-            parts,
-            victim,
-            item,
-            place: waiting.path.hole,
-            at,
-        }
-    }
-
-    /// Decides the rest of a put whose sweep is over, and for which no key moves.
-    /// Condition: as for `finish`, and the put waits with a path of no places.
-    #[inline(always)]
-    pub fn finish_near<const V: usize, P: Peek>(
-        &mut self,
-        peek: &mut P,
-        waiting: &Waiting<V>,
-    ) -> Result<Exchange, PutError>
-        requires over { (call : Call) × (s : State V) × (rs : List Swept) ×
-            IsSweeping V self.old waiting.now call s rs × IsOver (shape_of self.old.checked).items rs ×
-            (P.words peek.old ≡ s.words) }
-        requires near { waiting.now.path.places.items ≡ [] }
-        ensures finished { (call : Call) (s : State V) (rs : List Swept) → IsSweeping V self.old waiting.now call s rs →
-            IsOver (shape_of self.old.checked).items rs → P.words peek.old ≡ s.words →
-            IsFinishedNear V self.new waiting.now call s rs result }
-        ensures shape { self.new.checked ≡ self.old.checked }
-        ensures kept { peek.new ≡ peek.old }
-    {
-        self.hand = waiting.sweep.hand();
-        match waiting.sweep.victim() {
-            Some(item) => Ok(self.exchange::<V, P>(peek, waiting, item)),
-            None => Err(PutError::AllRecent),
-        }
     }
 
     /// Decides a removal. Condition: the books are those of the table whose words are looked at, between two calls.
