@@ -12,7 +12,7 @@ use std::str;
 use thiserror::Error;
 
 /// A command of a script whose values have `V` words.
-#[derive(Clone, Copy, Debug, PartialEq, Eq)]
+#[derive(Clone, Copy, PartialEq, Eq)]
 pub enum Command<const V: usize> {
     Put(u64, [u64; V]),
     /// A `put`, where the moment of the key's last put is this one.
