@@ -135,6 +135,9 @@ impl Books {
         let at = moment(&self.checked, peek) + 1;
         match find_by::<V, P>(&self.checked, peek, key, parts) {
             Some((_, item)) => {
+                // The stamp is the item's last word, and may lie in another cache line than its key. Behind the first store no
+                // load runs ahead, so that line is asked for here, while the processor still waits for the key.
+                stamp_at::<V, P>(&self.checked, peek, item);
                 self.version_steps += 2;
                 Decision::Renew { item, at }
             }

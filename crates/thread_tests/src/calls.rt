@@ -4,7 +4,7 @@ ghost use Rattle.std.specs.Prelude.{◌≡◌};
 use mc_cache::{Cache, IfError, Put, PutError, Reader, Remove, Reply, Spent, Writer};
 
 /// A call. A look is the reader's, all others are the writer's.
-#[derive(Clone, Copy, Debug, PartialEq, Eq)]
+#[derive(Clone, Copy)]
 pub enum Call {
     Put(u64, u64),
     /// The key, the stamp that it is to have, and the new value.
@@ -16,68 +16,74 @@ pub enum Call {
     CatchUp,
 }
 
-/// What a call answers.
-#[derive(Clone, Copy, Debug, PartialEq, Eq)]
+/// What a call answers: its moment, and what the name says before it.
+#[derive(Clone, Copy, PartialEq, Eq)]
 pub enum Told {
-    Put(Result<Put, PutError>),
-    PutIf(Result<u64, IfError>),
-    Remove(Result<Remove, Spent>),
-    Reply(Reply<1>),
+    /// Stored, with no move and no eviction.
+    Stored(u64),
+    /// Stored, with no move, after an eviction of this key.
+    StoredAfter(u64, u64),
+    StoredByMoves,
+    Renewed(u64),
+    Refused(PutError),
+    /// The stamp was the one asked for.
+    RenewedIf(u64),
+    RefusedIf(IfError),
+    Removed(u64),
+    NotThere(u64),
+    SpentRemove,
+    /// The value, the moment and the stamp.
+    Found(u64, u64, u64),
+    Absent(u64),
+    Busy,
     Moment(u64),
 }
 
-/// Stored, with no move and no eviction.
-pub const fn stored(at: u64) -> Told {
-    Told::Put(Ok(Put::Stored {
-        at,
-        moves: 0,
-        evicted: None,
-    }))
-}
+impl Told {
+    fn of_put(told: Result<Put, PutError>) -> Told {
+        match told {
+            Ok(Put::Stored { moves: 1.., .. }) => Told::StoredByMoves,
+            Ok(
+                Put::Stored {
+                    at,
+                    evicted: None,
+                    ..
+                },
+            ) => Told::Stored(at),
+            Ok(
+                Put::Stored {
+                    at,
+                    evicted: Some(key),
+                    ..
+                },
+            ) => Told::StoredAfter(key, at),
+            Ok(Put::Renewed { at }) => Told::Renewed(at),
+            Err(why) => Told::Refused(why),
+        }
+    }
 
-pub const fn stored_after(at: u64, evicted: u64) -> Told {
-    Told::Put(Ok(Put::Stored {
-        at,
-        moves: 0,
-        evicted: Some(evicted),
-    }))
-}
+    fn of_put_if(told: Result<u64, IfError>) -> Told {
+        match told {
+            Ok(at) => Told::RenewedIf(at),
+            Err(why) => Told::RefusedIf(why),
+        }
+    }
 
-pub const fn renewed(at: u64) -> Told {
-    Told::Put(Ok(Put::Renewed { at }))
-}
+    fn of_remove(told: Result<Remove, Spent>) -> Told {
+        match told {
+            Ok(Remove::Removed { at }) => Told::Removed(at),
+            Ok(Remove::NotThere { at }) => Told::NotThere(at),
+            Err(_) => Told::SpentRemove,
+        }
+    }
 
-pub const fn refused(why: PutError) -> Told {
-    Told::Put(Err(why))
-}
-
-/// The stamp was the one asked for.
-pub const fn renewed_if(at: u64) -> Told {
-    Told::PutIf(Ok(at))
-}
-
-pub const fn refused_if(why: IfError) -> Told {
-    Told::PutIf(Err(why))
-}
-
-pub const fn removed(at: u64) -> Told {
-    Told::Remove(Ok(Remove::Removed { at }))
-}
-
-pub const fn not_there(at: u64) -> Told {
-    Told::Remove(Ok(Remove::NotThere { at }))
-}
-
-pub const fn found(value: u64, at: u64, since: u64) -> Told {
-    Told::Reply(Reply::Found {
-        value: [value],
-        at,
-        since,
-    })
-}
-
-pub const fn absent(at: u64) -> Told {
-    Told::Reply(Reply::Absent { at })
+    fn of_reply(reply: Reply<1>) -> Told {
+        match reply {
+            Reply::Found { value, at, since } => Told::Found(value[0], at, since),
+            Reply::Absent { at } => Told::Absent(at),
+            Reply::Busy => Told::Busy,
+        }
+    }
 }
 
 /// Makes a call.
@@ -86,12 +92,14 @@ pub fn make(cache: &Cache<1>, writer: &mut Writer<1>, reader: &mut Reader<1>, ca
     ensures of { (writer.new.of ≡ writer.old.of) × (reader.new.of ≡ reader.old.of) }
 {
     match call {
-        Call::Put(key, value) => Told::Put(writer.put(cache, key, [value])),
-        Call::PutIf(key, since, value) => Told::PutIf(writer.put_if(cache, key, since, [value])),
-        Call::Remove(key) => Told::Remove(writer.remove(cache, key)),
-        Call::Get(key) => Told::Reply(writer.get(cache, key)),
-        Call::Look(key) => Told::Reply(reader.get(cache, key)),
-        Call::LookBeside(key) => Told::Reply(reader.get_beside(cache, writer, key)),
+        Call::Put(key, value) => Told::of_put(writer.put(cache, key, [value])),
+        Call::PutIf(key, since, value) => {
+            Told::of_put_if(writer.put_if(cache, key, since, [value]))
+        }
+        Call::Remove(key) => Told::of_remove(writer.remove(cache, key)),
+        Call::Get(key) => Told::of_reply(writer.get(cache, key)),
+        Call::Look(key) => Told::of_reply(reader.get(cache, key)),
+        Call::LookBeside(key) => Told::of_reply(reader.get_beside(cache, writer, key)),
         Call::CatchUp => Told::Moment(reader.catch_up(cache, writer)),
     }
 }

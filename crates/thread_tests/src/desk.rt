@@ -1,6 +1,7 @@
 //! A writer that lies on a desk: what a thread alone is told, and what many are that take turns.
 ghost use Rattle.std.specs.Prelude.{◌≡◌, All, IfOk};
 
+use crate::opened::open_for_one;
 use crate::turns::{Caller, call_in_threads, history_of};
 use mc_cache::{
     Cache, Desk, DeskError, IfError, Mix, Put, PutError, Reader, Remove, Reply, Shape, open,
@@ -36,41 +37,44 @@ fn found(value: u64, at: u64, since: u64) -> Reply<1> {
     }
 }
 
+// Whether a put, a lookup and a removal of a thread alone are answered, one after the other.
+fn is_alone_answered(cache: &Cache<1>, desk: &Desk<1>, pass: &mut Reader<1>) -> bool
+    requires { (desk.now ≡ cache.now) × (pass.old.of ≡ cache.now) }
+{
+    desk.try_put(cache, pass, 0, [7]) == stored(1)
+        && pass.get_or_desk(cache, desk, 0) == found(7, 1, 1)
+        && desk.try_remove(cache, pass, 0) == Ok(Remove::Removed { at: 2 })
+}
+
 #[test]
 fn one_thread_is_never_held(rt: HostRuntime) -> Result<(), Fail> {
-    let (cache, writer, mut readers) = open::<1>(rt.alloc(), SMALL, 1)?;
-    let Some(mut pass) = readers.pop() else {
-        return Err(Fail::new("no reader"));
-    };
+    let (cache, writer, mut pass) = open_for_one(rt.alloc(), SMALL)?;
     let desk = Desk::new(writer);
-    assert_eq!(rt; desk.try_put(&cache, &mut pass, 0, [7]), stored(1));
-    assert_eq!(rt; pass.get_or_desk(&cache, &desk, 0), found(7, 1, 1));
-    assert_eq!(rt;
-        desk.try_remove(&cache, &mut pass, 0),
-        Ok(Remove::Removed { at: 2 })
-    );
-    let Some(writer) = desk.end() else {
-        return Err(Fail::new("no writer"));
-    };
-    assert_eq!(rt; writer.moment(), 2);
+    let right = is_alone_answered(&cache, &desk, &mut pass);
+    let moment = desk.end().map(|writer| writer.moment());
+    assert!(rt; right && moment == Some(2));
     Ok(())
+}
+
+// Whether a put on a condition renews by the stamp, and is else told why not.
+fn goes_by_the_stamp(cache: &Cache<1>, desk: &Desk<1>, pass: &mut Reader<1>) -> bool
+    requires { (desk.now ≡ cache.now) × (pass.old.of ≡ cache.now) }
+{
+    let changed = Err(DeskError::Call(IfError::Changed { since: 3 }));
+    let not_there = Err(DeskError::Call(IfError::NotThere { at: 3 }));
+    desk.try_put(cache, pass, 0, [7]) == stored(1)
+        && desk.try_put(cache, pass, 1, [8]) == stored(2)
+        && desk.try_put_if(cache, pass, 0, 1, [9]) == Ok(3)
+        && desk.try_put_if(cache, pass, 0, 1, [10]) == changed
+        && desk.try_put_if(cache, pass, 5, 0, [1]) == not_there
+        && pass.get_or_desk(cache, desk, 0) == found(9, 3, 3)
 }
 
 #[test]
 fn a_put_on_a_condition_is_told_why_not(rt: HostRuntime) -> Result<(), Fail> {
-    let (cache, writer, mut readers) = open::<1>(rt.alloc(), SMALL, 1)?;
-    let Some(mut pass) = readers.pop() else {
-        return Err(Fail::new("no reader"));
-    };
+    let (cache, writer, mut pass) = open_for_one(rt.alloc(), SMALL)?;
     let desk = Desk::new(writer);
-    assert_eq!(rt; desk.try_put(&cache, &mut pass, 0, [7]), stored(1));
-    assert_eq!(rt; desk.try_put(&cache, &mut pass, 1, [8]), stored(2));
-    assert_eq!(rt; desk.try_put_if(&cache, &mut pass, 0, 1, [9]), Ok(3));
-    let changed = Err(DeskError::Call(IfError::Changed { since: 3 }));
-    assert_eq!(rt; desk.try_put_if(&cache, &mut pass, 0, 1, [10]), changed);
-    let not_there = Err(DeskError::Call(IfError::NotThere { at: 3 }));
-    assert_eq!(rt; desk.try_put_if(&cache, &mut pass, 5, 0, [1]), not_there);
-    assert_eq!(rt; pass.get_or_desk(&cache, &desk, 0), found(9, 3, 3));
+    assert!(rt; goes_by_the_stamp(&cache, &desk, &mut pass));
     Ok(())
 }
 

@@ -35,6 +35,8 @@ mod looker;
 #[cfg(test)]
 mod marks;
 #[cfg(test)]
+mod opened;
+#[cfg(test)]
 mod openings;
 #[cfg(test)]
 mod put_read_back;

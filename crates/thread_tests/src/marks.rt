@@ -51,8 +51,6 @@ fn marked_by_two<R: Threads + Sync>(rt: &R, alloc: Global, looks_first: bool) ->
         || mark_half(&cells, &mut one, 0, looks_first),
         || mark_half(&cells, &mut two, 1, looks_first),
     );
-    readers.push(one)?;
-    readers.push(two)?;
     let place = checked.recency_place::<1>(0);
     let words = close(cells, writer, readers);
     Ok(words.word(place))

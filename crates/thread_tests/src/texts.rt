@@ -5,22 +5,26 @@ use mc_load::LoadError;
 use mc_words::ShapeError;
 use std::alloc::AllocError;
 
+const LOADS: [(LoadError, &str); 7] = [
+    (
+        LoadError::Open(OpenError::Shape(ShapeError::Depth)),
+        "depth must be from 0 to 8",
+    ),
+    (
+        LoadError::Open(OpenError::Readers),
+        "readers must be from 1 to 1024",
+    ),
+    (LoadError::Open(OpenError::NoMemory), "no memory"),
+    (LoadError::NoMemory, "no memory"),
+    (LoadError::Keys, "keys must be from 1 to 4294967296"),
+    (LoadError::Gate { who: 1, call: 2 }, "gate"),
+    (LoadError::Writers, "writers must be from 1 to 8"),
+];
+
 #[test]
 fn refusals_are_told_in_these_words(rt: HostRuntime) -> Result<(), AllocError> {
     let alloc = rt.alloc();
-    let depth = OpenError::Shape(ShapeError::Depth);
-    for (why, text) in [
-        (LoadError::Open(depth), "depth must be from 0 to 8"),
-        (
-            LoadError::Open(OpenError::Readers),
-            "readers must be from 1 to 1024",
-        ),
-        (LoadError::Open(OpenError::NoMemory), "no memory"),
-        (LoadError::NoMemory, "no memory"),
-        (LoadError::Keys, "keys must be from 1 to 4294967296"),
-        (LoadError::Gate { who: 1, call: 2 }, "gate"),
-        (LoadError::Writers, "writers must be from 1 to 8"),
-    ] {
+    for (why, text) in LOADS {
         let told = format!(in alloc; "{why}")?;
         assert!(rt; told.as_str() == text, "{text}");
     }
