@@ -1,4 +1,4 @@
-/* A cache, its writer and a reader. README shows these lines. */
+/* A cache, its writer and a reader. README shows what it prints. */
 #include "cefrodil.h"
 #include <stdio.h>
 

@@ -199,9 +199,10 @@ pub(crate) fn open_deed_on_words(
     ensures { HasActed writer.old writer.new (Open key deed) 0 }
 {
     let count = load_as_writer(ruled, &mut writer.seat, place) + 1;
-    store_as_writer::<Brand>(ruled, &mut writer.seat, Act::Open(key, deed), place, count);
+    // Before the store, not behind it: the next store of the deed waits for every plain store between the two.
     writer.place = place;
     writer.count = count;
+    store_as_writer::<Brand>(ruled, &mut writer.seat, Act::Open(key, deed), place, count);
 }
 
 /// Counts the change of the deed.

@@ -10,7 +10,7 @@ use mc_core::World;
 use mc_reader::get;
 use mc_shared::{Cells, ReaderSeat, WriterSeat, open};
 use mc_theory::{Act, Deed};
-use mc_words::{Place, Reply};
+use mc_words::{Change, Place, Reply};
 use std::alloc::Global;
 use std::sync::atomic::{AtomicBool, Ordering};
 use std::test::Fail;
@@ -130,28 +130,49 @@ fn is_of_the_end(reply: Reply<1>) -> bool {
     }
 }
 
-// Whether all answers of a reader beside the writer are true, in a table of so many stripes.
-fn are_answers_true<R: Threads + Sync>(rt: &R, alloc: Global, stripes: u32) -> Result<bool, Fail> {
-    let checked = small_shape(stripes).check()?;
-    let (cells, mut writer, mut readers) = open::<1>(alloc, &checked, 1)?;
-    let mut world = World::<1>::new(alloc, &checked, 1)?;
-    let Some(mut reader) = readers.pop() else {
-        return Err(Fail::new("no reader"));
-    };
-    let mut replies = vec![in alloc; Reply::Busy; LOOKUPS + LAST]?;
+// The writer makes its deeds, each in the world first, while the reader looks. Whether all acts were allowed.
+fn look_beside<R: Threads + Sync>(
+    rt: &R,
+    cells: &Cells<1>,
+    writer: &mut WriterSeat,
+    world: &mut World<1>,
+    reader: &mut ReaderSeat,
+    replies: &mut [Reply<1>],
+) -> bool
+    requires of { (writer.old.of ≡ cells.now) × (reader.old.of ≡ cells.now) }
+    requires twin { IsTwinOf 1 world.old writer.old }
+{
     let ended = AtomicBool::new(false);
     let (made, ()) = join(
         rt,
-        || write_deeds(&cells, &mut writer, &mut world, &ended),
-        || look_all(&cells, &mut reader, &ended, replies.as_mut_slice()),
+        || write_deeds(cells, writer, world, &ended),
+        || look_all(cells, reader, &ended, replies),
     );
-    let changes = world.history();
-    let mut right = made && changes.len() as u64 == DEEDS;
+    made
+}
+
+// Whether the answers are true of the changes, and the last of them see all.
+fn are_true(changes: &[Change<1>], replies: &[Reply<1>]) -> bool {
+    let mut right = changes.len() as u64 == DEEDS;
     for i in 0..replies.len() {
         right = right && is_true(changes, key_of(i as u64), replies[i]);
         right = right && (i < LOOKUPS || is_of_the_end(replies[i]));
     }
-    Ok(right)
+    right
+}
+
+// Whether all answers of a reader beside the writer are true, in a table of so many stripes.
+fn are_answers_true<R: Threads + Sync>(rt: &R, alloc: Global, stripes: u32) -> Result<bool, Fail> {
+    let checked = small_shape(stripes).check()?;
+    let mut replies = vec![in alloc; Reply::Busy; LOOKUPS + LAST]?;
+    let mut world = World::<1>::new(alloc, &checked, 1)?;
+    let (cells, mut writer, mut readers) = open::<1>(alloc, &checked, 1)?;
+    let told = replies.as_mut_slice();
+    let made = match readers.pop() {
+        Some(mut reader) => look_beside(rt, &cells, &mut writer, &mut world, &mut reader, told),
+        None => false,
+    };
+    Ok(made && are_true(world.history(), replies.as_slice()))
 }
 
 #[test]

@@ -120,27 +120,32 @@ struct Turns {
     held: bool,
 }
 
-// So many writers take turns beside so many readers.
-fn take_turns<R: Threads + Sync>(
+// So many writers have taken turns beside so many readers: all of them, and the last moment.
+fn callers_after<R: Threads + Sync>(
     rt: &R,
     alloc: Global,
     shape: Shape,
     writers: u32,
     readers: u32,
-) -> Result<Turns, Fail> {
+) -> Result<(Vec<Caller>, u64), Fail> {
     let (cache, writer, passes) = open::<1>(alloc, shape, writers.saturating_add(readers))?;
     let callers = callers_of(alloc, &cache, passes, writers as u64)?;
     let desk = Desk::new(writer);
     let callers = call_in_threads(rt, &cache, &desk, callers)?;
-    let Some(writer) = desk.end() else {
-        return Err(Fail::new("no writer"));
-    };
-    let Some(history) = history_of(alloc, callers.as_slice(), writer.moment())? else {
+    match desk.end() {
+        Some(writer) => Ok((callers, writer.moment())),
+        None => Err(Fail::new("no writer")),
+    }
+}
+
+// What came of the turns of these callers, after which this moment is the last.
+fn turns_of(alloc: Global, callers: &[Caller], moment: u64) -> Result<Turns, Fail> {
+    let Some(history) = history_of(alloc, callers, moment)? else {
         return Err(Fail::new("a moment is missing, or there twice"));
     };
     let mut right = history.len() > 0;
     let mut held = false;
-    for caller in callers.as_slice() {
+    for caller in callers {
         right = right && caller.was_told_the_truth(history.as_slice());
         held = held || caller.was_held();
     }
@@ -160,7 +165,8 @@ fn do_turns_meet<R: Threads + Sync>(
     readers: u32,
 ) -> Result<bool, Fail> {
     for _round in 0..ROUNDS {
-        let turns = take_turns(rt, alloc, shape, writers, readers)?;
+        let (callers, moment) = callers_after(rt, alloc, shape, writers, readers)?;
+        let turns = turns_of(alloc, callers.as_slice(), moment)?;
         if turns.held || !turns.right {
             return Ok(turns.right);
         }

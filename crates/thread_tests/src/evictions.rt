@@ -106,6 +106,51 @@ fn is_eviction(change: &Change<1>) -> bool {
     matches!(change, Change::Evict(_))
 }
 
+// The writer makes its calls, and writes down what came of each, while the lookers look.
+fn look_beside<R: Threads + Sync>(
+    rt: &R,
+    cache: &Cache<1>,
+    writer: &mut Writer<1>,
+    lookers: Vec<Looker>,
+    entries: &mut [Entry],
+) -> Result<Vec<Looker>, AllocError>
+    requires writer { writer.old.of ≡ cache.now }
+    requires lookers { All (λ l. l.reader.of ≡ cache.now) lookers.items }
+{
+    let ended = AtomicBool::new(false);
+    let ((), looked) = join(
+        rt,
+        || write_all(cache, writer, entries, &ended),
+        || -> Result<Vec<Looker>, AllocError>
+            requires { All (λ l. l.reader.of ≡ cache.now) lookers.items }
+        { look_in_threads(rt, cache, lookers, &ended) },
+    );
+    looked
+}
+
+// Three lookers, once the writer has made its calls beside them, with what came of these.
+fn looked_beside<R: Threads + Sync>(
+    rt: &R,
+    alloc: Global,
+    shape: Shape,
+    many: bool,
+) -> Result<(Vec<Looker>, Vec<Entry>), Fail> {
+    let mut entries = vec![in alloc; Entry::Refused; WRITES]?;
+    let (cache, mut writer, readers) = open::<1>(alloc, shape, 3)?;
+    let lookers = lookers_of(alloc, &cache, readers, many)?;
+    let looked = look_beside(rt, &cache, &mut writer, lookers, entries.as_mut_slice())?;
+    Ok((looked, entries))
+}
+
+// Whether a key was evicted, and all lookers were told the truth of this history.
+fn is_history_of(history: &[Change<1>], looked: &[Looker]) -> bool {
+    let mut right = looked.len() == 3 && history.iter().any(is_eviction);
+    for looker in looked {
+        right = right && looker.was_told_the_truth(history);
+    }
+    right
+}
+
 // Whether a key was evicted, and what three readers were told beside the writer is true of the history that it tells.
 fn are_answers_true<R: Threads + Sync>(
     rt: &R,
@@ -113,27 +158,11 @@ fn are_answers_true<R: Threads + Sync>(
     shape: Shape,
     many: bool,
 ) -> Result<bool, Fail> {
-    let (cache, mut writer, readers) = open::<1>(alloc, shape, 3)?;
-    let lookers = lookers_of(alloc, &cache, readers, many)?;
-    let mut entries = vec![in alloc; Entry::Refused; WRITES]?;
-    let ended = AtomicBool::new(false);
-    let ((), looked) = join(
-        rt,
-        || write_all(&cache, &mut writer, entries.as_mut_slice(), &ended),
-        || -> Result<Vec<Looker>, AllocError>
-            requires { All (λ l. l.reader.of ≡ cache) lookers.items }
-        { look_in_threads(rt, &cache, lookers, &ended) },
-    );
-    let looked = looked?;
-    let Some(history) = history_of(alloc, entries.as_slice())? else {
-        return Err(Fail::new("a moment of the writer is not the number of its changes"));
-    };
-    let history = history.as_slice();
-    let mut right = looked.len() == 3 && history.iter().any(is_eviction);
-    for looker in looked.as_slice() {
-        right = right && looker.was_told_the_truth(history);
+    let (looked, entries) = looked_beside(rt, alloc, shape, many)?;
+    match history_of(alloc, entries.as_slice())? {
+        Some(history) => Ok(is_history_of(history.as_slice(), looked.as_slice())),
+        None => Err(Fail::new("a moment of the writer is not the number of its changes")),
     }
-    Ok(right)
 }
 
 #[test]

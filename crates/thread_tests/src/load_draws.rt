@@ -4,8 +4,10 @@
 use crate::late_gate::Late;
 use mc_load::{Gate, Load, LoadError, load, load_many};
 use mc_words::{Mix, Shape};
+use std::alloc::Global;
 use std::sync::atomic::{AtomicU64, Ordering};
 use std::test::Fail;
+use std::thread::Threads;
 
 /// A load of 1,024 buckets.
 fn asked(seed: u64, readers: u32, lookups: u32, writes: u32, keys: u64) -> Load {
@@ -124,6 +126,15 @@ impl Gate for Counting {
     }
 }
 
+// How many busy answers a load tells of, and how many its gate saw.
+fn busy_of<R: Threads + Sync>(rt: &R, alloc: Global, asked: Load) -> Result<(u64, u64), LoadError> {
+    let gate = Counting {
+        busy: AtomicU64::new(0),
+    };
+    let report = load::<4, _, _>(rt, alloc, asked, &gate)?;
+    Ok((report.busy, gate.busy.load(Ordering::SeqCst)))
+}
+
 #[test]
 fn busy_answers_are_counted_where_there_are_some(rt: HostRuntime) -> Result<(), Fail> {
     let many = asked(1, 2, 200_000, 200_000, 2);
@@ -137,12 +148,8 @@ fn busy_answers_are_counted_where_there_are_some(rt: HostRuntime) -> Result<(), 
     };
     // Nobody can make a lookup fall into a deed: the load is made until one did.
     for _load in 0..100 {
-        let gate = Counting {
-            busy: AtomicU64::new(0),
-        };
-        let report = load::<4, _, _>(&rt, rt.alloc(), one_try, &gate)?;
-        let busy = gate.busy.load(Ordering::SeqCst);
-        assert!(rt; report.busy == busy);
+        let (told, busy) = busy_of(&rt, rt.alloc(), one_try)?;
+        assert!(rt; told == busy);
         if busy > 0 {
             return Ok(());
         }

@@ -65,14 +65,13 @@ fn first_words(cells: Cells<1>, writer: WriterSeat, readers: Vec<ReaderSeat>) ->
 // first words that are left.
 fn put_and_read(alloc: Global) -> Result<(bool, [u64; 8], [u64; 2]), Fail> {
     let checked = small_shape(1).check()?;
-    let (cells, mut writer, mut readers) = open::<1>(alloc, &checked, 1)?;
     let mut world = World::<1>::new(alloc, &checked, 1)?;
+    let (cells, mut writer, mut readers) = open::<1>(alloc, &checked, 1)?;
     let Some(mut reader) = readers.pop() else {
         return Err(Fail::new("no reader"));
     };
     let made = put(&cells, &mut writer, &mut world);
     let told = read_back(&cells, &mut reader, &mut writer);
-    readers.push(reader)?;
     Ok((made, told, first_words(cells, writer, readers)))
 }
 
