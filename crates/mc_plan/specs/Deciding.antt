@@ -27,6 +27,7 @@ use Rattle.mc_plan.specs.declared.decision.Renewal.{Renewal}
 use Rattle.mc_plan.specs.declared.decision.Replacement.{Replacement}
 use Rattle.mc_plan.specs.declared.waiting.Waiting.{Waiting}
 use Rattle.mc_search.specs.Paths.{direct_path}
+use Rattle.mc_search.specs.declared.path.Path.{Path}
 use Rattle.mc_search.specs.Sweeps.{Swept}
 
 -- the key is not there, the limit is far enough for its put, and the put is to have this moment
@@ -53,13 +54,13 @@ abbrev pub IsIfDecided : (V : ℕ) → Books → ℕ → ℕ → List ℕ → St
 IsIfDecided V books k since v s (Ok r) = IsPlanned V books (renewal_acts k v r.at r.item) (PutIfCall k since v) s s (answer.PutIf (Ok r.at))
 IsIfDecided V books k since v s (Err why) = IsPlanned V books [] (PutIfCall k since v) s s (answer.PutIf (Err why))
 
--- the put of a new key in state s is decided: the acts of its plan and its answer, or the path with which it waits
-abbrev pub IsInserted : (V : ℕ) → Books → ℕ → List ℕ → State V → Insertion → Type 0
-IsInserted V books k v s (insertion.Refuse why) =
+-- the put of a new key in state s is decided: the acts of its plan and its answer, or it waits with this path
+abbrev pub IsInserted : (V : ℕ) → Books → ℕ → List ℕ → State V → Path → Insertion → Type 0
+IsInserted V books k v s path (insertion.Refuse why) =
     IsPlanned V books [] (PutCall k v) s s (answer.Put (Err why)) × IsSweepOf V (shape_of books.checked) s [] (answer.Put (Err why))
-IsInserted V books k v s insertion.Store =
+IsInserted V books k v s path insertion.Store =
     (books.decided.item < (shape_of books.checked).items) × IsPlanned V books (storing_acts (shape_of books.checked) k v books.decided) (PutCall k v) s s (answer.Put (Ok (storing_told books.decided None)))
-IsInserted V books k v s (insertion.Wait path) = Waits V books k s path
+IsInserted V books k v s path insertion.Wait = Waits V books k s path
 
 -- the same, as far as the key's two buckets tell
 abbrev pub IsNear : (V : ℕ) → Books → ℕ → List ℕ → State V → ℕ → Nearby → Type 0

@@ -228,43 +228,45 @@ impl Books {
         &mut self,
         peek: &mut P,
         key: u64,
-        path: Option<Path>,
+        path: &Path,
         value: &[u64; V],
         at: u64,
     ) -> Insertion
         requires books { (s : State V) × IsLackingKey V self.old key s at × (P.words peek.old ≡ s.words) }
-        requires none { IfNone path (NoChain self.old.finder (P.words peek.old) key self.old.finder.depth) }
-        requires least { IfSome path (IsLeastPath self.old.finder (P.words peek.old) key) }
-        ensures inserted { (s : State V) → IsLackingKey V self.old key s at → P.words peek.old ≡ s.words → IsInserted V self.new key value.now s result }
+        requires least { IsLeastPath self.old.finder (P.words peek.old) key path.now }
+        ensures inserted { (s : State V) → IsLackingKey V self.old key s at → P.words peek.old ≡ s.words → IsInserted V self.new key value.now s path.now result }
         ensures shape { self.new.checked ≡ self.old.checked }
         ensures kept { peek.new ≡ peek.old }
     {
         have_words(value);
-        let Some(path) = path else {
-            return Insertion::Refuse(PutError::NoPath);
-        };
         let Some(item) = self.free.take_least() else {
-            return Insertion::Wait(path);
+            return Insertion::Wait;
         };
-        self.store::<V, P>(peek, &path, item, at);
+        self.store::<V, P>(peek, path, item, at);
         Insertion::Store
     }
 
-    /// Decides the put of a key that is not there: it is refused where no path leads to a hole, and waits where no item is free.
+    /// Decides the put of a key that is not there: it is refused where no path leads to a hole, and waits with the path that is written
+    /// where no item is free.
     /// Condition: `decide` has just answered `Insert` for the key, with this `at`.
     pub fn insert<const V: usize, P: Peek>(
         &mut self,
         peek: &mut P,
         key: u64,
+        path: &mut Path,
         value: &[u64; V],
         at: u64,
     ) -> Insertion
         requires books { (s : State V) × IsLackingKey V self.old key s at × (P.words peek.old ≡ s.words) }
-        ensures inserted { (s : State V) → IsLackingKey V self.old key s at → P.words peek.old ≡ s.words → IsInserted V self.new key value.now s result }
+        ensures inserted { (s : State V) → IsLackingKey V self.old key s at → P.words peek.old ≡ s.words → IsInserted V self.new key value.now s path.new result }
         ensures shape { self.new.checked ≡ self.old.checked }
         ensures kept { peek.new ≡ peek.old }
     {
-        let path = self.finder.path(peek, key);
+        have_words(value);
+        let Some(found) = self.finder.path(peek, key) else {
+            return Insertion::Refuse(PutError::NoPath);
+        };
+        *path = found;
         self.insert_by::<V, P>(peek, key, path, value, at)
     }
 
@@ -276,16 +278,20 @@ impl Books {
         peek: &mut P,
         key: u64,
         parts: KeyParts,
+        path: &mut Path,
         value: &[u64; V],
         at: u64,
     ) -> Insertion
         requires books { (s : State V) × IsCrowdedOut V self.old key s at × (P.words peek.old ≡ s.words) }
         requires parts { HasParts (shape_of self.old.checked) key parts }
-        ensures inserted { (s : State V) → IsCrowdedOut V self.old key s at → P.words peek.old ≡ s.words → IsInserted V self.new key value.now s result }
+        ensures inserted { (s : State V) → IsCrowdedOut V self.old key s at → P.words peek.old ≡ s.words → IsInserted V self.new key value.now s path.new result }
         ensures shape { self.new.checked ≡ self.old.checked }
         ensures kept { peek.new ≡ peek.old }
     {
-        let path = self.finder.far(peek, key, parts);
+        have_words(value);
+        if !self.finder.far(peek, key, parts, path) {
+            return Insertion::Refuse(PutError::NoPath);
+        }
         self.insert_by::<V, P>(peek, key, path, value, at)
     }
 

@@ -3,7 +3,6 @@ ghost use Rattle.std.specs.Prelude.{◌≡◌};
 
 use crate::answer::{Put, PutError, Remove, Spent};
 use arrayvec::ArrayVec;
-use mc_search::Path;
 use mc_words::{KeyParts, Place};
 
 /// A key's way from one slot to an empty one. `word` is what its slot holds.
@@ -45,14 +44,14 @@ pub enum Nearby {
 }
 
 /// What the put of a key does that is not there.
-#[derive(Drop)]
+#[derive(Clone, Copy)]
 pub enum Insertion {
     /// It changes nothing.
     Refuse(PutError),
     /// It makes room, and fills it: the books say how.
     Store,
-    /// A path leads to a hole, and every item is in use: the hand looks for one.
-    Wait(Path),
+    /// A path leads to a hole, and every item is in use: the hand looks for one. The path lies where the caller keeps it.
+    Wait,
 }
 
 /// The moves that make room for a key, in the order in which they are made, and the item and the place where it goes.

@@ -21,8 +21,9 @@ use crate::moves::push_moves;
 use crate::renew::add_renew;
 use crate::take_out::{add_evict, add_remove};
 use crate::waiting::{Start, Waiting};
+use mc_search::Path;
 use mc_theory::{Act, Peek};
-use mc_words::Checked;
+use mc_words::{Checked, Place};
 
 /// Adds the acts of a renewal, and the mark of its item.
 fn add_renewal<const V: usize>(acts: &mut Plan, key: u64, value: &[u64; V], at: u64, item: u32)
@@ -109,14 +110,15 @@ fn start_insert<const V: usize, P: Peek>(
     ensures shape { books.new.checked ≡ books.old.checked }
     ensures kept { peek.new ≡ peek.old }
 {
-    match books.insert::<V, P>(peek, key, value, at) {
+    let mut path = Path::direct(Place::default());
+    match books.insert::<V, P>(peek, key, &mut path, value, at) {
         Insertion::Refuse(why) => Start::Planned(Err(why)),
         Insertion::Store => {
             let storing = books.decided();
             add_storing(&books.checked, plan, key, value, storing);
             Start::Planned(Ok(storing.told(None)))
         }
-        Insertion::Wait(path) => Start::Waits(path),
+        Insertion::Wait => Start::Waits(path),
     }
 }
 

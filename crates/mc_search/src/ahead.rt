@@ -27,3 +27,15 @@ pub fn touch_bucket<P: Peek>(checked: &Checked, peek: &mut P, bucket: u32)
 {
     let _ = slot_at(checked, peek, Place { bucket, slot: 0 });
 }
+
+/// The same, where the table is large.
+#[inline(always)]
+pub(crate) fn touch_bucket_if_large<P: Peek>(checked: &Checked, peek: &mut P, bucket: u32)
+    requires words { HasSlots (shape_of checked.now) (P.words peek.old) }
+    requires in_table { bucket < (shape_of checked.now).buckets }
+    ensures kept { peek.new ≡ peek.old }
+{
+    if is_large(checked) {
+        touch_bucket(checked, peek, bucket);
+    }
+}

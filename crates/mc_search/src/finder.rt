@@ -1,5 +1,5 @@
 //! A finder of least paths, and what it keeps between two searches.
-ghost use Rattle.std.specs.Prelude.{◌≡◌, ◌⊎◌, ◌<◌, IfOk, IfSome, IfNone};
+ghost use Rattle.std.specs.Prelude.{◌≡◌, ◌⊎◌, ◌<◌, IfOk, IfSome, IfNone, IsTrue, false};
 ghost use Rattle.mc_words.specs.Chains.{NoChain};
 ghost use Rattle.mc_words.specs.Checks.{shape_of};
 ghost use Rattle.mc_words.specs.KeyParts.{HasParts};
@@ -92,17 +92,18 @@ impl Finder {
         hole_in_either(&checked, peek, parts.first, parts.second)
     }
 
-    /// A shortest path for a key whose two buckets are full, if there is one within the depth of the shape.
+    /// Finds a shortest path for a key whose two buckets are full: whether there is one within the depth of the shape. It is written
+    /// where the caller keeps it, as it is large.
     ///
     /// Of several it is the first of a search breadth first, which looks at a bucket's slots in order.
     /// Condition: as for `path`; `near` finds no hole, and the parts are the key's.
-    pub fn far<P: Peek>(&mut self, peek: &mut P, key: u64, parts: KeyParts) -> Option<Path>
+    pub fn far<P: Peek>(&mut self, peek: &mut P, key: u64, parts: KeyParts, path: &mut Path) -> bool
         requires words { HasSlots self.old (P.words peek.old) }
         requires filled { IsFilled self.old (P.words peek.old) }
         requires parts { HasParts self.old key parts }
         requires full { NoChain self.old (P.words peek.old) key 0 }
-        ensures found { IfSome result (IsLeastPath self.old (P.words peek.old) key) }
-        ensures none { IfNone result (NoChain self.old (P.words peek.old) key self.old.depth) }
+        ensures found { IsTrue result → IsLeastPath self.old (P.words peek.old) key path.new }
+        ensures none { result ≡ false → NoChain self.old (P.words peek.old) key self.old.depth }
         ensures finder { self.new ≡ self.old }
         ensures words { P.words peek.new ≡ P.words peek.old }
         ensures kept { peek.new ≡ peek.old }
@@ -113,11 +114,12 @@ impl Finder {
         let found = search(&checked, &mut self.queue, &mut self.seen, peek);
         let Some(hole) = found else {
             clean(&mut self.queue, &mut self.seen);
-            return None;
+            return false;
         };
-        let places = trace(&self.queue, self.queue.len() - 1);
+        trace(&self.queue, self.queue.len() - 1, &mut path.places);
+        path.hole = hole;
         clean(&mut self.queue, &mut self.seen);
-        Some(Path { places, hole })
+        true
     }
 
     /// A shortest path for the key, if there is one within the depth of the shape.
@@ -133,9 +135,14 @@ impl Finder {
         ensures kept { peek.new ≡ peek.old }
     {
         let parts = self.checked.parts(key);
-        match self.near(peek, key, parts) {
-            Some(hole) => Some(Path::direct(hole)),
-            None => self.far(peek, key, parts),
+        if let Some(hole) = self.near(peek, key, parts) {
+            return Some(Path::direct(hole));
+        }
+        let mut path = Path::direct(Place::default());
+        if self.far(peek, key, parts, &mut path) {
+            Some(path)
+        } else {
+            None
         }
     }
 }

@@ -8,6 +8,7 @@ ghost use Rattle.mc_words.specs.Standing.{Stands, IsAbsent};
 ghost use Rattle.mc_search.specs.Readable.{IsPlaced};
 ghost use Rattle.mc_search.specs.Inside.Readable.{IsNotAmong};
 
+use crate::ahead::touch_bucket_if_large;
 use crate::bucket::slot_with;
 use crate::word::{key_at, slot_at};
 use mc_theory::Peek;
@@ -84,6 +85,8 @@ pub fn find_by<const V: usize, P: Peek>(
 {
     // A copy, which stays in registers while words are read.
     let table = *checked;
+    // Many keys stand in their second bucket: its slots are asked for while the processor still waits for those of the first.
+    touch_bucket_if_large(&table, peek, parts.second);
     let base = table.slot_word(parts.tag, 0);
     if let Some(found) = find_in::<V, P>(&table, peek, key, base, parts.first) {
         return Some(found);

@@ -108,16 +108,16 @@ pub(crate) fn search<P: Peek>(
 }
 
 /// The places that lead from a bucket of the key to the entry, by the entries before it.
-pub(crate) fn trace(queue: &[Entry], end: usize) -> ArrayVec<Place, 8>
+pub(crate) fn trace(queue: &[Entry], end: usize, places: &mut ArrayVec<Place, 8>)
     requires queued { end < length queue.now }
     requires shallow { depth_at queue.now end ≤ 8 }
     requires small { length queue.now < 2 ^ 32 }
     requires back { GoesBack queue.now }
-    ensures many { length result.items ≡ depth_at queue.now end }
+    ensures many { length places.new.items ≡ depth_at queue.now end }
     ensures chain { (sh : Shape) (w : List ℕ) (k : ℕ) (seen : List Bool) (hole : Place) → IsQueue queue.now seen →
-        length seen ≡ sh.buckets → IsFound sh w k queue.now end hole → IsChain sh w k result.items hole }
+        length seen ≡ sh.buckets → IsFound sh w k queue.now end hole → IsChain sh w k places.new.items hole }
 {
-    let mut places = ArrayVec::new();
+    places.clear();
     let mut at = end;
     'back: while queue[at].depth > 0 {
         let entry = queue[at];
@@ -128,5 +128,4 @@ pub(crate) fn trace(queue: &[Entry], end: usize) -> ArrayVec<Place, 8>
         places.insert(0, place);
         at = entry.from as usize;
     }
-    places
 }

@@ -9,9 +9,9 @@ ghost use Rattle.mc_words.specs.KeyParts.{HasParts};
 ghost use Rattle.mc_writer.specs.WriterCalls.{HasCalled, IsRested};
 
 use crate::pen::Pen;
-use mc_plan::{Books, Decision, Insertion, Put, Why};
+use mc_plan::{Books, Decision, Insertion, Path, Put, Why};
 use mc_shared::{Cells, WriterSeat};
-use mc_words::KeyParts;
+use mc_words::{KeyParts, Place};
 
 impl<'a, const V: usize> Pen<'a, V> {
     ghost use Rattle.mc_writer.specs.Inside.Pens.{IsSamePen, state_at};
@@ -32,14 +32,15 @@ impl<'a, const V: usize> Pen<'a, V> {
         ensures called { HasCalled V self.old.cells.now.layout.shape (KeptCall key value.now) self.old.seat.now self.new.seat.now (answer.Kept result) }
         ensures rested { IsRested V books.new self.new.seat.now }
     {
-        match self.decide_insert(books, key, value, at) {
+        let mut path = Path::direct(Place::default());
+        match self.decide_insert(books, key, &mut path, value, at) {
             Insertion::Refuse(why) => Err(Why::of(why)),
             Insertion::Store => {
                 let storing = books.decided();
                 self.make_storing(key, parts, value, storing);
                 Ok(storing.told(None))
             }
-            Insertion::Wait(_) => Err(Why::NoItem),
+            Insertion::Wait => Err(Why::NoItem),
         }
     }
 

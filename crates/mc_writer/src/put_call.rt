@@ -62,39 +62,41 @@ impl<'a, const V: usize> Pen<'a, V> {
         books.insert_near::<V, Pen<V>>(self, key, parts, value, at)
     }
 
-    /// Decides the put of a key whose two buckets are full.
+    /// Decides the put of a key whose two buckets are full. Where it waits, this is its path.
     #[inline(always)]
     fn decide_far(
         &mut self,
         books: &mut Books,
         key: u64,
         parts: KeyParts,
+        path: &mut Path,
         value: &[u64; V],
         at: u64,
     ) -> Insertion
         requires crowded { IsCrowdedOut V books.old key (state_at V self.old) at }
         requires parts { HasParts (shape_of books.old.checked) key parts }
         ensures pen { self.new ≡ self.old }
-        ensures inserted { IsInserted V books.new key value.now (state_at V self.old) result }
+        ensures inserted { IsInserted V books.new key value.now (state_at V self.old) path.new result }
         ensures shape { books.new.checked ≡ books.old.checked }
     {
-        books.insert_far::<V, Pen<V>>(self, key, parts, value, at)
+        books.insert_far::<V, Pen<V>>(self, key, parts, path, value, at)
     }
 
-    /// Decides the put of a key that is not there.
+    /// Decides the put of a key that is not there. Where it waits, this is its path.
     pub(crate) fn decide_insert(
         &mut self,
         books: &mut Books,
         key: u64,
+        path: &mut Path,
         value: &[u64; V],
         at: u64,
     ) -> Insertion
         requires lacks { IsLackingKey V books.old key (state_at V self.old) at }
         ensures pen { self.new ≡ self.old }
-        ensures inserted { IsInserted V books.new key value.now (state_at V self.old) result }
+        ensures inserted { IsInserted V books.new key value.now (state_at V self.old) path.new result }
         ensures shape { books.new.checked ≡ books.old.checked }
     {
-        books.insert::<V, Pen<V>>(self, key, value, at)
+        books.insert::<V, Pen<V>>(self, key, path, value, at)
     }
 }
 
@@ -295,14 +297,15 @@ impl<'a, const V: usize> Pen<'a, V> {
     {
         // The parts once more: to hand them on would keep the puts that don't come here from keeping other things in registers.
         let parts = self.cells.parts(key);
-        match self.decide_far(books, key, parts, value, at) {
+        let mut path = Path::direct(Place::default());
+        match self.decide_far(books, key, parts, &mut path, value, at) {
             Insertion::Refuse(why) => Err(why),
             Insertion::Store => {
                 let storing = books.decided();
                 self.make_storing(key, parts, value, storing);
                 Ok(storing.told(None))
             }
-            Insertion::Wait(path) => self.put_waiting(books, key, parts, value, path),
+            Insertion::Wait => self.put_waiting(books, key, parts, value, path),
         }
     }
 

@@ -1,5 +1,5 @@
 -- What the books say of the state after a plan, and what the plan's answer means.
-use Rattle.std.proofs.Common.{ℕ, ◌≡◌, ◌+◌, ◌*◌, ◌<◌, ◌≤◌, ◌∙◌, inl, inr, List, [], ◌∷◌, ◌++◌, None, Ok, ap, refl, sym, subst, length, arith, length-append}
+use Rattle.std.proofs.Common.{ℕ, ◌≡◌, ◌+◌, ◌*◌, ◌<◌, ◌≤◌, ◌∙◌, inl, inr, List, [], ◌∷◌, ◌++◌, None, Ok, Err, ap, refl, sym, subst, length, arith, length-append}
 use Rattle.std.proofs.lemmas.Bool.{cases_eq}
 use Rattle.mc_words.specs.declared.history.Change.{Change}
 use Rattle.mc_words.specs.declared.history.Change.TheVariants.{Put, Remove}
@@ -21,6 +21,7 @@ use Rattle.mc_theory.specs.declared.act.Act.TheVariants.{Mark}
 use Rattle.mc_plan.specs.declared.answer.Answer.{Answer}
 use Rattle.mc_plan.specs.declared.answer.Answer.TheVariants as answer
 use Rattle.mc_plan.specs.declared.answer.Put.TheVariants as put
+use Rattle.mc_plan.specs.declared.answer.PutError.TheVariants as why
 use Rattle.mc_plan.specs.declared.answer.Remove.TheVariants as remove
 use Rattle.mc_plan.specs.declared.decision.Storing.{Storing}
 use Rattle.mc_plan.specs.declared.books.Books.{Books}
@@ -28,6 +29,7 @@ use Rattle.mc_search.specs.declared.free.FreeItems.{FreeItems}
 use Rattle.mc_search.specs.declared.path.Path.{Path}
 use Rattle.mc_plan.specs.WholeCalls.{Call, PutCall, RemoveCall, Means, Marks, MarksLast, AreOfDeeds, quiet_of}
 use Rattle.mc_plan.specs.Books.{AreBooksOf, IsPlanned}
+use Rattle.mc_plan.specs.Deciding.{IsLackingKey}
 use Rattle.mc_search.specs.Free.{IsConsistent, IsFreeIn, TakesFree, GivesBack}
 use Rattle.mc_plan.specs.Laws.{IsValue}
 use Rattle.mc_plan.specs.Making.{IsQuiet, state_after_acts}
@@ -382,3 +384,10 @@ new_books V b width finder hand changes kept items all =
       free = λ i f q n. none_names V sh q i n;
       named = λ i l f. absurd (f (all i l));
     }
+
+-- no path leads to a hole, and the finder is as it was: the put is refused
+pub no_path : (V : ℕ) (b : Books) (s : State V) (w : List ℕ) (k at : ℕ) (v : List ℕ) (finder : Shape) → IsLackingKey V b k s at → w ≡ s.words → finder ≡ b.finder → NoChain b.finder w k b.finder.depth
+    → IsPlanned V (record b { finder = finder }) [] (PutCall k v) s s (answer.Put (Err why.NoPath))
+no_path V b s w k at v finder lacks same kept none =
+    let refused = path_refused V (shape_of b.checked) s k lacks.known.quiet lacks.unspent lacks.absent (none_in V b s w lacks.known same k none) in
+    subst (λ (f : Shape). IsPlanned V (record b { finder = f }) [] (PutCall k v) s s (answer.Put (Err why.NoPath))) (sym kept) (idle_planned V b (PutCall k v) s (answer.Put (Err why.NoPath)) lacks.known refused tt)

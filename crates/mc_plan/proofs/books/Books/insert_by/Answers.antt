@@ -27,28 +27,17 @@ pub returns-in_default-clause-inserted : goal.returns-in_default-clause-inserted
 returns-in_default-clause-inserted g c s lacks same =
     let V = g.row.V in
     let b = c.args.self.now in
-    let call = PutCall c.args.key c.args.value.now in
-    let none = none_in V b s (g.P.Peek.words c.args.peek.now) lacks.known same c.args.key (subst (λ (o : Option Path). IfNone o (NoChain b.finder (g.P.Peek.words c.args.peek.now) c.args.key b.finder.depth)) c.in_default.is c.requires.none) in
-    let refused = path_refused V (shape_of b.checked) s c.args.key lacks.known.quiet lacks.unspent lacks.absent none in
-    let told = answer.Put (Err why.NoPath) in
-    let planned : IsPlanned V b [] call s s told = idle_planned V b call s told lacks.known refused tt in
-    (planned, refl)
-
-pub returns-in_default-take_least-clause-inserted : goal.returns-in_default-take_least-clause-inserted
-returns-in_default-take_least-clause-inserted g c s lacks same =
-    let V = g.row.V in
-    let b = c.args.self.now in
     let k = c.args.key in
     let old = lacks.known in
     let free = c.take_least.new.self in
-    let none = c.in_default-take_least.ensures.none in
-    let still = books_still V b s free old c.take_least.ensures.kept c.take_least.ensures.items none c.in_default-take_least.ensures.same in
-    let waits : Waits V (record b { free = free }) k s c.in-Some.path = record {
+    let none = c.in_default.ensures.none in
+    let still = books_still V b s free old c.take_least.ensures.kept c.take_least.ensures.items none c.in_default.ensures.same in
+    let waits : Waits V (record b { free = free }) k s c.args.path.now = record {
       known = still;
       unspent = lacks.unspent;
       absent = lacks.absent;
-      least = least_in V b s (g.P.Peek.words c.args.peek.now) old same k c.in-Some.path (subst (λ (o : Option Path). IfSome o (IsLeastPath b.finder (g.P.Peek.words c.args.peek.now) c.args.key)) c.in-Some.is c.requires.least);
-      none = c.in_default-take_least.ensures.same;
+      least = least_in V b s (g.P.Peek.words c.args.peek.now) old same k c.args.path.now c.requires.least;
+      none = c.in_default.ensures.same;
     } in
     waits
 
@@ -61,8 +50,8 @@ pub store-requires-clause-taken : goal.store-requires-clause-taken
 store-requires-clause-taken g c =
     let b = c.args.self.now in
     let r = c.requires.books in
-    let path = c.in-Some.path in
-    let least = least_in g.row.V b r.0 (g.P.Peek.words c.args.peek.now) r.1.known r.2 c.args.key path (subst (λ (o : Option Path). IfSome o (IsLeastPath b.finder (g.P.Peek.words c.args.peek.now) c.args.key)) c.in-Some.is c.requires.least) in
+    let path = c.args.path.now in
+    let least = least_in g.row.V b r.0 (g.P.Peek.words c.args.peek.now) r.1.known r.2 c.args.key path c.requires.least in
     subst (λ (x : List ℕ). AreTaken (shape_of b.checked) x path.places.items) (sym r.2) (chain_taken (shape_of b.checked) r.0.words c.args.key path.places.items path.hole least.chain)
 
 pub returns-clause-inserted : goal.returns-clause-inserted
@@ -73,21 +62,21 @@ returns-clause-inserted g c s lacks same =
     let k = c.args.key in
     let v = c.args.value.now in
     let old = lacks.known in
-    let i = c.in-Some-take_least.item in
-    let path = c.in-Some.path in
+    let i = c.in-Some.item in
+    let path = c.args.path.now in
     let ps = path.places.items in
     let free = c.take_least.new.self in
     let steps = 2 * length ps + 2 in
     let now = same in
     let storing = c.store.new.self.decided in
     let told = answer.Put (Ok (storing_told storing None)) in
-    let least = least_in V b s (g.P.Peek.words c.args.peek.now) old same k path (subst (λ (o : Option Path). IfSome o (IsLeastPath b.finder (g.P.Peek.words c.args.peek.now) c.args.key)) c.in-Some.is c.requires.least) in
+    let least = least_in V b s (g.P.Peek.words c.args.peek.now) old same k path c.requires.least in
     let keys = subst (λ (x : List ℕ). AreKeys V sh x ps) now c.store.ensures.keys in
-    let was = c.in-Some-take_least.ensures.free in
+    let was = c.in-Some.ensures.free in
     let item = free_below b.free i old.kept was in
     let below : i < sh.items = omega (arith, item, old.items) in
     let planned : IsPlanned V (record b { free = free; version_steps = b.version_steps + steps }) (put_acts V sh s.words k v c.args.at i ps path.hole ++ act.Mark i ∷ []) (PutCall k v) s s (answer.Put (Ok (put.Stored c.args.at (length ps) None))) =
-    stored_planned V b k v i c.args.at path free s b.checked.sound (omega arith) (c.told-value, c.have_words.ensures.words) old lacks.absent least keys below lacks.unspent lacks.next was c.take_least.ensures.kept c.take_least.ensures.items c.in-Some-take_least.ensures.takes in
+    stored_planned V b k v i c.args.at path free s b.checked.sound (omega arith) (c.told-value, c.have_words.ensures.words) old lacks.absent least keys below lacks.unspent lacks.next was c.take_least.ensures.kept c.take_least.ensures.items c.in-Some.ensures.takes in
     let at_item : (put_acts V sh s.words k v c.args.at i ps path.hole ++ act.Mark i ∷ []) ≡ (put_acts V sh s.words k v storing.at storing.item ps path.hole ++ act.Mark storing.item ∷ []) =
     ap (λ (j : ℕ). put_acts V sh s.words k v c.args.at j ps path.hole ++ act.Mark j ∷ []) (sym c.store.ensures.item) ∙ ap (λ (n : ℕ). put_acts V sh s.words k v n storing.item ps path.hole ++ act.Mark storing.item ∷ []) (sym c.store.ensures.at) in
     let moved = c.store.ensures.moves ∙ ap (λ (x : List ℕ). moves_acts V sh x ps path.hole) now in

@@ -59,17 +59,17 @@ overflow_sub-len g c =
     let some = (found g (goal.at.After-len g c).In-Some).queued in
     omega (arith, c.len.ensures)
 
-pub trace-places-requires-clause-queued : goal.trace-places-requires-clause-queued
-trace-places-requires-clause-queued g c = (back g (goal.at.trace-places-requires-clause-queued g c).After-len).queued
+pub trace-requires-clause-queued : goal.trace-requires-clause-queued
+trace-requires-clause-queued g c = (back g (goal.at.trace-requires-clause-queued g c).After-len).queued
 
-pub trace-places-requires-clause-shallow : goal.trace-places-requires-clause-shallow
-trace-places-requires-clause-shallow g c = (back g (goal.at.trace-places-requires-clause-shallow g c).After-len).shallow
+pub trace-requires-clause-shallow : goal.trace-requires-clause-shallow
+trace-requires-clause-shallow g c = (back g (goal.at.trace-requires-clause-shallow g c).After-len).shallow
 
-pub trace-places-requires-clause-back : goal.trace-places-requires-clause-back
-trace-places-requires-clause-back g c = (back g (goal.at.trace-places-requires-clause-back g c).After-len).back
+pub trace-requires-clause-back : goal.trace-requires-clause-back
+trace-requires-clause-back g c = (back g (goal.at.trace-requires-clause-back g c).After-len).back
 
 pub returns-clause-found : goal.returns-clause-found
-returns-clause-found g c =
+returns-clause-found g c _ =
     let sh = shape_of c.self.inside.checked in
     let k = c.args.key in
     let words = g.P.Peek.words c.args.peek.now in
@@ -80,6 +80,6 @@ returns-clause-found g c =
     let ended = found g (goal.at.returns-clause-found g c).In-Some in
     let end = subst (λ (i : ℕ). IsFound sh words k q i hole) last (subst (λ (v : List Entry). IsFound sh words k v (length c.search-found.new.queue.items - 1) hole) same ended) in
     let queue = subst (λ (v : List Entry). IsQueue v c.search-found.new.seen.items) same c.search-found.ensures.queue in
-    let path : Path = record { places = c.trace-places.result; hole = hole } in
-    let chain = c.trace-places.ensures.chain sh words k c.search-found.new.seen.items hole queue c.search-found.ensures.size end in
-    subst (λ (x : Shape). IsLeastPath x words k path) c.self.view_is (least_traced sh words k (c.len.result - 1) q path end chain c.trace-places.ensures.many)
+    let path : Path = record { places = c.trace.new.places; hole = hole } in
+    let chain = c.trace.ensures.chain sh words k c.search-found.new.seen.items hole queue c.search-found.ensures.size end in
+    subst (λ (x : Shape). IsLeastPath x words k path) c.self.view_is (least_traced sh words k (c.len.result - 1) q path end chain c.trace.ensures.many)

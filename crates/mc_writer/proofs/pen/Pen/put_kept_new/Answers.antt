@@ -105,5 +105,5 @@ returns-in-Wait-clause-called g c =
     let b = c.decide_insert.new.books in
     let call = KeptCall c.args.key c.args.value.now in
     let layout = layout_kept V pen c.args.books.now b c.requires.layout c.decide_insert.ensures.shape in
-    let planned = refused_item V b c.args.key c.args.value.now (state_at V pen) c.in-Wait.field-0 c.in-Wait.ensures.inserted in
+    let planned = refused_item V b c.args.key c.args.value.now (state_at V pen) c.decide_insert.new.path c.in-Wait.ensures.inserted in
     (refused_now V pen b call (answer.Kept (Err left.NoItem)) layout c.decide_insert.new.self c.decide_insert.ensures.pen refl planned).0
