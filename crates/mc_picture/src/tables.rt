@@ -201,14 +201,14 @@ fn draw_items(svg: &mut Svg, items: &[Item], words: u8, top: u32) -> Result<u32,
 
 fn draw_held(svg: &mut Svg, held: &Held, words: u8, top: u32) -> Result<u32, AllocError> {
     let top = draw_title(svg, top, Title::Moment(held.moment))?;
-    let top = draw_title(svg, top, Title::Versions(held.version_words))?;
+    let top = draw_title(svg, top, Title::Versions(held.places.versions))?;
     let top = draw_versions(svg, &held.versions, top)?;
-    let slots = Title::Slots(held.slot_words, held.buckets.len(), held.sizes[1]);
+    let slots = Title::Slots(held.places.slots, held.buckets.len(), held.sizes[1]);
     let top = draw_title(svg, top, slots)?;
     let top = draw_buckets(svg, &held.buckets, top)?;
     let items = Title::Items(
-        held.item_words,
-        held.recency_words,
+        held.places.items,
+        held.places.recency,
         held.items.len(),
         held.sizes[2],
         held.hand,
