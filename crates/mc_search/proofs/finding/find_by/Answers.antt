@@ -1,4 +1,4 @@
-use Rattle.std.proofs.Common.{ℕ, List, ◌≡◌, ◌∙◌, ap, subst}
+use Rattle.std.proofs.Common.{ℕ, List, ◌∙◌, ap, subst}
 use Rattle.mc_words.specs.Checks.{shape_of}
 use Rattle.mc_search.specs.Inside.Readable.{IsNotAmong}
 use Rattle.mc_search.proofs.KeySlots.{absent_from-buckets, where_none}

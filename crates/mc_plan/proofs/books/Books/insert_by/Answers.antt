@@ -1,6 +1,4 @@
-use Rattle.std.proofs.Common.{ℕ, List, Option, refl, ◌∷◌, ◌++◌, [], None, Ok, Err, ◌≡◌, ◌+◌, ◌*◌, ◌<◌, ◌∙◌, ap, arith, length, sym, subst}
-use Rattle.std.specs.Option.{IfNone, IfSome}
-use Rattle.mc_words.specs.Chains.{NoChain}
+use Rattle.std.proofs.Common.{ℕ, List, ◌∷◌, ◌++◌, [], None, Ok, ◌≡◌, ◌+◌, ◌*◌, ◌<◌, ◌∙◌, ap, arith, length, sym, subst}
 use Rattle.mc_words.specs.Checks.{shape_of}
 use Rattle.mc_theory.specs.declared.act.Act.{Act}
 use Rattle.mc_theory.specs.declared.act.Act.TheVariants as act
@@ -10,17 +8,14 @@ use Rattle.mc_plan.specs.Decisions.{storing_acts, storing_told}
 use Rattle.mc_plan.specs.declared.answer.Answer.TheVariants as answer
 use Rattle.mc_plan.specs.declared.answer.Put.{Put}
 use Rattle.mc_plan.specs.declared.answer.Put.TheVariants as put
-use Rattle.mc_plan.specs.declared.answer.PutError.TheVariants as why
 use Rattle.mc_plan.specs.declared.books.Books.{Books}
 use Rattle.mc_plan.specs.Moves.{AreTaken, AreKeys}
 use Rattle.mc_plan.specs.Plans.{moves_acts}
 use Rattle.mc_plan.specs.Puts.{put_acts}
-use Rattle.mc_search.specs.Paths.{IsLeastPath}
-use Rattle.mc_search.specs.declared.path.Path.{Path}
 use Rattle.mc_search.proofs.TakenItems.{free_below}
 use Rattle.mc_plan.proofs.Puts.MoveLists.{stored_acts}
 use Rattle.mc_plan.proofs.Puts.PathSteps.{chain_taken}
-use Rattle.mc_plan.proofs.Calls.AfterPlan.{decided_planned, idle_planned, books_still, path_refused, stored_planned, filled_in, none_in, least_in}
+use Rattle.mc_plan.proofs.Calls.AfterPlan.{decided_planned, books_still, stored_planned, filled_in, least_in}
 use Rattle.mc_plan.proofs.books.Books.insert_by.Goals as goal
 
 pub returns-in_default-clause-inserted : goal.returns-in_default-clause-inserted
