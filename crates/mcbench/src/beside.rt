@@ -4,7 +4,7 @@ ghost use Rattle.std.specs.Prelude.{◌≡◌, All, IfOk};
 use crate::lookups::{Task, look_on};
 use crate::memory::resident;
 use crate::options::{Options, Workload};
-use crate::report::{Quotient, Report};
+use crate::report::{Quotient, Report, bytes_a_key};
 use crate::tally::Tally;
 use crate::turns::work_by_turns;
 use crate::writes::{get_all, put_all, write_on};
@@ -119,6 +119,66 @@ fn work<R: Threads + Sync + Clock + CpuClock>(
     Ok((looked?, written?))
 }
 
+// The readers work beside the writer, or beside threads that share it by turns.
+fn work_as_asked<R: Threads + Sync + Clock + CpuClock>(
+    rt: &R,
+    alloc: Global,
+    cache: &Cache<4>,
+    mut writer: Writer<4>,
+    readers: Vec<Reader<4>>,
+    options: &Options,
+) -> io::Result<(Tally, Tally)>
+    requires writer { writer.of ≡ cache.now }
+    requires readers { All (λ r. r.of ≡ cache.now) readers.items }
+{
+    if options.writers > 1 {
+        work_by_turns(rt, alloc, cache, &Desk::new(writer), readers, options)
+    } else {
+        work(rt, alloc, cache, &mut writer, readers, options)
+    }
+}
+
+// Puts the keys and looks them up. How many were refused, and the memory that came by the keys, before which so many bytes were there.
+fn fill<R: Files + AllocGlobal>(
+    rt: &R,
+    cache: &Cache<4>,
+    writer: &mut Writer<4>,
+    keys: u32,
+    before: u64,
+) -> io::Result<(u64, Quotient)>
+    requires { writer.old.of ≡ cache.now }
+    ensures { writer.new.of ≡ writer.old.of }
+{
+    let filled = put_all(cache, writer, 0, keys);
+    let bytes_key = bytes_a_key(before, resident(rt)?, keys);
+    get_all(cache, writer, keys);
+    Ok((filled.refused, bytes_key))
+}
+
+// Fills an open cache, and lets the threads work at it.
+fn measure_open<R: Threads + Sync + Files + AllocGlobal + Clock + CpuClock>(
+    rt: &R,
+    alloc: Global,
+    cache: &Cache<4>,
+    mut writer: Writer<4>,
+    readers: Vec<Reader<4>>,
+    options: &Options,
+    before: u64,
+) -> io::Result<Report>
+    requires writer { writer.of ≡ cache.now }
+    requires readers { All (λ r. r.of ≡ cache.now) readers.items }
+{
+    let (refused, bytes_key) = fill(rt, cache, &mut writer, options.keys, before)?;
+    let (looked, mut written) = work_as_asked(rt, alloc, cache, writer, readers, options)?;
+    written.refused = written.refused.wrapping_add(refused);
+    Ok(Report {
+        looked,
+        written,
+        bytes_key,
+        ..Report::default()
+    })
+}
+
 /// Measures lookups and puts of keys that the cache holds, or lookups of keys of which it holds none or half.
 pub(crate) fn measure<R: Threads + Sync + Files + AllocGlobal + Clock + CpuClock>(
     rt: &R,
@@ -126,25 +186,8 @@ pub(crate) fn measure<R: Threads + Sync + Files + AllocGlobal + Clock + CpuClock
     options: &Options,
 ) -> io::Result<Report> {
     let before = resident(rt)?;
-    let Ok((cache, mut writer, readers)) = open::<4>(alloc, options.shape(), options.seats()) else {
+    let Ok((cache, writer, readers)) = open::<4>(alloc, options.shape(), options.seats()) else {
         return Err(io::Error::other("the cache can't be opened"));
     };
-    let filled = put_all(&cache, &mut writer, 0, options.keys);
-    let bytes = resident(rt)?.saturating_sub(before);
-    get_all(&cache, &mut writer, options.keys);
-    let (looked, mut written) = if options.writers > 1 {
-        work_by_turns(rt, alloc, &cache, &Desk::new(writer), readers, options)?
-    } else {
-        work(rt, alloc, &cache, &mut writer, readers, options)?
-    };
-    written.refused = written.refused.wrapping_add(filled.refused);
-    Ok(Report {
-        looked,
-        written,
-        bytes_key: Quotient {
-            top: bytes,
-            bottom: u64::from(options.keys),
-        },
-        ..Report::default()
-    })
+    measure_open(rt, alloc, &cache, writer, readers, options, before)
 }

@@ -3,7 +3,7 @@ ghost use Rattle.std.specs.Prelude.{◌≡◌, IfOk};
 
 use crate::memory::resident;
 use crate::options::{Options, Workload};
-use crate::report::{Quotient, Report};
+use crate::report::{Quotient, Report, bytes_a_key};
 use crate::stopwatch::Stopwatch;
 use crate::tally::Tally;
 use crate::writes::{put_all, put_until_refused};
@@ -21,14 +21,6 @@ pub(crate) fn open_for(alloc: Global, options: &Options) -> io::Result<(Cache<4>
         return Err(io::Error::other("the cache can't be opened"));
     };
     Ok((cache, writer))
-}
-
-// The memory that came, by so many keys.
-fn bytes_a_key(before: u64, after: u64, keys: u32) -> Quotient {
-    Quotient {
-        top: after.saturating_sub(before),
-        bottom: u64::from(keys),
-    }
 }
 
 // Fills an open cache, before which so many bytes were in memory. What was done, how long it took, and the memory by keys.
@@ -108,30 +100,71 @@ fn evict_on<R: Clock + CpuClock>(
     Ok(written)
 }
 
-// Fills a cache, puts as many keys again so that the hand has gone round, and measures the evictions that follow.
-fn evict<R: Clock + CpuClock>(rt: &R, alloc: Global, options: &Options) -> io::Result<Report> {
-    let (cache, mut writer) = open_for(alloc, options)?;
+// Fills an open cache, puts as many keys again so that the hand has gone round, and measures the evictions that follow.
+fn evict_open<R: Clock + CpuClock>(
+    rt: &R,
+    cache: &Cache<4>,
+    writer: &mut Writer<4>,
+    options: &Options,
+) -> io::Result<Tally>
+    requires { writer.old.of ≡ cache.now }
+{
     let capacity = options.capacity;
     let first = options.fresh();
-    put_all(&cache, &mut writer, first, capacity);
+    put_all(cache, writer, first, capacity);
     let first = first.wrapping_add(u64::from(capacity));
-    put_all(&cache, &mut writer, first, capacity);
+    put_all(cache, writer, first, capacity);
     let first = first.wrapping_add(u64::from(capacity));
+    evict_on(rt, cache, writer, first, options.time)
+}
+
+// The evictions of a cache that is opened for them.
+fn evict_one<R: Clock + CpuClock>(rt: &R, alloc: Global, options: &Options) -> io::Result<Tally> {
+    let (cache, mut writer) = open_for(alloc, options)?;
+    evict_open(rt, &cache, &mut writer, options)
+}
+
+fn evict<R: Clock + CpuClock>(rt: &R, alloc: Global, options: &Options) -> io::Result<Report> {
+    let written = evict_one(rt, alloc, options)?;
     Ok(Report {
-        written: evict_on(rt, &cache, &mut writer, first, options.time)?,
+        written,
         ..Report::default()
     })
+}
+
+// Puts fresh keys into an open cache until one is refused, and at most so many.
+fn load_open<R: Clock + CpuClock>(
+    rt: &R,
+    cache: &Cache<4>,
+    writer: &mut Writer<4>,
+    first: u64,
+    most: u32,
+) -> io::Result<Tally>
+    requires { writer.old.of ≡ cache.now }
+{
+    let watch = Stopwatch::start(rt, true)?;
+    let written = put_until_refused(cache, writer, first, most);
+    let spent = watch.elapsed(rt)?;
+    Ok(written.over(spent))
+}
+
+// The same into a cache that is opened for them.
+fn load_one<R: Clock + CpuClock>(
+    rt: &R,
+    alloc: Global,
+    options: &Options,
+    most: u32,
+) -> io::Result<Tally> {
+    let (cache, mut writer) = open_for(alloc, options)?;
+    load_open(rt, &cache, &mut writer, options.fresh(), most)
 }
 
 // Puts fresh keys until one is refused.
 fn load<R: Clock + CpuClock>(rt: &R, alloc: Global, options: &Options) -> io::Result<Report> {
     let slots = options.shape().items;
-    let (cache, mut writer) = open_for(alloc, options)?;
-    let watch = Stopwatch::start(rt, true)?;
-    let written = put_until_refused(&cache, &mut writer, options.fresh(), slots);
-    let spent = watch.elapsed(rt)?;
+    let written = load_one(rt, alloc, options, slots)?;
     Ok(Report {
-        written: written.over(spent),
+        written,
         load_factor: Quotient {
             top: written.writes,
             bottom: u64::from(slots),

@@ -15,25 +15,36 @@ mod turns;
 mod writes;
 
 use crate::options::{Options, Workload, options_of};
+use crate::report::Report;
+use std::alloc::Global;
 use std::process::ExitCode;
 use std::rt::Runtime;
 use std::thread::Threads;
 use std::time::CpuClock;
 use std::{env, io};
 
-/// Measures what the words of the command line ask for.
-fn run<R: Runtime + AllocGlobal + CpuClock + Threads + Sync>(rt: &R) -> io::Result<u8> {
-    let alloc = rt.alloc();
-    let words: Vec<String> = env::args(rt)?.collect(alloc)?;
-    match options_of(alloc, words.as_slice()) {
+/// Measures what the options ask for.
+fn measure<R: Runtime + AllocGlobal + CpuClock + Threads + Sync>(
+    rt: &R,
+    alloc: Global,
+    options: &Options,
+) -> io::Result<Report> {
+    match options.workload {
+        Workload::Mixed | Workload::Half | Workload::Absent => beside::measure(rt, alloc, options),
+        Workload::Grow => growing::measure(rt, alloc, options),
+        _ => fresh_puts::measure(rt, alloc, options),
+    }
+}
+
+/// Measures what the words ask for and prints it, or tells what is wrong with them. The exit status.
+fn answer<R: Runtime + AllocGlobal + CpuClock + Threads + Sync>(
+    rt: &R,
+    alloc: Global,
+    words: &[String],
+) -> io::Result<u8> {
+    match options_of(alloc, words) {
         Ok(options) => {
-            let report = match options.workload {
-                Workload::Mixed | Workload::Half | Workload::Absent => {
-                    beside::measure(rt, alloc, &options)?
-                }
-                Workload::Grow => growing::measure(rt, alloc, &options)?,
-                _ => fresh_puts::measure(rt, alloc, &options)?,
-            };
+            let report = measure(rt, alloc, &options)?;
             println!(rt; "{report}")?;
             Ok(0)
         }
@@ -42,6 +53,13 @@ fn run<R: Runtime + AllocGlobal + CpuClock + Threads + Sync>(rt: &R) -> io::Resu
             Ok(2)
         }
     }
+}
+
+/// The program over the words of the command line.
+fn run<R: Runtime + AllocGlobal + CpuClock + Threads + Sync>(rt: &R) -> io::Result<u8> {
+    let alloc = rt.alloc();
+    let words: Vec<String> = env::args(rt)?.collect(alloc)?;
+    answer(rt, alloc, words.as_slice())
 }
 
 fn main(rt: HostRuntime) -> ExitCode {

@@ -45,6 +45,18 @@ const WORKLOADS: [&str; 8] = [
     "hit", "half", "miss", "mixed", "fill", "evict", "load", "grow",
 ];
 
+/// What each of them means.
+const MEANT: [Workload; 8] = [
+    Workload::Mixed,
+    Workload::Half,
+    Workload::Absent,
+    Workload::Mixed,
+    Workload::Fill,
+    Workload::Evict,
+    Workload::Load,
+    Workload::Grow,
+];
+
 /// An option with one value.
 struct Row {
     name: &'static str,
@@ -130,16 +142,15 @@ fn command<'a>(alloc: Global) -> Result<Command<'a>, AllocError> {
     Ok(command)
 }
 
+/// The workload of the first name that is the asked one.
 fn workload_in(matches: &ArgMatches<'_>) -> Workload {
-    match matches.get_str("workload") {
-        Some("half") => Workload::Half,
-        Some("miss") => Workload::Absent,
-        Some("fill") => Workload::Fill,
-        Some("evict") => Workload::Evict,
-        Some("load") => Workload::Load,
-        Some("grow") => Workload::Grow,
-        _ => Workload::Mixed,
+    let asked = matches.get_str("workload");
+    for (name, workload) in WORKLOADS.iter().zip(MEANT.iter()) {
+        if asked == Some(*name) {
+            return *workload;
+        }
     }
+    Workload::Mixed
 }
 
 fn number_in(matches: &ArgMatches<'_>, name: &str) -> u32 {

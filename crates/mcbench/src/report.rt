@@ -20,6 +20,44 @@ impl Display for Quotient {
     }
 }
 
+/// The memory that came, by so many keys.
+pub(crate) fn bytes_a_key(before: u64, after: u64, keys: u32) -> Quotient {
+    Quotient {
+        top: after.saturating_sub(before),
+        bottom: u64::from(keys),
+    }
+}
+
+/// The names of what was counted, in the order in which they are printed.
+const COUNTED: [&str; 10] = [
+    "lookups_s",
+    "writes_s",
+    "lookups",
+    "hits",
+    "busy",
+    "torn",
+    "writes",
+    "held",
+    "evicted",
+    "refused",
+];
+
+/// What was counted, in that order.
+fn counted(all: Tally) -> [u64; 10] {
+    [
+        all.lookups_a_second,
+        all.writes_a_second,
+        all.lookups,
+        all.hits,
+        all.busy,
+        all.torn,
+        all.writes,
+        all.held,
+        all.evicted,
+        all.refused,
+    ]
+}
+
 /// What was measured, as one line of JSON. What was not measured is 0.
 #[derive(Clone, Copy, Default)]
 pub(crate) struct Report {
@@ -35,32 +73,21 @@ pub(crate) struct Report {
 
 impl Display for Report {
     fn fmt<W: fmt::Write>(&self, f: &mut fmt::Formatter<W>) -> fmt::Result {
-        let all = self.looked.and(self.written);
         let ns_lookup = Quotient {
             top: self.looked.nanos,
             bottom: self.looked.lookups.wrapping_sub(self.looked.busy),
         };
+        write!(f, "{{\"name\":\"cefrodil\",\"ns_lookup\":{ns_lookup},")?;
+        let numbers = counted(self.looked.and(self.written));
+        for (name, number) in COUNTED.iter().zip(numbers.iter()) {
+            write!(f, "\"{name}\":{number},")?;
+        }
+        let (load_factor, bytes_key) = (self.load_factor, self.bytes_key);
         write!(
             f,
-            "{{\"name\":\"cefrodil\",\"ns_lookup\":{ns_lookup},\"lookups_s\":{},\"writes_s\":{},",
-            all.lookups_a_second, all.writes_a_second
+            "\"load_factor\":{load_factor},\"bytes_key\":{bytes_key},"
         )?;
-        write!(
-            f,
-            "\"lookups\":{},\"hits\":{},\"busy\":{},\"torn\":{},\"writes\":{},\"held\":{},\"evicted\":{},\"refused\":{},",
-            all.lookups,
-            all.hits,
-            all.busy,
-            all.torn,
-            all.writes,
-            all.held,
-            all.evicted,
-            all.refused
-        )?;
-        write!(
-            f,
-            "\"load_factor\":{},\"bytes_key\":{},\"written_ns\":{},\"listed_ns\":{}}}",
-            self.load_factor, self.bytes_key, self.written.nanos, self.listed_ns
-        )
+        let (written_ns, listed_ns) = (self.written.nanos, self.listed_ns);
+        write!(f, "\"written_ns\":{written_ns},\"listed_ns\":{listed_ns}}}")
     }
 }
