@@ -133,15 +133,20 @@ impl Books {
             return Decision::Refuse(PutError::Spent);
         }
         let at = moment(&self.checked, peek) + 1;
+        // Those of a renewal, before it is known to be one: behind the look, the renewal's first store would wait for this one.
+        let changes = 2;
+        self.version_steps += changes;
         match find_by::<V, P>(&self.checked, peek, key, parts) {
             Some((_, item)) => {
                 // The stamp is the item's last word, and may lie in another cache line than its key. Behind the first store no
                 // load runs ahead, so that line is asked for here, while the processor still waits for the key.
                 stamp_at::<V, P>(&self.checked, peek, item);
-                self.version_steps += 2;
                 Decision::Renew { item, at }
             }
-            None => Decision::Insert { at },
+            None => {
+                self.version_steps -= changes;
+                Decision::Insert { at }
+            }
         }
     }
 

@@ -20,12 +20,15 @@ use Rattle.mc_shared.specs.Views.{Note, writer_view, acts_of, tally_of, with_not
 use Rattle.mc_shared.specs.Steps.{SeatView, bit_of}
 use Rattle.mc_shared.specs.Inside.Steps.{WritesAt, IsOffBits, IsPlain, AddsNote}
 use Rattle.mc_shared.specs.Inside.Seats.{MayMake}
+use Rattle.mc_shared.specs.Running.{RunsIn, IsRunning}
+use Rattle.mc_shared.specs.declared.running.Running.{Running}
 use Rattle.mc_shared.specs.TableRule.{word_after}
 use Rattle.mc_shared.specs.SeatFacts.{IsRun}
 use Rattle.mc_shared.specs.Inside.Seats.{IsWriter}
 use Rattle.mc_theory.specs.Writes.{NamesIn}
 use Rattle.mc_shared.proofs.WrittenPlaces.{act_names_in, write_small}
-use Rattle.mc_shared.proofs.BesideSeat.{may_make, close_writes, beside_of, plain_made, opened_made, counted_made, closed_made}
+use Rattle.mc_shared.proofs.BesideSeat.{may_make, plain_made, opened_made, counted_made, closed_made}
+use Rattle.mc_shared.proofs.RunningVersion.{close_writes, opened_acted}
 
 -- an act that is stored read no bit
 stored_bit : (a : Act) (x : ℕ) → IsOffBits a → bit_of a x ≡ 0
@@ -76,7 +79,7 @@ version_is w s n x here is = is ∙ ap (λ (z : ℕ). slice_index w z) here
 version_at : (sh : Shape) (w : List ℕ) (s n x : ℕ) → n ≡ version_place s → x ≡ slice_index w n → ◌≡◌ {A = Option (ℕ × ℕ)} (Some (version_place s, version w s + 1)) (Some (n, x + 1))
 version_at sh w s n x here is = let e = version_is w s n x here is in λ i. Some (sym here i, sym e i + 1)
 
-module _ (t : TableId) (me : SeatView) (o : Opening) (w : WriterRecord) (place count at : ℕ) (v : writer_record (opening_of t me.0.layout) (acts_of me.0) (tally_of me.0).notes ≡ w) (of : w.of ≡ o) (mine : IsWriter me place count at) where
+module _ (t : TableId) (me : SeatView) (o : Opening) (w : WriterRecord) (at : ℕ) (v : writer_record (opening_of t me.0.layout) (acts_of me.0) (tally_of me.0).notes ≡ w) (of : w.of ≡ o) (mine : IsWriter me at) where
   layout_is : me.0.layout ≡ o.layout
   layout_is = ap (λ (r : WriterRecord). r.of.layout) v ∙ ap (λ (p : Opening). p.layout) of
 
@@ -93,7 +96,7 @@ module _ (t : TableId) (me : SeatView) (o : Opening) (w : WriterRecord) (place c
   allowed_in a h = subst (λ (y : Layout × List Made). IsAllowed y.0.shape (layout_state y.0 y.1) a) (λ i. (sym layout_is i, sym acts_is i)) h
 
   may_in : (a : Act) → IsAllowed o.layout.shape (layout_state o.layout w.acts) a → MayMake me.0.layout (acts_of me.0) a
-  may_in a h = may_make me place count at a mine (allowed_in a h)
+  may_in a h = may_make me at a mine (allowed_in a h)
 
   pub may_at : (a : Act) → IsAllowed o.layout.shape (layout_state o.layout w.acts) a → MayMake o.layout (acts_of me.0) a
   may_at a h = subst (λ (l : Layout). MayMake l (acts_of me.0) a) layout_is (may_in a h)
@@ -108,13 +111,14 @@ module _ (t : TableId) (me : SeatView) (o : Opening) (w : WriterRecord) (place c
   pub moment_fits : IsAllowed o.layout.shape (layout_state o.layout w.acts) Moment → at + 1 < 2 ^ 64
   moment_fits h = write_small o.layout (acts_of me.0) Moment 0 (at + 1) (may_at Moment h) moment_at
 
-  pub close_at : IsAllowed o.layout.shape (layout_state o.layout w.acts) Close → WritesAt o.layout (acts_of me.0) Close place (count + 1)
-  close_at h =
-      let s = layout_state me.0.layout (acts_of me.0) in
-      subst (λ (l : Layout). WritesAt l (acts_of me.0) Close place (count + 1)) layout_is (close_writes me.0.layout s.words s.hand s.cleared s.phase place count at (allowed_in Close h) (beside_of me place count at mine))
+  pub close_at : (r : Running) → IsAllowed o.layout.shape (layout_state o.layout w.acts) Close → IsRunning o.layout.width w r → WritesAt o.layout (acts_of me.0) Close r.place (r.count + 1)
+  close_at r h run =
+      let s = layout_state o.layout w.acts in
+      let runs = subst (λ (p : Opening). RunsIn p.layout.shape (state_of o.layout.width p.layout.shape w.acts) r) of run.runs in
+      subst (λ (acts : List Made). WritesAt o.layout acts Close r.place (r.count + 1)) (sym acts_is) (close_writes o.layout.width o.layout.shape s.words s.hand s.cleared s.phase r h runs)
 
-  pub close_fits : IsAllowed o.layout.shape (layout_state o.layout w.acts) Close → count + 1 < 2 ^ 64
-  close_fits h = write_small o.layout (acts_of me.0) Close place (count + 1) (may_at Close h) (close_at h)
+  pub close_fits : (r : Running) → IsAllowed o.layout.shape (layout_state o.layout w.acts) Close → IsRunning o.layout.width w r → r.count + 1 < 2 ^ 64
+  close_fits r h run = write_small o.layout (acts_of me.0) Close r.place (r.count + 1) (may_at Close h) (close_at r h run)
 
   -- where an opening writes, and that it fits
   pub open_at : (k : ℕ) (d : Deed) (n x : ℕ) → n ≡ version_place (stripe_of o.layout.shape k) → x ≡ word_after o.layout (acts_of me.0) n → WritesAt o.layout (acts_of me.0) (Open k d) n (x + 1)
@@ -143,23 +147,31 @@ module _ (t : TableId) (me : SeatView) (o : Opening) (w : WriterRecord) (place c
   made_in : (me' : SeatView) (a : Act) (b : ℕ) → me' ≡ (writer_view o.layout (acts_of me.0 ++ with_bit a b ∷ []) (tally_of me'.0), []) → me' ≡ (writer_view me.0.layout (acts_of me.0 ++ with_bit a b ∷ []) (tally_of me'.0), [])
   made_in me' a b e = e ∙ (λ i. (writer_view (sym layout_is i) (acts_of me.0 ++ with_bit a b ∷ []) (tally_of me'.0), []))
 
-  pub after_plain : (me' : SeatView) (a : Act) (b : ℕ) → IsPlain a → IsAllowed o.layout.shape (layout_state o.layout w.acts) a → me' ≡ (writer_view o.layout (acts_of me.0 ++ with_bit a b ∷ []) (tally_of me'.0), []) → AddsNote me me' → IsWriter me' place count at
-  after_plain me' a b is h e note = plain_made me me' a b place count at mine is (may_in a h) (made_in me' a b e) note
+  pub after_plain : (me' : SeatView) (a : Act) (b : ℕ) → IsPlain a → IsAllowed o.layout.shape (layout_state o.layout w.acts) a → me' ≡ (writer_view o.layout (acts_of me.0 ++ with_bit a b ∷ []) (tally_of me'.0), []) → AddsNote me me' → IsWriter me' at
+  after_plain me' a b is h e note = plain_made me me' a b at mine is (may_in a h) (made_in me' a b e) note
 
-  pub after_moment : (me' : SeatView) (b : ℕ) → IsAllowed o.layout.shape (layout_state o.layout w.acts) Moment → me' ≡ (writer_view o.layout (acts_of me.0 ++ with_bit Moment b ∷ []) (tally_of me'.0), []) → AddsNote me me' → IsWriter me' place count (at + 1)
-  after_moment me' b h e note = counted_made me me' b place count at mine (may_in Moment h) (made_in me' Moment b e) note
+  pub after_moment : (me' : SeatView) (b : ℕ) → IsAllowed o.layout.shape (layout_state o.layout w.acts) Moment → me' ≡ (writer_view o.layout (acts_of me.0 ++ with_bit Moment b ∷ []) (tally_of me'.0), []) → AddsNote me me' → IsWriter me' (at + 1)
+  after_moment me' b h e note = counted_made me me' b at mine (may_in Moment h) (made_in me' Moment b e) note
 
-  pub after_close : (me' : SeatView) (b place' count' : ℕ) → IsAllowed o.layout.shape (layout_state o.layout w.acts) Close → me' ≡ (writer_view o.layout (acts_of me.0 ++ with_bit Close b ∷ []) (tally_of me'.0), []) → AddsNote me me' → IsWriter me' place' count' at
-  after_close me' b place' count' h e note = closed_made me me' b place count at place' count' mine (may_in Close h) (made_in me' Close b e) note
+  pub after_close : (me' : SeatView) (b : ℕ) → IsAllowed o.layout.shape (layout_state o.layout w.acts) Close → me' ≡ (writer_view o.layout (acts_of me.0 ++ with_bit Close b ∷ []) (tally_of me'.0), []) → AddsNote me me' → IsWriter me' at
+  after_close me' b h e note = closed_made me me' b at mine (may_in Close h) (made_in me' Close b e) note
 
-  pub after_open : (me' : SeatView) (k : ℕ) (d : Deed) (b n x : ℕ) → n ≡ version_place (stripe_of o.layout.shape k) → x ≡ word_after o.layout (acts_of me.0) n → IsAllowed o.layout.shape (layout_state o.layout w.acts) (Open k d) → HasVersionSteps o.layout.shape.limit (layout_state o.layout w.acts).version_steps (Open k d)
-      → me' ≡ (writer_view o.layout (acts_of me.0 ++ with_bit (Open k d) b ∷ []) (tally_of me'.0), []) → AddsNote me me' → IsWriter me' n (x + 1) at
-  after_open me' k d b n x here is h has e note =
+  pub after_open : (me' : SeatView) (k : ℕ) (d : Deed) (b : ℕ) → IsAllowed o.layout.shape (layout_state o.layout w.acts) (Open k d) → HasVersionSteps o.layout.shape.limit (layout_state o.layout w.acts).version_steps (Open k d)
+      → me' ≡ (writer_view o.layout (acts_of me.0 ++ with_bit (Open k d) b ∷ []) (tally_of me'.0), []) → AddsNote me me' → IsWriter me' at
+  after_open me' k d b h has e note =
       let has' : HasVersionSteps me.0.layout.shape.limit (layout_state me.0.layout (acts_of me.0)).version_steps (Open k d) = subst (λ (y : Layout × List Made). HasVersionSteps y.0.shape.limit (layout_state y.0 y.1).version_steps (Open k d)) (λ i. (sym layout_is i, sym acts_is i)) has in
-      let here' : n ≡ version_place (stripe_of me.0.layout.shape k) = subst (λ (l : Layout). n ≡ version_place (stripe_of l.shape k)) (sym layout_is) here in
-      let is' : x ≡ word_after me.0.layout (acts_of me.0) n = subst (λ (l : Layout). x ≡ word_after l (acts_of me.0) n) (sym layout_is) is in
-      let next : x + 1 ≡ version (layout_state me.0.layout (acts_of me.0)).words (stripe_of me.0.layout.shape k) + 1 = ap (λ y. y + 1) (version_is (layout_state me.0.layout (acts_of me.0)).words _ n x here' is') in
-      opened_made me me' k d b place count at n (x + 1) mine (may_in (Open k d) h) has' here' next (made_in me' (Open k d) b e) note
+      opened_made me me' k d b at mine (may_in (Open k d) h) has' (made_in me' (Open k d) b e) note
+
+  -- and the version of the deed that it opens
+  pub opened_runs : (w' : WriterRecord) (k : ℕ) (d : Deed) (r : Running) (x : ℕ) → r.place ≡ version_place (stripe_of o.layout.shape k) → x ≡ word_after o.layout (acts_of me.0) r.place → r.count ≡ x + 1 → HasActed w w' (Open k d) 0 → IsRunning o.layout.width w' r
+  opened_runs w' k d r x here is next h =
+      let shape : IsShape w.of.layout.shape = subst (λ (l : Layout). IsShape l.shape) (layout_is ∙ ap (λ (p : Opening). p.layout) (sym of)) mine.shape in
+      let word : x ≡ word_after o.layout w.acts r.place = subst (λ (acts : List Made). x ≡ word_after o.layout acts r.place) acts_is is in
+      let count : r.count ≡ version (layout_state o.layout w.acts).words (stripe_of o.layout.shape k) + 1 = next ∙ ap (λ y. y + 1) (version_is (layout_state o.layout w.acts).words _ r.place x here word) in
+      opened_acted r shape
+        (subst (λ (p : Opening). r.place ≡ version_place (stripe_of p.layout.shape k)) (sym of) here)
+        (subst (λ (p : Opening). r.count ≡ version (state_of o.layout.width p.layout.shape w.acts).words (stripe_of p.layout.shape k) + 1) (sym of) count)
+        h
 
 -- what an allowed act names is of the table, for a caller that knows the number of words of a value
 pub named_in : (V : ℕ) (sh : Shape) (o : Opening) (w : WriterRecord) (a : Act) → o.layout ≡ layout_of V sh → w.of ≡ o → IsRun w.of.layout w.acts → IsAllowed o.layout.shape (state_of V o.layout.shape w.acts) a → NamesIn V sh a

@@ -6,4 +6,5 @@ pub mod ExactLaws
 pub mod Steps
 pub mod SeatFacts
 pub mod Records
+pub mod Running
 pub mod Inside

@@ -7,12 +7,12 @@
 //!
 //! ```text
 //! let (cells, mut writer, mut readers) = open::<1>(alloc, &checked, 1)?;
-//! open_deed(&cells, &mut writer, key, Deed::Fill);
+//! let running = open_deed(&cells, &mut writer, key, Deed::Fill);
 //! write_item(&cells, &mut writer, 0, 0, key);
 //! write_item(&cells, &mut writer, 0, 1, 7);
 //! write_slot(&cells, &mut writer, place, checked.slot_word(checked.tag(key), 0));
 //! count_moment(&cells, &mut writer);
-//! close_deed(&cells, &mut writer);
+//! close_deed(&cells, &mut writer, running);
 //! let at = read(&cells, &mut reader, Access::Moment);    // on a seat out of `readers`, in any thread
 //! ```
 #![tactic(auto)]
@@ -26,6 +26,7 @@ mod plays;
 mod reader_calls;
 mod reader_steps;
 mod ruled_words;
+mod running;
 mod seats;
 mod words;
 mod writer_calls;
@@ -35,6 +36,7 @@ pub use cells::{Cells, close, open};
 pub use layout::Layout;
 pub use plays::{Known, NamesAccess, NamesAct, NamesItem, Ruling};
 pub use reader_calls::{catch, mark, mark_unless_set, read, read_at, touch};
+pub use running::Running;
 pub use seats::{ReaderSeat, WriterSeat};
 pub use words::Words;
 pub use writer_calls::{

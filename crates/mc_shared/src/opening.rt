@@ -83,12 +83,7 @@ pub(crate) fn open_words(
 {
     let (ruled, mut seat) = lay(alloc, layout, words)?;
     let seats = seat_readers(alloc, &ruled, &mut seat, readers)?;
-    let writer = WriterSeat {
-        seat,
-        place: 0,
-        count: 0,
-        at: 0,
-    };
+    let writer = WriterSeat { seat, at: 0 };
     Ok((ruled, writer, seats))
 }
 
@@ -100,12 +95,7 @@ pub(crate) fn close_words(ruled: RuledWords, writer: WriterSeat, readers: Vec<Re
 {
     drop(readers);
     let RuledWords { table } = ruled;
-    let WriterSeat {
-        seat,
-        place: _,
-        count: _,
-        at: _,
-    } = writer;
+    let WriterSeat { seat, at: _ } = writer;
     Words {
         closed: table.close_with(seat),
     }

@@ -7,10 +7,6 @@ use std::marker::Model;
 #[derive(Drop)]
 pub struct WriterSeat {
     pub(crate) seat: Seat<(), Known>,
-    /// Where the version of the running deed's key lies.
-    pub(crate) place: usize,
-    /// That version.
-    pub(crate) count: u64,
     /// The moment.
     pub(crate) at: u64,
 }
@@ -25,7 +21,7 @@ impl Model for WriterSeat {
 
     ghost view = { λ w. writer_record (opening_of w.seat.table_id w.seat.me.0.layout) (acts_of w.seat.me.0) (tally_of w.seat.me.0).notes };
 
-    ghost invariant = { λ w. IsWriter w.seat.me w.place w.count w.at };
+    ghost invariant = { λ w. IsWriter w.seat.me w.at };
 }
 
 impl WriterSeat {

@@ -8,8 +8,10 @@ ghost use Rattle.mc_theory.specs.Traces.{HasVersionSteps};
 ghost use Rattle.mc_theory.specs.declared.act.Act.TheVariants.{Open, Slot, Item, Moment, Close, Hand, Mark};
 ghost use Rattle.mc_shared.specs.Steps.{IsStored};
 ghost use Rattle.mc_shared.specs.Records.{HasActed};
+ghost use Rattle.mc_shared.specs.Running.{IsRunning};
 
 use crate::cells::Cells;
+use crate::running::Running;
 use crate::seats::WriterSeat;
 use crate::writer_steps::{
     close_deed_on_words, count_moment_on_words, fetch_word, open_deed_on_words, set_mark_on_words,
@@ -20,14 +22,20 @@ use mc_words::{KeyParts, Place};
 
 /// Opens a deed on a key: a load of its version, and a store of one more.
 /// Condition: the seat is that of these words, the act is allowed now, and leaves room for its close within the limit.
-pub fn open_deed<const V: usize>(cells: &Cells<V>, writer: &mut WriterSeat, key: u64, deed: Deed)
+pub fn open_deed<const V: usize>(
+    cells: &Cells<V>,
+    writer: &mut WriterSeat,
+    key: u64,
+    deed: Deed,
+) -> Running
     requires of { writer.old.of ≡ cells.now }
     requires allowed { IsAllowed cells.now.layout.shape (state_of V cells.now.layout.shape writer.old.acts) (Open key deed) }
     requires limit { HasVersionSteps cells.now.layout.shape.limit (state_of V cells.now.layout.shape writer.old.acts).version_steps (Open key deed) }
     ensures acted { HasActed writer.old writer.new (Open key deed) 0 }
+    ensures running { IsRunning V writer.new result }
 {
     let parts = cells.parts(key);
-    open_deed_by(cells, writer, key, deed, parts);
+    open_deed_by(cells, writer, key, deed, parts)
 }
 
 /// The same, for a caller that has worked out the key's parts. Condition: as for `open_deed`, and the parts are the key's.
@@ -38,15 +46,16 @@ pub fn open_deed_by<const V: usize>(
     key: u64,
     deed: Deed,
     parts: KeyParts,
-)
+) -> Running
     requires of { writer.old.of ≡ cells.now }
     requires parts { HasParts cells.now.layout.shape key parts }
     requires allowed { IsAllowed cells.now.layout.shape (state_of V cells.now.layout.shape writer.old.acts) (Open key deed) }
     requires limit { HasVersionSteps cells.now.layout.shape.limit (state_of V cells.now.layout.shape writer.old.acts).version_steps (Open key deed) }
     ensures acted { HasActed writer.old writer.new (Open key deed) 0 }
+    ensures running { IsRunning V writer.new result }
 {
     let place = cells.checked.version_place(parts.stripe);
-    open_deed_on_words(&cells.ruled, writer, key, deed, place);
+    open_deed_on_words(&cells.ruled, writer, key, deed, place)
 }
 
 /// Writes a slot word: one store. Condition: the seat is that of these words, and the act is allowed now.
@@ -114,13 +123,14 @@ pub fn count_moment<const V: usize>(cells: &Cells<V>, writer: &mut WriterSeat)
 }
 
 /// Closes the deed that runs: one store of its version.
-/// Condition: the seat is that of these words, and the act is allowed now.
-pub fn close_deed<const V: usize>(cells: &Cells<V>, writer: &mut WriterSeat)
+/// Condition: the seat is that of these words, the act is allowed now, and the version is that of the running deed.
+pub fn close_deed<const V: usize>(cells: &Cells<V>, writer: &mut WriterSeat, running: Running)
     requires of { writer.old.of ≡ cells.now }
+    requires running { IsRunning V writer.old running }
     requires allowed { IsAllowed cells.now.layout.shape (state_of V cells.now.layout.shape writer.old.acts) Close }
     ensures acted { HasActed writer.old writer.new Close 0 }
 {
-    close_deed_on_words(&cells.ruled, writer);
+    close_deed_on_words(&cells.ruled, writer, running);
 }
 
 /// Sets the recency bit of an item: one `fetch_or`.
@@ -178,20 +188,28 @@ pub fn turn_hand_unless_clear<const V: usize>(
 }
 
 /// Makes one act. It gives the bit that the hand read, else 0.
-/// Condition: the seat is that of these words, the act is allowed now, and an opening leaves room for its close within the limit.
-pub fn perform<const V: usize>(cells: &Cells<V>, writer: &mut WriterSeat, act: Act) -> u64
+/// Condition: the seat is that of these words, the act is allowed now, an opening leaves room for its close within the limit, and the
+/// version is that of the running deed.
+pub fn perform<const V: usize>(
+    cells: &Cells<V>,
+    writer: &mut WriterSeat,
+    running: &mut Running,
+    act: Act,
+) -> u64
     requires of { writer.old.of ≡ cells.now }
+    requires running { IsRunning V writer.old running.old }
     requires allowed { IsAllowed cells.now.layout.shape (state_of V cells.now.layout.shape writer.old.acts) act }
     requires limit { HasVersionSteps cells.now.layout.shape.limit (state_of V cells.now.layout.shape writer.old.acts).version_steps act }
     ensures acted { HasActed writer.old writer.new act result }
+    ensures running { IsRunning V writer.new running.new }
     ensures bit { IsStored act → result ≡ 0 }
 {
     match act {
-        Act::Open(key, deed) => open_deed(cells, writer, key, deed),
+        Act::Open(key, deed) => *running = open_deed(cells, writer, key, deed),
         Act::Slot(place, word) => write_slot(cells, writer, place, word),
         Act::Item(i, j, word) => write_item(cells, writer, i, j, word),
         Act::Moment => count_moment(cells, writer),
-        Act::Close => close_deed(cells, writer),
+        Act::Close => close_deed(cells, writer, *running),
         Act::Mark(i) => set_mark(cells, writer, i),
         Act::Hand(i) => return turn_hand(cells, writer, i),
     }

@@ -12,10 +12,12 @@ ghost use Rattle.mc_shared.specs.TableRule.{word_after};
 ghost use Rattle.mc_shared.specs.Inside.Steps.{WritesAt, IsOffBits, IsPlain, AddsNote};
 ghost use Rattle.mc_shared.specs.Inside.Seats.{MayMake};
 ghost use Rattle.mc_shared.specs.Records.{HasActed};
+ghost use Rattle.mc_shared.specs.Running.{IsRunning};
 ghost use Rattle.mc_shared.specs.Inside.Seats.{opening_of};
 
 use crate::plays::{Fetches, Known, Makes, MakesMarkIfSet, MakesReadingIfClear, NamesAct};
 use crate::ruled_words::RuledWords;
+use crate::running::Running;
 use crate::seats::WriterSeat;
 use atomic_table::Seat;
 use mc_theory::{Act, Deed};
@@ -191,18 +193,17 @@ pub(crate) fn open_deed_on_words(
     key: u64,
     deed: Deed,
     place: usize,
-)
+) -> Running
     requires of { writer.old.of ≡ ruled.now }
     requires allowed { IsAllowed ruled.now.layout.shape (layout_state ruled.now.layout writer.old.acts) (Open key deed) }
     requires limit { HasVersionSteps ruled.now.layout.shape.limit (layout_state ruled.now.layout writer.old.acts).version_steps (Open key deed) }
     requires place { place ≡ version_place (stripe_of ruled.now.layout.shape key) }
-    ensures { HasActed writer.old writer.new (Open key deed) 0 }
+    ensures acted { HasActed writer.old writer.new (Open key deed) 0 }
+    ensures running { IsRunning ruled.now.layout.width writer.new result }
 {
     let count = load_as_writer(ruled, &mut writer.seat, place) + 1;
-    // Before the store, not behind it: the next store of the deed waits for every plain store between the two.
-    writer.place = place;
-    writer.count = count;
     store_as_writer::<Brand>(ruled, &mut writer.seat, Act::Open(key, deed), place, count);
+    Running { place, count }
 }
 
 /// Counts the change of the deed.
@@ -217,13 +218,14 @@ pub(crate) fn count_moment_on_words(ruled: &RuledWords, writer: &mut WriterSeat)
 }
 
 /// Closes the deed that runs.
-pub(crate) fn close_deed_on_words(ruled: &RuledWords, writer: &mut WriterSeat)
+pub(crate) fn close_deed_on_words(ruled: &RuledWords, writer: &mut WriterSeat, running: Running)
     requires of { writer.old.of ≡ ruled.now }
+    requires running { IsRunning ruled.now.layout.width writer.old running }
     requires allowed { IsAllowed ruled.now.layout.shape (layout_state ruled.now.layout writer.old.acts) Close }
     ensures { HasActed writer.old writer.new Close 0 }
 {
-    let count = writer.count + 1;
-    store_as_writer::<Brand>(ruled, &mut writer.seat, Act::Close, writer.place, count);
+    let seat = &mut writer.seat;
+    store_as_writer::<Brand>(ruled, seat, Act::Close, running.place, running.count + 1);
 }
 
 /// Reads the bit of the item at which the hand stands, and clears it.

@@ -1,5 +1,6 @@
 pub mod Due
 pub mod Pens
+pub mod RunningDeeds
 pub mod WholeCalls
 pub mod Rests
 pub mod WaitingPuts

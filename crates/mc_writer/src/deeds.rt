@@ -47,10 +47,10 @@ impl<'a, const V: usize> Pen<'a, V> {
     {
         let items = self.cells.items_start();
         // The value and its stamp change only while the version is odd: a lookup that reads words of both values sees the version changed.
-        self.open_deed(key, parts, Deed::Renew);
+        let running = self.open_deed(key, parts, Deed::Renew);
         self.write_payload(items, i, value, at);
         self.count_moment();
-        self.close_deed();
+        self.close_deed(running);
     }
 
     /// Puts a key at a free item and in an empty slot of one of its buckets, at the moment `at`.
@@ -74,13 +74,13 @@ impl<'a, const V: usize> Pen<'a, V> {
         let items = self.cells.items_start();
         // The key word of a reused item changes only while the new key's version is odd: whoever still reads the item for its
         // old key finds another key there, and whoever looks for the new one looks again.
-        self.open_deed(key, parts, Deed::Fill);
+        let running = self.open_deed(key, parts, Deed::Fill);
         self.write_item_from(items, i, 0, key);
         self.write_payload(items, i, value, at);
         self.write_slot(place, named);
         // The moment before the version: a lookup that finds the version even reads this moment or a later one.
         self.count_moment();
-        self.close_deed();
+        self.close_deed(running);
     }
 
     /// Clears the slot of a key: a removal or an eviction.
@@ -90,10 +90,10 @@ impl<'a, const V: usize> Pen<'a, V> {
         requires parts { HasParts self.old.cells.now.layout.shape key parts }
         ensures made { HasMade V (take_out_acts key deed place) self.old self.new }
     {
-        self.open_deed(key, parts, deed);
+        let running = self.open_deed(key, parts, deed);
         self.write_slot(place, 0);
         self.count_moment();
-        self.close_deed();
+        self.close_deed(running);
     }
 
     /// Moves the key with this slot word from one slot to the other.
@@ -102,11 +102,11 @@ impl<'a, const V: usize> Pen<'a, V> {
         ensures made { HasMade V (move_acts key named from to) self.old self.new }
     {
         let parts = self.cells.parts(key);
-        self.open_deed(key, parts, Deed::Move);
+        let running = self.open_deed(key, parts, Deed::Move);
         // The new slot first: at no instant is the key in no slot.
         self.write_slot(to, named);
         self.write_slot(from, 0);
-        self.close_deed();
+        self.close_deed(running);
     }
 
     /// Makes the moves, one after the other.

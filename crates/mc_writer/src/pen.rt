@@ -6,7 +6,7 @@ ghost use Rattle.mc_theory.specs.Lists.{state_of};
 ghost use Rattle.mc_theory.specs.declared.act.Act.TheVariants as act;
 
 use mc_shared::{
-    Cells, WriterSeat, close_deed, count_moment, fetch, open_deed_by, set_mark,
+    Cells, Running, WriterSeat, close_deed, count_moment, fetch, open_deed_by, set_mark,
     set_mark_unless_set, write_item_from, write_slot,
 };
 use mc_theory::{Deed, Peek};
@@ -30,15 +30,17 @@ impl<'a, const V: usize> Peek for Pen<'a, V> {
 
 // The condition of each act is that it is due next.
 impl<'a, const V: usize> Pen<'a, V> {
+    ghost use Rattle.mc_shared.specs.Running.{IsRunning};
     ghost use Rattle.mc_writer.specs.Inside.Pens.{IsDue, HasMade};
 
     /// Opens a deed on a key, which has these parts.
-    pub(crate) fn open_deed(&mut self, key: u64, parts: KeyParts, deed: Deed)
+    pub(crate) fn open_deed(&mut self, key: u64, parts: KeyParts, deed: Deed) -> Running
         requires due { IsDue V (act.Open key deed ∷ []) self.old }
         requires parts { HasParts self.old.cells.now.layout.shape key parts }
         ensures made { HasMade V (act.Open key deed ∷ []) self.old self.new }
+        ensures running { IsRunning V self.new.seat.now result }
     {
-        open_deed_by(self.cells, self.seat, key, deed, parts);
+        open_deed_by(self.cells, self.seat, key, deed, parts)
     }
 
     /// Writes word `j` of an item, for a caller that has worked out where the items begin.
@@ -67,12 +69,13 @@ impl<'a, const V: usize> Pen<'a, V> {
         count_moment(self.cells, self.seat);
     }
 
-    /// Closes the deed that runs.
-    pub(crate) fn close_deed(&mut self)
+    /// Closes the deed that runs, which has this version.
+    pub(crate) fn close_deed(&mut self, running: Running)
         requires due { IsDue V (act.Close ∷ []) self.old }
+        requires running { IsRunning V self.old.seat.now running }
         ensures made { HasMade V (act.Close ∷ []) self.old self.new }
     {
-        close_deed(self.cells, self.seat);
+        close_deed(self.cells, self.seat, running);
     }
 
     /// Marks an item whose bit is likely clear: it was free, or the hand has just passed it.

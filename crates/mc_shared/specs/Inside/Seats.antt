@@ -1,12 +1,11 @@
 -- What is always known of the words and of a seat, and when an act may be made.
-use Rattle.std.specs.Prelude.{◌≡◌, ℕ, ◌+◌, ◌^◌, ◌≤◌, List, [], ◌∷◌, length, Option, Some, None}
+use Rattle.std.specs.Prelude.{◌≡◌, ℕ, ◌+◌, ◌^◌, ◌≤◌, List, [], ◌∷◌, length}
 use Rattle.atomic_table.specs.Seated.{TableId}
-use Rattle.mc_words.specs.Keys.{stripe_of}
-use Rattle.mc_words.specs.Places.{all_words, version_place, moment, version, IsWidth}
+use Rattle.mc_words.specs.Places.{all_words, moment, IsWidth}
 use Rattle.mc_words.specs.Shapes.{IsShape}
 use Rattle.mc_theory.specs.Acts.{IsAllowed}
 use Rattle.mc_theory.specs.Lists.{Made}
-use Rattle.mc_theory.specs.Phases.{deed_key, close_owed}
+use Rattle.mc_theory.specs.Phases.{close_owed}
 use Rattle.mc_theory.specs.declared.act.Act.{Act}
 use Rattle.mc_shared.specs.Records.{Opening}
 use Rattle.mc_shared.specs.Steps.{SeatView}
@@ -29,20 +28,14 @@ abbrev pub view_of : List View → View
 view_of [] = spent_view
 view_of (v ∷ vs) = v
 
--- what is known of the version of the running deed's key
-abbrev pub RunsAt : Layout → List ℕ → Option ℕ → ℕ → ℕ → Type 0
-RunsAt l w None place count = Unit {0}
-RunsAt l w (Some k) place count = (place ≡ version_place (stripe_of l.shape k)) × (count ≡ version w (stripe_of l.shape k))
-
--- The writer's seat: its acts are lawful and within the limit, and there is a note beside each. Beside it are the place and the number of the running deed's version, and the moment
-pub record IsWriter (me : SeatView) (place count at : ℕ) : Type 0 where
+-- the writer's seat: its acts are lawful and within the limit, and there is a note beside each. Beside it is the moment
+pub record IsWriter (me : SeatView) (at : ℕ) : Type 0 where
   pub seat : me ≡ (writer_view me.0.layout (acts_of me.0) (tally_of me.0), [])
   pub shape : IsShape me.0.layout.shape
   pub lawful : AreLawful me.0.layout (acts_of me.0)
   pub paired : length (tally_of me.0).notes ≡ length (acts_of me.0)
   pub within : (layout_state me.0.layout (acts_of me.0)).version_steps + close_owed (layout_state me.0.layout (acts_of me.0)).phase ≤ me.0.layout.shape.limit
   pub moment_is : at ≡ moment (layout_state me.0.layout (acts_of me.0)).words
-  pub version_is : RunsAt me.0.layout (layout_state me.0.layout (acts_of me.0)).words (deed_key (layout_state me.0.layout (acts_of me.0)).phase) place count
 
 -- a reader's badge: its front is lawful, and its record is one of that front
 pub record IsReader (views : List View) : Type 0 where

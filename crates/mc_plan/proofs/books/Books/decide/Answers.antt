@@ -1,4 +1,4 @@
-use Rattle.std.proofs.Common.{ℕ, List, Err, ◌+◌, ◌∙◌, ap, arith, refl, subst}
+use Rattle.std.proofs.Common.{ℕ, List, Err, ◌≡◌, ◌+◌, ◌-◌, ◌∙◌, ap, arith, refl, subst}
 use Rattle.std.proofs.lemmas.Bool.{false≢true}
 use Rattle.mc_words.specs.declared.shape.Shape.{Shape}
 use Rattle.mc_words.specs.Answers.{PutIsSpent}
@@ -8,6 +8,7 @@ use Rattle.mc_words.specs.Standing.{Stands, IsAbsent}
 use Rattle.mc_theory.specs.States.{State}
 use Rattle.mc_plan.specs.WholeCalls.{PutCall, quiet_of}
 use Rattle.mc_plan.specs.Books.{AreBooksOf}
+use Rattle.mc_plan.specs.Deciding.{IsLackingKey}
 use Rattle.mc_plan.specs.declared.answer.Answer.TheVariants as answer
 use Rattle.mc_plan.specs.declared.answer.PutError.TheVariants as why
 use Rattle.mc_plan.proofs.Calls.AfterPlan.{idle_planned, renewal_planned, placed_in, moment_in}
@@ -45,9 +46,10 @@ returns-in-None-clause-decided g c s old same =
     let V = g.row.V in
     let b = c.args.self.now in
     let absent = subst (λ (x : List ℕ). IsAbsent V (shape_of b.checked) x c.args.key) (ap g.P.Peek.words c.moment-at.ensures.kept ∙ same) c.in-None.ensures.none in
-    record {
+    let taken_back : b.version_steps ≡ b.version_steps + 2 - 2 = omega arith in
+    subst (λ (n : ℕ). IsLackingKey V (record b { version_steps = n; }) c.args.key s (c.moment-at.result + 1)) taken_back (record {
       known = old;
       unspent = unspent g (goal.at.returns-in-None-clause-decided g c).Else-is_spent s old;
       absent = absent;
       next = moment_in V b s (g.P.Peek.words c.args.peek.now) old same (c.moment-at.result + 1) (ap (λ (n : ℕ). n + 1) c.moment-at.ensures.value);
-    }
+    })

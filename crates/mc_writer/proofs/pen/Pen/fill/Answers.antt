@@ -5,31 +5,33 @@ use Rattle.mc_words.specs.declared.shape.Shape.{Shape}
 use Rattle.mc_theory.specs.declared.act.Act.TheVariants as act
 use Rattle.mc_theory.specs.declared.act.Deed.TheVariants as deed
 use Rattle.mc_plan.specs.Plans.{payload_acts}
+use Rattle.mc_shared.specs.Running.{IsRunning}
 use Rattle.mc_writer.specs.Inside.Pens.{IsDue, HasMade}
 use Rattle.mc_writer.proofs.Pens.{first_due, made_then, rest_due, same_then, shape_kept}
+use Rattle.mc_writer.proofs.RunningDeeds.{inner_payload, still_running}
 use Rattle.mc_writer.proofs.pen.Pen.fill.Goals as goal
 use Rattle.mc_writer.proofs.pen.Pen.fill.Goals.{After-write_payload, After-write_slot}
 use Rattle.mc_writer.proofs.pen.Pen.fill.Given.{Over}
 
-pub open_deed-requires : goal.open_deed-requires
-open_deed-requires g c = (omega arith, (first_due g.row.V (act.Open c.args.key deed.Fill ∷ []) _ _ c.requires.due, c.requires.parts))
+pub open_deed-running-requires : goal.open_deed-running-requires
+open_deed-running-requires g c = (omega arith, (first_due g.row.V (act.Open c.args.key deed.Fill ∷ []) _ _ c.requires.due, c.requires.parts))
 
 pub write_item_from-requires : goal.write_item_from-requires
 write_item_from-requires g c =
-    let d1 = rest_due _ c.open_deed.ensures.made c.requires.due in
-    (omega arith, (c.requires.width, ((subst (λ (sh : Shape). c.items_start-items.result ≡ item_place g.row.V sh 0 0) (sym (shape_kept c.open_deed.ensures.made.same)) c.items_start-items.ensures.value, c.items_start-items.ensures.small), first_due g.row.V (act.Item c.args.i 0 c.args.key ∷ []) _ _ d1)))
+    let d1 = rest_due _ c.open_deed-running.ensures.made c.requires.due in
+    (omega arith, (c.requires.width, ((subst (λ (sh : Shape). c.items_start-items.result ≡ item_place g.row.V sh 0 0) (sym (shape_kept c.open_deed-running.ensures.made.same)) c.items_start-items.ensures.value, c.items_start-items.ensures.small), first_due g.row.V (act.Item c.args.i 0 c.args.key ∷ []) _ _ d1)))
 
 pub write_payload-requires : goal.write_payload-requires
 write_payload-requires g c =
-    let same = same_then c.open_deed.ensures.made.same c.write_item_from.ensures.made.same in
-    let d1 = rest_due _ c.open_deed.ensures.made c.requires.due in
+    let same = same_then c.open_deed-running.ensures.made.same c.write_item_from.ensures.made.same in
+    let d1 = rest_due _ c.open_deed-running.ensures.made c.requires.due in
     let d2 = rest_due _ c.write_item_from.ensures.made d1 in
     (omega arith, (omega (arith, c.requires.width), (c.requires.width, ((subst (λ (sh : Shape). c.items_start-items.result ≡ item_place g.row.V sh 0 0) (sym (shape_kept same)) c.items_start-items.ensures.value, c.items_start-items.ensures.small), first_due g.row.V (payload_acts c.args.i c.args.value.now c.args.at) _ _ d2))))
 
 -- what is due after the value
 due_after_value : (g : Over) (c : After-write_payload g) → IsDue g.row.V (act.Slot c.args.place c.slot_word-named.result ∷ act.Moment ∷ act.Close ∷ []) c.write_payload.new.self
 due_after_value g c =
-    let d1 = rest_due _ c.open_deed.ensures.made c.requires.due in
+    let d1 = rest_due _ c.open_deed-running.ensures.made c.requires.due in
     let d2 = rest_due _ c.write_item_from.ensures.made d1 in
     let d3 = rest_due _ c.write_payload.ensures.made d2 in
     let named = c.slot_word-named.ensures ∙ ap (λ (t : ℕ). slot_word t c.args.i) c.requires.parts.tag in
@@ -43,14 +45,26 @@ count_moment-requires g c =
     let d4 = rest_due _ c.write_slot.ensures.made (due_after_value g (goal.at.count_moment-requires g c).After-write_payload) in
     (omega arith, first_due g.row.V (act.Moment ∷ []) _ _ d4)
 
+-- the deed still runs, with the version that it was opened with
+running_after_value : (g : Over) (c : After-write_payload g) → IsRunning g.row.V c.write_payload.new.self.seat.now c.open_deed-running.result
+running_after_value g c =
+    let d1 = rest_due _ c.open_deed-running.ensures.made c.requires.due in
+    let d2 = rest_due _ c.write_item_from.ensures.made d1 in
+    let r1 = still_running _ _ (tt, tt) d1 c.write_item_from.ensures.made c.open_deed-running.ensures.running in
+    still_running _ _ (inner_payload c.args.i c.args.value.now c.args.at) d2 c.write_payload.ensures.made r1
+
 pub close_deed-requires : goal.close_deed-requires
 close_deed-requires g c =
-    let d4 = rest_due _ c.write_slot.ensures.made (due_after_value g (goal.at.close_deed-requires g c).After-write_payload) in
-    let d5 = rest_due _ c.count_moment.ensures.made d4 in
-    (omega arith, first_due g.row.V (act.Close ∷ []) _ _ d5)
+    let after = (goal.at.close_deed-requires g c).After-write_payload in
+    let d3 = due_after_value g after in
+    let d4 = rest_due (act.Moment ∷ act.Close ∷ []) c.write_slot.ensures.made d3 in
+    let d5 = rest_due (act.Close ∷ []) c.count_moment.ensures.made d4 in
+    let r4 = still_running (act.Moment ∷ act.Close ∷ []) _ (tt, tt) d3 c.write_slot.ensures.made (running_after_value g after) in
+    let r5 = still_running (act.Close ∷ []) _ (tt, tt) d4 c.count_moment.ensures.made r4 in
+    (omega arith, (first_due g.row.V (act.Close ∷ []) _ _ d5, r5))
 
 pub returns : goal.returns
 returns g c =
     let named = c.slot_word-named.ensures ∙ ap (λ (t : ℕ). slot_word t c.args.i) c.requires.parts.tag in
     let m4 = subst (λ (x : ℕ). HasMade g.row.V (act.Slot c.args.place x ∷ []) c.write_payload.new.self c.write_slot.new.self) named c.write_slot.ensures.made in
-    record { made = made_then c.open_deed.ensures.made (made_then c.write_item_from.ensures.made (made_then c.write_payload.ensures.made (made_then m4 (made_then c.count_moment.ensures.made c.close_deed.ensures.made)))) }
+    record { made = made_then c.open_deed-running.ensures.made (made_then c.write_item_from.ensures.made (made_then c.write_payload.ensures.made (made_then m4 (made_then c.count_moment.ensures.made c.close_deed.ensures.made)))) }
