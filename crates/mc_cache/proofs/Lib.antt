@@ -1,4 +1,5 @@
 pub mod NewWriters
+pub mod KeptMoments
 pub mod OrderedAnswers
 pub mod PlainCalls
 pub mod LoadedEntries

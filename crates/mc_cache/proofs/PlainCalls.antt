@@ -28,7 +28,7 @@ use Rattle.mc_plan.specs.declared.answer.Remove.TheVariants.{Removed, NotThere}
 use Rattle.mc_plan.specs.declared.answer.Spent.{Spent as RemoveSpent}
 use Rattle.mc_words.specs.Answers.{Quiet}
 use Rattle.mc_shared.specs.Records.{IsNewReader, Opening, ReaderRecord, WriterRecord}
-use Rattle.mc_shared.specs.Views.{IsFrontOf, layout_state, with_bit}
+use Rattle.mc_shared.specs.Views.{IsFrontOf, with_bit}
 use Rattle.mc_reader.specs.Records.{AreTrueAnswers, HaveLooked}
 use Rattle.mc_reader.proofs.ManyLookups.{grown}
 use Rattle.mc_writer.specs.WriterCalls.{HasCalled, HasGot, IsRested}
@@ -37,7 +37,7 @@ use Rattle.mc_words.specs.Checks.{shape_of}
 use Rattle.mc_theory.specs.Phases.{Quiet as QuietPhase}
 use Rattle.mc_theory.proofs.Replies.TrueReplies.{agrees_always}
 use Rattle.mc_shared.specs.SeatFacts.{IsRun}
-use Rattle.mc_cache.specs.Resting.{IsAtRest}
+use Rattle.mc_cache.specs.Resting.{IsAtRest, KeepsMoment}
 use Rattle.mc_search.specs.Entries.{AreEntriesOf}
 use Rattle.mc_plan.specs.declared.books.Books.{Books}
 use Rattle.mc_words.specs.Places.{moment}
@@ -153,12 +153,10 @@ module _ (V : ℕ) (o cells : Opening) (self seat : WriterRecord) (table : cells
   pub entries_now : (es : List (ℕ × List ℕ)) → AreEntriesOf V (state_of V cells.layout.shape seat.acts).history es → AreEntriesOf V (history V self) es
   entries_now es e = subst (λ (h : List (Change V)). AreEntriesOf V h es) (sym history_before) e
 
--- the moment that a seat keeps is the length of the history
-pub moment_tells : (V : ℕ) (books : Books) (self seat : WriterRecord) (n : ℕ) → seat ≡ self → IsRested V books seat → n ≡ moment (layout_state seat.of.layout seat.acts).words → n ≡ length (history V self)
+-- the moment that a writer keeps is the length of the history
+pub moment_tells : (V : ℕ) (books : Books) (self seat : WriterRecord) (n : ℕ) → seat ≡ self → IsRested V books seat → KeepsMoment V seat n → n ≡ length (history V self)
 unfolding history
-moment_tells V books self seat n same rested e =
-    let wide : seat.of.layout.width ≡ V = ap (λ (l : Layout). l.width) rested.layout in
-    e ∙ ap (λ (w : ℕ). moment (state_of w seat.of.layout.shape seat.acts).words) wide ∙ (agrees_now V seat.of books seat refl rested).at_moment ∙ ap (λ (w : WriterRecord). length (history V w)) same
+moment_tells V books self seat n same rested e = e ∙ (agrees_now V seat.of books seat refl rested).at_moment ∙ ap (λ (w : WriterRecord). length (history V w)) same
 
 -- the moment that the words hold, which a reader finds where it meets the writer
 pub moment_met : (V : ℕ) (o cells : Opening) (books : Books) (self seat : WriterRecord) (n : ℕ) → cells ≡ o → seat ≡ self → self.of ≡ o → IsRested V books seat → n ≡ moment (state_of V cells.layout.shape seat.acts).words → n ≡ length (state_of V o.layout.shape self.acts).history

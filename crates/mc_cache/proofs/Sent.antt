@@ -1,5 +1,7 @@
 -- A desk may be lent to threads, and its writer goes from one to the other.
 use denote.RattleType.{RattleType}
+use denote.Hole.{as_row}
+use denote.Struct.Field.{u64-field}
 use denote.Param.Send.{IsSync, sendable, view_sync}
 use denote.Param.SendFields.{as_row_sync, declared_sync}
 use Rattle.counted_slot.proofs.Counted.TheSendSync.{the_sync as counted_sync}
@@ -10,8 +12,11 @@ use Rattle.mc_cache.proofs.writer.Writer.TheSendSync.{the_send as writer_send}
 use Rattle.mc_cache.specs.contracts.desk.Desk as desk
 use Rattle.mc_cache.specs.contracts.writer.Writer as writer
 
+moment_sync : IsSync (as_row u64-field)
+moment_sync = search sendable depth 20
+
 parts_sync : (V : RattleType) → IsSync (writer.TheInside.the_row V)
-parts_sync V = declared_sync (writer.TheInside.the_type V) (as_row_sync seat.the_field seat_sync, (books_sync, tt))
+parts_sync V = declared_sync (writer.TheInside.the_type V) (as_row_sync seat.the_field seat_sync, (books_sync, (moment_sync, tt)))
 
 pub writer_sync : (V : RattleType) → IsSync (writer.the_row V)
 writer_sync V = view_sync (writer.TheInside.the_row V) _ _ _ _ (parts_sync V)

@@ -59,7 +59,12 @@ fn open_checked<const V: usize>(
     let books = Books::new(alloc, checked)?;
     let (cells, seat, seats) = mc_shared::open::<V>(alloc, checked, readers)?;
     let readers = seat_readers::<V>(alloc, seats)?;
-    Ok((Cache { cells }, Writer { seat, books }, readers))
+    let writer = Writer {
+        seat,
+        books,
+        moment: 0,
+    };
+    Ok((Cache { cells }, writer, readers))
 }
 
 /// A cache with nothing in it, its writer and so many readers. The first fault of what is asked for is told: `Shape`, then

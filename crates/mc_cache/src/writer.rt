@@ -12,7 +12,7 @@ use crate::cache::Cache;
 use mc_plan::{Books, IfError, Put, PutError, Remove, Spent, Why};
 use mc_shared::WriterSeat;
 use mc_words::Reply;
-use mc_writer::{get, put, put_if, put_kept, remove};
+use mc_writer::{get, moment, put, put_if, put_kept, remove};
 use std::marker::Model;
 
 /// The one writer of a cache. Contracts see it as its record: the acts that were made.
@@ -20,9 +20,12 @@ use std::marker::Model;
 pub struct Writer<const V: usize> {
     pub(crate) seat: WriterSeat,
     pub(crate) books: Books,
+    /// How many changes of the map were made.
+    pub(crate) moment: u64,
 }
 
 impl<const V: usize> Model for Writer<V> {
+    ghost use Rattle.mc_cache.specs.Resting.{KeepsMoment};
     ghost use Rattle.mc_shared.specs.Records.{WriterRecord};
     ghost use Rattle.mc_writer.specs.WriterCalls.{IsRested};
 
@@ -30,7 +33,7 @@ impl<const V: usize> Model for Writer<V> {
 
     ghost view = { λ w. w.seat };
 
-    ghost invariant = { λ w. IsRested V w.books w.seat };
+    ghost invariant = { λ w. IsRested V w.books w.seat × KeepsMoment V w.seat w.moment };
 }
 
 impl<const V: usize> Writer<V> {
@@ -43,7 +46,9 @@ impl<const V: usize> Writer<V> {
         ensures called { HasCalled V cache.now.layout.shape (PutCall key value.entry) self.old self.new (answer.Put result) }
         ensures plain { PutMeans V (history V self.old) (history V self.new) key value.entry result }
     {
-        put(&cache.cells, &mut self.seat, &mut self.books, key, &value)
+        let told = put(&cache.cells, &mut self.seat, &mut self.books, key, &value);
+        self.moment = moment(&cache.cells, &mut self.seat);
+        told
     }
 
     /// Puts a key anew, if its last put was at the moment `since`, which a lookup of it told: the moment of the new put.
@@ -60,14 +65,16 @@ impl<const V: usize> Writer<V> {
         ensures called { HasCalled V cache.now.layout.shape (PutIfCall key since value.entry) self.old self.new (answer.PutIf result) }
         ensures plain { PutIfMeans V (history V self.old) (history V self.new) key since value.entry result }
     {
-        put_if(
+        let told = put_if(
             &cache.cells,
             &mut self.seat,
             &mut self.books,
             key,
             since,
             &value,
-        )
+        );
+        self.moment = moment(&cache.cells, &mut self.seat);
+        told
     }
 
     // Puts a key as `put` does, but a new one only where an item is free.
@@ -80,7 +87,9 @@ impl<const V: usize> Writer<V> {
         requires of { self.old.of ≡ cache.now }
         ensures called { HasCalled V cache.now.layout.shape (KeptCall key value.entry) self.old self.new (answer.Kept result) }
     {
-        put_kept(&cache.cells, &mut self.seat, &mut self.books, key, &value)
+        let told = put_kept(&cache.cells, &mut self.seat, &mut self.books, key, &value);
+        self.moment = moment(&cache.cells, &mut self.seat);
+        told
     }
 
     /// Takes a key out. `Err(Spent)` where the limit on version changes could be passed: nothing was changed.
@@ -89,7 +98,9 @@ impl<const V: usize> Writer<V> {
         ensures called { HasCalled V cache.now.layout.shape (RemoveCall key) self.old self.new (answer.Remove result) }
         ensures plain { RemovalMeans V (history V self.old) (history V self.new) key result }
     {
-        remove(&cache.cells, &mut self.seat, &mut self.books, key)
+        let told = remove(&cache.cells, &mut self.seat, &mut self.books, key);
+        self.moment = moment(&cache.cells, &mut self.seat);
+        told
     }
 
     /// What the cache holds of the key now, never `Busy`. A hit marks the key's item.
@@ -106,7 +117,7 @@ impl<const V: usize> Writer<V> {
         ensures moment { result ≡ length (state_of V self.now.of.layout.shape self.now.acts).history }
         ensures plain { result ≡ length (history V self.now) }
     {
-        self.seat.moment()
+        self.moment
     }
 
     /// What is always known of a writer between two calls: its acts are lawful and within the limit, each has its note, no deed

@@ -1,7 +1,7 @@
 -- The version of the running deed: which acts leave it as it is, what an open makes it, and what a close writes.
-use Rattle.std.proofs.Common.{◌≡◌, ℕ, ◌+◌, ◌≤◌, List, [], ◌∷◌, ◌++◌, length, refl, ap, sym, ◌∙◌, subst, arith, Option, Some}
+use Rattle.std.proofs.Common.{◌≡◌, ℕ, ◌+◌, ◌≤◌, List, [], ◌∷◌, ◌++◌, length, ap, sym, ◌∙◌, subst, arith, Option, Some}
 use Rattle.mc_words.specs.Keys.{stripe_of}
-use Rattle.mc_words.specs.Places.{word_count, version_place, version, with_moment, with_version, with_slot, with_item}
+use Rattle.mc_words.specs.Places.{word_count, version_place, version, with_moment, with_slot, with_item}
 use Rattle.mc_words.specs.Shapes.{IsShape}
 use Rattle.mc_words.specs.declared.shape.Shape.{Shape}
 use Rattle.mc_words.proofs.Keys.{stripe_of-lt}

@@ -4,7 +4,7 @@ use Rattle.std.specs.Prelude.{slice_index}
 use Rattle.mc_words.specs.declared.shape.Shape.{Shape}
 use Rattle.atomic_table.specs.Seated.{TableId}
 use Rattle.mc_words.specs.Keys.{stripe_of}
-use Rattle.mc_words.specs.Places.{word_count, version_place, version}
+use Rattle.mc_words.specs.Places.{word_count, version_place, moment, version}
 use Rattle.mc_words.specs.Shapes.{IsShape}
 use Rattle.mc_words.proofs.Keys.{stripe_of-lt}
 use Rattle.mc_theory.specs.Acts.{IsAllowed}
@@ -27,7 +27,7 @@ use Rattle.mc_shared.specs.SeatFacts.{IsRun}
 use Rattle.mc_shared.specs.Inside.Seats.{IsWriter}
 use Rattle.mc_theory.specs.Writes.{NamesIn}
 use Rattle.mc_shared.proofs.WrittenPlaces.{act_names_in, write_small}
-use Rattle.mc_shared.proofs.BesideSeat.{may_make, plain_made, opened_made, counted_made, closed_made}
+use Rattle.mc_shared.proofs.WriterSeats.{may_make, has_plain, after_made}
 use Rattle.mc_shared.proofs.RunningVersion.{close_writes, opened_acted}
 
 -- an act that is stored read no bit
@@ -79,7 +79,12 @@ version_is w s n x here is = is ∙ ap (λ (z : ℕ). slice_index w z) here
 version_at : (sh : Shape) (w : List ℕ) (s n x : ℕ) → n ≡ version_place s → x ≡ slice_index w n → ◌≡◌ {A = Option (ℕ × ℕ)} (Some (version_place s, version w s + 1)) (Some (n, x + 1))
 version_at sh w s n x here is = let e = version_is w s n x here is in λ i. Some (sym here i, sym e i + 1)
 
-module _ (t : TableId) (me : SeatView) (o : Opening) (w : WriterRecord) (at : ℕ) (v : writer_record (opening_of t me.0.layout) (acts_of me.0) (tally_of me.0).notes ≡ w) (of : w.of ≡ o) (mine : IsWriter me at) where
+-- the word at the place of the moment is the moment, and counting writes the one after it there
+counted_word : (w : List ℕ) (x : ℕ) → x ≡ slice_index w 0 → ◌≡◌ {A = Option (ℕ × ℕ)} (Some (0, moment w + 1)) (Some (0, x + 1))
+unfolding moment
+counted_word w x is = ap (λ (y : ℕ). Some (0, y + 1)) (sym is)
+
+module _ (t : TableId) (me : SeatView) (o : Opening) (w : WriterRecord) (v : writer_record (opening_of t me.0.layout) (acts_of me.0) (tally_of me.0).notes ≡ w) (of : w.of ≡ o) (mine : IsWriter me) where
   layout_is : me.0.layout ≡ o.layout
   layout_is = ap (λ (r : WriterRecord). r.of.layout) v ∙ ap (λ (p : Opening). p.layout) of
 
@@ -96,7 +101,7 @@ module _ (t : TableId) (me : SeatView) (o : Opening) (w : WriterRecord) (at : �
   allowed_in a h = subst (λ (y : Layout × List Made). IsAllowed y.0.shape (layout_state y.0 y.1) a) (λ i. (sym layout_is i, sym acts_is i)) h
 
   may_in : (a : Act) → IsAllowed o.layout.shape (layout_state o.layout w.acts) a → MayMake me.0.layout (acts_of me.0) a
-  may_in a h = may_make me at a mine (allowed_in a h)
+  may_in a h = may_make me a mine (allowed_in a h)
 
   pub may_at : (a : Act) → IsAllowed o.layout.shape (layout_state o.layout w.acts) a → MayMake o.layout (acts_of me.0) a
   may_at a h = subst (λ (l : Layout). MayMake l (acts_of me.0) a) layout_is (may_in a h)
@@ -105,11 +110,14 @@ module _ (t : TableId) (me : SeatView) (o : Opening) (w : WriterRecord) (at : �
   writes_at a n x h = subst (λ (z : List Made). WritesAt o.layout z a n x) (sym acts_is) h
 
   -- where the moment and a close write, and that it fits
-  pub moment_at : WritesAt o.layout (acts_of me.0) Moment 0 (at + 1)
-  moment_at = subst (λ (l : Layout). WritesAt l (acts_of me.0) Moment 0 (at + 1)) layout_is (ap (λ (y : ℕ). Some (0, y + 1)) (sym mine.moment_is))
+  pub moment_at : (x : ℕ) → x ≡ word_after o.layout (acts_of me.0) 0 → WritesAt o.layout (acts_of me.0) Moment 0 (x + 1)
+  moment_at x is = counted_word (layout_state o.layout (acts_of me.0)).words x is
 
-  pub moment_fits : IsAllowed o.layout.shape (layout_state o.layout w.acts) Moment → at + 1 < 2 ^ 64
-  moment_fits h = write_small o.layout (acts_of me.0) Moment 0 (at + 1) (may_at Moment h) moment_at
+  pub moment_below : 0 < word_count o.layout.width o.layout.shape
+  moment_below = omega arith
+
+  pub moment_fits : (x : ℕ) → x ≡ word_after o.layout (acts_of me.0) 0 → IsAllowed o.layout.shape (layout_state o.layout w.acts) Moment → x + 1 < 2 ^ 64
+  moment_fits x is h = write_small o.layout (acts_of me.0) Moment 0 (x + 1) (may_at Moment h) (moment_at x is)
 
   pub close_at : (r : Running) → IsAllowed o.layout.shape (layout_state o.layout w.acts) Close → IsRunning o.layout.width w r → WritesAt o.layout (acts_of me.0) Close r.place (r.count + 1)
   close_at r h run =
@@ -147,20 +155,20 @@ module _ (t : TableId) (me : SeatView) (o : Opening) (w : WriterRecord) (at : �
   made_in : (me' : SeatView) (a : Act) (b : ℕ) → me' ≡ (writer_view o.layout (acts_of me.0 ++ with_bit a b ∷ []) (tally_of me'.0), []) → me' ≡ (writer_view me.0.layout (acts_of me.0 ++ with_bit a b ∷ []) (tally_of me'.0), [])
   made_in me' a b e = e ∙ (λ i. (writer_view (sym layout_is i) (acts_of me.0 ++ with_bit a b ∷ []) (tally_of me'.0), []))
 
-  pub after_plain : (me' : SeatView) (a : Act) (b : ℕ) → IsPlain a → IsAllowed o.layout.shape (layout_state o.layout w.acts) a → me' ≡ (writer_view o.layout (acts_of me.0 ++ with_bit a b ∷ []) (tally_of me'.0), []) → AddsNote me me' → IsWriter me' at
-  after_plain me' a b is h e note = plain_made me me' a b at mine is (may_in a h) (made_in me' a b e) note
+  pub after_plain : (me' : SeatView) (a : Act) (b : ℕ) → IsPlain a → IsAllowed o.layout.shape (layout_state o.layout w.acts) a → me' ≡ (writer_view o.layout (acts_of me.0 ++ with_bit a b ∷ []) (tally_of me'.0), []) → AddsNote me me' → IsWriter me'
+  after_plain me' a b is h e note = after_made me me' a b mine (may_in a h) (has_plain _ _ a is) (made_in me' a b e) note
 
-  pub after_moment : (me' : SeatView) (b : ℕ) → IsAllowed o.layout.shape (layout_state o.layout w.acts) Moment → me' ≡ (writer_view o.layout (acts_of me.0 ++ with_bit Moment b ∷ []) (tally_of me'.0), []) → AddsNote me me' → IsWriter me' (at + 1)
-  after_moment me' b h e note = counted_made me me' b at mine (may_in Moment h) (made_in me' Moment b e) note
+  pub after_moment : (me' : SeatView) (b : ℕ) → IsAllowed o.layout.shape (layout_state o.layout w.acts) Moment → me' ≡ (writer_view o.layout (acts_of me.0 ++ with_bit Moment b ∷ []) (tally_of me'.0), []) → AddsNote me me' → IsWriter me'
+  after_moment me' b h e note = after_made me me' Moment b mine (may_in Moment h) tt (made_in me' Moment b e) note
 
-  pub after_close : (me' : SeatView) (b : ℕ) → IsAllowed o.layout.shape (layout_state o.layout w.acts) Close → me' ≡ (writer_view o.layout (acts_of me.0 ++ with_bit Close b ∷ []) (tally_of me'.0), []) → AddsNote me me' → IsWriter me' at
-  after_close me' b h e note = closed_made me me' b at mine (may_in Close h) (made_in me' Close b e) note
+  pub after_close : (me' : SeatView) (b : ℕ) → IsAllowed o.layout.shape (layout_state o.layout w.acts) Close → me' ≡ (writer_view o.layout (acts_of me.0 ++ with_bit Close b ∷ []) (tally_of me'.0), []) → AddsNote me me' → IsWriter me'
+  after_close me' b h e note = after_made me me' Close b mine (may_in Close h) tt (made_in me' Close b e) note
 
   pub after_open : (me' : SeatView) (k : ℕ) (d : Deed) (b : ℕ) → IsAllowed o.layout.shape (layout_state o.layout w.acts) (Open k d) → HasVersionSteps o.layout.shape.limit (layout_state o.layout w.acts).version_steps (Open k d)
-      → me' ≡ (writer_view o.layout (acts_of me.0 ++ with_bit (Open k d) b ∷ []) (tally_of me'.0), []) → AddsNote me me' → IsWriter me' at
+      → me' ≡ (writer_view o.layout (acts_of me.0 ++ with_bit (Open k d) b ∷ []) (tally_of me'.0), []) → AddsNote me me' → IsWriter me'
   after_open me' k d b h has e note =
       let has' : HasVersionSteps me.0.layout.shape.limit (layout_state me.0.layout (acts_of me.0)).version_steps (Open k d) = subst (λ (y : Layout × List Made). HasVersionSteps y.0.shape.limit (layout_state y.0 y.1).version_steps (Open k d)) (λ i. (sym layout_is i, sym acts_is i)) has in
-      opened_made me me' k d b at mine (may_in (Open k d) h) has' (made_in me' (Open k d) b e) note
+      after_made me me' (Open k d) b mine (may_in (Open k d) h) has' (made_in me' (Open k d) b e) note
 
   -- and the version of the deed that it opens
   pub opened_runs : (w' : WriterRecord) (k : ℕ) (d : Deed) (r : Running) (x : ℕ) → r.place ≡ version_place (stripe_of o.layout.shape k) → x ≡ word_after o.layout (acts_of me.0) r.place → r.count ≡ x + 1 → HasActed w w' (Open k d) 0 → IsRunning o.layout.width w' r
@@ -169,9 +177,9 @@ module _ (t : TableId) (me : SeatView) (o : Opening) (w : WriterRecord) (at : �
       let word : x ≡ word_after o.layout w.acts r.place = subst (λ (acts : List Made). x ≡ word_after o.layout acts r.place) acts_is is in
       let count : r.count ≡ version (layout_state o.layout w.acts).words (stripe_of o.layout.shape k) + 1 = next ∙ ap (λ y. y + 1) (version_is (layout_state o.layout w.acts).words _ r.place x here word) in
       opened_acted r shape
-        (subst (λ (p : Opening). r.place ≡ version_place (stripe_of p.layout.shape k)) (sym of) here)
-        (subst (λ (p : Opening). r.count ≡ version (state_of o.layout.width p.layout.shape w.acts).words (stripe_of p.layout.shape k) + 1) (sym of) count)
-        h
+      (subst (λ (p : Opening). r.place ≡ version_place (stripe_of p.layout.shape k)) (sym of) here)
+      (subst (λ (p : Opening). r.count ≡ version (state_of o.layout.width p.layout.shape w.acts).words (stripe_of p.layout.shape k) + 1) (sym of) count)
+      h
 
 -- what an allowed act names is of the table, for a caller that knows the number of words of a value
 pub named_in : (V : ℕ) (sh : Shape) (o : Opening) (w : WriterRecord) (a : Act) → o.layout ≡ layout_of V sh → w.of ≡ o → IsRun w.of.layout w.acts → IsAllowed o.layout.shape (state_of V o.layout.shape w.acts) a → NamesIn V sh a

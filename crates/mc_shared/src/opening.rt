@@ -83,7 +83,7 @@ pub(crate) fn open_words(
 {
     let (ruled, mut seat) = lay(alloc, layout, words)?;
     let seats = seat_readers(alloc, &ruled, &mut seat, readers)?;
-    let writer = WriterSeat { seat, at: 0 };
+    let writer = WriterSeat { seat };
     Ok((ruled, writer, seats))
 }
 
@@ -95,7 +95,7 @@ pub(crate) fn close_words(ruled: RuledWords, writer: WriterSeat, readers: Vec<Re
 {
     drop(readers);
     let RuledWords { table } = ruled;
-    let WriterSeat { seat, at: _ } = writer;
+    let WriterSeat { seat } = writer;
     Words {
         closed: table.close_with(seat),
     }

@@ -7,8 +7,6 @@ use std::marker::Model;
 #[derive(Drop)]
 pub struct WriterSeat {
     pub(crate) seat: Seat<(), Known>,
-    /// The moment.
-    pub(crate) at: u64,
 }
 
 impl Model for WriterSeat {
@@ -21,28 +19,19 @@ impl Model for WriterSeat {
 
     ghost view = { λ w. writer_record (opening_of w.seat.table_id w.seat.me.0.layout) (acts_of w.seat.me.0) (tally_of w.seat.me.0).notes };
 
-    ghost invariant = { λ w. IsWriter w.seat.me w.at };
+    ghost invariant = { λ w. IsWriter w.seat.me };
 }
 
 impl WriterSeat {
     ghost use Rattle.mc_shared.specs.SeatFacts.{IsRun};
     ghost use Rattle.std.specs.Prelude.{◌≡◌, length};
-    ghost use Rattle.mc_words.specs.Places.{moment};
-    ghost use Rattle.mc_shared.specs.Views.{layout_state};
-
-    /// The moment, which the seat keeps beside the words.
-    pub fn moment(&self) -> u64
-        ensures { result ≡ moment (layout_state self.now.of.layout self.now.acts).words }
-    {
-        self.at
-    }
 
     /// What is always known of the acts: there is a note beside each.
     pub fn known(&self)
         ensures run { IsRun self.now.of.layout self.now.acts }
         ensures paired { length self.now.notes ≡ length self.now.acts }
     {
-        let _at = self.at;
+        let _seat = &self.seat;
     }
 }
 

@@ -112,7 +112,7 @@ pub fn write_item_from<const V: usize>(
     write_word(&cells.ruled, writer, Act::Item(i, j, word), at, word);
 }
 
-/// Counts the change of the deed that runs: one store of the moment.
+/// Counts the change of the deed that runs: a load of the moment, and a store of one more.
 /// Condition: the seat is that of these words, and the act is allowed now.
 pub fn count_moment<const V: usize>(cells: &Cells<V>, writer: &mut WriterSeat)
     requires of { writer.old.of ≡ cells.now }

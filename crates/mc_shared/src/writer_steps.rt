@@ -212,9 +212,8 @@ pub(crate) fn count_moment_on_words(ruled: &RuledWords, writer: &mut WriterSeat)
     requires allowed { IsAllowed ruled.now.layout.shape (layout_state ruled.now.layout writer.old.acts) Moment }
     ensures { HasActed writer.old writer.new Moment 0 }
 {
-    let at = writer.at + 1;
+    let at = load_as_writer(ruled, &mut writer.seat, 0) + 1;
     store_as_writer::<Brand>(ruled, &mut writer.seat, Act::Moment, 0, at);
-    writer.at = at;
 }
 
 /// Closes the deed that runs.

@@ -1,5 +1,5 @@
 -- The version of the running deed, while the pen makes the acts between an open and its close.
-use Rattle.std.proofs.Common.{ℕ, ◌≡◌, ◌∙◌, ◌+◌, List, [], ◌∷◌, ◌++◌, ap, append_assoc, append-nil, length, sym, subst}
+use Rattle.std.proofs.Common.{ℕ, ◌+◌, List, [], ◌∷◌, ◌++◌, ap, append_assoc, append-nil, length, sym, subst}
 use Rattle.mc_words.specs.Shapes.{IsShape}
 use Rattle.mc_words.specs.declared.shape.Shape.{Shape}
 use Rattle.mc_theory.specs.Lists.{Made, state_of}
@@ -35,7 +35,7 @@ pub still_running : {V : ℕ} {xs : List Act} {p q : Pen V} (ys : List Act) (r :
 still_running {V} {xs} {p} {q} ys r inner d m run =
     let sh = p.seat.now.of.layout.shape in
     let due : AreDue V sh d.all p.seat.now.acts (xs ++ (ys ++ d.later)) =
-        subst (λ (y : Shape × List Act). AreDue V y.0 d.all p.seat.now.acts y.1) (λ i. (ap (λ (o : Opening). o.layout.shape) (sym p.of) i, append_assoc xs ys d.later i)) d.due in
+    subst (λ (y : Shape × List Act). AreDue V y.0 d.all p.seat.now.acts y.1) (λ i. (ap (λ (o : Opening). o.layout.shape) (sym p.of) i, append_assoc xs ys d.later i)) d.due in
     let runs = runs_through V sh d.all p.seat.now.acts xs (ys ++ d.later) r run.shape inner due run.runs in
     record {
       shape = subst (λ (o : Opening). IsShape o.layout.shape) (sym m.of) run.shape;

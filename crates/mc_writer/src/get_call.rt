@@ -2,6 +2,7 @@
 ghost use Rattle.std.specs.Prelude.{ℕ, ◌≡◌, [], ◌∷◌, ◌++◌, Some, None, IfSome, IfNone};
 ghost use Rattle.mc_theory.specs.Lists.{state_of};
 ghost use Rattle.mc_words.specs.History.{map_value};
+ghost use Rattle.mc_words.specs.Places as places;
 ghost use Rattle.mc_words.specs.Standing.{Stands};
 ghost use Rattle.mc_writer.specs.WriterCalls.{HasGot, IsRested};
 
@@ -10,6 +11,17 @@ use mc_plan::Books;
 use mc_search::{Held, read};
 use mc_shared::{Cells, WriterSeat, set_mark_unless_set};
 use mc_words::Reply;
+
+/// The moment: how many changes of the map were made. No act is made.
+pub fn moment<const V: usize>(cells: &Cells<V>, seat: &mut WriterSeat) -> u64
+    requires of { seat.old.of ≡ cells.now }
+    ensures moment { result ≡ places.moment (state_of V cells.now.layout.shape seat.old.acts).words }
+    ensures seat { seat.new ≡ seat.old }
+{
+    let checked = cells.checked();
+    let mut pen = Pen { cells, seat };
+    mc_search::moment(checked, &mut pen)
+}
 
 /// What the words hold of a key, while the writer rests: its item, its value and the moment of its last put. No act is made.
 pub fn look<const V: usize>(
@@ -44,7 +56,7 @@ pub fn get<const V: usize>(
     ensures rested { IsRested V books.now seat.new }
 {
     let found = look(cells, seat, books, key);
-    let at = seat.moment();
+    let at = moment(cells, seat);
     match found {
         Some(held) => {
             let value = held.value;

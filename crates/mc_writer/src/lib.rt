@@ -20,7 +20,7 @@ mod put_call;
 mod remove_call;
 mod sweep;
 
-pub use get_call::{get, look};
+pub use get_call::{get, look, moment};
 pub use if_call::put_if;
 pub use kept_call::put_kept;
 pub use pen::Pen;

@@ -1,7 +1,7 @@
 -- What is always known of the words and of a seat, and when an act may be made.
-use Rattle.std.specs.Prelude.{◌≡◌, ℕ, ◌+◌, ◌^◌, ◌≤◌, List, [], ◌∷◌, length}
+use Rattle.std.specs.Prelude.{◌≡◌, ◌+◌, ◌^◌, ◌≤◌, List, [], ◌∷◌, length}
 use Rattle.atomic_table.specs.Seated.{TableId}
-use Rattle.mc_words.specs.Places.{all_words, moment, IsWidth}
+use Rattle.mc_words.specs.Places.{all_words, IsWidth}
 use Rattle.mc_words.specs.Shapes.{IsShape}
 use Rattle.mc_theory.specs.Acts.{IsAllowed}
 use Rattle.mc_theory.specs.Lists.{Made}
@@ -28,14 +28,13 @@ abbrev pub view_of : List View → View
 view_of [] = spent_view
 view_of (v ∷ vs) = v
 
--- the writer's seat: its acts are lawful and within the limit, and there is a note beside each. Beside it is the moment
-pub record IsWriter (me : SeatView) (at : ℕ) : Type 0 where
+-- the writer's seat: its acts are lawful and within the limit, and there is a note beside each
+pub record IsWriter (me : SeatView) : Type 0 where
   pub seat : me ≡ (writer_view me.0.layout (acts_of me.0) (tally_of me.0), [])
   pub shape : IsShape me.0.layout.shape
   pub lawful : AreLawful me.0.layout (acts_of me.0)
   pub paired : length (tally_of me.0).notes ≡ length (acts_of me.0)
   pub within : (layout_state me.0.layout (acts_of me.0)).version_steps + close_owed (layout_state me.0.layout (acts_of me.0)).phase ≤ me.0.layout.shape.limit
-  pub moment_is : at ≡ moment (layout_state me.0.layout (acts_of me.0)).words
 
 -- a reader's badge: its front is lawful, and its record is one of that front
 pub record IsReader (views : List View) : Type 0 where

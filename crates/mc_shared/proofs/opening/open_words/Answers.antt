@@ -2,7 +2,7 @@ use Rattle.std.proofs.Common.{[], refl, ap, ◌∙◌}
 use Rattle.mc_shared.specs.Views.{writer_view, tally_for}
 use Rattle.mc_shared.specs.declared.layout.Layout.{Layout}
 use Rattle.mc_shared.specs.Steps.{SeatView}
-use Rattle.mc_shared.proofs.BesideSeat.{new_writer}
+use Rattle.mc_shared.proofs.WriterSeats.{new_writer}
 use Rattle.mc_shared.proofs.opening.open_words.Goals as goal
 
 pub invariant_of-writer : goal.invariant_of-writer
