@@ -11,7 +11,7 @@ use Rattle.mc_theory.proofs.Lists.Fronts.{state_push}
 use Rattle.mc_shared.specs.Records.{Opening, WriterRecord}
 use Rattle.mc_shared.specs.Views.{with_bit}
 use Rattle.mc_writer.specs.WriterCalls.{HasGot, RepliesNow}
-use Rattle.mc_cache.specs.Resting.{KeepsMoment}
+use Rattle.mc_cache.specs.Inside.KeptMoments.{KeepsMoment}
 
 abbrev moment_after : (V : ℕ) → Shape → List Made → ℕ
 moment_after V sh acts = moment (state_of V sh acts).words

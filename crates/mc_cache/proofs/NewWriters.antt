@@ -12,7 +12,7 @@ use Rattle.mc_plan.specs.declared.books.Books.{Books}
 use Rattle.mc_shared.specs.Records.{Opening, WriterRecord, writer_record}
 use Rattle.mc_shared.specs.Views.{layout_of}
 use Rattle.mc_writer.specs.WriterCalls.{IsRested}
-use Rattle.mc_cache.specs.Resting.{KeepsMoment}
+use Rattle.mc_cache.specs.Inside.KeptMoments.{KeepsMoment}
 
 pub rested_new : (V : ℕ) (sh : Shape) (books : Books) (seat : WriterRecord) (o : Opening) → seat ≡ writer_record o [] [] → o.layout ≡ layout_of V sh → shape_of books.checked ≡ sh → AreBooksOf V books (opening V sh) → IsRested V books seat
 rested_new V sh books seat o e lay shape known = record {

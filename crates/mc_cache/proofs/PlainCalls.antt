@@ -37,7 +37,8 @@ use Rattle.mc_words.specs.Checks.{shape_of}
 use Rattle.mc_theory.specs.Phases.{Quiet as QuietPhase}
 use Rattle.mc_theory.proofs.Replies.TrueReplies.{agrees_always}
 use Rattle.mc_shared.specs.SeatFacts.{IsRun}
-use Rattle.mc_cache.specs.Resting.{IsAtRest, KeepsMoment}
+use Rattle.mc_cache.specs.Inside.KeptMoments.{KeepsMoment}
+use Rattle.mc_cache.specs.Resting.{IsAtRest}
 use Rattle.mc_search.specs.Entries.{AreEntriesOf}
 use Rattle.mc_plan.specs.declared.books.Books.{Books}
 use Rattle.mc_words.specs.Places.{moment}

@@ -1,14 +1,9 @@
 -- What is always known of a writer that a caller has in hand: no call of it runs.
 use Rattle.std.specs.Prelude.{ℕ, ◌≡◌, None}
-use Rattle.mc_words.specs.Places.{moment}
 use Rattle.mc_words.specs.Standing.{Agrees}
 use Rattle.mc_theory.specs.Lists.{state_of}
 use Rattle.mc_theory.specs.Phases.{Quiet}
 use Rattle.mc_shared.specs.Records.{WriterRecord}
-
--- the moment that the writer keeps is that of the words after its acts
-abbrev pub KeepsMoment : (V : ℕ) → WriterRecord → ℕ → Type 0
-KeepsMoment V w at = at ≡ moment (state_of V w.of.layout.shape w.acts).words
 
 -- no deed runs, and the words agree with the history for every key
 pub record IsAtRest (V : ℕ) (w : WriterRecord) : Type 0 where

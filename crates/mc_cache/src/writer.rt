@@ -25,7 +25,7 @@ pub struct Writer<const V: usize> {
 }
 
 impl<const V: usize> Model for Writer<V> {
-    ghost use Rattle.mc_cache.specs.Resting.{KeepsMoment};
+    ghost use Rattle.mc_cache.specs.Inside.KeptMoments.{KeepsMoment};
     ghost use Rattle.mc_shared.specs.Records.{WriterRecord};
     ghost use Rattle.mc_writer.specs.WriterCalls.{IsRested};
 
