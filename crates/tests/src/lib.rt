@@ -6,6 +6,8 @@
 #[cfg(test)]
 mod clerk;
 #[cfg(test)]
+mod clerk_rows;
+#[cfg(test)]
 mod command_line;
 #[cfg(test)]
 mod drawing;
@@ -15,6 +17,8 @@ mod drawn_events;
 mod drawn_lines;
 #[cfg(test)]
 mod drawn_scripts;
+#[cfg(test)]
+mod driver;
 #[cfg(test)]
 mod finding;
 #[cfg(test)]
