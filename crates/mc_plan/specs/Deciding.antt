@@ -9,7 +9,7 @@ use Rattle.mc_words.specs.Standing.{IsAbsent}
 use Rattle.mc_theory.specs.States.{State}
 use Rattle.mc_plan.specs.WholeCalls.{Call, IsSweepOf, PutCall, PutIfCall, RemoveCall, quiet_of, state_after_sweep}
 use Rattle.mc_plan.specs.Books.{AreBooksOf, IsPlanned, Waits}
-use Rattle.mc_plan.specs.Decisions.{exchange_acts, filling_acts, removal_acts, removal_told, renewal_acts, replacement_acts, storing_acts, storing_told}
+use Rattle.mc_plan.specs.Decisions.{filling_acts, removal_acts, removal_told, renewal_acts, replacement_acts, storing_acts, storing_of, storing_told}
 use Rattle.mc_plan.specs.declared.answer.Answer.TheVariants as answer
 use Rattle.mc_plan.specs.declared.answer.Put.TheVariants as put
 use Rattle.mc_plan.specs.declared.answer.IfError.{IfError}
@@ -17,7 +17,6 @@ use Rattle.mc_plan.specs.declared.answer.PutError.{PutError}
 use Rattle.mc_plan.specs.declared.books.Books.{Books}
 use Rattle.mc_plan.specs.declared.decision.Decision.{Decision}
 use Rattle.mc_plan.specs.declared.decision.Decision.TheVariants as decision
-use Rattle.mc_plan.specs.declared.decision.Exchange.{Exchange}
 use Rattle.mc_plan.specs.declared.decision.Insertion.{Insertion}
 use Rattle.mc_plan.specs.declared.decision.Insertion.TheVariants as insertion
 use Rattle.mc_plan.specs.declared.decision.Nearby.{Nearby}
@@ -25,8 +24,12 @@ use Rattle.mc_plan.specs.declared.decision.Nearby.TheVariants as nearby
 use Rattle.mc_plan.specs.declared.decision.Removal.{Removal}
 use Rattle.mc_plan.specs.declared.decision.Renewal.{Renewal}
 use Rattle.mc_plan.specs.declared.decision.Replacement.{Replacement}
+use Rattle.mc_plan.specs.declared.decision.Storing.{Storing}
+use Rattle.mc_plan.specs.declared.short_storing.Moving.{Moving}
+use Rattle.mc_plan.specs.declared.short_storing.Moving.TheVariants as moving
+use Rattle.mc_plan.specs.declared.short_storing.ShortReplacement.{ShortReplacement}
 use Rattle.mc_plan.specs.declared.waiting.Waiting.{Waiting}
-use Rattle.mc_search.specs.Paths.{direct_path}
+use Rattle.mc_search.specs.Paths.{direct_path, path_of_move}
 use Rattle.mc_search.specs.declared.path.Path.{Path}
 use Rattle.mc_search.specs.Sweeps.{Swept}
 
@@ -64,36 +67,43 @@ IsInserted V books k v s path insertion.Wait = Waits V books k s path
 
 -- the same, as far as the key's two buckets tell
 abbrev pub IsNear : (V : ℕ) → Books → ℕ → List ℕ → State V → ℕ → Nearby → Type 0
-IsNear V books k v s at (nearby.Fill item place) =
+IsNear V books k v s at (nearby.Fill place item) =
     (item < (shape_of books.checked).items) × IsPlanned V books (filling_acts (shape_of books.checked) k v at item place) (PutCall k v) s s (answer.Put (Ok (put.Stored at 0 None)))
 IsNear V books k v s at (nearby.Wait hole) = Waits V books k s (direct_path hole)
 IsNear V books k v s at nearby.Far = IsCrowdedOut V books k s at
 
--- the sweep of a put has these readings, and the item that it found is taken from its key
-pub record IsReplaced (V : ℕ) (books : Books) (waiting : Waiting V) (call : Call) (s : State V) (rs : List Swept) (r : Replacement) : Type 0 where
-  pub in_items : books.decided.item < (shape_of books.checked).items
-  pub parts : HasParts (shape_of books.checked) r.evicted r.parts
-  pub planned : IsPlanned V books (replacement_acts (shape_of books.checked) waiting.key waiting.value r books.decided) call s (state_after_sweep V (shape_of books.checked) s rs) (answer.Put (Ok (storing_told books.decided (Some r.evicted))))
-  pub sweeps : IsSweepOf V (shape_of books.checked) s rs (answer.Put (Ok (storing_told books.decided (Some r.evicted))))
+-- the same of a key whose two buckets are full, as far as one move tells
+abbrev pub IsMoving : (V : ℕ) → Books → ℕ → List ℕ → State V → ℕ → Moving → Type 0
+IsMoving V books k v s at (moving.Store short) =
+    (short.item < (shape_of books.checked).items) × IsPlanned V books (storing_acts (shape_of books.checked) k v (storing_of short)) (PutCall k v) s s (answer.Put (Ok (storing_told (storing_of short) None)))
+IsMoving V books k v s at (moving.Wait m) = Waits V books k s (path_of_move m)
+IsMoving V books k v s at moving.Far = IsCrowdedOut V books k s at
 
--- the same, where no key moves
-pub record IsExchanged (V : ℕ) (books : Books) (waiting : Waiting V) (call : Call) (s : State V) (rs : List Swept) (x : Exchange) : Type 0 where
-  pub in_items : x.item < (shape_of books.checked).items
-  pub parts : HasParts (shape_of books.checked) x.evicted x.parts
-  pub planned : IsPlanned V books (exchange_acts (shape_of books.checked) waiting.key waiting.value x) call s (state_after_sweep V (shape_of books.checked) s rs) (answer.Put (Ok (put.Stored x.at 0 (Some x.evicted))))
-  pub sweeps : IsSweepOf V (shape_of books.checked) s rs (answer.Put (Ok (put.Stored x.at 0 (Some x.evicted))))
+-- the sweep of a put has these readings, the item that it found is taken from its key, and the put's key is stored so
+pub record IsReplacedBy (V : ℕ) (books : Books) (waiting : Waiting V) (call : Call) (s : State V) (rs : List Swept) (r : Replacement) (storing : Storing) : Type 0 where
+  pub in_items : storing.item < (shape_of books.checked).items
+  pub parts : HasParts (shape_of books.checked) r.evicted r.parts
+  pub planned : IsPlanned V books (replacement_acts (shape_of books.checked) waiting.key waiting.value r storing) call s (state_after_sweep V (shape_of books.checked) s rs) (answer.Put (Ok (storing_told storing (Some r.evicted))))
+  pub sweeps : IsSweepOf V (shape_of books.checked) s rs (answer.Put (Ok (storing_told storing (Some r.evicted))))
+
+-- it is stored as the books say
+abbrev pub IsReplaced : (V : ℕ) → Books → Waiting V → Call → State V → List Swept → Replacement → Type 0
+IsReplaced V books waiting call s rs r = IsReplacedBy V books waiting call s rs r books.decided
+
+-- after these readings the put is refused, and changes nothing of the map
+abbrev pub IsRefusedAfter : (V : ℕ) → Books → Call → State V → List Swept → PutError → Type 0
+IsRefusedAfter V books call s rs why =
+    IsPlanned V books [] call s (state_after_sweep V (shape_of books.checked) s rs) (answer.Put (Err why)) × IsSweepOf V (shape_of books.checked) s rs (answer.Put (Err why))
 
 -- the put is decided once its sweep is over
 abbrev pub IsFinished : (V : ℕ) → Books → Waiting V → Call → State V → List Swept → Result Replacement PutError → Type 0
 IsFinished V books waiting call s rs (Ok r) = IsReplaced V books waiting call s rs r
-IsFinished V books waiting call s rs (Err why) =
-    IsPlanned V books [] call s (state_after_sweep V (shape_of books.checked) s rs) (answer.Put (Err why)) × IsSweepOf V (shape_of books.checked) s rs (answer.Put (Err why))
+IsFinished V books waiting call s rs (Err why) = IsRefusedAfter V books call s rs why
 
--- the same, where no key moves
-abbrev pub IsFinishedNear : (V : ℕ) → Books → Waiting V → Call → State V → List Swept → Result Exchange PutError → Type 0
-IsFinishedNear V books waiting call s rs (Ok x) = IsExchanged V books waiting call s rs x
-IsFinishedNear V books waiting call s rs (Err why) =
-    IsPlanned V books [] call s (state_after_sweep V (shape_of books.checked) s rs) (answer.Put (Err why)) × IsSweepOf V (shape_of books.checked) s rs (answer.Put (Err why))
+-- the same, where at most one key moves
+abbrev pub IsFinishedShort : (V : ℕ) → Books → Waiting V → Call → State V → List Swept → Result ShortReplacement PutError → Type 0
+IsFinishedShort V books waiting call s rs (Ok r) = IsReplacedBy V books waiting call s rs r.replacement (storing_of r.storing)
+IsFinishedShort V books waiting call s rs (Err why) = IsRefusedAfter V books call s rs why
 
 -- a removal in state s is decided
 abbrev pub IsRemovalDecided : (V : ℕ) → Books → ℕ → State V → Removal → Type 0

@@ -1,5 +1,6 @@
 -- What was decided, as the acts that it means and the answer.
 use Rattle.std.specs.Prelude.{ℕ, List, [], ◌∷◌, ◌++◌, length, Option, Result, Ok, Err}
+use Rattle.std.specs.Option.{option_to_list}
 use Rattle.mc_words.specs.declared.place.Place.{Place}
 use Rattle.mc_words.specs.declared.shape.Shape.{Shape}
 use Rattle.mc_theory.specs.declared.act.Act.{Act}
@@ -9,12 +10,12 @@ use Rattle.mc_plan.specs.declared.answer.Put.TheVariants.{Stored}
 use Rattle.mc_plan.specs.declared.answer.Remove.{Remove}
 use Rattle.mc_plan.specs.declared.answer.Remove.TheVariants.{Removed, NotThere}
 use Rattle.mc_plan.specs.declared.answer.Spent.{Spent}
-use Rattle.mc_plan.specs.declared.decision.Exchange.{Exchange}
 use Rattle.mc_plan.specs.declared.decision.Move.{Move}
 use Rattle.mc_plan.specs.declared.decision.Removal.{Removal}
 use Rattle.mc_plan.specs.declared.decision.Removal.TheVariants.{Refuse, TakeOut, Leave}
 use Rattle.mc_plan.specs.declared.decision.Replacement.{Replacement}
 use Rattle.mc_plan.specs.declared.decision.Storing.{Storing}
+use Rattle.mc_plan.specs.declared.short_storing.ShortStoring.{ShortStoring}
 use Rattle.mc_plan.specs.Plans.{evict_acts, fill_acts, move_acts, remove_acts, renew_acts}
 
 -- the acts of these moves, one after the other
@@ -30,6 +31,10 @@ renewal_acts k v at i = renew_acts k v at i ++ Mark i ∷ []
 abbrev pub filling_acts : Shape → ℕ → List ℕ → ℕ → ℕ → Place → List Act
 filling_acts sh k v at i p = fill_acts sh k v at i p ++ Mark i ∷ []
 
+-- a storing of at most one move, as one of a list of moves
+abbrev pub storing_of : ShortStoring → Storing
+storing_of short = record { item = short.item; place = short.place; moves = record { items = option_to_list short.moved }; at = short.at }
+
 -- the moves make room, and the key goes to the item and the place, which is marked
 abbrev pub storing_acts : Shape → ℕ → List ℕ → Storing → List Act
 storing_acts sh k v storing = acts_of_moves storing.moves.items ++ filling_acts sh k v storing.at storing.item storing.place
@@ -37,10 +42,6 @@ storing_acts sh k v storing = acts_of_moves storing.moves.items ++ filling_acts 
 -- and before that another key is taken out
 abbrev pub replacement_acts : Shape → ℕ → List ℕ → Replacement → Storing → List Act
 replacement_acts sh k v r storing = evict_acts r.evicted r.victim ++ storing_acts sh k v storing
-
--- another key is taken out, and the key goes to its item and to a place, which is marked
-abbrev pub exchange_acts : Shape → ℕ → List ℕ → Exchange → List Act
-exchange_acts sh k v x = evict_acts x.evicted x.victim ++ filling_acts sh k v x.at x.item x.place
 
 -- the key is taken out, where there is something to do
 abbrev pub removal_acts : ℕ → Removal → List Act

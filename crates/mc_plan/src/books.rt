@@ -11,6 +11,7 @@ ghost use Rattle.mc_search.specs.Paths.{IsLeastPath, first_place};
 ghost use Rattle.mc_search.specs.Readable.{IsFilled};
 
 mod finishing;
+mod short;
 
 use crate::answer::{IfError, PutError, Spent};
 use crate::decision::{Decision, Insertion, Nearby, Removal, Renewal, Storing};
@@ -224,7 +225,7 @@ impl Books {
             return Nearby::Wait(hole);
         };
         self.version_steps += 2;
-        Nearby::Fill { item, place: hole }
+        Nearby::Fill { place: hole, item }
     }
 
     /// Decides the put of a key that is not there, by the path that was found for it.

@@ -36,7 +36,7 @@ pub struct Renewal {
 #[derive(Clone, Copy)]
 pub enum Nearby {
     /// It fills a hole of one of the two.
-    Fill { item: u32, place: Place },
+    Fill { place: Place, item: u32 },
     /// This is a hole, and every item is in use: the hand looks for one.
     Wait(Place),
     /// Both are full: `Books::insert_far` decides.
@@ -71,18 +71,6 @@ pub struct Replacement {
     /// The parts of that key.
     pub parts: KeyParts,
     pub victim: Place,
-}
-
-/// A put that takes the item of another key, and for which a hole is at hand: the other key is taken out, and no key moves.
-#[derive(Clone, Copy)]
-pub struct Exchange {
-    pub evicted: u64,
-    /// The parts of that key.
-    pub parts: KeyParts,
-    pub victim: Place,
-    pub item: u32,
-    pub place: Place,
-    pub at: u64,
 }
 
 /// What a removal does.

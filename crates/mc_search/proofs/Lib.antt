@@ -1,6 +1,7 @@
 pub mod KeySlots
 pub mod QueueEntries
 pub mod Levels
+pub mod SingleMoves
 pub mod Shortest
 pub mod Trace
 pub mod SweepReadings

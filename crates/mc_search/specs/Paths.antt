@@ -3,6 +3,9 @@ use Rattle.std.specs.Prelude.{ℕ, ◌≡◌, ◌≤◌, ◌⊎◌, [], ◌∷�
 use Rattle.mc_words.specs.declared.place.Place.{Place}
 use Rattle.mc_words.specs.declared.shape.Shape.{Shape}
 use Rattle.mc_words.specs.Chains.{IsChain}
+use Rattle.mc_search.specs.declared.one_move.OneMove.{OneMove}
+use Rattle.mc_search.specs.declared.room.Room.{Room}
+use Rattle.mc_search.specs.declared.room.Room.TheVariants as room
 use Rattle.mc_search.specs.declared.path.Path.{Path}
 
 -- a chain from the key, within the depth of the shape, and none is shorter
@@ -25,3 +28,12 @@ IsCut victim places hole kept end =
 abbrev pub first_place : List Place → Place → Place
 first_place [] hole = hole
 first_place (p ∷ ps) hole = p
+
+-- the path of one place
+abbrev pub path_of_move : OneMove → Path
+path_of_move m = record { places = record { items = m.from ∷ [] }; hole = m.hole }
+
+-- and that of the room which a key finds with at most one move
+abbrev pub path_of_room : Room → Path
+path_of_room (room.Hole hole) = direct_path hole
+path_of_room (room.Move m) = path_of_move m

@@ -8,8 +8,10 @@ ghost use Rattle.mc_search.specs.Readable.{HasSlots, IsFilled};
 ghost use Rattle.mc_search.specs.Inside.Readable.{IsFull, IsHoleIn};
 
 use crate::bucket::hole_in;
+use crate::one_move::first_move;
 use crate::path::Path;
 use crate::queue::{Entry, clean, start};
+use crate::room::Room;
 use crate::search::{search, trace};
 use mc_theory::Peek;
 use mc_words::{Checked, KeyParts, NoMemory, Place};
@@ -92,12 +94,15 @@ impl Finder {
         hole_in_either(&checked, peek, parts.first, parts.second)
     }
 
-    /// Finds a shortest path for a key whose two buckets are full: whether there is one within the depth of the shape. It is written
-    /// where the caller keeps it, as it is large.
-    ///
-    /// Of several it is the first of a search breadth first, which looks at a bucket's slots in order.
-    /// Condition: as for `path`; `near` finds no hole, and the parts are the key's.
-    pub fn far<P: Peek>(&mut self, peek: &mut P, key: u64, parts: KeyParts, path: &mut Path) -> bool
+    // Finds one by the queue.
+    #[inline(never)]
+    fn search_path<P: Peek>(
+        &mut self,
+        peek: &mut P,
+        key: u64,
+        parts: KeyParts,
+        path: &mut Path,
+    ) -> bool
         requires words { HasSlots self.old (P.words peek.old) }
         requires filled { IsFilled self.old (P.words peek.old) }
         requires parts { HasParts self.old key parts }
@@ -120,6 +125,31 @@ impl Finder {
         path.hole = hole;
         clean(&mut self.queue, &mut self.seen);
         true
+    }
+
+    /// Finds a shortest path for a key whose two buckets are full: whether there is one within the depth of the shape. It is written
+    /// where the caller keeps it, as it is large.
+    ///
+    /// Of several it is the first of a search breadth first, which looks at a bucket's slots in order. A path of one place, which
+    /// most are, is found without the queue.
+    /// Condition: as for `path`; `near` finds no hole, and the parts are the key's.
+    pub fn far<P: Peek>(&mut self, peek: &mut P, key: u64, parts: KeyParts, path: &mut Path) -> bool
+        requires words { HasSlots self.old (P.words peek.old) }
+        requires filled { IsFilled self.old (P.words peek.old) }
+        requires parts { HasParts self.old key parts }
+        requires full { NoChain self.old (P.words peek.old) key 0 }
+        ensures found { IsTrue result → IsLeastPath self.old (P.words peek.old) key path.new }
+        ensures none { result ≡ false → NoChain self.old (P.words peek.old) key self.old.depth }
+        ensures finder { self.new ≡ self.old }
+        ensures words { P.words peek.new ≡ P.words peek.old }
+        ensures kept { peek.new ≡ peek.old }
+    {
+        let checked = self.checked;
+        if let Some(one) = first_move(&checked, peek, key, parts) {
+            *path = Path::of_room(Room::Move(one));
+            return true;
+        }
+        self.search_path(peek, key, parts, path)
     }
 
     /// A shortest path for the key, if there is one within the depth of the shape.

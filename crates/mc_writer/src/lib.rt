@@ -18,6 +18,7 @@ mod kept_call;
 mod pen;
 mod put_call;
 mod remove_call;
+mod short_puts;
 mod sweep;
 
 pub use get_call::{get, look, moment};

@@ -2,20 +2,19 @@
 ghost use Rattle.std.specs.Prelude.{◌≡◌, ◌<◌};
 ghost use Rattle.mc_words.specs.Places.{IsWidth};
 ghost use Rattle.mc_plan.specs.Deciding.{IsCrowdedOut, IsDecided, IsInserted, IsLackingKey, IsNear};
-ghost use Rattle.mc_plan.specs.Decisions.{exchange_acts, filling_acts, renewal_acts, replacement_acts, storing_acts};
+ghost use Rattle.mc_plan.specs.Decisions.{filling_acts, renewal_acts, replacement_acts, storing_acts};
 ghost use Rattle.mc_plan.specs.Books.{Waits};
 ghost use Rattle.mc_plan.specs.WholeCalls.{PutCall};
 ghost use Rattle.mc_plan.specs.declared.answer.Answer.TheVariants as answer;
-ghost use Rattle.mc_search.specs.Paths.{direct_path};
 ghost use Rattle.mc_shared.specs.Views.{layout_of};
 ghost use Rattle.mc_words.specs.Checks.{shape_of};
 ghost use Rattle.mc_words.specs.KeyParts.{HasParts};
 ghost use Rattle.mc_writer.specs.WriterCalls.{HasCalled, IsRested};
 
 use crate::pen::Pen;
+use crate::short_puts::put_crowded;
 use mc_plan::{
-    Books, Decision, Exchange, Insertion, Nearby, Path, Put, PutError, Replacement, Storing,
-    Waiting,
+    Books, Decision, Insertion, Nearby, Path, Put, PutError, Replacement, Room, Storing, Waiting,
 };
 use mc_shared::{Cells, WriterSeat};
 use mc_theory::Deed;
@@ -125,7 +124,7 @@ impl<'a, const V: usize> Pen<'a, V> {
 
     /// Makes the fill, and the mark of its item.
     #[inline(always)]
-    fn make_filling(
+    pub(crate) fn make_filling(
         &mut self,
         key: u64,
         parts: KeyParts,
@@ -142,32 +141,6 @@ impl<'a, const V: usize> Pen<'a, V> {
     {
         self.fill(key, parts, value, at, item, place);
         self.set_mark(item);
-    }
-
-    /// Takes another key out, and makes the fill and the mark of a put in its place.
-    #[inline(always)]
-    fn make_exchange(&mut self, key: u64, parts: KeyParts, value: &[u64; V], exchange: Exchange)
-        requires width { IsWidth V }
-        requires item { exchange.item < self.old.cells.now.layout.shape.items }
-        requires due { IsDue V (exchange_acts self.old.cells.now.layout.shape key value.now exchange) self.old }
-        requires parts { HasParts self.old.cells.now.layout.shape key parts }
-        requires evicted { HasParts self.old.cells.now.layout.shape exchange.evicted exchange.parts }
-        ensures made { HasMade V (exchange_acts self.old.cells.now.layout.shape key value.now exchange) self.old self.new }
-    {
-        self.take_out(
-            exchange.evicted,
-            exchange.parts,
-            Deed::Evict,
-            exchange.victim,
-        );
-        self.make_filling(
-            key,
-            parts,
-            value,
-            exchange.at,
-            exchange.item,
-            exchange.place,
-        );
     }
 
     /// Makes the moves and the fill, and the mark of its item.
@@ -248,41 +221,9 @@ impl<'a, const V: usize> Pen<'a, V> {
         }
     }
 
-    /// Puts a key for which a hole is at hand, but no item.
-    #[inline(always)]
-    fn put_evicting(
-        &mut self,
-        books: &mut Books,
-        key: u64,
-        parts: KeyParts,
-        value: &[u64; V],
-        hole: Place,
-    ) -> Result<Put, PutError>
-        requires layout { self.old.cells.now.layout ≡ layout_of V (shape_of books.old.checked) }
-        requires parts { HasParts self.old.cells.now.layout.shape key parts }
-        requires waits { Waits V books.old key (state_at V self.old) (direct_path hole) }
-        ensures same { IsSamePen V self.old self.new }
-        ensures called { HasCalled V self.old.cells.now.layout.shape (PutCall key value.now) self.old.seat.now self.new.seat.now (answer.Put result) }
-        ensures rested { IsRested V books.new self.new.seat.now }
-    {
-        let mut waiting = Waiting::new(books, key, *value, Path::direct(hole));
-        self.turn_round(books, &mut waiting);
-        match self.finish_near(books, &waiting) {
-            Ok(exchange) => {
-                self.make_exchange(key, parts, value, exchange);
-                Ok(Put::Stored {
-                    at: exchange.at,
-                    moves: 0,
-                    evicted: Some(exchange.evicted),
-                })
-            }
-            Err(why) => Err(why),
-        }
-    }
-
-    /// Puts a key whose two buckets are full.
+    /// Puts a key whose two buckets are full, by a path of moves.
     #[inline(never)]
-    fn put_far(
+    pub(crate) fn put_far(
         &mut self,
         books: &mut Books,
         key: u64,
@@ -295,7 +236,6 @@ impl<'a, const V: usize> Pen<'a, V> {
         ensures called { HasCalled V self.old.cells.now.layout.shape (PutCall key value.now) self.old.seat.now self.new.seat.now (answer.Put result) }
         ensures rested { IsRested V books.new self.new.seat.now }
     {
-        // The parts once more: to hand them on would keep the puts that don't come here from keeping other things in registers.
         let parts = self.cells.parts(key);
         let mut path = Path::direct(Place::default());
         match self.decide_far(books, key, parts, &mut path, value, at) {
@@ -327,7 +267,7 @@ impl<'a, const V: usize> Pen<'a, V> {
         ensures rested { IsRested V books.new self.new.seat.now }
     {
         match self.decide_near(books, key, parts, value, at) {
-            Nearby::Fill { item, place } => {
+            Nearby::Fill { place, item } => {
                 self.make_filling(key, parts, value, at, item, place);
                 Ok(Put::Stored {
                     at,
@@ -335,8 +275,8 @@ impl<'a, const V: usize> Pen<'a, V> {
                     evicted: None,
                 })
             }
-            Nearby::Wait(hole) => self.put_evicting(books, key, parts, value, hole),
-            Nearby::Far => self.put_far(books, key, value, at),
+            Nearby::Wait(hole) => self.put_short(books, key, parts, value, Room::Hole(hole)),
+            Nearby::Far => put_crowded(self.cells, self.seat, books, key, value, at),
         }
     }
 

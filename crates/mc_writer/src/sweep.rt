@@ -1,16 +1,17 @@
 //! The hand's way round the shared words, for a put that waits.
-ghost use Rattle.std.specs.Prelude.{◌≡◌, ◌^◌, ◌<◌, [], List, Some};
+ghost use Rattle.std.specs.Prelude.{◌≡◌, ◌^◌, ◌<◌, List, Some};
 ghost use Rattle.mc_words.specs.Checks.{shape_of};
 ghost use Rattle.mc_words.specs.Places.{word_count};
 ghost use Rattle.mc_theory.specs.States.{State};
+ghost use Rattle.mc_search.specs.Paths.{path_of_room};
 ghost use Rattle.mc_search.specs.Sweeps.{Swept, IsOver, next_item};
 ghost use Rattle.mc_plan.specs.WholeCalls.{Call};
 ghost use Rattle.mc_plan.specs.Books.{IsSweeping};
-ghost use Rattle.mc_plan.specs.Deciding.{IsFinished, IsFinishedNear};
+ghost use Rattle.mc_plan.specs.Deciding.{IsFinished, IsFinishedShort};
 ghost use Rattle.mc_shared.specs.Records.{WriterRecord};
 
 use crate::pen::Pen;
-use mc_plan::{Books, Exchange, PutError, Replacement, Waiting};
+use mc_plan::{Books, PutError, Replacement, Room, ShortReplacement, Waiting};
 use mc_shared::turn_hand_unless_clear;
 
 impl<'a, const V: usize> Pen<'a, V> {
@@ -34,22 +35,23 @@ impl<'a, const V: usize> Pen<'a, V> {
         books.finish::<V, Pen<V>>(self, waiting)
     }
 
-    /// The same, of a put for which no key moves.
+    /// The same, of a put for which at most one key moves.
     #[inline(always)]
-    pub(crate) fn finish_near(
+    pub(crate) fn finish_short(
         &mut self,
         books: &mut Books,
         waiting: &Waiting<V>,
-    ) -> Result<Exchange, PutError>
+        room: Room,
+    ) -> Result<ShortReplacement, PutError>
         requires over { (call : Call) × (s : State V) × (rs : List Swept) × IsSwept V books.old waiting.now call s rs self.old }
-        requires near { waiting.now.path.places.items ≡ [] }
+        requires path { waiting.now.path ≡ path_of_room room }
         ensures pen { self.new ≡ self.old }
         ensures finished { (call : Call) (s : State V) (rs : List Swept) →
             IsSwept V books.old waiting.now call s rs self.old →
-            IsFinishedNear V books.new waiting.now call s rs result }
+            IsFinishedShort V books.new waiting.now call s rs result }
         ensures shape { books.new.checked ≡ books.old.checked }
     {
-        books.finish_near::<V, Pen<V>>(self, waiting)
+        books.finish_short::<V, Pen<V>>(self, waiting, room)
     }
 
     /// Reads one bit, while one is to be read. The recency words begin at this place.

@@ -1,6 +1,10 @@
 -- What only private contracts say beside `Clerks`.
 use Rattle.std.specs.Prelude.{ℕ, ◌≡◌, List, [], Some, Result, Ok, Err}
 use Rattle.mc_words.specs.Checks.{shape_of}
+use Rattle.mc_words.specs.History.{IsWord}
+use Rattle.mc_words.specs.KeyParts.{HasParts}
+use Rattle.mc_words.specs.Places.{IsPlace, slot_number}
+use Rattle.mc_words.specs.Standing.{Stands}
 use Rattle.mc_theory.specs.States.{State}
 use Rattle.mc_theory.specs.declared.act.Act.{Act}
 use Rattle.mc_plan.specs.declared.answer.Answer.TheVariants as answer
@@ -12,6 +16,7 @@ use Rattle.mc_plan.specs.Calls.{why_of}
 use Rattle.mc_plan.specs.declared.clerk.Clerk.{Clerk}
 use Rattle.mc_plan.specs.declared.clerk.Stage.{Stage}
 use Rattle.mc_plan.specs.declared.clerk.Stage.TheVariants.{Sweeping}
+use Rattle.mc_plan.specs.declared.decision.Replacement.{Replacement}
 use Rattle.mc_plan.specs.declared.waiting.Start.{Start}
 use Rattle.mc_plan.specs.declared.waiting.Start.TheVariants as start
 use Rattle.mc_plan.specs.declared.waiting.Waiting.{Waiting}
@@ -37,6 +42,13 @@ pub record IsReplacing (V : ℕ) (books : Books) (waiting : Waiting V) (call : C
   pub sweeping : IsSweeping V (record books { hand = before }) waiting call s rs
   pub found : victim_of rs ≡ Some item
   pub stands : books.hand ≡ waiting.sweep.hand
+
+-- the key stands at the item, in this slot, and has these parts
+pub record IsVictim (V : ℕ) (books : Books) (s : State V) (item : ℕ) (r : Replacement) : Type 0 where
+  pub word : IsWord r.evicted
+  pub parts : HasParts (shape_of books.checked) r.evicted r.parts
+  pub place : IsPlace (shape_of books.checked) r.victim
+  pub stands : Stands V (shape_of books.checked) s.words r.evicted (slot_number r.victim) item
 
 -- the sweep of the call is over, and the rest of it is to be planned
 abbrev pub IsAtEnd : (V : ℕ) → Stage V → Books → List Act → ℕ → Call → State V → List Swept → Type 0

@@ -5,7 +5,7 @@ ghost use Rattle.mc_theory.specs.States.{State};
 
 use crate::answer::PutError;
 use crate::books::Books;
-use crate::decision::{Exchange, Replacement};
+use crate::decision::Replacement;
 use crate::value::have_words;
 use crate::waiting::Waiting;
 use mc_search::{key_at, moment, place_of};
@@ -14,9 +14,36 @@ use mc_theory::Peek;
 impl Books {
     ghost use Rattle.mc_plan.specs.WholeCalls.{Call};
     ghost use Rattle.mc_plan.specs.Books.{IsSweeping};
-    ghost use Rattle.mc_plan.specs.Deciding.{IsExchanged, IsFinished, IsFinishedNear, IsReplaced};
-    ghost use Rattle.mc_plan.specs.Inside.Clerks.{IsReplacing};
+    ghost use Rattle.mc_plan.specs.Deciding.{IsFinished, IsReplaced};
+    ghost use Rattle.mc_plan.specs.Inside.Clerks.{IsReplacing, IsVictim};
     ghost use Rattle.mc_search.specs.Sweeps.{IsOver, Swept};
+
+    /// The key at the item, which is taken out: its parts, and the slot in which it stands.
+    #[inline(always)]
+    pub(crate) fn victim<const V: usize, P: Peek>(
+        &self,
+        peek: &mut P,
+        waiting: &Waiting<V>,
+        item: u32,
+    ) -> Replacement
+        requires books { (call : Call) × (s : State V) × (rs : List Swept) × IsReplacing V self.now waiting.now call s rs item × (P.words peek.old ≡ s.words) }
+        ensures victim { (call : Call) (s : State V) (rs : List Swept) →
+            IsReplacing V self.now waiting.now call s rs item → P.words peek.old ≡ s.words →
+            IsVictim V self.now s item result }
+        ensures kept { peek.new ≡ peek.old }
+    {
+        let _ = waiting;
+        let evicted = key_at::<V, P>(&self.checked, peek, item);
+        let parts = self.checked.parts(evicted);
+        let Some(victim) = place_of::<V, P>(&self.checked, peek, evicted, parts, item) else {
+            unreachable!();
+        };
+        Replacement {
+            evicted,
+            parts,
+            victim,
+        }
+    }
 
     /// Decides how the key at the item is replaced. The path is cut where that key stands.
     #[inline(always)]
@@ -35,19 +62,11 @@ impl Books {
     {
         have_words(&waiting.value);
         let at = moment(&self.checked, peek) + 2;
-        let evicted = key_at::<V, P>(&self.checked, peek, item);
-        let parts = self.checked.parts(evicted);
-        let Some(victim) = place_of::<V, P>(&self.checked, peek, evicted, parts, item) else {
-            unreachable!();
-        };
-        waiting.path.cut_at(victim);
+        let replacement = self.victim::<V, P>(peek, waiting, item);
+        waiting.path.cut_at(replacement.victim);
         self.store::<V, P>(peek, &waiting.path, item, at);
         self.version_steps += 2;
-        Replacement {
-            evicted,
-            parts,
-            victim,
-        }
+        replacement
     }
 
     /// Decides the rest of a put whose sweep is over.
@@ -69,65 +88,6 @@ impl Books {
         self.hand = waiting.sweep.hand();
         match waiting.sweep.victim() {
             Some(item) => Ok(self.replace::<V, P>(peek, waiting, item)),
-            None => Err(PutError::AllRecent),
-        }
-    }
-
-    /// Decides how the key at the item is replaced by one that goes to a hole.
-    #[inline(always)]
-    fn exchange<const V: usize, P: Peek>(
-        &mut self,
-        peek: &mut P,
-        waiting: &Waiting<V>,
-        item: u32,
-    ) -> Exchange
-        requires books { (call : Call) × (s : State V) × (rs : List Swept) × IsReplacing V self.old waiting.now call s rs item × (P.words peek.old ≡ s.words) }
-        requires near { waiting.now.path.places.items ≡ [] }
-        ensures exchanged { (call : Call) (s : State V) (rs : List Swept) →
-            IsReplacing V self.old waiting.now call s rs item → P.words peek.old ≡ s.words →
-            IsExchanged V self.new waiting.now call s rs result }
-        ensures shape { self.new.checked ≡ self.old.checked }
-        ensures kept { peek.new ≡ peek.old }
-    {
-        have_words(&waiting.value);
-        let at = moment(&self.checked, peek) + 2;
-        let evicted = key_at::<V, P>(&self.checked, peek, item);
-        let parts = self.checked.parts(evicted);
-        let Some(victim) = place_of::<V, P>(&self.checked, peek, evicted, parts, item) else {
-            unreachable!();
-        };
-        self.version_steps += 4;
-        Exchange {
-            evicted,
-            parts,
-            victim,
-            item,
-            place: waiting.path.hole,
-            at,
-        }
-    }
-
-    /// Decides the rest of a put whose sweep is over, and for which no key moves.
-    /// Condition: as for `finish`, and the put waits with a path of no places.
-    #[inline(always)]
-    pub fn finish_near<const V: usize, P: Peek>(
-        &mut self,
-        peek: &mut P,
-        waiting: &Waiting<V>,
-    ) -> Result<Exchange, PutError>
-        requires over { (call : Call) × (s : State V) × (rs : List Swept) ×
-            IsSweeping V self.old waiting.now call s rs × IsOver (shape_of self.old.checked).items rs ×
-            (P.words peek.old ≡ s.words) }
-        requires near { waiting.now.path.places.items ≡ [] }
-        ensures finished { (call : Call) (s : State V) (rs : List Swept) → IsSweeping V self.old waiting.now call s rs →
-            IsOver (shape_of self.old.checked).items rs → P.words peek.old ≡ s.words →
-            IsFinishedNear V self.new waiting.now call s rs result }
-        ensures shape { self.new.checked ≡ self.old.checked }
-        ensures kept { peek.new ≡ peek.old }
-    {
-        self.hand = waiting.sweep.hand();
-        match waiting.sweep.victim() {
-            Some(item) => Ok(self.exchange::<V, P>(peek, waiting, item)),
             None => Err(PutError::AllRecent),
         }
     }

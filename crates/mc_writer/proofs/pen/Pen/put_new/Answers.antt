@@ -30,8 +30,8 @@ decide_near-requires g c =
     let parts = subst (λ (x : Shape). HasParts x c.args.key c.args.parts) (ap (λ (l : Layout). l.shape) c.requires.layout) c.requires.parts in
     search (rules, parts)
 
-pub put_evicting-requires : goal.put_evicting-requires
-put_evicting-requires g c =
+pub put_short-requires : goal.put_short-requires
+put_short-requires g c =
     let parts = subst (λ (x : Pen g.row.V). HasParts x.cells.now.layout.shape c.args.key c.args.parts) (sym c.decide_near.ensures.pen) c.requires.parts in
     search (rules, parts)
 
