@@ -43,6 +43,7 @@ fn touch_moves<const V: usize, P: Peek>(checked: &Checked, peek: &mut P, bucket:
 }
 
 /// The first key of a full bucket that can move to a hole in its other bucket.
+#[inline(always)]
 fn move_from<P: Peek>(checked: &Checked, peek: &mut P, bucket: u32) -> Option<OneMove>
     requires words { HasSlots (shape_of checked.now) (P.words peek.old) }
     requires filled { IsFilled (shape_of checked.now) (P.words peek.old) }

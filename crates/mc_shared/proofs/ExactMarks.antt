@@ -5,7 +5,8 @@ use Rattle.std.proofs.lemmas.List.{length-replicate}
 use Rattle.std.proofs.lemmas.Nat.Bits.{bit_at-zero}
 use Rattle.mc_words.specs.Places.{all_words, recency_place}
 use Rattle.mc_theory.proofs.Invariant.EachState.{zeros}
-use Rattle.mc_shared.proofs.EachStep.{begins, splits_new, got_below}
+use Rattle.mc_shared.proofs.EachStep.{begins, got_below}
+use Rattle.mc_shared.proofs.CutSeats.{splits_new}
 use mathlib.Core.Logic.{dite}
 use mathlib.Core.Option.{some}
 use native.Mathlib.Decide.{ℕ_discrete}

@@ -2,7 +2,8 @@ use Rattle.std.proofs.Common.{◌≡◌, ap, sym, ◌∙◌, subst, arith}
 use Rattle.mc_shared.specs.Views.{Both, view_as, acts_of, tally_of, number_of, front_of, done_of}
 use Rattle.mc_shared.specs.Steps.{SeatView}
 use Rattle.mc_shared.specs.Records.{Opening}
-use Rattle.mc_shared.proofs.EachStep.{joins_as, compares_as, splits_back_as}
+use Rattle.mc_shared.proofs.CutSeats.{joins_as, splits_back_as}
+use Rattle.mc_shared.proofs.EachStep.{compares_as}
 use Rattle.mc_shared.proofs.SeatViews.{met_is}
 use Rattle.mc_shared.proofs.catch_up.catch_on_seats.Goals as goal
 

@@ -1,7 +1,7 @@
 use Rattle.std.proofs.Common.{ap, sym, ◌∙◌, arith}
 use Rattle.mc_shared.specs.Steps.{SeatView}
 use Rattle.mc_shared.specs.Records.{Opening}
-use Rattle.mc_shared.proofs.EachStep.{splits_new_as}
+use Rattle.mc_shared.proofs.CutSeats.{splits_new_as}
 use Rattle.mc_shared.proofs.SeatViews.{new_reader}
 use Rattle.mc_shared.proofs.opening.seat_reader.Goals as goal
 
