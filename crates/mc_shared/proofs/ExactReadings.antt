@@ -26,7 +26,7 @@ use Rattle.mc_shared.specs.TableRule.{word_after, seats_of, IsRecord, FitsRole, 
 use Rattle.mc_shared.proofs.ReaderRecords.{record_longer}
 use Rattle.mc_shared.proofs.ExactSteps.{entry_is, seat_counts}
 use Rattle.mc_shared.proofs.Coherence.{total_set}
-use Rattle.mc_shared.proofs.ExactMarks.{Stands}
+use Rattle.mc_shared.proofs.FirstTable.{Stands}
 use Rattle.mc_shared.proofs.EachStep.{got_below}
 
 -- the last front is no later than the end
@@ -100,7 +100,7 @@ module _ (l : Layout) (s t : table.State (Unit {0}) View) (acts : List Made) (e 
   pub log_after : h.after.log ≡ acts
   log_after = sym knows.0 ∙ (knew.0 ∙ h.made)
 
-  tally_after : h.after.tally ≡ h.before.tally
+  pub tally_after : h.after.tally ≡ h.before.tally
   tally_after = sym knows.1 ∙ knew.1
 
   -- what the rule says of the record after the step
@@ -178,7 +178,7 @@ load_stands access.Moment front made is h = h
 load_stands (access.Mark k) front made is h = absurd is
 
 -- so no step enters a reading at an older front, whatever word it tells, once another act was made
-pub no_stale_reading : (l : Layout) (id slots : ℕ) (c : List (ℕ × Unit {0})) (number : ℕ) (old : List Made) (done : List Reading) (n : ℕ) (f : ℕ → ℕ) (told : ℕ → SeatView → Type 0) (s : table.State (Unit {0}) View) → (h : Stands l id slots c number old done 0 s n)
+pub no_stale_reading : (l : Layout) (id slots : ℕ) (c : List (ℕ × Unit {0})) (number : ℕ) (old : List Made) (done : List Reading) (n : ℕ) (f : ℕ → ℕ) (told : ℕ → SeatView → Type 0) (s : table.State (Unit {0}) View) → (h : Stands l id slots c number old done s n)
     → ((me : SeatView) → told (get_or s.words n 0) me → (new : List Made) × (e : Reading) × IsReading e.access × (e.front < length h.acts) × ((number' : ℕ) × (me.0 ≡ reader_view l number' new (done ++ e ∷ []))))
     → Allows (Ruled l) slots id (reader_view l number old done, c) n f told → ⊥
 no_stale_reading l id slots c number old done n f told s h is allows =

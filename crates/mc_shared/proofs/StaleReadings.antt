@@ -25,7 +25,7 @@ use Rattle.mc_shared.proofs.PackedBits.{bit_low, or_spares}
 use Rattle.mc_shared.proofs.WrittenPlaces.{act_names_in}
 use Rattle.mc_shared.proofs.RecencySteps.{spared_past, touch_bits}
 use Rattle.mc_shared.proofs.EachStep.{makes}
-use Rattle.mc_shared.proofs.ExactMarks.{Stands, new_words, new_table, stands_new}
+use Rattle.mc_shared.proofs.FirstTable.{Stands, new_words, new_table, stands_new}
 use Rattle.mc_shared.proofs.ExactReadings.{no_stale_reading}
 use Rattle.mc_shared.specs.ExactFronts.{IsReading}
 
@@ -59,7 +59,7 @@ module _ (l : Layout) (shape : IsShape l.shape) where
   }
 
   -- the writer has marked item 0, and the reader has seen nothing
-  pub stands_acted : (n : ℕ) → n < word_count l.width l.shape → (s : table.State (Unit {0}) View) × (h : Stands l 1 0 [] 0 [] [] 0 s n) × (length h.acts ≡ 1)
+  pub stands_acted : (n : ℕ) → n < word_count l.width l.shape → (s : table.State (Unit {0}) View) × (h : Stands l 1 0 [] 0 [] [] s n) × (length h.acts ≡ 1)
   unfolding new_table new_words
   stands_acted n low =
       let p : ℕ = recency_place l.width l.shape 0 in

@@ -1,10 +1,12 @@
 -- What the rule says of each reading, that it is of the newest words, and what follows for a lookup.
-use Rattle.std.specs.Prelude.{◌≡◌, ℕ, ◌+◌, ◌-◌, ◌^◌, ◌<◌, ◌≤◌, List, [], ◌∷◌, ◌++◌, length, slice_index, slice_set, Some}
+use Rattle.std.specs.Prelude.{◌≡◌, ℕ, ◌+◌, ◌-◌, ◌^◌, ◌<◌, ◌≤◌, ◌==◌, if◌then◌else◌, List, [], ◌∷◌, ◌++◌, length, slice_index, slice_set, Some}
+use Rattle.std.specs.Int.{bit_at}
 use mathlib.Core.Option.{some}
 use lib.ListN.{get_elem?}
 use Rattle.atomic_table.specs.Table as table
 use Rattle.mc_words.specs.History.{IsTrueAnswer}
 use Rattle.mc_words.specs.Places.{word_count}
+use Rattle.mc_words.specs.Recency.{recency_bit}
 use Rattle.mc_words.specs.Shapes.{IsShape}
 use Rattle.mc_words.specs.declared.history.Reply.{Reply}
 use Rattle.mc_words.specs.declared.shape.Shape.{Shape}
@@ -14,10 +16,11 @@ use Rattle.mc_theory.specs.Plain.{IsBetween}
 use Rattle.mc_theory.specs.Readings.{Reading, IsWordOf}
 use Rattle.mc_theory.specs.Writes.{place_read}
 use Rattle.mc_theory.specs.declared.access.Access.{Access}
+use Rattle.mc_theory.specs.declared.access.Access.TheVariants as access
 use Rattle.mc_shared.specs.ExactFronts.{steps_by, made_by, IsReading, StandsAt, IsExact, InOneOrder}
-use Rattle.mc_shared.specs.TableRule.{IsRecord, Ruled}
+use Rattle.mc_shared.specs.TableRule.{IsRecord, Ruled, bit_in}
 use Rattle.mc_shared.specs.Views.{Note, View, reader_view, front_of, layout_of, layout_state, IsFrontOf}
-use Rattle.mc_shared.specs.Steps.{reading, ReadsWord}
+use Rattle.mc_shared.specs.Steps.{reading, mark_at, ReadsWord, AddsMark, AddsMarkIfSet}
 use Rattle.mc_shared.specs.declared.layout.Layout.{Layout}
 
 -- two states of a table under its rule, one step of a reader apart: of the views only this reader's has changed, and its record
@@ -52,6 +55,28 @@ ReadsAreEntries =
     let found = slice_index s.words place in
     let next = allows s rule fits mine small in
     AddsEntry l s (table.stepped s place found seat held next.0 next.1) rule.log (reading a found (front_of next.0))
+
+-- whatever step enters a mark leaves the bit of its item set and the bits of all other items as they were. So a step that leaves all
+-- words enters one only where the bit is set
+abbrev pub MarksAreExact : Type 0
+MarksAreExact =
+    (l : Layout) (s t : table.State (Unit {0}) View) (acts : List Made) (e : Reading) (i : ℕ) → AddsEntry l s t acts e → e.access ≡ access.Mark i →
+    ((k : ℕ) → k < l.shape.items → bit_in l t.words k ≡ (if i == k then 1 else bit_in l s.words k)) × (t.words ≡ s.words → i < l.shape.items → bit_in l s.words i ≡ 1)
+
+-- a running mark is such a step, as a running read is: the step that writes the bit, whatever it leaves of its word, and the load that
+-- finds the bit set
+pub record MarksAreEntries : Type 0 where
+  pub set : (l : Layout) (s : table.State (Unit {0}) View) (seat slots place number : ℕ) (old : List Made) (done : List Reading) (held : List (ℕ × Unit {0})) (i : ℕ) (st : table.Step (Unit {0})) (leaves : ℕ → ℕ) →
+      (allows : table.Allows (Ruled l) slots seat (reader_view l number old done, held) place leaves (AddsMark i st (reader_view l number old done, held))) →
+      (rule : Ruled l s) (fits : length s.homes ≡ slots) (mine : get_elem? s.views seat ≡ some (reader_view l number old done)) (small : slice_index s.words place < 18446744073709551616) →
+      let next = allows s rule fits mine small in
+      AddsEntry l s (table.stepped s place (leaves (slice_index s.words place)) seat held next.0 next.1) rule.log (mark_at i old)
+  pub seen : (l : Layout) (s : table.State (Unit {0}) View) (seat slots place number : ℕ) (old : List Made) (done : List Reading) (held : List (ℕ × Unit {0})) (i : ℕ) (st : table.Step (Unit {0})) →
+      (allows : table.Allows (Ruled l) slots seat (reader_view l number old done, held) place (λ found. found) (AddsMarkIfSet i st (reader_view l number old done, held))) →
+      (rule : Ruled l s) (fits : length s.homes ≡ slots) (mine : get_elem? s.views seat ≡ some (reader_view l number old done)) (small : slice_index s.words place < 18446744073709551616) →
+      bit_at (slice_index s.words place) (recency_bit i) ≡ 1 →
+      let next = allows s rule fits mine small in
+      AddsEntry l s (table.stepped s place (slice_index s.words place) seat held next.0 next.1) rule.log (mark_at i old)
 
 -- a lookup that a reader made, among all acts and its whole record: its reply is true, at a number of changes that is no lower than
 -- that of the changes made before the lookup's first step, and no higher than that of those made before its last

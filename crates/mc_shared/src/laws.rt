@@ -1,5 +1,5 @@
 //! The laws of the rule and of exact records, one function each. A body does nothing: what it ensures is the law.
-ghost use Rattle.mc_shared.specs.ExactLaws.{ReadingsAreNewest, ReadsAreEntries, LookupsAreInTime, LookupsStandInOrder, MeetingsAgree, IdleActsAreNoted};
+ghost use Rattle.mc_shared.specs.ExactLaws.{ReadingsAreNewest, ReadsAreEntries, MarksAreExact, MarksAreEntries, LookupsAreInTime, LookupsStandInOrder, MeetingsAgree, IdleActsAreNoted};
 
 /// Whatever step enters a reading in a reader's record, it is of the newest words: a reader that does not look breaks the rule.
 pub fn readings_are_newest()
@@ -9,6 +9,16 @@ pub fn readings_are_newest()
 /// A running read is a step that enters a reading, of the word that its load found.
 pub fn reads_are_entries()
     ensures { ReadsAreEntries }
+{}
+
+/// Whatever step enters a mark sets the bit of its item and leaves all other recency bits: a mark that writes nothing has found its bit set.
+pub fn marks_are_exact()
+    ensures { MarksAreExact }
+{}
+
+/// A running mark is a step that enters it: the step that writes the bit, or the load that finds it set.
+pub fn marks_are_entries()
+    ensures { MarksAreEntries }
 {}
 
 /// A lookup among threads has a true reply, at a moment between the instant of its first step and that of its last.

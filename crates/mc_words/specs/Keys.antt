@@ -24,6 +24,10 @@ stripe_of sh k = (mixed_key sh.mix k / 2 ^ 32) % sh.stripes
 unfoldable pub first_of : Shape → ℕ → ℕ
 first_of sh k = mixed_key sh.mix k % sh.buckets
 
+-- the shard of a key, of so many: cut from the byte below the tag, which no table uses
+unfoldable pub shard_of : Mix → ℕ → ℕ → ℕ
+shard_of mix shards k = (mixed_key mix k / 2 ^ 48) % shards
+
 -- how far apart two buckets of one tag are
 unfoldable pub offset_of : Shape → ℕ → ℕ
 offset_of sh tag = ((2 * tag + 1) * 0x5bd1e995) % sh.buckets

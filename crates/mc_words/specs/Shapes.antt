@@ -27,6 +27,10 @@ HasTries sh = (1 ≤ sh.tries) × (sh.tries ≤ 64)
 abbrev pub HasLimit : Shape → Type 0
 HasLimit sh = sh.limit ≤ 2 ^ 62
 
+-- how many shards there may be
+abbrev pub HasShards : ℕ → Type 0
+HasShards n = (1 ≤ n) × (n ≤ 256) × IsPower n
+
 -- each field is in its range
 pub record IsShape (sh : Shape) : Type 0 where
   pub buckets : HasBuckets sh

@@ -27,7 +27,7 @@ pub use checked::Checked;
 pub use history::{Change, Reply};
 pub use item::{item_stride, payload_words};
 pub use key_parts::KeyParts;
-pub use mix::Mix;
+pub use mix::{Mix, can_shard};
 pub use no_memory::NoMemory;
 pub use place::Place;
 pub use readers::MOST_READERS;

@@ -1,6 +1,9 @@
 //! How keys are mixed.
-ghost use Rattle.std.specs.Prelude.{◌≡◌, ◌/◌, ◌^◌};
-ghost use Rattle.mc_words.specs.Keys.{xor_shift, mixed_key};
+ghost use Rattle.std.specs.Prelude.{◌≡◌, ◌<◌, ◌/◌, ◌^◌, ◌↔◌, IsTrue};
+ghost use Rattle.mc_words.specs.Keys.{xor_shift, mixed_key, shard_of};
+ghost use Rattle.mc_words.specs.Shapes.{HasShards};
+
+use crate::shape::is_power;
 
 /// How a key is mixed before it is cut into its parts.
 #[derive(Clone, Copy, Debug, PartialEq, Eq)]
@@ -32,4 +35,23 @@ impl Mix {
             }
         }
     }
+
+    /// The shard of a key. It is taken from the byte below the tag, which no table uses, so the keys of one shard spread over its tags,
+    /// buckets and stripes as all keys do. Condition: the number of shards is a power of two from 1 to 256.
+    #[inline(always)]
+    #[tactic(auto, unfolding(crate::specs::Keys::shard_of))]
+    pub fn shard(self, key: u64, shards: u32) -> u32
+        requires { HasShards shards }
+        ensures shard { result ≡ shard_of self shards key }
+        ensures range { result < shards }
+    {
+        ((self.mix(key) >> 48) & u64::from(shards - 1)) as u32
+    }
+}
+
+/// Whether the number of shards is allowed: a power of two from 1 to 256.
+pub fn can_shard(shards: u32) -> bool
+    ensures { IsTrue result ↔ HasShards shards }
+{
+    shards > 0 && shards <= 256 && is_power(shards)
 }

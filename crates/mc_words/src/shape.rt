@@ -43,7 +43,7 @@ pub enum ShapeError {
 }
 
 /// Whether the number is a power of two.
-fn is_power(n: u32) -> bool
+pub(crate) fn is_power(n: u32) -> bool
     ensures { IsTrue result ↔ IsPower n }
 {
     let zeros = n.trailing_zeros();
