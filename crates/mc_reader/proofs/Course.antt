@@ -33,7 +33,12 @@ use Rattle.mc_theory.specs.Writes.{place_read}
 use Rattle.mc_theory.specs.declared.access.Access.TheVariants as access
 use Rattle.mc_reader.specs.Inside.Course.{IsOnCourse, Leads}
 use Rattle.mc_reader.specs.Inside.Rows.{row_of}
-use Rattle.mc_reader.specs.Records.{HasLooked}
+use Rattle.mc_reader.specs.Records.{HasLooked, EndsAt}
+
+-- a reading more at the front g ends there
+ends_push : (f : ℕ) (rs : List Reading) (r : Reading) → EndsAt f (rs ++ r ∷ []) r.front
+ends_push f [] r = refl
+ends_push f (x ∷ xs) r = ends_push x.front xs r
 
 -- ---- the beginning
 pub sets_out : (V : ℕ) (sh : Shape) (k : ℕ) (before : ReaderRecord) (lookup : Lookup V) → shape_for lookup ≡ sh → ((rs : List Reading) (reply : Reply V) → IsRemainder lookup rs reply ↔ IsLookup V sh k sh.tries rs reply) → steps_left lookup ≡ sh.tries * (19 + payload V) + 1 → IsOnCourse V sh k before before lookup
@@ -44,6 +49,7 @@ sets_out V sh k before lookup shape left steps = record {
   done = sym (append-nil before.done);
   begins = front_self before.front;
   rise = omega arith;
+  last = refl;
   shape = shape;
   left = left;
   steps = omega (arith, steps);
@@ -62,6 +68,7 @@ goes_on V sh k before old new lookup next a word of number begins adds t w =
       done = adds ∙ (ap (λ (z : List Reading). z ++ r ∷ []) w.done ∙ append_assoc before.done w.rs (r ∷ []));
       begins = front_trans before.front old.front new.front w.begins begins;
       rise = (readings_grow V).more (length before.front) (length new.front) w.rs r ((readings_grow V).later (length before.front) (length old.front) (length new.front) w.rs w.rise le) (omega arith);
+      last = ends_push (length before.front) w.rs r;
       shape = ap (λ c. c.shape) t.shape ∙ w.shape;
       left = λ rest reply. (
         (λ x. subst (λ (z : List Reading). IsLookup V sh k sh.tries z reply) (sym (one rest)) ((w.left (r ∷ rest) reply).0 ((t.left r.front rest reply).0 x))),
@@ -95,6 +102,7 @@ ends V sh k before after lookup reply layout recorded over w = record {
   done = w.done;
   begins = w.begins;
   rise = w.rise;
+  last = w.last;
   read = (read_parts V sh after.front before.done w.rs (subst (λ (z : List Reading). AreRead V sh after.front z) w.done (subst (λ l. IsRecord l after.front after.done) layout recorded).read)).1;
   looked = subst (λ (z : List Reading). IsLookup V sh k sh.tries z reply) (append-nil w.rs) ((w.left [] reply).0 (over_left lookup reply over));
   steps = omega (arith, w.steps);

@@ -11,6 +11,11 @@ use Rattle.mc_theory.specs.Readings.{AreRead, Reading, RiseTo}
 use Rattle.mc_shared.specs.Records.{ReaderRecord}
 use Rattle.mc_shared.specs.Views.{IsFrontOf}
 
+-- the last of these fronts, from f on, is g: nothing later was seen
+abbrev pub EndsAt : ℕ → List Reading → ℕ → Type 0
+EndsAt f [] g = g ≡ f
+EndsAt f (r ∷ rs) g = EndsAt r.front rs g
+
 -- the reader keeps its number, and these readings were added, at fronts from the old one on that don't fall, each with the word
 -- of its place at its front; they are a whole lookup of the key, with this reply
 pub record HasLooked (V : ℕ) (sh : Shape) (k : ℕ) (before after : ReaderRecord) (reply : Reply V) : Type 0 where
@@ -21,6 +26,7 @@ pub record HasLooked (V : ℕ) (sh : Shape) (k : ℕ) (before after : ReaderReco
   pub begins : IsFrontOf before.front after.front
   pub rise : RiseTo (length before.front) rs (length after.front)
   pub read : AreRead V sh after.front rs
+  pub last : EndsAt (length before.front) rs (length after.front)
   pub looked : IsLookup V sh k sh.tries rs reply
   pub steps : length rs ≤ sh.tries * (19 + payload V) + 1
 

@@ -10,6 +10,7 @@ use Rattle.mc_lookup.specs.declared.lookup.Lookup.{Lookup}
 use Rattle.mc_lookup.specs.declared.stage.Stage.{Stage}
 use Rattle.mc_lookup.specs.declared.stage.Stage.TheVariants.{Moment, Value}
 use Rattle.mc_shared.specs.Records.{ReaderRecord}
+use Rattle.mc_reader.specs.Records.{EndsAt}
 use Rattle.mc_shared.specs.Views.{IsFrontOf}
 
 -- since the record was `before` these readings were added, and with those that are left of the lookup they make one of the key
@@ -20,6 +21,7 @@ pub record IsOnCourse (V : ℕ) (sh : Shape) (k : ℕ) (before after : ReaderRec
   pub done : after.done ≡ before.done ++ rs
   pub begins : IsFrontOf before.front after.front
   pub rise : RiseTo (length before.front) rs (length after.front)
+  pub last : EndsAt (length before.front) rs (length after.front)
   pub shape : shape_for lookup ≡ sh
   pub left : (rest : List Reading) (reply : Reply V) → IsRemainder lookup rest reply ↔ IsLookup V sh k sh.tries (rs ++ rest) reply
   pub steps : length rs + steps_left lookup ≤ sh.tries * (19 + payload V) + 1
