@@ -4,6 +4,7 @@ use denote.Hole.{as_row}
 use denote.Struct.Field.{u64-field}
 use denote.Param.Send.{IsSync, sendable, view_sync}
 use denote.Param.SendFields.{as_row_sync, declared_sync}
+use Rattle.std.proofs.Crossing.{Box-send, Box-sync}
 use Rattle.counted_slot.proofs.Counted.TheSendSync.{the_sync as counted_sync}
 use Rattle.mc_shared.proofs.Sent.{writer_sync as seat_sync}
 use Rattle.mc_shared.specs.contracts.seats.WriterSeat as seat
@@ -22,4 +23,4 @@ pub writer_sync : (V : RattleType) → IsSync (writer.the_row V)
 writer_sync V = view_sync (writer.TheInside.the_row V) _ _ _ _ (parts_sync V)
 
 pub desk_sync : (V : RattleType) → IsSync (desk.the_row V)
-desk_sync V = search (sendable, counted_sync, writer_sync, writer_send) depth 30
+desk_sync V = search (sendable, counted_sync, writer_sync, writer_send, Box-send, Box-sync) depth 30

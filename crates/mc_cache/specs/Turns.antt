@@ -42,6 +42,20 @@ HasTried V sh call told old new (Ok done) = HasHadTurn V sh call old new (told (
 HasTried V sh call told old new (Err desk.Held) = new ≡ old
 HasTried V sh call told old new (Err (desk.Call why)) = HasHadTurn V sh call old new (told (Err why))
 
+-- whoever lent this reader as a pass has had the turn, and the pass has seen all that the writer had done. It did nothing else
+pub record HasMetAtDesk (V : ℕ) (old new : ReaderRecord) : Type 0 where
+  pub writer : WriterRecord
+  pub of : writer.of ≡ old.of
+  pub stood : IsLaidDown V writer
+  pub seen : IsFrontOf old.front writer.acts
+  pub caught : new ≡ reader_record old.of old.number writer.acts old.done
+
+-- a try for the turn, to list the entries: where it was held, nothing was done with the pass
+abbrev pub HasTriedToList : {T E : Type 0} (V : ℕ) → ReaderRecord → ReaderRecord → Result T (DeskError E) → Type 0
+HasTriedToList V old new (Ok listed) = HasMetAtDesk V old new
+HasTriedToList V old new (Err desk.Held) = new ≡ old
+HasTriedToList V old new (Err (desk.Call why)) = HasMetAtDesk V old new
+
 -- a lookup was busy, and then the key was looked up beside the writer, which lay down and has stayed as it was
 pub record HasFallenBack (V : ℕ) (sh : Shape) (k : ℕ) (old new : ReaderRecord) (reply : Reply V) : Type 0 where
   pub mid : ReaderRecord

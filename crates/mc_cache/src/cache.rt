@@ -2,7 +2,7 @@
 use mc_shared::Cells;
 use std::marker::Model;
 
-/// The words of a cache, which all threads share. Contracts see it as the table that was opened.
+/// The shared memory of a cache. Lend it to every thread. In contracts it is the table that was opened.
 #[derive(Drop)]
 pub struct Cache<const V: usize> {
     pub(crate) cells: Cells<V>,

@@ -1,14 +1,15 @@
 //! The writer, shared by turns that are tried for once.
-ghost use Rattle.std.specs.Prelude.{◌≡◌, IfSome, length};
-ghost use Rattle.mc_cache.specs.Inside.Turned.{turned};
+ghost use Rattle.std.specs.Prelude.{◌≡◌, IfNone, IfOk, IfSome, MatchResult, length};
 ghost use Rattle.mc_cache.specs.Resting.{IsAtRest};
 
 use crate::cache::Cache;
 use crate::reader::Reader;
+use crate::turn::{get_in_turn, list_in_turn, put_if_in_turn, put_in_turn, remove_in_turn};
 use crate::writer::Writer;
 use counted_slot::{Counted, Fits};
 use mc_plan::{IfError, Put, PutError, Remove, Spent};
-use mc_words::Reply;
+use mc_words::{NoMemory, Reply};
+use std::alloc::{AllocFailed, Global};
 use std::marker::Model;
 use std::snapshot::Snapshot;
 
@@ -19,27 +20,33 @@ const AWAY: u64 = 0x1_0000_0000;
 
 const TAKEN: u64 = counted_slot::TAKEN;
 
-/// Why a try for the turn gave nothing.
+/// Why a try for the turn failed.
 #[derive(Clone, Copy, Debug, PartialEq, Eq)]
 pub enum DeskError<E> {
-    /// The try didn't win. Nothing was changed, and the pass has seen and done nothing.
+    /// The try did not win. Nothing was changed, and the pass has seen and done nothing.
     Held,
-    /// It did, and this is what the writer's call refused.
+    /// The try won, and the writer's call returned this error.
     Call(E),
 }
 
-// The tag is the writer as it came.
-impl<const V: usize> Fits for Writer<V> {
-    type Tag = Snapshot<Writer<V>>;
-
-    ghost fits = { λ tag w. (w.of ≡ tag.value.of) × IsAtRest V w };
+// The writer in memory of its own, so that a turn moves a pointer and not the writer.
+#[derive(Drop)]
+struct Boxed<const V: usize> {
+    writer: Box<Writer<V>, Global>,
 }
 
-/// Where the writer of a cache lies between turns. It is lent to all threads, as the cache is. Contracts see it as the table
-/// that was opened.
+// The tag is the writer as it came.
+impl<const V: usize> Fits for Boxed<V> {
+    type Tag = Snapshot<Writer<V>>;
+
+    ghost fits = { λ tag boxed. (boxed.writer.value.of ≡ tag.value.of) × IsAtRest V boxed.writer.value };
+}
+
+/// A try-lock around the writer of a cache, for threads that write by turns. Lend it to every thread, as the cache. In
+/// contracts it is the table that was opened.
 #[derive(Drop)]
 pub struct Desk<const V: usize> {
-    slot: Counted<Option<Writer<V>>>,
+    slot: Counted<Option<Boxed<V>>>,
 }
 
 impl<const V: usize> Model for Desk<V> {
@@ -50,23 +57,10 @@ impl<const V: usize> Model for Desk<V> {
     ghost view = { λ d. d.slot.value.of };
 }
 
-// The answer of a turn, from that of its call.
-fn turned<T, E>(answer: Result<T, E>) -> Result<T, DeskError<E>>
-    ensures { result ≡ turned answer }
-{
-    match answer {
-        Ok(done) => Ok(done),
-        Err(why) => Err(DeskError::Call(why)),
-    }
-}
-
 impl<const V: usize> Desk<V> {
-    ghost use Rattle.mc_cache.specs.Inside.Turned.{HasBegun, HasEnded};
-    ghost use Rattle.mc_cache.specs.Plain.{HasMet, history, seen};
-
-    // Takes the writer, if it is there and the try wins. Where the word says that it is not there, the slot is left alone.
-    fn take(&self) -> Option<Writer<V>>
-        ensures writer { IfSome result (λ w. (w.of ≡ self.now) × IsAtRest V w) }
+    // Takes the writer, if it is there and the try wins. If the word says that it is not there, the slot is left alone.
+    fn take(&self) -> Option<Boxed<V>>
+        ensures writer { IfSome result (λ boxed. (boxed.writer.value.of ≡ self.now) × IsAtRest V boxed.writer.value) }
     {
         if self.slot.load() != HOME {
             return None;
@@ -79,62 +73,40 @@ impl<const V: usize> Desk<V> {
         claim.put(None, AWAY)
     }
 
-    // Lays the writer back. Where the try does not win, it is dropped.
-    fn give(&self, writer: Writer<V>)
-        requires of { writer.of ≡ self.now }
+    // Gives the writer back. If the try does not win, the writer is dropped.
+    fn give(&self, boxed: Boxed<V>)
+        requires of { boxed.writer.value.of ≡ self.now }
+        requires rests { IsAtRest V boxed.writer.value }
     {
-        writer.known();
         let (found, claim) = self.slot.turn(AWAY, AWAY + TAKEN);
         if found == AWAY {
-            let _ = claim.put(Some(writer), HOME);
+            let _ = claim.put(Some(boxed), HOME);
         } else {
             claim.done();
         }
     }
-
-    // Takes the writer, and shows the pass all that it did.
-    fn begin_turn(&self, cache: &Cache<V>, pass: &mut Reader<V>) -> Option<Writer<V>>
-        requires of { (self.now ≡ cache.now) × (pass.old.of ≡ cache.now) }
-        ensures begun { HasBegun V cache.now pass.old pass.new result }
-        ensures plain { IfSome result (λ w. HasMet V (seen V pass.old) (seen V pass.new) (history V w)) }
-    {
-        let mut writer = self.take()?;
-        pass.catch_up(cache, &mut writer);
-        writer.known();
-        Some(writer)
-    }
-
-    // Shows the pass all that the writer did, and lays it back.
-    fn end_turn(&self, cache: &Cache<V>, pass: &mut Reader<V>, mut writer: Writer<V>)
-        requires of { (self.now ≡ cache.now) × (pass.old.of ≡ cache.now) × (writer.of ≡ cache.now) }
-        ensures ended { HasEnded V cache.now.layout.shape pass.old pass.new writer.entry }
-        ensures plain { HasMet V (seen V pass.old) (seen V pass.new) (history V writer.entry) }
-    {
-        pass.catch_up(cache, &mut writer);
-        writer.known();
-        self.give(writer);
-    }
 }
 
 impl<const V: usize> Desk<V> {
-    ghost use Rattle.mc_cache.specs.Plain.{PutIfMeans, PutMeans, RemovalMeans, TurnMeans, seen};
-    ghost use Rattle.mc_cache.specs.Turns.{HasTried};
+    ghost use Rattle.mc_cache.specs.Plain.{AreEntriesOf, Begins, PutIfMeans, PutMeans, RemovalMeans, TurnMeans, seen};
+    ghost use Rattle.mc_cache.specs.Turns.{HasTried, HasTriedToList};
     ghost use Rattle.mc_plan.specs.WholeCalls.{PutCall, PutIfCall, RemoveCall};
     ghost use Rattle.mc_plan.specs.declared.answer.Answer.TheVariants as answer;
 
-    /// A desk with this writer.
-    pub fn new(writer: Writer<V>) -> Desk<V>
-        ensures of { result ≡ writer.entry.of }
+    /// Puts the writer on a new desk. `Err` gives the writer back, if there is no memory for it on the desk.
+    pub fn new(alloc: Global, writer: Writer<V>) -> Result<Desk<V>, AllocFailed<Writer<V>>>
+        ensures of { MatchResult result (λ desk. desk ≡ writer.entry.of) (λ failed. failed.value ≡ writer.entry) }
     {
         writer.known();
         let tag = Snapshot::of(&writer);
-        Desk {
-            slot: Counted::new(Some(writer), &tag),
-        }
+        let writer = Box::new(alloc, writer)?;
+        Ok(Desk {
+            slot: Counted::new(Some(Boxed { writer }), &tag),
+        })
     }
 
-    /// Tries once for the turn, to put as `Writer::put` does. With the turn, the caller's reader, its pass, is caught up
-    /// before the call and after it. Condition: desk and pass are those of this cache.
+    /// Tries once for the turn, and with it calls `Writer::put`. The caller's reader is its pass: with the turn, it catches
+    /// up with the writer before the call and after it. Condition: desk and pass are of this cache.
     pub fn try_put(
         &self,
         cache: &Cache<V>,
@@ -147,15 +119,15 @@ impl<const V: usize> Desk<V> {
         ensures turn { HasTried V cache.now.layout.shape (PutCall key value.entry) answer.Put pass.old pass.new result }
         ensures plain { TurnMeans (λ h h' told. PutMeans V h h' key value.entry told) (seen V pass.old) (seen V pass.new) result }
     {
-        let Some(mut writer) = self.begin_turn(cache, pass) else {
+        let Some(mut boxed) = self.take() else {
             return Err(DeskError::Held);
         };
-        let answer = writer.put(cache, key, value);
-        self.end_turn(cache, pass, writer);
-        turned(answer)
+        let answer = put_in_turn(cache, pass, &mut boxed.writer, key, value);
+        self.give(boxed);
+        answer
     }
 
-    /// Tries once for the turn, to put as `Writer::put_if` does, and else as `try_put`.
+    /// Like `try_put`, with `Writer::put_if`.
     pub fn try_put_if(
         &self,
         cache: &Cache<V>,
@@ -169,15 +141,15 @@ impl<const V: usize> Desk<V> {
         ensures turn { HasTried V cache.now.layout.shape (PutIfCall key since value.entry) answer.PutIf pass.old pass.new result }
         ensures plain { TurnMeans (λ h h' told. PutIfMeans V h h' key since value.entry told) (seen V pass.old) (seen V pass.new) result }
     {
-        let Some(mut writer) = self.begin_turn(cache, pass) else {
+        let Some(mut boxed) = self.take() else {
             return Err(DeskError::Held);
         };
-        let answer = writer.put_if(cache, key, since, value);
-        self.end_turn(cache, pass, writer);
-        turned(answer)
+        let answer = put_if_in_turn(cache, pass, &mut boxed.writer, key, since, value);
+        self.give(boxed);
+        answer
     }
 
-    /// Tries once for the turn, to take a key out as `Writer::remove` does, and else as `try_put`.
+    /// Like `try_put`, with `Writer::remove`.
     pub fn try_remove(
         &self,
         cache: &Cache<V>,
@@ -189,19 +161,42 @@ impl<const V: usize> Desk<V> {
         ensures turn { HasTried V cache.now.layout.shape (RemoveCall key) answer.Remove pass.old pass.new result }
         ensures plain { TurnMeans (λ h h' told. RemovalMeans V h h' key told) (seen V pass.old) (seen V pass.new) result }
     {
-        let Some(mut writer) = self.begin_turn(cache, pass) else {
+        let Some(mut boxed) = self.take() else {
             return Err(DeskError::Held);
         };
-        let answer = writer.remove(cache, key);
-        self.end_turn(cache, pass, writer);
-        turned(answer)
+        let answer = remove_in_turn(cache, pass, &mut boxed.writer, key);
+        self.give(boxed);
+        answer
     }
 
-    /// The writer. `None` where a turn didn't win its try to give it back.
+    /// Tries once for the turn, and with it lists each key with its value, in the order of their items. The pass has then seen all
+    /// changes that led to this list. Condition: desk and pass are of this cache.
+    pub fn try_entries(
+        &self,
+        alloc: Global,
+        cache: &Cache<V>,
+        pass: &mut Reader<V>,
+    ) -> Result<Vec<(u64, [u64; V])>, DeskError<NoMemory>>
+        requires of { (self.now ≡ cache.now) × (pass.old.of ≡ cache.now) }
+        ensures of { pass.new.of ≡ pass.old.of }
+        ensures met { HasTriedToList V pass.old pass.new result }
+        ensures begins { Begins (seen V pass.old) (seen V pass.new) }
+        ensures plain { IfOk result (λ es. AreEntriesOf V (seen V pass.new) es.items) }
+    {
+        let Some(mut boxed) = self.take() else {
+            return Err(DeskError::Held);
+        };
+        let listed = list_in_turn(alloc, cache, pass, &mut boxed.writer);
+        self.give(boxed);
+        listed
+    }
+
+    /// Takes the writer off the desk. `None` if a turn's try to give it back did not win.
     pub fn end(self) -> Option<Writer<V>>
         ensures writer { IfSome result (λ w. (w.of ≡ self.entry) × IsAtRest V w) }
     {
-        self.slot.into_inner()
+        let boxed = self.slot.into_inner()?;
+        Some(Box::into_inner(boxed.writer))
     }
 }
 
@@ -210,10 +205,11 @@ impl<const V: usize> Reader<V> {
     ghost use Rattle.mc_theory.specs.Plain.{IsBetween};
     ghost use Rattle.mc_words.specs.History.{IsTrueAnswer};
     ghost use Rattle.mc_cache.specs.Plain.{HasAnswered, seen};
+    ghost use Rattle.mc_cache.specs.Inside.Turned.{HasLookedInTurn};
     ghost use Rattle.mc_cache.specs.Turns.{HasLookedOrMet};
 
-    /// What the cache holds of the key: `get`, and where that is `Busy`, one try for the turn, with which the key is looked up
-    /// by `get_beside`. `Busy` where the try didn't win either. Condition: reader and desk are those of this cache.
+    /// Looks the key up by `get`. If that is `Busy`, tries once for the turn, and with it looks the key up by `get_beside`.
+    /// `Busy` if the try does not win either. Condition: reader and desk are of this cache.
     pub fn get_or_desk(&mut self, cache: &Cache<V>, desk: &Desk<V>, key: u64) -> Reply<V>
         requires of { (self.old.of ≡ cache.now) × (desk.now ≡ cache.now) }
         ensures of { self.new.of ≡ self.old.of }
@@ -224,12 +220,23 @@ impl<const V: usize> Reader<V> {
         if !matches!(reply, Reply::Busy) {
             return reply;
         }
-        let Some(mut writer) = desk.take() else {
-            return reply;
-        };
-        writer.known();
-        let reply = self.get_beside(cache, &mut writer, key);
-        desk.give(writer);
-        reply
+        match self.get_in_turn(cache, desk, key) {
+            Some(beside) => beside,
+            None => reply,
+        }
+    }
+
+    // One try for the turn, and with it a lookup beside the writer. It stays out of line: a lookup that is not busy should not
+    // pay at entry for what a turn keeps on the stack.
+    #[inline(never)]
+    fn get_in_turn(&mut self, cache: &Cache<V>, desk: &Desk<V>, key: u64) -> Option<Reply<V>>
+        requires of { (self.old.of ≡ cache.now) × (desk.now ≡ cache.now) }
+        ensures none { IfNone result (self.new ≡ self.old) }
+        ensures met { IfSome result (λ reply. HasLookedInTurn V cache.now self.old self.new key reply) }
+    {
+        let mut boxed = desk.take()?;
+        let reply = get_in_turn(cache, self, &mut boxed.writer, key);
+        desk.give(boxed);
+        Some(reply)
     }
 }

@@ -1,7 +1,7 @@
 //! The laws of histories, for proofs of callers. The body does nothing: what it ensures is the law.
 ghost use Rattle.mc_cache.specs.PlainLaws.{HistoryLaws};
 
-/// What a change makes of the map, and how long an answer stays true.
+/// What each change does to the map, and that an answer stays true as the history grows.
 pub fn history_laws<const V: usize>()
     ensures { HistoryLaws V }
 {}

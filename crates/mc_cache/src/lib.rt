@@ -1,18 +1,23 @@
 //! The cache: one writer and many readers in threads, without locks.
 //!
-//! A `Cache` is lent to all threads; its `Writer` and each `Reader` belong to one thread at a time. What the writer's calls
-//! do is said of its record, the list of acts that were made; a reader's answer is true of the history of the front that it
-//! has seen. Where several threads write now and then, the writer lies on a `Desk`, and they take turns. Between `open` and
-//! `Cache::close` no call takes memory, and none waits.
+//! Lend the `Cache` to every thread. Its `Writer` and each `Reader` belong to one thread at a time. If several threads write
+//! now and then, put the writer on a `Desk`, and they take turns. Between `open` and `Cache::close` no call allocates, and
+//! none waits.
+//!
+//! The contracts of the writer's calls speak of its record, the list of its acts. Those of a reader's calls say that each
+//! answer is true of the history that the reader has seen. The clauses `plain` say both in histories alone.
 //!
 //! ```text
-//! let (cache, mut writer, mut readers) = open::<1>(alloc, shape, 2)?;
-//! let (Some(mut one), Some(mut two)) = (readers.pop(), readers.pop()) else {
-//!     return Err(Fail::new("no readers"));
-//! };
-//! writer.put(&cache, 7, [70])?;
-//! let (hit, miss) = join(rt, || one.get(&cache, 7), || two.get(&cache, 8));
-//! let closed = cache.close(alloc, writer, readers);
+//! let shape = Shape::for_items(1000)?;
+//! let (cache, mut writer, mut readers) = open::<1>(rt.alloc(), shape, 2)?;
+//! ```
+//!
+//! With that cache, its writer and two of its readers:
+//!
+//! ```text
+//! writer.put(cache, 7, [70])?;
+//! let (hit, miss) = join_mut(rt, &mut || one.get(cache, 7), &mut || two.get(cache, 8));
+//! println!(rt; "{hit:?}, {miss:?}")?;
 //! ```
 #![tactic(auto)]
 
@@ -20,9 +25,11 @@ mod cache;
 mod closing;
 mod desk;
 pub mod laws;
+mod listing;
 mod loading;
 mod opening;
 mod reader;
+mod turn;
 mod writer;
 
 pub use cache::Cache;
@@ -30,7 +37,7 @@ pub use closing::StillOpen;
 pub use desk::{Desk, DeskError};
 pub use loading::{Opened, open_with};
 pub use mc_plan::{IfError, Put, PutError, Remove, Spent, Why};
-pub use mc_words::{Change, Mix, Reply, Shape, ShapeError};
+pub use mc_words::{Change, Mix, NoMemory, Reply, Shape, ShapeError};
 pub use opening::{OpenError, open};
 pub use reader::Reader;
 pub use writer::Writer;

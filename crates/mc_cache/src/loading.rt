@@ -21,13 +21,13 @@ use mc_plan::Why;
 use mc_words::Shape;
 use std::alloc::Global;
 
-/// A cache that was opened with entries, its writer and its readers.
+/// A cache that was opened with entries, with its writer and readers.
 #[derive(Drop)]
 pub struct Opened<const V: usize> {
     pub cache: Cache<V>,
     pub writer: Writer<V>,
     pub readers: Vec<Reader<V>>,
-    /// The index of each entry that was not taken, in order, and why.
+    /// The entries that were left out: the index of each, in order, and the reason.
     pub left: Vec<(usize, Why)>,
 }
 
@@ -63,10 +63,10 @@ fn load<const V: usize>(
     }
 }
 
-/// A cache with these entries, its writer and so many readers. The entries are put one after the other, as by calls of `put`, but
-/// none evicts another: one that can't be put so is left, and named with the reason. A key that is named twice is put again.
-/// The entries come first in the history of the cache, which begins anew, and so do the moments of their puts.
-/// The first fault of what is asked for is told as by `open`. After one nothing is left of a cache that was begun.
+/// Opens a cache like `open`, and puts these entries, in order. They are put as by `put`, but none evicts another: an entry
+/// that can't be put so is left out, and reported with the reason. A key that is listed twice is put twice.
+/// These puts are the first changes of the cache's history, so its moments begin with them.
+/// Returns the first error that applies, as `open` does. After an error nothing leaks.
 /// Condition: a value has from 1 to 8 words.
 pub fn open_with<const V: usize>(
     alloc: Global,

@@ -18,7 +18,7 @@ use mc_words::{Checked, MOST_READERS, NoMemory, Shape, ShapeError};
 use std::alloc::{AllocError, Global};
 use thiserror::Error;
 
-/// Why no cache is opened.
+/// Why no cache was opened.
 #[derive(Clone, Copy, Debug, PartialEq, Eq, Error)]
 pub enum OpenError {
     #[error(transparent)]
@@ -67,8 +67,8 @@ fn open_checked<const V: usize>(
     Ok((Cache { cells }, writer, readers))
 }
 
-/// A cache with nothing in it, its writer and so many readers. The first fault of what is asked for is told: `Shape`, then
-/// `Readers` where there are none or more than 1024, then `NoMemory`. Nothing is left of a cache that is not opened.
+/// Opens an empty cache, with its writer and this many readers. Returns the first error that applies: `Shape`, then `Readers`
+/// if there are none or more than 1024, then `NoMemory`. After an error nothing leaks.
 /// Condition: a value has from 1 to 8 words.
 pub fn open<const V: usize>(
     alloc: Global,

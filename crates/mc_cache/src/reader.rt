@@ -21,7 +21,8 @@ use mc_words::Reply;
 use mc_writer::look;
 use std::marker::Model;
 
-/// A reader. Contracts see it as its record: its number, the last front of the writer's acts that it has seen, and what it read and marked.
+/// A reader. In contracts it is its record: its number, the writer's acts that it has seen (its front), and what it read and
+/// marked.
 #[derive(Drop)]
 pub struct Reader<const V: usize> {
     pub(crate) seat: ReaderSeat,
@@ -36,8 +37,8 @@ impl<const V: usize> Model for Reader<V> {
 }
 
 impl<const V: usize> Reader<V> {
-    /// What the cache holds of the key. `Busy` where each of the shape's tries was spoiled by a change of a key of the same
-    /// stripe. A hit marks the key's item as recently used. Condition: the reader is one of this cache.
+    /// Looks the key up. `Busy` if changes of keys of the same stripe spoiled each of the shape's tries. A hit marks the key's
+    /// item as recently used. Condition: the reader is of this cache.
     #[inline(always)]
     pub fn get(&mut self, cache: &Cache<V>, key: u64) -> Reply<V>
         requires of { self.old.of ≡ cache.now }
@@ -50,9 +51,9 @@ impl<const V: usize> Reader<V> {
         get(&cache.cells, &mut self.seat, key)
     }
 
-    /// What the cache holds of each of the keys: their lookups as by `get`, one after the other in the order of the keys. In a
-    /// large cache it is faster than they are, since the processor waits for the words of several keys at once.
-    /// Condition: the reader is one of this cache, and there are as many replies as keys.
+    /// Looks the keys up. Equivalent to calling `get` for each key in order. In a large cache it is faster, because the
+    /// processor waits for the words of several keys at once.
+    /// Condition: the reader is of this cache, and there are as many replies as keys.
     pub fn get_many(&mut self, cache: &Cache<V>, keys: &[u64], replies: &mut [Reply<V>])
         requires of { self.old.of ≡ cache.now }
         requires many { length replies.old ≡ length keys.now }
@@ -67,8 +68,8 @@ impl<const V: usize> Reader<V> {
         get_many(&cache.cells, &mut self.seat, keys, replies);
     }
 
-    /// What is always known of a reader: the front that it has seen is lawful, and each word that it read is the one that its
-    /// place had at its front; the fronts don't fall. It does nothing when it runs.
+    /// What always holds of a reader, for proofs: the acts that it has seen are lawful, each word that it read is the one that
+    /// its place had at that front, and fronts never decrease. Does nothing at run time.
     pub fn known(&self)
         ensures lawful { AreLawful self.now.of.layout self.now.front }
         ensures recorded { IsRecord self.now.of.layout self.now.front self.now.done }
@@ -76,8 +77,8 @@ impl<const V: usize> Reader<V> {
         self.seat.known();
     }
 
-    /// The writer's moment. No later answer of this reader has a lower one.
-    /// Condition: reader and writer are those of this cache.
+    /// Meets the writer, and returns its moment. No later answer of this reader has a lower one.
+    /// Condition: reader and writer are of this cache.
     pub fn catch_up(&mut self, cache: &Cache<V>, writer: &mut Writer<V>) -> u64
         requires of { (self.old.of ≡ cache.now) × (writer.old.of ≡ cache.now) }
         ensures writer { writer.new ≡ writer.old }
@@ -93,8 +94,8 @@ impl<const V: usize> Reader<V> {
         at
     }
 
-    /// What the cache holds of the key at the writer's moment, never `Busy`. A hit marks the key's item.
-    /// Condition: reader and writer are those of this cache.
+    /// Looks the key up at the writer's moment. Never `Busy`. A hit marks the key's item.
+    /// Condition: reader and writer are of this cache.
     pub fn get_beside(&mut self, cache: &Cache<V>, writer: &mut Writer<V>, key: u64) -> Reply<V>
         requires of { (self.old.of ≡ cache.now) × (writer.old.of ≡ cache.now) }
         ensures writer { writer.new ≡ writer.old }

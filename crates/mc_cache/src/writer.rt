@@ -15,12 +15,12 @@ use mc_words::Reply;
 use mc_writer::{get, moment, put, put_if, put_kept, remove};
 use std::marker::Model;
 
-/// The one writer of a cache. Contracts see it as its record: the acts that were made.
+/// The one writer of a cache. In contracts it is its record: the acts that it has made.
 #[derive(Drop)]
 pub struct Writer<const V: usize> {
     pub(crate) seat: WriterSeat,
     pub(crate) books: Books,
-    /// How many changes of the map were made.
+    /// The number of changes made to the map.
     pub(crate) moment: u64,
 }
 
@@ -37,9 +37,9 @@ impl<const V: usize> Model for Writer<V> {
 }
 
 impl<const V: usize> Writer<V> {
-    /// Puts a key, which then has this value. `Err` where nothing was changed of the map: `Spent` where the limit on version
-    /// changes could be passed, `NoPath` where no path of displacements leads to an empty slot, `AllRecent` where every item
-    /// was used since the hand passed it. A key may be evicted for it (section 4.1 of the paper of Fan, Andersen and Kaminsky).
+    /// Puts the key with this value. May evict another key (section 4.1 of the paper of Fan, Andersen and Kaminsky). After an
+    /// `Err` the map is unchanged: `Spent` if the limit on version changes could be exceeded, `NoPath` if no path of
+    /// displacements leads to an empty slot, `AllRecent` if every item was used since the hand passed it.
     #[inline(always)]
     pub fn put(&mut self, cache: &Cache<V>, key: u64, value: [u64; V]) -> Result<Put, PutError>
         requires of { self.old.of ≡ cache.now }
@@ -51,9 +51,9 @@ impl<const V: usize> Writer<V> {
         told
     }
 
-    /// Puts a key anew, if its last put was at the moment `since`, which a lookup of it told: the moment of the new put.
-    /// `Err` where nothing was changed, the first that applies: `Spent` where the limit on version changes could be passed,
-    /// `NotThere` where the key isn't there, `Changed` with the stamp that stands where the key was put at another moment.
+    /// Overwrites the key's value if its last put was at the moment `since`, as a lookup of the key returned it. Returns the
+    /// moment of the new put. After an `Err` nothing has changed; the first that applies: `Spent` if the limit on version changes
+    /// could be exceeded, `NotThere` if the key is absent, `Changed` with the moment of the key's last put if that is another.
     pub fn put_if(
         &mut self,
         cache: &Cache<V>,
@@ -92,7 +92,7 @@ impl<const V: usize> Writer<V> {
         told
     }
 
-    /// Takes a key out. `Err(Spent)` where the limit on version changes could be passed: nothing was changed.
+    /// Removes the key. `Err(Spent)` if the limit on version changes could be exceeded: nothing has changed.
     pub fn remove(&mut self, cache: &Cache<V>, key: u64) -> Result<Remove, Spent>
         requires of { self.old.of ≡ cache.now }
         ensures called { HasCalled V cache.now.layout.shape (RemoveCall key) self.old self.new (answer.Remove result) }
@@ -103,7 +103,7 @@ impl<const V: usize> Writer<V> {
         told
     }
 
-    /// What the cache holds of the key now, never `Busy`. A hit marks the key's item.
+    /// Looks the key up at the writer's moment. Never `Busy`. A hit marks the key's item.
     pub fn get(&mut self, cache: &Cache<V>, key: u64) -> Reply<V>
         requires of { self.old.of ≡ cache.now }
         ensures got { HasGot V cache.now.layout.shape key self.old self.new result }
@@ -112,7 +112,7 @@ impl<const V: usize> Writer<V> {
         get(&cache.cells, &mut self.seat, &self.books, key)
     }
 
-    /// The length of the history: how many changes of the map were made.
+    /// The number of changes made to the map: the length of the history.
     pub fn moment(&self) -> u64
         ensures moment { result ≡ length (state_of V self.now.of.layout.shape self.now.acts).history }
         ensures plain { result ≡ length (history V self.now) }
@@ -120,8 +120,8 @@ impl<const V: usize> Writer<V> {
         self.moment
     }
 
-    /// What is always known of a writer between two calls: its acts are lawful and within the limit, each has its note, no deed
-    /// runs, the words agree with the history, and the history is legal. It does nothing when it runs.
+    /// What always holds of a writer between two calls, for proofs: its acts are lawful and within the limit, each has its note,
+    /// no deed runs, the words agree with the history, and the history is legal. Does nothing at run time.
     pub fn known(&self)
         ensures run { IsRun self.now.of.layout self.now.acts }
         ensures paired { length self.now.notes ≡ length self.now.acts }

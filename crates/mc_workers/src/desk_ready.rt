@@ -163,9 +163,12 @@ pub(crate) fn make_desk_ready<const V: usize>(
     let Ok(seated) = seat_workers(alloc, load, writers, readers) else {
         return Err(LoadError::NoMemory);
     };
+    let Ok(desk) = Desk::new(alloc, writer) else {
+        return Err(LoadError::NoMemory);
+    };
     Ok(DeskWorkers {
         cache,
-        desk: Desk::new(writer),
+        desk,
         seated,
     })
 }

@@ -3,6 +3,7 @@
 #![tactic(auto)]
 
 mod closing;
+mod desk;
 mod loading;
 mod opening;
 mod seen;
@@ -25,6 +26,7 @@ fn see(alloc: Global, name: &str) -> Option<Seen> {
         "run" => Some(world::see_runs(alloc)),
         "moment" => Some(world::see_moments(alloc)),
         "close" => Some(closing::see_closing(alloc)),
+        "desk" => Some(desk::see_desk(alloc)),
         "load" => Some(loading::see_loading(alloc)),
         "entries" => Some(loading::see_entries(alloc)),
         _ => None,

@@ -10,6 +10,6 @@ returns g c =
     record {
       shape = c.in-Ok.ensures.asked.0;
       seats = (asked.0, subst (λ (n : ℕ). n ≤ most_readers) asked.1 c.in-Ok.ensures.asked.1.1);
-      desk = c.new.ensures.of ∙ ap (λ (w : WriterRecord). w.of) c.in-Ok.ensures.writer;
+      desk = c.in-Ok-new.ensures.of ∙ ap (λ (w : WriterRecord). w.of) c.in-Ok.ensures.writer;
       seated = c.in-Ok-seat_workers.ensures o (c.in-Ok.ensures.readers ∙ ap (new_readers o) asked.1);
     }

@@ -1,0 +1,6 @@
+use Rattle.mc_cache.proofs.PlainCalls.{entries_now}
+use Rattle.mc_cache.proofs.writer.Writer.entries.Goals as goal
+
+pub returns-clause-plain : goal.returns-clause-plain
+returns-clause-plain g c =
+    entries_now g.row.V c.args.cache.now c.cache.inside.cells c.args.self.now c.self.inside.seat c.cache.view_is c.self.view_is c.requires.of c.in_ok-entries.entries.items c.in_ok-entries.ensures.entries

@@ -1,0 +1,141 @@
+//! A turn with the writer in hand: the reader that is its pass meets the writer, the call is made, and they meet once more.
+ghost use Rattle.std.specs.Prelude.{◌≡◌, IfOk};
+ghost use Rattle.mc_plan.specs.WholeCalls.{PutCall, PutIfCall, RemoveCall};
+ghost use Rattle.mc_plan.specs.declared.answer.Answer.TheVariants as answer;
+ghost use Rattle.mc_cache.specs.Inside.Turned.{HasBegunWith, HasEnded, HasLookedInTurn, turned};
+ghost use Rattle.mc_cache.specs.Plain.{AreEntriesOf, Begins, HasMet, PutIfMeans, PutMeans, RemovalMeans, TurnMeans, history, seen};
+ghost use Rattle.mc_cache.specs.Resting.{IsAtRest};
+ghost use Rattle.mc_cache.specs.Turns.{HasTried, HasTriedToList};
+
+use crate::cache::Cache;
+use crate::desk::DeskError;
+use crate::reader::Reader;
+use crate::writer::Writer;
+use mc_plan::{IfError, Put, PutError, Remove, Spent};
+use mc_words::{NoMemory, Reply};
+use std::alloc::Global;
+
+// The pass meets the writer before the call.
+fn begin<const V: usize>(cache: &Cache<V>, pass: &mut Reader<V>, writer: &mut Writer<V>)
+    requires of { (pass.old.of ≡ cache.now) × (writer.old.of ≡ cache.now) }
+    ensures writer { writer.new ≡ writer.old }
+    ensures begun { HasBegunWith V cache.now pass.old pass.new writer.old }
+    ensures plain { HasMet V (seen V pass.old) (seen V pass.new) (history V writer.old) }
+{
+    pass.catch_up(cache, writer);
+    writer.known();
+}
+
+// And after it.
+fn end<const V: usize>(cache: &Cache<V>, pass: &mut Reader<V>, writer: &mut Writer<V>)
+    requires of { (pass.old.of ≡ cache.now) × (writer.old.of ≡ cache.now) }
+    ensures writer { writer.new ≡ writer.old }
+    ensures rests { IsAtRest V writer.new }
+    ensures ended { HasEnded V cache.now.layout.shape pass.old pass.new writer.old }
+    ensures plain { HasMet V (seen V pass.old) (seen V pass.new) (history V writer.old) }
+{
+    pass.catch_up(cache, writer);
+    writer.known();
+}
+
+// The answer of a turn, from that of its call.
+fn turned<T, E>(answer: Result<T, E>) -> Result<T, DeskError<E>>
+    ensures { result ≡ turned answer }
+{
+    match answer {
+        Ok(done) => Ok(done),
+        Err(why) => Err(DeskError::Call(why)),
+    }
+}
+
+/// A turn that puts.
+pub(crate) fn put_in_turn<const V: usize>(
+    cache: &Cache<V>,
+    pass: &mut Reader<V>,
+    writer: &mut Writer<V>,
+    key: u64,
+    value: [u64; V],
+) -> Result<Put, DeskError<PutError>>
+    requires of { (pass.old.of ≡ cache.now) × (writer.old.of ≡ cache.now) }
+    ensures writer { (writer.new.of ≡ writer.old.of) × IsAtRest V writer.new }
+    ensures of { pass.new.of ≡ pass.old.of }
+    ensures turn { HasTried V cache.now.layout.shape (PutCall key value.entry) answer.Put pass.old pass.new result }
+    ensures plain { TurnMeans (λ h h' told. PutMeans V h h' key value.entry told) (seen V pass.old) (seen V pass.new) result }
+{
+    begin(cache, pass, writer);
+    let answer = writer.put(cache, key, value);
+    end(cache, pass, writer);
+    turned(answer)
+}
+
+/// A turn that puts on a condition.
+pub(crate) fn put_if_in_turn<const V: usize>(
+    cache: &Cache<V>,
+    pass: &mut Reader<V>,
+    writer: &mut Writer<V>,
+    key: u64,
+    since: u64,
+    value: [u64; V],
+) -> Result<u64, DeskError<IfError>>
+    requires of { (pass.old.of ≡ cache.now) × (writer.old.of ≡ cache.now) }
+    ensures writer { (writer.new.of ≡ writer.old.of) × IsAtRest V writer.new }
+    ensures of { pass.new.of ≡ pass.old.of }
+    ensures turn { HasTried V cache.now.layout.shape (PutIfCall key since value.entry) answer.PutIf pass.old pass.new result }
+    ensures plain { TurnMeans (λ h h' told. PutIfMeans V h h' key since value.entry told) (seen V pass.old) (seen V pass.new) result }
+{
+    begin(cache, pass, writer);
+    let answer = writer.put_if(cache, key, since, value);
+    end(cache, pass, writer);
+    turned(answer)
+}
+
+/// A turn that removes.
+pub(crate) fn remove_in_turn<const V: usize>(
+    cache: &Cache<V>,
+    pass: &mut Reader<V>,
+    writer: &mut Writer<V>,
+    key: u64,
+) -> Result<Remove, DeskError<Spent>>
+    requires of { (pass.old.of ≡ cache.now) × (writer.old.of ≡ cache.now) }
+    ensures writer { (writer.new.of ≡ writer.old.of) × IsAtRest V writer.new }
+    ensures of { pass.new.of ≡ pass.old.of }
+    ensures turn { HasTried V cache.now.layout.shape (RemoveCall key) answer.Remove pass.old pass.new result }
+    ensures plain { TurnMeans (λ h h' told. RemovalMeans V h h' key told) (seen V pass.old) (seen V pass.new) result }
+{
+    begin(cache, pass, writer);
+    let answer = writer.remove(cache, key);
+    end(cache, pass, writer);
+    turned(answer)
+}
+
+/// A turn that looks a key up beside the writer.
+pub(crate) fn get_in_turn<const V: usize>(
+    cache: &Cache<V>,
+    pass: &mut Reader<V>,
+    writer: &mut Writer<V>,
+    key: u64,
+) -> Reply<V>
+    requires of { (pass.old.of ≡ cache.now) × (writer.old.of ≡ cache.now) }
+    ensures writer { (writer.new ≡ writer.old) × IsAtRest V writer.new }
+    ensures met { HasLookedInTurn V cache.now pass.old pass.new key result }
+{
+    writer.known();
+    pass.get_beside(cache, writer, key)
+}
+
+/// A turn that lists the entries.
+pub(crate) fn list_in_turn<const V: usize>(
+    alloc: Global,
+    cache: &Cache<V>,
+    pass: &mut Reader<V>,
+    writer: &mut Writer<V>,
+) -> Result<Vec<(u64, [u64; V])>, DeskError<NoMemory>>
+    requires of { (pass.old.of ≡ cache.now) × (writer.old.of ≡ cache.now) }
+    ensures writer { (writer.new ≡ writer.old) × IsAtRest V writer.new }
+    ensures met { HasTriedToList V pass.old pass.new result }
+    ensures begins { Begins (seen V pass.old) (seen V pass.new) }
+    ensures plain { IfOk result (λ es. AreEntriesOf V (seen V pass.new) es.items) }
+{
+    begin(cache, pass, writer);
+    turned(writer.entries(alloc, cache))
+}
