@@ -1,7 +1,12 @@
 -- What the calls of a side mean.
 use Rattle.std.specs.Prelude.{ℕ, ◌≡◌, ◌≢◌, List, length, Result}
 use Rattle.mc_cache.specs.Plain.{HasAnswered, history, seen, PutMeans as PutOf, PutIfMeans as PutIfOf, RemovalMeans as RemovalOf, TurnMeans}
+use Rattle.mc_cache.specs.Turns.{HasTried, HasLookedOrMet}
 use Rattle.mc_cache.specs.declared.desk.DeskError.{DeskError}
+use Rattle.mc_plan.specs.WholeCalls.Call.{PutCall, PutIfCall, RemoveCall}
+use Rattle.mc_plan.specs.declared.answer.Answer.TheVariants as answer
+use Rattle.mc_reader.specs.Records.{HasLooked}
+use Rattle.mc_writer.specs.WriterCalls.{HasCalled}
 use Rattle.mc_plan.specs.declared.answer.IfError.{IfError}
 use Rattle.mc_plan.specs.declared.answer.Put.{Put}
 use Rattle.mc_plan.specs.declared.answer.PutError.{PutError}
@@ -36,13 +41,13 @@ IsMisuse Can V role words Width = Can role × (words ≢ V)
 
 -- a lookup by a reader or a pass: the answer is true of what it has seen
 abbrev pub Looks : (V : ℕ) → Role → Role → ℕ → Reply V → Type 0
-Looks V (Reads r) (Reads r') key reply = (r'.of ≡ r.of) × HasAnswered V (seen V r) (seen V r') key reply
-Looks V (Passes r) (Passes r') key reply = (r'.of ≡ r.of) × HasAnswered V (seen V r) (seen V r') key reply
+Looks V (Reads r) (Reads r') key reply = (r'.of ≡ r.of) × HasLooked V r.of.layout.shape key r r' reply × HasAnswered V (seen V r) (seen V r') key reply
+Looks V (Passes r) (Passes r') key reply = (r'.of ≡ r.of) × HasLooked V r.of.layout.shape key r r' reply × HasAnswered V (seen V r) (seen V r') key reply
 Looks V _ _ key reply = ⊥
 
 -- the same by a pass alone, which tries for the turn where it is busy
 abbrev pub LooksAtDesk : (V : ℕ) → Role → Role → ℕ → Reply V → Type 0
-LooksAtDesk V (Passes r) (Passes r') key reply = (r'.of ≡ r.of) × HasAnswered V (seen V r) (seen V r') key reply
+LooksAtDesk V (Passes r) (Passes r') key reply = (r'.of ≡ r.of) × HasLookedOrMet V r.of.layout.shape key r r' reply × HasAnswered V (seen V r) (seen V r') key reply
 LooksAtDesk V _ _ key reply = ⊥
 
 -- a lookup whose value is written beside its answer
@@ -54,26 +59,26 @@ GetOrDeskMeans V role role' key old new told = (length old ≡ V) × LooksAtDesk
 
 -- a put by the writer
 abbrev pub PutMeans : (V : ℕ) → Role → Role → ℕ → List ℕ → Result Put PutError → Type 0
-PutMeans V (Writes w) (Writes w') key v told = (length v ≡ V) × (w'.of ≡ w.of) × PutOf V (history V w) (history V w') key v told
+PutMeans V (Writes w) (Writes w') key v told = (length v ≡ V) × (w'.of ≡ w.of) × HasCalled V w.of.layout.shape (PutCall key v) w w' (answer.Put told) × PutOf V (history V w) (history V w') key v told
 PutMeans V _ _ key v told = ⊥
 
 abbrev pub PutIfMeans : (V : ℕ) → Role → Role → ℕ → ℕ → List ℕ → Result ℕ IfError → Type 0
-PutIfMeans V (Writes w) (Writes w') key since v told = (length v ≡ V) × (w'.of ≡ w.of) × PutIfOf V (history V w) (history V w') key since v told
+PutIfMeans V (Writes w) (Writes w') key since v told = (length v ≡ V) × (w'.of ≡ w.of) × HasCalled V w.of.layout.shape (PutIfCall key since v) w w' (answer.PutIf told) × PutIfOf V (history V w) (history V w') key since v told
 PutIfMeans V _ _ key since v told = ⊥
 
 abbrev pub RemovalMeans : (V : ℕ) → Role → Role → ℕ → Result Remove Spent → Type 0
-RemovalMeans V (Writes w) (Writes w') key told = (w'.of ≡ w.of) × RemovalOf V (history V w) (history V w') key told
+RemovalMeans V (Writes w) (Writes w') key told = (w'.of ≡ w.of) × HasCalled V w.of.layout.shape (RemoveCall key) w w' (answer.Remove told) × RemovalOf V (history V w) (history V w') key told
 RemovalMeans V _ _ key told = ⊥
 
 -- tries for the turn, by a pass
 abbrev pub TryPutMeans : (V : ℕ) → Role → Role → ℕ → List ℕ → Result Put (DeskError PutError) → Type 0
-TryPutMeans V (Passes r) (Passes r') key v told = (length v ≡ V) × (r'.of ≡ r.of) × TurnMeans (λ h h' answer. PutOf V h h' key v answer) (seen V r) (seen V r') told
+TryPutMeans V (Passes r) (Passes r') key v told = (length v ≡ V) × (r'.of ≡ r.of) × HasTried V r.of.layout.shape (PutCall key v) answer.Put r r' told × TurnMeans (λ h h' answer. PutOf V h h' key v answer) (seen V r) (seen V r') told
 TryPutMeans V _ _ key v told = ⊥
 
 abbrev pub TryPutIfMeans : (V : ℕ) → Role → Role → ℕ → ℕ → List ℕ → Result ℕ (DeskError IfError) → Type 0
-TryPutIfMeans V (Passes r) (Passes r') key since v told = (length v ≡ V) × (r'.of ≡ r.of) × TurnMeans (λ h h' answer. PutIfOf V h h' key since v answer) (seen V r) (seen V r') told
+TryPutIfMeans V (Passes r) (Passes r') key since v told = (length v ≡ V) × (r'.of ≡ r.of) × HasTried V r.of.layout.shape (PutIfCall key since v) answer.PutIf r r' told × TurnMeans (λ h h' answer. PutIfOf V h h' key since v answer) (seen V r) (seen V r') told
 TryPutIfMeans V _ _ key since v told = ⊥
 
 abbrev pub TryRemovalMeans : (V : ℕ) → Role → Role → ℕ → Result Remove (DeskError Spent) → Type 0
-TryRemovalMeans V (Passes r) (Passes r') key told = (r'.of ≡ r.of) × TurnMeans (λ h h' answer. RemovalOf V h h' key answer) (seen V r) (seen V r') told
+TryRemovalMeans V (Passes r) (Passes r') key told = (r'.of ≡ r.of) × HasTried V r.of.layout.shape (RemoveCall key) answer.Remove r r' told × TurnMeans (λ h h' answer. RemovalOf V h h' key answer) (seen V r) (seen V r') told
 TryRemovalMeans V _ _ key told = ⊥

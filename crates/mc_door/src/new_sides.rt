@@ -152,7 +152,10 @@ impl<const V: usize> NewSides<V> {
         ensures passes { IfOk result (λ r. (has_desk r ≡ true) × (count_of r ≡ passes) × IsShape shape × HasReaders passes) }
     {
         let (cache, writer, readers) = mc_cache::open::<V>(alloc, shape, passes)?;
-        let Ok(desk) = Arc::new(alloc, Desk::new(writer)) else {
+        let Ok(desk) = Desk::new(alloc, writer) else {
+            return Err(OpenError::NoMemory);
+        };
+        let Ok(desk) = Arc::new(alloc, desk) else {
             return Err(OpenError::NoMemory);
         };
         let Ok(cache) = Arc::new(alloc, cache) else {

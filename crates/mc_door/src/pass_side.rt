@@ -1,6 +1,10 @@
 //! A pass at the desk of a cache, with the desk and the cache.
 ghost use Rattle.std.specs.Prelude.{◌≡◌, length};
 ghost use Rattle.mc_cache.specs.Plain.{HasAnswered, PutIfMeans, PutMeans, RemovalMeans, TurnMeans, seen};
+ghost use Rattle.mc_cache.specs.Turns.{HasLookedOrMet, HasTried};
+ghost use Rattle.mc_plan.specs.WholeCalls.Call.{PutCall, PutIfCall, RemoveCall};
+ghost use Rattle.mc_plan.specs.declared.answer.Answer.TheVariants as answer;
+ghost use Rattle.mc_reader.specs.Records.{HasLooked};
 
 use crate::words::array_of;
 use mc_cache::{Cache, Desk, DeskError, IfError, Put, PutError, Reader, Remove, Reply, Spent};
@@ -19,6 +23,7 @@ pub struct PassSide<const V: usize> {
 impl<const V: usize> PassSide<V> {
     pub(crate) fn get(&mut self, key: u64) -> Reply<V>
         ensures of { self.new.pass.of ≡ self.old.pass.of }
+        ensures looked { HasLooked V self.old.pass.of.layout.shape key self.old.pass self.new.pass result }
         ensures plain { HasAnswered V (seen V self.old.pass) (seen V self.new.pass) key result }
     {
         self.pass.get(&self.cache, key)
@@ -26,6 +31,7 @@ impl<const V: usize> PassSide<V> {
 
     pub(crate) fn get_or_desk(&mut self, key: u64) -> Reply<V>
         ensures of { self.new.pass.of ≡ self.old.pass.of }
+        ensures looked { HasLookedOrMet V self.old.pass.of.layout.shape key self.old.pass self.new.pass result }
         ensures plain { HasAnswered V (seen V self.old.pass) (seen V self.new.pass) key result }
     {
         self.pass.get_or_desk(&self.cache, &self.desk, key)
@@ -34,6 +40,7 @@ impl<const V: usize> PassSide<V> {
     pub(crate) fn try_put(&mut self, key: u64, value: &[u64]) -> Result<Put, DeskError<PutError>>
         requires { length value.now ≡ V }
         ensures of { self.new.pass.of ≡ self.old.pass.of }
+        ensures turn { HasTried V self.old.pass.of.layout.shape (PutCall key value.now) answer.Put self.old.pass self.new.pass result }
         ensures plain { TurnMeans (λ h h' told. PutMeans V h h' key value.now told) (seen V self.old.pass) (seen V self.new.pass) result }
     {
         self.desk
@@ -48,6 +55,7 @@ impl<const V: usize> PassSide<V> {
     ) -> Result<u64, DeskError<IfError>>
         requires { length value.now ≡ V }
         ensures of { self.new.pass.of ≡ self.old.pass.of }
+        ensures turn { HasTried V self.old.pass.of.layout.shape (PutIfCall key since value.now) answer.PutIf self.old.pass self.new.pass result }
         ensures plain { TurnMeans (λ h h' told. PutIfMeans V h h' key since value.now told) (seen V self.old.pass) (seen V self.new.pass) result }
     {
         let value = array_of::<V>(value);
@@ -57,6 +65,7 @@ impl<const V: usize> PassSide<V> {
 
     pub(crate) fn try_remove(&mut self, key: u64) -> Result<Remove, DeskError<Spent>>
         ensures of { self.new.pass.of ≡ self.old.pass.of }
+        ensures turn { HasTried V self.old.pass.of.layout.shape (RemoveCall key) answer.Remove self.old.pass self.new.pass result }
         ensures plain { TurnMeans (λ h h' told. RemovalMeans V h h' key told) (seen V self.old.pass) (seen V self.new.pass) result }
     {
         self.desk.try_remove(&self.cache, &mut self.pass, key)

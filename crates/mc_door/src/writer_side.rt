@@ -1,6 +1,9 @@
 //! The writer of a cache, with the cache.
 ghost use Rattle.std.specs.Prelude.{◌≡◌, length};
 ghost use Rattle.mc_cache.specs.Plain.{PutIfMeans, PutMeans, RemovalMeans, history};
+ghost use Rattle.mc_plan.specs.WholeCalls.Call.{PutCall, PutIfCall, RemoveCall};
+ghost use Rattle.mc_plan.specs.declared.answer.Answer.TheVariants as answer;
+ghost use Rattle.mc_writer.specs.WriterCalls.{HasCalled};
 
 use crate::words::array_of;
 use mc_cache::{Cache, IfError, Put, PutError, Remove, Spent, Writer};
@@ -19,6 +22,7 @@ impl<const V: usize> WriterSide<V> {
     pub(crate) fn put(&mut self, key: u64, value: &[u64]) -> Result<Put, PutError>
         requires { length value.now ≡ V }
         ensures of { self.new.writer.of ≡ self.old.writer.of }
+        ensures called { HasCalled V self.old.writer.of.layout.shape (PutCall key value.now) self.old.writer self.new.writer (answer.Put result) }
         ensures plain { PutMeans V (history V self.old.writer) (history V self.new.writer) key value.now result }
     {
         self.writer.put(&self.cache, key, array_of::<V>(value))
@@ -27,6 +31,7 @@ impl<const V: usize> WriterSide<V> {
     pub(crate) fn put_if(&mut self, key: u64, since: u64, value: &[u64]) -> Result<u64, IfError>
         requires { length value.now ≡ V }
         ensures of { self.new.writer.of ≡ self.old.writer.of }
+        ensures called { HasCalled V self.old.writer.of.layout.shape (PutIfCall key since value.now) self.old.writer self.new.writer (answer.PutIf result) }
         ensures plain { PutIfMeans V (history V self.old.writer) (history V self.new.writer) key since value.now result }
     {
         self.writer
@@ -35,6 +40,7 @@ impl<const V: usize> WriterSide<V> {
 
     pub(crate) fn remove(&mut self, key: u64) -> Result<Remove, Spent>
         ensures of { self.new.writer.of ≡ self.old.writer.of }
+        ensures called { HasCalled V self.old.writer.of.layout.shape (RemoveCall key) self.old.writer self.new.writer (answer.Remove result) }
         ensures plain { RemovalMeans V (history V self.old.writer) (history V self.new.writer) key result }
     {
         self.writer.remove(&self.cache, key)

@@ -23,7 +23,7 @@ pub(crate) struct Job {
 }
 
 /// What the threads do.
-fn task_of(options: &Options, number: u64) -> Task {
+pub(crate) fn task_of(options: &Options, number: u64) -> Task {
     Task {
         first: match options.workload {
             Workload::Absent => 1 << 40,
@@ -132,7 +132,8 @@ fn work_as_asked<R: Threads + Sync + Clock + CpuClock>(
     requires readers { All (λ r. r.of ≡ cache.now) readers.items }
 {
     if options.writers > 1 {
-        work_by_turns(rt, alloc, cache, &Desk::new(writer), readers, options)
+        let desk = Desk::new(alloc, writer)?;
+        work_by_turns(rt, alloc, cache, &desk, readers, options)
     } else {
         work(rt, alloc, cache, &mut writer, readers, options)
     }

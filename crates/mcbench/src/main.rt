@@ -9,6 +9,7 @@ mod lookups;
 mod memory;
 mod options;
 mod report;
+mod shards;
 mod stopwatch;
 mod tally;
 mod turns;
@@ -29,6 +30,9 @@ fn measure<R: Runtime + AllocGlobal + CpuClock + Threads + Sync>(
     alloc: Global,
     options: &Options,
 ) -> io::Result<Report> {
+    if options.shards > 0 {
+        return shards::measure(rt, alloc, options);
+    }
     match options.workload {
         Workload::Mixed | Workload::Half | Workload::Absent => beside::measure(rt, alloc, options),
         Workload::Grow => growing::measure(rt, alloc, options),

@@ -38,6 +38,8 @@ pub(crate) struct Options {
     pub seed: u32,
     /// Keys that a call of a reader looks up.
     pub many: u32,
+    /// Shards with a writer each, among which the keys are divided; 0: one cache.
+    pub shards: u32,
 }
 
 /// The names of the workloads.
@@ -66,7 +68,7 @@ struct Row {
 }
 
 /// The options, in the order of the help.
-const ROWS: [Row; 9] = [
+const ROWS: [Row; 10] = [
     Row {
         name: "workload",
         takes: ValueParser::Names(&WORKLOADS),
@@ -121,6 +123,12 @@ const ROWS: [Row; 9] = [
         default: "1",
         help: "Of so many calls of a writer one is a put, the others look keys up",
     },
+    Row {
+        name: "shards",
+        takes: ValueParser::Signed(0, 256),
+        default: "0",
+        help: "Shards, a power of two, with a writer each; all writers put keys that are there, and look keys up (0: one cache)",
+    },
 ];
 
 /// The option of a row.
@@ -171,6 +179,7 @@ pub(crate) fn options_of<S: AsStr>(alloc: Global, words: &[S]) -> Result<Options
         write_every: number_in(&matches, "write-every"),
         seed: number_in(&matches, "seed"),
         many: number_in(&matches, "many"),
+        shards: number_in(&matches, "shards"),
     })
 }
 

@@ -1,0 +1,60 @@
+-- Shards are listed one after the other, from the last one back.
+use Rattle.std.proofs.Common.{ℕ, zero, suc, ◌≡◌, ◌+◌, ◌<◌, ◌≤◌, ◌∙◌, List, [], ◌∷◌, length, drop, set, ap, arith, refl, subst, sym}
+use Rattle.std.proofs.lemmas.List.{length-map}
+use Rattle.std.proofs.lemmas.Option.{slice_get_within}
+use Rattle.mc_words.specs.Keys.{shard_of}
+use Rattle.mc_words.specs.Shapes.{HasShards}
+use Rattle.mc_words.specs.declared.history.Change.{Change}
+use Rattle.mc_words.specs.declared.mix.Mix.{Mix}
+use Rattle.mc_shared.specs.Records.{ReaderRecord}
+use Rattle.mc_cache.specs.Plain.{Begins, seen}
+use Rattle.mc_shards.proofs.Dealt.{as_many}
+use Rattle.mc_shards.proofs.Entries.{entries_of_all}
+use Rattle.mc_shards.proofs.Many.{all_begin_then}
+use Rattle.mc_shards.proofs.OneMap.{all_begin_set}
+use Rattle.mc_shards.specs.Inside.Listed.{AddsShard, AreListed}
+use Rattle.mc_shards.specs.Plain.{AllBegin, AreEntriesOfAll, seens}
+use Rattle.mc_shards.specs.Sharded.{ArePassOf, ChangesAt, Sharded}
+
+-- ---- lists
+drop_all : {A : Type 0} (xs : List A) (n : ℕ) → n ≡ length xs → drop n xs ≡ []
+drop_all [] zero l = refl
+drop_all [] (suc n) l = absurd (omega (arith, l))
+drop_all (x ∷ xs) zero l = absurd (omega (arith, l))
+drop_all (x ∷ xs) (suc n) l = drop_all xs n (omega (arith, l))
+
+drop_set : {A : Type 0} (xs : List A) (n : ℕ) (y : A) → n < length xs → drop n (set xs n y) ≡ y ∷ drop (suc n) xs
+drop_set [] n y l = absurd (omega (arith, l))
+drop_set (x ∷ xs) zero y l = refl
+drop_set (x ∷ xs) (suc n) y l = drop_set xs n y (omega (arith, l))
+
+-- ---- before the first, after one more, after all
+pub listed_none : (V : ℕ) (s : Sharded) (rs : List ReaderRecord) (n : ℕ) → ArePassOf s rs → n ≡ length s.tables → AreListed V s.shape.mix (length s.tables) n (drop n (seens V rs)) []
+listed_none V s rs n are is =
+    let none : drop n (seens V rs) ≡ [] = drop_all (seens V rs) n (omega (arith, is, length-map rs (seen V), as_many s rs are)) in
+    subst (λ (hs : List (List (Change V))). AreListed V s.shape.mix (length s.tables) n hs []) (sym none) refl
+
+pub listed_more : (V : ℕ) (mix : Mix) (many m n : ℕ) (hs hs' : List (List (Change V))) (es es' : List (ℕ × List ℕ)) → m ≡ n + 1 → AreListed V mix many m (drop m hs) es
+    → ChangesAt n hs hs' (λ h h'. AddsShard V mix many n h' es es') → AreListed V mix many n (drop n hs') es'
+listed_more V mix many m n hs hs' es es' next l c =
+    let within : n < length hs = slice_get_within hs n c.before c.was in
+    let same : suc n ≡ m = omega (arith, next) in
+    let after : drop n hs' ≡ c.after ∷ drop m hs = ap (λ (z : List (List (Change V))). drop n z) c.is ∙ (drop_set hs n c.after within ∙ ap (λ (k : ℕ). c.after ∷ drop k hs) same) in
+    let rest : AreListed V mix many (n + 1) (drop m hs) es = subst (λ (k : ℕ). AreListed V mix many k (drop m hs) es) next l in
+    subst (λ (z : List (List (Change V))). AreListed V mix many n z es') (sym after) (es, rest, c.goes)
+
+-- what is seen of the shards grows
+pub begins_more : (V n : ℕ) (hs hs' hs'' : List (List (Change V))) → AllBegin hs hs' → ChangesAt n hs' hs'' (λ h h'. Begins h h') → AllBegin hs hs''
+begins_more V n hs hs' hs'' b c =
+    all_begin_then hs hs' hs'' b (subst (λ (z : List (List (Change V))). AllBegin hs' z) (sym c.is) (all_begin_set hs' n c.before c.after c.was c.goes))
+
+shard_below : (mix : Mix) (n k : ℕ) → 1 ≤ n → shard_of mix n k < n
+unfolding shard_of
+shard_below mix n k some = omega (arith, some)
+
+pub listed_all : (V : ℕ) (s : Sharded) (rs : List ReaderRecord) (n : ℕ) (es : List (ℕ × List ℕ)) → HasShards (length s.tables) → ArePassOf s rs → n ≡ 0 → AreListed V s.shape.mix (length s.tables) n (drop n (seens V rs)) es → AreEntriesOfAll V s.shape.mix (seens V rs) es
+listed_all V s rs n es shards are none l =
+    let long : length (seens V rs) ≡ length s.tables = length-map rs (seen V) ∙ as_many s rs are in
+    let whole : AreListed V s.shape.mix (length s.tables) 0 (seens V rs) es = subst (λ (k : ℕ). AreListed V s.shape.mix (length s.tables) k (drop k (seens V rs)) es) none l in
+    entries_of_all V s.shape.mix (seens V rs) es (λ k. shard_below s.shape.mix (length (seens V rs)) k (omega (arith, long, shards.0)))
+    (subst (λ (m : ℕ). AreListed V s.shape.mix m 0 (seens V rs) es) (sym long) whole)

@@ -1,0 +1,20 @@
+use Rattle.std.proofs.Common.{arith, sym, ◌∙◌}
+use Rattle.mc_shards.proofs.Dealt.{as_many_new, fresh_new}
+use Rattle.mc_shards.proofs.opening.open_one.Goals as goal
+
+pub deal-requires : goal.deal-requires
+deal-requires g c =
+    let cache = c.in_ok-cache.cache in
+    let readers = c.in_ok-cache.readers.items in (
+      omega arith,
+      (
+        omega arith,
+        (
+          omega arith,
+          (
+            as_many_new cache c.args.passes readers c.in_ok-cache.ensures.readers ∙ sym c.requires.many,
+            (fresh_new cache readers c.in_ok-cache.ensures.fresh, c.requires.given),
+          ),
+        ),
+      ),
+    )

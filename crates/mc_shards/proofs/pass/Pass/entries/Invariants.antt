@@ -1,0 +1,18 @@
+use Rattle.std.proofs.Common.{◌≤◌, drop, length}
+use Rattle.mc_words.specs.Shapes.{HasShards}
+use Rattle.mc_shards.specs.Inside.Listed.{AreListed}
+use Rattle.mc_shards.specs.Plain.{AllBegin, seens}
+use Rattle.mc_shards.specs.Sharded.{ArePassOf}
+use Rattle.mc_shards.proofs.pass.Pass.entries.Given as goal
+
+abbrev pub invariant-loop-left : goal.invariant-loop-left
+invariant-loop-left g l = record {
+  of : ArePassOf l.shards l.self;
+  begins : AllBegin (seens g.row.V l.fn.self) (seens g.row.V l.self);
+  few : l.left ≤ length l.shards.tables;
+  many : HasShards (length l.shards.tables);
+  listed : AreListed g.row.V l.shards.shape.mix (length l.shards.tables) l.left (drop l.left (seens g.row.V l.self)) l.all.items;
+}
+
+abbrev pub decreases-loop-left : goal.decreases-loop-left
+decreases-loop-left g l = l.left

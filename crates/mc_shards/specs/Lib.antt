@@ -1,0 +1,7 @@
+pub mod Sharded
+pub mod Plain
+pub mod Openings
+pub mod OneMap
+pub mod Spread
+pub mod Sizing
+pub mod Inside

@@ -1,0 +1,26 @@
+-- What clauses see of shards, and of a pass: a list of the records of its readers, one of each shard.
+use Rattle.std.specs.Prelude.{ℕ, ◌≡◌, List, Some, length, map, slice_get, slice_set}
+use Rattle.mc_words.specs.Keys.{shard_of}
+use Rattle.mc_words.specs.declared.shape.Shape.{Shape}
+use Rattle.mc_shared.specs.Records.{Opening, ReaderRecord}
+
+-- which tables they are, and the shape that each of them has
+pub record Sharded : Type 0 where
+  pub shape : Shape
+  pub tables : List Opening
+
+-- the shard of a key
+abbrev pub shard_in : Sharded → ℕ → ℕ
+shard_in s k = shard_of s.shape.mix (length s.tables) k
+
+-- the readers are those of the tables, in their order
+abbrev pub ArePassOf : Sharded → List ReaderRecord → Type 0
+ArePassOf s rs = map (λ r. r.of) rs ≡ s.tables
+
+-- of the one list the other differs at this place alone, where it went from one value to another, of which this holds
+pub record ChangesAt {A : Type 0} (n : ℕ) (xs ys : List A) (Goes : A → A → Type 0) : Type 0 where
+  pub before : A
+  pub after : A
+  pub was : slice_get xs n ≡ Some before
+  pub is : ys ≡ slice_set xs n after
+  pub goes : Goes before after

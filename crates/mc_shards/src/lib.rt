@@ -1,0 +1,35 @@
+//! A cache of shards: caches of one shape, each with a desk of its own, among which keys are divided.
+//!
+//! A part of the mixed key that no table uses says which shard a key belongs to. Lend the `Shards` to every thread. A `Pass` belongs to
+//! one thread at a time, and has a reader of each shard. A call for a key is the call of its shard's cache, by a turn at its desk if it
+//! writes; the other shards stay as they are. Only opening, closing and listing allocate, and no call waits.
+//!
+//! ```text
+//! let shape = shard_shape(100_000, 16)?;
+//! let (shards, mut passes) = open_shards::<1>(rt.alloc(), shape, 16, 2)?;
+//! ```
+//!
+//! With these shards and two of their passes:
+//!
+//! ```text
+//! one.try_put(shards, 7, [70])?;
+//! let (hit, put) = join_mut(rt, &mut || one.get(shards, 7), &mut || two.try_put(shards, 8, [80]));
+//! ```
+#![tactic(auto)]
+
+mod closing;
+pub mod laws;
+mod listing;
+mod opening;
+mod pass;
+mod shards;
+mod sizing;
+
+pub use closing::StillOpen;
+pub use mc_cache::{
+    DeskError, IfError, Mix, NoMemory, OpenError, Put, PutError, Remove, Reply, Shape, Spent,
+};
+pub use opening::{OpenShardsError, open_shards};
+pub use pass::Pass;
+pub use shards::Shards;
+pub use sizing::shard_shape;

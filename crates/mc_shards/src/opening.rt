@@ -1,0 +1,189 @@
+//! Opening shards.
+ghost use Rattle.std.specs.Prelude.{◌≡◌, [], ◌∷◌, ◌++◌, All, IfErr, IfOk, MatchResult, OnOk, length};
+ghost use Rattle.mc_words.specs.Places.{IsWidth};
+ghost use Rattle.mc_words.specs.Readers.{HasReaders};
+ghost use Rattle.mc_words.specs.Shapes.{HasShards, IsShape};
+ghost use Rattle.mc_shared.specs.Views.{layout_of};
+ghost use Rattle.mc_cache.specs.Openings.{RefusesOpening};
+ghost use Rattle.mc_cache.specs.declared.opening.OpenError.TheVariants.{NoMemory};
+ghost use Rattle.mc_shards.specs.Openings.{HasSeenNothing, RefusesShards};
+ghost use Rattle.mc_shards.specs.Inside.Dealt.{AreDealt};
+ghost use Rattle.mc_shards.specs.Sharded.{ArePassOf};
+
+use crate::pass::Pass;
+use crate::shards::Shards;
+use mc_cache::{Cache, Desk, OpenError, Reader, Shape, open};
+use mc_words::{MOST_READERS, can_shard};
+use std::alloc::{AllocError, Global};
+use thiserror::Error;
+
+/// Why no shards were opened.
+#[derive(Clone, Copy, Debug, PartialEq, Eq, Error)]
+pub enum OpenShardsError {
+    #[error("shards must be a power of two from 1 to 256")]
+    Shards,
+    #[error(transparent)]
+    Open(OpenError),
+}
+
+// The first fault of the arguments, if there is one.
+fn check(shape: Shape, shards: u32, passes: u32) -> Result<(), OpenShardsError>
+    ensures { MatchResult result (λ _. HasShards shards × IsShape shape × HasReaders passes) (λ e. RefusesShards shape shards passes e) }
+{
+    if !can_shard(shards) {
+        return Err(OpenShardsError::Shards);
+    }
+    if let Err(why) = shape.check() {
+        return Err(OpenShardsError::Open(OpenError::Shape(why)));
+    }
+    if passes == 0 || passes > MOST_READERS {
+        return Err(OpenShardsError::Open(OpenError::Readers));
+    }
+    Ok(())
+}
+
+// That many passes without a reader.
+fn blank_passes<const V: usize>(alloc: Global, many: u32) -> Result<Vec<Pass<V>>, AllocError>
+    ensures many { IfOk result (λ given. length given.items ≡ many) }
+    ensures blank { IfOk result (λ given. All (AreDealt []) given.items) }
+{
+    let mut given = Vec::with_capacity(alloc, many as usize)?;
+    for n in 0..many {
+        let _n = n;
+        given.push(Pass {
+            readers: Vec::new(alloc),
+        })?;
+    }
+    Ok(given)
+}
+
+// The pass with one reader more.
+fn with_reader<const V: usize>(mut pass: Pass<V>, reader: Reader<V>) -> Result<Pass<V>, AllocError>
+    ensures { IfOk result (λ given. given ≡ pass.entry ++ reader.entry ∷ []) }
+{
+    pass.readers.push(reader)?;
+    Ok(pass)
+}
+
+// Gives each pass one of the readers of a new cache, the next one.
+fn deal<const V: usize>(
+    alloc: Global,
+    caches: &Vec<Cache<V>>,
+    cache: &Cache<V>,
+    mut given: Vec<Pass<V>>,
+    mut readers: Vec<Reader<V>>,
+) -> Result<Vec<Pass<V>>, AllocError>
+    requires many { length readers.items ≡ length given.items }
+    requires fresh { All (λ r. (r.of ≡ cache.now) × (r.front ≡ [])) readers.items }
+    requires given { All (AreDealt caches.now.items) given.items }
+    ensures many { IfOk result (λ dealt. length dealt.items ≡ length given.entry.items) }
+    ensures dealt { IfOk result (λ dealt. All (AreDealt (caches.now.items ++ cache.now ∷ [])) dealt.items) }
+{
+    let (_caches, _cache) = (caches, cache);
+    let mut dealt = Vec::with_capacity(alloc, given.len())?;
+    while let Some(pass) = given.pop() {
+        let Some(reader) = readers.pop() else {
+            unreachable!();
+        };
+        dealt.push(with_reader(pass, reader)?)?;
+    }
+    Ok(dealt)
+}
+
+// One cache more, its desk, and the passes with a reader of it.
+fn open_one<const V: usize>(
+    alloc: Global,
+    shape: Shape,
+    passes: u32,
+    caches: &Vec<Cache<V>>,
+    given: Vec<Pass<V>>,
+) -> Result<(Cache<V>, Desk<V>, Vec<Pass<V>>), OpenError>
+    requires width { IsWidth V }
+    requires asked { IsShape shape × HasReaders passes }
+    requires many { length given.items ≡ passes }
+    requires given { All (AreDealt caches.now.items) given.items }
+    ensures refused { MatchResult result (λ r. r.0.layout ≡ layout_of V shape) (λ e. RefusesOpening shape passes e) }
+    ensures desk { IfOk result (λ r. r.1 ≡ r.0) }
+    ensures many { IfOk result (λ r. length r.2.items ≡ passes) }
+    ensures dealt { IfOk result (λ r. All (AreDealt (caches.now.items ++ r.0 ∷ [])) r.2.items) }
+{
+    let (cache, writer, readers) = open::<V>(alloc, shape, passes)?;
+    let Ok(desk) = Desk::new(alloc, writer) else {
+        return Err(OpenError::NoMemory);
+    };
+    match deal::<V>(alloc, caches, &cache, given, readers) {
+        Ok(dealt) => Ok((cache, desk, dealt)),
+        Err(_) => Err(OpenError::NoMemory),
+    }
+}
+
+// Adds a value to a list.
+fn add<T: Drop>(list: &mut Vec<T>, value: T) -> Result<(), OpenError>
+    ensures ok { OnOk result (list.new.items ≡ list.old.items ++ value ∷ []) }
+    ensures err { IfErr result (λ e. e ≡ NoMemory) }
+{
+    match list.push(value) {
+        Ok(()) => Ok(()),
+        Err(_) => Err(OpenError::NoMemory),
+    }
+}
+
+// All caches, their desks and the passes.
+fn open_all<const V: usize>(
+    alloc: Global,
+    shape: Shape,
+    shards: u32,
+    passes: u32,
+) -> Result<(Vec<Cache<V>>, Vec<Desk<V>>, Vec<Pass<V>>), OpenError>
+    requires width { IsWidth V }
+    requires asked { IsShape shape × HasReaders passes }
+    ensures refused { MatchResult result (λ r. length r.0.items ≡ shards) (λ e. RefusesOpening shape passes e) }
+    ensures shapes { IfOk result (λ r. All (λ o. o.layout ≡ layout_of V shape) r.0.items) }
+    ensures desks { IfOk result (λ r. r.1.items ≡ r.0.items) }
+    ensures many { IfOk result (λ r. length r.2.items ≡ passes) }
+    ensures dealt { IfOk result (λ r. All (AreDealt r.0.items) r.2.items) }
+{
+    let mut caches = Vec::new(alloc);
+    let mut desks = Vec::new(alloc);
+    let Ok(mut given) = blank_passes::<V>(alloc, passes) else {
+        return Err(OpenError::NoMemory);
+    };
+    for shard in 0..shards {
+        let _shard = shard;
+        let (cache, desk, dealt) = open_one::<V>(alloc, shape, passes, &caches, given)?;
+        given = dealt;
+        add(&mut caches, cache)?;
+        add(&mut desks, desk)?;
+    }
+    Ok((caches, desks, given))
+}
+
+/// Opens that many shards, each an empty cache of this shape with its writer on a desk, and that many passes. Returns the first error
+/// that applies: `Shards` if their number is no power of two from 1 to 256, then those of `mc_cache::open`. After an error nothing leaks.
+/// Condition: a value has from 1 to 8 words.
+pub fn open_shards<const V: usize>(
+    alloc: Global,
+    shape: Shape,
+    shards: u32,
+    passes: u32,
+) -> Result<(Shards<V>, Vec<Pass<V>>), OpenShardsError>
+    requires width { IsWidth V }
+    ensures shards { MatchResult result (λ r. (r.0.shape ≡ shape) × (length r.0.tables ≡ shards)) (λ e. RefusesShards shape shards passes e) }
+    ensures asked { IfOk result (λ r. HasShards shards × IsShape shape × HasReaders passes) }
+    ensures many { IfOk result (λ r. length r.1.items ≡ passes) }
+    ensures of { IfOk result (λ r. All (ArePassOf r.0) r.1.items) }
+    ensures plain { IfOk result (λ r. All (HasSeenNothing V) r.1.items) }
+{
+    check(shape, shards, passes)?;
+    match open_all::<V>(alloc, shape, shards, passes) {
+        Ok((caches, desks, passes)) => {
+            let shards = Shards {
+                shape,
+                caches,
+                desks,
+            };
+            Ok((shards, passes))
+        }
+        Err(why) => Err(OpenShardsError::Open(why)),
+    }
+}

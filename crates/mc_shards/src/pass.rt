@@ -1,0 +1,153 @@
+//! A pass: a reader of each shard, for one thread at a time.
+ghost use Rattle.std.specs.Prelude.{◌≡◌, length};
+ghost use Rattle.mc_plan.specs.WholeCalls.{PutCall, PutIfCall, RemoveCall};
+ghost use Rattle.mc_plan.specs.declared.answer.Answer.TheVariants as answer;
+ghost use Rattle.mc_reader.specs.Records.{HasLooked};
+ghost use Rattle.mc_cache.specs.Turns.{HasLookedOrMet, HasTried};
+ghost use Rattle.mc_shards.specs.Plain.{AllAnswered, AllBegin, HasAnswered, PutIfMeans, PutMeans, RemovalMeans, TurnMeans, seens};
+ghost use Rattle.mc_shards.specs.Sharded.{ArePassOf, ChangesAt, shard_in};
+
+use crate::shards::Shards;
+use mc_cache::{DeskError, IfError, Put, PutError, Reader, Remove, Reply, Spent};
+use std::marker::Model;
+
+/// A thread's handle: a reader of each shard, with which it looks up and tries for turns. In contracts it is the records of the readers.
+#[derive(Drop)]
+pub struct Pass<const V: usize> {
+    pub(crate) readers: Vec<Reader<V>>,
+}
+
+impl<const V: usize> Model for Pass<V> {
+    ghost use Rattle.std.specs.Prelude.{List};
+    ghost use Rattle.mc_shared.specs.Records.{ReaderRecord};
+
+    ghost Value = { List ReaderRecord };
+
+    ghost view = { λ p. p.readers.items };
+}
+
+impl<const V: usize> Pass<V> {
+    /// Looks the key up in its shard, as `Reader::get` does. Condition: the pass is of these shards.
+    #[inline(always)]
+    pub fn get(&mut self, shards: &Shards<V>, key: u64) -> Reply<V>
+        requires of { ArePassOf shards.now self.old }
+        ensures of { ArePassOf shards.now self.new }
+        ensures looked { ChangesAt (shard_in shards.now key) self.old self.new (λ r r'. HasLooked V shards.now.shape key r r' result) }
+        ensures plain { ChangesAt (shard_in shards.now key) (seens V self.old) (seens V self.new) (λ h h'. HasAnswered V h h' key result) }
+    {
+        let n = shards.shard_of(key);
+        let cache = shards.cache(n);
+        let reader = &mut self.readers[n];
+        reader.get(cache, key)
+    }
+
+    /// Looks the key up in its shard, as `Reader::get_or_desk` does. Condition: the pass is of these shards.
+    #[inline(always)]
+    pub fn get_or_desk(&mut self, shards: &Shards<V>, key: u64) -> Reply<V>
+        requires of { ArePassOf shards.now self.old }
+        ensures of { ArePassOf shards.now self.new }
+        ensures looked { ChangesAt (shard_in shards.now key) self.old self.new (λ r r'. HasLookedOrMet V shards.now.shape key r r' result) }
+        ensures plain { ChangesAt (shard_in shards.now key) (seens V self.old) (seens V self.new) (λ h h'. HasAnswered V h h' key result) }
+    {
+        let n = shards.shard_of(key);
+        let cache = shards.cache(n);
+        let desk = shards.desk(n);
+        let reader = &mut self.readers[n];
+        reader.get_or_desk(cache, desk, key)
+    }
+
+    /// Tries once for the turn of the key's shard, and with it puts the key, as `Desk::try_put` does. Condition: the pass is of these shards.
+    #[inline(always)]
+    pub fn try_put(
+        &mut self,
+        shards: &Shards<V>,
+        key: u64,
+        value: [u64; V],
+    ) -> Result<Put, DeskError<PutError>>
+        requires of { ArePassOf shards.now self.old }
+        ensures of { ArePassOf shards.now self.new }
+        ensures turn { ChangesAt (shard_in shards.now key) self.old self.new (λ r r'. HasTried V shards.now.shape (PutCall key value.entry) answer.Put r r' result) }
+        ensures plain { ChangesAt (shard_in shards.now key) (seens V self.old) (seens V self.new)
+            (λ h h'. TurnMeans (λ a b told. PutMeans V a b key value.entry told) h h' result) }
+    {
+        let n = shards.shard_of(key);
+        let cache = shards.cache(n);
+        let desk = shards.desk(n);
+        let reader = &mut self.readers[n];
+        desk.try_put(cache, reader, key, value)
+    }
+
+    /// Like `try_put`, with up to that many tries, one after the other without a pause. `Held` if none of them won.
+    pub fn put_within(
+        &mut self,
+        shards: &Shards<V>,
+        tries: u32,
+        key: u64,
+        value: [u64; V],
+    ) -> Result<Put, DeskError<PutError>>
+        requires of { ArePassOf shards.now self.old }
+        ensures of { ArePassOf shards.now self.new }
+        ensures turn { ChangesAt (shard_in shards.now key) self.old self.new (λ r r'. HasTried V shards.now.shape (PutCall key value.entry) answer.Put r r' result) }
+        ensures plain { ChangesAt (shard_in shards.now key) (seens V self.old) (seens V self.new)
+            (λ h h'. TurnMeans (λ a b told. PutMeans V a b key value.entry told) h h' result) }
+    {
+        for _ in 1..tries {
+            match self.try_put(shards, key, value) {
+                Err(DeskError::Held) => {}
+                told => return told,
+            }
+        }
+        self.try_put(shards, key, value)
+    }
+
+    /// Like `try_put`, with `Desk::try_put_if`.
+    #[inline(always)]
+    pub fn try_put_if(
+        &mut self,
+        shards: &Shards<V>,
+        key: u64,
+        since: u64,
+        value: [u64; V],
+    ) -> Result<u64, DeskError<IfError>>
+        requires of { ArePassOf shards.now self.old }
+        ensures of { ArePassOf shards.now self.new }
+        ensures turn { ChangesAt (shard_in shards.now key) self.old self.new (λ r r'. HasTried V shards.now.shape (PutIfCall key since value.entry) answer.PutIf r r' result) }
+        ensures plain { ChangesAt (shard_in shards.now key) (seens V self.old) (seens V self.new)
+            (λ h h'. TurnMeans (λ a b told. PutIfMeans V a b key since value.entry told) h h' result) }
+    {
+        let n = shards.shard_of(key);
+        let cache = shards.cache(n);
+        let desk = shards.desk(n);
+        let reader = &mut self.readers[n];
+        desk.try_put_if(cache, reader, key, since, value)
+    }
+
+    /// Like `try_put`, with `Desk::try_remove`.
+    #[inline(always)]
+    pub fn try_remove(&mut self, shards: &Shards<V>, key: u64) -> Result<Remove, DeskError<Spent>>
+        requires of { ArePassOf shards.now self.old }
+        ensures of { ArePassOf shards.now self.new }
+        ensures turn { ChangesAt (shard_in shards.now key) self.old self.new (λ r r'. HasTried V shards.now.shape (RemoveCall key) answer.Remove r r' result) }
+        ensures plain { ChangesAt (shard_in shards.now key) (seens V self.old) (seens V self.new)
+            (λ h h'. TurnMeans (λ a b told. RemovalMeans V a b key told) h h' result) }
+    {
+        let n = shards.shard_of(key);
+        let cache = shards.cache(n);
+        let desk = shards.desk(n);
+        let reader = &mut self.readers[n];
+        desk.try_remove(cache, reader, key)
+    }
+
+    /// Looks the keys up. Equivalent to calling `get` for each key in order.
+    /// Condition: the pass is of these shards, and there are as many replies as keys.
+    pub fn get_many(&mut self, shards: &Shards<V>, keys: &[u64], replies: &mut [Reply<V>])
+        requires of { ArePassOf shards.now self.old }
+        requires many { length replies.old ≡ length keys.now }
+        ensures of { ArePassOf shards.now self.new }
+        ensures plain { AllBegin (seens V self.old) (seens V self.new) × AllAnswered V shards.now.shape.mix (seens V self.old) (seens V self.new) keys.now replies.new }
+    {
+        for n in 0..keys.len() {
+            replies[n] = self.get(shards, keys[n]);
+        }
+    }
+}

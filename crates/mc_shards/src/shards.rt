@@ -1,0 +1,68 @@
+//! The caches of the shards, with a desk each.
+ghost use Rattle.std.specs.Prelude.{◌≡◌, ◌<◌, Some, length, slice_get};
+ghost use Rattle.mc_shards.specs.Sharded.{shard_in};
+
+use mc_cache::{Cache, Desk, Shape};
+use std::marker::Model;
+
+/// A cache of shards: caches of one shape, each with its writer on a desk. Lend it to every thread. In contracts it is the tables that
+/// were opened, and the shape of each.
+#[derive(Drop)]
+pub struct Shards<const V: usize> {
+    pub(crate) shape: Shape,
+    // A lookup reads these alone, so they don't share cache lines with the desks, which each turn writes.
+    pub(crate) caches: Vec<Cache<V>>,
+    pub(crate) desks: Vec<Desk<V>>,
+}
+
+impl<const V: usize> Model for Shards<V> {
+    ghost use Rattle.mc_shards.specs.Sharded.{Sharded};
+    ghost use Rattle.mc_shards.specs.Inside.Dealt.{AreShards, sharded};
+
+    ghost Value = { Sharded };
+
+    ghost view = { λ s. sharded s.shape s.caches.items };
+
+    ghost invariant = { λ s. AreShards V s.shape s.caches.items s.desks.items };
+}
+
+impl<const V: usize> Shards<V> {
+    ghost use Rattle.mc_words.specs.Shapes.{HasShards};
+
+    /// The number of shards.
+    #[inline(always)]
+    pub fn count(&self) -> u32
+        ensures count { result ≡ length self.now.tables }
+        ensures power { HasShards result }
+    {
+        self.caches.len() as u32
+    }
+
+    /// The number of the key's shard, from 0.
+    #[inline(always)]
+    pub fn shard_of(&self, key: u64) -> usize
+        ensures shard { result ≡ shard_in self.now key }
+        ensures range { result < length self.now.tables }
+    {
+        self.shape.mix.shard(key, self.count()) as usize
+    }
+
+    // The cache of a shard.
+    #[inline(always)]
+    pub(crate) fn cache(&self, n: usize) -> &Cache<V>
+        requires { n < length self.now.tables }
+        ensures table { slice_get self.now.tables n ≡ Some result.now }
+        ensures shape { result.now.layout.shape ≡ self.now.shape }
+    {
+        &self.caches[n]
+    }
+
+    // The desk of a shard.
+    #[inline(always)]
+    pub(crate) fn desk(&self, n: usize) -> &Desk<V>
+        requires { n < length self.now.tables }
+        ensures table { slice_get self.now.tables n ≡ Some result.now }
+    {
+        &self.desks[n]
+    }
+}

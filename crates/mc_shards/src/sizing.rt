@@ -1,0 +1,45 @@
+//! Choosing a shape for shards.
+ghost use Rattle.std.specs.Prelude.{ℕ, ◌≤◌, MatchResult};
+ghost use Rattle.mc_words.specs.Shapes.{HasShards};
+ghost use Rattle.mc_words.specs.Sizing.{IsSizedFor};
+ghost use Rattle.mc_shards.specs.Sizing.{IsShare, RefusesShare};
+
+use crate::opening::OpenShardsError;
+use mc_cache::{OpenError, Shape, ShapeError};
+use mc_words::can_shard;
+
+const REFUSED: OpenShardsError = OpenShardsError::Open(OpenError::Shape(ShapeError::Items));
+
+// The items of each of that many shards, if there are some in all.
+fn share_of(items: u32, shards: u32) -> u64
+    requires some { 1 ≤ items }
+    requires shards { HasShards shards }
+    ensures { IsShare items shards result }
+{
+    let mean = (u64::from(items) - 1) / u64::from(shards) + 1;
+    mean + 5 * (mean.isqrt() + 1)
+}
+
+/// A shape for each of that many shards, which have that many items together: `Shape::for_items` of a shard's mean share and five
+/// standard deviations more, since the hash gives some shards more keys than others. `Err` if the number of shards is not allowed, or if
+/// the items are none or too many.
+pub fn shard_shape(items: u32, shards: u32) -> Result<Shape, OpenShardsError>
+    ensures { MatchResult result
+        (λ sh. HasShards shards × (n : ℕ) × IsShare items shards n × IsSizedFor n sh)
+        (λ e. RefusesShare items shards e) }
+{
+    if !can_shard(shards) {
+        return Err(OpenShardsError::Shards);
+    }
+    if items == 0 {
+        return Err(REFUSED);
+    }
+    let share = share_of(items, shards);
+    if share > u64::from(u32::MAX) {
+        return Err(REFUSED);
+    }
+    match Shape::for_items(share as u32) {
+        Ok(shape) => Ok(shape),
+        Err(_) => Err(REFUSED),
+    }
+}
