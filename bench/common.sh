@@ -15,11 +15,15 @@ usage() {
     sed -n '2,/^[^#]/s/^# \{0,1\}//p' "$0"
 }
 
+# A bench takes at most two words, unless it sets `most`.
 case "$#:${1:-}" in
     1:-h | 1:--help) usage && exit 0 ;;
-    0: | 1:[!-]*) ;;
-    *) usage >&2 && exit 2 ;;
+    *:-*) usage >&2 && exit 2 ;;
 esac
+if (($# > ${most:-2})); then
+    usage >&2
+    exit 2
+fi
 
 folder=$(mktemp -d)
 trap 'rm -rf "$folder"' EXIT
@@ -32,4 +36,15 @@ choose_program() {
         fail "there is no program $1; to build it: $2"
     fi
     program=$(realpath "$1")
+}
+
+# Sets `built`, the folder of the contestants: that of the environment, or one that is built now.
+# Arguments: those of the bench, which may name mcbench and the archive.
+choose_contestants() {
+    built=${BUILT:-}
+    if [ -z "$built" ]; then
+        built=$folder/built
+        "$top/bench/build" "$built" "$@" >&2 || exit 2
+    fi
+    [ -x "$built/mcbench" ] || fail "there is no $built/mcbench; bench/build builds it"
 }

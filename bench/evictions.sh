@@ -1,28 +1,13 @@
 #!/usr/bin/env bash
-# The cost of a put that evicts, at 1,024 and at 262,144 buckets with half as many items as slots; and how many bits the
-# hand reads for an eviction, where keys are looked up uniformly and where few keys are looked up most.
+# Which items the hand takes and how many bits it reads for an eviction, if keys are drawn uniformly and if few keys are drawn most.
+# Fails unless mcstep answers as a model of the hand does.
 #
-# usage: bench/evictions.sh [PROGRAM]     PROGRAM: the mcstep to measure; none: crates/mcstep/out/mcstep
+# usage: bench/evictions.sh [PROGRAM]     PROGRAM: the mcstep to ask; none: crates/mcstep/out/mcstep
+most=1
 . "$(dirname "$0")/replays.sh"
-rounds=1048576
 
-# Puts so many keys, each once.
-script() {
-    awk -v keys="$1" 'BEGIN { for (key = 0; key < keys; key++) print "put", key, 1 }'
-}
-
-# The beginning puts as many keys as there are items and one more: at the first eviction the hand goes round once.
-costs=()
-for buckets in 1024 262144; do
-    script $((2 * buckets + 1)) > "$folder/fill"
-    script $((2 * buckets + 1 + rounds)) > "$folder/whole"
-    options=(--mix fmix --depth 5 --buckets "$buckets" --items $((2 * buckets)))
-    costs+=("$(cost "$folder/fill" "$folder/whole" "$rounds" "${options[@]}")")
-done
-compare "a put that evicts" "${costs[@]}"
-
-# Looks up keys of four times as many as there are items, and puts each that is absent. A model of the hand says what
-# mcstep is to answer, and counts the bits that are read.
+# Draws from four times as many keys as there are items, looks each up, and puts it if it is absent. Prints the script for mcstep, and
+# writes what the model answers and how many bits it reads.
 # Arguments: the power that skews the keys, the files of answers and of counts.
 look_up() {
     awk -v power="$1" -v answers="$2" -v counts="$3" -v items=2048 'BEGIN {
@@ -43,7 +28,7 @@ look_up() {
             item[key] = at; holds[at] = key; mark[at] = 1
             print "stored at", moment gone > answers
         }
-        printf "%.0f%% found, %.2f bits read an eviction\n", 100 * hits / n, read / evictions > counts
+        printf "%.0f%% found, %.2f bits read per eviction\n", 100 * hits / n, read / evictions > counts
     }'
 }
 

@@ -4,7 +4,7 @@
 
 // The cache as programs in C call it. A thread has a handle of its own while it looks up.
 struct Door {
-    enum { READERS = 64 };
+    enum { READERS = 8 };
     cefrodil_shape shape;
     cefrodil_handle writer = CEFRODIL_EMPTY;
     cefrodil_handle readers[READERS] = {};

@@ -4,6 +4,7 @@
 // its value); `put` (false where it is refused); `slots` (where keys can stand, or 0); `enter`, `tick` and `leave`, which each
 // thread calls at its beginning, now and then, and at its end.
 #pragma once
+#include <algorithm>
 #include <array>
 #include <atomic>
 #include <chrono>
@@ -17,6 +18,9 @@
 #include <vector>
 
 typedef std::array<uint64_t, 4> Value;
+
+// How many keys are looked up at most before anything is measured.
+enum { WARM = 1000000 };
 
 // The finalizer of MurmurHash3, by which the table hashes.
 static inline uint64_t mix(uint64_t key) {
@@ -148,7 +152,7 @@ template <class C> void beside(const Options &options) {
     map->enter();
     for (uint64_t n = 0; n < options.keys; n++) filled.put(*map, key_of(n), 0);
     double bytes = resident() - before;
-    for (uint64_t n = 0; n < options.keys; n++) filled.look(*map, key_of(n));
+    for (uint64_t n = 0; n < std::min<uint64_t>(options.keys, WARM); n++) filled.look(*map, key_of(n));
     map->leave();
     uint64_t threads = options.readers + options.writers;
     std::atomic<int> waiting(threads);
@@ -160,24 +164,26 @@ template <class C> void beside(const Options &options) {
     std::this_thread::sleep_for(std::chrono::duration<double>(options.seconds));
     over = true;
     for (auto &worker : workers) worker.join();
-    double lookups_s = 0, writes_s = 0, nanos = 0, lookups = 0;
-    uint64_t torn = 0, refused = filled.refused;
+    double lookups_s = 0, writes_s = 0, nanos = 0;
+    uint64_t lookups = 0, writes = 0, read = 0, torn = 0, refused = filled.refused;
     for (uint64_t n = 0; n < threads; n++) {
         Tally &tally = tallies[n];
         lookups_s += tally.lookups / tally.seconds;
         writes_s += tally.writes / tally.seconds;
+        lookups += tally.lookups;
+        writes += tally.writes;
         torn += tally.torn;
         refused += tally.refused;
-        if (n < options.readers) nanos += tally.seconds * 1e9, lookups += tally.lookups;
+        if (n < options.readers) nanos += tally.seconds * 1e9, read += tally.lookups;
     }
-    printf("{\"ns_lookup\":%.2f,\"lookups_s\":%.0f,\"writes_s\":%.0f,\"torn\":%lu,\"refused\":%lu,\"bytes_key\":%.1f}\n",
-        lookups ? nanos / lookups : 0, lookups_s, writes_s, torn, refused, bytes / options.keys);
+    printf("{\"ns_lookup\":%.2f,\"lookups_s\":%.0f,\"writes_s\":%.0f,\"lookups\":%lu,\"writes\":%lu,\"torn\":%lu,\"refused\":%lu,\"bytes_key\":%.1f}\n",
+        read ? nanos / read : 0, lookups_s, writes_s, lookups, writes, torn, refused, bytes / options.keys);
     fflush(stdout);
     _Exit(0);
 }
 
-static inline void report(double writes, uint64_t refused, double seconds, double bytes, double load) {
-    printf("{\"writes_s\":%.0f,\"refused\":%lu,\"bytes_key\":%.1f,\"load_factor\":%.5f}\n", writes / seconds, refused, bytes, load);
+static inline void report(uint64_t writes, uint64_t refused, double seconds, double bytes, double load) {
+    printf("{\"writes_s\":%.0f,\"writes\":%lu,\"refused\":%lu,\"bytes_key\":%.1f,\"load_factor\":%.5f}\n", writes / seconds, writes, refused, bytes, load);
 }
 
 // Fresh keys into new maps, up to their capacity.
@@ -202,6 +208,23 @@ template <class C> void fill(const Options &options) {
     report(tally.writes, tally.refused, spent, bytes / options.capacity, 0);
 }
 
+// Fresh keys into a map that is full and evicts.
+template <class C> void evict(const Options &options) {
+    auto map = std::make_unique<C>(options.capacity);
+    uint64_t first = options.fresh();
+    auto put = [&](Tally &tally, uint64_t many) {
+        for (uint64_t n = 0; n < many; n++) tally.put(*map, key_of(first + n), n);
+        first += many;
+    };
+    map->enter();
+    Tally before, tally;
+    put(before, 2 * options.capacity);
+    double began = now(true);
+    while (now(true) - began < options.seconds) put(tally, 1000);
+    report(tally.writes, tally.refused, now(true) - began, 0, 0);
+    map->leave();
+}
+
 // Fresh keys until one is refused.
 template <class C> void load(const Options &options) {
     C map(options.capacity);
@@ -216,6 +239,7 @@ template <class C> void load(const Options &options) {
 template <class C> int contest(int count, char **words) {
     Options options(count, words);
     if (options.workload == "fill") fill<C>(options);
+    else if (options.workload == "evict") evict<C>(options);
     else if (options.workload == "load") load<C>(options);
     else beside<C>(options);
     return 0;

@@ -1,0 +1,189 @@
+#!/usr/bin/env python3
+"""Runs contestants side by side, and prints tables of what they did.
+
+Each round runs each workload by each contestant, in a new order, each time in a process of its own. A workload of one thread is pinned
+to one core, and measured by the thread's processor time. In a table the first column has Cefrodil's own figures, and the others
+Cefrodil's speed divided by the contestant's in the same round: below 1 the other is faster. A row of bytes or of loads has each
+contestant's own figure. A cell is the median of the rounds. `~` marks one whose quartiles are further apart than a tenth of it.
+
+usage: bench/contests.py run BENCH,.. BUILT FILE    BUILT: a folder of bench/build; FILE: gets a line of JSON for each run
+       bench/contests.py table BENCH FILE           prints the table of what the file has
+
+ROUNDS: none: 21    SECONDS_EACH: how long a run measures; none: 0.05    CORE: where one thread runs; none: the last that is allowed
+"""
+import json
+import os
+import random
+import statistics
+import subprocess
+import sys
+from typing import NamedTuple
+
+SHOWN = {'cefrodil': 'Cefrodil', 'many': 'Cefrodil', 'door': 'from C', 'libcuckoo': 'libcuckoo', 'tbb': 'TBB', 'urcu': 'urcu', 'dashmap': 'dashmap',
+         'locked': '`RwLock<HashMap>`', 'twin': 'unproved twin'}
+ALL = ('cefrodil', 'door', 'libcuckoo', 'tbb', 'urcu', 'dashmap', 'locked', 'twin')
+WRITERS = ('cefrodil', 'libcuckoo', 'tbb', 'dashmap', 'locked')
+MANY = 32
+LARGEST = 3_774_873
+# Programs that have several contestants, or options of their own.
+PROGRAMS = {'cefrodil': ('mcbench',), 'many': ('mcbench', '--many', str(MANY)), 'shards16': ('mcbench', '--shards', '16'),
+            'shards64': ('mcbench', '--shards', '64'), 'twin': ('contest', 'twin'), 'dashmap': ('contest', 'dashmap'),
+            'locked': ('contest', 'locked')}
+# Figures of which each contestant has its own, and how they are shown.
+OWN = {'load_factor': '{:.3f}', 'bytes_key': '{:.0f}'}
+
+
+class Row(NamedTuple):
+    label: str
+    figure: str
+    options: str
+    names: tuple = ALL
+    ours: str = 'cefrodil'
+    huge: bool = False
+
+
+def options(workload, keys, more=''):
+    return f'--workload {workload} --keys {keys} --capacity {keys}{more}'
+
+
+def lookups(workload, keys, huge=False, many=False):
+    """The rows of one workload: key by key and, if asked, by calls for many."""
+    label = {'half': 'half present'}.get(workload, workload)
+    rows = [Row(f'{label}, {keys:,} keys', 'ns_lookup', options(workload, keys), huge=huge)]
+    return rows + [rows[0]._replace(label=f'the same, {MANY} keys per call', ours='many')] * many
+
+
+def peers():
+    alone, beside = ' --readers 0 --writers 1', options('mixed', 100_000, ' --readers 3 --writers 1')
+    rows = [row for workload in ('hit', 'half', 'miss') for keys in (1000, 100_000) for row in lookups(workload, keys)]
+    rows.append(Row('three readers, 64 keys', 'lookups_s', options('hit', 64, ' --readers 3')))
+    rows.append(Row('three readers beside a writer, 100,000 keys: reads', 'lookups_s', beside))
+    rows.append(Row('the same: writes', 'writes_s', beside))
+    for label, workload, names in ('overwrite', 'mixed', ALL), ('fill', 'fill', ALL), ('evict', 'evict', ('cefrodil', 'door', 'twin')):
+        rows += [Row(f'{label}, {keys:,} keys', 'writes_s', options(workload, keys, alone), names) for keys in (1000, 100_000)]
+    rows.append(Row('load factor at the first refusal', 'load_factor', options('load', 100_000, alone), ('cefrodil', 'libcuckoo', 'twin')))
+    rows.append(Row('bytes per key, 100,000 keys', 'bytes_key', options('fill', 100_000, alone)))
+    return rows
+
+
+def large(huge):
+    rows = [row for workload in ('hit', 'half', 'miss') for row in lookups(workload, 1_000_000, huge, True) if workload == 'hit' or not huge]
+    return rows + lookups('hit', LARGEST, huge, True)
+
+
+def turns():
+    rows = []
+    for every, threads in (10, 2), (10, 4), (2, 4):
+        for keys in 1000, 100_000:
+            run = options('mixed', keys, f' --readers 0 --writers {threads} --write-every {every}')
+            calls = f'{threads} threads, {keys:,} keys, one write in {every}'
+            rows.append(Row(f'{calls}: writes by turns', 'writes_s', run, WRITERS))
+            rows.append(Row('the same: lookups', 'lookups_s', run, WRITERS))
+            rows += [Row(f'the same: writes with {many} shards', 'writes_s', run, WRITERS, f'shards{many}') for many in (16, 64)]
+    return rows
+
+
+BENCHES = {'peers': peers(), 'large': large(False), 'huge': large(True), 'turns': turns()}
+
+
+def alone(run):
+    """Whether one thread works."""
+    words = run.split()
+    given = dict(zip(words[::2], words[1::2]))
+    return int(given.get('--readers', 1)) + int(given.get('--writers', 0)) == 1
+
+
+def measure(built, run, huge, name, number, each, core):
+    """What a contestant prints of a workload. Several threads run twice as long."""
+    program, *more = PROGRAMS.get(name, (name,))
+    seconds = each if alone(run) else 2 * each
+    words = [f'{built}/{program}', *run.split(), '--seconds', str(seconds), '--seed', str(number), *more]
+    if alone(run):
+        words = ['taskset', '--cpu-list', core, *words]
+    pages = {'GLIBC_TUNABLES': 'glibc.malloc.hugetlb=1'} if huge else {}
+    done = subprocess.run(words, env={**os.environ, **pages}, capture_output=True, text=True, timeout=120)
+    if done.returncode != 0:
+        sys.exit(f'contests.py: {" ".join(words)}: {done.stderr}')
+    told = json.loads(done.stdout)
+    if told.get('torn'):
+        sys.exit(f'contests.py: {" ".join(words)}: a lookup gave a torn value')
+    return told
+
+
+def run_rounds(names, built, path):
+    rounds, each = int(os.environ.get('ROUNDS', 21)), float(os.environ.get('SECONDS_EACH', 0.05))
+    core = os.environ.get('CORE', str(max(os.sched_getaffinity(0))))
+    runs = {}
+    for row in (row for name in names for row in BENCHES[name]):
+        runs.setdefault((row.options, row.huge), {}).update(dict.fromkeys((row.ours, *row.names)))
+    with open(path, 'w') as file:
+        for number in range(1, rounds + 1):
+            print(f'{"+".join(names)}: round {number} of {rounds}', file=sys.stderr, flush=True)
+            for (run, huge), contestants in runs.items():
+                for name in random.sample(list(contestants), len(contestants)):
+                    told = measure(built, run, huge, name, number, each, core)
+                    print(json.dumps({'round': number, 'run': run, 'huge': huge, 'name': name, 'told': told}), file=file, flush=True)
+
+
+def read(path):
+    """What was told, by workload, pages and contestant: what each round gave."""
+    told = {}
+    for line in open(path):
+        record = json.loads(line)
+        told.setdefault((record['run'], record['huge'], record['name']), {})[record['round']] = record['told']
+    return told
+
+
+def values(told, row, name):
+    """A contestant's figures in the rounds: its own, or Cefrodil's speed divided by its."""
+    ours, theirs = (told[row.options, row.huge, each] for each in (row.ours, name))
+    if name == row.ours or row.figure in OWN:
+        return [each[row.figure] for each in theirs.values()]
+    pairs = [(ours[number][row.figure], theirs[number][row.figure]) for number in theirs]
+    return [their / our if row.figure == 'ns_lookup' else our / max(their, 1) for our, their in pairs]
+
+
+def quartiles(numbers):
+    return statistics.quantiles(numbers, n=4, method='inclusive') if len(numbers) > 1 else numbers * 3
+
+
+def marked(numbers, show):
+    """The median, with a mark if the quartiles are far apart."""
+    low, middle, high = quartiles(numbers)
+    return ('~' if high - low > abs(middle) / 10 else '') + show(middle)
+
+
+def shown(number, figure, own):
+    if figure in OWN:
+        return OWN[figure].format(number)
+    if not own:
+        return f'{number:.2f}' if number < 10 else f'{number:.0f}'
+    return f'{number:.0f} ns' if figure == 'ns_lookup' else f'{number / 1e6:.1f} M/s'
+
+
+def cell(told, row, name):
+    if name not in row.names:
+        return '-'
+    name = row.ours if name == 'cefrodil' else name
+    return marked(values(told, row, name), lambda number: shown(number, row.figure, name == row.ours))
+
+
+def table(bench, told):
+    names = WRITERS if bench == 'turns' else ALL
+    lines = ['| | ' + ' | '.join(SHOWN[name] for name in names) + ' |', '|---' * (len(names) + 1) + '|']
+    for row in BENCHES[bench]:
+        lines.append(f'| {row.label} | ' + ' | '.join(cell(told, row, name) for name in names) + ' |')
+    return '\n'.join(lines)
+
+
+def main(arguments):
+    if len(arguments) == 4 and arguments[0] == 'run':
+        run_rounds(arguments[1].split(','), arguments[2], arguments[3])
+    elif len(arguments) == 3 and arguments[0] == 'table':
+        print(table(arguments[1], read(arguments[2])))
+    else:
+        sys.exit(__doc__)
+
+
+if __name__ == '__main__':
+    main(sys.argv[1:])
