@@ -1,15 +1,30 @@
-//! Links the archive, which `c/build` makes: from the folder `native` here, or from the one that CEFRODIL_LIB names.
-use std::path::Path;
+//! Links the archive, which `c/build` makes: from the folder `native` here, or from the one that `CEFRODIL_LIB` names.
+use std::env;
+use std::path::PathBuf;
+use std::process::exit;
+
+const HOW: &str = "build it with `c/build FOLDER` and set CEFRODIL_LIB to FOLDER/lib";
 
 fn main() {
-    println!("cargo:rerun-if-env-changed=CEFRODIL_LIB");
-    let here = std::env::var("CARGO_MANIFEST_DIR").expect("cargo sets CARGO_MANIFEST_DIR");
-    let folder = std::env::var("CEFRODIL_LIB").unwrap_or(format!("{here}/native"));
-    let archive = format!("{folder}/libcefrodil.a");
-    if !Path::new(&archive).exists() {
-        println!("cargo:warning=there is no {archive}: c/build makes it");
+    println!("cargo::rerun-if-env-changed=CEFRODIL_LIB");
+    let named = env::var_os("CEFRODIL_LIB").map(PathBuf::from);
+    let here = PathBuf::from(env::var_os("CARGO_MANIFEST_DIR").expect("cargo sets CARGO_MANIFEST_DIR"));
+    let folder = named.clone().unwrap_or(here.join("native"));
+    let archive = folder.join("libcefrodil.a");
+    println!("cargo::rerun-if-changed={}", archive.display());
+    if named.is_some() && !folder.is_absolute() {
+        eprintln!("CEFRODIL_LIB must be an absolute path, and not {}", folder.display());
+        exit(1);
     }
-    println!("cargo:rerun-if-changed={archive}");
-    println!("cargo:rustc-link-search=native={folder}");
-    println!("cargo:rustc-link-lib=static=cefrodil");
+    if !archive.is_file() {
+        // Without an archive `cargo check` and `cargo doc` work, so it is an error only if a folder was named.
+        let missing = format!("there is no libcefrodil.a in {}: {HOW}", folder.display());
+        if named.is_some() {
+            eprintln!("{missing}");
+            exit(1);
+        }
+        println!("cargo::warning={missing}");
+    }
+    println!("cargo::rustc-link-search=native={}", folder.display());
+    println!("cargo::rustc-link-lib=static=cefrodil");
 }

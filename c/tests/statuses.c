@@ -206,6 +206,33 @@ static void widths(void) {
     }
 }
 
+enum { MOST = 1024 };
+
+static cefrodil_handle crowd[MOST + 1];
+
+/* The most readers that a cache can have, and one more; then as many passes. */
+static void most_handles(void) {
+    uint64_t value = 7, found;
+    MUST(cefrodil_open(&shape, 1, &writer, crowd, MOST + 1) == CEFRODIL_BAD_READERS);
+    MUST(cefrodil_open_desk(&shape, 1, crowd, MOST + 1) == CEFRODIL_BAD_READERS);
+    for (int by_turns = 0; by_turns < 2; by_turns++) {
+        if (by_turns) {
+            MUST(cefrodil_open_desk(&shape, 1, crowd, MOST) == CEFRODIL_OK);
+            MUST(cefrodil_try_put(&crowd[MOST - 1], 1, &value, 1, &reply) == CEFRODIL_OK);
+        } else {
+            MUST(cefrodil_open(&shape, 1, &writer, crowd, MOST) == CEFRODIL_OK);
+            MUST(cefrodil_put(&writer, 1, &value, 1, &reply) == CEFRODIL_OK);
+            MUST(cefrodil_close(&writer) == CEFRODIL_OK);
+        }
+        for (int i = 0; i < MOST; i++) {
+            found = 0;
+            MUST(cefrodil_get(&crowd[i], 1, &found, 1, &reply) == CEFRODIL_OK && found == 7 && reply.at == 1);
+            MUST(cefrodil_close(&crowd[i]) == CEFRODIL_OK);
+        }
+        MUST(!crowd[MOST].live_);
+    }
+}
+
 int main(void) {
     shapes();
     closed();
@@ -216,6 +243,7 @@ int main(void) {
     turns();
     many_by_a_reader();
     many_by_a_pass();
+    most_handles();
     widths();
     if (line_of_failure != 0) {
         printf("statuses: line %d fails\n", line_of_failure);

@@ -1,4 +1,4 @@
-//! A cache, its writer and a reader. README shows what it prints.
+//! A cache, its writer and a reader. README quotes it, and shows what it prints.
 use cefrodil::{Cache, Shape};
 
 fn main() -> Result<(), Box<dyn std::error::Error>> {

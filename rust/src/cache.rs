@@ -4,14 +4,17 @@ use crate::handle::Handle;
 use crate::raw;
 use crate::reply::{self, Put, Removal, Reply};
 use crate::shape::Shape;
+use crate::width::Value;
+use std::fmt::{self, Debug, Formatter};
 
-/// Caches whose values have so many words, from 1 to 8. It has no values: [`Cache::open`] gives the sides of a cache, which lives as
-/// long as the last of them.
+/// Opens caches whose values have this many words, 1 to 8. This type has no values. [`Cache::open`] returns a writer and readers;
+/// dropping the last of them frees the cache.
+#[derive(Debug)]
 pub struct Cache<const WORDS: usize>(());
 
 /// The one writer of a cache.
 ///
-/// It may go to another thread, and two threads can't share it:
+/// It may move to another thread, but two threads can't share it:
 ///
 /// ```compile_fail
 /// fn shared<T: Sync>() {}
@@ -19,23 +22,29 @@ pub struct Cache<const WORDS: usize>(());
 /// ```
 pub struct Writer<const WORDS: usize>(Handle);
 
-/// A reader of a cache. It may go to another thread, and two threads can't share it.
+/// A reader of a cache. It may move to another thread, but two threads can't share it.
 pub struct Reader<const WORDS: usize>(Handle);
 
-/// A cache that was opened with entries: its writer and its readers.
+/// A cache that was opened with entries, with its writer and readers.
+#[derive(Debug)]
 pub struct Opened<const WORDS: usize> {
     /// The writer.
     pub writer: Writer<WORDS>,
     /// The readers.
     pub readers: Vec<Reader<WORDS>>,
-    /// The index of each entry that was left, in order, and why.
+    /// The entries that were left out: the index of each, in order, and the reason.
     pub left: Vec<(usize, Why)>,
 }
 
 impl<const WORDS: usize> Cache<WORDS> {
-    pub(crate) const IS_WIDTH: () = assert!(WORDS >= 1 && WORDS <= 8, "a value has from 1 to 8 words");
-
-    /// A cache of this shape with nothing in it: its writer, and so many readers, from 1 to 1024.
+    /// Opens an empty cache of this shape, with its writer and this many readers, 1 to 1024. This takes all memory; no later
+    /// call takes any.
+    ///
+    /// # Errors
+    ///
+    /// The first variant of [`OpenError`] that applies, in their order. Nothing leaks.
+    ///
+    /// # Examples
     ///
     /// ```
     /// use cefrodil::{Cache, Reply, Shape};
@@ -56,17 +65,29 @@ impl<const WORDS: usize> Cache<WORDS> {
     ///
     /// Another width doesn't compile:
     ///
-    /// ```compile_fail
-    /// cefrodil::Cache::<9>::open(&cefrodil::Shape::for_items(100).unwrap(), 1);
+    /// ```compile_fail,E0277
+    /// let _ = cefrodil::Cache::<0>::open(&cefrodil::Shape::for_items(100).unwrap(), 1);
     /// ```
-    pub fn open(shape: &Shape, readers: usize) -> Result<(Writer<WORDS>, Vec<Reader<WORDS>>), OpenError> {
-        let () = Self::IS_WIDTH;
+    /// ```compile_fail,E0277
+    /// let _ = cefrodil::Cache::<9>::open(&cefrodil::Shape::for_items(100).unwrap(), 1);
+    /// ```
+    pub fn open(shape: &Shape, readers: usize) -> Result<(Writer<WORDS>, Vec<Reader<WORDS>>), OpenError>
+    where
+        [u64; WORDS]: Value,
+    {
         let (writer, readers) = Handle::open(&shape.raw(), WORDS, readers).map_err(OpenError::of)?;
         Ok((Writer(writer), readers.into_iter().map(Reader).collect()))
     }
 
-    /// The same with entries, keys and their values, which are put one after the other. None takes another's place: one that finds none
-    /// is left, and named. A key that is named twice is put again. The puts are the first changes of the table.
+    /// Opens a cache like [`Cache::open`], and puts these entries, in order. No entry evicts another: one that can't be put so is
+    /// left out, and reported with the reason. A key that is listed twice is put twice. These puts are the first changes of the
+    /// table.
+    ///
+    /// # Errors
+    ///
+    /// Those of [`Cache::open`]. An entry that is left out is no error.
+    ///
+    /// # Examples
     ///
     /// ```
     /// use cefrodil::{Cache, Reply, Shape, Why};
@@ -77,8 +98,16 @@ impl<const WORDS: usize> Cache<WORDS> {
     /// assert_eq!(opened.readers[0].get(8), Reply::Found { value: [80], at: 2, since: 2 });
     /// # Ok::<(), Box<dyn std::error::Error>>(())
     /// ```
-    pub fn open_with(shape: &Shape, readers: usize, entries: &[(u64, [u64; WORDS])]) -> Result<Opened<WORDS>, OpenError> {
-        let () = Self::IS_WIDTH;
+    ///
+    /// Another width doesn't compile:
+    ///
+    /// ```compile_fail,E0277
+    /// let _ = cefrodil::Cache::<9>::open_with(&cefrodil::Shape::for_items(100).unwrap(), 1, &[]);
+    /// ```
+    pub fn open_with(shape: &Shape, readers: usize, entries: &[(u64, [u64; WORDS])]) -> Result<Opened<WORDS>, OpenError>
+    where
+        [u64; WORDS]: Value,
+    {
         let mut words = Vec::with_capacity(entries.len() * (1 + WORDS));
         for (key, value) in entries {
             words.push(*key);
@@ -91,13 +120,36 @@ impl<const WORDS: usize> Cache<WORDS> {
     }
 }
 
+impl<const WORDS: usize> Debug for Writer<WORDS> {
+    fn fmt(&self, text: &mut Formatter) -> fmt::Result {
+        text.debug_struct("Writer").finish_non_exhaustive()
+    }
+}
+
+impl<const WORDS: usize> Debug for Reader<WORDS> {
+    fn fmt(&self, text: &mut Formatter) -> fmt::Result {
+        text.debug_struct("Reader").finish_non_exhaustive()
+    }
+}
+
 impl<const WORDS: usize> Writer<WORDS> {
-    /// Puts a key, which then has this value. Another key may be taken out for it.
+    /// Puts the key with this value. May evict another key.
+    ///
+    /// # Errors
+    ///
+    /// [`PutError`]: no key and no value was changed. After `AllRecent` only recency bits were.
     pub fn put(&mut self, key: u64, value: &[u64; WORDS]) -> Result<Put, PutError> {
         Put::of(self.0.put(key, value))
     }
 
-    /// Puts a key anew, if its last put was at the moment `since`, which a lookup of it told: the moment of the new put.
+    /// Overwrites the key's value if its last put was at the moment `since`, as a lookup of the key returned it. Returns the
+    /// moment of the new put.
+    ///
+    /// # Errors
+    ///
+    /// The first variant of [`PutIfError`] that applies, in their order. Nothing was changed.
+    ///
+    /// # Examples
     ///
     /// ```
     /// use cefrodil::{Cache, PutIfError, Shape};
@@ -112,20 +164,32 @@ impl<const WORDS: usize> Writer<WORDS> {
         reply::put_if(self.0.put_if(key, since, value))
     }
 
-    /// Takes a key out.
+    /// Removes the key.
+    ///
+    /// # Errors
+    ///
+    /// [`Spent`]: nothing was changed.
     pub fn remove(&mut self, key: u64) -> Result<Removal, Spent> {
         Removal::of(self.0.remove(key))
     }
 }
 
 impl<const WORDS: usize> Reader<WORDS> {
-    /// What the cache holds of the key.
+    /// Looks the key up. A hit marks the key as recently used.
+    #[must_use]
     pub fn get(&mut self, key: u64) -> Reply<WORDS> {
         let mut value = [0; WORDS];
         let told = self.0.get(key, &mut value);
         Reply::of(told, value)
     }
-    /// What the cache holds of each of the keys: a [`get`](Reader::get) for each, in their order. Each reply has a moment of its own.
+
+    /// Looks the keys up. Equivalent to calling [`get`](Reader::get) for each key in order: each reply has a moment of its own.
+    ///
+    /// # Panics
+    ///
+    /// If there are not as many replies as keys.
+    ///
+    /// # Examples
     ///
     /// ```
     /// use cefrodil::{Cache, Reply, Shape};
@@ -137,10 +201,6 @@ impl<const WORDS: usize> Reader<WORDS> {
     /// assert_eq!(replies, [Reply::Absent { at: 1 }, Reply::Found { value: [70], at: 1, since: 1 }]);
     /// # Ok::<(), Box<dyn std::error::Error>>(())
     /// ```
-    ///
-    /// # Panics
-    ///
-    /// Where there are more replies than keys, or fewer.
     pub fn get_many(&mut self, keys: &[u64], replies: &mut [Reply<WORDS>]) {
         reply::many(&mut self.0, keys, replies);
     }

@@ -1,12 +1,13 @@
-//! A cache whose writer lies on a desk, for threads that write by turns.
-use crate::cache::Cache;
+//! A cache for threads that write by turns.
 use crate::error::{OpenError, PutError, PutIfError, Spent, TurnError};
 use crate::handle::Handle;
 use crate::reply::{self, Put, Removal, Reply};
 use crate::shape::Shape;
+use crate::width::Value;
+use std::fmt::{self, Debug, Formatter};
 use std::sync::{Mutex, PoisonError};
 
-/// A cache whose writer lies on a desk. Threads share it, and each takes a [`Pass`].
+/// A cache for threads that write by turns: a try-lock around its writer. Threads share the desk, and each takes a [`Pass`].
 ///
 /// ```
 /// use cefrodil::{Desk, Shape};
@@ -29,24 +30,50 @@ pub struct Desk<const WORDS: usize> {
     passes: Mutex<Vec<Handle>>,
 }
 
-/// A pass at a desk, for one thread at a time: it looks up, and tries for turns. It goes back to the desk when it is dropped.
+/// A thread's access to the desk: it looks up like a reader, and tries for the turn to write. Dropping it returns it to the desk.
+#[must_use = "a pass that is dropped goes back to its desk"]
 pub struct Pass<'a, const WORDS: usize> {
     desk: &'a Desk<WORDS>,
     handle: Option<Handle>,
 }
 
 impl<const WORDS: usize> Desk<WORDS> {
-    /// A desk of a cache of this shape with nothing in it, for so many passes at a time, from 1 to 1024.
-    pub fn open(shape: &Shape, passes: usize) -> Result<Desk<WORDS>, OpenError> {
-        let () = Cache::<WORDS>::IS_WIDTH;
+    /// Opens an empty cache of this shape, for this many passes at a time, 1 to 1024.
+    ///
+    /// # Errors
+    ///
+    /// The first variant of [`OpenError`] that applies, in their order. `Readers` means the passes.
+    ///
+    /// Another width doesn't compile:
+    ///
+    /// ```compile_fail,E0277
+    /// let _ = cefrodil::Desk::<9>::open(&cefrodil::Shape::for_items(100).unwrap(), 1);
+    /// ```
+    pub fn open(shape: &Shape, passes: usize) -> Result<Desk<WORDS>, OpenError>
+    where
+        [u64; WORDS]: Value,
+    {
         let handles = Handle::open_desk(&shape.raw(), WORDS, passes).map_err(OpenError::of)?;
         Ok(Desk { passes: Mutex::new(handles) })
     }
 
-    /// A pass, if one is left. A thread takes it once, and not for each call: it is lent under a lock.
+    /// Takes a pass, or returns `None` if all are taken. This locks a mutex, so take a pass once per thread, not per call.
+    #[must_use]
     pub fn pass(&self) -> Option<Pass<'_, WORDS>> {
         let handle = self.passes.lock().unwrap_or_else(PoisonError::into_inner).pop()?;
         Some(Pass { desk: self, handle: Some(handle) })
+    }
+}
+
+impl<const WORDS: usize> Debug for Desk<WORDS> {
+    fn fmt(&self, text: &mut Formatter) -> fmt::Result {
+        text.debug_struct("Desk").finish_non_exhaustive()
+    }
+}
+
+impl<const WORDS: usize> Debug for Pass<'_, WORDS> {
+    fn fmt(&self, text: &mut Formatter) -> fmt::Result {
+        text.debug_struct("Pass").finish_non_exhaustive()
     }
 }
 
@@ -62,40 +89,55 @@ impl<const WORDS: usize> Pass<'_, WORDS> {
         self.handle.as_mut().expect("a pass has its handle until it is dropped")
     }
 
-    /// What the cache holds of the key.
+    /// Looks the key up. A hit marks the key as recently used.
+    #[must_use]
     pub fn get(&mut self, key: u64) -> Reply<WORDS> {
         let mut value = [0; WORDS];
         let told = self.handle().get(key, &mut value);
         Reply::of(told, value)
     }
 
-    /// What the cache holds of each of the keys: a [`get`](Pass::get) for each, in their order. Each reply has a moment of its own.
+    /// Looks the keys up. Equivalent to calling [`get`](Pass::get) for each key in order: each reply has a moment of its own.
     ///
     /// # Panics
     ///
-    /// Where there are more replies than keys, or fewer.
+    /// If there are not as many replies as keys.
     pub fn get_many(&mut self, keys: &[u64], replies: &mut [Reply<WORDS>]) {
         reply::many(self.handle(), keys, replies);
     }
 
-    /// The same as [`get`](Pass::get); where that is busy, it tries once for the turn, and with it tells what is there.
+    /// Like [`get`](Pass::get). If that is busy, tries once for the turn; with the turn, it looks up beside the writer and is
+    /// never busy. `Busy` if the try does not win either.
+    #[must_use]
     pub fn get_or_desk(&mut self, key: u64) -> Reply<WORDS> {
         let mut value = [0; WORDS];
         let told = self.handle().get_or_desk(key, &mut value);
         Reply::of(told, value)
     }
 
-    /// Tries once for the turn, to put a key.
+    /// Tries once for the turn, and with it puts the key with this value, as [`Writer::put`](crate::Writer::put) does.
+    ///
+    /// # Errors
+    ///
+    /// [`TurnError`]: no key and no value was changed.
     pub fn try_put(&mut self, key: u64, value: &[u64; WORDS]) -> Result<Put, TurnError<PutError>> {
         reply::turn(self.handle().try_put(key, value), Put::of)
     }
 
-    /// Tries once for the turn, to put a key anew, if its last put was at the moment `since`.
+    /// Like [`try_put`](Pass::try_put), with [`Writer::put_if`](crate::Writer::put_if).
+    ///
+    /// # Errors
+    ///
+    /// [`TurnError`]: nothing was changed.
     pub fn try_put_if(&mut self, key: u64, since: u64, value: &[u64; WORDS]) -> Result<u64, TurnError<PutIfError>> {
         reply::turn(self.handle().try_put_if(key, since, value), reply::put_if)
     }
 
-    /// Tries once for the turn, to take a key out.
+    /// Like [`try_put`](Pass::try_put), with [`Writer::remove`](crate::Writer::remove).
+    ///
+    /// # Errors
+    ///
+    /// [`TurnError`]: nothing was changed.
     pub fn try_remove(&mut self, key: u64) -> Result<Removal, TurnError<Spent>> {
         reply::turn(self.handle().try_remove(key), Removal::of)
     }

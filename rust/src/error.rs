@@ -1,78 +1,82 @@
-//! Why a call did nothing.
+//! Why a call failed.
 use crate::raw;
 use std::error::Error;
 use std::fmt::{self, Display, Formatter};
 
-/// Why no cache is opened: the first fault in this order.
-#[derive(Clone, Copy, Debug, PartialEq, Eq)]
+/// Why no cache was opened: the first of these, in this order, that applies.
+#[derive(Clone, Copy, Debug, PartialEq, Eq, Hash)]
+#[non_exhaustive]
 pub enum OpenError {
-    /// The buckets are out of their range.
+    /// `buckets` of the shape is out of range.
     Buckets,
-    /// The items are.
+    /// `items` of the shape is out of range, or the argument of [`Shape::for_items`](crate::Shape::for_items).
     Items,
-    /// The stripes are.
+    /// `stripes` of the shape is out of range.
     Stripes,
-    /// The depth is.
+    /// `depth` of the shape is out of range.
     Depth,
-    /// The tries are.
+    /// `tries` of the shape is out of range.
     Tries,
-    /// The limit is.
+    /// `limit` of the shape is out of range.
     Limit,
-    /// There must be from 1 to 1024 readers.
+    /// There must be 1 to 1024 readers, or passes.
     Readers,
-    /// No memory.
+    /// Out of memory.
     NoMemory,
 }
 
-/// Why a put stored nothing.
-#[derive(Clone, Copy, Debug, PartialEq, Eq)]
+/// Why a put failed.
+#[derive(Clone, Copy, Debug, PartialEq, Eq, Hash)]
+#[non_exhaustive]
 pub enum PutError {
     /// No path of displacements leads to an empty slot.
     NoPath,
     /// Every item was used since it was last considered for eviction.
     AllRecent,
-    /// The limit on version changes could be passed.
+    /// The limit on version changes could be exceeded.
     Spent,
 }
 
-/// Why a put on a condition stored nothing.
-#[derive(Clone, Copy, Debug, PartialEq, Eq)]
+/// Why a conditional put failed: the first of these, in this order, that applies.
+#[derive(Clone, Copy, Debug, PartialEq, Eq, Hash)]
+#[non_exhaustive]
 pub enum PutIfError {
-    /// The limit on version changes could be passed.
+    /// The limit on version changes could be exceeded.
     Spent,
-    /// The key isn't there.
+    /// The key is not there.
     NotThere {
-        /// The moment at which that held.
+        /// The number of changes to the table when that was true.
         at: u64,
     },
     /// The key's last put was another one.
     Changed {
-        /// The moment of the put that stands.
+        /// The moment of the key's last put.
         since: u64,
     },
 }
 
-/// Why an entry was left, with which a cache was to be opened.
-#[derive(Clone, Copy, Debug, PartialEq, Eq)]
+/// Why an entry was left out when a cache was opened with entries.
+#[derive(Clone, Copy, Debug, PartialEq, Eq, Hash)]
+#[non_exhaustive]
 pub enum Why {
     /// No path of displacements leads to an empty slot.
     NoPath,
     /// Every item is in use.
     NoItem,
-    /// The limit on version changes could be passed.
+    /// The limit on version changes could be exceeded.
     Spent,
 }
 
-/// The limit on version changes could be passed.
-#[derive(Clone, Copy, Debug, PartialEq, Eq)]
+/// The limit on version changes could be exceeded.
+#[derive(Clone, Copy, Debug, PartialEq, Eq, Hash)]
 pub struct Spent;
 
-/// Why a try for the turn did nothing.
-#[derive(Clone, Copy, Debug, PartialEq, Eq)]
+/// Why a try for the turn failed.
+#[derive(Clone, Copy, Debug, PartialEq, Eq, Hash)]
 pub enum TurnError<E> {
-    /// Another thread had the turn.
+    /// The try did not win. Nothing was done.
     Held,
-    /// With the turn, this is what the call refused.
+    /// The try won, and the call returned this error.
     Call(E),
 }
 

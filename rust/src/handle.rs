@@ -1,21 +1,24 @@
-//! A handle of the archive's, with the calls that are made on it. All `unsafe` of this crate but the shape's stands here.
+//! A handle of the archive, with its calls. All `unsafe` of this crate is here, except the call of `Shape::for_items`.
 //!
-//! What the archive asks of its caller is kept so. A handle is zeroed at first, and only the archive writes it. It is private and no
-//! `Clone`, and a call borrows it as `&mut`: so one call at a time uses it. The pointers of a call are to borrows, which last as long
-//! as the call and don't overlap.
+//! This module keeps what the header asks of a caller. A handle begins zeroed, and only the archive writes it. It is private and
+//! not `Clone`, and a call borrows it as `&mut`, so one call at a time uses it. The pointers of a call come from borrows, which
+//! last for the call and don't overlap.
 use crate::raw::{self, RawAnswer, RawHandle, RawReply, RawShape};
 
-/// An open handle, or none.
+/// The most readers or passes of a cache.
+const MOST: usize = 1024;
+
+/// A handle, open or empty. Dropping it closes it.
 #[repr(transparent)]
 pub struct Handle(RawHandle);
 
-// SAFETY: the archive's handle may go to another thread, which is proved of it: what it owns may, and what it shares may be shared.
-// It is not `Sync`, by its pointer.
+// SAFETY: it is proved that an archive's handle may move to another thread: what it owns may move, and what it shares may be
+// shared. Its pointer keeps it from being `Sync`.
 unsafe impl Send for Handle {}
 
 impl Drop for Handle {
     fn drop(&mut self) {
-        // SAFETY: `&mut` says that no other call uses this handle. Of one that is not open the answer is a number.
+        // SAFETY: by `&mut`, no other call uses this handle. If it is not open, the call returns a status.
         unsafe { raw::cefrodil_close(&mut self.0) };
     }
 }
@@ -25,16 +28,18 @@ impl Handle {
         Handle(RawHandle { at: std::ptr::null_mut(), live: false })
     }
 
+    /// That many empty handles; none if the archive allows no such number. It refuses none for the same reason.
     fn many(count: usize) -> Vec<Handle> {
+        let count = if count <= MOST { count } else { 0 };
         (0..count).map(|_| Handle::empty()).collect()
     }
 
-    /// A cache's writer and its readers, or a status.
+    /// Opens a cache: its writer and readers, or the status.
     pub fn open(shape: &RawShape, words: usize, readers: usize) -> Result<(Handle, Vec<Handle>), u32> {
         let mut writer = Handle::empty();
         let mut all = Handle::many(readers);
-        // SAFETY: `Handle` has the layout of its one field, so these are as many handles as is said, each of them empty.
-        let status = unsafe { raw::cefrodil_open(shape, words, &mut writer.0, all.as_mut_ptr().cast(), readers) };
+        // SAFETY: `Handle` has the layout of its one field, so `all` is an array of `readers` empty handles.
+        let status = unsafe { raw::cefrodil_open(shape, words, &mut writer.0, all.as_mut_ptr().cast(), all.len()) };
         if status == raw::OK {
             Ok((writer, all))
         } else {
@@ -42,7 +47,7 @@ impl Handle {
         }
     }
 
-    /// The same with entries, which stand one after the other. What became of each is told.
+    /// Opens a cache with entries, each its key and then its value. `statuses` gets the status of each entry.
     pub fn open_with(
         shape: &RawShape,
         words: usize,
@@ -52,7 +57,7 @@ impl Handle {
     ) -> Result<(Handle, Vec<Handle>), u32> {
         let mut writer = Handle::empty();
         let mut all = Handle::many(readers);
-        // SAFETY: as in `open`; and the two arrays have the lengths that are said.
+        // SAFETY: as in `open`; the lengths of the two arrays are passed with them.
         let status = unsafe {
             raw::cefrodil_open_with(
                 shape,
@@ -63,7 +68,7 @@ impl Handle {
                 statuses.len(),
                 &mut writer.0,
                 all.as_mut_ptr().cast(),
-                readers,
+                all.len(),
             )
         };
         if status == raw::OK {
@@ -73,11 +78,11 @@ impl Handle {
         }
     }
 
-    /// The passes of a cache whose writer lies on a desk, or a status.
+    /// Opens a cache for threads that write by turns: its passes, or the status.
     pub fn open_desk(shape: &RawShape, words: usize, passes: usize) -> Result<Vec<Handle>, u32> {
         let mut all = Handle::many(passes);
         // SAFETY: as in `open`.
-        let status = unsafe { raw::cefrodil_open_desk(shape, words, all.as_mut_ptr().cast(), passes) };
+        let status = unsafe { raw::cefrodil_open_desk(shape, words, all.as_mut_ptr().cast(), all.len()) };
         if status == raw::OK {
             Ok(all)
         } else {
@@ -87,14 +92,14 @@ impl Handle {
 
     pub fn get(&mut self, key: u64, value: &mut [u64]) -> (u32, RawReply) {
         let mut reply = RawReply::default();
-        // SAFETY: all that the call is given is borrowed for it alone, and `value` has the length that is said.
+        // SAFETY: every pointer is a borrow that lasts for the call, and the length of `value` is passed with it.
         let status = unsafe { raw::cefrodil_get(&mut self.0, key, value.as_mut_ptr(), value.len(), &mut reply) };
         (status, reply)
     }
 
     pub fn get_many(&mut self, keys: &[u64], values: &mut [u64], answers: &mut [RawAnswer]) -> u32 {
         let (value_words, answer_count) = (values.len(), answers.len());
-        // SAFETY: as in `get`: the three arrays have the lengths that are said.
+        // SAFETY: as in `get`; the lengths of the three arrays are passed with them.
         unsafe {
             raw::cefrodil_get_many(
                 &mut self.0,

@@ -1,5 +1,6 @@
-//! A bounded in-memory table from `u64` keys to values of 1 to 8 `u64` words. One writer changes it, and many readers look up
-//! without a lock. What stands behind these calls is a library that is proved; this crate is the safe Rust over it, and is not.
+//! A fixed-size in-memory cache from `u64` keys to values of 1 to 8 `u64` words. One writer changes it. Many readers look up
+//! without a lock. The library behind these calls is proved; this crate is the safe Rust over it, and is not. It runs on Linux
+//! on x86-64-v2.
 //!
 //! ```
 //! use cefrodil::{Cache, Reply, Shape};
@@ -10,9 +11,10 @@
 //! # Ok::<(), Box<dyn std::error::Error>>(())
 //! ```
 //!
-//! A [`Writer`] and each [`Reader`] belong to one thread at a time, and go from one to another as any value does. Where several
-//! threads write now and then, they take turns at a [`Desk`].
-#![deny(missing_docs, unsafe_op_in_unsafe_fn)]
+//! A [`Writer`] and each [`Reader`] belong to one thread at a time. Move them between threads like any value. If several
+//! threads write now and then, they take turns at a [`Desk`]. `docs/USING.md` has sizing, patterns and what to do about each
+//! answer.
+#![deny(missing_docs, missing_debug_implementations, unsafe_op_in_unsafe_fn)]
 
 mod cache;
 mod desk;
@@ -21,9 +23,11 @@ mod handle;
 mod raw;
 mod reply;
 mod shape;
+mod width;
 
 pub use cache::{Cache, Opened, Reader, Writer};
 pub use desk::{Desk, Pass};
 pub use error::{OpenError, PutError, PutIfError, Spent, TurnError, Why};
 pub use reply::{Put, Removal, Reply};
 pub use shape::{Mix, Shape};
+pub use width::Value;

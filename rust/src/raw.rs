@@ -1,7 +1,7 @@
-//! The calls of the archive, as `cefrodil.h` declares them.
+//! The exports of the archive, as `cefrodil.h` declares them.
 use std::ffi::c_void;
 
-/// A handle, or none: memory that only the archive writes, once it was zeroed.
+/// A handle, open or empty. It begins zeroed; after that only the archive writes it.
 #[repr(C)]
 pub struct RawHandle {
     pub at: *mut c_void,
@@ -20,7 +20,7 @@ pub struct RawShape {
 }
 
 #[repr(C)]
-#[derive(Default)]
+#[derive(Clone, Copy, Default)]
 pub struct RawReply {
     pub at: u64,
     pub since: u64,

@@ -1,10 +1,10 @@
-//! What calls answer.
+//! Answers of calls.
 use crate::error::{PutError, PutIfError, Spent, TurnError};
 use crate::handle::Handle;
 use crate::raw::{self, RawAnswer, RawReply};
 
-/// What a lookup answers. `at` is the moment at which the answer held: how many changes of the table had been made.
-#[derive(Clone, Copy, Debug, PartialEq, Eq)]
+/// The answer of a lookup. `at` is its moment: the number of changes to the table when the answer was true. A count, not a time.
+#[derive(Clone, Copy, Debug, Default, PartialEq, Eq, Hash)]
 pub enum Reply<const WORDS: usize> {
     /// The key has this value.
     Found {
@@ -12,46 +12,47 @@ pub enum Reply<const WORDS: usize> {
         value: [u64; WORDS],
         /// The moment.
         at: u64,
-        /// The moment of the key's last put before it.
+        /// The moment of the key's last put. Serves as a CAS token.
         since: u64,
     },
-    /// The key isn't there.
+    /// The key is not there.
     Absent {
         /// The moment.
         at: u64,
     },
-    /// Every try was spoiled by the writer.
+    /// The writer spoiled every try of the lookup. Says nothing about the table.
+    #[default]
     Busy,
 }
 
-/// What a put did. `at` is the moment of its change.
-#[derive(Clone, Copy, Debug, PartialEq, Eq)]
+/// What a put did. `at` is its moment: the number of changes to the table, its own included.
+#[derive(Clone, Copy, Debug, PartialEq, Eq, Hash)]
 pub enum Put {
     /// The key is new.
     Stored {
         /// The moment.
         at: u64,
-        /// How many keys were moved for it.
+        /// How many keys were moved for the new one.
         moves: u32,
-        /// The key that was taken out for it.
+        /// The key that was evicted for the new one.
         evicted: Option<u64>,
     },
-    /// The key was there, and has the new value.
+    /// The key was there; its value was overwritten.
     Renewed {
         /// The moment.
         at: u64,
     },
 }
 
-/// What a removal did. `at` is the moment after it.
-#[derive(Clone, Copy, Debug, PartialEq, Eq)]
+/// What a removal did. `at` is its moment: the number of changes to the table after it.
+#[derive(Clone, Copy, Debug, PartialEq, Eq, Hash)]
 pub enum Removal {
-    /// The key was taken out.
+    /// The key was removed.
     Removed {
         /// The moment.
         at: u64,
     },
-    /// The key wasn't there.
+    /// The key was not there.
     NotThere {
         /// The moment.
         at: u64,
@@ -60,12 +61,21 @@ pub enum Removal {
 
 type Told = (u32, RawReply);
 
-// The others tell of a handle that is closed or of another kind, or of another width: the types of this crate leave none of them.
+// Other statuses mean a closed handle, a handle of another kind, or another width. The types of this crate exclude them.
 fn not_told(status: u32) -> ! {
     unreachable!("this call gives no status {status}")
 }
 
 impl<const WORDS: usize> Reply<WORDS> {
+    /// The value, if the key was found.
+    #[must_use]
+    pub fn value(self) -> Option<[u64; WORDS]> {
+        match self {
+            Reply::Found { value, .. } => Some(value),
+            Reply::Absent { .. } | Reply::Busy => None,
+        }
+    }
+
     pub(crate) fn of((status, reply): Told, value: [u64; WORDS]) -> Reply<WORDS> {
         match status {
             raw::OK => Reply::Found { value, at: reply.at, since: reply.since },
@@ -76,10 +86,10 @@ impl<const WORDS: usize> Reply<WORDS> {
     }
 }
 
-// How many keys go to the archive by one call.
+// How many keys one call of the archive gets.
 const KEYS_A_CALL: usize = 32;
 
-/// The reply of each key, by lookups one after the other.
+/// Looks the keys up in order.
 pub(crate) fn many<const WORDS: usize>(handle: &mut Handle, keys: &[u64], replies: &mut [Reply<WORDS>]) {
     assert_eq!(keys.len(), replies.len(), "there must be as many replies as keys");
     for (keys, replies) in keys.chunks(KEYS_A_CALL).zip(replies.chunks_mut(KEYS_A_CALL)) {
@@ -128,7 +138,7 @@ impl Removal {
     }
 }
 
-/// The moment of a put on a condition.
+/// The answer of a conditional put: its moment.
 pub(crate) fn put_if((status, reply): Told) -> Result<u64, PutIfError> {
     match status {
         raw::OK => Ok(reply.at),
@@ -139,7 +149,7 @@ pub(crate) fn put_if((status, reply): Told) -> Result<u64, PutIfError> {
     }
 }
 
-/// The answer of a try for the turn, from what the call with the turn answers.
+/// The answer of a try for the turn. With the turn, it is the answer of the call.
 pub(crate) fn turn<T, E>(told: Told, answer: fn(Told) -> Result<T, E>) -> Result<T, TurnError<E>> {
     if told.0 == raw::HELD {
         return Err(TurnError::Held);

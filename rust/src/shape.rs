@@ -2,36 +2,43 @@
 use crate::error::OpenError;
 use crate::raw::{self, RawShape};
 
-/// How keys are mixed before they are cut into their parts.
-#[derive(Clone, Copy, Debug, PartialEq, Eq)]
+/// Whether the library hashes keys, or takes them as they are.
+#[derive(Clone, Copy, Debug, Default, PartialEq, Eq, Hash)]
 pub enum Mix {
-    /// Scatters keys that follow one another.
+    /// Hashes keys by MurmurHash3's finalizer.
+    #[default]
     Full,
-    /// Takes keys as they are: for tests.
+    /// Takes keys as they are. For tests.
     None,
 }
 
-/// The sizes of a table and the bounds of its calls. [`Shape::for_items`] chooses one.
-#[derive(Clone, Copy, Debug, PartialEq, Eq)]
+/// The sizes of a table and the limits of its calls. [`Shape::for_items`] chooses one.
+#[derive(Clone, Copy, Debug, PartialEq, Eq, Hash)]
 pub struct Shape {
-    /// The greatest number of version changes, from 0 to 2^62.
+    /// Most version changes, 0 to 2^62.
     pub limit: u64,
-    /// A power of two from 2 to 2^20. Each bucket has four slots.
+    /// A power of two, 2 to 2^20. Each bucket has four slots.
     pub buckets: u32,
-    /// From 1 to four times the buckets; best below nine tenths of that.
+    /// Most keys, 1 to four times the buckets. Keep it below nine tenths of that.
     pub items: u32,
-    /// The number of version counters, a power of two from 1 to 2^16.
+    /// Number of version counters, a power of two, 1 to 2^16.
     pub stripes: u32,
-    /// The greatest number of displacements of a put, from 0 to 8.
+    /// Most keys that one put may move, 0 to 8.
     pub depth: u32,
-    /// The greatest number of tries of a lookup, from 1 to 64.
+    /// Most tries of one lookup, 1 to 64.
     pub tries: u32,
-    /// How keys are mixed.
+    /// Whether keys are hashed.
     pub mix: Mix,
 }
 
 impl Shape {
-    /// A shape for so many items, from 1 to 3,774,873.
+    /// Chooses a shape for this many items, 1 to 3,774,873.
+    ///
+    /// # Errors
+    ///
+    /// [`OpenError::Items`] if the number is out of range.
+    ///
+    /// # Examples
     ///
     /// ```
     /// use cefrodil::{OpenError, Shape};
@@ -42,7 +49,7 @@ impl Shape {
     /// ```
     pub fn for_items(items: u32) -> Result<Shape, OpenError> {
         let mut shape = RawShape { limit: 0, buckets: 0, items: 0, stripes: 0, depth: 0, tries: 0, mix: 0 };
-        // SAFETY: `shape` is borrowed for the call alone.
+        // SAFETY: `shape` is a borrow that lasts for the call.
         let status = unsafe { raw::cefrodil_shape_for_items(items, &mut shape) };
         if status != raw::OK {
             return Err(OpenError::Items);

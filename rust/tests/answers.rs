@@ -1,0 +1,186 @@
+//! Every error with its text, and the parts of answers that `calls.rs` leaves open.
+use cefrodil::{Cache, Desk, Mix, OpenError, Put, PutError, PutIfError, Removal, Reply, Shape, Spent, TurnError, Value, Why};
+use std::collections::HashSet;
+use std::error::Error;
+use std::iter;
+
+const SMALL: Shape = Shape { limit: 1 << 62, buckets: 4, items: 16, stripes: 1, depth: 2, tries: 2, mix: Mix::None };
+
+// The error of each opening of this shape with so many readers, which is one.
+fn opening_error<const WORDS: usize>(shape: &Shape, readers: usize) -> OpenError
+where
+    [u64; WORDS]: Value,
+{
+    let why = Cache::<WORDS>::open(shape, readers).unwrap_err();
+    assert_eq!(Desk::<WORDS>::open(shape, readers).unwrap_err(), why);
+    assert_eq!(Cache::<WORDS>::open_with(shape, readers, &[]).unwrap_err(), why);
+    why
+}
+
+#[test]
+fn each_fault_of_a_shape_has_its_error() {
+    for (shape, why, text) in [
+        (Shape { buckets: 3, ..SMALL }, OpenError::Buckets, "buckets must be a power of two from 2 to 1048576"),
+        (Shape { items: 17, ..SMALL }, OpenError::Items, "items must be from 1 to four times the buckets"),
+        (Shape { stripes: 3, ..SMALL }, OpenError::Stripes, "stripes must be a power of two from 1 to 65536"),
+        (Shape { depth: 9, ..SMALL }, OpenError::Depth, "depth must be from 0 to 8"),
+        (Shape { tries: 65, ..SMALL }, OpenError::Tries, "tries must be from 1 to 64"),
+        (Shape { limit: 1 << 63, ..SMALL }, OpenError::Limit, "limit must be from 0 to 4611686018427387904"),
+    ] {
+        assert_eq!(opening_error::<1>(&shape, 1), why);
+        assert_eq!(opening_error::<8>(&shape, usize::MAX), why);
+        assert_eq!(why.to_string(), text);
+    }
+    assert_eq!(OpenError::Readers.to_string(), "readers must be from 1 to 1024");
+    assert_eq!(OpenError::NoMemory.to_string(), "no memory");
+}
+
+#[test]
+fn every_other_count_of_readers_is_an_error() {
+    for readers in [0, 1025, 1 << 32, (1 << 32) + 1, 1 << 40, usize::MAX / 16, usize::MAX] {
+        assert_eq!(opening_error::<1>(&SMALL, readers), OpenError::Readers);
+    }
+}
+
+#[test]
+fn other_errors_have_these_texts() {
+    assert_eq!(
+        [PutError::NoPath, PutError::AllRecent, PutError::Spent].map(|why| why.to_string()),
+        ["no path", "all recent", "spent"]
+    );
+    assert_eq!([Why::NoPath, Why::NoItem, Why::Spent].map(|why| why.to_string()), ["no path", "no item", "spent"]);
+    assert_eq!(PutIfError::Changed { since: 7 }.to_string(), "changed since 7");
+    assert_eq!(PutIfError::NotThere { at: 7 }.to_string(), "not there at 7");
+    assert_eq!(PutIfError::Spent.to_string(), "spent");
+    assert_eq!(Spent.to_string(), "spent");
+    assert_eq!(TurnError::<Spent>::Held.to_string(), "held");
+    assert_eq!(TurnError::Call(PutError::NoPath).to_string(), "no path");
+}
+
+#[test]
+fn a_shape_for_items_has_every_field() -> Result<(), OpenError> {
+    let expected = Shape { limit: 1 << 62, buckets: 512, items: 1000, stripes: 512, depth: 5, tries: 8, mix: Mix::Full };
+    assert_eq!(Shape::for_items(1000)?, expected);
+    Ok(())
+}
+
+#[test]
+fn a_put_reports_moves_evictions_and_refusals() -> Result<(), Box<dyn Error>> {
+    let (mut writer, _readers) = Cache::<1>::open(&SMALL, 1)?;
+    for key in [1 << 56, 0, 4, 8, 12, 16, 20, 24] {
+        assert!(matches!(writer.put(key, &[1])?, Put::Stored { moves: 0, evicted: None, .. }));
+    }
+    assert_eq!(writer.put(28, &[28])?, Put::Stored { at: 9, moves: 1, evicted: None });
+    let (mut writer, _readers) = Cache::<1>::open(&Shape { items: 2, ..SMALL }, 1)?;
+    writer.put(0, &[10])?;
+    writer.put(1, &[11])?;
+    assert_eq!(writer.put(2, &[12])?, Put::Stored { at: 4, moves: 0, evicted: Some(0) });
+    let (mut writer, _readers) = Cache::<1>::open(&Shape { depth: 0, ..SMALL }, 1)?;
+    for key in 0..8 {
+        writer.put(4 * key, &[key])?;
+    }
+    assert_eq!(writer.put(32, &[32]), Err(PutError::NoPath));
+    Ok(())
+}
+
+#[test]
+fn a_spent_cache_refuses_writes() -> Result<(), Box<dyn Error>> {
+    let none = Shape { limit: 0, ..SMALL };
+    let (mut writer, _readers) = Cache::<1>::open(&none, 1)?;
+    assert_eq!(writer.put(0, &[7]), Err(PutError::Spent));
+    assert_eq!(writer.put_if(0, 1, &[7]), Err(PutIfError::Spent));
+    assert_eq!(writer.remove(0), Err(Spent));
+    let desk = Desk::<1>::open(&none, 1)?;
+    let mut pass = desk.pass().ok_or("no pass")?;
+    assert_eq!(pass.try_put(0, &[7]), Err(TurnError::Call(PutError::Spent)));
+    assert_eq!(pass.try_remove(0), Err(TurnError::Call(Spent)));
+    Ok(())
+}
+
+#[test]
+fn keys_are_mixed_as_the_shape_says() -> Result<(), Box<dyn Error>> {
+    // Taken as they are, the nine keys share two buckets.
+    for (mix, stored) in [(Mix::None, 8), (Mix::Full, 9)] {
+        let (mut writer, _readers) = Cache::<1>::open(&Shape { buckets: 1024, depth: 0, mix, ..SMALL }, 1)?;
+        assert_eq!((0..9).filter(|key| writer.put(1024 * key, &[0]).is_ok()).count(), stored);
+    }
+    assert_eq!(Mix::default(), Mix::Full);
+    Ok(())
+}
+
+#[test]
+fn a_desk_has_as_many_passes_as_were_opened() -> Result<(), Box<dyn Error>> {
+    let desk = Desk::<1>::open(&SMALL, 1024)?;
+    let mut passes: Vec<_> = iter::from_fn(|| desk.pass()).collect();
+    assert_eq!(passes.len(), 1024);
+    assert!(matches!(passes[0].try_remove(1)?, Removal::NotThere { at: 0 }));
+    assert_eq!(passes[1023].get(1), Reply::Absent { at: 0 });
+    drop(passes);
+    assert_eq!(iter::from_fn(|| desk.pass()).collect::<Vec<_>>().len(), 1024);
+    Ok(())
+}
+
+#[test]
+fn a_cache_has_as_many_readers_as_were_opened() -> Result<(), Box<dyn Error>> {
+    let (mut writer, mut readers) = Cache::<1>::open(&SMALL, 1024)?;
+    writer.put(7, &[70])?;
+    assert_eq!(readers.len(), 1024);
+    for reader in &mut readers {
+        assert_eq!(reader.get(7).value(), Some([70]));
+    }
+    assert_eq!(Cache::<1>::open_with(&SMALL, 1024, &[])?.readers.len(), 1024);
+    Ok(())
+}
+
+#[test]
+#[should_panic(expected = "as many replies as keys")]
+fn more_replies_than_keys_panic() {
+    let (_writer, mut readers) = Cache::<1>::open(&SMALL, 1).expect("a cache");
+    readers[0].get_many(&[1], &mut [Reply::Busy; 2]);
+}
+
+#[test]
+fn a_turn_changes_only_the_put_that_it_names() -> Result<(), Box<dyn Error>> {
+    let desk = Desk::<1>::open(&SMALL, 1)?;
+    let mut pass = desk.pass().ok_or("no pass")?;
+    pass.try_put(7, &[70])?;
+    pass.try_put(7, &[71])?;
+    for since in [0, 1, 3, u64::MAX] {
+        assert_eq!(pass.try_put_if(7, since, &[72]), Err(TurnError::Call(PutIfError::Changed { since: 2 })));
+    }
+    assert_eq!(pass.try_put_if(2, 7, &[72]), Err(TurnError::Call(PutIfError::NotThere { at: 2 })));
+    assert_eq!(pass.get(7), Reply::Found { value: [71], at: 2, since: 2 });
+    assert_eq!(pass.try_put_if(7, 2, &[72])?, 3);
+    assert_eq!(pass.get_or_desk(7), Reply::Found { value: [72], at: 3, since: 3 });
+    assert_eq!(pass.get_or_desk(2), Reply::Absent { at: 3 });
+    Ok(())
+}
+
+#[test]
+fn each_entry_that_is_left_is_named() -> Result<(), Box<dyn Error>> {
+    let entries = [0, 4, 8, 12, 16, 20, 24, 28, 2, 28, 6].map(|key| (key, [key]));
+    let mut opened = Cache::<1>::open_with(&Shape { buckets: 2, items: 8, ..SMALL }, 1, &entries)?;
+    assert_eq!(opened.left, [(8, Why::NoPath), (10, Why::NoPath)]);
+    assert_eq!(opened.readers[0].get(28), Reply::Found { value: [28], at: 9, since: 9 });
+    let opened = Cache::<1>::open_with(&Shape { items: 2, ..SMALL }, 1, &entries[..4])?;
+    assert_eq!(opened.left, [(2, Why::NoItem), (3, Why::NoItem)]);
+    Ok(())
+}
+
+#[test]
+fn a_reply_may_have_a_value() {
+    assert_eq!(Reply::Found { value: [7, 8], at: 2, since: 1 }.value(), Some([7, 8]));
+    assert_eq!(Reply::<2>::Absent { at: 2 }.value(), None);
+    assert_eq!(Reply::<2>::Busy.value(), None);
+    assert_eq!(Reply::<2>::default(), Reply::Busy);
+}
+
+#[test]
+fn debug_names_the_type_alone() -> Result<(), Box<dyn Error>> {
+    let opened = Cache::<1>::open_with(&SMALL, 2, &[])?;
+    assert_eq!(format!("{opened:?}"), "Opened { writer: Writer { .. }, readers: [Reader { .. }, Reader { .. }], left: [] }");
+    let desk = Desk::<1>::open(&SMALL, 1)?;
+    assert_eq!(format!("{desk:?} {:?}", desk.pass()), "Desk { .. } Some(Pass { .. })");
+    assert!(HashSet::from([SMALL]).contains(&SMALL));
+    Ok(())
+}
