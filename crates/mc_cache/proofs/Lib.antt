@@ -2,6 +2,7 @@ pub mod NewWriters
 pub mod KeptMoments
 pub mod OrderedAnswers
 pub mod PlainCalls
+pub mod FailedCalls
 pub mod LoadedEntries
 pub mod HistoryLaws
 pub mod Sent

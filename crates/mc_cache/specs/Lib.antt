@@ -1,4 +1,5 @@
 pub mod Beside
+pub mod Failing
 pub mod Openings
 pub mod Orders
 pub mod Plain

@@ -88,6 +88,7 @@ impl<const V: usize> Desk<V> {
 }
 
 impl<const V: usize> Desk<V> {
+    ghost use Rattle.mc_cache.specs.Failing.{PutFails, PutIfFails, RemovalFails, TurnFails, versions_seen};
     ghost use Rattle.mc_cache.specs.Plain.{AreEntriesOf, Begins, PutIfMeans, PutMeans, RemovalMeans, TurnMeans, seen};
     ghost use Rattle.mc_cache.specs.Turns.{HasTried, HasTriedToList};
     ghost use Rattle.mc_plan.specs.WholeCalls.{PutCall, PutIfCall, RemoveCall};
@@ -118,6 +119,7 @@ impl<const V: usize> Desk<V> {
         ensures of { pass.new.of ≡ pass.old.of }
         ensures turn { HasTried V cache.now.layout.shape (PutCall key value.entry) answer.Put pass.old pass.new result }
         ensures plain { TurnMeans (λ h h' told. PutMeans V h h' key value.entry told) (seen V pass.old) (seen V pass.new) result }
+        ensures fails { TurnFails (PutFails cache.now.layout.shape (seen V pass.new) (versions_seen V pass.new) key) result }
     {
         let Some(mut boxed) = self.take() else {
             return Err(DeskError::Held);
@@ -140,6 +142,7 @@ impl<const V: usize> Desk<V> {
         ensures of { pass.new.of ≡ pass.old.of }
         ensures turn { HasTried V cache.now.layout.shape (PutIfCall key since value.entry) answer.PutIf pass.old pass.new result }
         ensures plain { TurnMeans (λ h h' told. PutIfMeans V h h' key since value.entry told) (seen V pass.old) (seen V pass.new) result }
+        ensures fails { TurnFails (PutIfFails cache.now.layout.shape (seen V pass.new) (versions_seen V pass.new)) result }
     {
         let Some(mut boxed) = self.take() else {
             return Err(DeskError::Held);
@@ -160,6 +163,7 @@ impl<const V: usize> Desk<V> {
         ensures of { pass.new.of ≡ pass.old.of }
         ensures turn { HasTried V cache.now.layout.shape (RemoveCall key) answer.Remove pass.old pass.new result }
         ensures plain { TurnMeans (λ h h' told. RemovalMeans V h h' key told) (seen V pass.old) (seen V pass.new) result }
+        ensures fails { TurnFails (RemovalFails cache.now.layout.shape (seen V pass.new) (versions_seen V pass.new)) result }
     {
         let Some(mut boxed) = self.take() else {
             return Err(DeskError::Held);

@@ -3,6 +3,7 @@ ghost use Rattle.std.specs.Prelude.{◌≡◌, IfOk};
 ghost use Rattle.mc_plan.specs.WholeCalls.{PutCall, PutIfCall, RemoveCall};
 ghost use Rattle.mc_plan.specs.declared.answer.Answer.TheVariants as answer;
 ghost use Rattle.mc_cache.specs.Inside.Turned.{HasBegunWith, HasEnded, HasLookedInTurn, turned};
+ghost use Rattle.mc_cache.specs.Failing.{PutFails, PutIfFails, RemovalFails, TurnFails, versions_seen};
 ghost use Rattle.mc_cache.specs.Plain.{AreEntriesOf, Begins, HasMet, PutIfMeans, PutMeans, RemovalMeans, TurnMeans, history, seen};
 ghost use Rattle.mc_cache.specs.Resting.{IsAtRest};
 ghost use Rattle.mc_cache.specs.Turns.{HasTried, HasTriedToList};
@@ -61,6 +62,7 @@ pub(crate) fn put_in_turn<const V: usize>(
     ensures of { pass.new.of ≡ pass.old.of }
     ensures turn { HasTried V cache.now.layout.shape (PutCall key value.entry) answer.Put pass.old pass.new result }
     ensures plain { TurnMeans (λ h h' told. PutMeans V h h' key value.entry told) (seen V pass.old) (seen V pass.new) result }
+    ensures fails { TurnFails (PutFails cache.now.layout.shape (seen V pass.new) (versions_seen V pass.new) key) result }
 {
     begin(cache, pass, writer);
     let answer = writer.put(cache, key, value);
@@ -82,6 +84,7 @@ pub(crate) fn put_if_in_turn<const V: usize>(
     ensures of { pass.new.of ≡ pass.old.of }
     ensures turn { HasTried V cache.now.layout.shape (PutIfCall key since value.entry) answer.PutIf pass.old pass.new result }
     ensures plain { TurnMeans (λ h h' told. PutIfMeans V h h' key since value.entry told) (seen V pass.old) (seen V pass.new) result }
+    ensures fails { TurnFails (PutIfFails cache.now.layout.shape (seen V pass.new) (versions_seen V pass.new)) result }
 {
     begin(cache, pass, writer);
     let answer = writer.put_if(cache, key, since, value);
@@ -101,6 +104,7 @@ pub(crate) fn remove_in_turn<const V: usize>(
     ensures of { pass.new.of ≡ pass.old.of }
     ensures turn { HasTried V cache.now.layout.shape (RemoveCall key) answer.Remove pass.old pass.new result }
     ensures plain { TurnMeans (λ h h' told. RemovalMeans V h h' key told) (seen V pass.old) (seen V pass.new) result }
+    ensures fails { TurnFails (RemovalFails cache.now.layout.shape (seen V pass.new) (versions_seen V pass.new)) result }
 {
     begin(cache, pass, writer);
     let answer = writer.remove(cache, key);

@@ -3,6 +3,7 @@ ghost use Rattle.std.specs.Prelude.{◌≡◌, length};
 ghost use Rattle.mc_theory.specs.Lists.{state_of};
 ghost use Rattle.mc_shared.specs.SeatFacts.{IsRun};
 ghost use Rattle.mc_cache.specs.Resting.{IsAtRest};
+ghost use Rattle.mc_cache.specs.Failing.{PutFails, PutIfFails, RemovalFails, version_changes};
 ghost use Rattle.mc_cache.specs.Plain.{IsLegal, PutIfMeans, PutMeans, RemovalMeans, TellsNow, history};
 ghost use Rattle.mc_plan.specs.WholeCalls.{KeptCall, PutCall, PutIfCall, RemoveCall};
 ghost use Rattle.mc_plan.specs.declared.answer.Answer.TheVariants as answer;
@@ -45,6 +46,7 @@ impl<const V: usize> Writer<V> {
         requires of { self.old.of ≡ cache.now }
         ensures called { HasCalled V cache.now.layout.shape (PutCall key value.entry) self.old self.new (answer.Put result) }
         ensures plain { PutMeans V (history V self.old) (history V self.new) key value.entry result }
+        ensures fails { PutFails cache.now.layout.shape (history V self.new) (version_changes V self.new) key result }
     {
         let told = put(&cache.cells, &mut self.seat, &mut self.books, key, &value);
         self.moment = moment(&cache.cells, &mut self.seat);
@@ -64,6 +66,7 @@ impl<const V: usize> Writer<V> {
         requires of { self.old.of ≡ cache.now }
         ensures called { HasCalled V cache.now.layout.shape (PutIfCall key since value.entry) self.old self.new (answer.PutIf result) }
         ensures plain { PutIfMeans V (history V self.old) (history V self.new) key since value.entry result }
+        ensures fails { PutIfFails cache.now.layout.shape (history V self.new) (version_changes V self.new) result }
     {
         let told = put_if(
             &cache.cells,
@@ -97,6 +100,7 @@ impl<const V: usize> Writer<V> {
         requires of { self.old.of ≡ cache.now }
         ensures called { HasCalled V cache.now.layout.shape (RemoveCall key) self.old self.new (answer.Remove result) }
         ensures plain { RemovalMeans V (history V self.old) (history V self.new) key result }
+        ensures fails { RemovalFails cache.now.layout.shape (history V self.new) (version_changes V self.new) result }
     {
         let told = remove(&cache.cells, &mut self.seat, &mut self.books, key);
         self.moment = moment(&cache.cells, &mut self.seat);

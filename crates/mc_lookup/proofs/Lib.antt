@@ -3,3 +3,4 @@ pub mod Split
 pub mod StageLaws
 pub mod StageSteps
 pub mod NextAccess
+pub mod Findings

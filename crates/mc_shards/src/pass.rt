@@ -4,6 +4,8 @@ ghost use Rattle.mc_plan.specs.WholeCalls.{PutCall, PutIfCall, RemoveCall};
 ghost use Rattle.mc_plan.specs.declared.answer.Answer.TheVariants as answer;
 ghost use Rattle.mc_reader.specs.Records.{HasLooked};
 ghost use Rattle.mc_cache.specs.Turns.{HasLookedOrMet, HasTried};
+ghost use Rattle.mc_cache.specs.Failing.{PutFails, PutIfFails, RemovalFails, TurnFails, versions_seen};
+ghost use Rattle.mc_cache.specs.Plain.{seen};
 ghost use Rattle.mc_shards.specs.Plain.{AllAnswered, AllBegin, HasAnswered, PutIfMeans, PutMeans, RemovalMeans, TurnMeans, seens};
 ghost use Rattle.mc_shards.specs.Sharded.{ArePassOf, ChangesAt, shard_in};
 
@@ -69,6 +71,7 @@ impl<const V: usize> Pass<V> {
         ensures turn { ChangesAt (shard_in shards.now key) self.old self.new (λ r r'. HasTried V shards.now.shape (PutCall key value.entry) answer.Put r r' result) }
         ensures plain { ChangesAt (shard_in shards.now key) (seens V self.old) (seens V self.new)
             (λ h h'. TurnMeans (λ a b told. PutMeans V a b key value.entry told) h h' result) }
+        ensures fails { ChangesAt (shard_in shards.now key) self.old self.new (λ r r'. TurnFails (PutFails shards.now.shape (seen V r') (versions_seen V r') key) result) }
     {
         let n = shards.shard_of(key);
         let cache = shards.cache(n);
@@ -90,6 +93,7 @@ impl<const V: usize> Pass<V> {
         ensures turn { ChangesAt (shard_in shards.now key) self.old self.new (λ r r'. HasTried V shards.now.shape (PutCall key value.entry) answer.Put r r' result) }
         ensures plain { ChangesAt (shard_in shards.now key) (seens V self.old) (seens V self.new)
             (λ h h'. TurnMeans (λ a b told. PutMeans V a b key value.entry told) h h' result) }
+        ensures fails { ChangesAt (shard_in shards.now key) self.old self.new (λ r r'. TurnFails (PutFails shards.now.shape (seen V r') (versions_seen V r') key) result) }
     {
         for _ in 1..tries {
             match self.try_put(shards, key, value) {
@@ -114,6 +118,7 @@ impl<const V: usize> Pass<V> {
         ensures turn { ChangesAt (shard_in shards.now key) self.old self.new (λ r r'. HasTried V shards.now.shape (PutIfCall key since value.entry) answer.PutIf r r' result) }
         ensures plain { ChangesAt (shard_in shards.now key) (seens V self.old) (seens V self.new)
             (λ h h'. TurnMeans (λ a b told. PutIfMeans V a b key since value.entry told) h h' result) }
+        ensures fails { ChangesAt (shard_in shards.now key) self.old self.new (λ r r'. TurnFails (PutIfFails shards.now.shape (seen V r') (versions_seen V r')) result) }
     {
         let n = shards.shard_of(key);
         let cache = shards.cache(n);
@@ -130,6 +135,7 @@ impl<const V: usize> Pass<V> {
         ensures turn { ChangesAt (shard_in shards.now key) self.old self.new (λ r r'. HasTried V shards.now.shape (RemoveCall key) answer.Remove r r' result) }
         ensures plain { ChangesAt (shard_in shards.now key) (seens V self.old) (seens V self.new)
             (λ h h'. TurnMeans (λ a b told. RemovalMeans V a b key told) h h' result) }
+        ensures fails { ChangesAt (shard_in shards.now key) self.old self.new (λ r r'. TurnFails (RemovalFails shards.now.shape (seen V r') (versions_seen V r')) result) }
     {
         let n = shards.shard_of(key);
         let cache = shards.cache(n);

@@ -5,11 +5,13 @@
 //! writer.
 #![tactic(auto)]
 
+mod again;
 mod beside;
 mod threads;
 mod turns;
 mod twice;
 
+pub use again::overwrite;
 pub use beside::{get_between_meetings, put_and_get};
 pub use threads::get_beside_a_put;
 pub use turns::put_in_turns;

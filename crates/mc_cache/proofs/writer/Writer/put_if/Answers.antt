@@ -3,9 +3,14 @@ use Rattle.mc_plan.specs.WholeCalls.{PutIfCall}
 use Rattle.mc_plan.specs.declared.answer.Answer.TheVariants as answer
 use Rattle.mc_shared.specs.Records.{WriterRecord}
 use Rattle.mc_writer.specs.WriterCalls.{HasCalled}
+use Rattle.mc_cache.proofs.FailedCalls.{put_if_fails}
 use Rattle.mc_cache.proofs.PlainCalls.{put_if_means}
 use Rattle.mc_cache.proofs.writer.Writer.put_if.Goals as goal
 
 pub returns-clause-plain : goal.returns-clause-plain
 returns-clause-plain g c =
     put_if_means g.row.V c.args.cache.now c.cache.inside.cells c.args.self.now c.self.inside.seat c.cache.view_is c.self.view_is c.requires.of c.moment-self-inside.new.seat c.args.key c.args.since c.args.value c.put_if-told.result (subst (λ (w : WriterRecord). HasCalled g.row.V c.cache.inside.cells.layout.shape (PutIfCall c.args.key c.args.since c.args.value) c.self.inside.seat w (answer.PutIf c.put_if-told.result)) (sym c.moment-self-inside.ensures.seat) c.put_if-told.ensures.called)
+
+pub returns-clause-fails : goal.returns-clause-fails
+returns-clause-fails g c =
+    put_if_fails g.row.V c.args.cache.now c.cache.inside.cells c.args.self.now c.self.inside.seat c.moment-self-inside.new.seat c.cache.view_is c.self.view_is c.requires.of c.args.key c.args.since c.args.value c.put_if-told.result (subst (λ (w : WriterRecord). HasCalled g.row.V c.cache.inside.cells.layout.shape (PutIfCall c.args.key c.args.since c.args.value) c.self.inside.seat w (answer.PutIf c.put_if-told.result)) (sym c.moment-self-inside.ensures.seat) c.put_if-told.ensures.called)
