@@ -149,6 +149,20 @@ impl Film {
         }
     }
 
+    /// The version of a stripe: each deed on a key of it adds 1 when it begins and 1 when it ends. A table that was opened later
+    /// begins anew.
+    pub(crate) fn version(&self, stripe: u32) -> u64 {
+        let opened = self.openings.last().copied().unwrap_or(0);
+        let mut version = 0_u64;
+        for one in self.deeds.iter() {
+            if one.stripe == stripe && one.span.from >= opened {
+                let steps = if one.span.to.is_some() { 2 } else { 1 };
+                version = version.saturating_add(steps);
+            }
+        }
+        version
+    }
+
     /// The last step.
     pub(crate) fn last(&self) -> u32 {
         self.next().saturating_sub(1)

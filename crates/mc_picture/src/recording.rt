@@ -19,8 +19,6 @@ struct Running<const V: usize> {
     lookup: Lookup<V>,
     /// Its number among the lookups and that of its last try, once it has made an access.
     numbers: Option<(usize, usize)>,
-    /// The version at the start of the try.
-    version: u64,
 }
 
 /// Notes what a replay does. After some trouble it notes nothing more.
@@ -98,22 +96,10 @@ impl<const V: usize> Running<V> {
             return matches!(outcome, Outcome::Busy);
         }
         match (before, self.lookup.stage()) {
-            (Stage::First, Stage::Slot(_)) => {
-                self.version = word;
-                false
-            }
+            (Stage::First, Stage::Slot(_)) => false,
             (Stage::First, _) => true,
             (Stage::Last(_, _), Stage::First) => true,
             _ => false,
-        }
-    }
-
-    /// The word that the access read. The last access of a lookup that stands read the version of its beginning.
-    fn word_of(&self, given: Given) -> Option<u64> {
-        match given.outcome {
-            Some(Outcome::Busy) => None,
-            Some(_) => Some(self.version),
-            None => given.word,
         }
     }
 }
@@ -222,7 +208,6 @@ impl<const V: usize> Recording<V> {
             reader,
             lookup,
             numbers: None,
-            version: 0,
         };
         add(&mut self.running, running)
     }
@@ -277,8 +262,13 @@ impl<const V: usize> Recording<V> {
         let next = self.film.next();
         let (lookup, number) = self.numbers_of(&running, next)?;
         running.numbers = Some((lookup, number));
+        // The access that ends a lookup gives the reply and not its word. It read the version, or it was a mark.
+        let word = match given.outcome {
+            Some(_) => Some(self.film.version(running.lookup.stripe())),
+            None => given.word,
+        };
         let spoils = running.take(given);
-        let caption = of_access(&self.checked, access, running.word_of(given), spoils);
+        let caption = of_access(&self.checked, access, word, spoils);
         let column = self.film.add_step(Step {
             reader: Some(reader),
             caption,
