@@ -43,6 +43,10 @@ mod put_read_back;
 #[cfg(test)]
 mod rows;
 #[cfg(test)]
+mod shard_calls;
+#[cfg(test)]
+mod shards;
+#[cfg(test)]
 mod sharing;
 #[cfg(test)]
 mod texts;

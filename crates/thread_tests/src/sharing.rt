@@ -1,5 +1,6 @@
 //! What threads may share, and what may be handed to one.
-use mc_cache::{Cache, Reader, Writer};
+use mc_cache::{Cache, Desk, Reader, Writer};
+use mc_shards::{Pass, Shards};
 use mc_shared::{Cells, ReaderSeat, WriterSeat};
 
 fn is_shared<T: Sync>() {}
@@ -16,4 +17,7 @@ fn the_words_are_shared_and_the_seats_are_sent(_rt: HostRuntime) {
     is_sent::<Cache<1>>();
     is_sent::<Writer<1>>();
     is_sent::<Reader<1>>();
+    is_shared::<Desk<1>>();
+    is_shared::<Shards<1>>();
+    is_sent::<Pass<1>>();
 }

@@ -2,7 +2,7 @@
 use mc_words::{Change, Reply};
 
 /// The value that the map holds of the key after these changes, and the moment of its put.
-fn held_after(changes: &[Change<1>], key: u64) -> Option<([u64; 1], u64)> {
+pub fn held_after(changes: &[Change<1>], key: u64) -> Option<([u64; 1], u64)> {
     let mut held = None;
     for i in 0..changes.len() {
         match changes[i] {

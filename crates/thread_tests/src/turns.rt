@@ -21,7 +21,7 @@ const TRIES: u32 = 1 << 24;
 
 /// What came of a try.
 #[derive(Clone, Copy, Debug, PartialEq, Eq)]
-enum Tried {
+pub enum Tried {
     Held,
     /// It had the turn, and changed nothing.
     Kept,
@@ -132,14 +132,22 @@ impl Told {
 
 /// Where threads wait for each other.
 #[derive(Drop)]
-struct Meeting {
+pub struct Meeting {
     here: AtomicU64,
     due: u64,
 }
 
 impl Meeting {
-    // Waits until all are here. Whether they came in time.
-    fn wait(&self) -> bool {
+    /// Where so many threads are awaited.
+    pub fn of(due: usize) -> Meeting {
+        Meeting {
+            here: AtomicU64::new(0),
+            due: due as u64,
+        }
+    }
+
+    /// Waits until all are here. Whether they came in time.
+    pub fn wait(&self) -> bool {
         self.here.fetch_add(1, Ordering::SeqCst);
         for _turn in 0..TURNS {
             if self.here.load(Ordering::SeqCst) >= self.due {
@@ -270,10 +278,7 @@ pub fn call_in_threads<R: Threads + Sync>(
     requires desk { desk.now ≡ cache.now }
     requires of { All (λ c. c.pass.of ≡ cache.now) callers.items }
 {
-    let meeting = Meeting {
-        here: AtomicU64::new(0),
-        due: callers.len() as u64,
-    };
+    let meeting = Meeting::of(callers.len());
     thread::map_vec(
         rt,
         callers,
