@@ -59,6 +59,7 @@ impl<const V: usize> Model for Desk<V> {
 
 impl<const V: usize> Desk<V> {
     // Takes the writer, if it is there and the try wins. If the word says that it is not there, the slot is left alone.
+    #[inline(always)]
     fn take(&self) -> Option<Boxed<V>>
         ensures writer { IfSome result (λ boxed. (boxed.writer.value.of ≡ self.now) × IsAtRest V boxed.writer.value) }
     {
@@ -74,6 +75,7 @@ impl<const V: usize> Desk<V> {
     }
 
     // Gives the writer back. If the try does not win, the writer is dropped.
+    #[inline(always)]
     fn give(&self, boxed: Boxed<V>)
         requires of { boxed.writer.value.of ≡ self.now }
         requires rests { IsAtRest V boxed.writer.value }
@@ -108,6 +110,7 @@ impl<const V: usize> Desk<V> {
 
     /// Tries once for the turn, and with it calls `Writer::put`. The caller's reader is its pass: with the turn, it catches
     /// up with the writer before the call and after it. Condition: desk and pass are of this cache.
+    #[inline(always)]
     pub fn try_put(
         &self,
         cache: &Cache<V>,
@@ -214,6 +217,7 @@ impl<const V: usize> Reader<V> {
 
     /// Looks the key up by `get`. If that is `Busy`, tries once for the turn, and with it looks the key up by `get_beside`.
     /// `Busy` if the try does not win either. Condition: reader and desk are of this cache.
+    #[inline(always)]
     pub fn get_or_desk(&mut self, cache: &Cache<V>, desk: &Desk<V>, key: u64) -> Reply<V>
         requires of { (self.old.of ≡ cache.now) × (desk.now ≡ cache.now) }
         ensures of { self.new.of ≡ self.old.of }

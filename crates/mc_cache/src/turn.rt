@@ -17,6 +17,7 @@ use mc_words::{NoMemory, Reply};
 use std::alloc::Global;
 
 // The pass meets the writer before the call.
+#[inline(always)]
 fn begin<const V: usize>(cache: &Cache<V>, pass: &mut Reader<V>, writer: &mut Writer<V>)
     requires of { (pass.old.of ≡ cache.now) × (writer.old.of ≡ cache.now) }
     ensures writer { writer.new ≡ writer.old }
@@ -28,6 +29,7 @@ fn begin<const V: usize>(cache: &Cache<V>, pass: &mut Reader<V>, writer: &mut Wr
 }
 
 // And after it.
+#[inline(always)]
 fn end<const V: usize>(cache: &Cache<V>, pass: &mut Reader<V>, writer: &mut Writer<V>)
     requires of { (pass.old.of ≡ cache.now) × (writer.old.of ≡ cache.now) }
     ensures writer { writer.new ≡ writer.old }
@@ -40,6 +42,7 @@ fn end<const V: usize>(cache: &Cache<V>, pass: &mut Reader<V>, writer: &mut Writ
 }
 
 // The answer of a turn, from that of its call.
+#[inline(always)]
 fn turned<T, E>(answer: Result<T, E>) -> Result<T, DeskError<E>>
     ensures { result ≡ turned answer }
 {
@@ -50,6 +53,7 @@ fn turned<T, E>(answer: Result<T, E>) -> Result<T, DeskError<E>>
 }
 
 /// A turn that puts.
+#[inline(always)]
 pub(crate) fn put_in_turn<const V: usize>(
     cache: &Cache<V>,
     pass: &mut Reader<V>,
