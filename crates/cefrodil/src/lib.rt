@@ -12,6 +12,5 @@ mod shape;
 pub mod slot;
 mod status;
 mod told;
-mod turns;
 mod unboxed;
 mod writes;

@@ -60,6 +60,21 @@ impl Slot {
     }
 }
 
+// A call by a handle: what it keeps is taken out, the call is made with it, and it is put back. The call is told, or that the handle is
+// closed.
+macro_rules! told_of_handle {
+    ($alloc:ident, $slot:ident, $reply:ident, $held:ident => $told:expr) => {{
+        let Some(mut $held) = $slot.take($alloc) else {
+            return Told::closed().tell($reply);
+        };
+        let told = $told;
+        $slot.put($held);
+        told.tell($reply)
+    }};
+}
+
+pub(crate) use told_of_handle;
+
 fn crosses<T: Send>(_value: &T) {}
 
 /// It is proved only if C may hand a slot to another thread. It does nothing when it runs.

@@ -20,37 +20,35 @@ pub enum Held {
     Eight(Side<8>),
 }
 
+// What is done with the side, whatever its width.
+macro_rules! with_side {
+    ($held:expr, $side:ident => $done:expr) => {
+        match $held {
+            Held::One($side) => $done,
+            Held::Two($side) => $done,
+            Held::Three($side) => $done,
+            Held::Four($side) => $done,
+            Held::Five($side) => $done,
+            Held::Six($side) => $done,
+            Held::Seven($side) => $done,
+            Held::Eight($side) => $done,
+        }
+    };
+}
+
 impl Held {
     /// How many words a value has.
     pub fn words(&self) -> usize
         ensures { result ≡ width_of self.now }
     {
-        match self {
-            Held::One(_) => 1,
-            Held::Two(_) => 2,
-            Held::Three(_) => 3,
-            Held::Four(_) => 4,
-            Held::Five(_) => 5,
-            Held::Six(_) => 6,
-            Held::Seven(_) => 7,
-            Held::Eight(_) => 8,
-        }
+        with_side!(self, side => side.words())
     }
 
     /// Whether it looks up: a reader does, and a pass.
     pub fn can_look(&self) -> bool
         ensures { IsTrue result ↔ CanLook (role_in self.now) }
     {
-        match self {
-            Held::One(side) => side.can_look(),
-            Held::Two(side) => side.can_look(),
-            Held::Three(side) => side.can_look(),
-            Held::Four(side) => side.can_look(),
-            Held::Five(side) => side.can_look(),
-            Held::Six(side) => side.can_look(),
-            Held::Seven(side) => side.can_look(),
-            Held::Eight(side) => side.can_look(),
-        }
+        with_side!(self, side => side.can_look())
     }
 }
 
@@ -61,16 +59,7 @@ impl Held {
         ensures told { MatchResult result (λ told. GetMeans (width_of self.old) (role_in self.old) (role_in self.new) key value.old value.new told)
             (λ why. IsMisuse CanLook (width_of self.old) (role_in self.old) (length value.old) why × (self.new ≡ self.old) × (value.new ≡ value.old)) }
     {
-        match self {
-            Held::One(side) => Looked::of(side.get(key, value.len()), value),
-            Held::Two(side) => Looked::of(side.get(key, value.len()), value),
-            Held::Three(side) => Looked::of(side.get(key, value.len()), value),
-            Held::Four(side) => Looked::of(side.get(key, value.len()), value),
-            Held::Five(side) => Looked::of(side.get(key, value.len()), value),
-            Held::Six(side) => Looked::of(side.get(key, value.len()), value),
-            Held::Seven(side) => Looked::of(side.get(key, value.len()), value),
-            Held::Eight(side) => Looked::of(side.get(key, value.len()), value),
-        }
+        with_side!(self, side => Looked::of(side.get(key, value.len()), value))
     }
 
     /// What the cache holds of the key: `Reader::get_or_desk`, by a pass.
@@ -79,16 +68,7 @@ impl Held {
         ensures told { MatchResult result (λ told. GetOrDeskMeans (width_of self.old) (role_in self.old) (role_in self.new) key value.old value.new told)
             (λ why. IsMisuse HasTurns (width_of self.old) (role_in self.old) (length value.old) why × (self.new ≡ self.old) × (value.new ≡ value.old)) }
     {
-        match self {
-            Held::One(side) => Looked::of(side.get_or_desk(key, value.len()), value),
-            Held::Two(side) => Looked::of(side.get_or_desk(key, value.len()), value),
-            Held::Three(side) => Looked::of(side.get_or_desk(key, value.len()), value),
-            Held::Four(side) => Looked::of(side.get_or_desk(key, value.len()), value),
-            Held::Five(side) => Looked::of(side.get_or_desk(key, value.len()), value),
-            Held::Six(side) => Looked::of(side.get_or_desk(key, value.len()), value),
-            Held::Seven(side) => Looked::of(side.get_or_desk(key, value.len()), value),
-            Held::Eight(side) => Looked::of(side.get_or_desk(key, value.len()), value),
-        }
+        with_side!(self, side => Looked::of(side.get_or_desk(key, value.len()), value))
     }
 
     /// Puts a key: `Writer::put`, by the writer.
@@ -97,16 +77,7 @@ impl Held {
         ensures told { MatchResult result (λ told. PutMeans (width_of self.old) (role_in self.old) (role_in self.new) key value.now told)
             (λ why. IsMisuse CanWrite (width_of self.old) (role_in self.old) (length value.now) why × (self.new ≡ self.old)) }
     {
-        match self {
-            Held::One(side) => side.put(key, value),
-            Held::Two(side) => side.put(key, value),
-            Held::Three(side) => side.put(key, value),
-            Held::Four(side) => side.put(key, value),
-            Held::Five(side) => side.put(key, value),
-            Held::Six(side) => side.put(key, value),
-            Held::Seven(side) => side.put(key, value),
-            Held::Eight(side) => side.put(key, value),
-        }
+        with_side!(self, side => side.put(key, value))
     }
 
     /// Puts a key anew, if its last put was at this moment: `Writer::put_if`, by the writer.
@@ -120,16 +91,7 @@ impl Held {
         ensures told { MatchResult result (λ told. PutIfMeans (width_of self.old) (role_in self.old) (role_in self.new) key since value.now told)
             (λ why. IsMisuse CanWrite (width_of self.old) (role_in self.old) (length value.now) why × (self.new ≡ self.old)) }
     {
-        match self {
-            Held::One(side) => side.put_if(key, since, value),
-            Held::Two(side) => side.put_if(key, since, value),
-            Held::Three(side) => side.put_if(key, since, value),
-            Held::Four(side) => side.put_if(key, since, value),
-            Held::Five(side) => side.put_if(key, since, value),
-            Held::Six(side) => side.put_if(key, since, value),
-            Held::Seven(side) => side.put_if(key, since, value),
-            Held::Eight(side) => side.put_if(key, since, value),
-        }
+        with_side!(self, side => side.put_if(key, since, value))
     }
 
     /// Takes a key out: `Writer::remove`, by the writer.
@@ -138,16 +100,7 @@ impl Held {
         ensures told { MatchResult result (λ told. RemovalMeans (width_of self.old) (role_in self.old) (role_in self.new) key told)
             (λ why. IsMisuse CanWrite (width_of self.old) (role_in self.old) (width_of self.old) why × (self.new ≡ self.old)) }
     {
-        match self {
-            Held::One(side) => side.remove(key),
-            Held::Two(side) => side.remove(key),
-            Held::Three(side) => side.remove(key),
-            Held::Four(side) => side.remove(key),
-            Held::Five(side) => side.remove(key),
-            Held::Six(side) => side.remove(key),
-            Held::Seven(side) => side.remove(key),
-            Held::Eight(side) => side.remove(key),
-        }
+        with_side!(self, side => side.remove(key))
     }
 }
 
@@ -162,16 +115,7 @@ impl Held {
         ensures told { MatchResult result (λ told. TryPutMeans (width_of self.old) (role_in self.old) (role_in self.new) key value.now told)
             (λ why. IsMisuse HasTurns (width_of self.old) (role_in self.old) (length value.now) why × (self.new ≡ self.old)) }
     {
-        match self {
-            Held::One(side) => side.try_put(key, value),
-            Held::Two(side) => side.try_put(key, value),
-            Held::Three(side) => side.try_put(key, value),
-            Held::Four(side) => side.try_put(key, value),
-            Held::Five(side) => side.try_put(key, value),
-            Held::Six(side) => side.try_put(key, value),
-            Held::Seven(side) => side.try_put(key, value),
-            Held::Eight(side) => side.try_put(key, value),
-        }
+        with_side!(self, side => side.try_put(key, value))
     }
 
     /// Tries once for the turn, to put on a condition: `Desk::try_put_if`, by a pass.
@@ -185,16 +129,7 @@ impl Held {
         ensures told { MatchResult result (λ told. TryPutIfMeans (width_of self.old) (role_in self.old) (role_in self.new) key since value.now told)
             (λ why. IsMisuse HasTurns (width_of self.old) (role_in self.old) (length value.now) why × (self.new ≡ self.old)) }
     {
-        match self {
-            Held::One(side) => side.try_put_if(key, since, value),
-            Held::Two(side) => side.try_put_if(key, since, value),
-            Held::Three(side) => side.try_put_if(key, since, value),
-            Held::Four(side) => side.try_put_if(key, since, value),
-            Held::Five(side) => side.try_put_if(key, since, value),
-            Held::Six(side) => side.try_put_if(key, since, value),
-            Held::Seven(side) => side.try_put_if(key, since, value),
-            Held::Eight(side) => side.try_put_if(key, since, value),
-        }
+        with_side!(self, side => side.try_put_if(key, since, value))
     }
 
     /// Tries once for the turn, to take a key out: `Desk::try_remove`, by a pass.
@@ -203,15 +138,6 @@ impl Held {
         ensures told { MatchResult result (λ told. TryRemovalMeans (width_of self.old) (role_in self.old) (role_in self.new) key told)
             (λ why. IsMisuse HasTurns (width_of self.old) (role_in self.old) (width_of self.old) why × (self.new ≡ self.old)) }
     {
-        match self {
-            Held::One(side) => side.try_remove(key),
-            Held::Two(side) => side.try_remove(key),
-            Held::Three(side) => side.try_remove(key),
-            Held::Four(side) => side.try_remove(key),
-            Held::Five(side) => side.try_remove(key),
-            Held::Six(side) => side.try_remove(key),
-            Held::Seven(side) => side.try_remove(key),
-            Held::Eight(side) => side.try_remove(key),
-        }
+        with_side!(self, side => side.try_remove(key))
     }
 }

@@ -26,6 +26,12 @@ pub enum Side<const V: usize> {
 }
 
 impl<const V: usize> Side<V> {
+    pub(crate) fn words(&self) -> usize
+        ensures { result ≡ V }
+    {
+        V
+    }
+
     pub(crate) fn can_look(&self) -> bool
         ensures { IsTrue result ↔ CanLook (role_of self.now) }
     {
