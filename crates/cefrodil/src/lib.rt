@@ -9,6 +9,7 @@ mod lookups;
 mod many;
 mod opening;
 mod shape;
+mod sharding;
 pub mod slot;
 mod status;
 mod told;

@@ -71,6 +71,23 @@ pub extern "C" fn cefrodil_try_put(
     told_of_handle!(alloc, pass, reply, held => Told::try_put(held.try_put(key, value)))
 }
 
+/// Tries up to so many times, at least once, for the turn, to put a key, by a pass.
+#[tactic(auto, using(crate::proofs::Gives::gives_open, crate::proofs::Gives::gives_closed))]
+#[unsafe(no_mangle)]
+pub extern "C" fn cefrodil_put_within(
+    alloc: Global,
+    pass: &mut Slot,
+    tries: u32,
+    key: u64,
+    value: &[u64],
+    reply: &mut RawReply,
+) -> u32
+    ensures open { pass.new.live ≡ pass.old.live }
+    ensures told { TryPutGives (kept pass.old) (kept pass.new) key value.now (record { status = result; reply = reply.new }) }
+{
+    told_of_handle!(alloc, pass, reply, held => Told::try_put(held.put_within(tries, key, value)))
+}
+
 /// Tries once for the turn, to put a key anew on a condition, by a pass.
 #[tactic(auto, using(crate::proofs::Gives::gives_open, crate::proofs::Gives::gives_closed))]
 #[unsafe(no_mangle)]

@@ -118,6 +118,20 @@ impl Held {
         with_side!(self, side => side.try_put(key, value))
     }
 
+    /// Tries up to so many times, at least once, for the turn, to put: `Desk::try_put` or `Pass::put_within`, by a pass.
+    pub fn put_within(
+        &mut self,
+        tries: u32,
+        key: u64,
+        value: &[u64],
+    ) -> Result<Result<Put, DeskError<PutError>>, Misuse>
+        ensures width { width_of self.new ≡ width_of self.old }
+        ensures told { MatchResult result (λ told. TryPutMeans (width_of self.old) (role_in self.old) (role_in self.new) key value.now told)
+            (λ why. IsMisuse HasTurns (width_of self.old) (role_in self.old) (length value.now) why × (self.new ≡ self.old)) }
+    {
+        with_side!(self, side => side.put_within(tries, key, value))
+    }
+
     /// Tries once for the turn, to put on a condition: `Desk::try_put_if`, by a pass.
     pub fn try_put_if(
         &mut self,

@@ -47,6 +47,26 @@ impl<const V: usize> PassSide<V> {
             .try_put(&self.cache, &mut self.pass, key, array_of::<V>(value))
     }
 
+    pub(crate) fn put_within(
+        &mut self,
+        tries: u32,
+        key: u64,
+        value: &[u64],
+    ) -> Result<Put, DeskError<PutError>>
+        requires { length value.now ≡ V }
+        ensures of { self.new.pass.of ≡ self.old.pass.of }
+        ensures turn { HasTried V self.old.pass.of.layout.shape (PutCall key value.now) answer.Put self.old.pass self.new.pass result }
+        ensures plain { TurnMeans (λ h h' told. PutMeans V h h' key value.now told) (seen V self.old.pass) (seen V self.new.pass) result }
+    {
+        for _ in 1..tries {
+            match self.try_put(key, value) {
+                Err(DeskError::Held) => {}
+                told => return told,
+            }
+        }
+        self.try_put(key, value)
+    }
+
     pub(crate) fn try_put_if(
         &mut self,
         key: u64,

@@ -11,6 +11,7 @@ ghost use Rattle.mc_door.specs.NewSides.{IsNewSide, IsNewWriter, count_in, has_d
 
 use crate::held::Held;
 use crate::new_sides::NewSides;
+use crate::widths::{at_width, with_sides};
 use mc_cache::{OpenError, Shape, Why};
 use mc_words::NoMemory;
 use std::alloc::Global;
@@ -28,39 +29,6 @@ pub enum Rest {
     Eight(NewSides<8>),
 }
 
-// What is done with the sides, whatever their width: `$case` is given them and the name of their variant.
-macro_rules! with_sides {
-    ($rest:expr, $case:ident) => {
-        match $rest {
-            Rest::One(sides) => $case!(sides, One),
-            Rest::Two(sides) => $case!(sides, Two),
-            Rest::Three(sides) => $case!(sides, Three),
-            Rest::Four(sides) => $case!(sides, Four),
-            Rest::Five(sides) => $case!(sides, Five),
-            Rest::Six(sides) => $case!(sides, Six),
-            Rest::Seven(sides) => $case!(sides, Seven),
-            Rest::Eight(sides) => $case!(sides, Eight),
-        }
-    };
-}
-
-// What is done for values of so many words: `$case` is given their width and the name of its variant.
-macro_rules! at_width {
-    ($words:expr, $case:ident) => {
-        match $words {
-            1 => $case!(1, One),
-            2 => $case!(2, Two),
-            3 => $case!(3, Three),
-            4 => $case!(4, Four),
-            5 => $case!(5, Five),
-            6 => $case!(6, Six),
-            7 => $case!(7, Seven),
-            8 => $case!(8, Eight),
-            _ => unreachable!(),
-        }
-    };
-}
-
 impl Rest {
     /// One of them, if any is left. `Err` only where there is no memory.
     pub fn next(&mut self) -> Result<Option<Held>, NoMemory>
@@ -73,7 +41,7 @@ impl Rest {
                 Ok($sides.next()?.map(Held::$variant))
             };
         }
-        with_sides!(self, given)
+        with_sides!(Rest, self, given)
     }
 }
 

@@ -5,6 +5,7 @@ ghost use Rattle.mc_door.specs.Means.{CanLook, CanWrite, HasTurns, IsMisuse, Loo
 
 use crate::pass_side::PassSide;
 use crate::reader_side::ReaderSide;
+use crate::shard_side::ShardSide;
 use crate::writer_side::WriterSide;
 use mc_cache::{DeskError, IfError, Put, PutError, Remove, Reply, Spent};
 
@@ -23,6 +24,7 @@ pub enum Side<const V: usize> {
     Writer(WriterSide<V>),
     Reader(ReaderSide<V>),
     Pass(PassSide<V>),
+    Shard(ShardSide<V>),
 }
 
 impl<const V: usize> Side<V> {
@@ -38,7 +40,17 @@ impl<const V: usize> Side<V> {
         match self {
             Side::Writer(_) => false,
             Side::Reader(_) => true,
-            Side::Pass(_) => true,
+            Side::Pass(_) | Side::Shard(_) => true,
+        }
+    }
+
+    // Whether it tries for turns: a pass does.
+    fn has_turns(&self) -> bool
+        ensures { IsTrue result ↔ HasTurns (role_of self.now) }
+    {
+        match self {
+            Side::Writer(_) | Side::Reader(_) => false,
+            Side::Pass(_) | Side::Shard(_) => true,
         }
     }
 
@@ -55,6 +67,7 @@ impl<const V: usize> Side<V> {
         match self {
             Side::Reader(side) => Ok(side.get(key)),
             Side::Pass(side) => Ok(side.get(key)),
+            Side::Shard(side) => Ok(side.get(key)),
             Side::Writer(_) => Err(Misuse::Kind),
         }
     }
@@ -63,13 +76,17 @@ impl<const V: usize> Side<V> {
         ensures { MatchResult result (λ reply. (words ≡ V) × LooksAtDesk V (role_of self.old) (role_of self.new) key reply)
             (λ why. IsMisuse HasTurns V (role_of self.old) words why × (self.new ≡ self.old)) }
     {
-        let Side::Pass(side) = self else {
+        if !self.has_turns() {
             return Err(Misuse::Kind);
-        };
+        }
         if words != V {
             return Err(Misuse::Width);
         }
-        Ok(side.get_or_desk(key))
+        match self {
+            Side::Pass(side) => Ok(side.get_or_desk(key)),
+            Side::Shard(side) => Ok(side.get_or_desk(key)),
+            Side::Writer(_) | Side::Reader(_) => Err(Misuse::Kind),
+        }
     }
 
     pub(crate) fn put(&mut self, key: u64, value: &[u64]) -> Result<Result<Put, PutError>, Misuse>
@@ -123,13 +140,39 @@ impl<const V: usize> Side<V> {
         ensures { MatchResult result (λ told. TryPutMeans V (role_of self.old) (role_of self.new) key value.now told)
             (λ why. IsMisuse HasTurns V (role_of self.old) (length value.now) why × (self.new ≡ self.old)) }
     {
-        let Side::Pass(side) = self else {
+        if !self.has_turns() {
             return Err(Misuse::Kind);
-        };
+        }
         if value.len() != V {
             return Err(Misuse::Width);
         }
-        Ok(side.try_put(key, value))
+        match self {
+            Side::Pass(side) => Ok(side.try_put(key, value)),
+            Side::Shard(side) => Ok(side.try_put(key, value)),
+            Side::Writer(_) | Side::Reader(_) => Err(Misuse::Kind),
+        }
+    }
+
+    pub(crate) fn put_within(
+        &mut self,
+        tries: u32,
+        key: u64,
+        value: &[u64],
+    ) -> Result<Result<Put, DeskError<PutError>>, Misuse>
+        ensures { MatchResult result (λ told. TryPutMeans V (role_of self.old) (role_of self.new) key value.now told)
+            (λ why. IsMisuse HasTurns V (role_of self.old) (length value.now) why × (self.new ≡ self.old)) }
+    {
+        if !self.has_turns() {
+            return Err(Misuse::Kind);
+        }
+        if value.len() != V {
+            return Err(Misuse::Width);
+        }
+        match self {
+            Side::Pass(side) => Ok(side.put_within(tries, key, value)),
+            Side::Shard(side) => Ok(side.put_within(tries, key, value)),
+            Side::Writer(_) | Side::Reader(_) => Err(Misuse::Kind),
+        }
     }
 
     pub(crate) fn try_put_if(
@@ -141,13 +184,17 @@ impl<const V: usize> Side<V> {
         ensures { MatchResult result (λ told. TryPutIfMeans V (role_of self.old) (role_of self.new) key since value.now told)
             (λ why. IsMisuse HasTurns V (role_of self.old) (length value.now) why × (self.new ≡ self.old)) }
     {
-        let Side::Pass(side) = self else {
+        if !self.has_turns() {
             return Err(Misuse::Kind);
-        };
+        }
         if value.len() != V {
             return Err(Misuse::Width);
         }
-        Ok(side.try_put_if(key, since, value))
+        match self {
+            Side::Pass(side) => Ok(side.try_put_if(key, since, value)),
+            Side::Shard(side) => Ok(side.try_put_if(key, since, value)),
+            Side::Writer(_) | Side::Reader(_) => Err(Misuse::Kind),
+        }
     }
 
     pub(crate) fn try_remove(
@@ -157,9 +204,10 @@ impl<const V: usize> Side<V> {
         ensures { MatchResult result (λ told. TryRemovalMeans V (role_of self.old) (role_of self.new) key told)
             (λ why. IsMisuse HasTurns V (role_of self.old) V why × (self.new ≡ self.old)) }
     {
-        let Side::Pass(side) = self else {
-            return Err(Misuse::Kind);
-        };
-        Ok(side.try_remove(key))
+        match self {
+            Side::Pass(side) => Ok(side.try_remove(key)),
+            Side::Shard(side) => Ok(side.try_remove(key)),
+            Side::Writer(_) | Side::Reader(_) => Err(Misuse::Kind),
+        }
     }
 }
