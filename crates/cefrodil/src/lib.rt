@@ -2,6 +2,8 @@
 //! and what its caller promises.
 #![tactic(auto)]
 
+mod by_side;
+mod by_width;
 mod closing;
 pub mod handle;
 mod loading;

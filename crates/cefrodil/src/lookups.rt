@@ -4,6 +4,7 @@ ghost use Rattle.cefrodil.specs.Calls.{LookupGives};
 ghost use Rattle.mc_door.specs.Means.{CanLook, GetMeans, GetOrDeskMeans, HasTurns};
 ghost use Rattle.cefrodil.specs.Open.{kept};
 
+use crate::by_width;
 use crate::slot::{Slot, told_of_handle};
 use crate::told::{RawReply, Told};
 use std::alloc::Global;
@@ -21,7 +22,7 @@ pub extern "C" fn cefrodil_get(
     ensures open { reader.new.live ≡ reader.old.live }
     ensures told { LookupGives CanLook GetMeans (kept reader.old) (kept reader.new) key value.old value.new (record { status = result; reply = reply.new }) }
 {
-    told_of_handle!(alloc, reader, reply, held => Told::lookup(held.get(key, value)))
+    told_of_handle!(alloc, reader, reply, held => by_width::get(&mut held, key, value, reply))
 }
 
 /// The same by a pass. Where the lookup is busy it tries once for the turn, with which it always tells.
@@ -37,5 +38,5 @@ pub extern "C" fn cefrodil_get_or_desk(
     ensures open { pass.new.live ≡ pass.old.live }
     ensures told { LookupGives HasTurns GetOrDeskMeans (kept pass.old) (kept pass.new) key value.old value.new (record { status = result; reply = reply.new }) }
 {
-    told_of_handle!(alloc, pass, reply, held => Told::lookup(held.get_or_desk(key, value)))
+    told_of_handle!(alloc, pass, reply, held => by_width::get_or_desk(&mut held, key, value, reply))
 }

@@ -3,6 +3,7 @@ ghost use Rattle.std.specs.Prelude.{◌≡◌};
 ghost use Rattle.cefrodil.specs.Calls.{PutGives, PutIfGives, RemovalGives, TryPutGives, TryPutIfGives, TryRemovalGives};
 ghost use Rattle.cefrodil.specs.Open.{kept};
 
+use crate::by_width;
 use crate::slot::{Slot, told_of_handle};
 use crate::told::{RawReply, Told};
 use std::alloc::Global;
@@ -20,7 +21,7 @@ pub extern "C" fn cefrodil_put(
     ensures open { writer.new.live ≡ writer.old.live }
     ensures told { PutGives (kept writer.old) (kept writer.new) key value.now (record { status = result; reply = reply.new }) }
 {
-    told_of_handle!(alloc, writer, reply, held => Told::put(held.put(key, value)))
+    told_of_handle!(alloc, writer, reply, held => by_width::put(&mut held, key, value, reply))
 }
 
 /// Puts a key anew, if its last put was at the moment `since`, by the writer's handle.
@@ -37,7 +38,7 @@ pub extern "C" fn cefrodil_put_if(
     ensures open { writer.new.live ≡ writer.old.live }
     ensures told { PutIfGives (kept writer.old) (kept writer.new) key since value.now (record { status = result; reply = reply.new }) }
 {
-    told_of_handle!(alloc, writer, reply, held => Told::put_if(held.put_if(key, since, value)))
+    told_of_handle!(alloc, writer, reply, held => by_width::put_if(&mut held, key, since, value, reply))
 }
 
 /// Takes a key out, by the writer's handle.
@@ -52,7 +53,7 @@ pub extern "C" fn cefrodil_remove(
     ensures open { writer.new.live ≡ writer.old.live }
     ensures told { RemovalGives (kept writer.old) (kept writer.new) key (record { status = result; reply = reply.new }) }
 {
-    told_of_handle!(alloc, writer, reply, held => Told::removal(held.remove(key)))
+    told_of_handle!(alloc, writer, reply, held => by_width::remove(&mut held, key, reply))
 }
 
 /// Tries once for the turn, to put a key, by a pass.
@@ -68,7 +69,7 @@ pub extern "C" fn cefrodil_try_put(
     ensures open { pass.new.live ≡ pass.old.live }
     ensures told { TryPutGives (kept pass.old) (kept pass.new) key value.now (record { status = result; reply = reply.new }) }
 {
-    told_of_handle!(alloc, pass, reply, held => Told::try_put(held.try_put(key, value)))
+    told_of_handle!(alloc, pass, reply, held => by_width::try_put(&mut held, key, value, reply))
 }
 
 /// Tries up to so many times, at least once, for the turn, to put a key, by a pass.
@@ -85,7 +86,7 @@ pub extern "C" fn cefrodil_put_within(
     ensures open { pass.new.live ≡ pass.old.live }
     ensures told { TryPutGives (kept pass.old) (kept pass.new) key value.now (record { status = result; reply = reply.new }) }
 {
-    told_of_handle!(alloc, pass, reply, held => Told::try_put(held.put_within(tries, key, value)))
+    told_of_handle!(alloc, pass, reply, held => by_width::put_within(&mut held, tries, key, value, reply))
 }
 
 /// Tries once for the turn, to put a key anew on a condition, by a pass.
@@ -102,7 +103,7 @@ pub extern "C" fn cefrodil_try_put_if(
     ensures open { pass.new.live ≡ pass.old.live }
     ensures told { TryPutIfGives (kept pass.old) (kept pass.new) key since value.now (record { status = result; reply = reply.new }) }
 {
-    told_of_handle!(alloc, pass, reply, held => Told::try_put_if(held.try_put_if(key, since, value)))
+    told_of_handle!(alloc, pass, reply, held => by_width::try_put_if(&mut held, key, since, value, reply))
 }
 
 /// Tries once for the turn, to take a key out, by a pass.
@@ -117,5 +118,5 @@ pub extern "C" fn cefrodil_try_remove(
     ensures open { pass.new.live ≡ pass.old.live }
     ensures told { TryRemovalGives (kept pass.old) (kept pass.new) key (record { status = result; reply = reply.new }) }
 {
-    told_of_handle!(alloc, pass, reply, held => Told::try_removal(held.try_remove(key)))
+    told_of_handle!(alloc, pass, reply, held => by_width::try_remove(&mut held, key, reply))
 }

@@ -21,6 +21,7 @@ pub struct PassSide<const V: usize> {
 }
 
 impl<const V: usize> PassSide<V> {
+    #[inline(always)]
     pub(crate) fn get(&mut self, key: u64) -> Reply<V>
         ensures of { self.new.pass.of ≡ self.old.pass.of }
         ensures looked { HasLooked V self.old.pass.of.layout.shape key self.old.pass self.new.pass result }
@@ -29,6 +30,7 @@ impl<const V: usize> PassSide<V> {
         self.pass.get(&self.cache, key)
     }
 
+    #[inline(always)]
     pub(crate) fn get_or_desk(&mut self, key: u64) -> Reply<V>
         ensures of { self.new.pass.of ≡ self.old.pass.of }
         ensures looked { HasLookedOrMet V self.old.pass.of.layout.shape key self.old.pass self.new.pass result }
@@ -37,6 +39,7 @@ impl<const V: usize> PassSide<V> {
         self.pass.get_or_desk(&self.cache, &self.desk, key)
     }
 
+    #[inline(always)]
     pub(crate) fn try_put(&mut self, key: u64, value: &[u64]) -> Result<Put, DeskError<PutError>>
         requires { length value.now ≡ V }
         ensures of { self.new.pass.of ≡ self.old.pass.of }
@@ -67,6 +70,7 @@ impl<const V: usize> PassSide<V> {
         self.try_put(key, value)
     }
 
+    #[inline(always)]
     pub(crate) fn try_put_if(
         &mut self,
         key: u64,
@@ -83,6 +87,7 @@ impl<const V: usize> PassSide<V> {
             .try_put_if(&self.cache, &mut self.pass, key, since, value)
     }
 
+    #[inline(always)]
     pub(crate) fn try_remove(&mut self, key: u64) -> Result<Remove, DeskError<Spent>>
         ensures of { self.new.pass.of ≡ self.old.pass.of }
         ensures turn { HasTried V self.old.pass.of.layout.shape (RemoveCall key) answer.Remove self.old.pass self.new.pass result }

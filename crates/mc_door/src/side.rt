@@ -1,8 +1,10 @@
 //! A side of a cache, for values of so many words.
 ghost use Rattle.std.specs.Prelude.{◌≡◌, ◌↔◌, IsTrue, length, MatchResult};
+ghost use Rattle.mc_words.specs.Places.{IsWidth};
 ghost use Rattle.mc_door.specs.Roles.{role_of};
-ghost use Rattle.mc_door.specs.Means.{CanLook, CanWrite, HasTurns, IsMisuse, Looks, LooksAtDesk, PutIfMeans, PutMeans, RemovalMeans, TryPutIfMeans, TryPutMeans, TryRemovalMeans};
+ghost use Rattle.mc_door.specs.Means.{CanLook, CanWrite, GetMeans, GetOrDeskMeans, HasTurns, IsMisuse, Looks, LooksAtDesk, PutIfMeans, PutMeans, RemovalMeans, TryPutIfMeans, TryPutMeans, TryRemovalMeans};
 
+use crate::looked::Looked;
 use crate::pass_side::PassSide;
 use crate::reader_side::ReaderSide;
 use crate::shard_side::ShardSide;
@@ -54,7 +56,8 @@ impl<const V: usize> Side<V> {
         }
     }
 
-    pub(crate) fn get(&mut self, key: u64, words: usize) -> Result<Reply<V>, Misuse>
+    #[inline(always)]
+    fn look(&mut self, key: u64, words: usize) -> Result<Reply<V>, Misuse>
         ensures { MatchResult result (λ reply. (words ≡ V) × Looks V (role_of self.old) (role_of self.new) key reply)
             (λ why. IsMisuse CanLook V (role_of self.old) words why × (self.new ≡ self.old)) }
     {
@@ -72,7 +75,8 @@ impl<const V: usize> Side<V> {
         }
     }
 
-    pub(crate) fn get_or_desk(&mut self, key: u64, words: usize) -> Result<Reply<V>, Misuse>
+    #[inline(always)]
+    fn look_at_desk(&mut self, key: u64, words: usize) -> Result<Reply<V>, Misuse>
         ensures { MatchResult result (λ reply. (words ≡ V) × LooksAtDesk V (role_of self.old) (role_of self.new) key reply)
             (λ why. IsMisuse HasTurns V (role_of self.old) words why × (self.new ≡ self.old)) }
     {
@@ -89,7 +93,9 @@ impl<const V: usize> Side<V> {
         }
     }
 
-    pub(crate) fn put(&mut self, key: u64, value: &[u64]) -> Result<Result<Put, PutError>, Misuse>
+    /// Puts a key: `Writer::put`, by the writer.
+    #[inline(always)]
+    pub fn put(&mut self, key: u64, value: &[u64]) -> Result<Result<Put, PutError>, Misuse>
         ensures { MatchResult result (λ told. PutMeans V (role_of self.old) (role_of self.new) key value.now told)
             (λ why. IsMisuse CanWrite V (role_of self.old) (length value.now) why × (self.new ≡ self.old)) }
     {
@@ -102,7 +108,9 @@ impl<const V: usize> Side<V> {
         Ok(side.put(key, value))
     }
 
-    pub(crate) fn put_if(
+    /// Puts a key anew, if its last put was at this moment: `Writer::put_if`, by the writer.
+    #[inline(always)]
+    pub fn put_if(
         &mut self,
         key: u64,
         since: u64,
@@ -120,7 +128,9 @@ impl<const V: usize> Side<V> {
         Ok(side.put_if(key, since, value))
     }
 
-    pub(crate) fn remove(&mut self, key: u64) -> Result<Result<Remove, Spent>, Misuse>
+    /// Takes a key out: `Writer::remove`, by the writer.
+    #[inline(always)]
+    pub fn remove(&mut self, key: u64) -> Result<Result<Remove, Spent>, Misuse>
         ensures { MatchResult result (λ told. RemovalMeans V (role_of self.old) (role_of self.new) key told)
             (λ why. IsMisuse CanWrite V (role_of self.old) V why × (self.new ≡ self.old)) }
     {
@@ -132,7 +142,31 @@ impl<const V: usize> Side<V> {
 }
 
 impl<const V: usize> Side<V> {
-    pub(crate) fn try_put(
+    /// What the cache holds of the key: `Reader::get` or `Pass::get`, by a reader or a pass. The value is written only where it was found.
+    #[inline(always)]
+    pub fn get(&mut self, key: u64, value: &mut [u64]) -> Result<Looked, Misuse>
+        requires width { IsWidth V }
+        ensures { MatchResult result (λ told. GetMeans V (role_of self.old) (role_of self.new) key value.old value.new told)
+            (λ why. IsMisuse CanLook V (role_of self.old) (length value.old) why × (self.new ≡ self.old) × (value.new ≡ value.old)) }
+    {
+        Looked::of(self.look(key, value.len()), value)
+    }
+
+    /// What the cache holds of the key: `Reader::get_or_desk` or `Pass::get_or_desk`, by a pass.
+    #[inline(always)]
+    pub fn get_or_desk(&mut self, key: u64, value: &mut [u64]) -> Result<Looked, Misuse>
+        requires width { IsWidth V }
+        ensures { MatchResult result (λ told. GetOrDeskMeans V (role_of self.old) (role_of self.new) key value.old value.new told)
+            (λ why. IsMisuse HasTurns V (role_of self.old) (length value.old) why × (self.new ≡ self.old) × (value.new ≡ value.old)) }
+    {
+        Looked::of(self.look_at_desk(key, value.len()), value)
+    }
+}
+
+impl<const V: usize> Side<V> {
+    /// Tries once for the turn, to put: `Desk::try_put` or `Pass::try_put`, by a pass.
+    #[inline(always)]
+    pub fn try_put(
         &mut self,
         key: u64,
         value: &[u64],
@@ -153,7 +187,9 @@ impl<const V: usize> Side<V> {
         }
     }
 
-    pub(crate) fn put_within(
+    /// Tries up to so many times, at least once, for the turn, to put, by a pass.
+    #[inline(always)]
+    pub fn put_within(
         &mut self,
         tries: u32,
         key: u64,
@@ -175,7 +211,9 @@ impl<const V: usize> Side<V> {
         }
     }
 
-    pub(crate) fn try_put_if(
+    /// Tries once for the turn, to put on a condition: `Desk::try_put_if` or `Pass::try_put_if`, by a pass.
+    #[inline(always)]
+    pub fn try_put_if(
         &mut self,
         key: u64,
         since: u64,
@@ -197,10 +235,9 @@ impl<const V: usize> Side<V> {
         }
     }
 
-    pub(crate) fn try_remove(
-        &mut self,
-        key: u64,
-    ) -> Result<Result<Remove, DeskError<Spent>>, Misuse>
+    /// Tries once for the turn, to take a key out: `Desk::try_remove` or `Pass::try_remove`, by a pass.
+    #[inline(always)]
+    pub fn try_remove(&mut self, key: u64) -> Result<Result<Remove, DeskError<Spent>>, Misuse>
         ensures { MatchResult result (λ told. TryRemovalMeans V (role_of self.old) (role_of self.new) key told)
             (λ why. IsMisuse HasTurns V (role_of self.old) V why × (self.new ≡ self.old)) }
     {
