@@ -56,10 +56,8 @@ impl Slot {
         requires { self.old.live ≡ false }
         ensures { (self.new.live ≡ true) × (kept self.new ≡ some held.value) }
     {
-        *self = Slot {
-            handle: Handle::of(Unboxed::of(held)),
-            live: true,
-        };
+        self.handle = Handle::of(Unboxed::of(held));
+        self.live = true;
     }
 }
 

@@ -61,4 +61,10 @@ impl Held {
     {
         with_side!(self, side => side.get(key, value))
     }
+
+    /// Loads ahead the words that lookups of the first of these keys will read, of `GROUP` keys at most: `Cache::touch_ahead`, by a reader
+    /// or a pass at a desk.
+    pub fn touch_ahead(&self, keys: &[u64]) {
+        with_side!(self, side => side.touch_ahead(keys));
+    }
 }

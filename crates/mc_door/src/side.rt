@@ -164,6 +164,14 @@ impl<const V: usize> Side<V> {
 }
 
 impl<const V: usize> Side<V> {
+    pub(crate) fn touch_ahead(&self, keys: &[u64]) {
+        match self {
+            Side::Reader(side) => side.cache.touch_ahead(keys),
+            Side::Pass(side) => side.cache.touch_ahead(keys),
+            Side::Writer(_) | Side::Shard(_) => {}
+        }
+    }
+
     /// Tries once for the turn, to put: `Desk::try_put` or `Pass::try_put`, by a pass.
     #[inline(always)]
     pub fn try_put(
