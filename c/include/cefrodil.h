@@ -112,7 +112,8 @@ enum {
     CEFRODIL_BAD_LIMIT = 20,
     CEFRODIL_BAD_READERS = 21, /* there must be 1 to 1024 readers, or passes */
     CEFRODIL_BAD_COUNT = 22,   /* counts that belong together do not match */
-    CEFRODIL_NO_ITEM = 23      /* every item is in use */
+    CEFRODIL_NO_ITEM = 23,     /* every item is in use */
+    CEFRODIL_BAD_SHARDS = 24   /* the number of shards must be a power of two, 1 to 256 */
 };
 
 /* Fills in a shape for this many items, 1 to 3,774,873.
@@ -138,6 +139,19 @@ uint32_t cefrodil_open_with(const cefrodil_shape *shape, size_t words, const uin
 /* Opens a cache for threads that write by turns. Each of `pass_count` handles becomes a pass: it looks up like a reader, and
  * tries for the turn to write. Returns the statuses of cefrodil_open. */
 uint32_t cefrodil_open_desk(const cefrodil_shape *shape, size_t words, cefrodil_handle *passes, size_t pass_count);
+
+/* Fills in the shape of each of `shards` shards that hold `items` items together. A shard gets its mean share and five standard
+ * deviations more, because the hash gives some shards more keys than others.
+ * OK, BAD_SHARDS, or BAD_ITEMS: no items, or too many for a shard. Unless OK, the shape is unchanged. */
+uint32_t cefrodil_shape_for_shards(uint32_t items, uint32_t shards, cefrodil_shape *shape);
+
+/* Opens a cache of `shards` shards, each a table of this shape with a turn of its own. The hash of a key says which shard holds
+ * it, so threads that write different keys rarely want the same turn. Each of `pass_count` handles becomes a pass, which has the
+ * same calls as a pass of cefrodil_open_desk. `at` and `since` count the changes of the key's shard, and each shard evicts for
+ * itself.
+ * Returns the statuses of cefrodil_open, and BAD_SHARDS, right after BAD_MIX. */
+uint32_t cefrodil_open_shards(const cefrodil_shape *shape, uint32_t shards, size_t words, cefrodil_handle *passes,
+                              size_t pass_count);
 
 /* Looks a key up, by a reader or a pass.
  * OK: `value`, `at` and `since` are set. ABSENT: `at` is set. BUSY: ask again, or treat it as a miss.
@@ -179,6 +193,10 @@ uint32_t cefrodil_try_put_if(cefrodil_handle *pass, uint64_t key, uint64_t since
                              cefrodil_reply *reply);
 uint32_t cefrodil_try_remove(cefrodil_handle *pass, uint64_t key, cefrodil_reply *reply);
 
+/* Like cefrodil_try_put, with up to `tries` tries, at least one, one after the other without a pause. HELD: none of them won. */
+uint32_t cefrodil_put_within(cefrodil_handle *pass, uint32_t tries, uint64_t key, const uint64_t *value, size_t words,
+                             cefrodil_reply *reply);
+
 /* Closes a handle, in any thread. Closing the last handle frees the cache.
  * OK, or CLOSED if it was not open. The handle is closed afterwards. */
 uint32_t cefrodil_close(cefrodil_handle *handle);
@@ -214,6 +232,7 @@ static inline const char *cefrodil_text(uint32_t status) {
     case CEFRODIL_BAD_READERS: return "readers must be from 1 to 1024";
     case CEFRODIL_BAD_COUNT: return "counts that belong together do not fit";
     case CEFRODIL_NO_ITEM: return "no item";
+    case CEFRODIL_BAD_SHARDS: return "shards must be a power of two from 1 to 256";
     default: return "no status";
     }
 }

@@ -39,7 +39,7 @@ void __wrap_free(void *block) {
 
 static cefrodil_handle writer, handles[4];
 
-enum how { APART, BY_TURNS, WITH_ENTRIES };
+enum how { APART, BY_TURNS, BY_SHARDS, WITH_ENTRIES };
 
 /* Three entries of 1 to 8 words, and what is told of them. */
 static const uint64_t entries[27];
@@ -50,6 +50,7 @@ static uint32_t open_one(const cefrodil_shape *shape, size_t words, enum how how
     switch (how) {
     case APART: return cefrodil_open(shape, words, &writer, handles, 4);
     case BY_TURNS: return cefrodil_open_desk(shape, words, handles, 4);
+    case BY_SHARDS: return cefrodil_open_shards(shape, 4, words, handles, 4);
     default: return cefrodil_open_with(shape, words, entries, 3 * (1 + words), statuses, 3, &writer, handles, 4);
     }
 }
@@ -66,7 +67,7 @@ static int open_handles(void) {
 
 /* How many allocations an opening takes; -1 where a refusal leaves something behind. */
 static long allocations(const cefrodil_shape *shape, size_t words, enum how how) {
-    for (long allowed = 0; allowed < 100; allowed++) {
+    for (long allowed = 0; allowed < 200; allowed++) {
         left = allowed, kept = 0;
         uint32_t status = open_one(shape, words, how);
         left = -1;
@@ -91,9 +92,9 @@ int main(void) {
     }
     for (size_t words = 1; words <= 8; words++) {
         long apart = allocations(&shape, words, APART), by_turns = allocations(&shape, words, BY_TURNS);
-        long with_entries = allocations(&shape, words, WITH_ENTRIES);
-        if (apart < 5 || by_turns < 5 || with_entries != apart + 2) {
-            printf("memory: %zu words: %ld, %ld, %ld\n", words, apart, by_turns, with_entries);
+        long by_shards = allocations(&shape, words, BY_SHARDS), with_entries = allocations(&shape, words, WITH_ENTRIES);
+        if (apart < 5 || by_turns < 5 || by_shards < 4 * by_turns - 20 || with_entries != apart + 2) {
+            printf("memory: %zu words: %ld, %ld, %ld, %ld\n", words, apart, by_turns, by_shards, with_entries);
             return 1;
         }
     }

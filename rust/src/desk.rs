@@ -30,10 +30,11 @@ pub struct Desk<const WORDS: usize> {
     passes: Mutex<Vec<Handle>>,
 }
 
-/// A thread's access to the desk: it looks up like a reader, and tries for the turn to write. Dropping it returns it to the desk.
-#[must_use = "a pass that is dropped goes back to its desk"]
+/// A thread's access to a [`Desk`] or to [`Shards`](crate::Shards): it looks up like a reader, and tries for the turn to write. It may
+/// move to another thread, but two threads can't share it. Dropping it returns it to its desk. A pass of shards is closed.
+#[must_use = "a pass that is dropped goes back to its desk, or is closed"]
 pub struct Pass<'a, const WORDS: usize> {
-    desk: &'a Desk<WORDS>,
+    desk: Option<&'a Desk<WORDS>>,
     handle: Option<Handle>,
 }
 
@@ -61,7 +62,7 @@ impl<const WORDS: usize> Desk<WORDS> {
     #[must_use]
     pub fn pass(&self) -> Option<Pass<'_, WORDS>> {
         let handle = self.passes.lock().unwrap_or_else(PoisonError::into_inner).pop()?;
-        Some(Pass { desk: self, handle: Some(handle) })
+        Some(Pass { desk: Some(self), handle: Some(handle) })
     }
 }
 
@@ -79,8 +80,16 @@ impl<const WORDS: usize> Debug for Pass<'_, WORDS> {
 
 impl<const WORDS: usize> Drop for Pass<'_, WORDS> {
     fn drop(&mut self) {
-        let mut passes = self.desk.passes.lock().unwrap_or_else(PoisonError::into_inner);
-        passes.extend(self.handle.take());
+        if let Some(desk) = self.desk {
+            let mut passes = desk.passes.lock().unwrap_or_else(PoisonError::into_inner);
+            passes.extend(self.handle.take());
+        }
+    }
+}
+
+impl<const WORDS: usize> Pass<'static, WORDS> {
+    pub(crate) fn of_shards(handle: Handle) -> Pass<'static, WORDS> {
+        Pass { desk: None, handle: Some(handle) }
     }
 }
 
@@ -122,6 +131,16 @@ impl<const WORDS: usize> Pass<'_, WORDS> {
     /// [`TurnError`]: no key and no value was changed.
     pub fn try_put(&mut self, key: u64, value: &[u64; WORDS]) -> Result<Put, TurnError<PutError>> {
         reply::turn(self.handle().try_put(key, value), Put::of)
+    }
+
+    /// Like [`try_put`](Pass::try_put), with up to `tries` tries, at least one, one after the other without a pause. `Held` if
+    /// none of them won.
+    ///
+    /// # Errors
+    ///
+    /// [`TurnError`]: no key and no value was changed.
+    pub fn put_within(&mut self, tries: u32, key: u64, value: &[u64; WORDS]) -> Result<Put, TurnError<PutError>> {
+        reply::turn(self.handle().put_within(tries, key, value), Put::of)
     }
 
     /// Like [`try_put`](Pass::try_put), with [`Writer::put_if`](crate::Writer::put_if).

@@ -7,6 +7,8 @@ use std::fmt::{self, Display, Formatter};
 #[derive(Clone, Copy, Debug, PartialEq, Eq, Hash)]
 #[non_exhaustive]
 pub enum OpenError {
+    /// The number of shards must be a power of two, 1 to 256.
+    Shards,
     /// `buckets` of the shape is out of range.
     Buckets,
     /// `items` of the shape is out of range, or the argument of [`Shape::for_items`](crate::Shape::for_items).
@@ -83,6 +85,7 @@ pub enum TurnError<E> {
 impl OpenError {
     pub(crate) fn of(status: u32) -> OpenError {
         match status {
+            raw::BAD_SHARDS => OpenError::Shards,
             raw::BAD_BUCKETS => OpenError::Buckets,
             raw::BAD_ITEMS => OpenError::Items,
             raw::BAD_STRIPES => OpenError::Stripes,
@@ -112,6 +115,7 @@ impl Why {
 impl Display for OpenError {
     fn fmt(&self, text: &mut Formatter) -> fmt::Result {
         text.write_str(match self {
+            OpenError::Shards => "shards must be a power of two from 1 to 256",
             OpenError::Buckets => "buckets must be a power of two from 2 to 1048576",
             OpenError::Items => "items must be from 1 to four times the buckets",
             OpenError::Stripes => "stripes must be a power of two from 1 to 65536",

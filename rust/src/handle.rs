@@ -1,4 +1,4 @@
-//! A handle of the archive, with its calls. All `unsafe` of this crate is here, except the call of `Shape::for_items`.
+//! A handle of the archive, with its calls. All `unsafe` of this crate is here, except the calls of `Shape::for_items` and `for_shards`.
 //!
 //! This module keeps what the header asks of a caller. A handle begins zeroed, and only the archive writes it. It is private and
 //! not `Clone`, and a call borrows it as `&mut`, so one call at a time uses it. The pointers of a call come from borrows, which
@@ -90,6 +90,18 @@ impl Handle {
         }
     }
 
+    /// Opens shards: their passes, or the status.
+    pub fn open_shards(shape: &RawShape, shards: u32, words: usize, passes: usize) -> Result<Vec<Handle>, u32> {
+        let mut all = Handle::many(passes);
+        // SAFETY: as in `open`.
+        let status = unsafe { raw::cefrodil_open_shards(shape, shards, words, all.as_mut_ptr().cast(), all.len()) };
+        if status == raw::OK {
+            Ok(all)
+        } else {
+            Err(status)
+        }
+    }
+
     pub fn get(&mut self, key: u64, value: &mut [u64]) -> (u32, RawReply) {
         let mut reply = RawReply::default();
         // SAFETY: every pointer is a borrow that lasts for the call, and the length of `value` is passed with it.
@@ -145,6 +157,13 @@ impl Handle {
         let mut reply = RawReply::default();
         // SAFETY: as in `get`.
         let status = unsafe { raw::cefrodil_try_put(&mut self.0, key, value.as_ptr(), value.len(), &mut reply) };
+        (status, reply)
+    }
+
+    pub fn put_within(&mut self, tries: u32, key: u64, value: &[u64]) -> (u32, RawReply) {
+        let mut reply = RawReply::default();
+        // SAFETY: as in `get`.
+        let status = unsafe { raw::cefrodil_put_within(&mut self.0, tries, key, value.as_ptr(), value.len(), &mut reply) };
         (status, reply)
     }
 

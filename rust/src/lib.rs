@@ -12,7 +12,7 @@
 //! ```
 //!
 //! A [`Writer`] and each [`Reader`] belong to one thread at a time. Move them between threads like any value. If several
-//! threads write now and then, they take turns at a [`Desk`]. `docs/USING.md` has sizing, patterns and what to do about each
+//! threads write now and then, they take turns at a [`Desk`]. If several write often, they use [`Shards`]. `docs/USING.md` has sizing, patterns and what to do about each
 //! answer.
 #![deny(missing_docs, missing_debug_implementations, unsafe_op_in_unsafe_fn)]
 
@@ -23,6 +23,7 @@ mod handle;
 mod raw;
 mod reply;
 mod shape;
+mod shards;
 mod width;
 
 pub use cache::{Cache, Opened, Reader, Writer};
@@ -30,4 +31,5 @@ pub use desk::{Desk, Pass};
 pub use error::{OpenError, PutError, PutIfError, Spent, TurnError, Why};
 pub use reply::{Put, Removal, Reply};
 pub use shape::{Mix, Shape};
+pub use shards::Shards;
 pub use width::Value;

@@ -55,12 +55,14 @@ pub const BAD_TRIES: u32 = 19;
 pub const BAD_LIMIT: u32 = 20;
 pub const BAD_READERS: u32 = 21;
 pub const NO_ITEM: u32 = 23;
+pub const BAD_SHARDS: u32 = 24;
 
 pub const PUT_EVICTED: u32 = 2;
 pub const PUT_RENEWED: u32 = 3;
 
 unsafe extern "C" {
     pub fn cefrodil_shape_for_items(items: u32, shape: *mut RawShape) -> u32;
+    pub fn cefrodil_shape_for_shards(items: u32, shards: u32, shape: *mut RawShape) -> u32;
     pub fn cefrodil_open(
         shape: *const RawShape,
         words: usize,
@@ -80,6 +82,13 @@ unsafe extern "C" {
         reader_count: usize,
     ) -> u32;
     pub fn cefrodil_open_desk(shape: *const RawShape, words: usize, passes: *mut RawHandle, pass_count: usize) -> u32;
+    pub fn cefrodil_open_shards(
+        shape: *const RawShape,
+        shards: u32,
+        words: usize,
+        passes: *mut RawHandle,
+        pass_count: usize,
+    ) -> u32;
     pub fn cefrodil_get(reader: *mut RawHandle, key: u64, value: *mut u64, words: usize, reply: *mut RawReply) -> u32;
     pub fn cefrodil_get_many(
         reader: *mut RawHandle,
@@ -102,6 +111,14 @@ unsafe extern "C" {
     ) -> u32;
     pub fn cefrodil_remove(writer: *mut RawHandle, key: u64, reply: *mut RawReply) -> u32;
     pub fn cefrodil_try_put(pass: *mut RawHandle, key: u64, value: *const u64, words: usize, reply: *mut RawReply) -> u32;
+    pub fn cefrodil_put_within(
+        pass: *mut RawHandle,
+        tries: u32,
+        key: u64,
+        value: *const u64,
+        words: usize,
+        reply: *mut RawReply,
+    ) -> u32;
     pub fn cefrodil_try_put_if(
         pass: *mut RawHandle,
         key: u64,

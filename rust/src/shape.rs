@@ -52,9 +52,40 @@ impl Shape {
         // SAFETY: `shape` is a borrow that lasts for the call.
         let status = unsafe { raw::cefrodil_shape_for_items(items, &mut shape) };
         if status != raw::OK {
-            return Err(OpenError::Items);
+            return Err(OpenError::of(status));
         }
-        Ok(Shape {
+        Ok(Shape::of(&shape))
+    }
+
+    /// Chooses the shape of each of `shards` [`Shards`](crate::Shards) that hold `items` items together. A shard gets its mean
+    /// share and five standard deviations more, because the hash gives some shards more keys than others.
+    ///
+    /// # Errors
+    ///
+    /// [`OpenError::Shards`] if the number of shards is no power of two from 1 to 256. [`OpenError::Items`] if there are no
+    /// items, or too many for a shard.
+    ///
+    /// # Examples
+    ///
+    /// ```
+    /// use cefrodil::{OpenError, Shape};
+    ///
+    /// assert_eq!(Shape::for_shards(16_000, 16)?.items, 1160);
+    /// assert_eq!(Shape::for_shards(16_000, 10), Err(OpenError::Shards));
+    /// # Ok::<(), OpenError>(())
+    /// ```
+    pub fn for_shards(items: u32, shards: u32) -> Result<Shape, OpenError> {
+        let mut shape = RawShape { limit: 0, buckets: 0, items: 0, stripes: 0, depth: 0, tries: 0, mix: 0 };
+        // SAFETY: `shape` is a borrow that lasts for the call.
+        let status = unsafe { raw::cefrodil_shape_for_shards(items, shards, &mut shape) };
+        if status != raw::OK {
+            return Err(OpenError::of(status));
+        }
+        Ok(Shape::of(&shape))
+    }
+
+    fn of(shape: &RawShape) -> Shape {
+        Shape {
             limit: shape.limit,
             buckets: shape.buckets,
             items: shape.items,
@@ -62,7 +93,7 @@ impl Shape {
             depth: shape.depth,
             tries: shape.tries,
             mix: if shape.mix == 0 { Mix::Full } else { Mix::None },
-        })
+        }
     }
 
     pub(crate) fn raw(&self) -> RawShape {

@@ -1,5 +1,7 @@
 //! Every error with its text, and the parts of answers that `calls.rs` leaves open.
-use cefrodil::{Cache, Desk, Mix, OpenError, Put, PutError, PutIfError, Removal, Reply, Shape, Spent, TurnError, Value, Why};
+use cefrodil::{
+    Cache, Desk, Mix, OpenError, Put, PutError, PutIfError, Removal, Reply, Shape, Shards, Spent, TurnError, Value, Why,
+};
 use std::collections::HashSet;
 use std::error::Error;
 use std::iter;
@@ -14,6 +16,7 @@ where
     let why = Cache::<WORDS>::open(shape, readers).unwrap_err();
     assert_eq!(Desk::<WORDS>::open(shape, readers).unwrap_err(), why);
     assert_eq!(Cache::<WORDS>::open_with(shape, readers, &[]).unwrap_err(), why);
+    assert_eq!(Shards::<WORDS>::open(shape, 4, readers).unwrap_err(), why);
     why
 }
 

@@ -1,4 +1,4 @@
-use cefrodil::{Cache, Desk, Mix, OpenError, Put, PutIfError, Removal, Reply, Shape, TurnError, Why};
+use cefrodil::{Cache, Desk, Mix, OpenError, Put, PutIfError, Removal, Reply, Shape, Shards, TurnError, Why};
 use std::error::Error;
 use std::thread;
 
@@ -129,6 +129,62 @@ fn threads_take_turns() -> Result<(), Box<dyn Error>> {
     let mut pass = desk.pass().ok_or("no pass came back")?;
     assert!(matches!(pass.get_or_desk(7), Reply::Found { value: [15_000], .. }));
     assert!(matches!(pass.try_remove(7)?, Removal::Removed { .. }));
+    Ok(())
+}
+
+#[test]
+fn each_call_by_shards_answers() -> Result<(), Box<dyn Error>> {
+    let mut passes = Shards::<2>::open(&Shape::for_shards(500, 8)?, 8, 2)?;
+    let (one, others) = passes.split_first_mut().ok_or("no pass")?;
+    is_send(one);
+    assert_eq!(one.get(1), Reply::Absent { at: 0 });
+    assert_eq!(one.try_put(1, &[2, 3])?, Put::Stored { at: 1, moves: 0, evicted: None });
+    assert_eq!(others[0].put_within(10, 1, &[2, 4])?, Put::Renewed { at: 2 });
+    assert_eq!(one.get(1), Reply::Found { value: [2, 4], at: 2, since: 2 });
+    assert_eq!(one.get_or_desk(1), Reply::Found { value: [2, 4], at: 2, since: 2 });
+    assert_eq!(one.try_put_if(1, 1, &[0, 0]), Err(TurnError::Call(PutIfError::Changed { since: 2 })));
+    assert_eq!(one.try_put_if(1, 2, &[2, 5])?, 3);
+    let mut replies = [Reply::Busy; 2];
+    one.get_many(&[9, 1], &mut replies);
+    assert!(matches!(replies, [Reply::Absent { .. }, Reply::Found { value: [2, 5], at: 3, since: 3 }]));
+    assert_eq!(others[0].try_remove(1)?, Removal::Removed { at: 4 });
+    assert_eq!(others[0].try_remove(1)?, Removal::NotThere { at: 4 });
+    Ok(())
+}
+
+#[test]
+fn threads_write_to_shards() -> Result<(), Box<dyn Error>> {
+    let mut passes = Shards::<1>::open(&Shape::for_shards(1000, 16)?, 16, 4)?;
+    passes[0].put_within(1, 7, &[0])?;
+    let mut last = passes.pop().ok_or("no pass")?;
+    let threads: Vec<_> = passes
+        .into_iter()
+        .map(|mut pass| {
+            thread::spawn(move || {
+                for n in 0..5000 {
+                    add_one(&mut pass);
+                    let _ = pass.put_within(20, 1000 + n % 500, &[n]);
+                }
+            })
+        })
+        .collect();
+    for thread in threads {
+        thread.join().map_err(|_| "a thread panicked")?;
+    }
+    while last.get_or_desk(7) == Reply::Busy {}
+    assert!(matches!(last.get(7), Reply::Found { value: [15_000], .. }));
+    Ok(())
+}
+
+#[test]
+fn shards_are_refused() -> Result<(), OpenError> {
+    let shape = Shape::for_shards(500, 8)?;
+    assert_eq!(Shape::for_shards(500, 3), Err(OpenError::Shards));
+    assert_eq!(Shape::for_shards(0, 8), Err(OpenError::Items));
+    assert_eq!(Shards::<1>::open(&shape, 3, 0).err(), Some(OpenError::Shards));
+    assert_eq!(Shards::<1>::open(&shape, 8, 0).err(), Some(OpenError::Readers));
+    assert_eq!(Shards::<1>::open(&shape, 8, 1025).err(), Some(OpenError::Readers));
+    assert_eq!(OpenError::Shards.to_string(), "shards must be a power of two from 1 to 256");
     Ok(())
 }
 

@@ -7,3 +7,4 @@ pub mod ManyLookups
 pub mod Opened
 pub mod GivenSides
 pub mod Sent
+pub mod ShardFilling

@@ -5,7 +5,7 @@ use Rattle.std.proofs.lemmas.Slice.{take-put_mid, drop-put_mid}
 use borrow.Rule.Slice.PartMut.{put_mid}
 use Rattle.mc_door.specs.Held.{role_in}
 use Rattle.mc_door.specs.Means.{CanLook, GetMeans}
-use Rattle.mc_door.specs.Roles.{Role, Writes, Reads, Passes}
+use Rattle.mc_door.specs.Roles.{Role, Writes, Reads, Passes, Shares}
 use Rattle.mc_door.specs.declared.held.Held.{Held}
 use Rattle.mc_door.specs.declared.looked.Looked.{Looked}
 use Rattle.cefrodil.specs.Inside.Looking.{AreLookedUpTo}
@@ -14,15 +14,13 @@ use Rattle.cefrodil.specs.declared.many.RawAnswer.{RawAnswer}
 
 -- who looked up can do so again
 pub still_looks : (V : ℕ) (role role' : Role) (key : ℕ) (old new : List ℕ) (told : Looked) → GetMeans V role role' key old new told → CanLook role'
-still_looks V (Reads r) (Reads r') key old new told means = tt
-still_looks V (Passes r) (Passes r') key old new told means = tt
+still_looks V role (Reads r) key old new told means = tt
+still_looks V role (Passes r) key old new told means = tt
+still_looks V role (Shares s rs) key old new told means = tt
+still_looks V (Writes w) (Writes w') key old new told means = means.1
 still_looks V (Reads r) (Writes w) key old new told means = means.1
 still_looks V (Passes r) (Writes w) key old new told means = means.1
-still_looks V (Writes w) (Writes w') key old new told means = means.1
-still_looks V (Writes w) (Reads r) key old new told means = tt
-still_looks V (Writes w) (Passes r) key old new told means = tt
-still_looks V (Reads r) (Passes r') key old new told means = tt
-still_looks V (Passes r) (Reads r') key old new told means = tt
+still_looks V (Shares s rs) (Writes w) key old new told means = means.1
 
 -- the first key's lookup, and then the others
 looked_first : (words : ℕ) (h next h' : Held) (key : ℕ) (keys old v new : List ℕ) (answer : RawAnswer) (more : List RawAnswer)

@@ -7,9 +7,12 @@ use Rattle.mc_cache.proofs.cache.Cache.TheSendSync.{the_send as cache_send, the_
 use Rattle.mc_cache.proofs.desk.Desk.TheSendSync.{the_send as desk_send}
 use Rattle.mc_cache.proofs.reader.Reader.TheSendSync.{the_send as reader_send}
 use Rattle.mc_cache.proofs.writer.Writer.TheSendSync.{the_send as writer_send}
+use Rattle.mc_shards.proofs.Sent.{pass_send as shard_pass_send, shards_sync}
+use Rattle.mc_shards.proofs.shards.Shards.TheSendSync.{the_send as shards_send}
 use Rattle.mc_door.specs.contracts.held.Held as held
 use Rattle.mc_door.specs.contracts.pass_side.PassSide as pass
 use Rattle.mc_door.specs.contracts.reader_side.ReaderSide as reader
+use Rattle.mc_door.specs.contracts.shard_side.ShardSide as shard
 use Rattle.mc_door.specs.contracts.side.Side as side
 use Rattle.mc_door.specs.contracts.writer_side.WriterSide as writer
 
@@ -23,8 +26,11 @@ reader_side_send V = search (sendable, crosses, cache_send, cache_sync, reader_s
 writer_side_send : (V : RattleType) → IsSend (writer.the_field V).row
 writer_side_send V = search (sendable, crosses, cache_send, cache_sync, writer_send) depth 30
 
+shard_side_send : (V : RattleType) → IsSend (shard.the_field V).row
+shard_side_send V = search (sendable, crosses, shards_send, shards_sync, shard_pass_send) depth 30
+
 side_send : (V : RattleType) → IsSend (side.the_field V).row
-side_send V = search (sendable, pass_send, reader_side_send, writer_side_send) depth 20
+side_send V = search (sendable, pass_send, reader_side_send, writer_side_send, shard_side_send) depth 20
 
 pub held_send : IsSend held.the_row
 held_send = search (sendable, side_send) depth 20

@@ -16,12 +16,15 @@ Gives none none Closed Open = Closed
 Gives (some h) (some h') Closed Open = Open h h'
 Gives b b' Closed Open = ⊥
 
--- a call by an open handle: this was told. An answer means that, and by a misuse all is as it was
-pub record HasMade {Answer : Type 0} (tells : Answer → Told) (Means : Answer → Type 0) (Misused : Misuse → Type 0) (h h' : Held) (told : Told) : Type 0 where
-  pub width : width_of h' ≡ width_of h
+-- a call told this. An answer means that, and by a misuse all is as it was
+pub record HasTold {Answer : Type 0} (tells : Answer → Told) (Means : Answer → Type 0) (Misused : Misuse → Type 0) (told : Told) : Type 0 where
   pub made : Result Answer Misuse
   pub is : told ≡ told_of tells made
   pub means : MatchResult made Means Misused
+
+-- the same by an open handle
+abbrev pub HasMade : {Answer : Type 0} → (Answer → Told) → (Answer → Type 0) → (Misuse → Type 0) → Held → Held → Told → Type 0
+HasMade tells Means Misused h h' told = (width_of h' ≡ width_of h) × HasTold tells Means Misused told
 
 -- a lookup by a side that can look so
 abbrev pub LookupGives : (Role → Type 0) → (ℕ → Role → Role → ℕ → List ℕ → List ℕ → Looked → Type 0) → Option Held → Option Held → ℕ → List ℕ → List ℕ → Told → Type 0

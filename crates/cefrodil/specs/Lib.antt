@@ -5,5 +5,6 @@ pub mod Many
 pub mod Open
 pub mod Openings
 pub mod RawShapes
+pub mod ShardOpenings
 pub mod Tellings
 pub mod Inside

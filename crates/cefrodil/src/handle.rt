@@ -30,6 +30,7 @@ impl Model for Handle {
 unsafe impl Send for Handle {}
 
 impl Handle {
+    #[inline(always)]
     pub(crate) fn empty(alloc: Global) -> Handle
         ensures { result.value ≡ none }
     {
@@ -39,6 +40,7 @@ impl Handle {
         }
     }
 
+    #[inline(always)]
     pub(crate) fn of(value: Unboxed<Held, Global>) -> Handle
         ensures { result.value ≡ some value.value }
     {
@@ -49,6 +51,7 @@ impl Handle {
         }
     }
 
+    #[inline(always)]
     pub(crate) fn into_unboxed(self) -> Unboxed<Held, Global>
         requires { ¬ (self.value ≡ none) }
         ensures { some result.value ≡ self.value }

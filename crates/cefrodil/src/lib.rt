@@ -2,6 +2,8 @@
 //! and what its caller promises.
 #![tactic(auto)]
 
+mod by_side;
+mod by_width;
 mod closing;
 pub mod handle;
 mod loading;
@@ -9,9 +11,9 @@ mod lookups;
 mod many;
 mod opening;
 mod shape;
+mod sharding;
 pub mod slot;
 mod status;
 mod told;
-mod turns;
 mod unboxed;
 mod writes;

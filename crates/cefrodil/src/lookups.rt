@@ -4,7 +4,8 @@ ghost use Rattle.cefrodil.specs.Calls.{LookupGives};
 ghost use Rattle.mc_door.specs.Means.{CanLook, GetMeans, GetOrDeskMeans, HasTurns};
 ghost use Rattle.cefrodil.specs.Open.{kept};
 
-use crate::slot::Slot;
+use crate::by_width;
+use crate::slot::{Slot, told_of_handle};
 use crate::told::{RawReply, Told};
 use std::alloc::Global;
 
@@ -21,12 +22,7 @@ pub extern "C" fn cefrodil_get(
     ensures open { reader.new.live ≡ reader.old.live }
     ensures told { LookupGives CanLook GetMeans (kept reader.old) (kept reader.new) key value.old value.new (record { status = result; reply = reply.new }) }
 {
-    let Some(mut held) = reader.take(alloc) else {
-        return Told::closed().tell(reply);
-    };
-    let made = held.get(key, value);
-    reader.put(held);
-    Told::lookup(made).tell(reply)
+    told_of_handle!(alloc, reader, reply, held => by_width::get(&mut held, key, value, reply))
 }
 
 /// The same by a pass. Where the lookup is busy it tries once for the turn, with which it always tells.
@@ -42,10 +38,5 @@ pub extern "C" fn cefrodil_get_or_desk(
     ensures open { pass.new.live ≡ pass.old.live }
     ensures told { LookupGives HasTurns GetOrDeskMeans (kept pass.old) (kept pass.new) key value.old value.new (record { status = result; reply = reply.new }) }
 {
-    let Some(mut held) = pass.take(alloc) else {
-        return Told::closed().tell(reply);
-    };
-    let made = held.get_or_desk(key, value);
-    pass.put(held);
-    Told::lookup(made).tell(reply)
+    told_of_handle!(alloc, pass, reply, held => by_width::get_or_desk(&mut held, key, value, reply))
 }

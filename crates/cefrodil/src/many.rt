@@ -8,7 +8,7 @@ ghost use Rattle.cefrodil.specs.Tellings.{answer_of};
 
 use crate::slot::Slot;
 use crate::status::{ABSENT, BUSY, CLOSED, COUNT, KIND, OK, WIDTH};
-use mc_door::{Held, Looked};
+use mc_door::{GROUP, Held, Looked};
 use std::alloc::Global;
 
 /// One answer of many. What its status has no use for is 0.
@@ -54,7 +54,7 @@ fn look_up(held: &mut Held, key: u64, value: &mut [u64]) -> RawAnswer
     }
 }
 
-// One lookup after the other.
+// One lookup after the other, behind the loads ahead of their group.
 fn look_up_all(held: &mut Held, keys: &[u64], values: &mut [u64], answers: &mut [RawAnswer])
     requires looks { CanLook (role_in held.old) }
     requires answers { length answers.old ≡ length keys.now }
@@ -63,6 +63,9 @@ fn look_up_all(held: &mut Held, keys: &[u64], values: &mut [u64], answers: &mut 
 {
     let words = held.words();
     for index in 0..keys.len() {
+        if index % GROUP == 0 {
+            held.touch_ahead(&keys[index..]);
+        }
         let start = index * words;
         answers[index] = look_up(held, keys[index], &mut values[start..start + words]);
     }

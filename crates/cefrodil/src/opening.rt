@@ -44,7 +44,7 @@ pub(crate) fn all_closed(slots: &[Slot]) -> bool
     true
 }
 
-fn close_all(alloc: Global, slots: &mut [Slot])
+pub(crate) fn close_all(alloc: Global, slots: &mut [Slot])
     ensures { All IsClosed slots.new }
 {
     for slot in slots.iter_mut() {
@@ -53,7 +53,7 @@ fn close_all(alloc: Global, slots: &mut [Slot])
 }
 
 // The side on the heap, if there is memory.
-fn boxed(alloc: Global, held: Held) -> Option<Box<Held, Global>>
+pub(crate) fn boxed(alloc: Global, held: Held) -> Option<Box<Held, Global>>
     ensures { IfSome result (λ b. b.value ≡ held) }
 {
     match Box::new(alloc, held) {

@@ -1,11 +1,16 @@
 //! The shape of a table, as C writes it.
-ghost use Rattle.std.specs.Prelude.{◌≡◌, ◌≢◌, MatchOption, min};
+ghost use Rattle.std.specs.Prelude.{ℕ, ◌≡◌, ◌≢◌, MatchOption, min};
 ghost use Rattle.mc_words.specs.Sizing.{CanBeSized, IsSizedFor};
 ghost use Rattle.mc_words.specs.declared.shape.Shape.{Shape};
+ghost use Rattle.mc_shards.specs.Sizing.{IsShare, RefusesShare};
+ghost use Rattle.mc_shards.specs.declared.opening.OpenShardsError.{OpenShardsError};
+ghost use Rattle.mc_words.specs.Shapes.{HasShards};
 ghost use Rattle.cefrodil.specs.RawShapes.{HasMix, IsShapeOf};
+ghost use Rattle.cefrodil.specs.ShardOpenings.{shards_status};
 
+use crate::sharding::status_of_shards;
 use crate::status::{ITEMS, OK};
-use mc_door::Shape;
+use mc_door::{Shape, shard_shape};
 use mc_words::Mix;
 
 /// Keys are mixed.
@@ -35,6 +40,23 @@ fn byte_of(number: u32) -> u8
 }
 
 impl RawShape {
+    fn of(shape: Shape) -> RawShape
+        ensures { IsShapeOf result shape }
+    {
+        RawShape {
+            limit: shape.limit,
+            buckets: shape.buckets,
+            items: shape.items,
+            stripes: shape.stripes,
+            depth: u32::from(shape.depth),
+            tries: u32::from(shape.tries),
+            mix: match shape.mix {
+                Mix::Fmix => FMIX,
+                Mix::Plain => PLAIN,
+            },
+        }
+    }
+
     /// The shape, if its mix is one.
     pub(crate) fn shape(&self) -> Option<Shape>
         ensures { MatchOption result (¬ HasMix self.now) (λ shape. HasMix self.now × IsShapeOf self.now shape) }
@@ -65,17 +87,21 @@ pub extern "C" fn cefrodil_shape_for_items(items: u32, shape: &mut RawShape) -> 
     let Ok(sized) = Shape::for_items(items) else {
         return ITEMS;
     };
-    *shape = RawShape {
-        limit: sized.limit,
-        buckets: sized.buckets,
-        items: sized.items,
-        stripes: sized.stripes,
-        depth: u32::from(sized.depth),
-        tries: u32::from(sized.tries),
-        mix: match sized.mix {
-            Mix::Fmix => FMIX,
-            Mix::Plain => PLAIN,
-        },
-    };
+    *shape = RawShape::of(sized);
     OK
+}
+
+/// The shape of each of so many shards, which have so many items together.
+#[unsafe(no_mangle)]
+pub extern "C" fn cefrodil_shape_for_shards(items: u32, shards: u32, shape: &mut RawShape) -> u32
+    ensures sized { result ≡ OK → (chosen : Shape) × (share : ℕ) × IsShapeOf shape.new chosen × HasShards shards × IsShare items shards share × IsSizedFor share chosen }
+    ensures refused { result ≢ OK → (why : OpenShardsError) × (result ≡ shards_status why) × RefusesShare items shards why × (shape.new ≡ shape.old) }
+{
+    match shard_shape(items, shards) {
+        Ok(sized) => {
+            *shape = RawShape::of(sized);
+            OK
+        }
+        Err(why) => status_of_shards(why),
+    }
 }

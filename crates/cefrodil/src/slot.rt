@@ -20,6 +20,7 @@ pub struct Slot {
 impl Slot {
     ghost use Rattle.cefrodil.specs.Open.{kept};
 
+    #[inline(always)]
     fn empty(alloc: Global) -> Slot
         ensures { result.live ≡ false }
     {
@@ -36,6 +37,7 @@ impl Slot {
     }
 
     /// What it keeps. It is closed then.
+    #[inline(always)]
     pub(crate) fn take(&mut self, alloc: Global) -> Option<Box<Held, Global>>
         ensures closed { self.new.live ≡ false }
         ensures kept { MatchOption result (self.old.live ≡ false) (λ held. (self.old.live ≡ true) × (kept self.old ≡ some held.value)) }
@@ -49,16 +51,30 @@ impl Slot {
     }
 
     /// It keeps this, and is open.
+    #[inline(always)]
     pub(crate) fn put(&mut self, held: Box<Held, Global>)
         requires { self.old.live ≡ false }
         ensures { (self.new.live ≡ true) × (kept self.new ≡ some held.value) }
     {
-        *self = Slot {
-            handle: Handle::of(Unboxed::of(held)),
-            live: true,
-        };
+        self.handle = Handle::of(Unboxed::of(held));
+        self.live = true;
     }
 }
+
+// A call by a handle: what it keeps is taken out, the call is made with it, and it is put back. The call is told, or that the handle is
+// closed.
+macro_rules! told_of_handle {
+    ($alloc:ident, $slot:ident, $reply:ident, $held:ident => $status:expr) => {{
+        let Some(mut $held) = $slot.take($alloc) else {
+            return Told::closed().tell($reply);
+        };
+        let status = $status;
+        $slot.put($held);
+        status
+    }};
+}
+
+pub(crate) use told_of_handle;
 
 fn crosses<T: Send>(_value: &T) {}
 

@@ -71,3 +71,6 @@ pub const COUNT: u32 = 22;
 
 /// Every item is in use.
 pub const NO_ITEM: u32 = 23;
+
+/// Shards must be a power of two from 1 to 256.
+pub const SHARDS: u32 = 24;

@@ -42,6 +42,7 @@ pub(crate) struct Told {
 }
 
 impl Told {
+    #[inline(always)]
     fn plain(status: u32) -> Told
         ensures { result ≡ plain status }
     {
@@ -59,12 +60,14 @@ impl Told {
 }
 
 impl Told {
+    #[inline(always)]
     pub(crate) fn closed() -> Told
         ensures { result ≡ closed_told }
     {
         Told::plain(status::CLOSED)
     }
 
+    #[inline(always)]
     fn misuse(why: Misuse) -> Told
         ensures { result ≡ misuse_told why }
     {
@@ -75,6 +78,7 @@ impl Told {
     }
 
     // A status and a moment.
+    #[inline(always)]
     fn at(status: u32, at: u64) -> Told
         ensures { result ≡ told_at status at }
     {
@@ -83,6 +87,7 @@ impl Told {
         told
     }
 
+    #[inline(always)]
     fn looked_answer(answer: Looked) -> Told
         ensures { result ≡ lookup_told answer }
     {
@@ -97,6 +102,7 @@ impl Told {
         }
     }
 
+    #[inline(always)]
     fn done(put: Put) -> Told
         ensures { result ≡ done_told put }
     {
@@ -120,6 +126,7 @@ impl Told {
         told
     }
 
+    #[inline(always)]
     fn not_put(why: PutError) -> Told
         ensures { result ≡ not_put_told why }
     {
@@ -130,6 +137,7 @@ impl Told {
         }
     }
 
+    #[inline(always)]
     fn put_answer(answer: Result<Put, PutError>) -> Told
         ensures { result ≡ put_told answer }
     {
@@ -139,6 +147,7 @@ impl Told {
         }
     }
 
+    #[inline(always)]
     fn not_put_if(why: IfError) -> Told
         ensures { result ≡ not_put_if_told why }
     {
@@ -154,12 +163,14 @@ impl Told {
     }
 
     // A put on a condition always finds its key.
+    #[inline(always)]
     fn done_if(at: u64) -> Told
         ensures { result ≡ done_told (Renewed at) }
     {
         Told::done(Put::Renewed { at })
     }
 
+    #[inline(always)]
     fn put_if_answer(answer: Result<u64, IfError>) -> Told
         ensures { result ≡ put_if_told answer }
     {
@@ -169,6 +180,7 @@ impl Told {
         }
     }
 
+    #[inline(always)]
     fn gone(answer: Remove) -> Told
         ensures { result ≡ gone_told answer }
     {
@@ -178,6 +190,7 @@ impl Told {
         }
     }
 
+    #[inline(always)]
     fn removal_answer(answer: Result<Remove, Spent>) -> Told
         ensures { result ≡ removal_told answer }
     {
@@ -189,6 +202,7 @@ impl Told {
 }
 
 impl Told {
+    #[inline(always)]
     fn try_put_answer(answer: Result<Put, DeskError<PutError>>) -> Told
         ensures { result ≡ try_put_told answer }
     {
@@ -199,6 +213,7 @@ impl Told {
         }
     }
 
+    #[inline(always)]
     fn try_put_if_answer(answer: Result<u64, DeskError<IfError>>) -> Told
         ensures { result ≡ try_put_if_told answer }
     {
@@ -209,6 +224,7 @@ impl Told {
         }
     }
 
+    #[inline(always)]
     fn try_removal_answer(answer: Result<Remove, DeskError<Spent>>) -> Told
         ensures { result ≡ try_removal_told answer }
     {
@@ -222,6 +238,7 @@ impl Told {
 
 impl Told {
     /// Writes the reply, and gives the status.
+    #[inline(always)]
     pub(crate) fn tell(self, reply: &mut RawReply) -> u32
         ensures { record { status = result; reply = reply.new } ≡ self }
     {
@@ -229,6 +246,7 @@ impl Told {
         self.status
     }
 
+    #[inline(always)]
     pub(crate) fn lookup(made: Result<Looked, Misuse>) -> Told
         ensures { result ≡ told_of lookup_told made }
     {
@@ -238,6 +256,7 @@ impl Told {
         }
     }
 
+    #[inline(always)]
     pub(crate) fn put(made: Result<Result<Put, PutError>, Misuse>) -> Told
         ensures { result ≡ told_of put_told made }
     {
@@ -247,6 +266,7 @@ impl Told {
         }
     }
 
+    #[inline(always)]
     pub(crate) fn put_if(made: Result<Result<u64, IfError>, Misuse>) -> Told
         ensures { result ≡ told_of put_if_told made }
     {
@@ -256,6 +276,7 @@ impl Told {
         }
     }
 
+    #[inline(always)]
     pub(crate) fn removal(made: Result<Result<Remove, Spent>, Misuse>) -> Told
         ensures { result ≡ told_of removal_told made }
     {
@@ -265,6 +286,7 @@ impl Told {
         }
     }
 
+    #[inline(always)]
     pub(crate) fn try_put(made: Result<Result<Put, DeskError<PutError>>, Misuse>) -> Told
         ensures { result ≡ told_of try_put_told made }
     {
@@ -274,6 +296,7 @@ impl Told {
         }
     }
 
+    #[inline(always)]
     pub(crate) fn try_put_if(made: Result<Result<u64, DeskError<IfError>>, Misuse>) -> Told
         ensures { result ≡ told_of try_put_if_told made }
     {
@@ -283,6 +306,7 @@ impl Told {
         }
     }
 
+    #[inline(always)]
     pub(crate) fn try_removal(made: Result<Result<Remove, DeskError<Spent>>, Misuse>) -> Told
         ensures { result ≡ told_of try_removal_told made }
     {

@@ -16,6 +16,7 @@ impl<T, A: Allocator> Model for Unboxed<T, A> {
 }
 
 impl<T: Drop, A: Allocator> Unboxed<T, A> {
+    #[inline(always)]
     pub(crate) fn of(whole: Box<T, A>) -> Unboxed<T, A>
         ensures { result.value ≡ whole.value }
     {
@@ -23,6 +24,7 @@ impl<T: Drop, A: Allocator> Unboxed<T, A> {
         Unboxed { at, alloc }
     }
 
+    #[inline(always)]
     pub(crate) fn into_box(self) -> Box<T, A>
         ensures { result.value ≡ self.value }
     {

@@ -1,9 +1,10 @@
-//! The writer's calls, as C makes them.
+//! Writes, as C makes them: by the writer, and by a pass in a turn.
 ghost use Rattle.std.specs.Prelude.{◌≡◌};
-ghost use Rattle.cefrodil.specs.Calls.{PutGives, PutIfGives, RemovalGives};
+ghost use Rattle.cefrodil.specs.Calls.{PutGives, PutIfGives, RemovalGives, TryPutGives, TryPutIfGives, TryRemovalGives};
 ghost use Rattle.cefrodil.specs.Open.{kept};
 
-use crate::slot::Slot;
+use crate::by_width;
+use crate::slot::{Slot, told_of_handle};
 use crate::told::{RawReply, Told};
 use std::alloc::Global;
 
@@ -20,12 +21,7 @@ pub extern "C" fn cefrodil_put(
     ensures open { writer.new.live ≡ writer.old.live }
     ensures told { PutGives (kept writer.old) (kept writer.new) key value.now (record { status = result; reply = reply.new }) }
 {
-    let Some(mut held) = writer.take(alloc) else {
-        return Told::closed().tell(reply);
-    };
-    let made = held.put(key, value);
-    writer.put(held);
-    Told::put(made).tell(reply)
+    told_of_handle!(alloc, writer, reply, held => by_width::put(&mut held, key, value, reply))
 }
 
 /// Puts a key anew, if its last put was at the moment `since`, by the writer's handle.
@@ -42,12 +38,7 @@ pub extern "C" fn cefrodil_put_if(
     ensures open { writer.new.live ≡ writer.old.live }
     ensures told { PutIfGives (kept writer.old) (kept writer.new) key since value.now (record { status = result; reply = reply.new }) }
 {
-    let Some(mut held) = writer.take(alloc) else {
-        return Told::closed().tell(reply);
-    };
-    let made = held.put_if(key, since, value);
-    writer.put(held);
-    Told::put_if(made).tell(reply)
+    told_of_handle!(alloc, writer, reply, held => by_width::put_if(&mut held, key, since, value, reply))
 }
 
 /// Takes a key out, by the writer's handle.
@@ -62,10 +53,70 @@ pub extern "C" fn cefrodil_remove(
     ensures open { writer.new.live ≡ writer.old.live }
     ensures told { RemovalGives (kept writer.old) (kept writer.new) key (record { status = result; reply = reply.new }) }
 {
-    let Some(mut held) = writer.take(alloc) else {
-        return Told::closed().tell(reply);
-    };
-    let made = held.remove(key);
-    writer.put(held);
-    Told::removal(made).tell(reply)
+    told_of_handle!(alloc, writer, reply, held => by_width::remove(&mut held, key, reply))
+}
+
+/// Tries once for the turn, to put a key, by a pass.
+#[tactic(auto, using(crate::proofs::Gives::gives_open, crate::proofs::Gives::gives_closed))]
+#[unsafe(no_mangle)]
+pub extern "C" fn cefrodil_try_put(
+    alloc: Global,
+    pass: &mut Slot,
+    key: u64,
+    value: &[u64],
+    reply: &mut RawReply,
+) -> u32
+    ensures open { pass.new.live ≡ pass.old.live }
+    ensures told { TryPutGives (kept pass.old) (kept pass.new) key value.now (record { status = result; reply = reply.new }) }
+{
+    told_of_handle!(alloc, pass, reply, held => by_width::try_put(&mut held, key, value, reply))
+}
+
+/// Tries up to so many times, at least once, for the turn, to put a key, by a pass.
+#[tactic(auto, using(crate::proofs::Gives::gives_open, crate::proofs::Gives::gives_closed))]
+#[unsafe(no_mangle)]
+pub extern "C" fn cefrodil_put_within(
+    alloc: Global,
+    pass: &mut Slot,
+    tries: u32,
+    key: u64,
+    value: &[u64],
+    reply: &mut RawReply,
+) -> u32
+    ensures open { pass.new.live ≡ pass.old.live }
+    ensures told { TryPutGives (kept pass.old) (kept pass.new) key value.now (record { status = result; reply = reply.new }) }
+{
+    told_of_handle!(alloc, pass, reply, held => by_width::put_within(&mut held, tries, key, value, reply))
+}
+
+/// Tries once for the turn, to put a key anew on a condition, by a pass.
+#[tactic(auto, using(crate::proofs::Gives::gives_open, crate::proofs::Gives::gives_closed))]
+#[unsafe(no_mangle)]
+pub extern "C" fn cefrodil_try_put_if(
+    alloc: Global,
+    pass: &mut Slot,
+    key: u64,
+    since: u64,
+    value: &[u64],
+    reply: &mut RawReply,
+) -> u32
+    ensures open { pass.new.live ≡ pass.old.live }
+    ensures told { TryPutIfGives (kept pass.old) (kept pass.new) key since value.now (record { status = result; reply = reply.new }) }
+{
+    told_of_handle!(alloc, pass, reply, held => by_width::try_put_if(&mut held, key, since, value, reply))
+}
+
+/// Tries once for the turn, to take a key out, by a pass.
+#[tactic(auto, using(crate::proofs::Gives::gives_open, crate::proofs::Gives::gives_closed))]
+#[unsafe(no_mangle)]
+pub extern "C" fn cefrodil_try_remove(
+    alloc: Global,
+    pass: &mut Slot,
+    key: u64,
+    reply: &mut RawReply,
+) -> u32
+    ensures open { pass.new.live ≡ pass.old.live }
+    ensures told { TryRemovalGives (kept pass.old) (kept pass.new) key (record { status = result; reply = reply.new }) }
+{
+    told_of_handle!(alloc, pass, reply, held => by_width::try_remove(&mut held, key, reply))
 }

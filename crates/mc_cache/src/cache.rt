@@ -1,4 +1,5 @@
 //! The words of a cache.
+use mc_reader::touch_ahead;
 use mc_shared::Cells;
 use std::marker::Model;
 
@@ -14,4 +15,12 @@ impl<const V: usize> Model for Cache<V> {
     ghost Value = { Opening };
 
     ghost view = { λ c. c.cells };
+}
+
+impl<const V: usize> Cache<V> {
+    /// Loads ahead the words that lookups of the first of these keys will read, of `GROUP` keys at most. In a large cache the lookups
+    /// then wait less. It changes nothing, and no answer depends on it.
+    pub fn touch_ahead(&self, keys: &[u64]) {
+        touch_ahead(&self.cells, keys);
+    }
 }

@@ -1,7 +1,9 @@
 pub mod Looks
 pub mod Roles
+pub mod AtShards
 pub mod Means
 pub mod Held
 pub mod NewSides
+pub mod NewPasses
 pub mod Loading
 pub mod Inside

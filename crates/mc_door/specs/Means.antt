@@ -17,37 +17,43 @@ use Rattle.mc_door.specs.declared.looked.Looked.{Looked}
 use Rattle.mc_door.specs.declared.side.Misuse.{Misuse}
 use Rattle.mc_door.specs.declared.side.Misuse.TheVariants.{Kind, Width}
 use Rattle.mc_door.specs.Looks.{reply_of, LeavesUnlessFound}
-use Rattle.mc_door.specs.Roles.{Role, Writes, Reads, Passes}
+use Rattle.mc_door.specs.AtShards.{IsAtShard}
+use Rattle.mc_door.specs.Roles.{Role, Writes, Reads, Passes, Shares}
 
 abbrev pub CanLook : Role → Type 0
 CanLook (Writes w) = ⊥
 CanLook (Reads r) = Unit {0}
 CanLook (Passes r) = Unit {0}
+CanLook (Shares s rs) = Unit {0}
 
 abbrev pub CanWrite : Role → Type 0
 CanWrite (Writes w) = Unit {0}
 CanWrite (Reads r) = ⊥
 CanWrite (Passes r) = ⊥
+CanWrite (Shares s rs) = ⊥
 
 abbrev pub HasTurns : Role → Type 0
 HasTurns (Writes w) = ⊥
 HasTurns (Reads r) = ⊥
 HasTurns (Passes r) = Unit {0}
+HasTurns (Shares s rs) = Unit {0}
 
 -- the first that applies: the side has no such call; the value has another width
 abbrev pub IsMisuse : (Role → Type 0) → ℕ → Role → ℕ → Misuse → Type 0
 IsMisuse Can V role words Kind = ¬ Can role
 IsMisuse Can V role words Width = Can role × (words ≢ V)
 
--- a lookup by a reader or a pass: the answer is true of what it has seen
+-- a lookup by a reader or a pass: the answer is true of what it has seen. By a pass of shards it is one in the key's shard
 abbrev pub Looks : (V : ℕ) → Role → Role → ℕ → Reply V → Type 0
 Looks V (Reads r) (Reads r') key reply = (r'.of ≡ r.of) × HasLooked V r.of.layout.shape key r r' reply × HasAnswered V (seen V r) (seen V r') key reply
 Looks V (Passes r) (Passes r') key reply = (r'.of ≡ r.of) × HasLooked V r.of.layout.shape key r r' reply × HasAnswered V (seen V r) (seen V r') key reply
+Looks V (Shares s rs) (Shares s' rs') key reply = (s' ≡ s) × IsAtShard V s key rs rs' (λ r r'. HasLooked V s.shape key r r' reply) (λ h h'. HasAnswered V h h' key reply)
 Looks V _ _ key reply = ⊥
 
 -- the same by a pass alone, which tries for the turn where it is busy
 abbrev pub LooksAtDesk : (V : ℕ) → Role → Role → ℕ → Reply V → Type 0
 LooksAtDesk V (Passes r) (Passes r') key reply = (r'.of ≡ r.of) × HasLookedOrMet V r.of.layout.shape key r r' reply × HasAnswered V (seen V r) (seen V r') key reply
+LooksAtDesk V (Shares s rs) (Shares s' rs') key reply = (s' ≡ s) × IsAtShard V s key rs rs' (λ r r'. HasLookedOrMet V s.shape key r r' reply) (λ h h'. HasAnswered V h h' key reply)
 LooksAtDesk V _ _ key reply = ⊥
 
 -- a lookup whose value is written beside its answer
@@ -73,12 +79,15 @@ RemovalMeans V _ _ key told = ⊥
 -- tries for the turn, by a pass
 abbrev pub TryPutMeans : (V : ℕ) → Role → Role → ℕ → List ℕ → Result Put (DeskError PutError) → Type 0
 TryPutMeans V (Passes r) (Passes r') key v told = (length v ≡ V) × (r'.of ≡ r.of) × HasTried V r.of.layout.shape (PutCall key v) answer.Put r r' told × TurnMeans (λ h h' answer. PutOf V h h' key v answer) (seen V r) (seen V r') told
+TryPutMeans V (Shares s rs) (Shares s' rs') key v told = (length v ≡ V) × (s' ≡ s) × IsAtShard V s key rs rs' (λ r r'. HasTried V s.shape (PutCall key v) answer.Put r r' told) (λ h h'. TurnMeans (λ a b answer. PutOf V a b key v answer) h h' told)
 TryPutMeans V _ _ key v told = ⊥
 
 abbrev pub TryPutIfMeans : (V : ℕ) → Role → Role → ℕ → ℕ → List ℕ → Result ℕ (DeskError IfError) → Type 0
 TryPutIfMeans V (Passes r) (Passes r') key since v told = (length v ≡ V) × (r'.of ≡ r.of) × HasTried V r.of.layout.shape (PutIfCall key since v) answer.PutIf r r' told × TurnMeans (λ h h' answer. PutIfOf V h h' key since v answer) (seen V r) (seen V r') told
+TryPutIfMeans V (Shares s rs) (Shares s' rs') key since v told = (length v ≡ V) × (s' ≡ s) × IsAtShard V s key rs rs' (λ r r'. HasTried V s.shape (PutIfCall key since v) answer.PutIf r r' told) (λ h h'. TurnMeans (λ a b answer. PutIfOf V a b key since v answer) h h' told)
 TryPutIfMeans V _ _ key since v told = ⊥
 
 abbrev pub TryRemovalMeans : (V : ℕ) → Role → Role → ℕ → Result Remove (DeskError Spent) → Type 0
 TryRemovalMeans V (Passes r) (Passes r') key told = (r'.of ≡ r.of) × HasTried V r.of.layout.shape (RemoveCall key) answer.Remove r r' told × TurnMeans (λ h h' answer. RemovalOf V h h' key answer) (seen V r) (seen V r') told
+TryRemovalMeans V (Shares s rs) (Shares s' rs') key told = (s' ≡ s) × IsAtShard V s key rs rs' (λ r r'. HasTried V s.shape (RemoveCall key) answer.Remove r r' told) (λ h h'. TurnMeans (λ a b answer. RemovalOf V a b key answer) h h' told)
 TryRemovalMeans V _ _ key told = ⊥

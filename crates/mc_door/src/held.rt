@@ -1,11 +1,10 @@
 //! A side of a cache whose values have one of eight widths.
 ghost use Rattle.std.specs.Prelude.{◌≡◌, ◌↔◌, IsTrue, length, MatchResult};
 ghost use Rattle.mc_door.specs.Held.{role_in, width_of};
-ghost use Rattle.mc_door.specs.Means.{CanLook, CanWrite, GetMeans, GetOrDeskMeans, HasTurns, IsMisuse, PutIfMeans, PutMeans, RemovalMeans, TryPutIfMeans, TryPutMeans, TryRemovalMeans};
+ghost use Rattle.mc_door.specs.Means.{CanLook, GetMeans, IsMisuse};
 
 use crate::looked::Looked;
 use crate::side::{Misuse, Side};
-use mc_cache::{DeskError, IfError, Put, PutError, Remove, Spent};
 
 /// What a handle keeps: a side of a cache, whose values have as many words as the variant says.
 #[derive(Drop)]
@@ -20,37 +19,36 @@ pub enum Held {
     Eight(Side<8>),
 }
 
+/// What is done with the side that a `Held` is, whatever its width.
+#[macro_export]
+macro_rules! with_side {
+    ($held:expr, $side:ident => $done:expr) => {
+        match $held {
+            $crate::Held::One($side) => $done,
+            $crate::Held::Two($side) => $done,
+            $crate::Held::Three($side) => $done,
+            $crate::Held::Four($side) => $done,
+            $crate::Held::Five($side) => $done,
+            $crate::Held::Six($side) => $done,
+            $crate::Held::Seven($side) => $done,
+            $crate::Held::Eight($side) => $done,
+        }
+    };
+}
+
 impl Held {
     /// How many words a value has.
     pub fn words(&self) -> usize
         ensures { result ≡ width_of self.now }
     {
-        match self {
-            Held::One(_) => 1,
-            Held::Two(_) => 2,
-            Held::Three(_) => 3,
-            Held::Four(_) => 4,
-            Held::Five(_) => 5,
-            Held::Six(_) => 6,
-            Held::Seven(_) => 7,
-            Held::Eight(_) => 8,
-        }
+        with_side!(self, side => side.words())
     }
 
     /// Whether it looks up: a reader does, and a pass.
     pub fn can_look(&self) -> bool
         ensures { IsTrue result ↔ CanLook (role_in self.now) }
     {
-        match self {
-            Held::One(side) => side.can_look(),
-            Held::Two(side) => side.can_look(),
-            Held::Three(side) => side.can_look(),
-            Held::Four(side) => side.can_look(),
-            Held::Five(side) => side.can_look(),
-            Held::Six(side) => side.can_look(),
-            Held::Seven(side) => side.can_look(),
-            Held::Eight(side) => side.can_look(),
-        }
+        with_side!(self, side => side.can_look())
     }
 }
 
@@ -61,157 +59,12 @@ impl Held {
         ensures told { MatchResult result (λ told. GetMeans (width_of self.old) (role_in self.old) (role_in self.new) key value.old value.new told)
             (λ why. IsMisuse CanLook (width_of self.old) (role_in self.old) (length value.old) why × (self.new ≡ self.old) × (value.new ≡ value.old)) }
     {
-        match self {
-            Held::One(side) => Looked::of(side.get(key, value.len()), value),
-            Held::Two(side) => Looked::of(side.get(key, value.len()), value),
-            Held::Three(side) => Looked::of(side.get(key, value.len()), value),
-            Held::Four(side) => Looked::of(side.get(key, value.len()), value),
-            Held::Five(side) => Looked::of(side.get(key, value.len()), value),
-            Held::Six(side) => Looked::of(side.get(key, value.len()), value),
-            Held::Seven(side) => Looked::of(side.get(key, value.len()), value),
-            Held::Eight(side) => Looked::of(side.get(key, value.len()), value),
-        }
+        with_side!(self, side => side.get(key, value))
     }
 
-    /// What the cache holds of the key: `Reader::get_or_desk`, by a pass.
-    pub fn get_or_desk(&mut self, key: u64, value: &mut [u64]) -> Result<Looked, Misuse>
-        ensures width { width_of self.new ≡ width_of self.old }
-        ensures told { MatchResult result (λ told. GetOrDeskMeans (width_of self.old) (role_in self.old) (role_in self.new) key value.old value.new told)
-            (λ why. IsMisuse HasTurns (width_of self.old) (role_in self.old) (length value.old) why × (self.new ≡ self.old) × (value.new ≡ value.old)) }
-    {
-        match self {
-            Held::One(side) => Looked::of(side.get_or_desk(key, value.len()), value),
-            Held::Two(side) => Looked::of(side.get_or_desk(key, value.len()), value),
-            Held::Three(side) => Looked::of(side.get_or_desk(key, value.len()), value),
-            Held::Four(side) => Looked::of(side.get_or_desk(key, value.len()), value),
-            Held::Five(side) => Looked::of(side.get_or_desk(key, value.len()), value),
-            Held::Six(side) => Looked::of(side.get_or_desk(key, value.len()), value),
-            Held::Seven(side) => Looked::of(side.get_or_desk(key, value.len()), value),
-            Held::Eight(side) => Looked::of(side.get_or_desk(key, value.len()), value),
-        }
-    }
-
-    /// Puts a key: `Writer::put`, by the writer.
-    pub fn put(&mut self, key: u64, value: &[u64]) -> Result<Result<Put, PutError>, Misuse>
-        ensures width { width_of self.new ≡ width_of self.old }
-        ensures told { MatchResult result (λ told. PutMeans (width_of self.old) (role_in self.old) (role_in self.new) key value.now told)
-            (λ why. IsMisuse CanWrite (width_of self.old) (role_in self.old) (length value.now) why × (self.new ≡ self.old)) }
-    {
-        match self {
-            Held::One(side) => side.put(key, value),
-            Held::Two(side) => side.put(key, value),
-            Held::Three(side) => side.put(key, value),
-            Held::Four(side) => side.put(key, value),
-            Held::Five(side) => side.put(key, value),
-            Held::Six(side) => side.put(key, value),
-            Held::Seven(side) => side.put(key, value),
-            Held::Eight(side) => side.put(key, value),
-        }
-    }
-
-    /// Puts a key anew, if its last put was at this moment: `Writer::put_if`, by the writer.
-    pub fn put_if(
-        &mut self,
-        key: u64,
-        since: u64,
-        value: &[u64],
-    ) -> Result<Result<u64, IfError>, Misuse>
-        ensures width { width_of self.new ≡ width_of self.old }
-        ensures told { MatchResult result (λ told. PutIfMeans (width_of self.old) (role_in self.old) (role_in self.new) key since value.now told)
-            (λ why. IsMisuse CanWrite (width_of self.old) (role_in self.old) (length value.now) why × (self.new ≡ self.old)) }
-    {
-        match self {
-            Held::One(side) => side.put_if(key, since, value),
-            Held::Two(side) => side.put_if(key, since, value),
-            Held::Three(side) => side.put_if(key, since, value),
-            Held::Four(side) => side.put_if(key, since, value),
-            Held::Five(side) => side.put_if(key, since, value),
-            Held::Six(side) => side.put_if(key, since, value),
-            Held::Seven(side) => side.put_if(key, since, value),
-            Held::Eight(side) => side.put_if(key, since, value),
-        }
-    }
-
-    /// Takes a key out: `Writer::remove`, by the writer.
-    pub fn remove(&mut self, key: u64) -> Result<Result<Remove, Spent>, Misuse>
-        ensures width { width_of self.new ≡ width_of self.old }
-        ensures told { MatchResult result (λ told. RemovalMeans (width_of self.old) (role_in self.old) (role_in self.new) key told)
-            (λ why. IsMisuse CanWrite (width_of self.old) (role_in self.old) (width_of self.old) why × (self.new ≡ self.old)) }
-    {
-        match self {
-            Held::One(side) => side.remove(key),
-            Held::Two(side) => side.remove(key),
-            Held::Three(side) => side.remove(key),
-            Held::Four(side) => side.remove(key),
-            Held::Five(side) => side.remove(key),
-            Held::Six(side) => side.remove(key),
-            Held::Seven(side) => side.remove(key),
-            Held::Eight(side) => side.remove(key),
-        }
-    }
-}
-
-impl Held {
-    /// Tries once for the turn, to put: `Desk::try_put`, by a pass.
-    pub fn try_put(
-        &mut self,
-        key: u64,
-        value: &[u64],
-    ) -> Result<Result<Put, DeskError<PutError>>, Misuse>
-        ensures width { width_of self.new ≡ width_of self.old }
-        ensures told { MatchResult result (λ told. TryPutMeans (width_of self.old) (role_in self.old) (role_in self.new) key value.now told)
-            (λ why. IsMisuse HasTurns (width_of self.old) (role_in self.old) (length value.now) why × (self.new ≡ self.old)) }
-    {
-        match self {
-            Held::One(side) => side.try_put(key, value),
-            Held::Two(side) => side.try_put(key, value),
-            Held::Three(side) => side.try_put(key, value),
-            Held::Four(side) => side.try_put(key, value),
-            Held::Five(side) => side.try_put(key, value),
-            Held::Six(side) => side.try_put(key, value),
-            Held::Seven(side) => side.try_put(key, value),
-            Held::Eight(side) => side.try_put(key, value),
-        }
-    }
-
-    /// Tries once for the turn, to put on a condition: `Desk::try_put_if`, by a pass.
-    pub fn try_put_if(
-        &mut self,
-        key: u64,
-        since: u64,
-        value: &[u64],
-    ) -> Result<Result<u64, DeskError<IfError>>, Misuse>
-        ensures width { width_of self.new ≡ width_of self.old }
-        ensures told { MatchResult result (λ told. TryPutIfMeans (width_of self.old) (role_in self.old) (role_in self.new) key since value.now told)
-            (λ why. IsMisuse HasTurns (width_of self.old) (role_in self.old) (length value.now) why × (self.new ≡ self.old)) }
-    {
-        match self {
-            Held::One(side) => side.try_put_if(key, since, value),
-            Held::Two(side) => side.try_put_if(key, since, value),
-            Held::Three(side) => side.try_put_if(key, since, value),
-            Held::Four(side) => side.try_put_if(key, since, value),
-            Held::Five(side) => side.try_put_if(key, since, value),
-            Held::Six(side) => side.try_put_if(key, since, value),
-            Held::Seven(side) => side.try_put_if(key, since, value),
-            Held::Eight(side) => side.try_put_if(key, since, value),
-        }
-    }
-
-    /// Tries once for the turn, to take a key out: `Desk::try_remove`, by a pass.
-    pub fn try_remove(&mut self, key: u64) -> Result<Result<Remove, DeskError<Spent>>, Misuse>
-        ensures width { width_of self.new ≡ width_of self.old }
-        ensures told { MatchResult result (λ told. TryRemovalMeans (width_of self.old) (role_in self.old) (role_in self.new) key told)
-            (λ why. IsMisuse HasTurns (width_of self.old) (role_in self.old) (width_of self.old) why × (self.new ≡ self.old)) }
-    {
-        match self {
-            Held::One(side) => side.try_remove(key),
-            Held::Two(side) => side.try_remove(key),
-            Held::Three(side) => side.try_remove(key),
-            Held::Four(side) => side.try_remove(key),
-            Held::Five(side) => side.try_remove(key),
-            Held::Six(side) => side.try_remove(key),
-            Held::Seven(side) => side.try_remove(key),
-            Held::Eight(side) => side.try_remove(key),
-        }
+    /// Loads ahead the words that lookups of the first of these keys will read, of `GROUP` keys at most: `Cache::touch_ahead`, by a reader
+    /// or a pass at a desk.
+    pub fn touch_ahead(&self, keys: &[u64]) {
+        with_side!(self, side => side.touch_ahead(keys));
     }
 }

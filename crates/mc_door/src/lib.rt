@@ -7,19 +7,26 @@
 mod entries;
 mod held;
 mod looked;
+mod new_passes;
 mod new_sides;
 mod pass_side;
 mod reader_side;
 mod rest;
+mod shard_rest;
+mod shard_side;
 mod side;
+mod widths;
 mod words;
 mod writer_side;
 
 pub use held::Held;
 pub use looked::Looked;
 pub use mc_cache::{
-    DeskError, IfError, OpenError, Put, PutError, Remove, Shape, ShapeError, Spent, Why,
+    DeskError, GROUP, IfError, OpenError, Put, PutError, Remove, Shape, ShapeError, Spent, Why,
 };
+pub use mc_shards::{OpenShardsError, shard_shape};
+pub use new_passes::NewPasses;
 pub use new_sides::NewSides;
 pub use rest::{Rest, open, open_desk, open_with};
+pub use shard_rest::{ShardRest, open_shards};
 pub use side::{Misuse, Side};

@@ -15,6 +15,7 @@ pub enum Looked {
 
 impl Looked {
     /// Tells a reply, and writes its value if it has one.
+    #[inline(always)]
     pub(crate) fn of<const V: usize>(
         answer: Result<Reply<V>, Misuse>,
         value: &mut [u64],

@@ -21,6 +21,7 @@ pub struct PassSide<const V: usize> {
 }
 
 impl<const V: usize> PassSide<V> {
+    #[inline(always)]
     pub(crate) fn get(&mut self, key: u64) -> Reply<V>
         ensures of { self.new.pass.of ≡ self.old.pass.of }
         ensures looked { HasLooked V self.old.pass.of.layout.shape key self.old.pass self.new.pass result }
@@ -29,6 +30,7 @@ impl<const V: usize> PassSide<V> {
         self.pass.get(&self.cache, key)
     }
 
+    #[inline(always)]
     pub(crate) fn get_or_desk(&mut self, key: u64) -> Reply<V>
         ensures of { self.new.pass.of ≡ self.old.pass.of }
         ensures looked { HasLookedOrMet V self.old.pass.of.layout.shape key self.old.pass self.new.pass result }
@@ -37,6 +39,7 @@ impl<const V: usize> PassSide<V> {
         self.pass.get_or_desk(&self.cache, &self.desk, key)
     }
 
+    #[inline(always)]
     pub(crate) fn try_put(&mut self, key: u64, value: &[u64]) -> Result<Put, DeskError<PutError>>
         requires { length value.now ≡ V }
         ensures of { self.new.pass.of ≡ self.old.pass.of }
@@ -47,6 +50,27 @@ impl<const V: usize> PassSide<V> {
             .try_put(&self.cache, &mut self.pass, key, array_of::<V>(value))
     }
 
+    pub(crate) fn put_within(
+        &mut self,
+        tries: u32,
+        key: u64,
+        value: &[u64],
+    ) -> Result<Put, DeskError<PutError>>
+        requires { length value.now ≡ V }
+        ensures of { self.new.pass.of ≡ self.old.pass.of }
+        ensures turn { HasTried V self.old.pass.of.layout.shape (PutCall key value.now) answer.Put self.old.pass self.new.pass result }
+        ensures plain { TurnMeans (λ h h' told. PutMeans V h h' key value.now told) (seen V self.old.pass) (seen V self.new.pass) result }
+    {
+        for _ in 1..tries {
+            match self.try_put(key, value) {
+                Err(DeskError::Held) => {}
+                told => return told,
+            }
+        }
+        self.try_put(key, value)
+    }
+
+    #[inline(always)]
     pub(crate) fn try_put_if(
         &mut self,
         key: u64,
@@ -63,6 +87,7 @@ impl<const V: usize> PassSide<V> {
             .try_put_if(&self.cache, &mut self.pass, key, since, value)
     }
 
+    #[inline(always)]
     pub(crate) fn try_remove(&mut self, key: u64) -> Result<Remove, DeskError<Spent>>
         ensures of { self.new.pass.of ≡ self.old.pass.of }
         ensures turn { HasTried V self.old.pass.of.layout.shape (RemoveCall key) answer.Remove self.old.pass self.new.pass result }

@@ -16,6 +16,7 @@ pub struct ReaderSide<const V: usize> {
 }
 
 impl<const V: usize> ReaderSide<V> {
+    #[inline(always)]
     pub(crate) fn get(&mut self, key: u64) -> Reply<V>
         ensures of { self.new.reader.of ≡ self.old.reader.of }
         ensures looked { HasLooked V self.old.reader.of.layout.shape key self.old.reader self.new.reader result }

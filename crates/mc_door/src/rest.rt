@@ -11,6 +11,7 @@ ghost use Rattle.mc_door.specs.NewSides.{IsNewSide, IsNewWriter, count_in, has_d
 
 use crate::held::Held;
 use crate::new_sides::NewSides;
+use crate::widths::{at_width, with_sides};
 use mc_cache::{OpenError, Shape, Why};
 use mc_words::NoMemory;
 use std::alloc::Global;
@@ -35,16 +36,12 @@ impl Rest {
         ensures given { IfOk result (λ given. MatchOption given (count_in self.old ≡ 0)
             (λ held. (width_of held ≡ width_in self.old) × IsNewSide (opening_in self.old) (has_desk_in self.old) (role_in held) × (count_in self.old ≡ count_in self.new + 1))) }
     {
-        match self {
-            Rest::One(sides) => Ok(sides.next()?.map(Held::One)),
-            Rest::Two(sides) => Ok(sides.next()?.map(Held::Two)),
-            Rest::Three(sides) => Ok(sides.next()?.map(Held::Three)),
-            Rest::Four(sides) => Ok(sides.next()?.map(Held::Four)),
-            Rest::Five(sides) => Ok(sides.next()?.map(Held::Five)),
-            Rest::Six(sides) => Ok(sides.next()?.map(Held::Six)),
-            Rest::Seven(sides) => Ok(sides.next()?.map(Held::Seven)),
-            Rest::Eight(sides) => Ok(sides.next()?.map(Held::Eight)),
+        macro_rules! given {
+            ($sides:ident, $variant:ident) => {
+                Ok($sides.next()?.map(Held::$variant))
+            };
         }
+        with_sides!(Rest, self, given)
     }
 }
 
@@ -60,41 +57,13 @@ pub fn open(
     ensures writer { IfOk result (λ r. (width_of r.0 ≡ words) × IsNewWriter (opening_in r.1) (role_in r.0)) }
     ensures rest { IfOk result (λ r. (width_in r.1 ≡ words) × (has_desk_in r.1 ≡ false) × (count_in r.1 ≡ readers) × IsShape shape × HasReaders readers) }
 {
-    match words {
-        1 => {
-            let (side, rest) = NewSides::<1>::open(alloc, shape, readers)?;
-            Ok((Held::One(side), Rest::One(rest)))
-        }
-        2 => {
-            let (side, rest) = NewSides::<2>::open(alloc, shape, readers)?;
-            Ok((Held::Two(side), Rest::Two(rest)))
-        }
-        3 => {
-            let (side, rest) = NewSides::<3>::open(alloc, shape, readers)?;
-            Ok((Held::Three(side), Rest::Three(rest)))
-        }
-        4 => {
-            let (side, rest) = NewSides::<4>::open(alloc, shape, readers)?;
-            Ok((Held::Four(side), Rest::Four(rest)))
-        }
-        5 => {
-            let (side, rest) = NewSides::<5>::open(alloc, shape, readers)?;
-            Ok((Held::Five(side), Rest::Five(rest)))
-        }
-        6 => {
-            let (side, rest) = NewSides::<6>::open(alloc, shape, readers)?;
-            Ok((Held::Six(side), Rest::Six(rest)))
-        }
-        7 => {
-            let (side, rest) = NewSides::<7>::open(alloc, shape, readers)?;
-            Ok((Held::Seven(side), Rest::Seven(rest)))
-        }
-        8 => {
-            let (side, rest) = NewSides::<8>::open(alloc, shape, readers)?;
-            Ok((Held::Eight(side), Rest::Eight(rest)))
-        }
-        _ => unreachable!(),
+    macro_rules! opened {
+        ($width:literal, $variant:ident) => {{
+            let (side, rest) = NewSides::<$width>::open(alloc, shape, readers)?;
+            Ok((Held::$variant(side), Rest::$variant(rest)))
+        }};
     }
+    at_width!(words, opened)
 }
 
 /// A cache for values of so many words, with so many entries: its writer, as many readers as were asked for, which `Rest::next` gives,
@@ -113,57 +82,15 @@ pub fn open_with(
     ensures writer { IfOk result (λ r. (width_of r.0 ≡ words) × IsLoadedWriter words (opening_in r.1) (entries_in words count entries.now) r.2.items (role_in r.0)) }
     ensures rest { IfOk result (λ r. (width_in r.1 ≡ words) × (has_desk_in r.1 ≡ false) × (count_in r.1 ≡ readers) × IsShape shape × HasReaders readers) }
 {
-    match words {
-        1 => {
-            let (side, rest, left) = NewSides::<1>::open_with(
+    macro_rules! opened {
+        ($width:literal, $variant:ident) => {{
+            let (side, rest, left) = NewSides::<$width>::open_with(
                 alloc, shape, readers, count, entries,
             )?;
-            Ok((Held::One(side), Rest::One(rest), left))
-        }
-        2 => {
-            let (side, rest, left) = NewSides::<2>::open_with(
-                alloc, shape, readers, count, entries,
-            )?;
-            Ok((Held::Two(side), Rest::Two(rest), left))
-        }
-        3 => {
-            let (side, rest, left) = NewSides::<3>::open_with(
-                alloc, shape, readers, count, entries,
-            )?;
-            Ok((Held::Three(side), Rest::Three(rest), left))
-        }
-        4 => {
-            let (side, rest, left) = NewSides::<4>::open_with(
-                alloc, shape, readers, count, entries,
-            )?;
-            Ok((Held::Four(side), Rest::Four(rest), left))
-        }
-        5 => {
-            let (side, rest, left) = NewSides::<5>::open_with(
-                alloc, shape, readers, count, entries,
-            )?;
-            Ok((Held::Five(side), Rest::Five(rest), left))
-        }
-        6 => {
-            let (side, rest, left) = NewSides::<6>::open_with(
-                alloc, shape, readers, count, entries,
-            )?;
-            Ok((Held::Six(side), Rest::Six(rest), left))
-        }
-        7 => {
-            let (side, rest, left) = NewSides::<7>::open_with(
-                alloc, shape, readers, count, entries,
-            )?;
-            Ok((Held::Seven(side), Rest::Seven(rest), left))
-        }
-        8 => {
-            let (side, rest, left) = NewSides::<8>::open_with(
-                alloc, shape, readers, count, entries,
-            )?;
-            Ok((Held::Eight(side), Rest::Eight(rest), left))
-        }
-        _ => unreachable!(),
+            Ok((Held::$variant(side), Rest::$variant(rest), left))
+        }};
     }
+    at_width!(words, opened)
 }
 
 /// A cache for values of so many words, whose writer lies on a desk: as many passes as were asked for, which `Rest::next` gives.
@@ -172,15 +99,12 @@ pub fn open_desk(alloc: Global, shape: Shape, words: usize, passes: u32) -> Resu
     ensures refused { MatchResult result (λ r. (opening_in r).layout ≡ layout_of words shape) (λ e. RefusesOpening shape passes e) }
     ensures rest { IfOk result (λ r. (width_in r ≡ words) × (has_desk_in r ≡ true) × (count_in r ≡ passes) × IsShape shape × HasReaders passes) }
 {
-    match words {
-        1 => Ok(Rest::One(NewSides::<1>::open_desk(alloc, shape, passes)?)),
-        2 => Ok(Rest::Two(NewSides::<2>::open_desk(alloc, shape, passes)?)),
-        3 => Ok(Rest::Three(NewSides::<3>::open_desk(alloc, shape, passes)?)),
-        4 => Ok(Rest::Four(NewSides::<4>::open_desk(alloc, shape, passes)?)),
-        5 => Ok(Rest::Five(NewSides::<5>::open_desk(alloc, shape, passes)?)),
-        6 => Ok(Rest::Six(NewSides::<6>::open_desk(alloc, shape, passes)?)),
-        7 => Ok(Rest::Seven(NewSides::<7>::open_desk(alloc, shape, passes)?)),
-        8 => Ok(Rest::Eight(NewSides::<8>::open_desk(alloc, shape, passes)?)),
-        _ => unreachable!(),
+    macro_rules! opened {
+        ($width:literal, $variant:ident) => {
+            Ok(Rest::$variant(NewSides::<$width>::open_desk(
+                alloc, shape, passes,
+            )?))
+        };
     }
+    at_width!(words, opened)
 }

@@ -1,10 +1,13 @@
 //! A side of a cache, for values of so many words.
 ghost use Rattle.std.specs.Prelude.{◌≡◌, ◌↔◌, IsTrue, length, MatchResult};
+ghost use Rattle.mc_words.specs.Places.{IsWidth};
 ghost use Rattle.mc_door.specs.Roles.{role_of};
-ghost use Rattle.mc_door.specs.Means.{CanLook, CanWrite, HasTurns, IsMisuse, Looks, LooksAtDesk, PutIfMeans, PutMeans, RemovalMeans, TryPutIfMeans, TryPutMeans, TryRemovalMeans};
+ghost use Rattle.mc_door.specs.Means.{CanLook, CanWrite, GetMeans, GetOrDeskMeans, HasTurns, IsMisuse, Looks, LooksAtDesk, PutIfMeans, PutMeans, RemovalMeans, TryPutIfMeans, TryPutMeans, TryRemovalMeans};
 
+use crate::looked::Looked;
 use crate::pass_side::PassSide;
 use crate::reader_side::ReaderSide;
+use crate::shard_side::ShardSide;
 use crate::writer_side::WriterSide;
 use mc_cache::{DeskError, IfError, Put, PutError, Remove, Reply, Spent};
 
@@ -23,20 +26,38 @@ pub enum Side<const V: usize> {
     Writer(WriterSide<V>),
     Reader(ReaderSide<V>),
     Pass(PassSide<V>),
+    Shard(ShardSide<V>),
 }
 
 impl<const V: usize> Side<V> {
+    pub(crate) fn words(&self) -> usize
+        ensures { result ≡ V }
+    {
+        V
+    }
+
     pub(crate) fn can_look(&self) -> bool
         ensures { IsTrue result ↔ CanLook (role_of self.now) }
     {
         match self {
             Side::Writer(_) => false,
             Side::Reader(_) => true,
-            Side::Pass(_) => true,
+            Side::Pass(_) | Side::Shard(_) => true,
         }
     }
 
-    pub(crate) fn get(&mut self, key: u64, words: usize) -> Result<Reply<V>, Misuse>
+    // Whether it tries for turns: a pass does.
+    fn has_turns(&self) -> bool
+        ensures { IsTrue result ↔ HasTurns (role_of self.now) }
+    {
+        match self {
+            Side::Writer(_) | Side::Reader(_) => false,
+            Side::Pass(_) | Side::Shard(_) => true,
+        }
+    }
+
+    #[inline(always)]
+    fn look(&mut self, key: u64, words: usize) -> Result<Reply<V>, Misuse>
         ensures { MatchResult result (λ reply. (words ≡ V) × Looks V (role_of self.old) (role_of self.new) key reply)
             (λ why. IsMisuse CanLook V (role_of self.old) words why × (self.new ≡ self.old)) }
     {
@@ -49,24 +70,32 @@ impl<const V: usize> Side<V> {
         match self {
             Side::Reader(side) => Ok(side.get(key)),
             Side::Pass(side) => Ok(side.get(key)),
+            Side::Shard(side) => Ok(side.get(key)),
             Side::Writer(_) => Err(Misuse::Kind),
         }
     }
 
-    pub(crate) fn get_or_desk(&mut self, key: u64, words: usize) -> Result<Reply<V>, Misuse>
+    #[inline(always)]
+    fn look_at_desk(&mut self, key: u64, words: usize) -> Result<Reply<V>, Misuse>
         ensures { MatchResult result (λ reply. (words ≡ V) × LooksAtDesk V (role_of self.old) (role_of self.new) key reply)
             (λ why. IsMisuse HasTurns V (role_of self.old) words why × (self.new ≡ self.old)) }
     {
-        let Side::Pass(side) = self else {
+        if !self.has_turns() {
             return Err(Misuse::Kind);
-        };
+        }
         if words != V {
             return Err(Misuse::Width);
         }
-        Ok(side.get_or_desk(key))
+        match self {
+            Side::Pass(side) => Ok(side.get_or_desk(key)),
+            Side::Shard(side) => Ok(side.get_or_desk(key)),
+            Side::Writer(_) | Side::Reader(_) => Err(Misuse::Kind),
+        }
     }
 
-    pub(crate) fn put(&mut self, key: u64, value: &[u64]) -> Result<Result<Put, PutError>, Misuse>
+    /// Puts a key: `Writer::put`, by the writer.
+    #[inline(always)]
+    pub fn put(&mut self, key: u64, value: &[u64]) -> Result<Result<Put, PutError>, Misuse>
         ensures { MatchResult result (λ told. PutMeans V (role_of self.old) (role_of self.new) key value.now told)
             (λ why. IsMisuse CanWrite V (role_of self.old) (length value.now) why × (self.new ≡ self.old)) }
     {
@@ -79,7 +108,9 @@ impl<const V: usize> Side<V> {
         Ok(side.put(key, value))
     }
 
-    pub(crate) fn put_if(
+    /// Puts a key anew, if its last put was at this moment: `Writer::put_if`, by the writer.
+    #[inline(always)]
+    pub fn put_if(
         &mut self,
         key: u64,
         since: u64,
@@ -97,7 +128,9 @@ impl<const V: usize> Side<V> {
         Ok(side.put_if(key, since, value))
     }
 
-    pub(crate) fn remove(&mut self, key: u64) -> Result<Result<Remove, Spent>, Misuse>
+    /// Takes a key out: `Writer::remove`, by the writer.
+    #[inline(always)]
+    pub fn remove(&mut self, key: u64) -> Result<Result<Remove, Spent>, Misuse>
         ensures { MatchResult result (λ told. RemovalMeans V (role_of self.old) (role_of self.new) key told)
             (λ why. IsMisuse CanWrite V (role_of self.old) V why × (self.new ≡ self.old)) }
     {
@@ -109,7 +142,39 @@ impl<const V: usize> Side<V> {
 }
 
 impl<const V: usize> Side<V> {
-    pub(crate) fn try_put(
+    /// What the cache holds of the key: `Reader::get` or `Pass::get`, by a reader or a pass. The value is written only where it was found.
+    #[inline(always)]
+    pub fn get(&mut self, key: u64, value: &mut [u64]) -> Result<Looked, Misuse>
+        requires width { IsWidth V }
+        ensures { MatchResult result (λ told. GetMeans V (role_of self.old) (role_of self.new) key value.old value.new told)
+            (λ why. IsMisuse CanLook V (role_of self.old) (length value.old) why × (self.new ≡ self.old) × (value.new ≡ value.old)) }
+    {
+        Looked::of(self.look(key, value.len()), value)
+    }
+
+    /// What the cache holds of the key: `Reader::get_or_desk` or `Pass::get_or_desk`, by a pass.
+    #[inline(always)]
+    pub fn get_or_desk(&mut self, key: u64, value: &mut [u64]) -> Result<Looked, Misuse>
+        requires width { IsWidth V }
+        ensures { MatchResult result (λ told. GetOrDeskMeans V (role_of self.old) (role_of self.new) key value.old value.new told)
+            (λ why. IsMisuse HasTurns V (role_of self.old) (length value.old) why × (self.new ≡ self.old) × (value.new ≡ value.old)) }
+    {
+        Looked::of(self.look_at_desk(key, value.len()), value)
+    }
+}
+
+impl<const V: usize> Side<V> {
+    pub(crate) fn touch_ahead(&self, keys: &[u64]) {
+        match self {
+            Side::Reader(side) => side.cache.touch_ahead(keys),
+            Side::Pass(side) => side.cache.touch_ahead(keys),
+            Side::Writer(_) | Side::Shard(_) => {}
+        }
+    }
+
+    /// Tries once for the turn, to put: `Desk::try_put` or `Pass::try_put`, by a pass.
+    #[inline(always)]
+    pub fn try_put(
         &mut self,
         key: u64,
         value: &[u64],
@@ -117,16 +182,46 @@ impl<const V: usize> Side<V> {
         ensures { MatchResult result (λ told. TryPutMeans V (role_of self.old) (role_of self.new) key value.now told)
             (λ why. IsMisuse HasTurns V (role_of self.old) (length value.now) why × (self.new ≡ self.old)) }
     {
-        let Side::Pass(side) = self else {
+        if !self.has_turns() {
             return Err(Misuse::Kind);
-        };
+        }
         if value.len() != V {
             return Err(Misuse::Width);
         }
-        Ok(side.try_put(key, value))
+        match self {
+            Side::Pass(side) => Ok(side.try_put(key, value)),
+            Side::Shard(side) => Ok(side.try_put(key, value)),
+            Side::Writer(_) | Side::Reader(_) => Err(Misuse::Kind),
+        }
     }
 
-    pub(crate) fn try_put_if(
+    /// Tries up to so many times, at least once, for the turn, to put, by a pass.
+    #[inline(always)]
+    pub fn put_within(
+        &mut self,
+        tries: u32,
+        key: u64,
+        value: &[u64],
+    ) -> Result<Result<Put, DeskError<PutError>>, Misuse>
+        ensures { MatchResult result (λ told. TryPutMeans V (role_of self.old) (role_of self.new) key value.now told)
+            (λ why. IsMisuse HasTurns V (role_of self.old) (length value.now) why × (self.new ≡ self.old)) }
+    {
+        if !self.has_turns() {
+            return Err(Misuse::Kind);
+        }
+        if value.len() != V {
+            return Err(Misuse::Width);
+        }
+        match self {
+            Side::Pass(side) => Ok(side.put_within(tries, key, value)),
+            Side::Shard(side) => Ok(side.put_within(tries, key, value)),
+            Side::Writer(_) | Side::Reader(_) => Err(Misuse::Kind),
+        }
+    }
+
+    /// Tries once for the turn, to put on a condition: `Desk::try_put_if` or `Pass::try_put_if`, by a pass.
+    #[inline(always)]
+    pub fn try_put_if(
         &mut self,
         key: u64,
         since: u64,
@@ -135,25 +230,29 @@ impl<const V: usize> Side<V> {
         ensures { MatchResult result (λ told. TryPutIfMeans V (role_of self.old) (role_of self.new) key since value.now told)
             (λ why. IsMisuse HasTurns V (role_of self.old) (length value.now) why × (self.new ≡ self.old)) }
     {
-        let Side::Pass(side) = self else {
+        if !self.has_turns() {
             return Err(Misuse::Kind);
-        };
+        }
         if value.len() != V {
             return Err(Misuse::Width);
         }
-        Ok(side.try_put_if(key, since, value))
+        match self {
+            Side::Pass(side) => Ok(side.try_put_if(key, since, value)),
+            Side::Shard(side) => Ok(side.try_put_if(key, since, value)),
+            Side::Writer(_) | Side::Reader(_) => Err(Misuse::Kind),
+        }
     }
 
-    pub(crate) fn try_remove(
-        &mut self,
-        key: u64,
-    ) -> Result<Result<Remove, DeskError<Spent>>, Misuse>
+    /// Tries once for the turn, to take a key out: `Desk::try_remove` or `Pass::try_remove`, by a pass.
+    #[inline(always)]
+    pub fn try_remove(&mut self, key: u64) -> Result<Result<Remove, DeskError<Spent>>, Misuse>
         ensures { MatchResult result (λ told. TryRemovalMeans V (role_of self.old) (role_of self.new) key told)
             (λ why. IsMisuse HasTurns V (role_of self.old) V why × (self.new ≡ self.old)) }
     {
-        let Side::Pass(side) = self else {
-            return Err(Misuse::Kind);
-        };
-        Ok(side.try_remove(key))
+        match self {
+            Side::Pass(side) => Ok(side.try_remove(key)),
+            Side::Shard(side) => Ok(side.try_remove(key)),
+            Side::Writer(_) | Side::Reader(_) => Err(Misuse::Kind),
+        }
     }
 }

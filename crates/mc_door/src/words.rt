@@ -2,6 +2,7 @@
 ghost use Rattle.std.specs.Prelude.{◌≡◌, length};
 
 /// The words as an array.
+#[inline(always)]
 pub(crate) fn array_of<const V: usize>(words: &[u64]) -> [u64; V]
     requires { length words.now ≡ V }
     ensures { result ≡ words.now }

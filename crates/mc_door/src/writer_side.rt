@@ -19,6 +19,7 @@ pub struct WriterSide<const V: usize> {
 }
 
 impl<const V: usize> WriterSide<V> {
+    #[inline(always)]
     pub(crate) fn put(&mut self, key: u64, value: &[u64]) -> Result<Put, PutError>
         requires { length value.now ≡ V }
         ensures of { self.new.writer.of ≡ self.old.writer.of }
@@ -28,6 +29,7 @@ impl<const V: usize> WriterSide<V> {
         self.writer.put(&self.cache, key, array_of::<V>(value))
     }
 
+    #[inline(always)]
     pub(crate) fn put_if(&mut self, key: u64, since: u64, value: &[u64]) -> Result<u64, IfError>
         requires { length value.now ≡ V }
         ensures of { self.new.writer.of ≡ self.old.writer.of }
@@ -38,6 +40,7 @@ impl<const V: usize> WriterSide<V> {
             .put_if(&self.cache, key, since, array_of::<V>(value))
     }
 
+    #[inline(always)]
     pub(crate) fn remove(&mut self, key: u64) -> Result<Remove, Spent>
         ensures of { self.new.writer.of ≡ self.old.writer.of }
         ensures called { HasCalled V self.old.writer.of.layout.shape (RemoveCall key) self.old.writer self.new.writer (answer.Remove result) }

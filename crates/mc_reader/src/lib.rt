@@ -18,5 +18,6 @@ mod places;
 mod running_lookup;
 mod touches;
 
-pub use many_lookups::get_many;
+pub use many_lookups::{get_many, touch_ahead};
 pub use running_lookup::get;
+pub use touches::GROUP;

@@ -12,7 +12,7 @@ use mc_shared::{Cells, touch};
 use mc_words::{Checked, Place};
 
 /// The most keys whose words are touched together.
-pub(crate) const GROUP: usize = 16;
+pub const GROUP: usize = 16;
 
 /// Where the slots of a key's two buckets begin. `base` is the word of a slot that names item 0 under the key's tag.
 #[derive(Clone, Copy)]

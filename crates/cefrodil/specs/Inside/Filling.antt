@@ -1,9 +1,12 @@
 -- Handles are opened one after the other.
 use Rattle.std.specs.Prelude.{ℕ, ◌≡◌, ◌+◌, List, length}
 use Rattle.std.specs.List.{AllWithin}
+use Rattle.mc_door.specs.NewPasses.{count_on, shards_on, width_on}
 use Rattle.mc_door.specs.NewSides.{count_in, has_desk_in, opening_in, width_in}
 use Rattle.mc_door.specs.declared.rest.Rest.{Rest}
+use Rattle.mc_door.specs.declared.shard_rest.ShardRest.{ShardRest}
 use Rattle.cefrodil.specs.Openings.{IsClosed, IsNewAt}
+use Rattle.cefrodil.specs.ShardOpenings.{IsNewPassAt}
 use Rattle.cefrodil.specs.declared.slot.Slot.{Slot}
 
 -- so many handles have a side of the new cache, and of the sides as many are left as there are handles without one
@@ -13,4 +16,12 @@ pub record IsFilledTo (first rest : Rest) (slots : List Slot) (n : ℕ) : Type 0
   pub width : width_in rest ≡ width_in first
   pub left : count_in rest + n ≡ length slots
   pub filled : AllWithin (IsNewAt (opening_in first) (has_desk_in first) (width_in first)) slots 0 n
+  pub closed : AllWithin IsClosed slots n (length slots)
+
+-- the same of passes of shards
+pub record HasPassesTo (first rest : ShardRest) (slots : List Slot) (n : ℕ) : Type 0 where
+  pub shards : shards_on rest ≡ shards_on first
+  pub width : width_on rest ≡ width_on first
+  pub left : count_on rest + n ≡ length slots
+  pub filled : AllWithin (IsNewPassAt (shards_on first) (width_on first)) slots 0 n
   pub closed : AllWithin IsClosed slots n (length slots)

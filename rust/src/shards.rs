@@ -1,0 +1,56 @@
+//! A cache for several threads that write often.
+use crate::desk::Pass;
+use crate::error::OpenError;
+use crate::handle::Handle;
+use crate::shape::Shape;
+use crate::width::Value;
+
+/// Opens caches of shards, whose values have this many words, 1 to 8. This type has no values. [`Shards::open`] returns passes;
+/// dropping the last of them frees the cache.
+///
+/// Each shard is a table with a turn of its own. The hash of a key says which shard holds it, so threads that write different
+/// keys rarely want the same turn. Moments and `since` count the changes of the key's shard: never compare those of two keys.
+/// Each shard evicts for itself.
+#[derive(Debug)]
+pub struct Shards<const WORDS: usize>(());
+
+impl<const WORDS: usize> Shards<WORDS> {
+    /// Opens that many empty shards, a power of two from 1 to 256, each of this shape, with this many passes, 1 to 1024.
+    /// [`Shape::for_shards`] chooses the shape. This takes all memory; no later call takes any.
+    ///
+    /// # Errors
+    ///
+    /// The first variant of [`OpenError`] that applies, in their order. `Readers` means the passes. Nothing leaks.
+    ///
+    /// # Examples
+    ///
+    /// ```
+    /// use cefrodil::{Reply, Shape, Shards};
+    ///
+    /// let mut passes = Shards::<1>::open(&Shape::for_shards(10_000, 16)?, 16, 3)?;
+    /// let mut mine = passes.pop().expect("there are three");
+    /// let threads: Vec<_> = passes
+    ///     .into_iter()
+    ///     .zip(0..)
+    ///     .map(|(mut pass, key)| std::thread::spawn(move || while pass.put_within(100, key, &[key]).is_err() {}))
+    ///     .collect();
+    /// for thread in threads {
+    ///     thread.join().expect("it ends");
+    /// }
+    /// assert!(matches!(mine.get(1), Reply::Found { value: [1], .. }));
+    /// # Ok::<(), Box<dyn std::error::Error>>(())
+    /// ```
+    ///
+    /// Another width doesn't compile:
+    ///
+    /// ```compile_fail,E0277
+    /// let _ = cefrodil::Shards::<9>::open(&cefrodil::Shape::for_shards(100, 1).unwrap(), 1, 1);
+    /// ```
+    pub fn open(shape: &Shape, shards: u32, passes: usize) -> Result<Vec<Pass<'static, WORDS>>, OpenError>
+    where
+        [u64; WORDS]: Value,
+    {
+        let handles = Handle::open_shards(&shape.raw(), shards, WORDS, passes).map_err(OpenError::of)?;
+        Ok(handles.into_iter().map(Pass::of_shards).collect())
+    }
+}
