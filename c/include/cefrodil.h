@@ -27,6 +27,19 @@
 #include <stddef.h>
 #include <stdint.h>
 
+/* The version of this header. cefrodil_version() is that of the archive, as CEFRODIL_VERSION writes it. */
+#define CEFRODIL_VERSION_MAJOR 0
+#define CEFRODIL_VERSION_MINOR 1
+#define CEFRODIL_VERSION_PATCH 0
+#define CEFRODIL_VERSION (10000 * CEFRODIL_VERSION_MAJOR + 100 * CEFRODIL_VERSION_MINOR + CEFRODIL_VERSION_PATCH)
+
+/* A call whose status must be looked at: without it, nothing is known of what the call wrote. */
+#if defined(__GNUC__)
+#define CEFRODIL_CHECKED __attribute__((warn_unused_result))
+#else
+#define CEFRODIL_CHECKED
+#endif
+
 #ifdef __cplusplus
 #define CEFRODIL_SAME_SIZE(condition, text) static_assert(condition, text)
 extern "C" {
@@ -88,7 +101,7 @@ CEFRODIL_SAME_SIZE(sizeof(cefrodil_reply) == 32, "as the library lays it out");
 CEFRODIL_SAME_SIZE(sizeof(cefrodil_answer) == 24, "as the library lays it out");
 
 /* The status that a call returns. After any status but OK, no key and no value was changed by the call. */
-enum {
+typedef enum cefrodil_status {
     CEFRODIL_OK = 0,          /* done: found, put, removed, opened or closed */
     CEFRODIL_ABSENT = 1,      /* the key is not there */
     CEFRODIL_BUSY = 2,        /* the writer spoiled every try of the lookup; says nothing about the table */
@@ -114,17 +127,22 @@ enum {
     CEFRODIL_BAD_COUNT = 22,   /* counts that belong together do not match */
     CEFRODIL_NO_ITEM = 23,     /* every item is in use */
     CEFRODIL_BAD_SHARDS = 24   /* the number of shards must be a power of two, 1 to 256 */
-};
+} cefrodil_status;
+
+CEFRODIL_SAME_SIZE(sizeof(cefrodil_status) == 4, "as the library returns it: compile without -fshort-enums");
+
+/* The version of the archive. Compare it with CEFRODIL_VERSION. */
+uint32_t cefrodil_version(void);
 
 /* Fills in a shape for this many items, 1 to 3,774,873.
  * OK, or BAD_ITEMS: the shape is unchanged. */
-uint32_t cefrodil_shape_for_items(uint32_t items, cefrodil_shape *shape);
+CEFRODIL_CHECKED cefrodil_status cefrodil_shape_for_items(uint32_t items, cefrodil_shape *shape);
 
 /* Opens a cache for values of `words` words. Puts its writer into one handle, and a reader into each of `reader_count` others.
  * OK: all these handles are open. IN_USE: one of them was open before; nothing was done. Otherwise returns the first error
  * that applies, in this order: BAD_WORDS, BAD_MIX to BAD_LIMIT, BAD_READERS, NO_MEMORY. No handle is open, and nothing leaks. */
-uint32_t cefrodil_open(const cefrodil_shape *shape, size_t words, cefrodil_handle *writer, cefrodil_handle *readers,
-                       size_t reader_count);
+CEFRODIL_CHECKED cefrodil_status cefrodil_open(const cefrodil_shape *shape, size_t words, cefrodil_handle *writer,
+                                               cefrodil_handle *readers, size_t reader_count);
 
 /* Opens a cache like cefrodil_open and puts `status_count` entries, in order. No entry evicts another. A key that is listed
  * twice is put twice. An entry is its key, then the words of its value, so `entry_words` must be `status_count` times
@@ -132,74 +150,77 @@ uint32_t cefrodil_open(const cefrodil_shape *shape, size_t words, cefrodil_handl
  * OK: the handles are open. `statuses[i]` is OK if entry i was put; otherwise it says why not: NO_PATH, NO_ITEM or SPENT. These
  * puts are the first changes of the table. Other statuses are those of cefrodil_open, and BAD_COUNT, right after BAD_WORDS, if
  * `entry_words` does not match. Then `statuses` is unchanged. */
-uint32_t cefrodil_open_with(const cefrodil_shape *shape, size_t words, const uint64_t *entries, size_t entry_words,
-                            uint32_t *statuses, size_t status_count, cefrodil_handle *writer, cefrodil_handle *readers,
-                            size_t reader_count);
+CEFRODIL_CHECKED cefrodil_status cefrodil_open_with(const cefrodil_shape *shape, size_t words, const uint64_t *entries,
+                                                    size_t entry_words, uint32_t *statuses, size_t status_count,
+                                                    cefrodil_handle *writer, cefrodil_handle *readers, size_t reader_count);
 
 /* Opens a cache for threads that write by turns. Each of `pass_count` handles becomes a pass: it looks up like a reader, and
  * tries for the turn to write. Returns the statuses of cefrodil_open. */
-uint32_t cefrodil_open_desk(const cefrodil_shape *shape, size_t words, cefrodil_handle *passes, size_t pass_count);
+CEFRODIL_CHECKED cefrodil_status cefrodil_open_desk(const cefrodil_shape *shape, size_t words, cefrodil_handle *passes,
+                                                    size_t pass_count);
 
 /* Fills in the shape of each of `shards` shards that hold `items` items together. A shard gets its mean share and five standard
  * deviations more, because the hash gives some shards more keys than others.
  * OK, BAD_SHARDS, or BAD_ITEMS: no items, or too many for a shard. Unless OK, the shape is unchanged. */
-uint32_t cefrodil_shape_for_shards(uint32_t items, uint32_t shards, cefrodil_shape *shape);
+CEFRODIL_CHECKED cefrodil_status cefrodil_shape_for_shards(uint32_t items, uint32_t shards, cefrodil_shape *shape);
 
 /* Opens a cache of `shards` shards, each a table of this shape with a turn of its own. The hash of a key says which shard holds
  * it, so threads that write different keys rarely want the same turn. Each of `pass_count` handles becomes a pass, which has the
  * same calls as a pass of cefrodil_open_desk. `at` and `since` count the changes of the key's shard, and each shard evicts for
  * itself.
  * Returns the statuses of cefrodil_open, and BAD_SHARDS, right after BAD_MIX. */
-uint32_t cefrodil_open_shards(const cefrodil_shape *shape, uint32_t shards, size_t words, cefrodil_handle *passes,
-                              size_t pass_count);
+CEFRODIL_CHECKED cefrodil_status cefrodil_open_shards(const cefrodil_shape *shape, uint32_t shards, size_t words,
+                                                      cefrodil_handle *passes, size_t pass_count);
 
 /* Looks a key up, by a reader or a pass.
  * OK: `value`, `at` and `since` are set. ABSENT: `at` is set. BUSY: ask again, or treat it as a miss.
  * CLOSED, KIND, WIDTH. `value` is written only with OK. */
-uint32_t cefrodil_get(cefrodil_handle *reader, uint64_t key, uint64_t *value, size_t words, cefrodil_reply *reply);
+CEFRODIL_CHECKED cefrodil_status cefrodil_get(cefrodil_handle *reader, uint64_t key, uint64_t *value, size_t words,
+                                              cefrodil_reply *reply);
 
 /* Looks `key_count` keys up. Equivalent to calling cefrodil_get for each key in order. `values` has one value after the other,
  * so `value_words` must be `key_count` times the words of a value.
  * OK: answer i is that of key i; value i was written if its status is OK, and is unchanged otherwise.
  * CLOSED, KIND; BAD_COUNT: `answer_count` is not `key_count`; WIDTH: `value_words` does not match. With these nothing is written. */
-uint32_t cefrodil_get_many(cefrodil_handle *reader, const uint64_t *keys, size_t key_count, uint64_t *values,
-                           size_t value_words, cefrodil_answer *answers, size_t answer_count);
+CEFRODIL_CHECKED cefrodil_status cefrodil_get_many(cefrodil_handle *reader, const uint64_t *keys, size_t key_count,
+                                                   uint64_t *values, size_t value_words, cefrodil_answer *answers,
+                                                   size_t answer_count);
 
 /* Like cefrodil_get, by a pass. If the lookup is busy, it tries once for the turn; with the turn, it looks up beside the writer
  * and is never busy. BUSY: that try did not win either. */
-uint32_t cefrodil_get_or_desk(cefrodil_handle *pass, uint64_t key, uint64_t *value, size_t words,
-                              cefrodil_reply *reply);
+CEFRODIL_CHECKED cefrodil_status cefrodil_get_or_desk(cefrodil_handle *pass, uint64_t key, uint64_t *value, size_t words,
+                                                      cefrodil_reply *reply);
 
 /* Puts a key with this value, by the writer. May evict another key.
  * OK: `at`, `put` and `moves` are set, and with PUT_EVICTED `evicted`. NO_PATH, ALL_RECENT or SPENT: the key was not put.
  * CLOSED, KIND, WIDTH. */
-uint32_t cefrodil_put(cefrodil_handle *writer, uint64_t key, const uint64_t *value, size_t words,
-                      cefrodil_reply *reply);
+cefrodil_status cefrodil_put(cefrodil_handle *writer, uint64_t key, const uint64_t *value, size_t words,
+                             cefrodil_reply *reply);
 
 /* Overwrites the value of a key if its last put was at `since`, as a lookup of the key returned it. By the writer.
  * OK: `at` is set, and `put` is PUT_RENEWED. ABSENT: `at` is set. CHANGED: `since` is that of the key's last put.
  * SPENT, CLOSED, KIND, WIDTH. */
-uint32_t cefrodil_put_if(cefrodil_handle *writer, uint64_t key, uint64_t since, const uint64_t *value, size_t words,
-                         cefrodil_reply *reply);
+CEFRODIL_CHECKED cefrodil_status cefrodil_put_if(cefrodil_handle *writer, uint64_t key, uint64_t since,
+                                                 const uint64_t *value, size_t words, cefrodil_reply *reply);
 
 /* Removes a key, by the writer.
  * OK and ABSENT: `at` is set. SPENT, CLOSED, KIND. */
-uint32_t cefrodil_remove(cefrodil_handle *writer, uint64_t key, cefrodil_reply *reply);
+cefrodil_status cefrodil_remove(cefrodil_handle *writer, uint64_t key, cefrodil_reply *reply);
 
 /* The same three calls by a pass, which tries once for the turn. HELD: the try did not win, and nothing was done. */
-uint32_t cefrodil_try_put(cefrodil_handle *pass, uint64_t key, const uint64_t *value, size_t words,
-                          cefrodil_reply *reply);
-uint32_t cefrodil_try_put_if(cefrodil_handle *pass, uint64_t key, uint64_t since, const uint64_t *value, size_t words,
-                             cefrodil_reply *reply);
-uint32_t cefrodil_try_remove(cefrodil_handle *pass, uint64_t key, cefrodil_reply *reply);
+cefrodil_status cefrodil_try_put(cefrodil_handle *pass, uint64_t key, const uint64_t *value, size_t words,
+                                 cefrodil_reply *reply);
+CEFRODIL_CHECKED cefrodil_status cefrodil_try_put_if(cefrodil_handle *pass, uint64_t key, uint64_t since,
+                                                     const uint64_t *value, size_t words, cefrodil_reply *reply);
+cefrodil_status cefrodil_try_remove(cefrodil_handle *pass, uint64_t key, cefrodil_reply *reply);
 
 /* Like cefrodil_try_put, with up to `tries` tries, at least one, one after the other without a pause. HELD: none of them won. */
-uint32_t cefrodil_put_within(cefrodil_handle *pass, uint32_t tries, uint64_t key, const uint64_t *value, size_t words,
-                             cefrodil_reply *reply);
+cefrodil_status cefrodil_put_within(cefrodil_handle *pass, uint32_t tries, uint64_t key, const uint64_t *value,
+                                    size_t words, cefrodil_reply *reply);
 
 /* Closes a handle, in any thread. Closing the last handle frees the cache.
  * OK, or CLOSED if it was not open. The handle is closed afterwards. */
-uint32_t cefrodil_close(cefrodil_handle *handle);
+cefrodil_status cefrodil_close(cefrodil_handle *handle);
 
 #ifdef __cplusplus
 }

@@ -48,6 +48,7 @@ static void shapes(void) {
 }
 
 static void closed(void) {
+    MUST(cefrodil_version() == CEFRODIL_VERSION);
     uint64_t value[2] = {1, 2};
     MUST(cefrodil_get(&none, 1, value, 2, &reply) == CEFRODIL_CLOSED && value[0] == 1 && value[1] == 2);
     MUST(cefrodil_get_many(&none, value, 1, value + 1, 1, answers, 4) == CEFRODIL_CLOSED && value[1] == 2);

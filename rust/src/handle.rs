@@ -16,6 +16,13 @@ pub struct Handle(RawHandle);
 // shared. Its pointer keeps it from being `Sync`.
 unsafe impl Send for Handle {}
 
+/// The version of the archive: 10,000 times the major version, 100 times the minor one, and the patch.
+#[must_use]
+pub fn version() -> u32 {
+    // SAFETY: the call takes nothing and has no condition.
+    unsafe { raw::cefrodil_version() }
+}
+
 impl Drop for Handle {
     fn drop(&mut self) {
         // SAFETY: by `&mut`, no other call uses this handle. If it is not open, the call returns a status.

@@ -29,6 +29,7 @@ mod width;
 pub use cache::{Cache, Opened, Reader, Writer};
 pub use desk::{Desk, Pass};
 pub use error::{OpenError, PutError, PutIfError, Spent, TurnError, Why};
+pub use handle::version;
 pub use reply::{Put, Removal, Reply};
 pub use shape::{Mix, Shape};
 pub use shards::Shards;

@@ -61,6 +61,7 @@ pub const PUT_EVICTED: u32 = 2;
 pub const PUT_RENEWED: u32 = 3;
 
 unsafe extern "C" {
+    pub fn cefrodil_version() -> u32;
     pub fn cefrodil_shape_for_items(items: u32, shape: *mut RawShape) -> u32;
     pub fn cefrodil_shape_for_shards(items: u32, shards: u32, shape: *mut RawShape) -> u32;
     pub fn cefrodil_open(

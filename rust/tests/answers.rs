@@ -39,6 +39,12 @@ fn each_fault_of_a_shape_has_its_error() {
 }
 
 #[test]
+fn the_archive_has_the_version_of_the_crate() {
+    let parts: Vec<u32> = env!("CARGO_PKG_VERSION").split('.').map(|part| part.parse().expect("a number")).collect();
+    assert_eq!(cefrodil::version(), 10_000 * parts[0] + 100 * parts[1] + parts[2]);
+}
+
+#[test]
 fn every_other_count_of_readers_is_an_error() {
     for readers in [0, 1025, 1 << 32, (1 << 32) + 1, 1 << 40, usize::MAX / 16, usize::MAX] {
         assert_eq!(opening_error::<1>(&SMALL, readers), OpenError::Readers);

@@ -3,10 +3,8 @@ use Rattle.std.proofs.Common.{ℕ, ◌≡◌, ◌+◌, ◌*◌, ◌<◌, List, [
 use Rattle.std.proofs.lemmas.List.{take_at, drop_at, drop-drop, drop_all, take_more_set, take-append-drop}
 use Rattle.std.proofs.lemmas.Slice.{take-put_mid, drop-put_mid}
 use borrow.Rule.Slice.PartMut.{put_mid}
-use Rattle.mc_door.specs.Held.{role_in}
 use Rattle.mc_door.specs.Means.{CanLook, GetMeans}
 use Rattle.mc_door.specs.Roles.{Role, Writes, Reads, Passes, Shares}
-use Rattle.mc_door.specs.declared.held.Held.{Held}
 use Rattle.mc_door.specs.declared.looked.Looked.{Looked}
 use Rattle.cefrodil.specs.Inside.Looking.{AreLookedUpTo}
 use Rattle.cefrodil.specs.Many.{HasLooked, HaveLooked}
@@ -23,22 +21,22 @@ still_looks V (Passes r) (Writes w) key old new told means = means.1
 still_looks V (Shares s rs) (Writes w) key old new told means = means.1
 
 -- the first key's lookup, and then the others
-looked_first : (words : ℕ) (h next h' : Held) (key : ℕ) (keys old v new : List ℕ) (answer : RawAnswer) (more : List RawAnswer)
-    → length v ≡ words → HasLooked h next key (take words old) v answer → HaveLooked words next h' keys (drop words old) new more
+looked_first : (words : ℕ) (h next h' : Role) (key : ℕ) (keys old v new : List ℕ) (answer : RawAnswer) (more : List RawAnswer)
+    → length v ≡ words → HasLooked words h next key (take words old) v answer → HaveLooked words next h' keys (drop words old) new more
     → HaveLooked words h h' (key ∷ keys) old (v ++ new) (answer ∷ more)
 looked_first words h next h' key keys old v new answer more long first rest = (
   next,
-  subst (λ (x : List ℕ). HasLooked h next key (take words old) x answer) (sym (take_at v new words long)) first,
+  subst (λ (x : List ℕ). HasLooked words h next key (take words old) x answer) (sym (take_at v new words long)) first,
   subst (λ (x : List ℕ). HaveLooked words next h' keys (drop words old) x more) (sym (drop_at v new words long)) rest,
 )
 
 -- one key more
-pub one_more : (words : ℕ) (first now next : Held) (keys old values : List ℕ) (answers : List RawAnswer) (n k : ℕ) (key : ℕ) (v values' : List ℕ) (answer : RawAnswer)
+pub one_more : (words : ℕ) (first now next : Role) (keys old values : List ℕ) (answers : List RawAnswer) (n k : ℕ) (key : ℕ) (v values' : List ℕ) (answer : RawAnswer)
     → AreLookedUpTo words first now keys old values answers n → n < length keys → length answers ≡ length keys → n * words + words ≤ length values → get_or keys n 0 ≡ key → k ≡ words
-    → CanLook (role_in next) → HasLooked now next key (take k (drop (n * words) values)) v answer → length v ≡ words
+    → CanLook next → HasLooked words now next key (take k (drop (n * words) values)) v answer → length v ≡ words
     → values' ≡ put_mid (n * words) k values v → AreLookedUpTo words first next keys old values' (set answers n answer) (n + 1)
 one_more words first now next keys old values answers n k key v values' answer so lt many room is wide looks looked_k long put_k =
-    let looked : HasLooked now next key (take words (drop (n * words) values)) v answer = subst (λ (m : ℕ). HasLooked now next key (take m (drop (n * words) values)) v answer) wide looked_k in
+    let looked : HasLooked words now next key (take words (drop (n * words) values)) v answer = subst (λ (m : ℕ). HasLooked words now next key (take m (drop (n * words) values)) v answer) wide looked_k in
     let put : values' ≡ put_mid (n * words) words values v = put_k ∙ ap (λ (m : ℕ). put_mid (n * words) m values v) wide in
     let more_words : (n + 1) * words ≡ n * words + words = omega arith in
     let cut : drop n keys ≡ key ∷ drop (n + 1) keys = rw (add-one, drop-cons keys n 0 lt, is) refl in
@@ -48,13 +46,12 @@ one_more words first now next keys old values answers n k key v values' answer s
     let written : take (n * words + words) values' ≡ take (n * words) values ++ v = rw put (take-put_mid (n * words) words values v (n * words + words) (omega (arith, long)) (omega (arith, room))) in
     let told : take (n + 1) (set answers n answer) ≡ take n answers ++ answer ∷ [] = take_more_set answers n answer (omega (arith, lt, many)) in
     record {
-      width = looked.width ∙ so.width;
       looks = looks;
       later = rw more_words (behind ∙ same);
       so_far = λ h' new more rest.
           let others : HaveLooked words next h' (drop (n + 1) keys) (drop words (drop (n * words) old)) new more =
           subst (λ (ws : List ℕ). HaveLooked words next h' (drop (n + 1) keys) ws new more) (ap (λ (m : ℕ). drop m old) more_words ∙ sym (drop-drop words (n * words) old)) rest in
-          let here : HasLooked now next key (take words (drop (n * words) old)) v answer = subst (λ (ws : List ℕ). HasLooked now next key (take words ws) v answer) so.later looked in
+          let here : HasLooked words now next key (take words (drop (n * words) old)) v answer = subst (λ (ws : List ℕ). HasLooked words now next key (take words ws) v answer) so.later looked in
           let both : HaveLooked words now h' (drop n keys) (drop (n * words) old) (v ++ new) (answer ∷ more) =
           subst (λ (ks : List ℕ). HaveLooked words now h' ks (drop (n * words) old) (v ++ new) (answer ∷ more)) (sym cut)
           (looked_first words now next h' key (drop (n + 1) keys) (drop (n * words) old) v new answer more long here others) in
@@ -67,7 +64,7 @@ one_more words first now next keys old values answers n k key v values' answer s
     }
 
 -- and all have been looked up
-pub all_looked_up : (words : ℕ) (first now : Held) (keys old values : List ℕ) (answers : List RawAnswer) (n : ℕ)
+pub all_looked_up : (words : ℕ) (first now : Role) (keys old values : List ℕ) (answers : List RawAnswer) (n : ℕ)
     → AreLookedUpTo words first now keys old values answers n → n ≡ length keys → length old ≡ length keys * words → length answers ≡ length keys
     → HaveLooked words first now keys old values answers
 all_looked_up words first now keys old values answers n so end long many =

@@ -3,6 +3,7 @@ use Rattle.std.specs.Prelude.{ℕ, ◌≡◌, ◌≢◌, ◌⊎◌, ◌*◌, Lis
 use mathlib.Core.Option.{Option}
 use Rattle.mc_door.specs.Held.{role_in, width_of}
 use Rattle.mc_door.specs.Means.{CanLook, GetMeans}
+use Rattle.mc_door.specs.Roles.{Role}
 use Rattle.mc_door.specs.declared.held.Held.{Held}
 use Rattle.mc_door.specs.declared.looked.Looked.{Looked}
 use Rattle.cefrodil.specs.Calls.{Gives}
@@ -10,21 +11,20 @@ use Rattle.cefrodil.specs.Tellings.{answer_of}
 use Rattle.cefrodil.specs.declared.many.RawAnswer.{RawAnswer}
 use Rattle.cefrodil.specs.declared.status.TheConstants.{OK, CLOSED, COUNT, KIND, WIDTH}
 
--- a lookup by what lies behind the handle: this was told
-pub record HasLooked (h h' : Held) (key : ℕ) (old new : List ℕ) (answer : RawAnswer) : Type 0 where
-  pub width : width_of h' ≡ width_of h
+-- a lookup by a side for values of so many words: this was told
+pub record HasLooked (V : ℕ) (role role' : Role) (key : ℕ) (old new : List ℕ) (answer : RawAnswer) : Type 0 where
   pub told : Looked
   pub is : answer ≡ answer_of told
-  pub means : GetMeans (width_of h) (role_in h) (role_in h') key old new told
+  pub means : GetMeans V role role' key old new told
 
 -- a lookup for each of the keys, one after the other in their order, each with its answer, and nothing else. The first so many words
 -- are those of the first key's value
-abbrev pub HaveLooked : ℕ → Held → Held → List ℕ → List ℕ → List ℕ → List RawAnswer → Type 0
-HaveLooked words h h' [] old new [] = (h' ≡ h) × (new ≡ old)
-HaveLooked words h h' (key ∷ keys) old new (answer ∷ answers) =
-    (mid : Held) × HasLooked h mid key (take words old) (take words new) answer × HaveLooked words mid h' keys (drop words old) (drop words new) answers
-HaveLooked words h h' [] old new (answer ∷ answers) = ⊥
-HaveLooked words h h' (key ∷ keys) old new [] = ⊥
+abbrev pub HaveLooked : ℕ → Role → Role → List ℕ → List ℕ → List ℕ → List RawAnswer → Type 0
+HaveLooked V role role' [] old new [] = (role' ≡ role) × (new ≡ old)
+HaveLooked V role role' (key ∷ keys) old new (answer ∷ answers) =
+    (mid : Role) × HasLooked V role mid key (take V old) (take V new) answer × HaveLooked V mid role' keys (drop V old) (drop V new) answers
+HaveLooked V role role' [] old new (answer ∷ answers) = ⊥
+HaveLooked V role role' (key ∷ keys) old new [] = ⊥
 
 -- for so many keys, words of values and answers the first that applies: it can't look up, there are more or fewer answers than keys,
 -- the values have another width
@@ -37,7 +37,7 @@ IsManyMisuse h keys words answers status =
 -- each key was looked up, or nothing was done
 abbrev pub MeansMany : Held → Held → List ℕ → List ℕ → List ℕ → List RawAnswer → List RawAnswer → ℕ → Type 0
 MeansMany h h' keys old new answers answers' status =
-    ((status ≡ OK) × CanLook (role_in h) × (length old ≡ length keys * width_of h) × HaveLooked (width_of h) h h' keys old new answers') ⊎
+    ((status ≡ OK) × CanLook (role_in h) × (length old ≡ length keys * width_of h) × (width_of h' ≡ width_of h) × HaveLooked (width_of h) (role_in h) (role_in h') keys old new answers') ⊎
     (IsManyMisuse h (length keys) (length old) (length answers) status × (h' ≡ h) × (new ≡ old) × (answers' ≡ answers))
 
 abbrev pub ManyGive : Option Held → Option Held → List ℕ → List ℕ → List ℕ → List RawAnswer → List RawAnswer → ℕ → Type 0

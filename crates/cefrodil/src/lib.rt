@@ -16,4 +16,5 @@ pub mod slot;
 mod status;
 mod told;
 mod unboxed;
+mod version;
 mod writes;

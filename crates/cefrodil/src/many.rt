@@ -2,13 +2,15 @@
 ghost use Rattle.std.specs.Prelude.{◌≡◌, ◌*◌, length};
 ghost use Rattle.mc_door.specs.Held.{role_in, width_of};
 ghost use Rattle.mc_door.specs.Means.{CanLook};
+ghost use Rattle.mc_door.specs.Roles.{role_of};
+ghost use Rattle.mc_words.specs.Places.{IsWidth};
 ghost use Rattle.cefrodil.specs.Many.{HasLooked, HaveLooked, ManyGive, MeansMany};
 ghost use Rattle.cefrodil.specs.Open.{kept};
 ghost use Rattle.cefrodil.specs.Tellings.{answer_of};
 
 use crate::slot::Slot;
 use crate::status::{ABSENT, BUSY, CLOSED, COUNT, KIND, OK, WIDTH};
-use mc_door::{GROUP, Held, Looked};
+use mc_door::{GROUP, Held, Looked, Side, with_side};
 use std::alloc::Global;
 
 /// One answer of many. What its status has no use for is 0.
@@ -25,6 +27,7 @@ pub struct RawAnswer {
 }
 
 impl RawAnswer {
+    #[inline(always)]
     fn of(answer: Looked) -> RawAnswer
         ensures { result ≡ answer_of answer }
     {
@@ -43,32 +46,52 @@ impl RawAnswer {
 }
 
 // One lookup, by a side that looks up.
-fn look_up(held: &mut Held, key: u64, value: &mut [u64]) -> RawAnswer
-    requires { CanLook (role_in held.old) × (length value.old ≡ width_of held.old) }
-    ensures looks { CanLook (role_in held.new) }
-    ensures looked { HasLooked held.old held.new key value.old value.new result }
+#[inline(always)]
+fn look_up<const V: usize>(side: &mut Side<V>, key: u64, value: &mut [u64]) -> RawAnswer
+    requires width { IsWidth V }
+    requires looks { CanLook (role_of side.old) }
+    requires value { length value.old ≡ V }
+    ensures looks { CanLook (role_of side.new) }
+    ensures looked { HasLooked V (role_of side.old) (role_of side.new) key value.old value.new result }
 {
-    match held.get(key, value) {
+    match side.get(key, value) {
         Ok(answer) => RawAnswer::of(answer),
         Err(_) => unreachable!(),
     }
 }
 
 // One lookup after the other, behind the loads ahead of their group.
-fn look_up_all(held: &mut Held, keys: &[u64], values: &mut [u64], answers: &mut [RawAnswer])
+#[inline(never)]
+fn look_up_all<const V: usize>(
+    side: &mut Side<V>,
+    keys: &[u64],
+    values: &mut [u64],
+    answers: &mut [RawAnswer],
+)
+    requires width { IsWidth V }
+    requires looks { CanLook (role_of side.old) }
+    requires answers { length answers.old ≡ length keys.now }
+    requires values { length values.old ≡ length keys.now * V }
+    ensures { HaveLooked V (role_of side.old) (role_of side.new) keys.now values.old values.new answers.new }
+{
+    for index in 0..keys.len() {
+        if index % GROUP == 0 {
+            side.touch_ahead(&keys[index..]);
+        }
+        let start = index * V;
+        answers[index] = look_up(side, keys[index], &mut values[start..start + V]);
+    }
+}
+
+// The same whatever the width.
+fn look_up_each(held: &mut Held, keys: &[u64], values: &mut [u64], answers: &mut [RawAnswer])
     requires looks { CanLook (role_in held.old) }
     requires answers { length answers.old ≡ length keys.now }
     requires values { length values.old ≡ length keys.now * width_of held.old }
-    ensures { HaveLooked (width_of held.old) held.old held.new keys.now values.old values.new answers.new }
+    ensures width { width_of held.new ≡ width_of held.old }
+    ensures looked { HaveLooked (width_of held.old) (role_in held.old) (role_in held.new) keys.now values.old values.new answers.new }
 {
-    let words = held.words();
-    for index in 0..keys.len() {
-        if index % GROUP == 0 {
-            held.touch_ahead(&keys[index..]);
-        }
-        let start = index * words;
-        answers[index] = look_up(held, keys[index], &mut values[start..start + words]);
-    }
+    with_side!(held, side => look_up_all(side, keys, values, answers));
 }
 
 fn get_many(held: &mut Held, keys: &[u64], values: &mut [u64], answers: &mut [RawAnswer]) -> u32
@@ -83,7 +106,7 @@ fn get_many(held: &mut Held, keys: &[u64], values: &mut [u64], answers: &mut [Ra
     if keys.len().checked_mul(held.words()) != Some(values.len()) {
         return WIDTH;
     }
-    look_up_all(held, keys, values, answers);
+    look_up_each(held, keys, values, answers);
     OK
 }
 

@@ -1,10 +1,9 @@
 //! A side of a cache whose values have one of eight widths.
-ghost use Rattle.std.specs.Prelude.{◌≡◌, ◌↔◌, IsTrue, length, MatchResult};
+ghost use Rattle.std.specs.Prelude.{◌≡◌, ◌↔◌, IsTrue};
 ghost use Rattle.mc_door.specs.Held.{role_in, width_of};
-ghost use Rattle.mc_door.specs.Means.{CanLook, GetMeans, IsMisuse};
+ghost use Rattle.mc_door.specs.Means.{CanLook};
 
-use crate::looked::Looked;
-use crate::side::{Misuse, Side};
+use crate::side::Side;
 
 /// What a handle keeps: a side of a cache, whose values have as many words as the variant says.
 #[derive(Drop)]
@@ -49,22 +48,5 @@ impl Held {
         ensures { IsTrue result ↔ CanLook (role_in self.now) }
     {
         with_side!(self, side => side.can_look())
-    }
-}
-
-impl Held {
-    /// What the cache holds of the key: `Reader::get`, by a reader or a pass. The value is written only where it was found.
-    pub fn get(&mut self, key: u64, value: &mut [u64]) -> Result<Looked, Misuse>
-        ensures width { width_of self.new ≡ width_of self.old }
-        ensures told { MatchResult result (λ told. GetMeans (width_of self.old) (role_in self.old) (role_in self.new) key value.old value.new told)
-            (λ why. IsMisuse CanLook (width_of self.old) (role_in self.old) (length value.old) why × (self.new ≡ self.old) × (value.new ≡ value.old)) }
-    {
-        with_side!(self, side => side.get(key, value))
-    }
-
-    /// Loads ahead the words that lookups of the first of these keys will read, of `GROUP` keys at most: `Cache::touch_ahead`, by a reader
-    /// or a pass at a desk.
-    pub fn touch_ahead(&self, keys: &[u64]) {
-        with_side!(self, side => side.touch_ahead(keys));
     }
 }

@@ -164,7 +164,9 @@ impl<const V: usize> Side<V> {
 }
 
 impl<const V: usize> Side<V> {
-    pub(crate) fn touch_ahead(&self, keys: &[u64]) {
+    /// Loads ahead the words that lookups of the first of these keys will read, of `GROUP` keys at most: `Cache::touch_ahead`, by a reader
+    /// or a pass at a desk.
+    pub fn touch_ahead(&self, keys: &[u64]) {
         match self {
             Side::Reader(side) => side.cache.touch_ahead(keys),
             Side::Pass(side) => side.cache.touch_ahead(keys),

@@ -1,0 +1,230 @@
+// Cefrodil for C++17: handles that move and close themselves, values as arrays, answers as types. It adds no cost to cefrodil.h, which says
+// what each call does and what its caller promises. A Writer, a Reader and a Pass belong to one thread at a time.
+#ifndef CEFRODIL_HPP
+#define CEFRODIL_HPP
+
+#include "cefrodil.h"
+#include <array>
+#include <cstddef>
+#include <cstdint>
+#include <optional>
+#include <utility>
+#include <vector>
+
+namespace cefrodil {
+
+// The statuses of cefrodil.h. `Status::ok` is 0, so a status is compared, never taken for a bool.
+enum class [[nodiscard]] Status : uint32_t {
+    ok = CEFRODIL_OK,
+    absent = CEFRODIL_ABSENT,
+    busy = CEFRODIL_BUSY,
+    no_path = CEFRODIL_NO_PATH,
+    all_recent = CEFRODIL_ALL_RECENT,
+    spent = CEFRODIL_SPENT,
+    changed = CEFRODIL_CHANGED,
+    held = CEFRODIL_HELD,
+    closed = CEFRODIL_CLOSED,
+    in_use = CEFRODIL_IN_USE,
+    no_memory = CEFRODIL_NO_MEMORY,
+    bad_mix = CEFRODIL_BAD_MIX,
+    bad_buckets = CEFRODIL_BAD_BUCKETS,
+    bad_items = CEFRODIL_BAD_ITEMS,
+    bad_stripes = CEFRODIL_BAD_STRIPES,
+    bad_depth = CEFRODIL_BAD_DEPTH,
+    bad_tries = CEFRODIL_BAD_TRIES,
+    bad_limit = CEFRODIL_BAD_LIMIT,
+    bad_readers = CEFRODIL_BAD_READERS,
+    no_item = CEFRODIL_NO_ITEM,
+    bad_shards = CEFRODIL_BAD_SHARDS
+};
+
+inline const char *text(Status status) noexcept { return cefrodil_text(static_cast<uint32_t>(status)); }
+
+// The answer of a lookup. `value` is there if the key was found.
+template <size_t Words> struct Answer {
+    Status status;
+    std::optional<std::array<uint64_t, Words>> value;
+    uint64_t at;
+    uint64_t since;
+};
+
+// The answer of a write. `evicted` is there if another key was evicted.
+struct Written {
+    Status status;
+    std::optional<uint64_t> evicted;
+    uint64_t at;
+    uint64_t since;
+    bool renewed;
+};
+
+// A handle: it moves, and closes itself.
+class Handle {
+  public:
+    Handle() = default;
+    Handle(Handle &&other) noexcept : raw_(std::exchange(other.raw_, cefrodil_handle{})) {}
+    Handle &operator=(Handle &&other) noexcept {
+        if (this != &other) {
+            cefrodil_close(&raw_);
+            raw_ = std::exchange(other.raw_, cefrodil_handle{});
+        }
+        return *this;
+    }
+    Handle(const Handle &) = delete;
+    Handle &operator=(const Handle &) = delete;
+    ~Handle() { cefrodil_close(&raw_); }
+
+    bool is_open() const noexcept { return raw_.live_; }
+    cefrodil_handle *raw() noexcept { return &raw_; }
+
+  private:
+    cefrodil_handle raw_ = CEFRODIL_EMPTY;
+};
+
+namespace inside {
+
+inline Written written(cefrodil_status status, const cefrodil_reply &reply) {
+    std::optional<uint64_t> evicted;
+    if (reply.put == CEFRODIL_PUT_EVICTED) {
+        evicted = reply.evicted;
+    }
+    return {static_cast<Status>(status), evicted, reply.at, reply.since, reply.put == CEFRODIL_PUT_RENEWED};
+}
+
+template <size_t Words> Answer<Words> answer(cefrodil_status status, const cefrodil_reply &reply, const std::array<uint64_t, Words> &value) {
+    Answer<Words> told{static_cast<Status>(status), std::nullopt, reply.at, reply.since};
+    if (status == CEFRODIL_OK) {
+        told.value = value;
+    }
+    return told;
+}
+
+// Opens `count` handles by a call of C, which takes an array of them. Then each gets its place in `handles`.
+template <class Kind, class Open> Status open_all(std::vector<Kind> &handles, size_t count, Open open) {
+    std::vector<cefrodil_handle> raw(count != 0 && count <= 1024 ? count : 1);
+    const auto status = static_cast<Status>(open(raw.data(), count <= 1024 ? count : 0));
+    handles.clear();
+    if (status == Status::ok) {
+        handles.resize(count);
+        for (size_t i = 0; i < count; i++) {
+            *handles[i].raw() = raw[i];
+        }
+    }
+    return status;
+}
+
+} // namespace inside
+
+// The one writer of a cache whose values have `Words` words.
+template <size_t Words> class Writer : public Handle {
+    static_assert(Words >= 1 && Words <= 8, "a value has 1 to 8 words");
+
+  public:
+    using Value = std::array<uint64_t, Words>;
+
+    Written put(uint64_t key, const Value &value) {
+        cefrodil_reply reply;
+        const cefrodil_status status = cefrodil_put(raw(), key, value.data(), Words, &reply);
+        return inside::written(status, reply);
+    }
+    [[nodiscard]] Written put_if(uint64_t key, uint64_t since, const Value &value) {
+        cefrodil_reply reply;
+        const cefrodil_status status = cefrodil_put_if(raw(), key, since, value.data(), Words, &reply);
+        return inside::written(status, reply);
+    }
+    Written remove(uint64_t key) {
+        cefrodil_reply reply;
+        const cefrodil_status status = cefrodil_remove(raw(), key, &reply);
+        return inside::written(status, reply);
+    }
+};
+
+// A reader of a cache.
+template <size_t Words> class Reader : public Handle {
+    static_assert(Words >= 1 && Words <= 8, "a value has 1 to 8 words");
+
+  public:
+    using Value = std::array<uint64_t, Words>;
+
+    [[nodiscard]] Answer<Words> get(uint64_t key) {
+        cefrodil_reply reply;
+        Value value;
+        const cefrodil_status status = cefrodil_get(raw(), key, value.data(), Words, &reply);
+        return inside::answer<Words>(status, reply, value);
+    }
+};
+
+// A thread's access to a desk or to shards: it looks up like a reader, and tries for the turn to write.
+template <size_t Words> class Pass : public Reader<Words> {
+  public:
+    using Value = std::array<uint64_t, Words>;
+
+    [[nodiscard]] Answer<Words> get_or_desk(uint64_t key) {
+        cefrodil_reply reply;
+        Value value;
+        const cefrodil_status status = cefrodil_get_or_desk(this->raw(), key, value.data(), Words, &reply);
+        return inside::answer<Words>(status, reply, value);
+    }
+    [[nodiscard]] Written try_put(uint64_t key, const Value &value) {
+        cefrodil_reply reply;
+        const cefrodil_status status = cefrodil_try_put(this->raw(), key, value.data(), Words, &reply);
+        return inside::written(status, reply);
+    }
+    [[nodiscard]] Written put_within(uint32_t tries, uint64_t key, const Value &value) {
+        cefrodil_reply reply;
+        const cefrodil_status status = cefrodil_put_within(this->raw(), tries, key, value.data(), Words, &reply);
+        return inside::written(status, reply);
+    }
+    [[nodiscard]] Written try_put_if(uint64_t key, uint64_t since, const Value &value) {
+        cefrodil_reply reply;
+        const cefrodil_status status = cefrodil_try_put_if(this->raw(), key, since, value.data(), Words, &reply);
+        return inside::written(status, reply);
+    }
+    [[nodiscard]] Written try_remove(uint64_t key) {
+        cefrodil_reply reply;
+        const cefrodil_status status = cefrodil_try_remove(this->raw(), key, &reply);
+        return inside::written(status, reply);
+    }
+};
+
+// The shape for so many items, or none if that is out of range.
+[[nodiscard]] inline std::optional<cefrodil_shape> shape_for_items(uint32_t items) {
+    cefrodil_shape shape{};
+    if (cefrodil_shape_for_items(items, &shape) != CEFRODIL_OK) {
+        return std::nullopt;
+    }
+    return shape;
+}
+
+// The shape of each of so many shards that hold so many items together.
+[[nodiscard]] inline std::optional<cefrodil_shape> shape_for_shards(uint32_t items, uint32_t shards) {
+    cefrodil_shape shape{};
+    if (cefrodil_shape_for_shards(items, shards, &shape) != CEFRODIL_OK) {
+        return std::nullopt;
+    }
+    return shape;
+}
+
+// Opens a cache: its writer, and so many readers. The writer must not be open.
+template <size_t Words> Status open(const cefrodil_shape &shape, size_t count, Writer<Words> &writer, std::vector<Reader<Words>> &readers) {
+    return inside::open_all(readers, count, [&](cefrodil_handle *raw, size_t many) {
+        return cefrodil_open(&shape, Words, writer.raw(), raw, many);
+    });
+}
+
+// Opens a cache for threads that write by turns: so many passes.
+template <size_t Words> Status open_desk(const cefrodil_shape &shape, size_t count, std::vector<Pass<Words>> &passes) {
+    return inside::open_all(passes, count, [&](cefrodil_handle *raw, size_t many) {
+        return cefrodil_open_desk(&shape, Words, raw, many);
+    });
+}
+
+// Opens a cache of so many shards: so many passes.
+template <size_t Words> Status open_shards(const cefrodil_shape &shape, uint32_t shards, size_t count, std::vector<Pass<Words>> &passes) {
+    return inside::open_all(passes, count, [&](cefrodil_handle *raw, size_t many) {
+        return cefrodil_open_shards(&shape, shards, Words, raw, many);
+    });
+}
+
+} // namespace cefrodil
+
+#endif

@@ -1,0 +1,83 @@
+// The C++ header: handles move and close themselves, and answers are as in C. Compiled as C++17 and as C++20.
+#include "cefrodil.hpp"
+#include <cstdio>
+#include <cstdlib>
+#include <thread>
+#include <type_traits>
+
+static int line_of_failure;
+
+#define MUST(condition) \
+    do { \
+        if (!(condition) && line_of_failure == 0) { \
+            line_of_failure = __LINE__; \
+        } \
+    } while (0)
+
+using cefrodil::Pass;
+using cefrodil::Reader;
+using cefrodil::Status;
+using cefrodil::Writer;
+
+static_assert(!std::is_copy_constructible_v<Writer<2>> && std::is_nothrow_move_constructible_v<Writer<2>>);
+static_assert(!std::is_copy_assignable_v<Pass<2>> && std::is_nothrow_move_assignable_v<Pass<2>>);
+static_assert(!std::is_convertible_v<Status, bool>);
+
+static void apart(const cefrodil_shape &shape) {
+    Writer<2> writer;
+    std::vector<Reader<2>> readers;
+    MUST(cefrodil::open(shape, 0, writer, readers) == Status::bad_readers && readers.empty() && !writer.is_open());
+    MUST(cefrodil::open(shape, size_t(1) << 40, writer, readers) == Status::bad_readers);
+    MUST(cefrodil::open(shape, 2, writer, readers) == Status::ok && readers.size() == 2 && readers[1].is_open());
+    MUST(readers[0].get(1).status == Status::absent && !readers[0].get(1).value);
+    MUST(writer.put(1, {7, 8}).status == Status::ok);
+    const cefrodil::Answer<2> found = readers[0].get(1);
+    MUST(found.value && (*found.value)[1] == 8 && found.at == 1 && found.since == 1);
+    MUST(writer.put_if(1, 9, {0, 0}).status == Status::changed && writer.put(1, {7, 9}).renewed);
+    Writer<2> moved = std::move(writer);
+    MUST(!writer.is_open() && writer.put(1, {0, 0}).status == Status::closed);
+    MUST(moved.remove(1).status == Status::ok && readers[1].get(1).at == 3);
+    moved = Writer<2>();
+    MUST(!moved.is_open() && readers[1].get(1).status == Status::absent);
+}
+
+static void by_turns(std::vector<Pass<1>> passes) {
+    MUST(passes[0].try_put(1, {0}).status == Status::ok);
+    std::vector<std::thread> threads;
+    for (Pass<1> &pass : passes) {
+        threads.emplace_back([mine = std::move(pass)]() mutable {
+            for (int n = 0; n < 1000;) {
+                const cefrodil::Answer<1> found = mine.get_or_desk(1);
+                if (found.value && mine.try_put_if(1, found.since, {(*found.value)[0] + 1}).status == Status::ok) {
+                    n++;
+                }
+            }
+            const Status status = mine.put_within(100, 2, {7}).status;
+            if (status != Status::ok && status != Status::held) {
+                std::abort();
+            }
+        });
+    }
+    for (std::thread &thread : threads) {
+        thread.join();
+    }
+}
+
+int main() {
+    const std::optional<cefrodil_shape> shape = cefrodil::shape_for_items(100), part = cefrodil::shape_for_shards(100, 4);
+    MUST(shape && part && !cefrodil::shape_for_items(0) && !cefrodil::shape_for_shards(100, 3));
+    apart(*shape);
+    std::vector<Pass<1>> passes;
+    MUST(cefrodil::open_desk(*shape, 3, passes) == Status::ok);
+    by_turns(std::move(passes));
+    MUST(cefrodil::open_shards(*part, 3, 3, passes) == Status::bad_shards && passes.empty());
+    MUST(cefrodil::open_shards(*part, 4, 3, passes) == Status::ok);
+    by_turns(std::move(passes));
+    MUST(cefrodil::text(Status::bad_shards)[0] == 's');
+    if (line_of_failure != 0) {
+        std::printf("cxx: line %d fails\n", line_of_failure);
+        return 1;
+    }
+    std::puts("cxx: ok");
+    return 0;
+}
