@@ -1,20 +1,21 @@
 -- What the books of a writer say of the table, between two calls and in a call.
-use Rattle.std.specs.Prelude.{ℕ, ◌≡◌, ◌<◌, ◌≤◌, List, length}
+use Rattle.std.specs.Prelude.{ℕ, ◌≡◌, ◌+◌, ◌<◌, ◌≤◌, List}
 use Rattle.mc_words.specs.Answers.{PutIsSpent}
 use Rattle.mc_words.specs.Checks.{shape_of}
 use Rattle.mc_words.specs.History.{IsWord}
-use Rattle.mc_words.specs.Places.{IsWidth}
+use Rattle.mc_words.specs.Places.{IsWidth, moment}
 use Rattle.mc_words.specs.Standing.{NamesItem, IsAbsent, IsFree}
 use Rattle.mc_theory.specs.Lists.{AreAllowed}
 use Rattle.mc_theory.specs.States.{State}
 use Rattle.mc_theory.specs.declared.act.Act.{Act}
 use Rattle.mc_plan.specs.declared.answer.Answer.{Answer}
 use Rattle.mc_plan.specs.declared.books.Books.{Books}
-use Rattle.mc_search.specs.declared.path.Path.{Path}
+use Rattle.mc_search.specs.declared.room.Room.{Room}
 use Rattle.mc_plan.specs.declared.waiting.Waiting.{Waiting}
 use Rattle.mc_search.specs.Free.{IsConsistent, IsFreeIn}
+use Rattle.mc_plan.specs.Laws.{IsValue}
 use Rattle.mc_plan.specs.Making.{IsQuiet, as_made, state_after_acts}
-use Rattle.mc_search.specs.Paths.{IsLeastPath}
+use Rattle.mc_search.specs.Paths.{IsLeastPath, path_of_room}
 use Rattle.mc_search.specs.Sweeps.{Swept, HasSwept}
 use Rattle.mc_plan.specs.WholeCalls.{Call, Marks, Means, PutCall, quiet_of}
 
@@ -39,18 +40,32 @@ pub record IsPlanned (V : ℕ) (books : Books) (plan : List Act) (call : Call) (
   pub marks : Marks V (shape_of books.checked) (state_after_acts V (shape_of books.checked) m plan).words call told plan
   pub ends : AreBooksOf V books (state_after_acts V (shape_of books.checked) m plan)
 
--- a put of a new key has a least path, and no item is free
-pub record Waits (V : ℕ) (books : Books) (k : ℕ) (s : State V) (path : Path) : Type 0 where
+-- the key is not there, the limit is far enough for its put with this value, and the put is to have this moment
+pub record IsLackingKey (V : ℕ) (books : Books) (k : ℕ) (v : List ℕ) (s : State V) (at : ℕ) : Type 0 where
   pub known : AreBooksOf V books s
+  pub key : IsWord k
+  pub value : IsValue V v
   pub unspent : PutIsSpent (shape_of books.checked) (quiet_of s) → ⊥
   pub absent : IsAbsent V (shape_of books.checked) s.words k
-  pub least : IsLeastPath (shape_of books.checked) s.words k path
+  pub next : at ≡ moment s.words + 1
+
+-- and it finds this room, by a least path
+pub record HasRoom (V : ℕ) (books : Books) (k : ℕ) (v : List ℕ) (s : State V) (at : ℕ) (room : Room) : Type 0 where
+  pub lacks : IsLackingKey V books k v s at
+  pub least : IsLeastPath (shape_of books.checked) s.words k (path_of_room books.path room)
+
+-- the put of such a key has this room, and no item is free
+pub record Waits (V : ℕ) (books : Books) (k : ℕ) (v : List ℕ) (s : State V) (room : Room) : Type 0 where
+  pub known : AreBooksOf V books s
+  pub key : IsWord k
+  pub value : IsValue V v
+  pub unspent : PutIsSpent (shape_of books.checked) (quiet_of s) → ⊥
+  pub absent : IsAbsent V (shape_of books.checked) s.words k
+  pub least : IsLeastPath (shape_of books.checked) s.words k (path_of_room books.path room)
   pub none : (i : ℕ) → IsFreeIn books.free i → ⊥
 
 -- the hand looks for an item for a put that began in state s, and has read these bits
 pub record IsSweeping (V : ℕ) (books : Books) (waiting : Waiting V) (call : Call) (s : State V) (rs : List Swept) : Type 0 where
-  pub waits : Waits V books waiting.key s waiting.path
+  pub waits : Waits V books waiting.key waiting.value s waiting.room
   pub called : call ≡ PutCall waiting.key waiting.value
-  pub key : IsWord waiting.key
-  pub wide : length waiting.value ≡ V
   pub has : HasSwept waiting.sweep (shape_of books.checked).items s.hand rs

@@ -1,6 +1,5 @@
 -- What was decided, as the acts that it means and the answer.
 use Rattle.std.specs.Prelude.{ℕ, List, [], ◌∷◌, ◌++◌, length, Option, Result, Ok, Err}
-use Rattle.std.specs.Option.{option_to_list}
 use Rattle.mc_words.specs.declared.place.Place.{Place}
 use Rattle.mc_words.specs.declared.shape.Shape.{Shape}
 use Rattle.mc_theory.specs.declared.act.Act.{Act}
@@ -11,11 +10,12 @@ use Rattle.mc_plan.specs.declared.answer.Remove.{Remove}
 use Rattle.mc_plan.specs.declared.answer.Remove.TheVariants.{Removed, NotThere}
 use Rattle.mc_plan.specs.declared.answer.Spent.{Spent}
 use Rattle.mc_plan.specs.declared.decision.Move.{Move}
+use Rattle.mc_plan.specs.declared.decision.Moves.{Moves}
+use Rattle.mc_plan.specs.declared.decision.Moves.TheVariants.{Unneeded, One, Listed}
 use Rattle.mc_plan.specs.declared.decision.Removal.{Removal}
 use Rattle.mc_plan.specs.declared.decision.Removal.TheVariants.{Refuse, TakeOut, Leave}
 use Rattle.mc_plan.specs.declared.decision.Replacement.{Replacement}
 use Rattle.mc_plan.specs.declared.decision.Storing.{Storing}
-use Rattle.mc_plan.specs.declared.short_storing.ShortStoring.{ShortStoring}
 use Rattle.mc_plan.specs.Plans.{evict_acts, fill_acts, move_acts, remove_acts, renew_acts}
 
 -- the acts of these moves, one after the other
@@ -31,17 +31,19 @@ renewal_acts k v at i = renew_acts k v at i ++ Mark i ∷ []
 abbrev pub filling_acts : Shape → ℕ → List ℕ → ℕ → ℕ → Place → List Act
 filling_acts sh k v at i p = fill_acts sh k v at i p ++ Mark i ∷ []
 
--- a storing of at most one move, as one of a list of moves
-abbrev pub storing_of : ShortStoring → Storing
-storing_of short = record { item = short.item; place = short.place; moves = record { items = option_to_list short.moved }; at = short.at }
+-- the moves, where those that the books list are these
+abbrev pub moves_of : List Move → Moves → List Move
+moves_of listed Unneeded = []
+moves_of listed (One m) = m ∷ []
+moves_of listed Listed = listed
 
 -- the moves make room, and the key goes to the item and the place, which is marked
-abbrev pub storing_acts : Shape → ℕ → List ℕ → Storing → List Act
-storing_acts sh k v storing = acts_of_moves storing.moves.items ++ filling_acts sh k v storing.at storing.item storing.place
+abbrev pub storing_acts : List Move → Shape → ℕ → List ℕ → Storing → List Act
+storing_acts listed sh k v storing = acts_of_moves (moves_of listed storing.moves) ++ filling_acts sh k v storing.at storing.item storing.place
 
 -- and before that another key is taken out
-abbrev pub replacement_acts : Shape → ℕ → List ℕ → Replacement → Storing → List Act
-replacement_acts sh k v r storing = evict_acts r.evicted r.victim ++ storing_acts sh k v storing
+abbrev pub replacement_acts : List Move → Shape → ℕ → List ℕ → Replacement → List Act
+replacement_acts listed sh k v r = evict_acts r.victim.key r.victim.place ++ storing_acts listed sh k v r.storing
 
 -- the key is taken out, where there is something to do
 abbrev pub removal_acts : ℕ → Removal → List Act
@@ -50,8 +52,8 @@ removal_acts k (TakeOut place at) = remove_acts k place
 removal_acts k (Leave at) = []
 
 -- the answer of a put that stores a new key, and takes out this one for it
-abbrev pub storing_told : Storing → Option ℕ → Put
-storing_told storing evicted = Stored storing.at (length storing.moves.items) evicted
+abbrev pub storing_told : List Move → Storing → Option ℕ → Put
+storing_told listed storing evicted = Stored storing.at (length (moves_of listed storing.moves)) evicted
 
 -- the answer of a removal
 abbrev pub removal_told : Removal → Result Remove Spent

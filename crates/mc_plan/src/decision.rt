@@ -1,8 +1,7 @@
 //! What a call does, decided as a value before any act is made.
 ghost use Rattle.std.specs.Prelude.{◌≡◌};
 
-use crate::answer::{Put, PutError, Remove, Spent};
-use arrayvec::ArrayVec;
+use crate::answer::{PutError, Remove, Spent};
 use mc_words::{KeyParts, Place};
 
 /// A key's way from one slot to an empty one. `word` is what its slot holds.
@@ -21,7 +20,7 @@ pub enum Decision {
     Refuse(PutError),
     /// The key stands at the item, which gets the new value.
     Renew { item: u32, at: u64 },
-    /// The key is not there: `Books::insert` decides the rest.
+    /// The key is not there: `Books` find room for it, and then insert it.
     Insert { at: u64 },
 }
 
@@ -32,45 +31,36 @@ pub struct Renewal {
     pub at: u64,
 }
 
-/// What the put of a key does that is not there, as far as its two buckets tell. It is small, so that most puts pay for no path.
+/// The moves that make room for a key, in the order in which they are made. Of more than one the books keep the list, as it is large.
 #[derive(Clone, Copy)]
-pub enum Nearby {
-    /// It fills a hole of one of the two.
-    Fill { place: Place, item: u32 },
-    /// This is a hole, and every item is in use: the hand looks for one.
-    Wait(Place),
-    /// Both are full: `Books::insert_far` decides.
-    Far,
+pub enum Moves {
+    Unneeded,
+    One(Move),
+    Listed,
 }
 
-/// What the put of a key does that is not there.
+/// How a key is stored that was not there: the moves that make room, and the item and the place where it goes.
 #[derive(Clone, Copy)]
-pub enum Insertion {
-    /// It changes nothing.
-    Refuse(PutError),
-    /// It makes room, and fills it: the books say how.
-    Store,
-    /// A path leads to a hole, and every item is in use: the hand looks for one. The path lies where the caller keeps it.
-    Wait,
-}
-
-/// The moves that make room for a key, in the order in which they are made, and the item and the place where it goes.
-#[derive(Drop)]
 pub struct Storing {
     pub item: u32,
     pub place: Place,
-    pub moves: ArrayVec<Move, 8>,
+    pub moves: Moves,
     pub at: u64,
 }
 
-/// A put that takes the item of another key: that key is taken out of its slot before anything else. The books say where
-/// the put's key goes.
+/// The key that is taken out for another, with its parts and its place.
+#[derive(Clone, Copy)]
+pub struct Victim {
+    pub key: u64,
+    pub parts: KeyParts,
+    pub place: Place,
+}
+
+/// A put that takes the item of another key: that key is taken out of its slot before anything else.
 #[derive(Clone, Copy)]
 pub struct Replacement {
-    pub evicted: u64,
-    /// The parts of that key.
-    pub parts: KeyParts,
-    pub victim: Place,
+    pub victim: Victim,
+    pub storing: Storing,
 }
 
 /// What a removal does.
@@ -82,31 +72,6 @@ pub enum Removal {
     TakeOut { place: Place, at: u64 },
     /// There is nothing to do.
     Leave { at: u64 },
-}
-
-impl Storing {
-    /// Nothing is decided yet.
-    pub(crate) fn none() -> Storing {
-        Storing {
-            item: 0,
-            place: Place::default(),
-            moves: ArrayVec::new(),
-            at: 0,
-        }
-    }
-
-    ghost use Rattle.mc_plan.specs.Decisions.{storing_told};
-
-    /// The answer of the put, with the key that was taken out for it.
-    pub fn told(&self, evicted: Option<u64>) -> Put
-        ensures { result ≡ storing_told self.now evicted }
-    {
-        Put::Stored {
-            at: self.at,
-            moves: self.moves.len() as u8,
-            evicted,
-        }
-    }
 }
 
 impl Removal {

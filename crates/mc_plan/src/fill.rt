@@ -40,6 +40,7 @@ pub fn add_fill<const V: usize>(
     acts.push(Act::Close);
 }
 
+// Nothing in this repository calls it: it is for those who plan without books.
 /// The acts that put a key, at a free item and in an empty slot of one of its buckets.
 /// `at` is the moment that the put is to have. Condition: a value has from 1 to 8 words, and the item is one of the table.
 pub fn plan_fill<const V: usize>(

@@ -26,7 +26,6 @@ pub mod laws;
 mod listing;
 mod moves;
 mod renew;
-mod short_storing;
 mod take_out;
 mod value;
 mod waiting;
@@ -35,7 +34,7 @@ pub use answer::{Answer, IfError, Put, PutError, Remove, Spent, Why};
 use arrayvec::ArrayVec;
 pub use books::Books;
 pub use clerk::Clerk;
-pub use decision::{Decision, Insertion, Move, Nearby, Removal, Renewal, Replacement, Storing};
+pub use decision::{Decision, Move, Moves, Removal, Renewal, Replacement, Storing, Victim};
 pub use fill::{add_fill, plan_fill};
 pub use mc_search::{
     Finder, Held, NoMemory, OneMove, Path, Peek, Room, Sweep, entries, find, moment, read,
@@ -43,7 +42,6 @@ pub use mc_search::{
 use mc_theory::Act;
 pub use moves::{add_move, add_moves, path_moves, plan_moves, push_moves};
 pub use renew::{add_renew, plan_renew};
-pub use short_storing::{Moving, ShortReplacement, ShortStoring};
 pub use take_out::{add_evict, add_remove, plan_evict, plan_remove};
 pub use waiting::Waiting;
 

@@ -2,12 +2,12 @@
 ghost use Rattle.std.specs.Prelude.{◌≡◌, ◌+◌, ◌<◌, ◌≤◌, ◌++◌, [], List, length};
 ghost use Rattle.arrayvec.specs.ArrayVec.{array_vec_len};
 ghost use Rattle.mc_words.specs.Checks.{shape_of};
+ghost use Rattle.mc_words.specs.KeyParts.{HasParts};
 ghost use Rattle.mc_words.specs.Places.{IsWidth};
 ghost use Rattle.mc_theory.specs.States.{State};
 ghost use Rattle.mc_plan.specs.WholeCalls.{Call, IsSweepOf, KeptCall, PutIfCall, RemoveCall, state_after_sweep};
-ghost use Rattle.mc_plan.specs.Books.{AreBooksOf, IsPlanned, IsSweeping};
-ghost use Rattle.mc_plan.specs.Deciding.{IsLackingKey};
-ghost use Rattle.mc_plan.specs.Decisions.{removal_acts, renewal_acts, replacement_acts, storing_acts};
+ghost use Rattle.mc_plan.specs.Books.{AreBooksOf, IsLackingKey, IsPlanned, IsSweeping};
+ghost use Rattle.mc_plan.specs.Decisions.{acts_of_moves, moves_of, removal_acts, renewal_acts, replacement_acts, storing_acts};
 ghost use Rattle.mc_plan.specs.Inside.Clerks.{IsStarted};
 ghost use Rattle.mc_plan.specs.declared.answer.Answer.TheVariants as answer;
 ghost use Rattle.mc_search.specs.Sweeps.{IsOver, Swept};
@@ -15,15 +15,14 @@ ghost use Rattle.mc_search.specs.Sweeps.{IsOver, Swept};
 use crate::Plan;
 use crate::answer::{IfError, Put, PutError, Remove, Spent, Why};
 use crate::books::Books;
-use crate::decision::{Decision, Insertion, Removal, Replacement, Storing};
+use crate::decision::{Decision, Moves, Removal, Replacement, Storing};
 use crate::fill::add_fill;
-use crate::moves::push_moves;
+use crate::moves::{add_move, push_moves};
 use crate::renew::add_renew;
 use crate::take_out::{add_evict, add_remove};
 use crate::waiting::{Start, Waiting};
-use mc_search::Path;
 use mc_theory::{Act, Peek};
-use mc_words::{Checked, Place};
+use mc_words::KeyParts;
 
 /// Adds the acts of a renewal, and the mark of its item.
 fn add_renewal<const V: usize>(acts: &mut Plan, key: u64, value: &[u64; V], at: u64, item: u32)
@@ -36,23 +35,36 @@ fn add_renewal<const V: usize>(acts: &mut Plan, key: u64, value: &[u64; V], at: 
     acts.push(Act::Mark(item));
 }
 
+/// Adds the acts of the moves. Of more than one the books keep the list.
+fn add_moves_of(books: &Books, acts: &mut Plan, moves: Moves)
+    requires room { array_vec_len acts.old ≤ 4 }
+    ensures items { acts.new.items ≡ acts.old.items ++ acts_of_moves (moves_of books.now.moves.items moves) }
+    ensures few { array_vec_len acts.new ≤ array_vec_len acts.old + 32 }
+{
+    match moves {
+        Moves::Unneeded => {}
+        Moves::One(m) => add_move(acts, m.key, m.word, m.from, m.to),
+        Moves::Listed => push_moves(acts, books.listed()),
+    }
+}
+
 /// Adds the acts of the moves and of the fill, and the mark of its item.
 fn add_storing<const V: usize>(
-    checked: &Checked,
+    books: &Books,
     acts: &mut Plan,
     key: u64,
     value: &[u64; V],
-    storing: &Storing,
+    storing: Storing,
 )
     requires width { IsWidth V }
     requires room { array_vec_len acts.old ≤ 4 }
-    requires item { storing.now.item < (shape_of checked.now).items }
-    ensures items { acts.new.items ≡ acts.old.items ++ storing_acts (shape_of checked.now) key value.now storing.now }
+    requires item { storing.item < (shape_of books.now.checked).items }
+    ensures items { acts.new.items ≡ acts.old.items ++ storing_acts books.now.moves.items (shape_of books.now.checked) key value.now storing }
     ensures fits { array_vec_len acts.new ≤ 64 }
 {
-    push_moves(acts, storing.moves.as_slice());
+    add_moves_of(books, acts, storing.moves);
     add_fill(
-        checked,
+        &books.checked,
         acts,
         key,
         value,
@@ -65,21 +77,20 @@ fn add_storing<const V: usize>(
 
 /// Adds the acts of the eviction, and then those of the put.
 fn add_replacement<const V: usize>(
-    checked: &Checked,
+    books: &Books,
     acts: &mut Plan,
     key: u64,
     value: &[u64; V],
-    replacement: Replacement,
-    storing: &Storing,
+    taken: Replacement,
 )
     requires width { IsWidth V }
     requires none { acts.old.items ≡ [] }
-    requires item { storing.now.item < (shape_of checked.now).items }
-    ensures items { acts.new.items ≡ replacement_acts (shape_of checked.now) key value.now replacement storing.now }
+    requires item { taken.storing.item < (shape_of books.now.checked).items }
+    ensures items { acts.new.items ≡ replacement_acts books.now.moves.items (shape_of books.now.checked) key value.now taken }
     ensures fits { array_vec_len acts.new ≤ 64 }
 {
-    add_evict(acts, replacement.evicted, replacement.victim);
-    add_storing(checked, acts, key, value, storing);
+    add_evict(acts, taken.victim.key, taken.victim.place);
+    add_storing(books, acts, key, value, taken.storing);
 }
 
 /// Adds the acts of a removal that finds its key.
@@ -99,30 +110,32 @@ fn start_insert<const V: usize, P: Peek>(
     peek: &mut P,
     plan: &mut Plan,
     key: u64,
+    parts: KeyParts,
     value: &[u64; V],
     at: u64,
 ) -> Start
-    requires books { (s : State V) × IsLackingKey V books.old key s at × (P.words peek.old ≡ s.words) }
+    requires books { (s : State V) × IsLackingKey V books.old key value.now s at × (P.words peek.old ≡ s.words) }
+    requires parts { HasParts (shape_of books.old.checked) key parts }
     requires plan { plan.old.items ≡ [] }
-    ensures started { (s : State V) → IsLackingKey V books.old key s at → P.words peek.old ≡ s.words →
+    ensures started { (s : State V) → IsLackingKey V books.old key value.now s at → P.words peek.old ≡ s.words →
         IsStarted V books.new plan.new.items key value.now s result }
     ensures fits { array_vec_len plan.new ≤ 64 }
     ensures shape { books.new.checked ≡ books.old.checked }
     ensures kept { peek.new ≡ peek.old }
 {
-    let mut path = Path::direct(Place::default());
-    match books.insert::<V, P>(peek, key, &mut path, value, at) {
-        Insertion::Refuse(why) => Start::Planned(Err(why)),
-        Insertion::Store => {
-            let storing = books.decided();
-            add_storing(&books.checked, plan, key, value, storing);
-            Start::Planned(Ok(storing.told(None)))
+    let Some(room) = books.room::<V, P>(peek, parts) else {
+        return Start::Planned(Err(PutError::NoPath));
+    };
+    match books.insert::<V, P>(peek, room, at) {
+        Some(storing) => {
+            add_storing(books, plan, key, value, storing);
+            Start::Planned(Ok(books.told(storing, None)))
         }
-        Insertion::Wait => Start::Waits(path),
+        None => Start::Waits(room),
     }
 }
 
-/// Lists the acts of a put, or finds the path of one that waits for an item.
+/// Lists the acts of a put, or finds the room of one that waits for an item.
 pub(crate) fn start_put<const V: usize, P: Peek>(
     books: &mut Books,
     peek: &mut P,
@@ -144,7 +157,7 @@ pub(crate) fn start_put<const V: usize, P: Peek>(
             add_renewal(plan, key, value, at, item);
             Start::Planned(Ok(Put::Renewed { at }))
         }
-        Decision::Insert { at } => start_insert::<V, P>(books, peek, plan, key, value, at),
+        Decision::Insert { at } => start_insert::<V, P>(books, peek, plan, key, parts, value, at),
     }
 }
 
@@ -186,7 +199,8 @@ pub(crate) fn start_put_if<const V: usize, P: Peek>(
     ensures shape { books.new.checked ≡ books.old.checked }
     ensures kept { peek.new ≡ peek.old }
 {
-    match books.decide_if::<V, P>(peek, key, since, value) {
+    let parts = books.checked.parts(key);
+    match books.decide_if::<V, P>(peek, key, parts, since, value) {
         Ok(renewal) => {
             add_renewal(plan, key, value, renewal.at, renewal.item);
             Ok(renewal.at)
@@ -200,7 +214,7 @@ pub(crate) fn finish_put<const V: usize, P: Peek>(
     books: &mut Books,
     peek: &mut P,
     plan: &mut Plan,
-    mut waiting: Waiting<V>,
+    waiting: Waiting<V>,
 ) -> Result<Put, PutError>
     requires over { (call : Call) × (s : State V) × (rs : List Swept) × IsSweeping V books.old waiting call s rs ×
         IsOver (shape_of books.old.checked).items rs × (P.words peek.old ≡ s.words) }
@@ -213,12 +227,9 @@ pub(crate) fn finish_put<const V: usize, P: Peek>(
     ensures shape { books.new.checked ≡ books.old.checked }
     ensures kept { peek.new ≡ peek.old }
 {
-    let key = waiting.key;
-    let value = waiting.value;
-    let replacement = books.finish::<V, P>(peek, &mut waiting)?;
-    let storing = books.decided();
-    add_replacement(&books.checked, plan, key, &value, replacement, storing);
-    Ok(storing.told(Some(replacement.evicted)))
+    let taken = books.finish::<V, P>(peek, &waiting)?;
+    add_replacement(books, plan, waiting.key, &waiting.value, taken);
+    Ok(books.told(taken.storing, Some(taken.victim.key)))
 }
 
 /// Lists the acts of a removal.

@@ -1,10 +1,9 @@
 //! The acts of a move, and the moves of a whole path.
-ghost use Rattle.std.specs.Prelude.{ℕ, ◌≡◌, ◌+◌, ◌*◌, ◌≤◌, [], ◌∷◌, ◌++◌, length};
+ghost use Rattle.std.specs.Prelude.{ℕ, ◌≡◌, ◌+◌, ◌*◌, ◌≤◌, ◌++◌, length};
 ghost use Rattle.arrayvec.specs.ArrayVec.{array_vec_len};
-ghost use Rattle.mc_words.specs.Chains.{IsChain, IsOccupied};
+ghost use Rattle.mc_words.specs.Chains.{IsChain};
 ghost use Rattle.mc_words.specs.Checks.{shape_of};
-ghost use Rattle.mc_words.specs.Keys.{item_in, NamesSome};
-ghost use Rattle.mc_words.specs.Places.{IsWidth, item, word_count};
+ghost use Rattle.mc_words.specs.Places.{IsWidth, word_count};
 ghost use Rattle.mc_plan.specs.Decisions.{acts_of_moves};
 ghost use Rattle.mc_plan.specs.Moves.{AreTaken, AreKeys, MakesRoom};
 ghost use Rattle.mc_plan.specs.Plans.{move_acts, moves_acts};
@@ -13,7 +12,7 @@ ghost use Rattle.mc_search.specs.Readable.{IsFilled};
 use crate::Plan;
 use crate::decision::Move;
 use arrayvec::ArrayVec;
-use mc_search::{OneMove, Path, key_at, slot_at};
+use mc_search::{Path, key_in, slot_at};
 use mc_theory::{Act, Deed, Peek};
 use mc_words::{Checked, Place};
 
@@ -28,43 +27,6 @@ pub fn add_move(acts: &mut Plan, key: u64, word: u64, from: Place, to: Place)
     acts.push(Act::Slot(to, word));
     acts.push(Act::Slot(from, 0));
     acts.push(Act::Close);
-}
-
-/// The key of the item that a slot's word names.
-fn key_in<const V: usize, P: Peek>(checked: &Checked, peek: &mut P, word: u64) -> u64
-    requires width { IsWidth V }
-    requires words { word_count V (shape_of checked.now) ≤ length (P.words peek.old) }
-    requires named { NamesSome (shape_of checked.now) word }
-    ensures value { result ≡ item V (shape_of checked.now) (P.words peek.old) (item_in word) 0 }
-    ensures kept { peek.new ≡ peek.old }
-{
-    key_at::<V, P>(checked, peek, checked.item_in(word))
-}
-
-/// The move of a path of one place.
-/// Condition: the words reach as far as the shape says, each slot is empty or names an item, and the place is occupied.
-#[inline(always)]
-pub(crate) fn move_of<const V: usize, P: Peek>(
-    checked: &Checked,
-    peek: &mut P,
-    one: OneMove,
-) -> Move
-    requires width { IsWidth V }
-    requires words { word_count V (shape_of checked.now) ≤ length (P.words peek.old) }
-    requires filled { IsFilled (shape_of checked.now) (P.words peek.old) }
-    requires taken { IsOccupied (shape_of checked.now) (P.words peek.old) one.from }
-    ensures moves { acts_of_moves (result ∷ []) ≡ moves_acts V (shape_of checked.now) (P.words peek.old) (one.from ∷ []) one.hole }
-    ensures keys { AreKeys V (shape_of checked.now) (P.words peek.old) (one.from ∷ []) }
-    ensures kept { peek.new ≡ peek.old }
-{
-    let word = slot_at(checked, peek, one.from);
-    let key = key_in::<V, P>(checked, peek, word);
-    Move {
-        key,
-        word,
-        from: one.from,
-        to: one.hole,
-    }
 }
 
 /// Lists the moves of a path, in place of those that were listed: the item at its last place goes to the hole, the item at the place before it to the place that
@@ -136,6 +98,7 @@ pub fn add_moves<const V: usize, P: Peek>(
     push_moves(acts, moves.as_slice());
 }
 
+// Nothing in this repository calls it: it is for those who plan without books.
 /// The acts that make room where the path begins, by moving the items at its places, the last one first.
 /// Condition: as for `path_moves`, and the path is a chain from some key.
 pub fn plan_moves<const V: usize, P: Peek>(checked: &Checked, peek: &mut P, path: &Path) -> Plan

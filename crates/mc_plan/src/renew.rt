@@ -28,6 +28,7 @@ pub fn add_renew<const V: usize>(acts: &mut Plan, key: u64, value: &[u64; V], at
     acts.push(Act::Close);
 }
 
+// Nothing in this repository calls it: it is for those who plan without books.
 /// The acts that put a new value of the key that stands at the item, at the moment `at`. Condition: a value has from 1 to 8 words.
 pub fn plan_renew<const V: usize>(key: u64, value: &[u64; V], at: u64, item: u32) -> Plan
     requires width { IsWidth V }

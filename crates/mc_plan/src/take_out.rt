@@ -42,6 +42,7 @@ pub fn add_evict(acts: &mut Plan, key: u64, place: Place)
     add_take_out(acts, key, Deed::Evict, place);
 }
 
+// Nothing in this repository calls it: it is for those who plan without books.
 /// The acts that take out the key that stands in the slot.
 pub fn plan_remove(key: u64, place: Place) -> Plan
     ensures items { result.items ≡ remove_acts key place }
@@ -52,6 +53,7 @@ pub fn plan_remove(key: u64, place: Place) -> Plan
     acts
 }
 
+// Nothing in this repository calls it: it is for those who plan without books.
 /// The acts that take out the key that stands in the slot, to make room for another.
 pub fn plan_evict(key: u64, place: Place) -> Plan
     ensures items { result.items ≡ evict_acts key place }

@@ -16,16 +16,8 @@ pub(crate) fn words_of<const V: usize>(value: &[u64; V]) -> &[u64]
     value.as_slice()
 }
 
-/// Says of a value that it has words. Nothing is done.
-pub(crate) fn have_words<const V: usize>(value: &[u64; V])
-    ensures words { All IsWord value.now }
-    ensures wide { length value.now ≡ V }
-{
-    are_words(words_of(value));
-}
-
 /// Says of words that they have 64 bits each. Nothing is done.
-fn are_words(words: &[u64])
+pub(crate) fn have_words(words: &[u64])
     ensures { All IsWord words.now }
 {
     let _many = words.len();

@@ -5,15 +5,15 @@ ghost use Rattle.mc_theory.specs.States.{State};
 
 use crate::answer::{Put, PutError};
 use crate::books::Books;
-use mc_search::{Path, Sweep};
+use mc_search::{Room, Sweep};
 
 /// How far a put is once it was begun.
 #[derive(Drop)]
 pub(crate) enum Start {
     /// It is planned or refused, and this is its answer.
     Planned(Result<Put, PutError>),
-    /// A path leads to a hole, and every item is in use.
-    Waits(Path),
+    /// The key has this room, and every item is in use.
+    Waits(Room),
 }
 
 /// A put for which the hand looks for an item.
@@ -22,7 +22,7 @@ pub struct Waiting<const V: usize> {
     pub(crate) sweep: Sweep,
     pub(crate) key: u64,
     pub(crate) value: [u64; V],
-    pub(crate) path: Path,
+    pub(crate) room: Room,
 }
 
 impl<const V: usize> Waiting<V> {
@@ -31,20 +31,17 @@ impl<const V: usize> Waiting<V> {
     ghost use Rattle.mc_plan.specs.declared.books.Books.{Books};
     ghost use Rattle.mc_search.specs.Sweeps.{Swept, IsOver, next_item};
 
-    /// A put whose hand has read nothing yet. Condition: the key has this path, by these books, and no item is free.
-    pub fn new(books: &Books, key: u64, value: [u64; V], path: Path) -> Waiting<V>
-        requires waits { (s : State V) × Waits V books.now key s path }
-        ensures sweeping { (s : State V) → Waits V books.now key s path → IsSweeping V books.now result (PutCall key value.entry) s [] }
-        ensures key { result.key ≡ key }
-        ensures path { result.path ≡ path }
-        ensures value { result.value ≡ value.entry }
+    /// A put whose hand has read nothing yet. Condition: the key has this room, by these books, and no item is free.
+    pub fn new(books: &Books, key: u64, value: [u64; V], room: Room) -> Waiting<V>
+        requires waits { (s : State V) × Waits V books.now key value s room }
+        ensures sweeping { (s : State V) → Waits V books.now key value.entry s room → IsSweeping V books.now result (PutCall key value.entry) s [] }
         ensures left { result.sweep.left ≡ 2 * (shape_of books.now.checked).items }
     {
         Waiting {
             sweep: books.sweep(),
             key,
             value,
-            path,
+            room,
         }
     }
 
@@ -64,9 +61,6 @@ impl<const V: usize> Waiting<V> {
         ensures swept { (b : Books) (call : Call) (s : State V) (rs : List Swept) (i : ℕ) →
             IsSweeping V b self.old call s rs → next_item self.old.sweep ≡ Some i →
             IsSweeping V b self.new call s (rs ++ record { item = i; bit = bit } ∷ []) }
-        ensures key { self.new.key ≡ self.old.key }
-        ensures path { self.new.path ≡ self.old.path }
-        ensures value { self.new.value ≡ self.old.value }
         ensures left { self.new.sweep.left < self.old.sweep.left }
     {
         self.sweep.after(bit);

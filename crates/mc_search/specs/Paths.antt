@@ -2,8 +2,10 @@
 use Rattle.std.specs.Prelude.{ℕ, ◌≡◌, ◌≤◌, ◌⊎◌, [], ◌∷◌, ◌++◌, Contains, List, length}
 use Rattle.mc_words.specs.declared.place.Place.{Place}
 use Rattle.mc_words.specs.declared.shape.Shape.{Shape}
-use Rattle.mc_words.specs.Chains.{IsChain}
-use Rattle.mc_search.specs.declared.one_move.OneMove.{OneMove}
+use Rattle.mc_words.specs.declared.key_parts.KeyParts.{KeyParts}
+use Rattle.mc_words.specs.Chains.{IsChain, NoChain}
+use Rattle.mc_words.specs.KeyParts.{HasParts}
+use Rattle.mc_search.specs.declared.room.OneMove.{OneMove}
 use Rattle.mc_search.specs.declared.room.Room.{Room}
 use Rattle.mc_search.specs.declared.room.Room.TheVariants as room
 use Rattle.mc_search.specs.declared.path.Path.{Path}
@@ -33,7 +35,13 @@ first_place (p ∷ ps) hole = p
 abbrev pub path_of_move : OneMove → Path
 path_of_move m = record { places = record { items = m.from ∷ [] }; hole = m.hole }
 
--- and that of the room which a key finds with at most one move
-abbrev pub path_of_room : Room → Path
-path_of_room (room.Hole hole) = direct_path hole
-path_of_room (room.Move m) = path_of_move m
+-- and that of a room, where a path that is kept is this one
+abbrev pub path_of_room : Path → Room → Path
+path_of_room kept (room.Hole hole) = direct_path hole
+path_of_room kept (room.Move m) = path_of_move m
+path_of_room kept room.Path = kept
+
+-- the key has these parts, and both of its buckets are full: each chain from it moves another key
+pub record IsCrowded (sh : Shape) (w : List ℕ) (k : ℕ) (parts : KeyParts) : Type 0 where
+  pub has : HasParts sh k parts
+  pub full : NoChain sh w k 0

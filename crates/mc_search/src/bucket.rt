@@ -1,5 +1,6 @@
-//! The slots of a bucket: which is empty, and where the key of one may go.
-ghost use Rattle.std.specs.Prelude.{ℕ, ◌≡◌, ◌≢◌, ◌+◌, ◌*◌, ◌<◌, IfNone, IfSome, MatchOption};
+//! The slots of a bucket: which is empty, where the key of one may go, and what is loaded ahead in a large table, so that the
+//! processor waits for several words at once.
+ghost use Rattle.std.specs.Prelude.{ℕ, ◌≡◌, ◌≢◌, ◌+◌, ◌*◌, ◌<◌, ◌≤◌, ◌↔◌, IfNone, IfSome, IsTrue, MatchOption};
 ghost use Rattle.mc_words.specs.Checks.{shape_of};
 ghost use Rattle.mc_words.specs.Keys.{alternate, tag_in, NamesSome};
 ghost use Rattle.mc_words.specs.Places.{slot};
@@ -9,6 +10,9 @@ ghost use Rattle.mc_search.specs.Inside.Readable.{HasNot, IsFull, IsHoleIn, IsSl
 use crate::word::slot_at;
 use mc_theory::Peek;
 use mc_words::{Checked, Place};
+
+/// The slots of so many buckets fill a megabyte, which is more than many processors keep close by.
+const LARGE: u32 = 32_768;
 
 /// The other bucket of the item that a slot's word names.
 pub(crate) fn other_bucket(checked: &Checked, bucket: u32, word: u64) -> u32
@@ -53,4 +57,34 @@ pub(crate) fn hole_in<P: Peek>(checked: &Checked, peek: &mut P, bucket: u32) -> 
     ensures kept { peek.new ≡ peek.old }
 {
     slot_with(checked, peek, bucket, 0)
+}
+
+/// Whether the table is so large that words of it are loaded ahead: it has at least 32,768 buckets.
+#[inline(always)]
+pub fn is_large(checked: &Checked) -> bool
+    ensures { IsTrue result ↔ (32768 ≤ (shape_of checked.now).buckets) }
+{
+    checked.shape().buckets >= LARGE
+}
+
+/// Loads the first slot of the bucket. Condition: the words reach as far as the last slot of the shape.
+#[inline(always)]
+pub fn touch_bucket<P: Peek>(checked: &Checked, peek: &mut P, bucket: u32)
+    requires words { HasSlots (shape_of checked.now) (P.words peek.old) }
+    requires in_table { bucket < (shape_of checked.now).buckets }
+    ensures kept { peek.new ≡ peek.old }
+{
+    let _ = slot_at(checked, peek, Place { bucket, slot: 0 });
+}
+
+/// The same, where the table is large.
+#[inline(always)]
+pub(crate) fn touch_bucket_if_large<P: Peek>(checked: &Checked, peek: &mut P, bucket: u32)
+    requires words { HasSlots (shape_of checked.now) (P.words peek.old) }
+    requires in_table { bucket < (shape_of checked.now).buckets }
+    ensures kept { peek.new ≡ peek.old }
+{
+    if is_large(checked) {
+        touch_bucket(checked, peek, bucket);
+    }
 }

@@ -8,8 +8,7 @@ ghost use Rattle.mc_words.specs.Standing.{Stands, IsAbsent};
 ghost use Rattle.mc_search.specs.Readable.{IsPlaced};
 ghost use Rattle.mc_search.specs.Inside.Readable.{IsNotAmong};
 
-use crate::ahead::touch_bucket_if_large;
-use crate::bucket::slot_with;
+use crate::bucket::{slot_with, touch_bucket_if_large};
 use crate::word::{key_at, slot_at};
 use mc_theory::Peek;
 use mc_words::{Checked, KeyParts, Place};

@@ -12,13 +12,11 @@
 //! ```
 #![tactic(auto)]
 
-mod ahead;
 mod bucket;
 mod finder;
 mod finding;
 mod free;
 mod listed;
-mod one_move;
 mod path;
 mod queue;
 mod reading;
@@ -27,16 +25,15 @@ mod search;
 mod sweep;
 mod word;
 
-pub use ahead::{is_large, touch_bucket};
+pub use bucket::{is_large, touch_bucket};
 pub use finder::Finder;
 pub use finding::{find, find_by, place_of};
 pub use free::FreeItems;
 pub use listed::entries;
 pub use mc_theory::Peek;
 pub use mc_words::NoMemory;
-pub use one_move::{OneMove, find_move};
 pub use path::Path;
-pub use reading::{Held, moment, read};
-pub use room::Room;
+pub use reading::{Held, read};
+pub use room::{OneMove, Room, find_hole, find_move};
 pub use sweep::Sweep;
-pub use word::{key_at, slot_at, stamp_at, word_at};
+pub use word::{key_at, key_in, moment, slot_at, stamp_at, word_at};

@@ -6,7 +6,6 @@ ghost use Rattle.mc_words.specs.Places.{IsPlace, slot_number};
 ghost use Rattle.mc_search.specs.Kept.{SetsSlot};
 ghost use Rattle.mc_search.specs.Paths.{first_place};
 
-use crate::room::Room;
 use arrayvec::ArrayVec;
 use mc_words::Place;
 
@@ -33,7 +32,7 @@ fn index_of(places: &[Place], place: Place) -> Option<usize>
 }
 
 impl Path {
-    ghost use Rattle.mc_search.specs.Paths.{IsCut, direct_path, path_of_room};
+    ghost use Rattle.mc_search.specs.Paths.{IsCut, direct_path};
 
     /// The path that moves nothing: the key goes to the hole.
     pub fn direct(hole: Place) -> Path
@@ -42,21 +41,6 @@ impl Path {
         Path {
             places: ArrayVec::new(),
             hole,
-        }
-    }
-
-    /// The path of at most one place.
-    #[inline(always)]
-    pub fn of_room(room: Room) -> Path
-        ensures { result ≡ path_of_room room }
-    {
-        match room {
-            Room::Hole(hole) => Path::direct(hole),
-            Room::Move(one) => {
-                let mut path = Path::direct(one.hole);
-                path.places.push(one.from);
-                path
-            }
         }
     }
 

@@ -12,16 +12,6 @@ use crate::word::{stamp_at, word_at};
 use mc_theory::Peek;
 use mc_words::Checked;
 
-/// The length of the history. Condition: there is a word.
-#[tactic(auto, unfolding(mc_words::specs::Places::moment))]
-pub fn moment<P: Peek>(checked: &Checked, peek: &mut P) -> u64
-    requires { 0 < length (P.words peek.old) }
-    ensures value { result ≡ moment (P.words peek.old) }
-    ensures kept { peek.new ≡ peek.old }
-{
-    peek.word(checked.moment_place())
-}
-
 /// The value of an item.
 fn value_at<const V: usize, P: Peek>(checked: &Checked, peek: &mut P, item: u32) -> [u64; V]
     requires width { IsWidth V }

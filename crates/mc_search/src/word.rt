@@ -1,7 +1,8 @@
 //! The words that a search reads.
 ghost use Rattle.std.specs.Prelude.{◌≡◌, ◌<◌, ◌≤◌, length};
 ghost use Rattle.mc_words.specs.Checks.{shape_of};
-ghost use Rattle.mc_words.specs.Places.{IsPlace, IsWidth, payload, slot_number, slot, item, word_count};
+ghost use Rattle.mc_words.specs.Keys.{item_in, NamesSome};
+ghost use Rattle.mc_words.specs.Places.{IsPlace, IsWidth, moment, payload, slot_number, slot, item, word_count};
 ghost use Rattle.mc_search.specs.Readable.{HasSlots};
 
 use mc_theory::Peek;
@@ -53,4 +54,25 @@ pub fn key_at<const V: usize, P: Peek>(checked: &Checked, peek: &mut P, i: u32) 
     ensures kept { peek.new ≡ peek.old }
 {
     word_at::<V, P>(checked, peek, i, 0)
+}
+
+/// The key of the item that a slot's word names. Condition: the words reach as far as the shape says, and the word names an item.
+pub fn key_in<const V: usize, P: Peek>(checked: &Checked, peek: &mut P, word: u64) -> u64
+    requires width { IsWidth V }
+    requires words { word_count V (shape_of checked.now) ≤ length (P.words peek.old) }
+    requires named { NamesSome (shape_of checked.now) word }
+    ensures value { result ≡ item V (shape_of checked.now) (P.words peek.old) (item_in word) 0 }
+    ensures kept { peek.new ≡ peek.old }
+{
+    key_at::<V, P>(checked, peek, checked.item_in(word))
+}
+
+/// The length of the history. Condition: there is a word.
+#[tactic(auto, unfolding(mc_words::specs::Places::moment))]
+pub fn moment<P: Peek>(checked: &Checked, peek: &mut P) -> u64
+    requires { 0 < length (P.words peek.old) }
+    ensures value { result ≡ moment (P.words peek.old) }
+    ensures kept { peek.new ≡ peek.old }
+{
+    peek.word(checked.moment_place())
 }

@@ -3,4 +3,3 @@ pub mod Pens
 pub mod RunningDeeds
 pub mod WholeCalls
 pub mod Rests
-pub mod WaitingPuts

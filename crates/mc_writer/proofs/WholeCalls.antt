@@ -1,73 +1,129 @@
--- A call of the writer whose acts were all made.
-use Rattle.std.proofs.Common.{ℕ, ◌≡◌, ◌∙◌, List, [], ◌++◌, ap, append_assoc, refl, sym, subst}
+-- A call of the writer that was decided: its acts are due, and once they are made, it is over.
+use Rattle.std.proofs.Common.{ℕ, ◌≡◌, ◌∙◌, List, [], ◌++◌, ap, append-nil, append_assoc, refl, sym, subst}
+use Rattle.mc_words.specs.KeyParts.{HasParts}
+use Rattle.mc_words.specs.declared.key_parts.KeyParts.{KeyParts}
 use Rattle.mc_words.specs.declared.shape.Shape.{Shape}
 use Rattle.mc_words.specs.Checks.{shape_of}
-use Rattle.mc_theory.specs.Lists.{Made, state_of}
+use Rattle.mc_theory.specs.Lists.{AreAllowed, Made, state_of}
+use Rattle.mc_theory.specs.States.{State}
 use Rattle.mc_theory.specs.declared.act.Act.{Act}
+use Rattle.mc_theory.proofs.Lists.Fronts.{state_append}
 use Rattle.mc_search.specs.Sweeps.{Swept, hand_acts}
 use Rattle.mc_plan.specs.WholeCalls.{Call, IsSweepOf, state_after_sweep}
-use Rattle.mc_plan.specs.Books.{AreBooksOf, IsPlanned, IsSweeping}
+use Rattle.mc_plan.specs.Books.{AreBooksOf, IsPlanned}
 use Rattle.mc_plan.specs.declared.waiting.Waiting.{Waiting}
 use Rattle.mc_plan.specs.Making.{as_made}
 use Rattle.mc_plan.specs.declared.answer.Answer.{Answer}
 use Rattle.mc_plan.specs.declared.books.Books.{Books}
 use Rattle.mc_plan.proofs.Calls.DueActs.{plan_ends, planned_due, sweep_may}
+use Rattle.mc_plan.proofs.Calls.SweptStates.{swept_still}
 use Rattle.mc_shared.specs.declared.layout.Layout.{Layout}
-use Rattle.mc_shared.specs.Records.{Opening, WriterRecord, NotesGrow}
+use Rattle.mc_shared.specs.Records.{Opening, NotesGrow}
 use Rattle.mc_shared.specs.Views.{layout_of}
+use Rattle.mc_shared.proofs.GrownNotes.{grow_self, grow_trans}
 use Rattle.mc_writer.specs.WriterCalls.{HasCalled, IsRested}
-use Rattle.mc_writer.specs.Inside.Pens.{HasMade, IsDue, state_at}
+use Rattle.mc_writer.specs.Inside.Pens.{HasMade, IsDue, IsSamePen, state_at}
+use Rattle.mc_writer.specs.Inside.Turns.{HasTurned}
 use Rattle.mc_writer.specs.declared.pen.Pen.{Pen}
-use Rattle.mc_writer.proofs.Pens.{made_none, plan_is_due}
+use Rattle.mc_writer.proofs.Pens.{made_none, plan_is_due, same_then, shape_kept}
 
--- without a sweep: the acts of the plan are the call, and the books are those of the state after it
-called_now : (V : ℕ) (sh : Shape) (b : Books) (plan : List Act) (call : Call) (told : Answer) (before after : WriterRecord) → before.of.layout ≡ layout_of V (shape_of b.checked) → shape_of b.checked ≡ sh → after.of ≡ before.of → after.acts ≡ before.acts ++ as_made plan → NotesGrow before.notes after.notes
-    → IsSweepOf V sh (state_of V sh before.acts) [] told → IsPlanned V b plan call (state_of V sh before.acts) (state_of V sh before.acts) told → HasCalled V sh call before after told × IsRested V b after
-called_now V sh b plan call told before after layout shape of acts notes sweeps p =
-    let ends = plan_ends V sh b plan call before.acts [] told shape tt sweeps p in (
-      record { made = as_made plan; of = of; acts = acts; notes = notes; answered = ends.0 },
-      record {
-        layout = ap (λ (o : Opening). o.layout) of ∙ layout;
-        known = subst (λ (x : Shape). AreBooksOf V b (state_of V x after.acts)) (sym shape) (subst (λ (xs : List Made). AreBooksOf V b (state_of V sh xs)) (sym acts) ends.1);
-      },
-    )
+-- ---- what is known of a pen between two calls
+pub layout_rested : (V : ℕ) (p : Pen V) (b : Books) → IsRested V b p.seat.now → p.cells.now.layout ≡ layout_of V (shape_of b.checked)
+layout_rested V p b rested = sym (ap (λ (o : Opening). o.layout) p.of) ∙ rested.layout
 
--- the books that decided are of the pen's table
-pub layout_kept : (V : ℕ) (pen : Pen V) (b0 b : Books) → pen.cells.now.layout ≡ layout_of V (shape_of b0.checked) → b.checked ≡ b0.checked → pen.cells.now.layout ≡ layout_of V (shape_of b.checked)
-layout_kept V pen b0 b layout kept = layout ∙ ap (λ (x : Shape). layout_of V x) (ap shape_of (sym kept))
+module _ (V : ℕ) (p : Pen V) (b : Books) (layout : p.cells.now.layout ≡ layout_of V (shape_of b.checked)) where
+  pub shape_there : shape_of b.checked ≡ p.cells.now.layout.shape
+  shape_there = sym (ap (λ (l : Layout). l.shape) layout)
 
-pub layout_rested : (V : ℕ) (pen : Pen V) (b0 b : Books) → IsRested V b0 pen.seat.now → b.checked ≡ b0.checked → pen.cells.now.layout ≡ layout_of V (shape_of b.checked)
-layout_rested V pen b0 b rested kept = layout_kept V pen b0 b (sym (ap (λ (o : Opening). o.layout) pen.of) ∙ rested.layout) kept
+  -- parts of a key by the pen's table are those by the books'
+  pub parts_there : (k : ℕ) (parts : KeyParts) → HasParts p.cells.now.layout.shape k parts → HasParts (shape_of b.checked) k parts
+  parts_there k parts = subst (λ (x : Shape). HasParts x k parts) (sym shape_there)
 
-module _ (V : ℕ) (pen : Pen V) (b : Books) (call : Call) (told : Answer) (layout : pen.cells.now.layout ≡ layout_of V (shape_of b.checked)) where
-  shape_now : shape_of b.checked ≡ pen.cells.now.layout.shape
-  shape_now = sym (ap (λ (l : Layout). l.shape) layout)
+-- the pen that a decision leaves as it is
+abbrev pub pen_of : {V : ℕ} {p q : Pen V} → q ≡ p → Pen V
+pen_of {V} {p} {q} same = p
 
-  -- the acts of a plan are due
-  pub due_now : (plan : List Act) → IsPlanned V b plan call (state_at V pen) (state_at V pen) told → IsDue V plan pen
-  due_now plan p = plan_is_due V pen (pen.seat.now.acts ++ as_made plan) plan (planned_due V pen.cells.now.layout.shape b plan call (state_at V pen) (state_at V pen) told pen.seat.now.acts shape_now refl p)
+-- after the decision
+pub still_there : (V : ℕ) (p q : Pen V) (b0 b1 : Books) (k : ℕ) (parts : KeyParts) (C : State V → Type 0) → q ≡ p → p.cells.now.layout ≡ layout_of V (shape_of b0.checked) → b1.checked ≡ b0.checked → HasParts p.cells.now.layout.shape k parts → C (state_at V p)
+    → (q.cells.now.layout ≡ layout_of V (shape_of b1.checked)) × (HasParts q.cells.now.layout.shape k parts × C (state_at V q))
+still_there V p q b0 b1 k parts C same layout kept has holds =
+    subst (λ (x : Pen V). (x.cells.now.layout ≡ layout_of V (shape_of b1.checked)) × (HasParts x.cells.now.layout.shape k parts × C (state_at V x))) (sym same) (layout ∙ ap (λ (x : Shape). layout_of V x) (ap shape_of (sym kept)), (has, holds))
+
+-- the books are those of the pen's state
+pub known_there : (V : ℕ) (p : Pen V) (b : Books) → IsRested V b p.seat.now → AreBooksOf V b (state_at V p)
+known_there V p b rested = subst (λ (x : Shape). AreBooksOf V b (state_of V x p.seat.now.acts)) (shape_there V p b (layout_rested V p b rested)) rested.known
+
+-- ---- the hand's readings, and those of a call that sweeps for no item
+-- `q` is the pen after these readings, each of which may be made
+pub record HasRead (V : ℕ) (p q : Pen V) (rs : List Swept) : Type 0 where
+  pub same : IsSamePen V p q
+  pub of : q.seat.now.of ≡ p.seat.now.of
+  pub acts : q.seat.now.acts ≡ p.seat.now.acts ++ hand_acts rs
+  pub notes : NotesGrow p.seat.now.notes q.seat.now.notes
+  pub may : AreAllowed p.cells.now.layout.shape (state_at V p) (hand_acts rs)
+
+pub has_read : (V : ℕ) (p q : Pen V) (b : Books) (waiting : Waiting V) (call : Call) (t : HasTurned V b waiting call p q) → shape_of b.checked ≡ p.cells.now.layout.shape → HasRead V p q t.readings
+has_read V p q b waiting call t shape =
+    record { same = t.same; of = t.of; acts = t.acts; notes = t.notes; may = (sweep_may V p.cells.now.layout.shape b waiting call p.seat.now.acts t.readings shape t.sweeping).0 }
+
+-- a decision leaves the pen as it is
+pub not_turned : (V : ℕ) (p q : Pen V) → q ≡ p → HasRead V p q []
+not_turned V p q is =
+    subst (λ (x : Pen V). HasRead V p x []) (sym is) (record { same = record { cells = refl; seat = refl }; of = refl; acts = sym (append-nil p.seat.now.acts); notes = grow_self p.seat.now.notes; may = tt })
+
+pub still_read : (V : ℕ) (p q r : Pen V) (rs : List Swept) → r ≡ q → HasRead V p q rs → HasRead V p r rs
+still_read V p q r rs is = subst (λ (x : Pen V). HasRead V p x rs) (sym is)
+
+-- the hand writes no word
+pub words_still : (V : ℕ) (p q : Pen V) (rs : List Swept) → HasRead V p q rs → (state_at V q).words ≡ (state_at V p).words
+words_still V p q rs read =
+    let sh = p.cells.now.layout.shape in
+    ap (λ (x : Shape). (state_of V x q.seat.now.acts).words) (shape_kept read.same)
+    ∙ (ap (λ (xs : List Made). (state_of V sh xs).words) read.acts ∙ (ap (λ (s : State V). s.words) (state_append V sh p.seat.now.acts (hand_acts rs)) ∙ (swept_still V sh (state_at V p) rs).words))
+
+-- the shape by which a plan was decided is that of the pen's table
+pub shape_read : (V : ℕ) (p q : Pen V) (b0 b1 : Books) (rs : List Swept) → p.cells.now.layout ≡ layout_of V (shape_of b0.checked) → b1.checked ≡ b0.checked → HasRead V p q rs → shape_of b1.checked ≡ q.cells.now.layout.shape
+shape_read V p q b0 b1 rs layout kept read = ap shape_of kept ∙ (shape_there V p b0 layout ∙ sym (shape_kept read.same))
+
+-- ---- the call was decided in the state of the pen `p`. The plan is that of each shape
+module _ (V : ℕ) (p q : Pen V) (b0 b1 : Books) (call : Call) (told : Answer) (plan : Shape → List Act) (rs : List Swept) (layout : p.cells.now.layout ≡ layout_of V (shape_of b0.checked)) (kept : b1.checked ≡ b0.checked) (read : HasRead V p q rs)
+    (planned : IsPlanned V b1 (plan (shape_of b1.checked)) call (state_at V p) (state_after_sweep V (shape_of b1.checked) (state_at V p) rs) told) where
+  abbrev sh : Shape
+  sh = p.cells.now.layout.shape
+
+  shape_now : shape_of b1.checked ≡ sh
+  shape_now = ap shape_of kept ∙ shape_there V p b0 layout
+
+  planned_now : IsPlanned V b1 (plan sh) call (state_at V p) (state_after_sweep V sh (state_at V p) rs) told
+  planned_now = subst (λ (x : Shape). IsPlanned V b1 (plan x) call (state_at V p) (state_after_sweep V x (state_at V p) rs) told) shape_now planned
+
+  state_now : (x : Shape) → x ≡ sh → state_of V x q.seat.now.acts ≡ state_after_sweep V sh (state_at V p) rs
+  state_now x is = ap (λ (y : Shape). state_of V y q.seat.now.acts) is ∙ (ap (state_of V sh) read.acts ∙ state_append V sh p.seat.now.acts (hand_acts rs))
+
+  -- the acts of the plan are due
+  pub due_now : IsDue V (plan q.cells.now.layout.shape) q
+  due_now =
+      let there = shape_kept read.same in
+      subst (λ (x : Shape). IsDue V (plan x) q) (sym there)
+      (plan_is_due V q (q.seat.now.acts ++ as_made (plan sh)) (plan sh) (planned_due V q.cells.now.layout.shape b1 (plan sh) call (state_at V p) (state_after_sweep V sh (state_at V p) rs) told q.seat.now.acts (shape_now ∙ sym there) (state_now q.cells.now.layout.shape there) planned_now))
 
   -- and once they are made, the call is over
-  pub made_now : (plan : List Act) (after : Pen V) → HasMade V plan pen after → IsSweepOf V pen.cells.now.layout.shape (state_at V pen) [] told → IsPlanned V b plan call (state_at V pen) (state_at V pen) told
-      → HasCalled V pen.cells.now.layout.shape call pen.seat.now after.seat.now told × IsRested V b after.seat.now
-  made_now plan after m sweeps p =
-      called_now V pen.cells.now.layout.shape b plan call told pen.seat.now after.seat.now (ap (λ (o : Opening). o.layout) pen.of ∙ layout) shape_now m.of m.acts m.notes sweeps p
+  pub made_now : (after : Pen V) → HasMade V (plan q.cells.now.layout.shape) q after → IsSweepOf V (shape_of b1.checked) (state_at V p) rs told
+      → IsSamePen V p after × HasCalled V p.cells.now.layout.shape call p.seat.now after.seat.now told × IsRested V b1 after.seat.now
+  made_now after m sweeps =
+      let made = subst (λ (x : Shape). HasMade V (plan x) q after) (shape_kept read.same) m in
+      let ends = plan_ends V sh b1 (plan sh) call p.seat.now.acts rs told shape_now read.may (subst (λ (x : Shape). IsSweepOf V x (state_at V p) rs told) shape_now sweeps) planned_now in
+      let of = made.of ∙ read.of in
+      let acts : after.seat.now.acts ≡ p.seat.now.acts ++ (hand_acts rs ++ as_made (plan sh)) = made.acts ∙ (ap (λ (xs : List Made). xs ++ as_made (plan sh)) read.acts ∙ append_assoc p.seat.now.acts (hand_acts rs) (as_made (plan sh))) in (
+        same_then read.same made.same,
+        record { made = hand_acts rs ++ as_made (plan sh); of = of; acts = acts; notes = grow_trans read.notes made.notes; answered = ends.0 },
+        record {
+          layout = ap (λ (o : Opening). o.layout) of ∙ (ap (λ (o : Opening). o.layout) p.of ∙ (layout ∙ ap (λ (x : Shape). layout_of V x) (ap shape_of (sym kept))));
+          known = subst (λ (x : Shape). AreBooksOf V b1 (state_of V x after.seat.now.acts)) (sym shape_now) (subst (λ (xs : List Made). AreBooksOf V b1 (state_of V sh xs)) (sym acts) ends.1);
+        },
+      )
 
-  -- a call that makes no act
-  pub refused_now : (after : Pen V) → after ≡ pen → IsSweepOf V (shape_of b.checked) (state_at V pen) [] told → IsPlanned V b [] call (state_at V pen) (state_at V pen) told
-      → HasCalled V pen.cells.now.layout.shape call pen.seat.now after.seat.now told × IsRested V b after.seat.now
-  refused_now after same sweeps p =
-      made_now [] after (subst (λ (x : Pen V). HasMade V [] pen x) (sym same) (made_none V pen)) (subst (λ (x : Shape). IsSweepOf V x (state_at V pen) [] told) shape_now sweeps) p
-
--- after a sweep: its readings and the acts of the plan are the call
-pub called_swept : (V : ℕ) (sh : Shape) (b0 b : Books) (waiting : Waiting V) (plan : List Act) (call : Call) (told : Answer) (rs : List Swept) (before after : WriterRecord) → before.of.layout ≡ layout_of V (shape_of b.checked) → shape_of b0.checked ≡ sh → shape_of b.checked ≡ sh → IsSweeping V b0 waiting call (state_of V sh before.acts) rs
-    → after.of ≡ before.of → after.acts ≡ (before.acts ++ hand_acts rs) ++ as_made plan → NotesGrow before.notes after.notes → IsSweepOf V sh (state_of V sh before.acts) rs told → IsPlanned V b plan call (state_of V sh before.acts) (state_after_sweep V sh (state_of V sh before.acts) rs) told → HasCalled V sh call before after told × IsRested V b after
-called_swept V sh b0 b waiting plan call told rs before after layout was shape sweeping of acts notes sweeps p =
-    let ends = plan_ends V sh b plan call before.acts rs told shape (sweep_may V sh b0 waiting call before.acts rs was sweeping).0 sweeps p in
-    let all : after.acts ≡ before.acts ++ (hand_acts rs ++ as_made plan) = acts ∙ append_assoc before.acts (hand_acts rs) (as_made plan) in (
-      record { made = hand_acts rs ++ as_made plan; of = of; acts = all; notes = notes; answered = ends.0 },
-      record {
-        layout = ap (λ (o : Opening). o.layout) of ∙ layout;
-        known = subst (λ (x : Shape). AreBooksOf V b (state_of V x after.acts)) (sym shape) (subst (λ (xs : List Made). AreBooksOf V b (state_of V sh xs)) (sym all) ends.1);
-      },
-    )
+-- where the plan has no acts, the call is over at once
+pub refused_now : (V : ℕ) (p q : Pen V) (b0 b1 : Books) (call : Call) (told : Answer) (rs : List Swept) → p.cells.now.layout ≡ layout_of V (shape_of b0.checked) → b1.checked ≡ b0.checked → HasRead V p q rs → IsPlanned V b1 [] call (state_at V p) (state_after_sweep V (shape_of b1.checked) (state_at V p) rs) told → IsSweepOf V (shape_of b1.checked) (state_at V p) rs told
+    → IsSamePen V p q × HasCalled V p.cells.now.layout.shape call p.seat.now q.seat.now told × IsRested V b1 q.seat.now
+refused_now V p q b0 b1 call told rs layout kept read planned = made_now V p q b0 b1 call told (λ _. []) rs layout kept read planned q (made_none V q)

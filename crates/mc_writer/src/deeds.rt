@@ -1,12 +1,12 @@
-//! The writer's deeds, step by step.
+//! The writer's deeds, step by step, and what was decided, deed by deed.
 ghost use Rattle.std.specs.Prelude.{◌≡◌, ◌^◌, ◌<◌};
 ghost use Rattle.mc_words.specs.KeyParts.{HasParts};
 ghost use Rattle.mc_words.specs.Places.{IsWidth, item_place};
-ghost use Rattle.mc_plan.specs.Decisions.{acts_of_moves};
+ghost use Rattle.mc_plan.specs.Decisions.{acts_of_moves, filling_acts, moves_of, renewal_acts, replacement_acts, storing_acts};
 ghost use Rattle.mc_plan.specs.Plans.{value_acts, payload_acts, fill_acts, renew_acts, take_out_acts, move_acts};
 
 use crate::pen::Pen;
-use mc_plan::Move;
+use mc_plan::{Books, Move, Moves, Replacement, Storing};
 use mc_theory::Deed;
 use mc_words::{KeyParts, Place};
 
@@ -117,5 +117,105 @@ impl<'a, const V: usize> Pen<'a, V> {
         for m in moves {
             self.make_move(m.key, m.word, m.from, m.to);
         }
+    }
+}
+
+// What was decided. The condition of each is that its acts are due next.
+impl<'a, const V: usize> Pen<'a, V> {
+    ghost use Rattle.mc_writer.specs.Inside.Pens.{IsDue, HasMade};
+
+    /// Makes the acts of a renewal, and the mark of its item.
+    #[inline(always)]
+    pub(crate) fn make_renewal(
+        &mut self,
+        key: u64,
+        parts: KeyParts,
+        value: &[u64; V],
+        at: u64,
+        item: u32,
+    )
+        requires width { IsWidth V }
+        requires due { IsDue V (renewal_acts key value.now at item) self.old }
+        requires parts { HasParts self.old.cells.now.layout.shape key parts }
+        ensures made { HasMade V (renewal_acts key value.now at item) self.old self.new }
+    {
+        self.renew(key, parts, value, at, item);
+        self.set_mark_unless_set(item);
+    }
+
+    /// Makes the fill, and the mark of its item.
+    #[inline(always)]
+    pub(crate) fn make_filling(
+        &mut self,
+        key: u64,
+        parts: KeyParts,
+        value: &[u64; V],
+        at: u64,
+        item: u32,
+        place: Place,
+    )
+        requires width { IsWidth V }
+        requires item { item < self.old.cells.now.layout.shape.items }
+        requires due { IsDue V (filling_acts self.old.cells.now.layout.shape key value.now at item place) self.old }
+        requires parts { HasParts self.old.cells.now.layout.shape key parts }
+        ensures made { HasMade V (filling_acts self.old.cells.now.layout.shape key value.now at item place) self.old self.new }
+    {
+        self.fill(key, parts, value, at, item, place);
+        self.set_mark(item);
+    }
+
+    // Makes the moves. Of more than one the books have the list.
+    #[inline(always)]
+    fn make_moves_of(&mut self, books: &Books, moves: Moves)
+        requires due { IsDue V (acts_of_moves (moves_of books.now.moves.items moves)) self.old }
+        ensures made { HasMade V (acts_of_moves (moves_of books.now.moves.items moves)) self.old self.new }
+    {
+        match moves {
+            Moves::Unneeded => {}
+            Moves::One(m) => self.make_move(m.key, m.word, m.from, m.to),
+            Moves::Listed => self.make_moves(books.listed()),
+        }
+    }
+
+    /// Makes the moves and the fill, and the mark of its item.
+    #[inline(always)]
+    pub(crate) fn make_storing(
+        &mut self,
+        books: &Books,
+        key: u64,
+        parts: KeyParts,
+        value: &[u64; V],
+        storing: Storing,
+    )
+        requires width { IsWidth V }
+        requires item { storing.item < self.old.cells.now.layout.shape.items }
+        requires due { IsDue V (storing_acts books.now.moves.items self.old.cells.now.layout.shape key value.now storing) self.old }
+        requires parts { HasParts self.old.cells.now.layout.shape key parts }
+        ensures made { HasMade V (storing_acts books.now.moves.items self.old.cells.now.layout.shape key value.now storing) self.old self.new }
+    {
+        self.make_moves_of(books, storing.moves);
+        self.make_filling(key, parts, value, storing.at, storing.item, storing.place);
+    }
+
+    /// Takes the victim out, and makes the moves, the fill and the mark of the put that takes its item.
+    #[inline(always)]
+    pub(crate) fn make_replacement(
+        &mut self,
+        books: &Books,
+        key: u64,
+        parts: KeyParts,
+        value: &[u64; V],
+        taken: Replacement,
+    )
+        requires width { IsWidth V }
+        requires item { taken.storing.item < self.old.cells.now.layout.shape.items }
+        requires due { IsDue V (replacement_acts books.now.moves.items self.old.cells.now.layout.shape key value.now taken) self.old }
+        requires parts { HasParts self.old.cells.now.layout.shape key parts }
+        requires victim { HasParts self.old.cells.now.layout.shape taken.victim.key taken.victim.parts }
+        ensures made { HasMade V (replacement_acts books.now.moves.items self.old.cells.now.layout.shape key value.now taken) self.old self.new }
+    {
+        let victim = taken.victim;
+        self.take_out(victim.key, victim.parts, Deed::Evict, victim.place);
+        self.make_storing(books, key, parts, value, taken.storing);
     }
 }

@@ -1,32 +1,15 @@
 //! The writer's put on a condition.
 ghost use Rattle.std.specs.Prelude.{◌≡◌};
-ghost use Rattle.mc_plan.specs.Deciding.{IsIfDecided};
 ghost use Rattle.mc_plan.specs.WholeCalls.{PutIfCall};
 ghost use Rattle.mc_plan.specs.declared.answer.Answer.TheVariants as answer;
 ghost use Rattle.mc_writer.specs.WriterCalls.{HasCalled, IsRested};
 
 use crate::pen::Pen;
-use mc_plan::{Books, IfError, Renewal};
+use mc_plan::{Books, IfError};
 use mc_shared::{Cells, WriterSeat};
 
 impl<'a, const V: usize> Pen<'a, V> {
-    ghost use Rattle.mc_writer.specs.Inside.Pens.{IsSamePen, state_at};
-
-    // Decides a put on a condition. The pen is as it was.
-    fn decide_if(
-        &mut self,
-        books: &mut Books,
-        key: u64,
-        since: u64,
-        value: &[u64; V],
-    ) -> Result<Renewal, IfError>
-        requires rested { IsRested V books.old self.old.seat.now }
-        ensures pen { self.new ≡ self.old }
-        ensures decided { IsIfDecided V books.new key since value.now (state_at V self.old) result }
-        ensures shape { books.new.checked ≡ books.old.checked }
-    {
-        books.decide_if::<V, Pen<V>>(self, key, since, value)
-    }
+    ghost use Rattle.mc_writer.specs.Inside.Pens.{IsSamePen};
 
     // Puts a key whose stamp is `since`.
     fn put_if(
@@ -41,9 +24,9 @@ impl<'a, const V: usize> Pen<'a, V> {
         ensures called { HasCalled V self.old.cells.now.layout.shape (PutIfCall key since value.now) self.old.seat.now self.new.seat.now (answer.PutIf result) }
         ensures rested { IsRested V books.new self.new.seat.now }
     {
-        match self.decide_if(books, key, since, value) {
+        let parts = self.cells.parts(key);
+        match books.decide_if::<V, Pen<V>>(self, key, parts, since, value) {
             Ok(renewal) => {
-                let parts = self.cells.parts(key);
                 self.make_renewal(key, parts, value, renewal.at, renewal.item);
                 Ok(renewal.at)
             }

@@ -1,6 +1,6 @@
 //! The writer's put that takes no other key's item.
 ghost use Rattle.std.specs.Prelude.{◌≡◌};
-ghost use Rattle.mc_plan.specs.Deciding.{IsLackingKey};
+ghost use Rattle.mc_plan.specs.Books.{IsLackingKey};
 ghost use Rattle.mc_plan.specs.WholeCalls.{KeptCall};
 ghost use Rattle.mc_plan.specs.declared.answer.Answer.TheVariants as answer;
 ghost use Rattle.mc_shared.specs.Views.{layout_of};
@@ -9,9 +9,9 @@ ghost use Rattle.mc_words.specs.KeyParts.{HasParts};
 ghost use Rattle.mc_writer.specs.WriterCalls.{HasCalled, IsRested};
 
 use crate::pen::Pen;
-use mc_plan::{Books, Decision, Insertion, Path, Put, Why};
+use mc_plan::{Books, Decision, Put, Why};
 use mc_shared::{Cells, WriterSeat};
-use mc_words::{KeyParts, Place};
+use mc_words::KeyParts;
 
 impl<'a, const V: usize> Pen<'a, V> {
     ghost use Rattle.mc_writer.specs.Inside.Pens.{IsSamePen, state_at};
@@ -27,20 +27,17 @@ impl<'a, const V: usize> Pen<'a, V> {
     ) -> Result<Put, Why>
         requires layout { self.old.cells.now.layout ≡ layout_of V (shape_of books.old.checked) }
         requires parts { HasParts self.old.cells.now.layout.shape key parts }
-        requires lacks { IsLackingKey V books.old key (state_at V self.old) at }
+        requires lacks { IsLackingKey V books.old key value.now (state_at V self.old) at }
         ensures same { IsSamePen V self.old self.new }
         ensures called { HasCalled V self.old.cells.now.layout.shape (KeptCall key value.now) self.old.seat.now self.new.seat.now (answer.Kept result) }
         ensures rested { IsRested V books.new self.new.seat.now }
     {
-        let mut path = Path::direct(Place::default());
-        match self.decide_insert(books, key, &mut path, value, at) {
-            Insertion::Refuse(why) => Err(Why::of(why)),
-            Insertion::Store => {
-                let storing = books.decided();
-                self.make_storing(key, parts, value, storing);
-                Ok(storing.told(None))
-            }
-            Insertion::Wait => Err(Why::NoItem),
+        let Some(room) = books.room::<V, Pen<V>>(self, parts) else {
+            return Err(Why::NoPath);
+        };
+        match self.store_in(books, key, parts, value, at, room) {
+            Some(put) => Ok(put),
+            None => Err(Why::NoItem),
         }
     }
 
@@ -52,7 +49,7 @@ impl<'a, const V: usize> Pen<'a, V> {
         ensures rested { IsRested V books.new self.new.seat.now }
     {
         let parts = self.cells.parts(key);
-        match self.decide(books, key, parts, value) {
+        match books.decide::<V, Pen<V>>(self, key, parts, value) {
             Decision::Refuse(why) => Err(Why::of(why)),
             Decision::Renew { item, at } => {
                 self.make_renewal(key, parts, value, at, item);

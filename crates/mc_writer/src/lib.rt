@@ -14,12 +14,11 @@
 mod deeds;
 mod get_call;
 mod if_call;
+mod inserting;
 mod kept_call;
 mod pen;
 mod put_call;
 mod remove_call;
-mod short_puts;
-mod sweep;
 
 pub use get_call::{get, look, moment};
 pub use if_call::put_if;

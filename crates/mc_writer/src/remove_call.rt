@@ -1,7 +1,6 @@
 //! The writer's removal.
 ghost use Rattle.std.specs.Prelude.{◌≡◌};
 ghost use Rattle.mc_plan.specs.WholeCalls.{RemoveCall};
-ghost use Rattle.mc_plan.specs.Deciding.{IsRemovalDecided};
 ghost use Rattle.mc_plan.specs.declared.answer.Answer.TheVariants as answer;
 ghost use Rattle.mc_writer.specs.WriterCalls.{HasCalled, IsRested};
 
@@ -11,17 +10,7 @@ use mc_shared::{Cells, WriterSeat};
 use mc_theory::Deed;
 
 impl<'a, const V: usize> Pen<'a, V> {
-    ghost use Rattle.mc_writer.specs.Inside.Pens.{IsSamePen, state_at};
-
-    // Decides a removal.
-    fn decide_removal(&mut self, books: &mut Books, key: u64) -> Removal
-        requires rested { IsRested V books.old self.old.seat.now }
-        ensures pen { self.new ≡ self.old }
-        ensures decided { IsRemovalDecided V books.new key (state_at V self.old) result }
-        ensures shape { books.new.checked ≡ books.old.checked }
-    {
-        books.decide_removal::<V, Pen<V>>(self, key)
-    }
+    ghost use Rattle.mc_writer.specs.Inside.Pens.{IsSamePen};
 
     // Takes a key out, if it is there.
     #[inline(always)]
@@ -31,7 +20,7 @@ impl<'a, const V: usize> Pen<'a, V> {
         ensures called { HasCalled V self.old.cells.now.layout.shape (RemoveCall key) self.old.seat.now self.new.seat.now (answer.Remove result) }
         ensures rested { IsRested V books.new self.new.seat.now }
     {
-        match self.decide_removal(books, key) {
+        match books.decide_removal::<V, Pen<V>>(self, key) {
             Removal::Refuse(spent) => Err(spent),
             Removal::TakeOut { place, at } => {
                 let parts = self.cells.parts(key);

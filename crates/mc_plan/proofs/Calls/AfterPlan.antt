@@ -10,6 +10,8 @@ use Rattle.mc_words.specs.Answers.{PutIsSpent, RemoveIsSpent}
 use Rattle.mc_words.specs.Chains.{IsLeastLength, NoChain}
 use Rattle.mc_words.specs.Checks.{shape_of}
 use Rattle.mc_words.specs.History.{IsWord}
+use Rattle.mc_words.specs.KeyParts.{HasParts}
+use Rattle.mc_words.specs.declared.key_parts.KeyParts.{KeyParts}
 use Rattle.mc_words.specs.Places.{IsWidth, moment, slot, slot_number, word_count}
 use Rattle.mc_words.specs.Shapes.{IsShape}
 use Rattle.mc_words.specs.Standing.{NamesItem, Stands, IsAbsent, IsFree}
@@ -23,19 +25,19 @@ use Rattle.mc_plan.specs.declared.answer.Answer.TheVariants as answer
 use Rattle.mc_plan.specs.declared.answer.Put.TheVariants as put
 use Rattle.mc_plan.specs.declared.answer.PutError.TheVariants as why
 use Rattle.mc_plan.specs.declared.answer.Remove.TheVariants as remove
-use Rattle.mc_plan.specs.declared.decision.Storing.{Storing}
 use Rattle.mc_plan.specs.declared.books.Books.{Books}
 use Rattle.mc_search.specs.declared.free.FreeItems.{FreeItems}
 use Rattle.mc_search.specs.declared.path.Path.{Path}
 use Rattle.mc_plan.specs.WholeCalls.{Call, PutCall, RemoveCall, Means, Marks, MarksLast, AreOfDeeds, quiet_of}
-use Rattle.mc_plan.specs.Books.{AreBooksOf, IsPlanned}
-use Rattle.mc_plan.specs.Deciding.{IsLackingKey}
+use Rattle.mc_plan.specs.Books.{AreBooksOf, HasRoom, IsLackingKey, IsPlanned}
+use Rattle.mc_plan.specs.Deciding.{IsWithoutPath}
 use Rattle.mc_search.specs.Free.{IsConsistent, IsFreeIn, TakesFree, GivesBack}
 use Rattle.mc_plan.specs.Laws.{IsValue}
 use Rattle.mc_plan.specs.Making.{IsQuiet, state_after_acts}
 use Rattle.mc_search.specs.Kept.{KeepsSlots}
 use Rattle.mc_plan.specs.Moves.{AreKeys}
-use Rattle.mc_search.specs.Paths.{IsLeastPath, first_place}
+use Rattle.mc_search.specs.Paths.{IsCrowded, IsLeastPath, first_place}
+use Rattle.mc_search.specs.declared.room.Room.TheVariants as room
 use Rattle.mc_plan.specs.Plans.{payload_acts, value_acts, fill_acts, renew_acts, remove_acts, moves_acts}
 use Rattle.mc_search.specs.Readable.{IsFilled, IsPlaced}
 use Rattle.mc_plan.specs.Puts.{CanPut, TakesItem, put_acts}
@@ -258,26 +260,24 @@ stored_planned V b k v i at path free s shape key value old absent least keys in
 pub idle_planned : (V : ℕ) (b : Books) (call : Call) (s : State V) (told : Answer) → AreBooksOf V b s → Means (shape_of b.checked) call told s s → Marks V (shape_of b.checked) s.words call told [] → IsPlanned V b [] call s s told
 idle_planned V b call s told old means marks = record { allowed = tt; means = means; marks = marks; ends = old }
 
--- books that say something else of the last new key
-pub decided_planned : (V : ℕ) (b : Books) (plan : List Act) (call : Call) (s m : State V) (told : Answer) (d : Storing) → IsPlanned V b plan call s m told → IsPlanned V (record b { decided = d }) plan call s m told
-decided_planned V b plan call s m told d p = record {
-  allowed = p.allowed;
-  means = p.means;
-  marks = p.marks;
-  ends = record {
-    width = p.ends.width;
-    quiet = p.ends.quiet;
-    hand = p.ends.hand;
-    stands = p.ends.stands;
-    version_steps = p.ends.version_steps;
-    limit = p.ends.limit;
-    finder = p.ends.finder;
-    kept = p.ends.kept;
-    items = p.ends.items;
-    free = p.ends.free;
-    named = p.ends.named;
-  };
+-- books that keep another path and list other moves
+books_listed : (V : ℕ) (b other : Books) (s : State V) → AreBooksOf V b s → AreBooksOf V (record b { path = other.path; moves = other.moves }) s
+books_listed V b other s old = record {
+  width = old.width;
+  quiet = old.quiet;
+  hand = old.hand;
+  stands = old.stands;
+  version_steps = old.version_steps;
+  limit = old.limit;
+  finder = old.finder;
+  kept = old.kept;
+  items = old.items;
+  free = old.free;
+  named = old.named;
 }
+
+pub listed_planned : (V : ℕ) (b other : Books) (plan : List Act) (call : Call) (s m : State V) (told : Answer) → IsPlanned V b plan call s m told → IsPlanned V (record b { path = other.path; moves = other.moves }) plan call s m told
+listed_planned V b other plan call s m told p = record { allowed = p.allowed; means = p.means; marks = p.marks; ends = books_listed V b other (state_after_acts V (shape_of b.checked) m plan) p.ends }
 
 -- books with another list of the same free items
 pub books_still : (V : ℕ) (b : Books) (s : State V) (free : FreeItems) → AreBooksOf V b s → IsConsistent free → free.items ≡ b.free.items → ((j : ℕ) → IsFreeIn b.free j → ⊥) → ((j : ℕ) → IsFreeIn free j → ⊥) → AreBooksOf V (record b { free = free }) s
@@ -337,6 +337,10 @@ module _ (V : ℕ) (b : Books) (s : State V) (w : List ℕ) (old : AreBooksOf V 
   pub full_in : (k : ℕ) → NoChain b.finder w k 0 → NoChain (shape_of b.checked) s.words k 0
   full_in k full = subst (λ (sh : Shape). NoChain sh s.words k 0) old.finder (subst (λ (x : List ℕ). NoChain b.finder x k 0) same full)
 
+  pub crowded_in : (k : ℕ) (parts : KeyParts) → HasParts (shape_of b.checked) k parts → NoChain (shape_of b.checked) s.words k 0 → IsCrowded b.finder w k parts
+  crowded_in k parts has full =
+      subst (λ (sh : Shape). IsCrowded sh w k parts) (sym old.finder) (record { has = has; full = subst (λ (x : List ℕ). NoChain (shape_of b.checked) x k 0) (sym same) full })
+
   pub least_in : (k : ℕ) (path : Path) → IsLeastPath b.finder w k path → IsLeastPath (shape_of b.checked) s.words k path
   least_in k path least = subst (λ (sh : Shape). IsLeastPath sh s.words k path) old.finder (subst (λ (x : List ℕ). IsLeastPath b.finder x k path) same least)
 
@@ -386,8 +390,20 @@ new_books V b width finder hand changes kept items all =
     }
 
 -- no path leads to a hole, and the finder is as it was: the put is refused
-pub no_path : (V : ℕ) (b : Books) (s : State V) (w : List ℕ) (k at : ℕ) (v : List ℕ) (finder : Shape) → IsLackingKey V b k s at → w ≡ s.words → finder ≡ b.finder → NoChain b.finder w k b.finder.depth
-    → IsPlanned V (record b { finder = finder }) [] (PutCall k v) s s (answer.Put (Err why.NoPath))
-no_path V b s w k at v finder lacks same kept none =
+pub no_path : (V : ℕ) (b other : Books) (s : State V) (w : List ℕ) (k at : ℕ) (v : List ℕ) → IsLackingKey V b k v s at → w ≡ s.words → other.finder ≡ b.finder → NoChain b.finder w k b.finder.depth
+    → IsWithoutPath V (record b { finder = other.finder; path = other.path }) k v s
+no_path V b other s w k at v lacks same kept none =
     let refused = path_refused V (shape_of b.checked) s k lacks.known.quiet lacks.unspent lacks.absent (none_in V b s w lacks.known same k none) in
-    subst (λ (f : Shape). IsPlanned V (record b { finder = f }) [] (PutCall k v) s s (answer.Put (Err why.NoPath))) (sym kept) (idle_planned V b (PutCall k v) s (answer.Put (Err why.NoPath)) lacks.known refused tt)
+    let told = answer.Put (Err why.NoPath) in
+    let planned = listed_planned V b (record b { path = other.path }) [] (PutCall k v) s s told (idle_planned V b (PutCall k v) s told lacks.known refused tt) in
+    subst (λ (f : Shape). IsWithoutPath V (record b { finder = f; path = other.path }) k v s) (sym kept) planned
+
+-- a path leads to a hole, which the books keep, and the finder is as it was
+pub refound : (V : ℕ) (b : Books) (s : State V) (k : ℕ) (v : List ℕ) (at : ℕ) (finder : Shape) (path : Path) → finder ≡ b.finder → IsLackingKey V b k v s at → IsLeastPath (shape_of b.checked) s.words k path
+    → HasRoom V (record b { finder = finder; path = path }) k v s at room.Path
+refound V b s k v at finder path kept lacks least =
+    let here : HasRoom V (record b { path = path }) k v s at room.Path = record {
+      lacks = record { known = books_listed V b (record b { path = path }) s lacks.known; key = lacks.key; value = lacks.value; unspent = lacks.unspent; absent = lacks.absent; next = lacks.next };
+      least = least;
+    } in
+    subst (λ (f : Shape). HasRoom V (record b { finder = f; path = path }) k v s at room.Path) (sym kept) here

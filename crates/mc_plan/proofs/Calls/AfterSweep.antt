@@ -1,5 +1,5 @@
 -- What a put makes that takes its item from another key, or finds every item in use and recent.
-use Rattle.std.proofs.Common.{ℕ, All, ◌≡◌, ◌+◌, ◌*◌, ◌<◌, ◌≤◌, ◌∙◌, inl, inr, List, [], ◌∷◌, ◌++◌, Option, Some, None, Ok, Err, ap, refl, sym, subst, length, arith, length-append}
+use Rattle.std.proofs.Common.{ℕ, ◌≡◌, ◌+◌, ◌*◌, ◌<◌, ◌≤◌, ◌∙◌, inl, inr, List, [], ◌∷◌, ◌++◌, Option, Some, None, Ok, Err, ap, refl, sym, subst, length, arith, length-append}
 use Rattle.std.proofs.Math.Nat.{mod-lt}
 use Rattle.mc_words.specs.declared.history.Change.{Change}
 use Rattle.mc_words.specs.declared.history.Change.TheVariants.{Put, Evict}
@@ -25,7 +25,8 @@ use Rattle.mc_plan.specs.Inside.Clerks.{IsReplacing}
 use Rattle.mc_plan.specs.Making.{IsQuiet, Makes, state_after_acts}
 use Rattle.mc_search.specs.Kept.{KeepsNamed}
 use Rattle.mc_plan.specs.Moves.{AreKeys}
-use Rattle.mc_search.specs.Paths.{IsCut, first_place}
+use Rattle.mc_search.specs.Paths.{IsCut, first_place, path_of_room}
+use Rattle.mc_search.specs.declared.path.Path.{Path}
 use Rattle.mc_plan.specs.Replacing.{CanReplace, replace_acts}
 use Rattle.mc_search.specs.Sweeps.{Swept, IsOver, victim_of}
 use Rattle.mc_plan.proofs.Calls.AfterPlan.{deeds_put, needs_item, next_word}
@@ -86,7 +87,7 @@ recent_planned V b waiting call s rs hand on over none is =
     let many = over_without sh.items rs over none in
     let home : m.hand ≡ s.hand = swept_hand V sh s s.hand rs refl on.has.sweeps on.has.start ∙ swept_home sh.items s.hand rs on.has.start many in
     let quiet = sweep_quiet V sh s rs waits.known.quiet b.checked.sound (hands_may V b waiting call s rs on) in
-    let needs = needs_item V b s waiting.key waiting.path waits.known waits.unspent waits.absent waits.least waits.none in
+    let needs = needs_item V b s waiting.key (path_of_room b.path waiting.room) waits.known waits.unspent waits.absent waits.least waits.none in
     let refuses : means.RefusesAll V sh (quiet_of s) (quiet_of m) waiting.key = record { needs = needs.0; unchanged = same_quiet V s m still.words home still.history still.version_steps } in
     let told = answer.Put (Err why.AllRecent) in
     let planned : IsPlanned V (record b { hand = hand }) [] (PutCall waiting.key waiting.value) s m told = record {
@@ -124,6 +125,10 @@ module _ (V : ℕ) (b : Books) (waiting : Waiting V) (call : Call) (s : State V)
   abbrev pub mid : State V
   mid = state_after_sweep V sh s rs
 
+  -- the path to the room that the put has found
+  abbrev pub path : Path
+  path = path_of_room b.path waiting.room
+
   abbrev pub acts_for : ℕ → Place → List Place → Place → List Act
   acts_for e p kept end = replace_acts V sh mid.words waiting.key waiting.value at i e p kept end
 
@@ -133,28 +138,28 @@ module _ (V : ℕ) (b : Books) (waiting : Waiting V) (call : Call) (s : State V)
     stands : Stands V sh (state_after_acts V sh mid (acts_for e p kept end)).words waiting.key (slot_number (first_place kept end)) i
     named : KeepsNamed sh mid.words (state_after_acts V sh mid (acts_for e p kept end)).words
 
-  replaced : (e : ℕ) (p : Place) (kept : List Place) (end : Place) → All IsWord waiting.value → IsWord e → IsPlace sh p → Stands V sh mid.words e (slot_number p) i → IsCut p waiting.path.places.items waiting.path.hole kept end → AreKeys V sh mid.words kept
+  replaced : (e : ℕ) (p : Place) (kept : List Place) (end : Place) → IsWord e → IsPlace sh p → Stands V sh mid.words e (slot_number p) i → IsCut p path.places.items path.hole kept end → AreKeys V sh mid.words kept
       → at ≡ moment mid.words + 2 → Replaced e p kept end
-  replaced e p kept end words word place stands cut keys is =
+  replaced e p kept end word place stands cut keys is =
       let sweeping = on.sweeping in
       let waits = sweeping.waits in
       let same = (swept_still V sh s rs).words in
       let quiet = sweep_quiet V sh s rs waits.known.quiet b.checked.sound (hands_may V (record b { hand = on.before }) waiting call s rs sweeping) in
       let cleared = swept_cleared V sh s sh.items s.hand rs i sweeping.has.sweeps on.found in
-      let can : CanReplace V sh mid.words waiting.key i e p waiting.path.places.items waiting.path.hole kept end = record {
+      let can : CanReplace V sh mid.words waiting.key i e p path.places.items path.hole kept end = record {
         absent = subst (λ (w : List ℕ). IsAbsent V sh w waiting.key) (sym same) waits.absent;
         victim = place;
         stands = stands;
-        chain = subst (λ (w : List ℕ). IsChain sh w waiting.key waiting.path.places.items waiting.path.hole) (sym same) waits.least.chain;
+        chain = subst (λ (w : List ℕ). IsChain sh w waiting.key path.places.items path.hole) (sym same) waits.least.chain;
         cut = cut;
         keys = keys;
       } in
       let next = next_word V (record b { hand = on.before }) s at waits.known (omega (arith, is, ap moment same)) in
-      let law = evictions_room V sh mid waiting.key waiting.value at i e p waiting.path.places.items waiting.path.hole kept end b.checked.sound sweeping.key word (sweeping.wide, words) next quiet cleared can is in
+      let law = evictions_room V sh mid waiting.key waiting.value at i e p path.places.items path.hole kept end b.checked.sound waits.key word waits.value next quiet cleared can is in
       record { makes = law.0; stands = law.1; named = law.2 }
 
   -- the books after it
-  replaced_books : (e : ℕ) (p : Place) (kept : List Place) (end : Place) (changes : ℕ) → Replaced e p kept end → length kept ≤ length waiting.path.places.items → changes ≡ b.version_steps + (2 * length kept + 4)
+  replaced_books : (e : ℕ) (p : Place) (kept : List Place) (end : Place) (changes : ℕ) → Replaced e p kept end → length kept ≤ length path.places.items → changes ≡ b.version_steps + (2 * length kept + 4)
       → AreBooksOf V (record b { version_steps = changes }) (state_after_acts V sh mid (acts_for e p kept end))
   replaced_books e p kept end changes r few is =
       let sweeping = on.sweeping in
@@ -180,12 +185,12 @@ module _ (V : ℕ) (b : Books) (waiting : Waiting V) (call : Call) (s : State V)
       }
 
   -- what its answer means
-  replaced_means : (e : ℕ) (p : Place) (kept : List Place) (end : Place) → Replaced e p kept end → length kept ≤ length waiting.path.places.items → Stands V sh mid.words e (slot_number p) i → at ≡ moment mid.words + 2
+  replaced_means : (e : ℕ) (p : Place) (kept : List Place) (end : Place) → Replaced e p kept end → length kept ≤ length path.places.items → Stands V sh mid.words e (slot_number p) i → at ≡ moment mid.words + 2
       → means.Replaces V sh (quiet_of s) (quiet_of (state_after_acts V sh mid (acts_for e p kept end))) waiting.key waiting.value at (length kept) e
   replaced_means e p kept end r few stands is =
       let waits = on.sweeping.waits in
       let still = swept_still V sh s rs in
-      let needs = needs_item V (record b { hand = on.before }) s waiting.key waiting.path waits.known waits.unspent waits.absent waits.least waits.none in
+      let needs = needs_item V (record b { hand = on.before }) s waiting.key path waits.known waits.unspent waits.absent waits.least waits.none in
       let grown = r.makes.history ∙ ap (λ (h : List (Change V)). h ++ Evict e ∷ Put waiting.key waiting.value ∷ []) still.history in
       record {
         needs = needs.0;
@@ -195,13 +200,13 @@ module _ (V : ℕ) (b : Books) (waiting : Waiting V) (call : Call) (s : State V)
         moment = two_more V sh s (state_after_acts V sh mid (acts_for e p kept end)) at (Evict e) (Put waiting.key waiting.value) waits.known.quiet grown (is ∙ ap (λ (w : List ℕ). moment w + 2) still.words);
       }
 
-  pub replaced_planned : (e : ℕ) (p : Place) (kept : List Place) (end : Place) (changes : ℕ) → All IsWord waiting.value → IsWord e → IsPlace sh p → Stands V sh mid.words e (slot_number p) i → IsCut p waiting.path.places.items waiting.path.hole kept end → AreKeys V sh mid.words kept
+  pub replaced_planned : (e : ℕ) (p : Place) (kept : List Place) (end : Place) (changes : ℕ) → IsWord e → IsPlace sh p → Stands V sh mid.words e (slot_number p) i → IsCut p path.places.items path.hole kept end → AreKeys V sh mid.words kept
       → at ≡ moment mid.words + 2 → changes ≡ b.version_steps + (2 * length kept + 4)
       → IsPlanned V (record b { version_steps = changes }) (acts_for e p kept end ++ Mark i ∷ []) call s mid (answer.Put (Ok (put.Stored at (length kept) (Some e)))) × IsSweepOf V sh s rs (answer.Put (Ok (put.Stored at (length kept) (Some e))))
-  replaced_planned e p kept end changes words word place stands cut keys is counts =
+  replaced_planned e p kept end changes word place stands cut keys is counts =
       let sweeping = on.sweeping in
-      let few = cut_few p waiting.path.places.items waiting.path.hole kept end cut in
-      let r = replaced e p kept end words word place stands cut keys is in
+      let few = cut_few p path.places.items path.hole kept end cut in
+      let r = replaced e p kept end word place stands cut keys is in
       let t = state_after_acts V sh mid (acts_for e p kept end) in
       let below = (victim_stands V b waiting call s rs i on).0 in
       let walk = marked V sh mid (acts_for e p kept end) (Evict e ∷ Put waiting.key waiting.value ∷ []) (2 * length kept + 4) i r.makes below in

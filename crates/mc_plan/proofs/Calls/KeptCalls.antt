@@ -4,7 +4,8 @@ use Rattle.mc_words.specs.Checks.{shape_of}
 use Rattle.mc_words.specs.declared.shape.Shape.{Shape}
 use Rattle.mc_theory.specs.States.{State}
 use Rattle.mc_theory.specs.declared.act.Act.{Act}
-use Rattle.mc_search.specs.declared.path.Path.{Path}
+use Rattle.mc_search.specs.Paths.{path_of_room}
+use Rattle.mc_search.specs.declared.room.Room.{Room}
 use Rattle.mc_plan.specs.declared.answer.Answer.TheVariants as answer
 use Rattle.mc_plan.specs.declared.answer.Put.{Put}
 use Rattle.mc_plan.specs.declared.answer.Put.TheVariants.{Stored, Renewed}
@@ -42,7 +43,7 @@ kept_planned V b plan k v s told swept p = record {
 }
 
 -- and one that would wait for an item is refused
-pub refused_item : (V : ℕ) (b : Books) (k : ℕ) (v : List ℕ) (s : State V) (path : Path) → Waits V b k s path → IsPlanned V b [] (KeptCall k v) s s (answer.Kept (Err left.NoItem))
-refused_item V b k v s path waits =
-    let needs = needs_item V b s k path waits.known waits.unspent waits.absent waits.least waits.none in
+pub refused_item : (V : ℕ) (b : Books) (k : ℕ) (v : List ℕ) (s : State V) (room : Room) → Waits V b k v s room → IsPlanned V b [] (KeptCall k v) s s (answer.Kept (Err left.NoItem))
+refused_item V b k v s room waits =
+    let needs = needs_item V b s k (path_of_room b.path room) waits.known waits.unspent waits.absent waits.least waits.none in
     idle_planned V b (KeptCall k v) s (answer.Kept (Err left.NoItem)) waits.known (record { needs = needs.0; unchanged = refl }) tt

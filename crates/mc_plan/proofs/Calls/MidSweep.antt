@@ -14,7 +14,7 @@ use Rattle.mc_plan.specs.declared.books.Books.{Books}
 use Rattle.mc_plan.specs.declared.clerk.Clerk.{Clerk}
 use Rattle.mc_plan.specs.declared.clerk.Stage.{Stage}
 use Rattle.mc_plan.specs.declared.clerk.Stage.TheVariants.{Sweeping}
-use Rattle.mc_search.specs.declared.path.Path.{Path}
+use Rattle.mc_search.specs.declared.room.Room.{Room}
 use Rattle.mc_search.specs.declared.sweep.Sweep.{Sweep}
 use Rattle.mc_plan.specs.declared.waiting.Waiting.{Waiting}
 use Rattle.mc_plan.specs.WholeCalls.{Call, state_after_sweep}
@@ -26,12 +26,12 @@ use Rattle.mc_plan.proofs.Puts.NamedItems.{full_has_none}
 use Rattle.mc_plan.proofs.Calls.SweptStates.{hand_acts_then, hand_next, sweep_allowed, swept_still}
 
 -- no item is free
-none_free : (V : ℕ) (b : Books) (k : ℕ) (s : State V) (path : Path) → Waits V b k s path → HasFree (shape_of b.checked) s.words → ⊥
-none_free V b k s path waits = full_has_none (shape_of b.checked) s.words (λ i l. waits.known.named i l (waits.none i))
+none_free : (V : ℕ) (b : Books) (k : ℕ) (v : List ℕ) (s : State V) (room : Room) → Waits V b k v s room → HasFree (shape_of b.checked) s.words → ⊥
+none_free V b k v s room waits = full_has_none (shape_of b.checked) s.words (λ i l. waits.known.named i l (waits.none i))
 
 module _ (V : ℕ) (b : Books) (waiting : Waiting V) (call : Call) (s : State V) (rs : List Swept) (on : IsSweeping V b waiting call s rs) where
   full : HasFree (shape_of b.checked) s.words → ⊥
-  full = none_free V b waiting.key s waiting.path on.waits
+  full = none_free V b waiting.key waiting.value s waiting.room on.waits
 
   -- the readings are allowed one after the other
   pub hands_may : AreAllowed (shape_of b.checked) s (hand_acts rs)
@@ -55,7 +55,7 @@ module _ (V : ℕ) (b : Books) (waiting : Waiting V) (call : Call) (s : State V)
 
   -- a sweep with other readings
   pub sweep_on : (sweep : Sweep) (qs : List Swept) → HasSwept sweep (shape_of b.checked).items s.hand qs → IsSweeping V b (record waiting { sweep = sweep }) call s qs
-  sweep_on sweep qs has = record { waits = on.waits; called = on.called; key = on.key; wide = on.wide; has = has }
+  sweep_on sweep qs has = record { waits = on.waits; called = on.called; has = has }
 
 -- a sweep that has read nothing has an item to read
 starts : (sweep : Sweep) (items hand : ℕ) → HasSwept sweep items hand [] → IsSome (next_item sweep)

@@ -16,7 +16,7 @@ use Rattle.mc_plan.specs.Calls.{why_of}
 use Rattle.mc_plan.specs.declared.clerk.Clerk.{Clerk}
 use Rattle.mc_plan.specs.declared.clerk.Stage.{Stage}
 use Rattle.mc_plan.specs.declared.clerk.Stage.TheVariants.{Sweeping}
-use Rattle.mc_plan.specs.declared.decision.Replacement.{Replacement}
+use Rattle.mc_plan.specs.declared.decision.Victim.{Victim}
 use Rattle.mc_plan.specs.declared.waiting.Start.{Start}
 use Rattle.mc_plan.specs.declared.waiting.Start.TheVariants as start
 use Rattle.mc_plan.specs.declared.waiting.Waiting.{Waiting}
@@ -34,7 +34,7 @@ kept_told (Err refusal) = Err (why_of refusal)
 -- how a put starts: it is planned, or it waits for an item
 abbrev pub IsStarted : (V : ℕ) → Books → List Act → ℕ → List ℕ → State V → Start → Type 0
 IsStarted V books plan k v s (start.Planned told) = (IsPlanned V books plan (PutCall k v) s s (answer.Put told)) × IsSweepOf V (shape_of books.checked) s [] (answer.Put told)
-IsStarted V books plan k v s (start.Waits path) = (plan ≡ []) × Waits V books k s path
+IsStarted V books plan k v s (start.Waits room) = (plan ≡ []) × Waits V books k v s room
 
 -- its sweep has found an item, and the books know where the hand stands now
 pub record IsReplacing (V : ℕ) (books : Books) (waiting : Waiting V) (call : Call) (s : State V) (rs : List Swept) (item : ℕ) : Type 0 where
@@ -44,11 +44,11 @@ pub record IsReplacing (V : ℕ) (books : Books) (waiting : Waiting V) (call : C
   pub stands : books.hand ≡ waiting.sweep.hand
 
 -- the key stands at the item, in this slot, and has these parts
-pub record IsVictim (V : ℕ) (books : Books) (s : State V) (item : ℕ) (r : Replacement) : Type 0 where
-  pub word : IsWord r.evicted
-  pub parts : HasParts (shape_of books.checked) r.evicted r.parts
-  pub place : IsPlace (shape_of books.checked) r.victim
-  pub stands : Stands V (shape_of books.checked) s.words r.evicted (slot_number r.victim) item
+pub record IsVictim (V : ℕ) (books : Books) (s : State V) (item : ℕ) (r : Victim) : Type 0 where
+  pub word : IsWord r.key
+  pub parts : HasParts (shape_of books.checked) r.key r.parts
+  pub place : IsPlace (shape_of books.checked) r.place
+  pub stands : Stands V (shape_of books.checked) s.words r.key (slot_number r.place) item
 
 -- the sweep of the call is over, and the rest of it is to be planned
 abbrev pub IsAtEnd : (V : ℕ) → Stage V → Books → List Act → ℕ → Call → State V → List Swept → Type 0

@@ -1,5 +1,4 @@
-use Rattle.mc_plan.specs.declared.decision.Storing.{Storing}
-use Rattle.std.proofs.Common.{List, [], None, Ok, refl, sym, subst}
+use Rattle.std.proofs.Common.{arith, length, Err, List, [], None, Ok, ◌∙◌, ap, refl, sym, subst}
 use Rattle.mc_words.specs.Checks.{shape_of}
 use Rattle.mc_theory.specs.declared.act.Act.{Act}
 use Rattle.mc_plan.specs.WholeCalls.{IsSweepOf, PutCall}
@@ -7,20 +6,44 @@ use Rattle.mc_plan.specs.Books.{IsPlanned}
 use Rattle.mc_plan.specs.Decisions.{storing_acts, storing_told}
 use Rattle.mc_plan.specs.declared.answer.Answer.TheVariants as answer
 use Rattle.mc_plan.specs.declared.answer.Put.{Put}
+use Rattle.mc_plan.specs.declared.answer.PutError.TheVariants as why
 use Rattle.mc_plan.proofs.Deeds.Values.{plan_is}
 use Rattle.mc_plan.proofs.listing.start_insert.Goals as goal
 
-pub returns-in-Store-clause-started : goal.returns-in-Store-clause-started
-returns-in-Store-clause-started g c s lacks same =
+pub insert-requires : goal.insert-requires
+insert-requires g c =
+    let r = c.requires.books in
+    let v = c.args.value.now in
+    record { room = (c.args.key, v, r.0, c.in-Some.ensures.room c.args.key c.args.at v r.0 r.1 c.requires.parts r.2, ap g.P.Peek.words c.room.ensures.kept ∙ r.2) }
+
+pub returns-in-Some-insert-clause-started : goal.returns-in-Some-insert-clause-started
+returns-in-Some-insert-clause-started g c s lacks same =
     let V = g.row.V in
     let b = c.insert.new.self in
     let call = PutCall c.args.key c.args.value.now in
-    let list = storing_acts (shape_of b.checked) c.args.key c.args.value.now c.decided-storing.result.now in
-    let inserted = c.in-Store.ensures.inserted s lacks same in
-    let decided : IsPlanned V b list call s s (answer.Put (Ok (storing_told c.decided-storing.result.now None))) =
-    subst (λ (d : Storing). IsPlanned V b (storing_acts (shape_of b.checked) c.args.key c.args.value.now d) call s s (answer.Put (Ok (storing_told d None)))) (sym c.decided-storing.ensures) inserted.1 in
+    let storing = c.in-Some-insert.storing in
+    let told = answer.Put (Ok (storing_told b.moves.items storing None)) in
+    let inserted = c.in-Some-insert.ensures.inserted c.args.key c.args.value.now s (c.in-Some.ensures.room c.args.key c.args.at c.args.value.now s lacks c.requires.parts same) (ap g.P.Peek.words c.room.ensures.kept ∙ same) in
     let acts = plan_is _ _ _ c.add_storing.ensures.items c.requires.plan in (
       subst (λ (xs : List Act). IsPlanned V b xs call s s (answer.Put (Ok c.told.result))) (sym acts)
-          (subst (λ (told : Put). IsPlanned V b list call s s (answer.Put (Ok told))) (sym c.told.ensures) decided),
-      subst (λ (told : Put). IsSweepOf V (shape_of b.checked) s [] (answer.Put (Ok told))) (sym c.told.ensures) refl,
+          (subst (λ (x : Put). IsPlanned V b (storing_acts b.moves.items (shape_of b.checked) c.args.key c.args.value.now storing) call s s (answer.Put (Ok x))) (sym c.told.ensures) inserted.1),
+      subst (λ (x : Put). IsSweepOf V (shape_of b.checked) s [] (answer.Put (Ok x))) (sym c.told.ensures) refl,
     )
+
+pub returns-in-None-clause-started : goal.returns-in-None-clause-started
+returns-in-None-clause-started g c s lacks same =
+    let v = c.args.value.now in
+    (c.requires.plan, c.in-None.ensures.inserted c.args.key v s (c.in-Some.ensures.room c.args.key c.args.at v s lacks c.requires.parts same) (ap g.P.Peek.words c.room.ensures.kept ∙ same))
+
+pub returns-in_default-clause-started : goal.returns-in_default-clause-started
+returns-in_default-clause-started g c s lacks same =
+    let planned = c.in_default.ensures.room c.args.key c.args.at c.args.value.now s lacks c.requires.parts same in
+    (subst (λ (xs : List Act). IsPlanned g.row.V c.room.new.self xs (PutCall c.args.key c.args.value.now) s s (answer.Put (Err why.NoPath))) (sym c.requires.plan) planned, refl)
+
+pub add_storing-requires : goal.add_storing-requires
+add_storing-requires g c =
+    let r = c.requires.books in
+    let v = c.args.value.now in
+    let inserted = c.in-Some-insert.ensures.inserted c.args.key v r.0 (c.in-Some.ensures.room c.args.key c.args.at v r.0 r.1 c.requires.parts r.2) (ap g.P.Peek.words c.room.ensures.kept ∙ r.2) in
+    let width = r.1.known.width in
+    (omega (arith, width.most), (width, (omega (arith, ap length c.requires.plan), inserted.0)))

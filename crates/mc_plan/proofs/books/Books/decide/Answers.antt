@@ -1,19 +1,19 @@
-use Rattle.std.proofs.Common.{ℕ, List, Err, ◌≡◌, ◌+◌, ◌-◌, ◌∙◌, ap, arith, refl, subst}
+use Rattle.std.proofs.Common.{All, ℕ, List, Err, ◌≡◌, ◌+◌, ◌-◌, ◌∙◌, ap, arith, refl, subst}
 use Rattle.std.proofs.lemmas.Bool.{false≢true}
 use Rattle.mc_words.specs.declared.shape.Shape.{Shape}
 use Rattle.mc_words.specs.Answers.{PutIsSpent}
 use Rattle.mc_words.specs.Checks.{shape_of}
+use Rattle.mc_words.specs.History.{IsWord}
 use Rattle.mc_words.specs.Places.{slot_number}
 use Rattle.mc_words.specs.Standing.{Stands, IsAbsent}
 use Rattle.mc_theory.specs.States.{State}
 use Rattle.mc_plan.specs.WholeCalls.{PutCall, quiet_of}
-use Rattle.mc_plan.specs.Books.{AreBooksOf}
-use Rattle.mc_plan.specs.Deciding.{IsLackingKey}
+use Rattle.mc_plan.specs.Books.{AreBooksOf, IsLackingKey}
 use Rattle.mc_plan.specs.declared.answer.Answer.TheVariants as answer
 use Rattle.mc_plan.specs.declared.answer.PutError.TheVariants as why
 use Rattle.mc_plan.proofs.Calls.AfterPlan.{idle_planned, renewal_planned, placed_in, moment_in}
 use Rattle.mc_plan.proofs.books.Books.decide.Goals as goal
-use Rattle.mc_plan.proofs.books.Books.decide.Goals.{Else-is_spent}
+use Rattle.mc_plan.proofs.books.Books.decide.Goals.{After-have_words, Else-is_spent}
 use Rattle.mc_plan.proofs.books.Books.decide.Given.{Over}
 
 pub returns-then-is_spent-clause-decided : goal.returns-then-is_spent-clause-decided
@@ -21,6 +21,10 @@ returns-then-is_spent-clause-decided g c s old same =
     let b = c.args.self.now in
     let spent : PutIsSpent (shape_of b.checked) (quiet_of s) = omega (arith, c.if-is_spent.ensures.0 refl, c.from.ensures, ap (λ (x : Shape). x.depth) c.shape.ensures, old.version_steps) in
     (idle_planned g.row.V b (PutCall c.args.key c.args.value.now) s (answer.Put (Err why.Spent)) old (spent, refl) tt, refl)
+
+-- the words of the value have 64 bits each
+words : (g : Over) (c : After-have_words g) → All IsWord c.args.value.now
+words g c = subst (λ (x : List ℕ). All IsWord x) c.as_slice.ensures c.have_words.ensures
 
 -- the limit is far enough
 unspent : (g : Over) (c : Else-is_spent g) (s : State g.row.V) → AreBooksOf g.row.V c.args.self.now s → PutIsSpent (shape_of c.args.self.now.checked) (quiet_of s) → ⊥
@@ -39,7 +43,7 @@ returns-in-Some-clause-decided g c s old same =
     let stands = subst (λ (x : List ℕ). Stands V (shape_of b.checked) x c.args.key q c.in-Some.item) (ap g.P.Peek.words c.moment-at.ensures.kept ∙ same) c.in-Some.ensures.found in
     let not_spent = unspent g (goal.at.returns-in-Some-clause-decided g c).Else-is_spent s old in
     let at = moment_in V b s (g.P.Peek.words c.args.peek.now) old same (c.moment-at.result + 1) (ap (λ (n : ℕ). n + 1) c.moment-at.ensures.value) in
-    renewal_planned V b c.args.key c.args.value.now c.in-Some.item (c.moment-at.result + 1) s q b.checked.sound (omega arith) (c.told-value, c.have_words.ensures.words) old stands not_spent (omega (arith, not_spent)) at
+    renewal_planned V b c.args.key c.args.value.now c.in-Some.item (c.moment-at.result + 1) s q b.checked.sound (omega arith) (c.told-value, words g (goal.at.returns-in-Some-clause-decided g c).After-have_words) old stands not_spent (omega (arith, not_spent)) at
 
 pub returns-in-None-clause-decided : goal.returns-in-None-clause-decided
 returns-in-None-clause-decided g c s old same =
@@ -47,8 +51,10 @@ returns-in-None-clause-decided g c s old same =
     let b = c.args.self.now in
     let absent = subst (λ (x : List ℕ). IsAbsent V (shape_of b.checked) x c.args.key) (ap g.P.Peek.words c.moment-at.ensures.kept ∙ same) c.in-None.ensures.none in
     let taken_back : b.version_steps ≡ b.version_steps + 2 - 2 = omega arith in
-    subst (λ (n : ℕ). IsLackingKey V (record b { version_steps = n }) c.args.key s (c.moment-at.result + 1)) taken_back (record {
+    subst (λ (n : ℕ). IsLackingKey V (record b { version_steps = n }) c.args.key c.args.value.now s (c.moment-at.result + 1)) taken_back (record {
       known = old;
+      key = omega arith;
+      value = (c.told-value, words g (goal.at.returns-in-None-clause-decided g c).After-have_words);
       unspent = unspent g (goal.at.returns-in-None-clause-decided g c).Else-is_spent s old;
       absent = absent;
       next = moment_in V b s (g.P.Peek.words c.args.peek.now) old same (c.moment-at.result + 1) (ap (λ (n : ℕ). n + 1) c.moment-at.ensures.value);

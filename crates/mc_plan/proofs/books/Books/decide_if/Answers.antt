@@ -1,7 +1,8 @@
-use Rattle.std.proofs.Common.{ℕ, List, ◌≡◌, ◌+◌, ◌∙◌, ap, arith, subst, sym}
+use Rattle.std.proofs.Common.{All, ℕ, List, ◌≡◌, ◌+◌, ◌∙◌, ap, arith, subst, sym}
 use Rattle.std.proofs.lemmas.Bool.{false≢true}
 use Rattle.mc_words.specs.Answers.{RenewalIsSpent}
 use Rattle.mc_words.specs.Checks.{shape_of}
+use Rattle.mc_words.specs.History.{IsWord}
 use Rattle.mc_words.specs.Places.{item, moment, payload, slot_number}
 use Rattle.mc_words.specs.Standing.{Stands, IsAbsent}
 use Rattle.mc_theory.specs.States.{State}
@@ -10,15 +11,19 @@ use Rattle.mc_plan.specs.Books.{AreBooksOf}
 use Rattle.mc_plan.proofs.Calls.AfterPlan.{placed_in, moment_in}
 use Rattle.mc_plan.proofs.Calls.IfCalls.{absent_planned, changed_planned, if_renewal_planned}
 use Rattle.mc_plan.proofs.books.Books.decide_if.Goals as goal
-use Rattle.mc_plan.proofs.books.Books.decide_if.Goals.{After-stamp_at-stands, Else-is_spent}
+use Rattle.mc_plan.proofs.books.Books.decide_if.Goals.{After-have_words, After-stamp_at-stands, Else-is_spent}
 use Rattle.mc_plan.proofs.books.Books.decide_if.Given.{Over}
+
+-- the words of the value have 64 bits each
+words : (g : Over) (c : After-have_words g) → All IsWord c.args.value.now
+words g c = subst (λ (x : List ℕ). All IsWord x) c.as_slice.ensures c.have_words.ensures
 
 -- the limit is far enough
 unspent : (g : Over) (c : Else-is_spent g) (s : State g.row.V) → AreBooksOf g.row.V c.args.self.now s → RenewalIsSpent (shape_of c.args.self.now.checked) (quiet_of s) → ⊥
 unspent g c s old spent = false≢true (c.if-is_spent.ensures.1 (omega (arith, spent, old.version_steps)))
 
-pub find-requires-clause-placed : goal.find-requires-clause-placed
-find-requires-clause-placed g c =
+pub find_by-requires-clause-placed : goal.find_by-requires-clause-placed
+find_by-requires-clause-placed g c =
     placed_in g.row.V c.args.self.now c.requires.books.0 _ c.requires.books.1 (ap g.P.Peek.words c.moment-now.ensures.kept ∙ c.requires.books.2) c.args.key
 
 -- the key stands at the item, whose stamp was read
@@ -31,7 +36,7 @@ found g c s same =
     let V = g.row.V in
     let sh = shape_of c.args.self.now.checked in
     let read = ap g.P.Peek.words c.moment-now.ensures.kept ∙ same in
-    let there = ap g.P.Peek.words c.find.ensures.kept ∙ read in
+    let there = ap g.P.Peek.words c.find_by.ensures.kept ∙ read in
     record {
       stands = subst (λ (x : List ℕ). Stands V sh x c.args.key (slot_number c.in-Some.field-0-0) c.in-Some.item) read c.in-Some.ensures.found;
       stamp = sym (c.stamp_at-stands.ensures.value ∙ ap (λ (x : List ℕ). item V sh x c.in-Some.item (payload V)) there);
@@ -60,4 +65,4 @@ returns-clause-decided g c s old same =
     let there = found g at.After-stamp_at-stands s same in
     let not_spent = unspent g at.Else-is_spent s old in
     let next = moment_in V b s (g.P.Peek.words c.args.peek.now) old same (c.moment-now.result + 1) (ap (λ (n : ℕ). n + 1) c.moment-now.ensures.value) in
-    if_renewal_planned V b c.args.key c.args.since c.args.value.now s old (slot_number c.in-Some.field-0-0) c.in-Some.item (c.moment-now.result + 1) b.checked.sound (omega arith) (c.told-value, c.have_words.ensures.words) not_spent there.stands (there.stamp ∙ c.if-stands-since.false) next
+    if_renewal_planned V b c.args.key c.args.since c.args.value.now s old (slot_number c.in-Some.field-0-0) c.in-Some.item (c.moment-now.result + 1) b.checked.sound (omega arith) (c.told-value, words g (goal.at.returns-clause-decided g c).After-have_words) not_spent there.stands (there.stamp ∙ c.if-stands-since.false) next

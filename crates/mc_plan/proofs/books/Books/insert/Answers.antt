@@ -1,7 +1,61 @@
-use Rattle.std.proofs.Common.{refl}
-use Rattle.mc_plan.proofs.Calls.AfterPlan.{no_path}
+use Rattle.std.proofs.Common.{ℕ, List, Some, ◌∙◌, ap, sym, subst}
+use Rattle.mc_words.specs.Checks.{shape_of}
+use Rattle.mc_search.specs.Free.{IsFreeIn, TakesFree}
+use Rattle.mc_search.specs.Paths.{path_of_room}
+use Rattle.mc_plan.specs.Books.{Waits}
+use Rattle.mc_plan.specs.Deciding.{IsInserted}
+use Rattle.mc_plan.specs.Moves.{AreTaken, AreKeys}
+use Rattle.mc_plan.specs.Plans.{moves_acts}
+use Rattle.mc_plan.specs.declared.books.Books.{Books}
+use Rattle.mc_plan.proofs.Calls.AfterPlan.{books_still, filled_in}
+use Rattle.mc_plan.proofs.Calls.StoredKeys.{stored_by}
+use Rattle.mc_plan.proofs.Puts.PathSteps.{chain_taken}
 use Rattle.mc_plan.proofs.books.Books.insert.Goals as goal
 
 pub returns-in_default-clause-inserted : goal.returns-in_default-clause-inserted
-returns-in_default-clause-inserted g c s lacks same =
-    (no_path g.row.V c.args.self.now s (g.P.Peek.words c.args.peek.now) c.args.key c.args.at c.args.value.now c.path.new.self lacks same c.path.ensures.finder c.in_default.ensures.none, refl)
+returns-in_default-clause-inserted g c k v s has same =
+    let V = g.row.V in
+    let b = c.args.self.now in
+    let lacks = has.lacks in
+    let free = c.take_least.new.self in
+    let waits : Waits V (record b { free = free }) k v s c.args.room = record {
+      known = books_still V b s free lacks.known c.take_least.ensures.kept c.take_least.ensures.items c.in_default.ensures.none c.in_default.ensures.same;
+      key = lacks.key;
+      value = lacks.value;
+      unspent = lacks.unspent;
+      absent = lacks.absent;
+      least = has.least;
+      none = c.in_default.ensures.same;
+    } in
+    waits
+
+pub store-requires-clause-filled : goal.store-requires-clause-filled
+store-requires-clause-filled g c =
+    let r = c.requires.room in
+    filled_in g.row.V c.args.self.now r.2 _ r.3.lacks.known r.4
+
+pub store-requires-clause-taken : goal.store-requires-clause-taken
+store-requires-clause-taken g c =
+    let b = c.args.self.now in
+    let r = c.requires.room in
+    let path = path_of_room b.path c.args.room in
+    subst (λ (x : List ℕ). AreTaken (shape_of b.checked) x path.places.items) (sym r.4) (chain_taken (shape_of b.checked) r.2.words r.0 path.places.items path.hole r.3.least.chain)
+
+pub returns-clause-inserted : goal.returns-clause-inserted
+returns-clause-inserted g c k v s has same =
+    let V = g.row.V in
+    let b = c.args.self.now in
+    let sh = shape_of b.checked in
+    let path = path_of_room b.path c.args.room in
+    let ps = path.places.items in
+    let free = c.take_least.new.self in
+    let stored = c.store.ensures in
+    let storing = c.store.result in
+    let here = sym stored.item in
+    let keys = subst (λ (x : List ℕ). AreKeys V sh x ps) same stored.keys in
+    let was = subst (λ (i : ℕ). IsFreeIn b.free i) here c.in-Some.ensures.free in
+    let takes = subst (λ (i : ℕ). TakesFree b.free free i) here c.in-Some.ensures.takes in
+    let moves = stored.moves ∙ ap (λ (x : List ℕ). moves_acts V sh x ps path.hole) same in
+    let other : Books = record b { free = free; moves = c.store.new.self.moves } in
+    let done = stored_by V b other k v c.args.at c.args.room s storing has keys stored.at was c.take_least.ensures.kept c.take_least.ensures.items takes moves stored.place stored.many in
+    subst (λ (x : Books). IsInserted V x k v s c.args.room (Some storing)) (sym stored.books) done

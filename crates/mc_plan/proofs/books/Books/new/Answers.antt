@@ -6,6 +6,6 @@ use Rattle.mc_plan.proofs.books.Books.new.Goals as goal
 
 pub returns-clause-books : goal.returns-clause-books
 returns-clause-books c V width =
-    let b : Books = record { checked = c.args.checked.now; finder = c.in_ok-finder.finder; free = c.in_ok-free.free; hand = 0; version_steps = 0; decided = c.none.result } in
+    let b : Books = record { checked = c.args.checked.now; finder = c.in_ok-finder.finder; free = c.in_ok-free.free; hand = 0; version_steps = 0; path = c.direct.result; moves = c.new-3.result } in
     let same : c.shape.result.items ≡ c.args.checked.now.shape.items = ap (λ (x : Shape). x.items) c.shape.ensures in
     new_books V b width c.in_ok-finder.ensures refl refl c.in_ok-free.ensures.kept (c.in_ok-free.ensures.items ∙ same) (λ i l. c.in_ok-free.ensures.all i (omega (arith, same)))

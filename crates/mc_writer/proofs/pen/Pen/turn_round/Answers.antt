@@ -1,21 +1,26 @@
-use Rattle.std.proofs.Common.{rules, arith, ◌≡◌, ◌∙◌, subst, sym}
+use Rattle.std.proofs.Common.{rules, arith, ◌≡◌, ◌∙◌, append-nil, refl, subst, sym}
 use Rattle.mc_words.specs.Places.{word_count}
 use Rattle.mc_words.specs.declared.shape.Shape.{Shape}
+use Rattle.mc_shared.proofs.GrownNotes.{grow_self}
 use Rattle.mc_writer.proofs.Pens.{same_then, shape_kept}
 use Rattle.mc_writer.proofs.pen.Pen.turn_round.Goals as goal
 
 pub turn_hand-requires : goal.turn_hand-requires
 turn_hand-requires g c =
-    let r = c.requires.turned in
-    (omega arith, (search rules, ((subst (λ (sh : Shape). c.recency_start-start.result ≡ word_count g.row.V sh) (sym (shape_kept c.loop-i.invariant.same)) c.recency_start-start.ensures.value, c.recency_start-start.ensures.small), (c.requires.shape ∙ sym (shape_kept c.loop-i.invariant.same), (sym c.next.ensures.value ∙ c.in-Some.is, (r.0, r.1, c.loop-i.invariant.turned r.0 r.1 r.2))))))
+    let r = c.requires.sweeping in
+    let there = sym (shape_kept c.loop-i.invariant.same) in
+    (omega arith, (search rules, ((subst (λ (sh : Shape). c.recency_start-start.result ≡ word_count g.row.V sh) there c.recency_start-start.ensures.value, c.recency_start-start.ensures.small), (c.requires.shape ∙ there, (sym c.next.ensures.value ∙ c.in-Some.is, (r.0, c.args.self.now, c.loop-i.invariant.turned r.0 r.1))))))
+
+pub loop-i-init : goal.loop-i-init
+loop-i-init g c = record {
+  same = record { cells = refl; seat = refl };
+  turned = λ call begun. record { readings = _; same = record { cells = refl; seat = refl }; of = refl; acts = sym (append-nil c.args.self.now.seat.now.acts); notes = grow_self c.args.self.now.seat.now.notes; sweeping = begun };
+}
 
 pub loop-i-preserved : goal.loop-i-preserved
 loop-i-preserved g c = record {
   same = same_then c.loop-i.invariant.same c.turn_hand.ensures.same;
-  turned = λ call before begun. c.turn_hand.ensures.turned call before (c.loop-i.invariant.turned call before begun);
-  key = c.turn_hand.ensures.key ∙ c.loop-i.invariant.key;
-  path = c.turn_hand.ensures.path ∙ c.loop-i.invariant.path;
-  value = c.turn_hand.ensures.value ∙ c.loop-i.invariant.value;
+  turned = λ call begun. c.turn_hand.ensures.turned call c.args.self.now (c.loop-i.invariant.turned call begun);
 }
 
 pub returns-clause-over : goal.returns-clause-over

@@ -1,0 +1,332 @@
+//! How a key that is not there is put: where it finds room, by three steps of which each is dearer than the one before, how it is stored
+//! there, and whose item it takes once a sweep is over.
+ghost use Rattle.std.specs.Prelude.{ℕ, ◌≡◌, ◌+◌, ◌*◌, ◌^◌, ◌<◌, ◌≤◌, [], ◌∷◌, List, MatchOption, length};
+ghost use Rattle.mc_words.specs.Chains.{IsOccupied};
+ghost use Rattle.mc_words.specs.Checks.{shape_of};
+ghost use Rattle.mc_words.specs.KeyParts.{HasParts};
+ghost use Rattle.mc_words.specs.Places.{IsWidth, word_count};
+ghost use Rattle.mc_theory.specs.States.{State};
+ghost use Rattle.mc_plan.specs.Decisions.{acts_of_moves};
+ghost use Rattle.mc_plan.specs.Moves.{AreKeys, AreTaken};
+ghost use Rattle.mc_plan.specs.Plans.{moves_acts};
+ghost use Rattle.mc_search.specs.Paths.{first_place, path_of_room};
+ghost use Rattle.mc_search.specs.Readable.{IsFilled};
+
+use crate::answer::{Put, PutError};
+use crate::books::Books;
+use crate::decision::{Move, Moves, Replacement, Storing, Victim};
+use crate::moves::path_moves;
+use crate::waiting::Waiting;
+use mc_search::{
+    OneMove, Room, find_hole, find_move, is_large, key_at, key_in, moment, place_of, slot_at,
+    touch_bucket,
+};
+use mc_theory::Peek;
+use mc_words::{Checked, KeyParts};
+
+// The one move that makes room.
+// Condition: the words reach as far as the shape says, each slot is empty or names an item, and the place is occupied.
+#[inline(always)]
+fn move_of<const V: usize, P: Peek>(checked: &Checked, peek: &mut P, one: OneMove) -> Move
+    requires width { IsWidth V }
+    requires words { word_count V (shape_of checked.now) ≤ length (P.words peek.old) }
+    requires filled { IsFilled (shape_of checked.now) (P.words peek.old) }
+    requires taken { IsOccupied (shape_of checked.now) (P.words peek.old) one.from }
+    ensures moves { acts_of_moves (result ∷ []) ≡ moves_acts V (shape_of checked.now) (P.words peek.old) (one.from ∷ []) one.hole }
+    ensures keys { AreKeys V (shape_of checked.now) (P.words peek.old) (one.from ∷ []) }
+    ensures kept { peek.new ≡ peek.old }
+{
+    let word = slot_at(checked, peek, one.from);
+    let key = key_in::<V, P>(checked, peek, word);
+    Move {
+        key,
+        word,
+        from: one.from,
+        to: one.hole,
+    }
+}
+
+// Where the key finds room.
+impl Books {
+    ghost use Rattle.mc_plan.specs.Books.{AreBooksOf, HasRoom, IsLackingKey};
+    ghost use Rattle.mc_plan.specs.Deciding.{IsCrowdedOut, IsWithoutPath};
+
+    /// Loads a word of each bucket in which the key of the item at the hand may stand, where the table is large and no item is free: the put is
+    /// likely to evict that key, and the processor waits for these words while it still waits for those of the put's own buckets.
+    #[inline(always)]
+    fn look_ahead<const V: usize, P: Peek>(&self, peek: &mut P)
+        requires books { (s : State V) × AreBooksOf V self.now s × (P.words peek.old ≡ s.words) }
+        ensures kept { peek.new ≡ peek.old }
+    {
+        if !is_large(&self.checked) || !self.free.is_empty() {
+            return;
+        }
+        let key = key_at::<V, P>(&self.checked, peek, self.hand);
+        let parts = self.checked.parts(key);
+        touch_bucket(&self.checked, peek, parts.first);
+        touch_bucket(&self.checked, peek, parts.second);
+    }
+
+    /// A hole in one of the key's two buckets.
+    /// Condition: `decide` has just answered `Insert` for the key, which has these parts.
+    #[inline(always)]
+    pub fn near<const V: usize, P: Peek>(&self, peek: &mut P, parts: KeyParts) -> Option<Room>
+        requires lacks { (k at : ℕ) × (v : List ℕ) × (s : State V) × IsLackingKey V self.now k v s at ×
+            HasParts (shape_of self.now.checked) k parts × (P.words peek.old ≡ s.words) }
+        ensures room { (k at : ℕ) (v : List ℕ) (s : State V) → IsLackingKey V self.now k v s at →
+            HasParts (shape_of self.now.checked) k parts → P.words peek.old ≡ s.words →
+            MatchOption result (IsCrowdedOut V self.now k v s at) (HasRoom V self.now k v s at) }
+        ensures kept { peek.new ≡ peek.old }
+    {
+        self.look_ahead::<V, P>(peek);
+        match find_hole(&self.checked, peek, parts) {
+            Some(hole) => Some(Room::Hole(hole)),
+            None => None,
+        }
+    }
+
+    /// One move, for a key whose two buckets are full.
+    /// Condition: `near` has just found no hole for the key, which has these parts.
+    #[inline(always)]
+    pub fn by_move<const V: usize, P: Peek>(&self, peek: &mut P, parts: KeyParts) -> Option<Room>
+        requires crowded { (k at : ℕ) × (v : List ℕ) × (s : State V) × IsCrowdedOut V self.now k v s at ×
+            HasParts (shape_of self.now.checked) k parts × (P.words peek.old ≡ s.words) }
+        ensures room { (k at : ℕ) (v : List ℕ) (s : State V) → IsCrowdedOut V self.now k v s at →
+            HasParts (shape_of self.now.checked) k parts → P.words peek.old ≡ s.words →
+            MatchOption result (IsCrowdedOut V self.now k v s at) (HasRoom V self.now k v s at) }
+        ensures kept { peek.new ≡ peek.old }
+    {
+        match find_move::<V, P>(&self.checked, peek, parts) {
+            Some(one) => Some(Room::Move(one)),
+            None => None,
+        }
+    }
+
+    /// A path of moves, for a key whose two buckets are full. `None`: the put is refused.
+    /// Condition: `near` has found no hole for the key, which has these parts.
+    pub fn by_path<const V: usize, P: Peek>(
+        &mut self,
+        peek: &mut P,
+        parts: KeyParts,
+    ) -> Option<Room>
+        requires crowded { (k at : ℕ) × (v : List ℕ) × (s : State V) × IsCrowdedOut V self.old k v s at ×
+            HasParts (shape_of self.old.checked) k parts × (P.words peek.old ≡ s.words) }
+        ensures room { (k at : ℕ) (v : List ℕ) (s : State V) → IsCrowdedOut V self.old k v s at →
+            HasParts (shape_of self.old.checked) k parts → P.words peek.old ≡ s.words →
+            MatchOption result (IsWithoutPath V self.new k v s) (HasRoom V self.new k v s at) }
+        ensures shape { self.new.checked ≡ self.old.checked }
+        ensures kept { peek.new ≡ peek.old }
+    {
+        if self.finder.far(peek, parts, &mut self.path) {
+            Some(Room::Path)
+        } else {
+            None
+        }
+    }
+
+    /// The first room of the three steps. `None`: the put is refused.
+    /// Condition: as for `near`.
+    pub fn room<const V: usize, P: Peek>(&mut self, peek: &mut P, parts: KeyParts) -> Option<Room>
+        requires lacks { (k at : ℕ) × (v : List ℕ) × (s : State V) × IsLackingKey V self.old k v s at ×
+            HasParts (shape_of self.old.checked) k parts × (P.words peek.old ≡ s.words) }
+        ensures room { (k at : ℕ) (v : List ℕ) (s : State V) → IsLackingKey V self.old k v s at →
+            HasParts (shape_of self.old.checked) k parts → P.words peek.old ≡ s.words →
+            MatchOption result (IsWithoutPath V self.new k v s) (HasRoom V self.new k v s at) }
+        ensures shape { self.new.checked ≡ self.old.checked }
+        ensures kept { peek.new ≡ peek.old }
+    {
+        if let Some(room) = self.near::<V, P>(peek, parts) {
+            return Some(room);
+        }
+        if let Some(room) = self.by_move::<V, P>(peek, parts) {
+            return Some(room);
+        }
+        self.by_path::<V, P>(peek, parts)
+    }
+}
+
+// How it is stored there.
+impl Books {
+    ghost use Rattle.mc_plan.specs.Books.{HasRoom};
+    ghost use Rattle.mc_plan.specs.Deciding.{IsInserted};
+    ghost use Rattle.mc_plan.specs.Decisions.{moves_of, storing_told};
+
+    /// The moves of the last key for which a path made room.
+    pub fn listed(&self) -> &[Move]
+        ensures moves { result.now ≡ self.now.moves.items }
+        ensures few { length result.now ≤ 8 }
+    {
+        self.moves.as_slice()
+    }
+
+    /// The answer of the put of a key that is stored so, with the key that was taken out for it.
+    /// Condition: it is the last key that was inserted.
+    #[inline(always)]
+    pub fn told(&self, storing: Storing, evicted: Option<u64>) -> Put
+        ensures { result ≡ storing_told self.now.moves.items storing evicted }
+    {
+        let moves = match storing.moves {
+            Moves::Unneeded => 0,
+            Moves::One(_) => 1,
+            Moves::Listed => self.moves.len() as u8,
+        };
+        Put::Stored {
+            at: storing.at,
+            moves,
+            evicted,
+        }
+    }
+
+    /// How a new key is stored that finds this room. Its version changes are counted.
+    #[inline(always)]
+    pub(crate) fn store<const V: usize, P: Peek>(
+        &mut self,
+        peek: &mut P,
+        room: Room,
+        item: u32,
+        at: u64,
+    ) -> Storing
+        requires width { IsWidth V }
+        requires words { word_count V (shape_of self.old.checked) ≤ length (P.words peek.old) }
+        requires filled { IsFilled (shape_of self.old.checked) (P.words peek.old) }
+        requires taken { AreTaken (shape_of self.old.checked) (P.words peek.old) (path_of_room self.old.path room).places.items }
+        requires room { self.old.version_steps < 2 ^ 63 }
+        ensures item { result.item ≡ item }
+        ensures at { result.at ≡ at }
+        ensures place { result.place ≡ first_place (path_of_room self.old.path room).places.items (path_of_room self.old.path room).hole }
+        ensures moves { acts_of_moves (moves_of self.new.moves.items result.moves) ≡
+            moves_acts V (shape_of self.old.checked) (P.words peek.old) (path_of_room self.old.path room).places.items (path_of_room self.old.path room).hole }
+        ensures many { length (moves_of self.new.moves.items result.moves) ≡ length (path_of_room self.old.path room).places.items }
+        ensures keys { AreKeys V (shape_of self.old.checked) (P.words peek.old) (path_of_room self.old.path room).places.items }
+        ensures books { self.new ≡ record self.old {
+          version_steps = self.old.version_steps + (2 * length (path_of_room self.old.path room).places.items + 2);
+          moves = self.new.moves;
+        } }
+        ensures kept { peek.new ≡ peek.old }
+    {
+        match room {
+            Room::Hole(place) => {
+                self.version_steps += 2;
+                Storing {
+                    item,
+                    place,
+                    moves: Moves::Unneeded,
+                    at,
+                }
+            }
+            Room::Move(one) => {
+                let moved = move_of::<V, P>(&self.checked, peek, one);
+                self.version_steps += 4;
+                Storing {
+                    item,
+                    place: one.from,
+                    moves: Moves::One(moved),
+                    at,
+                }
+            }
+            Room::Path => {
+                path_moves::<V, P>(&self.checked, peek, &self.path, &mut self.moves);
+                self.version_steps += 2 * self.moves.len() as u64 + 2;
+                Storing {
+                    item,
+                    place: self.path.first(),
+                    moves: Moves::Listed,
+                    at,
+                }
+            }
+        }
+    }
+
+    /// Decides the put of a key that is not there, where it finds this room. `None`: no item is free, and the hand looks for one.
+    /// Condition: `near`, `by_move`, `by_path` or `room` has just found it, for a key that `decide` has answered with this `at`.
+    #[inline(always)]
+    pub fn insert<const V: usize, P: Peek>(
+        &mut self,
+        peek: &mut P,
+        room: Room,
+        at: u64,
+    ) -> Option<Storing>
+        requires room { (k : ℕ) × (v : List ℕ) × (s : State V) × HasRoom V self.old k v s at room × (P.words peek.old ≡ s.words) }
+        ensures inserted { (k : ℕ) (v : List ℕ) (s : State V) → HasRoom V self.old k v s at room → P.words peek.old ≡ s.words →
+            IsInserted V self.new k v s room result }
+        ensures shape { self.new.checked ≡ self.old.checked }
+        ensures kept { peek.new ≡ peek.old }
+    {
+        let Some(item) = self.free.take_least() else {
+            return None;
+        };
+        Some(self.store::<V, P>(peek, room, item, at))
+    }
+}
+
+// Whose item it takes.
+impl Books {
+    ghost use Rattle.mc_plan.specs.WholeCalls.{Call};
+    ghost use Rattle.mc_plan.specs.Books.{IsSweeping};
+    ghost use Rattle.mc_plan.specs.Deciding.{IsFinished, IsReplaced};
+    ghost use Rattle.mc_plan.specs.Inside.Clerks.{IsReplacing, IsVictim};
+    ghost use Rattle.mc_search.specs.Sweeps.{IsOver, Swept};
+
+    /// The key at the item, which is taken out: its parts, and the slot in which it stands.
+    #[inline(always)]
+    pub(crate) fn victim<const V: usize, P: Peek>(&self, peek: &mut P, item: u32) -> Victim
+        requires books { (waiting : Waiting V) × (call : Call) × (s : State V) × (rs : List Swept) ×
+            IsReplacing V self.now waiting call s rs item × (P.words peek.old ≡ s.words) }
+        ensures victim { (waiting : Waiting V) (call : Call) (s : State V) (rs : List Swept) →
+            IsReplacing V self.now waiting call s rs item → P.words peek.old ≡ s.words → IsVictim V self.now s item result }
+        ensures kept { peek.new ≡ peek.old }
+    {
+        let key = key_at::<V, P>(&self.checked, peek, item);
+        let parts = self.checked.parts(key);
+        let Some(place) = place_of::<V, P>(&self.checked, peek, key, parts, item) else {
+            unreachable!();
+        };
+        Victim { key, parts, place }
+    }
+
+    /// Decides how the key at the item is replaced. The room is cut where that key stands.
+    #[inline(always)]
+    fn replace<const V: usize, P: Peek>(
+        &mut self,
+        peek: &mut P,
+        waiting: &Waiting<V>,
+        item: u32,
+    ) -> Replacement
+        requires books { (call : Call) × (s : State V) × (rs : List Swept) × IsReplacing V self.old waiting.now call s rs item × (P.words peek.old ≡ s.words) }
+        ensures replaced { (call : Call) (s : State V) (rs : List Swept) →
+            IsReplacing V self.old waiting.now call s rs item → P.words peek.old ≡ s.words →
+            IsReplaced V self.new waiting.now call s rs result }
+        ensures shape { self.new.checked ≡ self.old.checked }
+        ensures kept { peek.new ≡ peek.old }
+    {
+        let at = moment(&self.checked, peek) + 2;
+        let victim = self.victim::<V, P>(peek, item);
+        let left = waiting.room.cut_at(victim.place, &mut self.path);
+        let storing = self.store::<V, P>(peek, left, item, at);
+        self.version_steps += 2;
+        Replacement { victim, storing }
+    }
+
+    /// Decides the rest of a put whose sweep is over.
+    /// Condition: the put waits by these books, its sweep is over, and the words are those of its beginning.
+    #[inline(always)]
+    pub fn finish<const V: usize, P: Peek>(
+        &mut self,
+        peek: &mut P,
+        waiting: &Waiting<V>,
+    ) -> Result<Replacement, PutError>
+        requires over { (call : Call) × (s : State V) × (rs : List Swept) × IsSweeping V self.old waiting.now call s rs ×
+            IsOver (shape_of self.old.checked).items rs × (P.words peek.old ≡ s.words) }
+        ensures finished { (call : Call) (s : State V) (rs : List Swept) →
+            IsSweeping V self.old waiting.now call s rs → IsOver (shape_of self.old.checked).items rs →
+            P.words peek.old ≡ s.words → IsFinished V self.new waiting.now call s rs result }
+        ensures shape { self.new.checked ≡ self.old.checked }
+        ensures kept { peek.new ≡ peek.old }
+    {
+        self.hand = waiting.sweep.hand();
+        match waiting.sweep.victim() {
+            Some(item) => Ok(self.replace::<V, P>(peek, waiting, item)),
+            None => Err(PutError::AllRecent),
+        }
+    }
+}

@@ -1,4 +1,0 @@
-use Rattle.mc_writer.proofs.pen.Pen.finish.Goals as goal
-
-pub returns-clause-finished : goal.returns-clause-finished
-returns-clause-finished g c call s rs over = c.finish.ensures.finished call s rs over.0 over.1 over.2

@@ -1,0 +1,142 @@
+//! The writer's puts of keys that are not there, once they have room: they are stored at once, or after the hand's way round.
+ghost use Rattle.std.specs.Prelude.{◌≡◌, ◌^◌, ◌<◌, [], IfNone, IfSome, List, Ok, Some};
+ghost use Rattle.mc_words.specs.Checks.{shape_of};
+ghost use Rattle.mc_words.specs.KeyParts.{HasParts};
+ghost use Rattle.mc_words.specs.Places.{word_count};
+ghost use Rattle.mc_theory.specs.States.{State};
+ghost use Rattle.mc_search.specs.Sweeps.{Swept, IsOver, next_item};
+ghost use Rattle.mc_plan.specs.Books.{HasRoom, IsSweeping, Waits};
+ghost use Rattle.mc_plan.specs.WholeCalls.{Call, IsSweepOf, PutCall};
+ghost use Rattle.mc_plan.specs.declared.answer.Answer.TheVariants as answer;
+ghost use Rattle.mc_shared.specs.Views.{layout_of};
+ghost use Rattle.mc_writer.specs.WriterCalls.{HasCalled, IsRested};
+
+use crate::pen::Pen;
+use mc_plan::{Books, Put, PutError, Room, Waiting};
+use mc_shared::turn_hand_unless_clear;
+use mc_words::KeyParts;
+
+// The hand's way round.
+impl<'a, const V: usize> Pen<'a, V> {
+    ghost use Rattle.mc_writer.specs.Inside.Pens.{IsSamePen, state_at};
+    ghost use Rattle.mc_writer.specs.Inside.Turns.{HasTurned};
+
+    /// Reads one bit, while one is to be read. The recency words begin at this place.
+    fn turn_hand(&mut self, start: usize, books: &Books, waiting: &mut Waiting<V>, i: u32)
+        requires start { (start ≡ word_count V self.old.cells.now.layout.shape) × (start < 2 ^ 40) }
+        requires shape { shape_of books.now.checked ≡ self.old.cells.now.layout.shape }
+        requires next { next_item waiting.old.sweep ≡ Some i }
+        requires turned { (call : Call) × (before : Pen V) × HasTurned V books.now waiting.old call before self.old }
+        ensures same { IsSamePen V self.old self.new }
+        ensures turned { (call : Call) (before : Pen V) → HasTurned V books.now waiting.old call before self.old →
+            HasTurned V books.now waiting.new call before self.new }
+        ensures left { waiting.new.sweep.left < waiting.old.sweep.left }
+    {
+        let bit = turn_hand_unless_clear(self.cells, self.seat, start, i);
+        waiting.after(bit);
+        let _books = books;
+    }
+
+    /// Reads bits until the sweep is over.
+    fn turn_round(&mut self, books: &Books, waiting: &mut Waiting<V>)
+        requires shape { shape_of books.now.checked ≡ self.old.cells.now.layout.shape }
+        requires sweeping { (call : Call) × IsSweeping V books.now waiting.old call (state_at V self.old) [] }
+        ensures turned { (call : Call) → IsSweeping V books.now waiting.old call (state_at V self.old) [] →
+            HasTurned V books.now waiting.new call self.old self.new }
+        ensures over { (call : Call) (s : State V) (rs : List Swept) → IsSweeping V books.now waiting.new call s rs →
+            IsOver (shape_of books.now.checked).items rs }
+    {
+        let start = self.cells.recency_start();
+        while let Some(i) = waiting.next() {
+            self.turn_hand(start, books, waiting, i);
+        }
+    }
+}
+
+// The puts.
+impl<'a, const V: usize> Pen<'a, V> {
+    ghost use Rattle.mc_writer.specs.Inside.Pens.{IsSamePen, state_at};
+
+    /// Stores a key that finds this room. `None`: no item is free, and nothing is done.
+    #[inline(always)]
+    pub(crate) fn store_in(
+        &mut self,
+        books: &mut Books,
+        key: u64,
+        parts: KeyParts,
+        value: &[u64; V],
+        at: u64,
+        room: Room,
+    ) -> Option<Put>
+        requires layout { self.old.cells.now.layout ≡ layout_of V (shape_of books.old.checked) }
+        requires parts { HasParts self.old.cells.now.layout.shape key parts }
+        requires room { HasRoom V books.old key value.now (state_at V self.old) at room }
+        ensures same { IsSamePen V self.old self.new }
+        ensures called { IfSome result (λ put. HasCalled V self.old.cells.now.layout.shape (PutCall key value.now) self.old.seat.now self.new.seat.now (answer.Put (Ok put))) }
+        ensures unswept { IfSome result (λ put. IsSweepOf V self.old.cells.now.layout.shape (state_at V self.old) [] (answer.Put (Ok put))) }
+        ensures rested { IfSome result (λ put. IsRested V books.new self.new.seat.now) }
+        ensures pen { IfNone result (self.new ≡ self.old) }
+        ensures waits { IfNone result (Waits V books.new key value.now (state_at V self.old) room) }
+        ensures shape { books.new.checked ≡ books.old.checked }
+    {
+        match books.insert::<V, Pen<V>>(self, room, at) {
+            Some(storing) => {
+                self.make_storing(books, key, parts, value, storing);
+                Some(books.told(storing, None))
+            }
+            None => None,
+        }
+    }
+
+    /// Puts a key that finds this room, and for which no item is free.
+    #[inline(always)]
+    fn put_waiting(
+        &mut self,
+        books: &mut Books,
+        key: u64,
+        parts: KeyParts,
+        value: &[u64; V],
+        room: Room,
+    ) -> Result<Put, PutError>
+        requires layout { self.old.cells.now.layout ≡ layout_of V (shape_of books.old.checked) }
+        requires parts { HasParts self.old.cells.now.layout.shape key parts }
+        requires waits { Waits V books.old key value.now (state_at V self.old) room }
+        ensures same { IsSamePen V self.old self.new }
+        ensures called { HasCalled V self.old.cells.now.layout.shape (PutCall key value.now) self.old.seat.now self.new.seat.now (answer.Put result) }
+        ensures rested { IsRested V books.new self.new.seat.now }
+    {
+        let mut waiting = Waiting::new(books, key, *value, room);
+        self.turn_round(books, &mut waiting);
+        match books.finish::<V, Pen<V>>(self, &waiting) {
+            Ok(taken) => {
+                self.make_replacement(books, key, parts, value, taken);
+                Ok(books.told(taken.storing, Some(taken.victim.key)))
+            }
+            Err(why) => Err(why),
+        }
+    }
+
+    /// Puts a key that finds this room.
+    #[inline(always)]
+    pub(crate) fn put_in(
+        &mut self,
+        books: &mut Books,
+        key: u64,
+        parts: KeyParts,
+        value: &[u64; V],
+        at: u64,
+        room: Room,
+    ) -> Result<Put, PutError>
+        requires layout { self.old.cells.now.layout ≡ layout_of V (shape_of books.old.checked) }
+        requires parts { HasParts self.old.cells.now.layout.shape key parts }
+        requires room { HasRoom V books.old key value.now (state_at V self.old) at room }
+        ensures same { IsSamePen V self.old self.new }
+        ensures called { HasCalled V self.old.cells.now.layout.shape (PutCall key value.now) self.old.seat.now self.new.seat.now (answer.Put result) }
+        ensures rested { IsRested V books.new self.new.seat.now }
+    {
+        match self.store_in(books, key, parts, value, at, room) {
+            Some(put) => Ok(put),
+            None => self.put_waiting(books, key, parts, value, room),
+        }
+    }
+}
