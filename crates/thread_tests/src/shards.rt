@@ -45,19 +45,29 @@ fn is_stored_next(shards: &Shards<1>, pass: &mut Pass<1>, key: u64, made: &mut [
     pass.try_put(shards, key, [key]) == Ok(stored) && pass.get(shards, key) == found
 }
 
+// Whether the keys below this number are stored one after the other. How many changes each shard has then.
+fn store_all(shards: &Shards<1>, pass: &mut Pass<1>, keys: u64) -> Option<[u64; 4]>
+    requires { ArePassOf shards.now pass.old }
+    ensures { ArePassOf shards.now pass.new }
+{
+    let mut made = [0; 4];
+    for key in 0..keys {
+        if !is_stored_next(shards, pass, key, &mut made) {
+            return None;
+        }
+    }
+    Some(made)
+}
+
 #[test]
 fn a_thread_alone_is_answered_shard_by_shard(rt: HostRuntime) -> Result<(), Fail> {
     let (shards, mut passes) = open_shards::<1>(rt.alloc(), WIDE, 4, 1)?;
     let Some(mut pass) = passes.pop() else {
         return Err(Fail::new("no pass"));
     };
-    let mut made = [0; 4];
-    for key in 0..32 {
-        assert!(rt;
-            is_stored_next(&shards, &mut pass, key, &mut made),
-            "key {key}"
-        );
-    }
+    let Some(made) = store_all(&shards, &mut pass, 32) else {
+        return Err(Fail::new("a key was not stored"));
+    };
     assert!(rt; made.iter().all(|many: &u64| -> bool { *many > 0 }));
     let at = made[shards.shard_of(5) % 4].wrapping_add(1);
     assert_eq!(rt; pass.try_remove(&shards, 5), Ok(Remove::Removed { at }));
