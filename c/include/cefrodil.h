@@ -11,7 +11,8 @@
  *      by an atomic: a store with release order, and a load with acquire order that reads it. Each of these puts the
  *      earlier calls before the later ones. Calls with different handles of one cache need no synchronization.
  *   3. Pointers are to memory of yours, aligned for their types and valid for the whole call. None of it overlaps. They
- *      are never null, even if a count is 0. `value` has `words` words; an array has as many elements as its count says.
+ *      are never null, even if a count is 0; only cefrodil_close takes a null handle, and cefrodil_get a null reply.
+ *      `value` has `words` words; an array has as many elements as its count says.
  *   4. No call comes from a signal handler, nor from the forked child of a process with threads. Every call returns: no
  *      longjmp, exception or asynchronous cancellation leaves it. A handle is used in the process that opened it.
  *   5. malloc, realloc and free belong to one allocator, whose blocks are aligned to 16 bytes.
@@ -174,7 +175,7 @@ CEFRODIL_CHECKED cefrodil_status cefrodil_open_shards(const cefrodil_shape *shap
 
 /* Looks a key up, by a reader or a pass.
  * OK: `value`, `at` and `since` are set. ABSENT: `at` is set. BUSY: ask again, or treat it as a miss.
- * CLOSED, KIND, WIDTH. `value` is written only with OK. */
+ * CLOSED, KIND, WIDTH. `value` is written only with OK. `reply` may be null. */
 CEFRODIL_CHECKED cefrodil_status cefrodil_get(cefrodil_handle *reader, uint64_t key, uint64_t *value, size_t words,
                                               cefrodil_reply *reply);
 
@@ -219,12 +220,26 @@ cefrodil_status cefrodil_put_within(cefrodil_handle *pass, uint32_t tries, uint6
                                     size_t words, cefrodil_reply *reply);
 
 /* Closes a handle, in any thread. Closing the last handle frees the cache.
- * OK, or CLOSED if it was not open. The handle is closed afterwards. */
+ * OK, or CLOSED if it was not open, or null. The handle is closed afterwards. */
 cefrodil_status cefrodil_close(cefrodil_handle *handle);
 
 #ifdef __cplusplus
 }
 #endif
+
+/* The exports take no null pointer. From here on these two names mean what takes one. */
+CEFRODIL_CHECKED static inline cefrodil_status cefrodil_get_unless_null(cefrodil_handle *reader, uint64_t key, uint64_t *value,
+                                                                        size_t words, cefrodil_reply *reply) {
+    cefrodil_reply unread;
+    return cefrodil_get(reader, key, value, words, reply != NULL ? reply : &unread);
+}
+
+static inline cefrodil_status cefrodil_close_unless_null(cefrodil_handle *handle) {
+    return handle != NULL ? cefrodil_close(handle) : CEFRODIL_CLOSED;
+}
+
+#define cefrodil_get cefrodil_get_unless_null
+#define cefrodil_close cefrodil_close_unless_null
 
 /* The text of a status. */
 static inline const char *cefrodil_text(uint32_t status) {

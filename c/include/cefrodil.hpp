@@ -1,5 +1,5 @@
-// Cefrodil for C++17: handles that move and close themselves, values as arrays, answers as types. It adds no cost to cefrodil.h, which says
-// what each call does and what its caller promises. A Writer, a Reader and a Pass belong to one thread at a time.
+// Cefrodil for C++17: handles that move and close themselves, values as arrays, answers as types. It is a thin layer over cefrodil.h, which
+// says what each call does and what its caller promises. A Writer, a Reader and a Pass belong to one thread at a time.
 #ifndef CEFRODIL_HPP
 #define CEFRODIL_HPP
 
@@ -150,6 +150,16 @@ template <size_t Words> class Reader : public Handle {
         Value value;
         const cefrodil_status status = cefrodil_get(raw(), key, value.data(), Words, &reply);
         return inside::answer<Words>(status, reply, value);
+    }
+    // Equivalent to get for each key in order. Each of the `count` values is written only if its answer's status is CEFRODIL_OK.
+    Status get_many(const uint64_t *keys, size_t count, Value *values, cefrodil_answer *answers) {
+        static_assert(sizeof(Value) == Words * sizeof(uint64_t), "values lie one after the other");
+        // C takes no null pointer, even for no keys.
+        uint64_t no_key = 0, no_word = 0;
+        cefrodil_answer no_answer;
+        const bool some = count != 0;
+        return static_cast<Status>(cefrodil_get_many(raw(), some ? keys : &no_key, count, some ? values->data() : &no_word, Words * count,
+                                                     some ? answers : &no_answer, count));
     }
 };
 

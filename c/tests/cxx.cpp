@@ -33,6 +33,11 @@ static void apart(const cefrodil_shape &shape) {
     MUST(writer.put(1, {7, 8}).status == Status::ok);
     const cefrodil::Answer<2> found = readers[0].get(1);
     MUST(found.value && (*found.value)[1] == 8 && found.at == 1 && found.since == 1);
+    const uint64_t keys[2] = {2, 1};
+    std::array<uint64_t, 2> values[2] = {{5, 6}, {5, 6}};
+    cefrodil_answer answers[2];
+    MUST(readers[1].get_many(keys, 2, values, answers) == Status::ok && readers[1].get_many(nullptr, 0, nullptr, nullptr) == Status::ok);
+    MUST(answers[0].status == CEFRODIL_ABSENT && values[0][0] == 5 && answers[1].status == CEFRODIL_OK && values[1][1] == 8);
     MUST(writer.put_if(1, 9, {0, 0}).status == Status::changed && writer.put(1, {7, 9}).renewed);
     Writer<2> moved = std::move(writer);
     MUST(!writer.is_open() && writer.put(1, {0, 0}).status == Status::closed);

@@ -59,7 +59,8 @@ static void closed(void) {
     MUST(cefrodil_try_put(&none, 1, value, 2, &reply) == CEFRODIL_CLOSED);
     MUST(cefrodil_try_put_if(&none, 1, 0, value, 2, &reply) == CEFRODIL_CLOSED);
     MUST(cefrodil_try_remove(&none, 1, &reply) == CEFRODIL_CLOSED);
-    MUST(cefrodil_close(&none) == CEFRODIL_CLOSED);
+    MUST(cefrodil_close(&none) == CEFRODIL_CLOSED && cefrodil_close(NULL) == CEFRODIL_CLOSED);
+    MUST(cefrodil_get(&none, 1, value, 2, NULL) == CEFRODIL_CLOSED);
 }
 
 static void writes(void) {
@@ -70,6 +71,8 @@ static void writes(void) {
     MUST(cefrodil_get(&readers[0], 1, found, 2, &reply) == CEFRODIL_ABSENT && found[0] == 0 && reply.at == 0);
     MUST(cefrodil_put(&writer, 1, value, 2, &reply) == CEFRODIL_OK && reply.at == 1 && reply.put == CEFRODIL_PUT_STORED);
     MUST(cefrodil_get(&readers[0], 1, found, 2, &reply) == CEFRODIL_OK && found[0] == 7 && found[1] == 8 && reply.at == 1 && reply.since == 1);
+    found[0] = 0;
+    MUST(cefrodil_get(&readers[0], 1, found, 2, NULL) == CEFRODIL_OK && found[0] == 7);
     MUST(cefrodil_put(&writer, 1, value, 2, &reply) == CEFRODIL_OK && reply.at == 2 && reply.put == CEFRODIL_PUT_RENEWED);
     MUST(cefrodil_put_if(&writer, 1, 1, value, 2, &reply) == CEFRODIL_CHANGED && reply.since == 2);
     MUST(cefrodil_put_if(&writer, 1, 2, value, 2, &reply) == CEFRODIL_OK && reply.at == 3);
