@@ -35,6 +35,9 @@ impl<const V: usize> Waiting<V> {
     pub fn new(books: &Books, key: u64, value: [u64; V], room: Room) -> Waiting<V>
         requires waits { (s : State V) × Waits V books.now key value s room }
         ensures sweeping { (s : State V) → Waits V books.now key value.entry s room → IsSweeping V books.now result (PutCall key value.entry) s [] }
+        ensures key { result.key ≡ key }
+        ensures room { result.room ≡ room }
+        ensures value { result.value ≡ value.entry }
         ensures left { result.sweep.left ≡ 2 * (shape_of books.now.checked).items }
     {
         Waiting {
@@ -61,6 +64,9 @@ impl<const V: usize> Waiting<V> {
         ensures swept { (b : Books) (call : Call) (s : State V) (rs : List Swept) (i : ℕ) →
             IsSweeping V b self.old call s rs → next_item self.old.sweep ≡ Some i →
             IsSweeping V b self.new call s (rs ++ record { item = i; bit = bit } ∷ []) }
+        ensures key { self.new.key ≡ self.old.key }
+        ensures room { self.new.room ≡ self.old.room }
+        ensures value { self.new.value ≡ self.old.value }
         ensures left { self.new.sweep.left < self.old.sweep.left }
     {
         self.sweep.after(bit);

@@ -19,36 +19,37 @@ use mc_words::KeyParts;
 // The hand's way round.
 impl<'a, const V: usize> Pen<'a, V> {
     ghost use Rattle.mc_writer.specs.Inside.Pens.{IsSamePen, state_at};
+    ghost use Rattle.mc_plan.specs.declared.books.Books.{Books};
     ghost use Rattle.mc_writer.specs.Inside.Turns.{HasTurned};
+    ghost use Rattle.mc_writer.specs.declared.pen.Pen.{Pen};
 
-    /// Reads one bit, while one is to be read. The recency words begin at this place.
-    fn turn_hand(&mut self, start: usize, books: &Books, waiting: &mut Waiting<V>, i: u32)
+    // Reads one bit, while one is to be read. The recency words begin at this place.
+    fn turn_hand(&mut self, start: usize, waiting: &mut Waiting<V>, i: u32)
         requires start { (start ≡ word_count V self.old.cells.now.layout.shape) × (start < 2 ^ 40) }
-        requires shape { shape_of books.now.checked ≡ self.old.cells.now.layout.shape }
         requires next { next_item waiting.old.sweep ≡ Some i }
-        requires turned { (call : Call) × (before : Pen V) × HasTurned V books.now waiting.old call before self.old }
+        requires turned { (b : Books) × (call : Call) × (before : Pen V) × HasTurned V b waiting.old call before self.old ×
+            (shape_of b.checked ≡ self.old.cells.now.layout.shape) }
         ensures same { IsSamePen V self.old self.new }
-        ensures turned { (call : Call) (before : Pen V) → HasTurned V books.now waiting.old call before self.old →
-            HasTurned V books.now waiting.new call before self.new }
+        ensures turned { (b : Books) (call : Call) (before : Pen V) → HasTurned V b waiting.old call before self.old →
+            HasTurned V b waiting.new call before self.new }
         ensures left { waiting.new.sweep.left < waiting.old.sweep.left }
     {
         let bit = turn_hand_unless_clear(self.cells, self.seat, start, i);
         waiting.after(bit);
-        let _books = books;
     }
 
-    /// Reads bits until the sweep is over.
-    fn turn_round(&mut self, books: &Books, waiting: &mut Waiting<V>)
-        requires shape { shape_of books.now.checked ≡ self.old.cells.now.layout.shape }
-        requires sweeping { (call : Call) × IsSweeping V books.now waiting.old call (state_at V self.old) [] }
-        ensures turned { (call : Call) → IsSweeping V books.now waiting.old call (state_at V self.old) [] →
-            HasTurned V books.now waiting.new call self.old self.new }
-        ensures over { (call : Call) (s : State V) (rs : List Swept) → IsSweeping V books.now waiting.new call s rs →
-            IsOver (shape_of books.now.checked).items rs }
+    // Reads bits until the sweep is over.
+    fn turn_round(&mut self, waiting: &mut Waiting<V>)
+        requires sweeping { (b : Books) × (call : Call) × IsSweeping V b waiting.old call (state_at V self.old) [] ×
+            (shape_of b.checked ≡ self.old.cells.now.layout.shape) }
+        ensures turned { (b : Books) (call : Call) → IsSweeping V b waiting.old call (state_at V self.old) [] →
+            HasTurned V b waiting.new call self.old self.new }
+        ensures over { (b : Books) (call : Call) (s : State V) (rs : List Swept) → IsSweeping V b waiting.new call s rs →
+            IsOver (shape_of b.checked).items rs }
     {
         let start = self.cells.recency_start();
         while let Some(i) = waiting.next() {
-            self.turn_hand(start, books, waiting, i);
+            self.turn_hand(start, waiting, i);
         }
     }
 }
@@ -106,7 +107,7 @@ impl<'a, const V: usize> Pen<'a, V> {
         ensures rested { IsRested V books.new self.new.seat.now }
     {
         let mut waiting = Waiting::new(books, key, *value, room);
-        self.turn_round(books, &mut waiting);
+        self.turn_round(&mut waiting);
         match books.finish::<V, Pen<V>>(self, &waiting) {
             Ok(taken) => {
                 self.make_replacement(books, key, parts, value, taken);

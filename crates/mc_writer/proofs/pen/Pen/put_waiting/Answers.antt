@@ -1,4 +1,4 @@
-use Rattle.std.proofs.Common.{[], ℕ, List, ◌<◌, Ok, Err, Some, ap, arith, sym, subst}
+use Rattle.std.proofs.Common.{rules, [], ℕ, List, ◌<◌, Ok, Err, Some, ap, arith, sym, subst}
 use Rattle.mc_words.specs.Checks.{shape_of}
 use Rattle.mc_words.specs.KeyParts.{HasParts}
 use Rattle.mc_words.specs.declared.shape.Shape.{Shape}
@@ -18,15 +18,21 @@ use Rattle.mc_writer.proofs.pen.Pen.put_waiting.Goals as goal
 use Rattle.mc_writer.proofs.pen.Pen.put_waiting.Goals.{After-finish, After-told, After-turn_round, In-Err, In-Ok}
 use Rattle.mc_writer.proofs.pen.Pen.put_waiting.Given.{Over}
 
+pub turn_round-requires : goal.turn_round-requires
+turn_round-requires g c =
+    let pen = c.args.self.now in
+    let s = state_at g.row.V pen in
+    (omega arith, (search rules, (c.args.books.now, PutCall c.args.key c.args.value.now, c.new-waiting.ensures.sweeping s c.requires.waits, shape_there g.row.V pen c.args.books.now c.requires.layout)))
+
 -- the hand has gone round
 turned : (g : Over) (c : After-turn_round g) → HasTurned g.row.V c.args.books.now c.turn_round.new.waiting (PutCall c.args.key c.args.value.now) c.args.self.now c.turn_round.new.self
-turned g c = c.turn_round.ensures.turned (PutCall c.args.key c.args.value.now) (c.new-waiting.ensures.sweeping (state_at g.row.V c.args.self.now) c.requires.waits)
+turned g c = c.turn_round.ensures.turned c.args.books.now (PutCall c.args.key c.args.value.now) (c.new-waiting.ensures.sweeping (state_at g.row.V c.args.self.now) c.requires.waits)
 
 read : (g : Over) (c : After-turn_round g) → HasRead g.row.V c.args.self.now c.turn_round.new.self (turned g c).readings
 read g c = has_read g.row.V c.args.self.now c.turn_round.new.self c.args.books.now c.turn_round.new.waiting (PutCall c.args.key c.args.value.now) (turned g c) (shape_there g.row.V c.args.self.now c.args.books.now c.requires.layout)
 
 over : (g : Over) (c : After-turn_round g) → IsOver (shape_of c.args.books.now.checked).items (turned g c).readings
-over g c = c.turn_round.ensures.over (PutCall c.args.key c.args.value.now) (state_at g.row.V c.args.self.now) (turned g c).readings (turned g c).sweeping
+over g c = c.turn_round.ensures.over c.args.books.now (PutCall c.args.key c.args.value.now) (state_at g.row.V c.args.self.now) (turned g c).readings (turned g c).sweeping
 
 pub finish-requires : goal.finish-requires
 finish-requires g c =

@@ -16,19 +16,19 @@ turn_hand_unless_clear-bit-requires g c =
     let pen = c.args.self.now in
     let sh = pen.cells.now.layout.shape in
     let r = c.requires.turned in
-    let was : r.1.cells.now.layout.shape ≡ sh = sym (shape_kept r.2.same) in
-    let on = subst (λ (x : Shape). IsSweeping g.row.V c.args.books.now c.args.waiting.now r.0 (state_of g.row.V x r.1.seat.now.acts) r.2.readings) was r.2.sweeping in
-    let may = (sweep_may g.row.V sh c.args.books.now c.args.waiting.now r.0 r.1.seat.now.acts r.2.readings c.requires.shape on).1 c.args.i c.requires.next in
-    let at : r.1.seat.now.acts ++ hand_acts r.2.readings ≡ pen.seat.now.acts = sym r.2.acts in
+    let was : r.2.cells.now.layout.shape ≡ sh = sym (shape_kept r.3.same) in
+    let on = subst (λ (x : Shape). IsSweeping g.row.V r.0 c.args.waiting.now r.1 (state_of g.row.V x r.2.seat.now.acts) r.3.readings) was r.3.sweeping in
+    let may = (sweep_may g.row.V sh r.0 c.args.waiting.now r.1 r.2.seat.now.acts r.3.readings r.4 on).1 c.args.i c.requires.next in
+    let at : r.2.seat.now.acts ++ hand_acts r.3.readings ≡ pen.seat.now.acts = sym r.3.acts in
     (omega arith, (pen.of, (c.requires.start, subst (λ (xs : List Made). IsAllowed sh (state_of g.row.V sh xs) (Hand c.args.i)) at may)))
 
 pub after-requires : goal.after-requires
 after-requires g c =
     let r = c.requires.turned in
-    (omega arith, (c.args.books.now, r.0, _, r.2.readings, c.args.i, r.2.sweeping, c.requires.next))
+    (omega arith, (r.0, r.1, _, r.3.readings, c.args.i, r.3.sweeping, c.requires.next))
 
 pub returns-clause-turned : goal.returns-clause-turned
-returns-clause-turned g c call before turned =
+returns-clause-turned g c b call before turned =
     let read : Swept = record { item = c.args.i; bit = c.turn_hand_unless_clear-bit.result } in
     let acts : c.turn_hand_unless_clear-bit.new.writer.acts ≡ before.seat.now.acts ++ hand_acts (turned.readings ++ read ∷ []) =
     c.turn_hand_unless_clear-bit.ensures.acted.acts
@@ -41,5 +41,5 @@ returns-clause-turned g c call before turned =
       of = c.turn_hand_unless_clear-bit.ensures.acted.of ∙ turned.of;
       acts = acts;
       notes = grow_trans turned.notes (grow_acted c.turn_hand_unless_clear-bit.ensures.acted);
-      sweeping = c.after.ensures.swept c.args.books.now call _ turned.readings c.args.i turned.sweeping c.requires.next;
+      sweeping = c.after.ensures.swept b call _ turned.readings c.args.i turned.sweeping c.requires.next;
     }
