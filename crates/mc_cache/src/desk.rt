@@ -59,6 +59,7 @@ impl<const V: usize> Model for Desk<V> {
 
 impl<const V: usize> Desk<V> {
     // Takes the writer, if it is there and the try wins. If the word says that it is not there, the slot is left alone.
+    #[inline(always)]
     fn take(&self) -> Option<Boxed<V>>
         ensures writer { IfSome result (λ boxed. (boxed.writer.value.of ≡ self.now) × IsAtRest V boxed.writer.value) }
     {
@@ -74,6 +75,7 @@ impl<const V: usize> Desk<V> {
     }
 
     // Gives the writer back. If the try does not win, the writer is dropped.
+    #[inline(always)]
     fn give(&self, boxed: Boxed<V>)
         requires of { boxed.writer.value.of ≡ self.now }
         requires rests { IsAtRest V boxed.writer.value }
@@ -107,6 +109,7 @@ impl<const V: usize> Desk<V> {
 
     /// Tries once for the turn, and with it calls `Writer::put`. The caller's reader is its pass: with the turn, it catches
     /// up with the writer before the call and after it. Condition: desk and pass are of this cache.
+    #[inline(always)]
     pub fn try_put(
         &self,
         cache: &Cache<V>,
@@ -128,6 +131,7 @@ impl<const V: usize> Desk<V> {
     }
 
     /// Like `try_put`, with `Writer::put_if`.
+    #[inline(always)]
     pub fn try_put_if(
         &self,
         cache: &Cache<V>,
@@ -150,6 +154,7 @@ impl<const V: usize> Desk<V> {
     }
 
     /// Like `try_put`, with `Writer::remove`.
+    #[inline(always)]
     pub fn try_remove(
         &self,
         cache: &Cache<V>,
