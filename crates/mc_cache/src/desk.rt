@@ -133,6 +133,7 @@ impl<const V: usize> Desk<V> {
     }
 
     /// Like `try_put`, with `Writer::put_if`.
+    #[inline(always)]
     pub fn try_put_if(
         &self,
         cache: &Cache<V>,
@@ -156,6 +157,7 @@ impl<const V: usize> Desk<V> {
     }
 
     /// Like `try_put`, with `Writer::remove`.
+    #[inline(always)]
     pub fn try_remove(
         &self,
         cache: &Cache<V>,
