@@ -66,7 +66,7 @@ WritesReport o output errors status = (r : Report) × Reports 4 (load_of o) r ×
 
 -- so was a load whose writers take turns
 abbrev pub WritesTurns : LoadOptions → Stream → Stream → ℕ → Type 0
-WritesTurns o output errors status = (r : DeskReport) × ReportsTurns (load_of o) o.writers r × WritesLines o.histogram output (turns_text r) status × IsUntouched errors
+WritesTurns o output errors status = (r : DeskReport) × ReportsTurns 4 (load_of o) o.writers r × WritesLines o.histogram output (turns_text r) status × IsUntouched errors
 
 -- why a load is refused, though not by its gate, which lets every call through
 abbrev pub IsRefused : LoadOptions → LoadError → Type 0

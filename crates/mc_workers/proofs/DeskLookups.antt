@@ -1,9 +1,8 @@
 -- A lookup that may end beside the writer.
-use Rattle.std.proofs.Common.{ℕ, ◌≡◌, ap, inl, inr, subst, sym}
+use Rattle.std.proofs.Common.{ℕ, ◌≡◌, inl, inr, subst, sym}
 use Rattle.mc_words.specs.History.{IsTrueAnswer}
 use Rattle.mc_words.specs.declared.history.Reply.{Reply}
 use Rattle.mc_words.specs.declared.shape.Shape.{Shape}
-use Rattle.mc_theory.specs.Lists.{Made}
 use Rattle.mc_shared.specs.Records.{Opening, ReaderRecord}
 use Rattle.mc_shared.specs.Views.{IsFrontOf}
 use Rattle.mc_shared.proofs.ReaderRecords.{front_trans}

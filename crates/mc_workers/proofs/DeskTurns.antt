@@ -1,6 +1,6 @@
 -- What the answers of turns tell of moments.
 use Rattle.std.specs.Prelude.{IfOk, Ok, Err, Result}
-use Rattle.std.proofs.Common.{ℕ, ◌≡◌, ◌≤◌, ◌++◌, ◌∷◌, [], List, Some, None, ap, arith, length}
+use Rattle.std.proofs.Common.{ℕ, List, Some, None, ap, arith, length}
 use Rattle.std.proofs.lemmas.List.{length-append}
 use Rattle.mc_words.specs.declared.history.Change.{Change}
 use Rattle.mc_plan.specs.declared.answer.Put.{Put}

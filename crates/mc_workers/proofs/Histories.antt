@@ -31,7 +31,7 @@ use Rattle.mc_shared.specs.Views.{IsFrontOf}
 use Rattle.mc_writer.specs.WriterCalls.{HasCalled}
 use Rattle.mc_check.specs.declared.record.Record.{Record}
 use Rattle.mc_workers.specs.Inside.Journals.{put_changes, remove_changes}
-use Rattle.mc_workers.specs.Draws.{drawn_call, drawn_key, drawn_word}
+use Rattle.mc_workers.specs.Draws.{call_drawn, drawn_call, drawn_key, drawn_word}
 use Rattle.mc_workers.specs.Loads.{AreDrawn, AreTrue, HasMade}
 use Rattle.mc_workers.specs.declared.asked.Load.{Load}
 
@@ -92,14 +92,14 @@ not_eqb : (a b : ℕ) → (a ≡ b → ⊥) → eqb a b ≡ false
 not_eqb a b h = grind (arith, nat_tests)
 
 -- a word draws a removal
-pub removal_drawn : (V : ℕ) (load : Load) (n : ℕ) → drawn_word load 0 (2 * n + 1) % 8 ≡ 0 → drawn_call V load n ≡ RemoveCall (drawn_key load 0 (2 * n))
-unfolding drawn_call
-removal_drawn V load n h = rw (eq-eqb (drawn_word load 0 (2 * n + 1) % 8) 0 h) refl
+pub removal_drawn : (V : ℕ) (load : Load) (who n word : ℕ) → drawn_word load who (2 * n + 1) % 8 ≡ 0 → call_drawn V load who n word ≡ RemoveCall (drawn_key load who (2 * n))
+unfolding call_drawn
+removal_drawn V load who n word h = rw (eq-eqb (drawn_word load who (2 * n + 1) % 8) 0 h) refl
 
 -- and any other a put
-pub put_drawn : (V : ℕ) (load : Load) (n : ℕ) → (drawn_word load 0 (2 * n + 1) % 8 ≡ 0 → ⊥) → drawn_call V load n ≡ PutCall (drawn_key load 0 (2 * n)) (replicate V (n + 1))
-unfolding drawn_call
-put_drawn V load n h = rw (not_eqb (drawn_word load 0 (2 * n + 1) % 8) 0 h) refl
+pub put_drawn : (V : ℕ) (load : Load) (who n word : ℕ) → (drawn_word load who (2 * n + 1) % 8 ≡ 0 → ⊥) → call_drawn V load who n word ≡ PutCall (drawn_key load who (2 * n)) (replicate V word)
+unfolding call_drawn
+put_drawn V load who n word h = rw (not_eqb (drawn_word load who (2 * n + 1) % 8) 0 h) refl
 
 -- ---- the readers
 -- an answer stays true as the history grows

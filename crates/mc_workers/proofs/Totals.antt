@@ -1,18 +1,24 @@
 -- How many answers there are of each kind.
-use Rattle.std.proofs.Common.{ℕ, ◌≡◌, ◌+◌, ◌≤◌, inl, inr, Bool, List, [], ◌∷◌, ◌++◌, cond, length, map, ap, refl, sym, ◌∙◌, arith}
-use Rattle.std.specs.Prelude.{count_by, sum_by}
+use Rattle.std.proofs.Common.{ℕ, zero, suc, ◌≡◌, ◌+◌, ◌≤◌, inl, inr, Bool, List, [], ◌∷◌, ◌++◌, cond, length, ap, refl, sym, ◌∙◌, arith}
+use Rattle.std.specs.Prelude.{All, count_by, sum_by}
 use Rattle.std.proofs.lemmas.List.Sums.{sum_by-append, sum_by-cons}
+use Rattle.mc_words.specs.History.{IsTrueAnswer}
 use Rattle.mc_words.specs.declared.history.Change.{Change}
 use Rattle.mc_words.specs.declared.history.Reply.{Reply}
 use Rattle.mc_words.specs.declared.history.Reply.TheVariants.{Found, Absent, Busy}
 use Rattle.mc_check.specs.Wrong.{AreWrong}
 use Rattle.mc_check.specs.declared.record.Record.{Record}
 use Rattle.mc_workers.specs.Loads.{is_absent, is_busy, is_found, total_of}
+use Rattle.mc_workers.specs.Inside.DeskSums.{answers_of}
 use Rattle.mc_workers.specs.declared.looking.Looking.{Looking}
 
 -- how many answers of one reader are of a kind
 abbrev pub count_of : {V : ℕ} → (Reply V → Bool) → List (Record V) → ℕ
 count_of {V} kind records = count_by (λ (r : Record V). kind r.reply) records
+
+all_true_at : {V : ℕ} (h : List (Change V)) (r : Record V) (rs : List (Record V)) → IsTrueAnswer h r.key r.reply → All (λ (x : Record V). IsTrueAnswer h x.key x.reply) rs → All (λ (x : Record V). IsTrueAnswer h x.key x.reply) (r ∷ rs)
+all_true_at {V} h r rs one all zero d low = one
+all_true_at {V} h r rs one all (suc k) d low = all k d (omega (arith, low))
 
 -- how many of all these readers
 abbrev pub counted : {V : ℕ} → (Reply V → Bool) → List (Looking V) → ℕ
@@ -44,10 +50,6 @@ counted_less {V} kind ls rest x e =
     let f : Looking V → ℕ = λ (l : Looking V). count_of kind l.records.items in
     ap (λ (z : List (Looking V)). sum_by f z) e ∙ (sum_by-append f rest (x ∷ []) ∙ (let one = sum_by-cons f x [] in omega (arith, one)))
 
--- the answers that the readers wrote down
-abbrev pub answers_of : {V : ℕ} → List (Looking V) → List (List (Record V))
-answers_of {V} ls = map (λ (l : Looking V). l.records.items) ls
-
 pub total_counted : {V : ℕ} (kind : Reply V → Bool) (ls : List (Looking V)) → counted kind ls ≡ total_of kind (answers_of ls)
 total_counted kind [] = refl
 total_counted {V} kind (l ∷ ls) =
@@ -58,6 +60,12 @@ total_counted {V} kind (l ∷ ls) =
 pub none_counted : {V : ℕ} (kind : Reply V → Bool) (ls : List (Looking V)) → length ls ≡ 0 → counted kind ls ≡ 0
 none_counted kind [] e = refl
 none_counted kind (l ∷ ls) e = absurd (omega (arith, e))
+
+-- where none is wrong, all are true
+pub all_true : {V : ℕ} (h : List (Change V)) (records : List (Record V)) (n : ℕ) → n ≡ 0 → AreWrong h records n → All (λ (r : Record V). IsTrueAnswer h r.key r.reply) records
+all_true {V} h [] n none w = λ k d low. absurd (omega (arith, low))
+all_true {V} h (r ∷ rs) n none (inl w) = λ k d low. all_true_at h r rs w.0 (all_true h rs n none w.1) k d low
+all_true {V} h (r ∷ rs) n none (inr w) = absurd (omega (arith, none, w.1.1))
 
 -- no more records are wrong than there are
 pub few_wrong : {V : ℕ} (h : List (Change V)) (records : List (Record V)) (n : ℕ) → AreWrong h records n → n ≤ length records

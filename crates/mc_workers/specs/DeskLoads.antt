@@ -1,11 +1,15 @@
 -- What a load reports whose writers take turns at a desk, and why there may be no report.
-use Rattle.std.specs.Prelude.{ℕ, ◌≡◌, ◌==◌, ◌+◌, ◌*◌, ◌<◌, ◌≤◌, ◌⊎◌, slice_index_or, if◌then◌else◌}
+use Rattle.std.specs.Prelude.{ℕ, ◌≡◌, ◌==◌, ◌+◌, ◌*◌, ◌<◌, ◌≤◌, ◌⊎◌, List, length, slice_index_or, sum_by, if◌then◌else◌}
 use Rattle.mc_words.specs.Readers.{most_readers}
 use Rattle.mc_words.specs.Shapes.{IsShape, RefusesShape}
+use Rattle.mc_words.specs.declared.history.Change.{Change}
 use Rattle.mc_words.specs.declared.shape.Shape.{Shape}
+use Rattle.mc_shared.specs.Records.{Opening}
+use Rattle.mc_check.specs.declared.record.Record.{Record}
 use Rattle.mc_cache.specs.declared.opening.OpenError.{OpenError}
 use Rattle.mc_cache.specs.declared.opening.OpenError.TheVariants as opening
-use Rattle.mc_workers.specs.Loads.{HasKeys}
+use Rattle.mc_workers.specs.Loads.{AreDrawn, AreTrue, HasKeys, is_absent, is_busy, is_found, total_of}
+use Rattle.mc_workers.specs.Turns.{AreOneHistory, HasMadeTries, Tries, journals_of}
 use Rattle.mc_workers.specs.declared.asked.Load.{Load}
 use Rattle.mc_workers.specs.declared.error.LoadError.{LoadError}
 use Rattle.mc_workers.specs.declared.error.LoadError.TheVariants as error
@@ -32,8 +36,34 @@ who_of readers writer = if writer == 0 then 0 else readers + writer
 
 -- ---- what is reported
 
--- the readers and the writers have made all their calls, and the totals add up
-pub record ReportsTurns (load : Load) (writers : ℕ) (told : DeskReport) : Type 0 where
+-- reader r has looked up as many keys as were asked for, each the one that was drawn
+pub record HasAsked {V : ℕ} (load : Load) (r : ℕ) (records : List (Record V)) : Type 0 where
+  pub many : length records ≡ load.lookups
+  pub drawn : AreDrawn load r records
+
+-- no answer was wrong: the changes of all writers are one history, of which each answer is true
+pub record AreRight {V : ℕ} (tries : List (Tries V)) (answers : List (List (Record V))) : Type 0 where
+  pub history : List (Change V)
+  pub one : AreOneHistory tries history
+  pub told : (r : ℕ) (d : List (Record V)) → r < length answers → AreTrue history (slice_index_or answers r d)
+
+-- the readers and the writers of one cache have made all their calls, the totals add up, and where nothing is wrong all answers are right
+pub record ReportsTurns (V : ℕ) (load : Load) (writers : ℕ) (told : DeskReport) : Type 0 where
+  pub opening : Opening
+  pub shape : opening.layout.shape ≡ load.shape
+  pub tries : List (Tries V)
+  pub many : length tries ≡ writers
+  pub made : (w : ℕ) (d : Tries V) → w < length tries → HasMadeTries V opening load w (slice_index_or tries w d)
+  pub held : told.held ≡ sum_by (λ (t : Tries V). t.turns.held) tries
+  pub answered : told.answered ≡ sum_by (λ (t : Tries V). t.turns.answered) tries
+  pub changes : told.changes ≡ length (journals_of tries)
+  pub answers : List (List (Record V))
+  pub readers : length answers ≡ load.readers
+  pub looked : (r : ℕ) (d : List (Record V)) → r < length answers → HasAsked load r (slice_index_or answers r d)
+  pub found : told.found ≡ total_of is_found answers
+  pub absent : told.absent ≡ total_of is_absent answers
+  pub busy : told.busy ≡ total_of is_busy answers
+  pub right : told.wrong ≡ 0 → AreRight tries answers
   pub lookups : told.lookups ≡ load.readers * load.lookups
   pub sum : told.found + told.absent + told.busy ≡ told.lookups
   pub calls : told.calls ≡ writers * load.writes
@@ -41,8 +71,8 @@ pub record ReportsTurns (load : Load) (writers : ℕ) (told : DeskReport) : Type
   pub few : told.changes ≤ 2 * told.answered
 
 -- so they are for each writer
-pub record RunsTurns (load : Load) (writers : ℕ) (told : DeskRun) : Type 0 where
-  pub report : ReportsTurns load writers told.report
+pub record RunsTurns (V : ℕ) (load : Load) (writers : ℕ) (told : DeskRun) : Type 0 where
+  pub report : ReportsTurns V load writers told.report
   pub each : (n : ℕ) (d : Turns) → n < writers → (slice_index_or told.turns n d).held + (slice_index_or told.turns n d).answered ≡ load.writes
 
 -- ---- what is refused

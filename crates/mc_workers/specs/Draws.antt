@@ -18,7 +18,11 @@ drawn_word load who n = (pcg32 (generator_after load who n)).0
 abbrev pub drawn_key : Load → ℕ → ℕ → ℕ
 drawn_key load who n = drawn_word load who n % load.keys
 
--- the writer's call n, counted from 0: a first word draws its key, and a second one whether it is a removal, as one in eight is; the words of a value are the call's number from 1 on
-unfoldable pub drawn_call : ℕ → Load → ℕ → Call
-drawn_call V load n =
-    if drawn_word load 0 (2 * n + 1) % 8 == 0 then RemoveCall (drawn_key load 0 (2 * n)) else PutCall (drawn_key load 0 (2 * n)) (replicate V (n + 1))
+-- call n of a worker that writes, counted from 0: a first word draws its key, and a second one whether it is a removal, as one in eight is; each word of a value is this one
+unfoldable pub call_drawn : ℕ → Load → ℕ → ℕ → ℕ → Call
+call_drawn V load who n word =
+    if drawn_word load who (2 * n + 1) % 8 == 0 then RemoveCall (drawn_key load who (2 * n)) else PutCall (drawn_key load who (2 * n)) (replicate V word)
+
+-- a single writer's call n: the words of a value are the call's number from 1 on
+abbrev pub drawn_call : ℕ → Load → ℕ → Call
+drawn_call V load n = call_drawn V load 0 n (n + 1)

@@ -9,4 +9,3 @@ pub mod Parted
 pub mod Refusals
 pub mod Tries
 pub mod Workers
-pub mod Turns

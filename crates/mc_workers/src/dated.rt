@@ -1,6 +1,7 @@
 //! The changes that a turn's answer tells, each with its moment, written down.
 ghost use Rattle.std.specs.Prelude.{◌≡◌, ◌+◌, ◌≤◌, ◌++◌, IfOk, vec_len, vec_capacity};
-ghost use Rattle.mc_workers.specs.Inside.Dates.{IsAfterEviction, put_dated, removal_dated};
+ghost use Rattle.mc_workers.specs.Dates.{put_dated, removal_dated};
+ghost use Rattle.mc_workers.specs.Inside.Dates.{IsAfterEviction};
 
 use mc_cache::{Change, DeskError, Put, PutError, Remove, Spent};
 

@@ -28,7 +28,7 @@ fn run_desk_workers<const V: usize, R: Threads + Sync, G: Gate>(
     requires writers { HasWriters writers }
     requires keys { HasKeys load.keys }
     requires ready { CanBeginAtDesk load writers workers }
-    ensures { MatchResult result (RunsTurns load writers) (RefusesTurns (G.may_refuse gate.now) load writers) }
+    ensures { MatchResult result (RunsTurns V load writers) (RefusesTurns (G.may_refuse gate.now) load writers) }
 {
     let _writers = writers;
     let DeskWorkers {
@@ -41,7 +41,7 @@ fn run_desk_workers<const V: usize, R: Threads + Sync, G: Gate>(
     run_at_desk(rt, gate, load, &cache, &desk, tryings, lookings);
     match least_refusal(seated.tryings.as_slice(), seated.lookings.as_slice()) {
         Some(refused) => Err(refused),
-        None => Ok(desk_run_of(alloc, load, desk, seated)),
+        None => Ok(desk_run_of(alloc, load, desk.end(), seated)),
     }
 }
 
@@ -55,7 +55,7 @@ pub fn run_desk<const V: usize, R: Threads + Sync, G: Gate>(
     gate: &G,
 ) -> Result<DeskRun, LoadError>
     requires width { IsWidth V }
-    ensures { MatchResult result (RunsTurns load writers) (RefusesTurns (G.may_refuse gate.now) load writers) }
+    ensures { MatchResult result (RunsTurns V load writers) (RefusesTurns (G.may_refuse gate.now) load writers) }
 {
     if writers == 0 || writers as usize > MOST_WRITERS {
         return Err(LoadError::Writers);
@@ -84,7 +84,7 @@ pub fn load_desk<const V: usize, R: Threads + Sync, G: Gate>(
     gate: &G,
 ) -> Result<DeskReport, LoadError>
     requires width { IsWidth V }
-    ensures { MatchResult result (ReportsTurns load writers) (RefusesTurns (G.may_refuse gate.now) load writers) }
+    ensures { MatchResult result (ReportsTurns V load writers) (RefusesTurns (G.may_refuse gate.now) load writers) }
 {
     match run_desk::<V, R, G>(rt, alloc, load, writers, gate) {
         Ok(run) => Ok(run.report),

@@ -5,7 +5,7 @@ ghost use Rattle.mc_words.specs.Readers.{HasReaders};
 ghost use Rattle.mc_shared.specs.Records.{Opening, new_readers};
 ghost use Rattle.mc_workers.specs.Loads.{HasKeys};
 ghost use Rattle.mc_workers.specs.DeskLoads.{HasSeats, HasWriters, RefusesTurns, most_writers, who_of};
-ghost use Rattle.mc_workers.specs.Inside.Turns.{stream_of};
+ghost use Rattle.mc_workers.specs.Turns.{stream_of};
 ghost use Rattle.mc_workers.specs.Inside.DeskBeginnings.{AreSeated, CanBeginAtDesk};
 ghost use Rattle.mc_workers.specs.Inside.Tries.{CanAllTry, CanTry};
 

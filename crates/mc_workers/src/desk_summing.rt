@@ -1,9 +1,10 @@
 //! What came of a load at a desk is checked and added up.
-ghost use Rattle.std.specs.Prelude.{ℕ, ◌≡◌, ◌+◌, ◌*◌, ◌≤◌, ◌<◌, length, slice_index_or, vec_len};
+ghost use Rattle.std.specs.Prelude.{ℕ, ◌≡◌, ◌+◌, ◌*◌, ◌≤◌, ◌<◌, IfNone, IfSome, length, slice_index_or, vec_len};
 ghost use Rattle.mc_words.specs.Places.{IsWidth};
 ghost use Rattle.mc_words.specs.Readers.{most_readers};
+ghost use Rattle.mc_workers.specs.Loads.{history_after, is_absent, is_busy, is_found, total_of};
 ghost use Rattle.mc_workers.specs.DeskLoads.{HasSeats, HasWriters, ReportsTurns, RunsTurns, most_writers};
-ghost use Rattle.mc_workers.specs.Inside.DeskSums.{HasRun, HaveAllLookedUp};
+ghost use Rattle.mc_workers.specs.Inside.DeskSums.{AreAllTrue, HasRun, HaveAllLookedUp, answers_of};
 ghost use Rattle.mc_workers.specs.Inside.Tries.{HaveTriedWhole};
 
 use crate::asked::Load;
@@ -13,7 +14,7 @@ use crate::merging::{gather, misplaced, write_history};
 use crate::report::{Report, Tally};
 use crate::trying::Trying;
 use crate::turns::{DeskReport, DeskRun, MOST_WRITERS, Turns};
-use mc_cache::Desk;
+use mc_cache::Writer;
 use mc_check::Checker;
 use std::alloc::Global;
 
@@ -29,6 +30,10 @@ fn add_up<const V: usize>(
     ensures lookups { result.lookups ≡ vec_len lookings.entry * load.lookups }
     ensures sum { result.found + result.absent + result.busy ≡ result.lookups }
     ensures changes { result.changes ≡ changes }
+    ensures found { result.found ≡ total_of is_found (answers_of lookings.entry.items) }
+    ensures absent { result.absent ≡ total_of is_absent (answers_of lookings.entry.items) }
+    ensures busy { result.busy ≡ total_of is_busy (answers_of lookings.entry.items) }
+    ensures told { result.wrong ≡ 0 → AreAllTrue checker.now lookings.entry.items }
 {
     let mut report = Report::none(0, changes);
     while let Some(looking) = lookings.pop() {
@@ -52,23 +57,28 @@ fn turns_of<const V: usize>(load: Load, tryings: &[Trying<V>]) -> [Turns; MOST_W
 }
 
 /// The length of the history, or 0 where the writer was dropped.
-fn moment_at<const V: usize>(desk: Desk<V>) -> u64 {
-    match desk.end() {
+fn moment_of<const V: usize>(writer: &Option<Writer<V>>) -> u64
+    ensures none { IfNone writer.now (result ≡ 0) }
+    ensures some { IfSome writer.now (λ w. result ≡ length (history_after V w.of.layout.shape w.acts)) }
+{
+    match writer {
         Some(writer) => writer.moment(),
         None => 0,
     }
 }
 
-/// Puts the changes of all writers in order, and checks every reader's answers against them.
+/// Puts the changes of all writers in order, and checks every reader's answers against them. The writer is the one that
+/// the desk gave back, if it did.
 pub(crate) fn desk_run_of<const V: usize>(
     alloc: Global,
     load: Load,
-    desk: Desk<V>,
+    writer: Option<Writer<V>>,
     seated: Seated<V>,
 ) -> DeskRun
     requires width { IsWidth V }
     requires run { HasRun load seated }
-    ensures { RunsTurns load (vec_len seated.entry.tryings) result }
+    ensures run { RunsTurns V load (vec_len seated.entry.tryings) result }
+    ensures last { result.report.wrong ≡ 0 → IfSome writer.entry (λ w. length (history_after V w.of.layout.shape w.acts) ≤ result.report.changes) }
 {
     let Seated {
         tryings,
@@ -78,7 +88,7 @@ pub(crate) fn desk_run_of<const V: usize>(
     } = seated;
     let turns = gather(load, tryings.as_slice(), &mut dated);
     dated.sort_unstable_by_key(|change| change.at);
-    let misplaced = misplaced(dated.as_slice(), moment_at(desk));
+    let misplaced = misplaced(dated.as_slice(), moment_of(&writer));
     write_history(&mut history, dated.as_slice());
     let checker = Checker::sorted(alloc, history.as_slice());
     let report = add_up(load, &checker, lookings, history.len() as u64);

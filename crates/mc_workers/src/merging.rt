@@ -1,8 +1,10 @@
 //! The changes of several writers in the order in which they were made.
-ghost use Rattle.std.specs.Prelude.{◌≡◌, ◌+◌, ◌*◌, ◌≤◌, ◌^◌, ◌<◌, ◌++◌, length, vec_len, vec_capacity};
+ghost use Rattle.std.specs.Prelude.{◌≡◌, ◌+◌, ◌*◌, ◌≤◌, ◌^◌, ◌<◌, ◌++◌, length, sum_by, vec_len, vec_capacity};
 ghost use Rattle.mc_words.specs.Places.{IsWidth};
 ghost use Rattle.mc_workers.specs.DeskLoads.{most_writers};
-ghost use Rattle.mc_workers.specs.Inside.Dates.{AreMoments};
+ghost use Rattle.mc_workers.specs.Dates.{AreMoments, changes_of};
+ghost use Rattle.mc_workers.specs.Turns.{journals_of};
+ghost use Rattle.mc_workers.specs.Inside.DeskSums.{all_tries};
 ghost use Rattle.mc_workers.specs.Inside.Tries.{HaveTriedWhole};
 
 use crate::asked::Load;
@@ -17,6 +19,7 @@ fn append<const V: usize>(all: &mut Vec<Dated<V>>, journal: &[Dated<V>])
     requires room { vec_len all.old + length journal.now ≤ vec_capacity all.old }
     ensures len { vec_len all.new ≡ vec_len all.old + length journal.now }
     ensures capacity { vec_capacity all.new ≡ vec_capacity all.old }
+    ensures items { all.new.items ≡ all.old.items ++ journal.now }
 {
     for n in 0..journal.len() {
         all.push_reserved(journal[n]);
@@ -36,6 +39,9 @@ pub(crate) fn gather<const V: usize>(
     requires room { 2 * load.writes * length tryings.now ≤ vec_capacity all.old }
     ensures sum { result.held + result.answered ≡ length tryings.now * load.writes }
     ensures few { vec_len all.new ≤ 2 * result.answered }
+    ensures held { result.held ≡ sum_by (λ t. t.turns.held) (all_tries tryings.now) }
+    ensures answered { result.answered ≡ sum_by (λ t. t.turns.answered) (all_tries tryings.now) }
+    ensures items { all.new.items ≡ all.old.items ++ journals_of (all_tries tryings.now) }
 {
     let mut turns = Turns::none();
     for n in 0..tryings.len() {
@@ -69,6 +75,7 @@ pub(crate) fn write_history<const V: usize>(history: &mut Vec<Change<V>>, all: &
     requires width { IsWidth V }
     requires room { vec_len history.old + length all.now ≤ vec_capacity history.old }
     ensures len { vec_len history.new ≡ vec_len history.old + length all.now }
+    ensures items { history.new.items ≡ history.old.items ++ changes_of all.now }
 {
     for n in 0..all.len() {
         history.push_reserved(all[n].change);

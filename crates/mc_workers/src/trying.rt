@@ -1,7 +1,6 @@
 //! A writer at work that tries for turns at a desk.
 ghost use Rattle.std.specs.Prelude.{ℕ, ◌≡◌, ◌+◌, ◌*◌, ◌^◌, ◌≤◌, ◌<◌, IfSome, vec_len, vec_capacity};
 ghost use Rattle.mc_workers.specs.DeskLoads.{most_writers};
-ghost use Rattle.mc_workers.specs.Inside.Turns.{stream_of};
 
 use crate::asked::Load;
 use crate::dated::{Dated, note_put_at, note_removal_at};
@@ -28,9 +27,19 @@ pub(crate) struct Trying<const V: usize> {
     ghost most_words: { V ≤ 8 },
 }
 
+/// The words of the value that a call of a writer puts.
+fn word_of(call: u64, writer: u32) -> u64
+    requires { (writer < most_writers) × (call < 2 ^ 33) }
+    ensures { result ≡ call + writer * 2 ^ 32 }
+{
+    call + (u64::from(writer) << 32)
+}
+
 impl<const V: usize> Trying<V> {
     ghost use Rattle.mc_workers.specs.Inside.Drawn.{HasDrawn};
-    ghost use Rattle.mc_workers.specs.Inside.Tries.{CanTry, HasTriedAll, HasTriedOnce};
+    ghost use Rattle.mc_plan.specs.WholeCalls.Call.{PutCall, RemoveCall};
+    ghost use Rattle.mc_workers.specs.Turns.{IsTryOf, drawn_turn, stream_of};
+    ghost use Rattle.mc_workers.specs.Inside.Tries.{CanTry, HasTriedAll, HasTriedOnce, tries_of};
 
     /// Tries once to remove a key. The moment of the answer, where it has one.
     fn try_remove(&mut self, cache: &Cache<V>, desk: &Desk<V>, key: u64) -> Option<u64>
@@ -39,6 +48,7 @@ impl<const V: usize> Trying<V> {
         requires room { vec_len self.old.journal + 2 ≤ vec_capacity self.old.journal }
         ensures draws { self.new.draws ≡ self.old.draws }
         ensures tried { HasTriedOnce V self.old self.new }
+        ensures made { IsTryOf V cache.now.layout.shape (RemoveCall key) (tries_of self.old) (tries_of self.new) }
     {
         let told = desk.try_remove(cache, &mut self.pass, key);
         self.turns.count(&told);
@@ -58,6 +68,7 @@ impl<const V: usize> Trying<V> {
         requires room { vec_len self.old.journal + 2 ≤ vec_capacity self.old.journal }
         ensures draws { self.new.draws ≡ self.old.draws }
         ensures tried { HasTriedOnce V self.old self.new }
+        ensures made { IsTryOf V cache.now.layout.shape (PutCall key value.entry) (tries_of self.old) (tries_of self.new) }
     {
         let told = desk.try_put(cache, &mut self.pass, key, value);
         self.turns.count(&told);
@@ -73,13 +84,15 @@ impl<const V: usize> Trying<V> {
         ensures tried { HasTriedOnce V self.old self.new }
         ensures drawn { (load : Load) (n : ℕ) → HasDrawn load (stream_of self.old.number) (2 * n) self.old.draws →
             HasDrawn load (stream_of self.old.number) (2 * (n + 1)) self.new.draws }
+        ensures made { (load : Load) (n : ℕ) → call ≡ n + 1 → HasDrawn load (stream_of self.old.number) (2 * n) self.old.draws →
+            IsTryOf V cache.now.layout.shape (drawn_turn V load self.old.number n) (tries_of self.old) (tries_of self.new) }
     {
         let key = self.draws.key();
         let is_removal = self.draws.is_removal();
         if is_removal {
             self.try_remove(cache, desk, key)
         } else {
-            let word = call + (u64::from(self.number) << 32);
+            let word = word_of(call, self.number);
             self.try_put(cache, desk, key, [word; V])
         }
     }

@@ -1,6 +1,6 @@
 //! What came of a load whose writers take turns at a desk.
 ghost use Rattle.std.specs.Prelude.{◌≡◌, ◌+◌, ◌^◌, ◌<◌};
-ghost use Rattle.mc_workers.specs.Inside.Turns.{answered_of, held_of};
+ghost use Rattle.mc_workers.specs.Turns.{answered_of, held_of};
 
 use mc_cache::DeskError;
 

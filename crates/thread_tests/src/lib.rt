@@ -15,6 +15,8 @@ mod desk;
 #[cfg(test)]
 mod desk_draws;
 #[cfg(test)]
+mod desk_gate;
+#[cfg(test)]
 mod evictions;
 #[cfg(test)]
 mod journal;

@@ -24,5 +24,6 @@ pub record AreSeated (V : ℕ) (o : Opening) (load : Load) (writers : ℕ) (s : 
 pub record CanBeginAtDesk {V : ℕ} (load : Load) (writers : ℕ) (w : DeskWorkers V) : Type 0 where
   pub shape : IsShape load.shape
   pub seats : HasSeats load.readers writers
+  pub layout : w.cache.layout.shape ≡ load.shape
   pub desk : w.desk ≡ w.cache
   pub seated : AreSeated V w.cache load writers w.seated

@@ -2,10 +2,14 @@
 use Rattle.std.specs.Prelude.{ℕ, ◌≡◌, ◌+◌, ◌*◌, ◌≤◌, ◌<◌, List, None, IfSome, length, slice_index_or, vec_capacity, vec_len}
 use Rattle.mc_shared.specs.Records.{Opening}
 use Rattle.mc_workers.specs.DeskLoads.{who_of}
-use Rattle.mc_workers.specs.Inside.Turns.{stream_of}
+use Rattle.mc_workers.specs.Turns.{HasTriedDrawn, Tries, stream_of}
 use Rattle.mc_workers.specs.Inside.Drawn.{HasDrawn}
 use Rattle.mc_workers.specs.declared.asked.Load.{Load}
 use Rattle.mc_workers.specs.declared.trying.Trying.{Trying}
+
+-- a writer's tries so far
+abbrev pub tries_of : {V : ℕ} → Trying V → Tries V
+tries_of t = record { pass = t.pass; turns = t.turns; journal = t.journal.items }
 
 -- writer n's pass is one of this cache
 pub record IsTrying (V : ℕ) (o : Opening) (load : Load) (n : ℕ) (t : Trying V) : Type 0 where
@@ -33,6 +37,7 @@ pub record HasTriedTimes (V : ℕ) (load : Load) (calls : ℕ) (t : Trying V) : 
 pub record CanTry (V : ℕ) (o : Opening) (load : Load) (n : ℕ) (t : Trying V) : Type 0 where
   pub trying : IsTrying V o load n t
   pub tried : HasTriedTimes V load 0 t
+  pub made : HasTriedDrawn V o.layout.shape load n 0 (tries_of t)
   pub refused : t.refused ≡ None
   pub room : 2 * load.writes ≤ vec_capacity t.journal
 
@@ -42,6 +47,7 @@ pub record HasTriedAll (V : ℕ) (o : Opening) (load : Load) (n : ℕ) (t : Tryi
   pub few : vec_len t.journal ≤ 2 * t.turns.answered
   pub most : t.turns.held + t.turns.answered ≤ load.writes
   pub whole : t.refused ≡ None → t.turns.held + t.turns.answered ≡ load.writes
+  pub made : t.refused ≡ None → HasTriedDrawn V o.layout.shape load n load.writes (tries_of t)
   pub refused : IfSome t.refused (λ call. (1 ≤ call) × (call ≤ load.writes))
 
 abbrev pub CanAllTry : (V : ℕ) → Opening → Load → List (Trying V) → Type 0

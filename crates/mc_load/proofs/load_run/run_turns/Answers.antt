@@ -12,7 +12,7 @@ returns-in-Ok g c =
       c.requires.several,
       (
         c.in-Ok.report,
-        subst (λ (l : Load). ReportsTurns l c.args.options.writers c.in-Ok.report) c.load_for.ensures c.in-Ok.ensures,
+        subst (λ (l : Load). ReportsTurns 4 l c.args.options.writers c.in-Ok.report) c.load_for.ensures c.in-Ok.ensures,
         lines_told_only (stream (g.W.Write.contents c.args.output.now) (g.W.Write.contents c.write_report.new.output)) _ _ c.write_report.result c.args.options.histogram c.of_turns.ensures c.write_report.ensures,
         Keeps-refl (g.E.Write.contents c.args.errors.now),
       ),

@@ -12,7 +12,7 @@ returns-in-Ok g c =
       c.requires.several,
       (
         c.in-Ok.run'.report,
-        subst (λ (l : Load). ReportsTurns l c.args.options.writers c.in-Ok.run'.report) c.load_for.ensures c.in-Ok.ensures.report,
+        subst (λ (l : Load). ReportsTurns 4 l c.args.options.writers c.in-Ok.run'.report) c.load_for.ensures c.in-Ok.ensures.report,
         lines_told (stream (g.W.Write.contents c.args.output.now) (g.W.Write.contents c.write_measured.new.output)) _ _ c.write_measured.result _ c.requires.histogram c.of_turns-told.ensures c.write_measured.ensures,
         Keeps-refl (g.E.Write.contents c.args.errors.now),
       ),

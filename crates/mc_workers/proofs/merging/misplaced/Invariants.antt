@@ -1,5 +1,5 @@
 use Rattle.std.proofs.Common.{ℕ, ◌≡◌, ◌+◌, ◌<◌, slice_index_or}
-use Rattle.mc_workers.specs.Inside.Dates.{AreMoments}
+use Rattle.mc_workers.specs.Dates.{AreMoments}
 use Rattle.mc_workers.specs.declared.dated.Dated.{Dated}
 use Rattle.mc_workers.proofs.merging.misplaced.Given as goal
 

@@ -23,7 +23,7 @@ returns-then-is_removal-clause-written g c load n place shape w =
       drawn = subst (HasDrawn load 0 (2 * (n + 1))) (sym c.remove.ensures.draws) (subst (λ (m : ℕ). HasDrawn load 0 m c.is_removal-is_removal.new.self) count second);
       made = made_more V load n c.args.self.now.writer c.remove.new.self.writer called.0 w.made
           (subst (λ (sh : Shape). HasCalled V sh (drawn_call V load n) c.args.self.now.writer c.remove.new.self.writer called.0) shape
-          (subst (λ (call : Call). HasCalled V c.args.cache.now.layout.shape call c.args.self.now.writer c.remove.new.self.writer called.0) (ap RemoveCall key ∙ sym (removal_drawn V load n removal)) called.1));
+          (subst (λ (call : Call). HasCalled V c.args.cache.now.layout.shape call c.args.self.now.writer c.remove.new.self.writer called.0) (ap RemoveCall key ∙ sym (removal_drawn V load 0 n (n + 1) removal)) called.1));
     }
 
 pub returns-else-is_removal-clause-written : goal.returns-else-is_removal-clause-written
@@ -40,5 +40,5 @@ returns-else-is_removal-clause-written g c load n place shape w =
       made = made_more V load n c.args.self.now.writer c.put.new.self.writer called.0 w.made
           (subst (λ (sh : Shape). HasCalled V sh (drawn_call V load n) c.args.self.now.writer c.put.new.self.writer called.0) shape
           (subst (λ (call : Call). HasCalled V c.args.cache.now.layout.shape call c.args.self.now.writer c.put.new.self.writer called.0)
-          (ap (λ (k : ℕ). PutCall k (replicate V c.args.call)) key ∙ (ap (λ (v : ℕ). PutCall (drawn_key load 0 (2 * n)) (replicate V v)) place ∙ sym (put_drawn V load n none))) called.1));
+          (ap (λ (k : ℕ). PutCall k (replicate V c.args.call)) key ∙ (ap (λ (v : ℕ). PutCall (drawn_key load 0 (2 * n)) (replicate V v)) place ∙ sym (put_drawn V load 0 n (n + 1) none))) called.1));
     }
