@@ -8,8 +8,8 @@
  *   1. A handle is memory of yours. You zeroed it once (CEFRODIL_EMPTY), and since then only this library wrote it. To
  *      move a handle, copy it and zero the old place. Never use a copy beside the original.
  *   2. One call at a time uses a handle. It passes from one thread to another by a lock, by a thread's start or join, or
- *      by an atomic: a store with release order, and a load with acquire order that reads it. Each of these puts the
- *      earlier calls before the later ones. Calls with different handles of one cache need no synchronization.
+ *      by an atomic that one thread stores with release order and the other loads with acquire order. Each of these
+ *      puts the earlier calls before the later ones. Calls with different handles of one cache need no synchronization.
  *   3. Pointers are to memory of yours, aligned for their types and valid for the whole call. None of it overlaps. They
  *      are never null, even if a count is 0; only cefrodil_close takes a null handle, and cefrodil_get a null reply.
  *      `value` has `words` words; an array has as many elements as its count says.
