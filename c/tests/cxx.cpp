@@ -1,18 +1,10 @@
 // The C++ header: handles move and close themselves, and answers are as in C. Compiled as C++17 and as C++20.
 #include "cefrodil.hpp"
+#include "must.h"
 #include <cstdio>
 #include <cstdlib>
 #include <thread>
 #include <type_traits>
-
-static int line_of_failure;
-
-#define MUST(condition) \
-    do { \
-        if (!(condition) && line_of_failure == 0) { \
-            line_of_failure = __LINE__; \
-        } \
-    } while (0)
 
 using cefrodil::Pass;
 using cefrodil::Reader;

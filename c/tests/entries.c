@@ -1,17 +1,10 @@
 /* A cache is opened with entries: what becomes of each, and what is refused. */
 #include "cefrodil.h"
+#include "must.h"
 #include <stdio.h>
 
 static cefrodil_handle writer, readers[2];
 static cefrodil_reply reply;
-static int line_of_failure;
-
-#define MUST(condition) \
-    do { \
-        if (!(condition) && line_of_failure == 0) { \
-            line_of_failure = __LINE__; \
-        } \
-    } while (0)
 
 /* So many buckets and items, one stripe, and chains of at most two. */
 static cefrodil_shape shape_of(uint32_t buckets, uint32_t items, uint64_t limit) {

@@ -1,5 +1,6 @@
 /* Shards: the statuses of their opening, and each call by their passes. */
 #include "cefrodil.h"
+#include "must.h"
 #include <stdio.h>
 
 enum { SHARDS = 8, KEYS = 500 };
@@ -7,14 +8,6 @@ enum { SHARDS = 8, KEYS = 500 };
 static cefrodil_handle passes[2], none;
 static cefrodil_shape shape;
 static cefrodil_reply reply;
-static int line_of_failure;
-
-#define MUST(condition) \
-    do { \
-        if (!(condition) && line_of_failure == 0) { \
-            line_of_failure = __LINE__; \
-        } \
-    } while (0)
 
 static uint32_t opened(uint32_t shards) { return cefrodil_open_shards(&shape, shards, 2, passes, 2); }
 

@@ -1,5 +1,6 @@
 /* Each status of each call, and what a call leaves alone. */
 #include "cefrodil.h"
+#include "must.h"
 #include <stdio.h>
 #include <stdlib.h>
 
@@ -7,14 +8,6 @@ static cefrodil_handle writer, readers[2], passes[2], none;
 static cefrodil_shape shape;
 static cefrodil_reply reply;
 static cefrodil_answer answers[4];
-static int line_of_failure;
-
-#define MUST(condition) \
-    do { \
-        if (!(condition) && line_of_failure == 0) { \
-            line_of_failure = __LINE__; \
-        } \
-    } while (0)
 
 static uint32_t opened(void) { return cefrodil_open(&shape, 2, &writer, readers, 2); }
 
