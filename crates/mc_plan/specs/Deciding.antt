@@ -1,8 +1,10 @@
 -- What the books' decisions say of the state in which they were made.
-use Rattle.std.specs.Prelude.{ℕ, ◌<◌, List, [], Option, Some, None, Result, Ok, Err}
+use Rattle.std.specs.Prelude.{ℕ, ◌≡◌, ◌<◌, List, [], ◌∷◌, ◌++◌, length, Option, Some, None, Result, Ok, Err}
 use Rattle.mc_words.specs.Chains.{NoChain}
 use Rattle.mc_words.specs.Checks.{shape_of}
+use Rattle.mc_words.specs.History.{map_value}
 use Rattle.mc_words.specs.KeyParts.{HasParts}
+use Rattle.mc_words.specs.Standing.{Stands}
 use Rattle.mc_theory.specs.States.{State}
 use Rattle.mc_plan.specs.WholeCalls.{Call, IsSweepOf, PutCall, PutIfCall, RemoveCall, state_after_sweep}
 use Rattle.mc_plan.specs.Books.{IsLackingKey, IsPlanned, Waits}
@@ -19,6 +21,8 @@ use Rattle.mc_plan.specs.declared.decision.Removal.{Removal}
 use Rattle.mc_plan.specs.declared.decision.Renewal.{Renewal}
 use Rattle.mc_plan.specs.declared.decision.Replacement.{Replacement}
 use Rattle.mc_plan.specs.declared.decision.Storing.{Storing}
+use Rattle.mc_plan.specs.declared.decision.Vacancy.{Vacancy}
+use Rattle.mc_plan.specs.declared.decision.Vacancy.TheVariants as vacancy
 use Rattle.mc_plan.specs.declared.waiting.Waiting.{Waiting}
 use Rattle.mc_search.specs.declared.room.Room.{Room}
 use Rattle.mc_search.specs.Sweeps.{Swept}
@@ -38,6 +42,14 @@ IsDecided V books k v s (decision.Refuse why) =
     IsPlanned V books [] (PutCall k v) s s (answer.Put (Err why)) × IsSweepOf V (shape_of books.checked) s [] (answer.Put (Err why))
 IsDecided V books k v s (decision.Renew item at) = IsPlanned V books (renewal_acts k v at item) (PutCall k v) s s (answer.Put (Ok (put.Renewed at)))
 IsDecided V books k v s (decision.Insert at) = IsLackingKey V books k v s at
+
+-- in state s this was found of a key that must be absent: its item and its stamp, or that it is absent
+abbrev pub IsVacancy : (V : ℕ) → Books → ℕ → List ℕ → State V → Vacancy → Type 0
+IsVacancy V books k v s (vacancy.Taken item since) =
+    ((q : ℕ) × Stands V (shape_of books.checked) s.words k q item) × ((value : List ℕ) × (map_value s.history k ≡ Some (value ++ since ∷ [])) × (length value ≡ V))
+IsVacancy V books k v s vacancy.Spent =
+    (map_value s.history k ≡ None) × IsDecided V books k v s (decision.Refuse refusal.Spent)
+IsVacancy V books k v s (vacancy.Free at) = (map_value s.history k ≡ None) × IsLackingKey V books k v s at
 
 -- a put on a condition in state s is decided: it renews the key, or changes nothing
 abbrev pub IsIfDecided : (V : ℕ) → Books → ℕ → ℕ → List ℕ → State V → Result Renewal IfError → Type 0

@@ -46,6 +46,17 @@ pub enum IfError {
     Changed { since: u64 },
 }
 
+/// Why a put of a key that must be absent stored nothing.
+#[derive(Clone, Copy, Debug, PartialEq, Eq, Error)]
+pub enum AbsentError {
+    /// The key is there. Its last put was at the moment `since`.
+    #[error("present since {since}")]
+    Present { since: u64 },
+    /// The key is absent, and its put was refused.
+    #[error("{0}")]
+    Put(PutError),
+}
+
 /// Why a put that takes no other key's item stored nothing. The first reason that applies is told, `Spent` before the others.
 #[derive(Clone, Copy, Debug, PartialEq, Eq, Error)]
 pub enum Why {

@@ -8,7 +8,7 @@ ghost use Rattle.mc_theory.specs.States.{State, opening};
 mod inserting;
 
 use crate::answer::{IfError, PutError, Spent};
-use crate::decision::{Decision, Move, Removal, Renewal};
+use crate::decision::{Decision, Move, Removal, Renewal, Vacancy};
 use crate::value::have_words;
 use arrayvec::ArrayVec;
 use mc_search::{Finder, FreeItems, Path, Sweep, find, find_by, moment, stamp_at};
@@ -34,7 +34,7 @@ pub struct Books {
 
 impl Books {
     ghost use Rattle.mc_plan.specs.Books.{AreBooksOf};
-    ghost use Rattle.mc_plan.specs.Deciding.{IsDecided, IsIfDecided, IsRemovalDecided};
+    ghost use Rattle.mc_plan.specs.Deciding.{IsDecided, IsIfDecided, IsRemovalDecided, IsVacancy};
     ghost use Rattle.mc_search.specs.Sweeps.{HasSwept};
 
     /// The books of a new table.
@@ -64,6 +64,14 @@ impl Books {
         self.version_steps + changes > self.checked.shape().limit
     }
 
+    /// The most version changes of one put: two for each move, for its eviction and for itself.
+    fn most_changes(&self) -> u64
+        ensures value { result ≡ 2 * ((shape_of self.now.checked).depth + 2) }
+        ensures few { result < 2 ^ 8 }
+    {
+        2 * (u64::from(self.checked.shape().depth) + 2)
+    }
+
     /// The sweep for an item, from where the hand stands.
     pub(crate) fn sweep(&self) -> Sweep
         requires { (V : ℕ) × (s : State V) × AreBooksOf V self.now s }
@@ -89,8 +97,7 @@ impl Books {
         ensures kept { peek.new ≡ peek.old }
     {
         have_words(value.as_slice());
-        let most = 2 * (u64::from(self.checked.shape().depth) + 2);
-        if self.is_spent(most) {
+        if self.is_spent(self.most_changes()) {
             return Decision::Refuse(PutError::Spent);
         }
         let at = moment(&self.checked, peek) + 1;
@@ -108,6 +115,34 @@ impl Books {
                 self.version_steps -= changes;
                 Decision::Insert { at }
             }
+        }
+    }
+
+    /// Looks for a key that must be absent, before it is put. What is found decides nothing yet: the books stay as they are.
+    /// Condition: the books are those of the table whose words are looked at, between two calls, and the parts are the key's.
+    #[inline(always)]
+    pub fn vacancy<const V: usize, P: Peek>(
+        &self,
+        peek: &mut P,
+        key: u64,
+        parts: KeyParts,
+        value: &[u64; V],
+    ) -> Vacancy
+        requires books { (s : State V) × AreBooksOf V self.now s × (P.words peek.old ≡ s.words) }
+        requires parts { HasParts (shape_of self.now.checked) key parts }
+        ensures vacancy { (s : State V) → AreBooksOf V self.now s → P.words peek.old ≡ s.words → IsVacancy V self.now key value.now s result }
+        ensures kept { peek.new ≡ peek.old }
+    {
+        have_words(value.as_slice());
+        if let Some((_, item)) = find_by::<V, P>(&self.checked, peek, key, parts) {
+            let since = stamp_at::<V, P>(&self.checked, peek, item);
+            return Vacancy::Taken { item, since };
+        }
+        if self.is_spent(self.most_changes()) {
+            return Vacancy::Spent;
+        }
+        Vacancy::Free {
+            at: moment(&self.checked, peek) + 1,
         }
     }
 

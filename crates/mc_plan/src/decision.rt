@@ -31,6 +31,17 @@ pub struct Renewal {
     pub at: u64,
 }
 
+/// What the put of a key that must be absent finds.
+#[derive(Clone, Copy)]
+pub enum Vacancy {
+    /// The key stands at the item. Its last put was at the moment `since`.
+    Taken { item: u32, since: u64 },
+    /// The key is absent, and its put could pass the limit.
+    Spent,
+    /// The key is absent. Its put is to have the moment `at`.
+    Free { at: u64 },
+}
+
 /// The moves that make room for a key, in the order in which they are made. Of more than one the books keep the list, as it is large.
 #[derive(Clone, Copy)]
 pub enum Moves {

@@ -30,11 +30,13 @@ mod take_out;
 mod value;
 mod waiting;
 
-pub use answer::{Answer, IfError, Put, PutError, Remove, Spent, Why};
+pub use answer::{AbsentError, Answer, IfError, Put, PutError, Remove, Spent, Why};
 use arrayvec::ArrayVec;
 pub use books::Books;
 pub use clerk::Clerk;
-pub use decision::{Decision, Move, Moves, Removal, Renewal, Replacement, Storing, Victim};
+pub use decision::{
+    Decision, Move, Moves, Removal, Renewal, Replacement, Storing, Vacancy, Victim,
+};
 pub use fill::{add_fill, plan_fill};
 pub use mc_search::{
     Finder, Held, NoMemory, OneMove, Path, Peek, Room, Sweep, entries, find, moment, read,

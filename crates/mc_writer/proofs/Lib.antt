@@ -3,3 +3,4 @@ pub mod Pens
 pub mod RunningDeeds
 pub mod WholeCalls
 pub mod Rests
+pub mod AbsentCalls

@@ -11,6 +11,7 @@
 //! ```
 #![tactic(auto)]
 
+mod absent_call;
 mod deeds;
 mod get_call;
 mod if_call;
@@ -20,6 +21,7 @@ mod pen;
 mod put_call;
 mod remove_call;
 
+pub use absent_call::put_if_absent;
 pub use get_call::{get, look, moment};
 pub use if_call::put_if;
 pub use kept_call::put_kept;

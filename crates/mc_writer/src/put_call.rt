@@ -20,7 +20,7 @@ impl<'a, const V: usize> Pen<'a, V> {
 
     /// Puts a key that is not there.
     #[inline(always)]
-    fn put_new(
+    pub(crate) fn put_new(
         &mut self,
         books: &mut Books,
         key: u64,

@@ -1,6 +1,5 @@
 use Rattle.std.proofs.Common.{All, ℕ, List, Err, ◌≡◌, ◌+◌, ◌-◌, ◌∙◌, ap, arith, refl, subst}
 use Rattle.std.proofs.lemmas.Bool.{false≢true}
-use Rattle.mc_words.specs.declared.shape.Shape.{Shape}
 use Rattle.mc_words.specs.Answers.{PutIsSpent}
 use Rattle.mc_words.specs.Checks.{shape_of}
 use Rattle.mc_words.specs.History.{IsWord}
@@ -19,7 +18,7 @@ use Rattle.mc_plan.proofs.books.Books.decide.Given.{Over}
 pub returns-then-is_spent-clause-decided : goal.returns-then-is_spent-clause-decided
 returns-then-is_spent-clause-decided g c s old same =
     let b = c.args.self.now in
-    let spent : PutIsSpent (shape_of b.checked) (quiet_of s) = omega (arith, c.if-is_spent.ensures.0 refl, c.from.ensures, ap (λ (x : Shape). x.depth) c.shape.ensures, old.version_steps) in
+    let spent : PutIsSpent (shape_of b.checked) (quiet_of s) = omega (arith, c.if-is_spent.ensures.0 refl, c.most_changes.ensures.value, old.version_steps) in
     (idle_planned g.row.V b (PutCall c.args.key c.args.value.now) s (answer.Put (Err why.Spent)) old (spent, refl) tt, refl)
 
 -- the words of the value have 64 bits each
@@ -29,7 +28,7 @@ words g c = subst (λ (x : List ℕ). All IsWord x) c.as_slice.ensures c.have_wo
 -- the limit is far enough
 unspent : (g : Over) (c : Else-is_spent g) (s : State g.row.V) → AreBooksOf g.row.V c.args.self.now s → PutIsSpent (shape_of c.args.self.now.checked) (quiet_of s) → ⊥
 unspent g c s old spent =
-    false≢true (c.if-is_spent.ensures.1 (omega (arith, spent, c.from.ensures, ap (λ (x : Shape). x.depth) c.shape.ensures, old.version_steps)))
+    false≢true (c.if-is_spent.ensures.1 (omega (arith, spent, c.most_changes.ensures.value, old.version_steps)))
 
 pub find_by-requires-clause-placed : goal.find_by-requires-clause-placed
 find_by-requires-clause-placed g c =
