@@ -13,6 +13,8 @@ use Rattle.mc_plan.specs.Making.{IsQuiet}
 use Rattle.mc_plan.specs.WholeCalls.{Call, PutCall, PutIfCall, RemoveCall, quiet_of}
 use Rattle.mc_plan.specs.declared.answer.Answer.{Answer}
 use Rattle.mc_plan.specs.declared.answer.Answer.TheVariants as answer
+use Rattle.mc_plan.specs.declared.answer.AbsentError.{AbsentError}
+use Rattle.mc_plan.specs.declared.answer.AbsentError.TheVariants as absent
 use Rattle.mc_plan.specs.declared.answer.IfError.{IfError}
 use Rattle.mc_plan.specs.declared.answer.IfError.TheVariants as why
 use Rattle.mc_plan.specs.declared.answer.Put.{Put}
@@ -21,8 +23,8 @@ use Rattle.mc_plan.specs.declared.answer.PutError.TheVariants.{NoPath, AllRecent
 use Rattle.mc_plan.specs.declared.answer.Remove.{Remove}
 use Rattle.mc_plan.specs.declared.answer.Spent.{Spent as RemoveSpent}
 use Rattle.mc_shared.specs.Records.{Opening, ReaderRecord, WriterRecord, reader_record}
-use Rattle.mc_writer.specs.WriterCalls.{HasCalled}
-use Rattle.mc_cache.specs.Failing.{IsSpent, PutFails, PutIfFails, RemovalFails, TurnFails, version_changes, versions_seen}
+use Rattle.mc_writer.specs.WriterCalls.{HasCalled, HasPutIfAbsent}
+use Rattle.mc_cache.specs.Failing.{IsSpent, PutFails, PutIfAbsentFails, PutIfFails, RemovalFails, TurnFails, version_changes, versions_seen}
 use Rattle.mc_cache.specs.Inside.Turned.{HasEnded, turned}
 use Rattle.mc_cache.specs.Plain.{history, seen}
 use Rattle.mc_cache.specs.declared.desk.DeskError.{DeskError}
@@ -75,6 +77,11 @@ module _ (V : ℕ) (o cells : Opening) (self seat after : WriterRecord) (table :
   unfolding history version_changes
   put_if_fails k since v told h =
       of_record (λ (sh : Shape) (s : State V). PutIfFails sh s.history s.version_steps told) (PutIfCall k since v) (answer.PutIf told) h (if_answer_fails V cells.layout.shape (state_of V cells.layout.shape seat.acts) (after_all cells.layout.shape (state_of V cells.layout.shape seat.acts) h.made) k since v told h.answered.quiet h.answered.means)
+
+  pub put_if_absent_fails : (k : ℕ) (v : List ℕ) (told : Result Put AbsentError) → HasPutIfAbsent V cells.layout.shape k v seat after told → PutIfAbsentFails o.layout.shape (history V after) (version_changes V after) k told
+  put_if_absent_fails k v (Ok told) h = tt
+  put_if_absent_fails k v (Err (absent.Put refused)) h = put_fails k v (Err refused) h.called
+  put_if_absent_fails k v (Err (absent.Present since)) h = tt
 
   pub removal_fails : (k : ℕ) (told : Result Remove RemoveSpent) → HasCalled V cells.layout.shape (RemoveCall k) seat after (answer.Remove told) → RemovalFails o.layout.shape (history V after) (version_changes V after) told
   unfolding history version_changes

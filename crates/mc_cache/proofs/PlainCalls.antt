@@ -17,6 +17,8 @@ use Rattle.mc_theory.specs.States.{State, opening}
 use Rattle.mc_plan.specs.Calls.{IfAnswers, PutAnswers, RemoveAnswers}
 use Rattle.mc_plan.specs.WholeCalls.{PutCall, PutIfCall, RemoveCall, quiet_of}
 use Rattle.mc_plan.specs.declared.answer.Answer.TheVariants as answer
+use Rattle.mc_plan.specs.declared.answer.AbsentError.{AbsentError}
+use Rattle.mc_plan.specs.declared.answer.AbsentError.TheVariants as absent
 use Rattle.mc_plan.specs.declared.answer.IfError.{IfError}
 use Rattle.mc_plan.specs.declared.answer.IfError.TheVariants as why
 use Rattle.mc_plan.specs.declared.answer.Put.{Put}
@@ -31,7 +33,7 @@ use Rattle.mc_shared.specs.Records.{IsNewReader, Opening, ReaderRecord, WriterRe
 use Rattle.mc_shared.specs.Views.{IsFrontOf, with_bit}
 use Rattle.mc_reader.specs.Records.{AreTrueAnswers, HaveLooked}
 use Rattle.mc_reader.proofs.ManyLookups.{grown}
-use Rattle.mc_writer.specs.WriterCalls.{HasCalled, HasGot, IsRested}
+use Rattle.mc_writer.specs.WriterCalls.{HasCalled, HasGot, HasPutIfAbsent, IsRested}
 use Rattle.mc_writer.proofs.Rests.{agrees_now, shape_is}
 use Rattle.mc_words.specs.Checks.{shape_of}
 use Rattle.mc_theory.specs.Phases.{Quiet as QuietPhase}
@@ -44,7 +46,7 @@ use Rattle.mc_plan.specs.declared.books.Books.{Books}
 use Rattle.mc_words.specs.Places.{moment}
 use Rattle.mc_theory.specs.declared.act.Act.TheVariants.{Mark}
 use Rattle.mc_shared.specs.declared.layout.Layout.{Layout}
-use Rattle.mc_cache.specs.Plain.{Begins, HasAnswered, HasMet, PutIfMeans, PutMeans, RemovalMeans, TellsNow, history, seen}
+use Rattle.mc_cache.specs.Plain.{Begins, HasAnswered, HasMet, PutIfAbsentMeans, PutIfMeans, PutMeans, RemovalMeans, TellsNow, history, seen}
 
 -- ---- the states before a call and after it
 -- a put's key has the value after it, and the moment of the put behind it
@@ -150,6 +152,12 @@ module _ (V : ℕ) (o cells : Opening) (self seat : WriterRecord) (table : cells
   -- what the map holds while the writer rests
   pub held_now : (k : ℕ) (held : Option (List ℕ)) → map_value (state_of V cells.layout.shape seat.acts).history k ≡ held → map_value (history V self) k ≡ held
   held_now k held e = ap (λ (x : List (Change V)). map_value x k) history_before ∙ e
+
+  pub put_if_absent_means : (after : WriterRecord) (k : ℕ) (v : List ℕ) (told : Result Put AbsentError) → HasPutIfAbsent V cells.layout.shape k v seat after told → PutIfAbsentMeans V (history V self) (history V after) k v told
+  put_if_absent_means after k v (Ok told) h = (held_now k None h.absent, put_means after k v (Ok told) h.called)
+  put_if_absent_means after k v (Err (absent.Put refused)) h = (held_now k None h.absent, put_means after k v (Err refused) h.called)
+  put_if_absent_means after k v (Err (absent.Present since)) h =
+      ((h.value, held_now k (Some (h.value ++ since ∷ [])) h.got.replies.0, h.size), history_kept after k (Found h.value h.at since) h.got ∙ sym history_before)
 
   pub entries_now : (es : List (ℕ × List ℕ)) → AreEntriesOf V (state_of V cells.layout.shape seat.acts).history es → AreEntriesOf V (history V self) es
   entries_now es e = subst (λ (h : List (Change V)). AreEntriesOf V h es) (sym history_before) e

@@ -18,16 +18,16 @@ use Rattle.mc_cache.specs.Inside.Turned.{HasBegunWith, HasEnded, turned}
 use Rattle.mc_cache.specs.Orders.{HasAnsweredInOrder}
 use Rattle.mc_cache.specs.Plain.{Begins, HasAnswered, HasMet, TellsNow, TurnMeans, history, seen}
 use Rattle.mc_cache.specs.Resting.{IsAtRest}
-use Rattle.mc_cache.specs.Turns.{HasHadTurn, HasTried, IsLaidDown}
+use Rattle.mc_cache.specs.Turns.{HasHadTurn, HasTried, HasTriedTo, IsLaidDown}
 use Rattle.mc_cache.specs.declared.desk.DeskError.{DeskError}
 
 -- what is always known of a writer
 pub laid_down : (V : ℕ) (w : WriterRecord) → IsRun w.of.layout w.acts → length w.notes ≡ length w.acts → IsAtRest V w → IsLaidDown V w
 laid_down V w run paired rests = record { run = run; paired = paired; rests = rests }
 
-had_turn : (V : ℕ) (o : Opening) (call : Call) (told : Answer) (old mid new : ReaderRecord) (before after : WriterRecord)
-    → old.of ≡ o → HasBegunWith V o old mid before → HasCalled V o.layout.shape call before after told → HasEnded V o.layout.shape mid new after → HasHadTurn V o.layout.shape call old new told
-had_turn V o call told old mid new before after of b called e = record {
+had_turn : (V : ℕ) (o : Opening) (Called : WriterRecord → WriterRecord → Type 0) (old mid new : ReaderRecord) (before after : WriterRecord)
+    → old.of ≡ o → HasBegunWith V o old mid before → Called before after → HasEnded V o.layout.shape mid new after → HasHadTurn V o.layout.shape Called old new
+had_turn V o Called old mid new before after of b called e = record {
   before = before;
   after = after;
   of = b.of ∙ sym of;
@@ -39,15 +39,21 @@ had_turn V o call told old mid new before after of b called e = record {
   order = subst (λ (r : ReaderRecord). HasAnsweredInOrder V o.layout.shape after r.number r.done) b.caught e.order;
 }
 
-answered_turn : {T E : Type 0} (V : ℕ) (sh : Shape) (call : Call) (told : Result T E → Answer) (old new : ReaderRecord) (r : Result T E) → HasHadTurn V sh call old new (told r) → HasTried V sh call told old new (turned r)
-answered_turn V sh call told old new (Ok done) h = h
-answered_turn V sh call told old new (Err why) h = h
+answered_turn : {T E : Type 0} (V : ℕ) (sh : Shape) (Called : Result T E → WriterRecord → WriterRecord → Type 0) (old new : ReaderRecord) (r : Result T E) → HasHadTurn V sh (Called r) old new → HasTriedTo V sh Called old new (turned r)
+answered_turn V sh Called old new (Ok done) h = h
+answered_turn V sh Called old new (Err why) h = h
 
 -- a turn that was begun, its call and its end
+pub tried_to : {T E : Type 0} (V : ℕ) (o : Opening) (Called : Result T E → WriterRecord → WriterRecord → Type 0) (old mid new : ReaderRecord) (before after : WriterRecord) (r : Result T E) (result : Result T (DeskError E))
+    → old.of ≡ o → HasBegunWith V o old mid before → Called r before after → HasEnded V o.layout.shape mid new after → result ≡ turned r → HasTriedTo V o.layout.shape Called old new result
+tried_to V o Called old mid new before after r result of b called e is =
+    subst (HasTriedTo V o.layout.shape Called old new) (sym is) (answered_turn V o.layout.shape Called old new r (had_turn V o (Called r) old mid new before after of b called e))
+
+-- the same, where the call is a whole one
 pub tried : {T E : Type 0} (V : ℕ) (o : Opening) (call : Call) (told : Result T E → Answer) (old mid new : ReaderRecord) (before after : WriterRecord) (r : Result T E) (result : Result T (DeskError E))
     → old.of ≡ o → HasBegunWith V o old mid before → HasCalled V o.layout.shape call before after (told r) → HasEnded V o.layout.shape mid new after → result ≡ turned r → HasTried V o.layout.shape call told old new result
 tried V o call told old mid new before after r result of b called e is =
-    subst (HasTried V o.layout.shape call told old new) (sym is) (answered_turn V o.layout.shape call told old new r (had_turn V o call (told r) old mid new before after of b called e))
+    tried_to V o (λ answer first last. HasCalled V o.layout.shape call first last (told answer)) old mid new before after r result of b called e is
 
 answered_means : {T E : Type 0} {V : ℕ} (Means : List (Change V) → List (Change V) → Result T E → Type 0) (h h' before : List (Change V)) (r : Result T E) → Begins h before → Means before h' r → TurnMeans Means h h' (turned r)
 answered_means Means h h' before (Ok done) b m = (before, b, m)

@@ -5,6 +5,8 @@ use Rattle.mc_words.specs.History.{key_count, map_value}
 use Rattle.mc_words.specs.declared.history.Change.{Change}
 use Rattle.mc_words.specs.declared.shape.Shape.{Shape}
 use Rattle.mc_theory.specs.Lists.{state_of}
+use Rattle.mc_plan.specs.declared.answer.AbsentError.{AbsentError}
+use Rattle.mc_plan.specs.declared.answer.AbsentError.TheVariants as absent
 use Rattle.mc_plan.specs.declared.answer.IfError.{IfError}
 use Rattle.mc_plan.specs.declared.answer.IfError.TheVariants as why
 use Rattle.mc_plan.specs.declared.answer.Put.{Put}
@@ -34,6 +36,12 @@ PutFails sh h made k (Ok told) = Unit {0}
 PutFails sh h made k (Err NoPath) = map_value h k ≡ None
 PutFails sh h made k (Err AllRecent) = (map_value h k ≡ None) × (key_count h ≡ sh.items)
 PutFails sh h made k (Err Spent) = IsSpent sh h made (2 * (sh.depth + 2))
+
+-- a put that puts a key only if it is absent may fail as a put may. That the key is there is no failure of the put
+abbrev pub PutIfAbsentFails : {V : ℕ} → Shape → List (Change V) → ℕ → ℕ → Result Put AbsentError → Type 0
+PutIfAbsentFails sh h made k (Ok told) = Unit {0}
+PutIfAbsentFails sh h made k (Err (absent.Put why)) = PutFails sh h made k (Err why)
+PutIfAbsentFails sh h made k (Err (absent.Present since)) = Unit {0}
 
 -- a put on a condition, which overwrites, makes two version changes
 abbrev pub PutIfFails : {V : ℕ} → Shape → List (Change V) → ℕ → Result ℕ IfError → Type 0

@@ -9,6 +9,8 @@ use Rattle.mc_words.specs.declared.history.Change.{Change}
 use Rattle.mc_words.specs.declared.history.Change.TheVariants as change
 use Rattle.mc_words.specs.declared.history.Reply.{Reply}
 use Rattle.mc_words.specs.declared.history.Reply.TheVariants.{Found, Absent, Busy}
+use Rattle.mc_plan.specs.declared.answer.AbsentError.{AbsentError}
+use Rattle.mc_plan.specs.declared.answer.AbsentError.TheVariants as absent
 use Rattle.mc_plan.specs.declared.answer.IfError.{IfError}
 use Rattle.mc_plan.specs.declared.answer.IfError.TheVariants as why
 use Rattle.mc_plan.specs.declared.answer.Put.{Put}
@@ -86,6 +88,13 @@ PutIfMeans V h h' k since v (Ok at) = HasPutIf V h h' k since v at
 PutIfMeans V h h' k since v (Err why.Spent) = h' ≡ h
 PutIfMeans V h h' k since v (Err (why.NotThere at)) = (map_value h k ≡ None) × (h' ≡ h) × (at ≡ length h)
 PutIfMeans V h h' k since v (Err (why.Changed stands)) = HasStamp h k stands × (stands ≢ since) × (h' ≡ h)
+
+-- what the answer of a put means that puts a key only if it is absent: if the key is there, its stamp is returned. One that puts nothing
+-- has changed nothing
+abbrev pub PutIfAbsentMeans : (V : ℕ) → List (Change V) → List (Change V) → ℕ → List ℕ → Result Put AbsentError → Type 0
+PutIfAbsentMeans V h h' k v (Ok told) = (map_value h k ≡ None) × HasPut V h h' k v told
+PutIfAbsentMeans V h h' k v (Err (absent.Put why)) = (map_value h k ≡ None) × (h' ≡ h)
+PutIfAbsentMeans V h h' k v (Err (absent.Present since)) = HasStamp h k since × (h' ≡ h)
 
 -- each of the entries, in order, is put, or is left and named by its index: the puts are all the changes, and no other index is named.
 -- The first entry has the index n

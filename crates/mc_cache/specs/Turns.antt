@@ -1,15 +1,17 @@
 -- What a try for the turn does, at the desk on which the writer lies.
-use Rattle.std.specs.Prelude.{ℕ, ◌≡◌, ◌⊎◌, length, Result, Ok, Err}
+use Rattle.std.specs.Prelude.{ℕ, ◌≡◌, ◌⊎◌, List, length, Result, Ok, Err}
 use Rattle.mc_words.specs.declared.history.Reply.{Reply}
 use Rattle.mc_words.specs.declared.history.Reply.TheVariants.{Busy}
 use Rattle.mc_words.specs.declared.shape.Shape.{Shape}
 use Rattle.mc_plan.specs.WholeCalls.{Call}
+use Rattle.mc_plan.specs.declared.answer.AbsentError.{AbsentError}
 use Rattle.mc_plan.specs.declared.answer.Answer.{Answer}
+use Rattle.mc_plan.specs.declared.answer.Put.{Put}
 use Rattle.mc_shared.specs.Records.{ReaderRecord, WriterRecord, reader_record}
 use Rattle.mc_shared.specs.SeatFacts.{IsRun}
 use Rattle.mc_shared.specs.Views.{IsFrontOf}
 use Rattle.mc_reader.specs.Records.{HasLooked}
-use Rattle.mc_writer.specs.WriterCalls.{HasCalled}
+use Rattle.mc_writer.specs.WriterCalls.{HasCalled, HasPutIfAbsent}
 use Rattle.mc_cache.specs.Beside.{HasLookedBeside}
 use Rattle.mc_cache.specs.Orders.{HasAnsweredInOrder}
 use Rattle.mc_cache.specs.Resting.{IsAtRest}
@@ -23,24 +25,32 @@ pub record IsLaidDown (V : ℕ) (w : WriterRecord) : Type 0 where
   pub rests : IsAtRest V w
 
 -- whoever lent this reader as a pass has had the turn. It found the writer with the one record, of which the pass had seen a front,
--- and left it with the other: from the one to the other a whole call was made, with this answer. The pass has then seen all, and its
--- earlier lookups are true in the order that the notes tell
-pub record HasHadTurn (V : ℕ) (sh : Shape) (call : Call) (old new : ReaderRecord) (told : Answer) : Type 0 where
+-- and left it with the other: what was called leads from the one to the other. The pass has then seen all, and its earlier lookups are
+-- true in the order that the notes tell
+pub record HasHadTurn (V : ℕ) (sh : Shape) (Called : WriterRecord → WriterRecord → Type 0) (old new : ReaderRecord) : Type 0 where
   pub before : WriterRecord
   pub after : WriterRecord
   pub of : before.of ≡ old.of
   pub stood : IsLaidDown V before
   pub stands : IsLaidDown V after
   pub seen : IsFrontOf old.front before.acts
-  pub called : HasCalled V sh call before after told
+  pub called : Called before after
   pub caught : new ≡ reader_record old.of old.number after.acts old.done
   pub order : HasAnsweredInOrder V sh after old.number old.done
 
--- a try for the turn, to make this call: where it was held, nothing was done with the pass
+-- a try for the turn, to call what answers so: where it was held, nothing was done with the pass
+abbrev pub HasTriedTo : {T E : Type 0} (V : ℕ) → Shape → (Result T E → WriterRecord → WriterRecord → Type 0) → ReaderRecord → ReaderRecord → Result T (DeskError E) → Type 0
+HasTriedTo V sh Called old new (Ok done) = HasHadTurn V sh (Called (Ok done)) old new
+HasTriedTo V sh Called old new (Err desk.Held) = new ≡ old
+HasTriedTo V sh Called old new (Err (desk.Call why)) = HasHadTurn V sh (Called (Err why)) old new
+
+-- a try for the turn, to make this whole call
 abbrev pub HasTried : {T E : Type 0} (V : ℕ) → Shape → Call → (Result T E → Answer) → ReaderRecord → ReaderRecord → Result T (DeskError E) → Type 0
-HasTried V sh call told old new (Ok done) = HasHadTurn V sh call old new (told (Ok done))
-HasTried V sh call told old new (Err desk.Held) = new ≡ old
-HasTried V sh call told old new (Err (desk.Call why)) = HasHadTurn V sh call old new (told (Err why))
+HasTried V sh call told old new tried = HasTriedTo V sh (λ answer before after. HasCalled V sh call before after (told answer)) old new tried
+
+-- a try for the turn, to put a key only if it is absent
+abbrev pub HasTriedIfAbsent : (V : ℕ) → Shape → ℕ → List ℕ → ReaderRecord → ReaderRecord → Result Put (DeskError AbsentError) → Type 0
+HasTriedIfAbsent V sh k v old new tried = HasTriedTo V sh (λ answer before after. HasPutIfAbsent V sh k v before after answer) old new tried
 
 -- whoever lent this reader as a pass has had the turn, and the pass has seen all that the writer had done. It did nothing else
 pub record HasMetAtDesk (V : ℕ) (old new : ReaderRecord) : Type 0 where

@@ -4,10 +4,12 @@ ghost use Rattle.mc_cache.specs.Resting.{IsAtRest};
 
 use crate::cache::Cache;
 use crate::reader::Reader;
-use crate::turn::{get_in_turn, list_in_turn, put_if_in_turn, put_in_turn, remove_in_turn};
+use crate::turn::{
+    get_in_turn, list_in_turn, put_if_absent_in_turn, put_if_in_turn, put_in_turn, remove_in_turn,
+};
 use crate::writer::Writer;
 use counted_slot::{Counted, Fits};
-use mc_plan::{IfError, Put, PutError, Remove, Spent};
+use mc_plan::{AbsentError, IfError, Put, PutError, Remove, Spent};
 use mc_words::{NoMemory, Reply};
 use std::alloc::{AllocFailed, Global};
 use std::marker::Model;
@@ -90,9 +92,9 @@ impl<const V: usize> Desk<V> {
 }
 
 impl<const V: usize> Desk<V> {
-    ghost use Rattle.mc_cache.specs.Failing.{PutFails, PutIfFails, RemovalFails, TurnFails, versions_seen};
-    ghost use Rattle.mc_cache.specs.Plain.{AreEntriesOf, Begins, PutIfMeans, PutMeans, RemovalMeans, TurnMeans, seen};
-    ghost use Rattle.mc_cache.specs.Turns.{HasTried, HasTriedToList};
+    ghost use Rattle.mc_cache.specs.Failing.{PutFails, PutIfAbsentFails, PutIfFails, RemovalFails, TurnFails, versions_seen};
+    ghost use Rattle.mc_cache.specs.Plain.{AreEntriesOf, Begins, PutIfAbsentMeans, PutIfMeans, PutMeans, RemovalMeans, TurnMeans, seen};
+    ghost use Rattle.mc_cache.specs.Turns.{HasTried, HasTriedIfAbsent, HasTriedToList};
     ghost use Rattle.mc_plan.specs.WholeCalls.{PutCall, PutIfCall, RemoveCall};
     ghost use Rattle.mc_plan.specs.declared.answer.Answer.TheVariants as answer;
 
@@ -152,6 +154,29 @@ impl<const V: usize> Desk<V> {
             return Err(DeskError::Held);
         };
         let answer = put_if_in_turn(cache, pass, &mut boxed.writer, key, since, value);
+        self.give(boxed);
+        answer
+    }
+
+    /// Like `try_put`, with `Writer::put_if_absent`.
+    #[inline(always)]
+    pub fn try_put_if_absent(
+        &self,
+        cache: &Cache<V>,
+        pass: &mut Reader<V>,
+        key: u64,
+        value: [u64; V],
+    ) -> Result<Put, DeskError<AbsentError>>
+        requires of { (self.now ≡ cache.now) × (pass.old.of ≡ cache.now) }
+        ensures of { pass.new.of ≡ pass.old.of }
+        ensures turn { HasTriedIfAbsent V cache.now.layout.shape key value.entry pass.old pass.new result }
+        ensures plain { TurnMeans (λ h h' told. PutIfAbsentMeans V h h' key value.entry told) (seen V pass.old) (seen V pass.new) result }
+        ensures fails { TurnFails (PutIfAbsentFails cache.now.layout.shape (seen V pass.new) (versions_seen V pass.new) key) result }
+    {
+        let Some(mut boxed) = self.take() else {
+            return Err(DeskError::Held);
+        };
+        let answer = put_if_absent_in_turn(cache, pass, &mut boxed.writer, key, value);
         self.give(boxed);
         answer
     }

@@ -36,7 +36,7 @@ pub use cache::Cache;
 pub use closing::StillOpen;
 pub use desk::{Desk, DeskError};
 pub use loading::{Opened, open_with};
-pub use mc_plan::{IfError, Put, PutError, Remove, Spent, Why};
+pub use mc_plan::{AbsentError, IfError, Put, PutError, Remove, Spent, Why};
 pub use mc_reader::GROUP;
 pub use mc_words::{Change, Mix, NoMemory, Reply, Shape, ShapeError};
 pub use opening::{OpenError, open};

@@ -3,16 +3,16 @@ ghost use Rattle.std.specs.Prelude.{◌≡◌, IfOk};
 ghost use Rattle.mc_plan.specs.WholeCalls.{PutCall, PutIfCall, RemoveCall};
 ghost use Rattle.mc_plan.specs.declared.answer.Answer.TheVariants as answer;
 ghost use Rattle.mc_cache.specs.Inside.Turned.{HasBegunWith, HasEnded, HasLookedInTurn, turned};
-ghost use Rattle.mc_cache.specs.Failing.{PutFails, PutIfFails, RemovalFails, TurnFails, versions_seen};
-ghost use Rattle.mc_cache.specs.Plain.{AreEntriesOf, Begins, HasMet, PutIfMeans, PutMeans, RemovalMeans, TurnMeans, history, seen};
+ghost use Rattle.mc_cache.specs.Failing.{PutFails, PutIfAbsentFails, PutIfFails, RemovalFails, TurnFails, versions_seen};
+ghost use Rattle.mc_cache.specs.Plain.{AreEntriesOf, Begins, HasMet, PutIfAbsentMeans, PutIfMeans, PutMeans, RemovalMeans, TurnMeans, history, seen};
 ghost use Rattle.mc_cache.specs.Resting.{IsAtRest};
-ghost use Rattle.mc_cache.specs.Turns.{HasTried, HasTriedToList};
+ghost use Rattle.mc_cache.specs.Turns.{HasTried, HasTriedIfAbsent, HasTriedToList};
 
 use crate::cache::Cache;
 use crate::desk::DeskError;
 use crate::reader::Reader;
 use crate::writer::Writer;
-use mc_plan::{IfError, Put, PutError, Remove, Spent};
+use mc_plan::{AbsentError, IfError, Put, PutError, Remove, Spent};
 use mc_words::{NoMemory, Reply};
 use std::alloc::Global;
 
@@ -92,6 +92,27 @@ pub(crate) fn put_if_in_turn<const V: usize>(
 {
     begin(cache, pass, writer);
     let answer = writer.put_if(cache, key, since, value);
+    end(cache, pass, writer);
+    turned(answer)
+}
+
+/// A turn that puts a key only if it is absent.
+pub(crate) fn put_if_absent_in_turn<const V: usize>(
+    cache: &Cache<V>,
+    pass: &mut Reader<V>,
+    writer: &mut Writer<V>,
+    key: u64,
+    value: [u64; V],
+) -> Result<Put, DeskError<AbsentError>>
+    requires of { (pass.old.of ≡ cache.now) × (writer.old.of ≡ cache.now) }
+    ensures writer { (writer.new.of ≡ writer.old.of) × IsAtRest V writer.new }
+    ensures of { pass.new.of ≡ pass.old.of }
+    ensures turn { HasTriedIfAbsent V cache.now.layout.shape key value.entry pass.old pass.new result }
+    ensures plain { TurnMeans (λ h h' told. PutIfAbsentMeans V h h' key value.entry told) (seen V pass.old) (seen V pass.new) result }
+    ensures fails { TurnFails (PutIfAbsentFails cache.now.layout.shape (seen V pass.new) (versions_seen V pass.new) key) result }
+{
+    begin(cache, pass, writer);
+    let answer = writer.put_if_absent(cache, key, value);
     end(cache, pass, writer);
     turned(answer)
 }

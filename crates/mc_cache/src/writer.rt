@@ -3,17 +3,17 @@ ghost use Rattle.std.specs.Prelude.{◌≡◌, length};
 ghost use Rattle.mc_theory.specs.Lists.{state_of};
 ghost use Rattle.mc_shared.specs.SeatFacts.{IsRun};
 ghost use Rattle.mc_cache.specs.Resting.{IsAtRest};
-ghost use Rattle.mc_cache.specs.Failing.{PutFails, PutIfFails, RemovalFails, version_changes};
-ghost use Rattle.mc_cache.specs.Plain.{IsLegal, PutIfMeans, PutMeans, RemovalMeans, TellsNow, history};
+ghost use Rattle.mc_cache.specs.Failing.{PutFails, PutIfAbsentFails, PutIfFails, RemovalFails, version_changes};
+ghost use Rattle.mc_cache.specs.Plain.{IsLegal, PutIfAbsentMeans, PutIfMeans, PutMeans, RemovalMeans, TellsNow, history};
 ghost use Rattle.mc_plan.specs.WholeCalls.{KeptCall, PutCall, PutIfCall, RemoveCall};
 ghost use Rattle.mc_plan.specs.declared.answer.Answer.TheVariants as answer;
-ghost use Rattle.mc_writer.specs.WriterCalls.{HasCalled, HasGot};
+ghost use Rattle.mc_writer.specs.WriterCalls.{HasCalled, HasGot, HasPutIfAbsent};
 
 use crate::cache::Cache;
-use mc_plan::{Books, IfError, Put, PutError, Remove, Spent, Why};
+use mc_plan::{AbsentError, Books, IfError, Put, PutError, Remove, Spent, Why};
 use mc_shared::WriterSeat;
 use mc_words::Reply;
-use mc_writer::{get, moment, put, put_if, put_kept, remove};
+use mc_writer::{get, moment, put, put_if, put_if_absent, put_kept, remove};
 use std::marker::Model;
 
 /// The one writer of a cache. In contracts it is its record: the acts that it has made.
@@ -76,6 +76,25 @@ impl<const V: usize> Writer<V> {
             since,
             &value,
         );
+        self.moment = moment(&cache.cells, &mut self.seat);
+        told
+    }
+
+    /// Puts the key only if it is absent. After an `Err` the map is unchanged. `Present` has the moment of the key's last put; the
+    /// key's item is then marked, as by a hit. `Put` says why the put of the absent key failed.
+    pub fn put_if_absent(
+        &mut self,
+        cache: &Cache<V>,
+        key: u64,
+        value: [u64; V],
+    ) -> Result<Put, AbsentError>
+        requires of { self.old.of ≡ cache.now }
+        ensures of { self.new.of ≡ self.old.of }
+        ensures called { HasPutIfAbsent V cache.now.layout.shape key value.entry self.old self.new result }
+        ensures plain { PutIfAbsentMeans V (history V self.old) (history V self.new) key value.entry result }
+        ensures fails { PutIfAbsentFails cache.now.layout.shape (history V self.new) (version_changes V self.new) key result }
+    {
+        let told = put_if_absent(&cache.cells, &mut self.seat, &mut self.books, key, &value);
         self.moment = moment(&cache.cells, &mut self.seat);
         told
     }

@@ -3,14 +3,14 @@ ghost use Rattle.std.specs.Prelude.{◌≡◌, length};
 ghost use Rattle.mc_plan.specs.WholeCalls.{PutCall, PutIfCall, RemoveCall};
 ghost use Rattle.mc_plan.specs.declared.answer.Answer.TheVariants as answer;
 ghost use Rattle.mc_reader.specs.Records.{HasLooked};
-ghost use Rattle.mc_cache.specs.Turns.{HasLookedOrMet, HasTried};
-ghost use Rattle.mc_cache.specs.Failing.{PutFails, PutIfFails, RemovalFails, TurnFails, versions_seen};
+ghost use Rattle.mc_cache.specs.Turns.{HasLookedOrMet, HasTried, HasTriedIfAbsent};
+ghost use Rattle.mc_cache.specs.Failing.{PutFails, PutIfAbsentFails, PutIfFails, RemovalFails, TurnFails, versions_seen};
 ghost use Rattle.mc_cache.specs.Plain.{seen};
-ghost use Rattle.mc_shards.specs.Plain.{AllAnswered, AllBegin, HasAnswered, PutIfMeans, PutMeans, RemovalMeans, TurnMeans, seens};
+ghost use Rattle.mc_shards.specs.Plain.{AllAnswered, AllBegin, HasAnswered, PutIfAbsentMeans, PutIfMeans, PutMeans, RemovalMeans, TurnMeans, seens};
 ghost use Rattle.mc_shards.specs.Sharded.{ArePassOf, ChangesAt, shard_in};
 
 use crate::shards::Shards;
-use mc_cache::{DeskError, IfError, Put, PutError, Reader, Remove, Reply, Spent};
+use mc_cache::{AbsentError, DeskError, IfError, Put, PutError, Reader, Remove, Reply, Spent};
 use std::marker::Model;
 
 /// A thread's handle: a reader of each shard, with which it looks up and tries for turns. In contracts it is the records of the readers.
@@ -125,6 +125,28 @@ impl<const V: usize> Pass<V> {
         let desk = shards.desk(n);
         let reader = &mut self.readers[n];
         desk.try_put_if(cache, reader, key, since, value)
+    }
+
+    /// Like `try_put`, with `Desk::try_put_if_absent`.
+    #[inline(always)]
+    pub fn try_put_if_absent(
+        &mut self,
+        shards: &Shards<V>,
+        key: u64,
+        value: [u64; V],
+    ) -> Result<Put, DeskError<AbsentError>>
+        requires of { ArePassOf shards.now self.old }
+        ensures of { ArePassOf shards.now self.new }
+        ensures turn { ChangesAt (shard_in shards.now key) self.old self.new (λ r r'. HasTriedIfAbsent V shards.now.shape key value.entry r r' result) }
+        ensures plain { ChangesAt (shard_in shards.now key) (seens V self.old) (seens V self.new)
+            (λ h h'. TurnMeans (λ a b told. PutIfAbsentMeans V a b key value.entry told) h h' result) }
+        ensures fails { ChangesAt (shard_in shards.now key) self.old self.new (λ r r'. TurnFails (PutIfAbsentFails shards.now.shape (seen V r') (versions_seen V r') key) result) }
+    {
+        let n = shards.shard_of(key);
+        let cache = shards.cache(n);
+        let desk = shards.desk(n);
+        let reader = &mut self.readers[n];
+        desk.try_put_if_absent(cache, reader, key, value)
     }
 
     /// Like `try_put`, with `Desk::try_remove`.

@@ -1,7 +1,7 @@
 //! One call of a cache, by its writer or by a reader, and what it answers.
 ghost use Rattle.std.specs.Prelude.{◌≡◌};
 
-use mc_cache::{Cache, IfError, Put, PutError, Reader, Remove, Reply, Spent, Writer};
+use mc_cache::{AbsentError, Cache, IfError, Put, PutError, Reader, Remove, Reply, Spent, Writer};
 
 /// A call. A look is the reader's, all others are the writer's.
 #[derive(Clone, Copy)]
@@ -9,6 +9,7 @@ pub enum Call {
     Put(u64, u64),
     /// The key, the stamp that it is to have, and the new value.
     PutIf(u64, u64, u64),
+    PutIfAbsent(u64, u64),
     Remove(u64),
     Get(u64),
     Look(u64),
@@ -29,6 +30,8 @@ pub enum Told {
     /// The stamp was the one asked for.
     RenewedIf(u64),
     RefusedIf(IfError),
+    /// The key was there, or its put was refused.
+    RefusedIfAbsent(AbsentError),
     Removed(u64),
     NotThere(u64),
     SpentRemove,
@@ -69,6 +72,13 @@ impl Told {
         }
     }
 
+    fn of_put_if_absent(told: Result<Put, AbsentError>) -> Told {
+        match told {
+            Ok(put) => Told::of_put(Ok(put)),
+            Err(why) => Told::RefusedIfAbsent(why),
+        }
+    }
+
     fn of_remove(told: Result<Remove, Spent>) -> Told {
         match told {
             Ok(Remove::Removed { at }) => Told::Removed(at),
@@ -95,6 +105,9 @@ pub fn make(cache: &Cache<1>, writer: &mut Writer<1>, reader: &mut Reader<1>, ca
         Call::Put(key, value) => Told::of_put(writer.put(cache, key, [value])),
         Call::PutIf(key, since, value) => {
             Told::of_put_if(writer.put_if(cache, key, since, [value]))
+        }
+        Call::PutIfAbsent(key, value) => {
+            Told::of_put_if_absent(writer.put_if_absent(cache, key, [value]))
         }
         Call::Remove(key) => Told::of_remove(writer.remove(cache, key)),
         Call::Get(key) => Told::of_reply(writer.get(cache, key)),

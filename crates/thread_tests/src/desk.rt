@@ -4,7 +4,8 @@ ghost use Rattle.std.specs.Prelude.{◌≡◌, All, IfOk};
 use crate::opened::open_for_one;
 use crate::turns::{Caller, call_in_threads, history_of};
 use mc_cache::{
-    Cache, Desk, DeskError, IfError, Mix, Put, PutError, Reader, Remove, Reply, Shape, open,
+    AbsentError, Cache, Desk, DeskError, IfError, Mix, Put, PutError, Reader, Remove, Reply, Shape,
+    open,
 };
 use std::alloc::{AllocError, Global};
 use std::test::Fail;
@@ -62,11 +63,13 @@ fn goes_by_the_stamp(cache: &Cache<1>, desk: &Desk<1>, pass: &mut Reader<1>) -> 
 {
     let changed = Err(DeskError::Call(IfError::Changed { since: 3 }));
     let not_there = Err(DeskError::Call(IfError::NotThere { at: 3 }));
+    let present = Err(DeskError::Call(AbsentError::Present { since: 3 }));
     desk.try_put(cache, pass, 0, [7]) == stored(1)
         && desk.try_put(cache, pass, 1, [8]) == stored(2)
         && desk.try_put_if(cache, pass, 0, 1, [9]) == Ok(3)
         && desk.try_put_if(cache, pass, 0, 1, [10]) == changed
         && desk.try_put_if(cache, pass, 5, 0, [1]) == not_there
+        && desk.try_put_if_absent(cache, pass, 0, [5]) == present
         && pass.get_or_desk(cache, desk, 0) == found(9, 3, 3)
 }
 

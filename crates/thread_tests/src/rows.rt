@@ -3,7 +3,7 @@ ghost use Rattle.std.specs.Prelude.{◌≡◌};
 
 use crate::calls::{Call, Told, make};
 use crate::opened::open_for_one;
-use mc_cache::{Cache, IfError, Mix, PutError, Reader, Shape, Writer, open};
+use mc_cache::{AbsentError, Cache, IfError, Mix, PutError, Reader, Shape, Writer, open};
 use std::alloc::Global;
 use std::test::Fail;
 
@@ -203,6 +203,55 @@ const TWO_CHANGES_LEFT: [(Call, Told); 5] = [
 #[test]
 fn a_put_on_a_condition_asks_two_changes_of_the_limit(rt: HostRuntime) -> Result<(), Fail> {
     check_rows(rt.alloc(), with_limit(9), &TWO_CHANGES_LEFT)
+}
+
+const ONLY_IF_ABSENT: [(Call, Told); 7] = [
+    (Call::PutIfAbsent(0, 7), Told::Stored(1)),
+    (Call::PutIfAbsent(0, 8), PRESENT_SINCE_1),
+    (Call::Get(0), Told::Found(7, 1, 1)),
+    (Call::Put(0, 9), Told::Renewed(2)),
+    (
+        Call::PutIfAbsent(0, 8),
+        Told::RefusedIfAbsent(AbsentError::Present { since: 2 }),
+    ),
+    (Call::Remove(0), Told::Removed(3)),
+    (Call::PutIfAbsent(0, 8), Told::Stored(4)),
+];
+
+const PRESENT_SINCE_1: Told = Told::RefusedIfAbsent(AbsentError::Present { since: 1 });
+
+// As in `check_use`: the key 1 would be evicted next, but it is found there.
+const A_KEY_THAT_IS_THERE_IS_USED: [(Call, Told); 6] = [
+    (Call::PutIfAbsent(0, 0), Told::Stored(1)),
+    (Call::PutIfAbsent(1, 1), Told::Stored(2)),
+    (Call::PutIfAbsent(2, 2), Told::Stored(3)),
+    (Call::PutIfAbsent(3, 3), Told::StoredAfter(0, 5)),
+    (
+        Call::PutIfAbsent(1, 9),
+        Told::RefusedIfAbsent(AbsentError::Present { since: 2 }),
+    ),
+    (Call::PutIfAbsent(4, 4), Told::StoredAfter(2, 7)),
+];
+
+#[test]
+fn a_key_is_put_only_if_it_is_absent(rt: HostRuntime) -> Result<(), Fail> {
+    check_rows(rt.alloc(), small(), &ONLY_IF_ABSENT)?;
+    check_rows(rt.alloc(), with_items(3), &A_KEY_THAT_IS_THERE_IS_USED)
+}
+
+// The limit has room for no put more, and says nothing of a key that is there.
+const PRESENT_COMES_BEFORE_SPENT: [(Call, Told); 3] = [
+    (Call::Put(0, 7), Told::Stored(1)),
+    (Call::PutIfAbsent(0, 1), PRESENT_SINCE_1),
+    (
+        Call::PutIfAbsent(1, 1),
+        Told::RefusedIfAbsent(AbsentError::Put(PutError::Spent)),
+    ),
+];
+
+#[test]
+fn a_key_that_is_there_asks_nothing_of_the_limit(rt: HostRuntime) -> Result<(), Fail> {
+    check_rows(rt.alloc(), with_limit(8), &PRESENT_COMES_BEFORE_SPENT)
 }
 
 const MIXED: [(Call, Told); 3] = [

@@ -2,15 +2,17 @@
 //!
 //! Each function is a caller, and its contract says something that the cache's words let it say: a value that was put is found,
 //! a reply in another thread is true of the writer's history, replies come in the order of their moments, two threads take turns at one
-//! writer.
+//! writer, and of two that put an absent key one succeeds.
 #![tactic(auto)]
 
+mod absent;
 mod again;
 mod beside;
 mod threads;
 mod turns;
 mod twice;
 
+pub use absent::{Tried, put_once};
 pub use again::overwrite;
 pub use beside::{get_between_meetings, put_and_get};
 pub use threads::get_beside_a_put;
