@@ -127,7 +127,8 @@ typedef enum cefrodil_status {
     CEFRODIL_BAD_READERS = 21, /* there must be 1 to 1024 readers, or passes */
     CEFRODIL_BAD_COUNT = 22,   /* counts that belong together do not match */
     CEFRODIL_NO_ITEM = 23,     /* every item is in use */
-    CEFRODIL_BAD_SHARDS = 24   /* the number of shards must be a power of two, 1 to 256 */
+    CEFRODIL_BAD_SHARDS = 24,  /* the number of shards must be a power of two, 1 to 256 */
+    CEFRODIL_PRESENT = 25      /* the key is there; its last put was at `since` */
 } cefrodil_status;
 
 CEFRODIL_SAME_SIZE(sizeof(cefrodil_status) == 4, "as the library returns it: compile without -fshort-enums");
@@ -204,15 +205,23 @@ cefrodil_status cefrodil_put(cefrodil_handle *writer, uint64_t key, const uint64
 CEFRODIL_CHECKED cefrodil_status cefrodil_put_if(cefrodil_handle *writer, uint64_t key, uint64_t since,
                                                  const uint64_t *value, size_t words, cefrodil_reply *reply);
 
+/* Puts a key only if it is absent, by the writer. May evict another key.
+ * OK: as in cefrodil_put; `put` is never PUT_RENEWED. PRESENT: `since` is that of the key's last put, and the key counts as used.
+ * NO_PATH, ALL_RECENT or SPENT: the key is absent, and was not put. CLOSED, KIND, WIDTH. */
+CEFRODIL_CHECKED cefrodil_status cefrodil_put_if_absent(cefrodil_handle *writer, uint64_t key, const uint64_t *value,
+                                                        size_t words, cefrodil_reply *reply);
+
 /* Removes a key, by the writer.
  * OK and ABSENT: `at` is set. SPENT, CLOSED, KIND. */
 cefrodil_status cefrodil_remove(cefrodil_handle *writer, uint64_t key, cefrodil_reply *reply);
 
-/* The same three calls by a pass, which tries once for the turn. HELD: the try did not win, and nothing was done. */
+/* The same four calls by a pass, which tries once for the turn. HELD: the try did not win, and nothing was done. */
 cefrodil_status cefrodil_try_put(cefrodil_handle *pass, uint64_t key, const uint64_t *value, size_t words,
                                  cefrodil_reply *reply);
 CEFRODIL_CHECKED cefrodil_status cefrodil_try_put_if(cefrodil_handle *pass, uint64_t key, uint64_t since,
                                                      const uint64_t *value, size_t words, cefrodil_reply *reply);
+CEFRODIL_CHECKED cefrodil_status cefrodil_try_put_if_absent(cefrodil_handle *pass, uint64_t key, const uint64_t *value,
+                                                            size_t words, cefrodil_reply *reply);
 cefrodil_status cefrodil_try_remove(cefrodil_handle *pass, uint64_t key, cefrodil_reply *reply);
 
 /* Like cefrodil_try_put, with up to `tries` tries, at least one, one after the other without a pause. HELD: none of them won. */
@@ -269,6 +278,7 @@ static inline const char *cefrodil_text(uint32_t status) {
     case CEFRODIL_BAD_COUNT: return "counts that belong together do not fit";
     case CEFRODIL_NO_ITEM: return "no item";
     case CEFRODIL_BAD_SHARDS: return "shards must be a power of two from 1 to 256";
+    case CEFRODIL_PRESENT: return "present";
     default: return "no status";
     }
 }

@@ -35,7 +35,8 @@ enum class [[nodiscard]] Status : uint32_t {
     bad_limit = CEFRODIL_BAD_LIMIT,
     bad_readers = CEFRODIL_BAD_READERS,
     no_item = CEFRODIL_NO_ITEM,
-    bad_shards = CEFRODIL_BAD_SHARDS
+    bad_shards = CEFRODIL_BAD_SHARDS,
+    present = CEFRODIL_PRESENT
 };
 
 inline const char *text(Status status) noexcept { return cefrodil_text(static_cast<uint32_t>(status)); }
@@ -131,6 +132,11 @@ template <size_t Words> class Writer : public Handle {
         const cefrodil_status status = cefrodil_put_if(raw(), key, since, value.data(), Words, &reply);
         return inside::written(status, reply);
     }
+    [[nodiscard]] Written put_if_absent(uint64_t key, const Value &value) {
+        cefrodil_reply reply;
+        const cefrodil_status status = cefrodil_put_if_absent(raw(), key, value.data(), Words, &reply);
+        return inside::written(status, reply);
+    }
     Written remove(uint64_t key) {
         cefrodil_reply reply;
         const cefrodil_status status = cefrodil_remove(raw(), key, &reply);
@@ -187,6 +193,11 @@ template <size_t Words> class Pass : public Reader<Words> {
     [[nodiscard]] Written try_put_if(uint64_t key, uint64_t since, const Value &value) {
         cefrodil_reply reply;
         const cefrodil_status status = cefrodil_try_put_if(this->raw(), key, since, value.data(), Words, &reply);
+        return inside::written(status, reply);
+    }
+    [[nodiscard]] Written try_put_if_absent(uint64_t key, const Value &value) {
+        cefrodil_reply reply;
+        const cefrodil_status status = cefrodil_try_put_if_absent(this->raw(), key, value.data(), Words, &reply);
         return inside::written(status, reply);
     }
     [[nodiscard]] Written try_remove(uint64_t key) {

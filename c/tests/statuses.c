@@ -48,6 +48,8 @@ static void closed(void) {
     MUST(cefrodil_get_or_desk(&none, 1, value, 2, &reply) == CEFRODIL_CLOSED);
     MUST(cefrodil_put(&none, 1, value, 2, &reply) == CEFRODIL_CLOSED);
     MUST(cefrodil_put_if(&none, 1, 0, value, 2, &reply) == CEFRODIL_CLOSED);
+    MUST(cefrodil_put_if_absent(&none, 1, value, 2, &reply) == CEFRODIL_CLOSED);
+    MUST(cefrodil_try_put_if_absent(&none, 1, value, 2, &reply) == CEFRODIL_CLOSED);
     MUST(cefrodil_remove(&none, 1, &reply) == CEFRODIL_CLOSED);
     MUST(cefrodil_try_put(&none, 1, value, 2, &reply) == CEFRODIL_CLOSED);
     MUST(cefrodil_try_put_if(&none, 1, 0, value, 2, &reply) == CEFRODIL_CLOSED);
@@ -70,14 +72,18 @@ static void writes(void) {
     MUST(cefrodil_put_if(&writer, 1, 1, value, 2, &reply) == CEFRODIL_CHANGED && reply.since == 2);
     MUST(cefrodil_put_if(&writer, 1, 2, value, 2, &reply) == CEFRODIL_OK && reply.at == 3);
     MUST(cefrodil_put_if(&writer, 2, 2, value, 2, &reply) == CEFRODIL_ABSENT && reply.at == 3);
+    MUST(cefrodil_put_if_absent(&writer, 1, value, 2, &reply) == CEFRODIL_PRESENT && reply.since == 3 && reply.at == 0);
     MUST(cefrodil_remove(&writer, 1, &reply) == CEFRODIL_OK && reply.at == 4);
     MUST(cefrodil_remove(&writer, 1, &reply) == CEFRODIL_ABSENT && reply.at == 4);
     MUST(cefrodil_put(&writer, 1, value, 1, &reply) == CEFRODIL_WIDTH && reply.at == 0);
     MUST(cefrodil_put_if(&writer, 1, 1, value, 1, &reply) == CEFRODIL_WIDTH);
+    MUST(cefrodil_put_if_absent(&writer, 1, value, 1, &reply) == CEFRODIL_WIDTH);
     MUST(cefrodil_get(&readers[0], 1, found, 1, &reply) == CEFRODIL_WIDTH);
     MUST(cefrodil_get(&writer, 1, found, 2, &reply) == CEFRODIL_KIND);
     MUST(cefrodil_get_or_desk(&readers[0], 1, found, 2, &reply) == CEFRODIL_KIND);
     MUST(cefrodil_put(&readers[0], 1, value, 2, &reply) == CEFRODIL_KIND);
+    MUST(cefrodil_put_if_absent(&readers[0], 1, value, 2, &reply) == CEFRODIL_KIND);
+    MUST(cefrodil_try_put_if_absent(&writer, 1, value, 2, &reply) == CEFRODIL_KIND);
     MUST(cefrodil_remove(&readers[0], 1, &reply) == CEFRODIL_KIND);
     MUST(cefrodil_try_put(&writer, 1, value, 2, &reply) == CEFRODIL_KIND);
     MUST(cefrodil_try_remove(&readers[1], 1, &reply) == CEFRODIL_KIND);
@@ -146,6 +152,7 @@ static void spent(void) {
     MUST(cefrodil_open(&few, 2, &writer, readers, 1) == CEFRODIL_OK);
     MUST(cefrodil_put(&writer, 1, value, 2, &reply) == CEFRODIL_SPENT);
     MUST(cefrodil_put_if(&writer, 1, 0, value, 2, &reply) == CEFRODIL_SPENT);
+    MUST(cefrodil_put_if_absent(&writer, 1, value, 2, &reply) == CEFRODIL_SPENT);
     MUST(cefrodil_remove(&writer, 1, &reply) == CEFRODIL_SPENT);
     MUST(cefrodil_close(&writer) == CEFRODIL_OK && cefrodil_close(&readers[0]) == CEFRODIL_OK);
     MUST(cefrodil_open_desk(&few, 2, passes, 1) == CEFRODIL_OK);
@@ -157,7 +164,9 @@ static void spent(void) {
 static void turns(void) {
     uint64_t value[2] = {7, 8}, found[2] = {0, 0};
     MUST(cefrodil_open_desk(&shape, 2, passes, 2) == CEFRODIL_OK);
-    MUST(cefrodil_try_put(&passes[0], 1, value, 2, &reply) == CEFRODIL_OK && reply.at == 1);
+    MUST(cefrodil_try_put_if_absent(&passes[0], 1, value, 2, &reply) == CEFRODIL_OK && reply.at == 1 && reply.put == CEFRODIL_PUT_STORED);
+    MUST(cefrodil_try_put_if_absent(&passes[1], 1, value, 2, &reply) == CEFRODIL_PRESENT && reply.since == 1 && reply.at == 0);
+    MUST(cefrodil_try_put_if_absent(&passes[1], 1, value, 1, &reply) == CEFRODIL_WIDTH);
     MUST(cefrodil_get(&passes[1], 1, found, 2, &reply) == CEFRODIL_OK && found[1] == 8);
     MUST(cefrodil_get_or_desk(&passes[1], 2, found, 2, &reply) == CEFRODIL_ABSENT && reply.at == 1);
     MUST(cefrodil_try_put_if(&passes[1], 1, 1, value, 2, &reply) == CEFRODIL_OK && reply.at == 2);

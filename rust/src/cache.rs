@@ -1,5 +1,5 @@
 //! A cache with a writer and readers.
-use crate::error::{OpenError, PutError, PutIfError, Spent, Why};
+use crate::error::{OpenError, PutError, PutIfAbsentError, PutIfError, Spent, Why};
 use crate::handle::Handle;
 use crate::raw;
 use crate::reply::{self, Put, Removal, Reply};
@@ -162,6 +162,24 @@ impl<const WORDS: usize> Writer<WORDS> {
     /// ```
     pub fn put_if(&mut self, key: u64, since: u64, value: &[u64; WORDS]) -> Result<u64, PutIfError> {
         reply::put_if(self.0.put_if(key, since, value))
+    }
+
+    /// Puts the key only if it is absent. Never returns [`Put::Renewed`].
+    ///
+    /// # Errors
+    ///
+    /// [`PutIfAbsentError`]: nothing was changed. A key that is there counts as used.
+    ///
+    /// ```
+    /// use cefrodil::{Cache, PutIfAbsentError, Shape};
+    ///
+    /// let (mut writer, _readers) = Cache::<1>::open(&Shape::for_items(100)?, 1)?;
+    /// writer.put_if_absent(7, &[70])?;
+    /// assert_eq!(writer.put_if_absent(7, &[71]), Err(PutIfAbsentError::Present { since: 1 }));
+    /// # Ok::<(), Box<dyn std::error::Error>>(())
+    /// ```
+    pub fn put_if_absent(&mut self, key: u64, value: &[u64; WORDS]) -> Result<Put, PutIfAbsentError> {
+        reply::put_if_absent(self.0.put_if_absent(key, value))
     }
 
     /// Removes the key.

@@ -1,5 +1,5 @@
 //! A cache for threads that write by turns.
-use crate::error::{OpenError, PutError, PutIfError, Spent, TurnError};
+use crate::error::{OpenError, PutError, PutIfAbsentError, PutIfError, Spent, TurnError};
 use crate::handle::Handle;
 use crate::reply::{self, Put, Removal, Reply};
 use crate::shape::Shape;
@@ -150,6 +150,15 @@ impl<const WORDS: usize> Pass<'_, WORDS> {
     /// [`TurnError`]: nothing was changed.
     pub fn try_put_if(&mut self, key: u64, since: u64, value: &[u64; WORDS]) -> Result<u64, TurnError<PutIfError>> {
         reply::turn(self.handle().try_put_if(key, since, value), reply::put_if)
+    }
+
+    /// Like [`try_put`](Pass::try_put), with [`Writer::put_if_absent`](crate::Writer::put_if_absent).
+    ///
+    /// # Errors
+    ///
+    /// [`TurnError`]: nothing was changed.
+    pub fn try_put_if_absent(&mut self, key: u64, value: &[u64; WORDS]) -> Result<Put, TurnError<PutIfAbsentError>> {
+        reply::turn(self.handle().try_put_if_absent(key, value), reply::put_if_absent)
     }
 
     /// Like [`try_put`](Pass::try_put), with [`Writer::remove`](crate::Writer::remove).

@@ -57,6 +57,19 @@ pub enum PutIfError {
     },
 }
 
+/// Why a put of a key that must be absent failed.
+#[derive(Clone, Copy, Debug, PartialEq, Eq, Hash)]
+#[non_exhaustive]
+pub enum PutIfAbsentError {
+    /// The key is there.
+    Present {
+        /// The moment of the key's last put.
+        since: u64,
+    },
+    /// The key is absent, and its put failed.
+    Put(PutError),
+}
+
 /// Why an entry was left out when a cache was opened with entries.
 #[derive(Clone, Copy, Debug, PartialEq, Eq, Hash)]
 #[non_exhaustive]
@@ -158,6 +171,15 @@ impl Display for PutIfError {
     }
 }
 
+impl Display for PutIfAbsentError {
+    fn fmt(&self, text: &mut Formatter) -> fmt::Result {
+        match self {
+            PutIfAbsentError::Present { since } => write!(text, "present since {since}"),
+            PutIfAbsentError::Put(why) => why.fmt(text),
+        }
+    }
+}
+
 impl Display for Spent {
     fn fmt(&self, text: &mut Formatter) -> fmt::Result {
         text.write_str("spent")
@@ -177,5 +199,6 @@ impl Error for OpenError {}
 impl Error for PutError {}
 impl Error for Why {}
 impl Error for PutIfError {}
+impl Error for PutIfAbsentError {}
 impl Error for Spent {}
 impl<E: Error> Error for TurnError<E> {}

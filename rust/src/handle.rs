@@ -153,6 +153,13 @@ impl Handle {
         (status, reply)
     }
 
+    pub fn put_if_absent(&mut self, key: u64, value: &[u64]) -> (u32, RawReply) {
+        let mut reply = RawReply::default();
+        // SAFETY: as in `get`.
+        let status = unsafe { raw::cefrodil_put_if_absent(&mut self.0, key, value.as_ptr(), value.len(), &mut reply) };
+        (status, reply)
+    }
+
     pub fn remove(&mut self, key: u64) -> (u32, RawReply) {
         let mut reply = RawReply::default();
         // SAFETY: as in `get`.
@@ -178,6 +185,13 @@ impl Handle {
         let mut reply = RawReply::default();
         // SAFETY: as in `get`.
         let status = unsafe { raw::cefrodil_try_put_if(&mut self.0, key, since, value.as_ptr(), value.len(), &mut reply) };
+        (status, reply)
+    }
+
+    pub fn try_put_if_absent(&mut self, key: u64, value: &[u64]) -> (u32, RawReply) {
+        let mut reply = RawReply::default();
+        // SAFETY: as in `get`.
+        let status = unsafe { raw::cefrodil_try_put_if_absent(&mut self.0, key, value.as_ptr(), value.len(), &mut reply) };
         (status, reply)
     }
 

@@ -28,7 +28,7 @@ mod width;
 
 pub use cache::{Cache, Opened, Reader, Writer};
 pub use desk::{Desk, Pass};
-pub use error::{OpenError, PutError, PutIfError, Spent, TurnError, Why};
+pub use error::{OpenError, PutError, PutIfAbsentError, PutIfError, Spent, TurnError, Why};
 pub use handle::version;
 pub use reply::{Put, Removal, Reply};
 pub use shape::{Mix, Shape};

@@ -56,6 +56,7 @@ pub const BAD_LIMIT: u32 = 20;
 pub const BAD_READERS: u32 = 21;
 pub const NO_ITEM: u32 = 23;
 pub const BAD_SHARDS: u32 = 24;
+pub const PRESENT: u32 = 25;
 
 pub const PUT_EVICTED: u32 = 2;
 pub const PUT_RENEWED: u32 = 3;
@@ -110,6 +111,8 @@ unsafe extern "C" {
         words: usize,
         reply: *mut RawReply,
     ) -> u32;
+    pub fn cefrodil_put_if_absent(writer: *mut RawHandle, key: u64, value: *const u64, words: usize, reply: *mut RawReply)
+        -> u32;
     pub fn cefrodil_remove(writer: *mut RawHandle, key: u64, reply: *mut RawReply) -> u32;
     pub fn cefrodil_try_put(pass: *mut RawHandle, key: u64, value: *const u64, words: usize, reply: *mut RawReply) -> u32;
     pub fn cefrodil_put_within(
@@ -124,6 +127,13 @@ unsafe extern "C" {
         pass: *mut RawHandle,
         key: u64,
         since: u64,
+        value: *const u64,
+        words: usize,
+        reply: *mut RawReply,
+    ) -> u32;
+    pub fn cefrodil_try_put_if_absent(
+        pass: *mut RawHandle,
+        key: u64,
         value: *const u64,
         words: usize,
         reply: *mut RawReply,

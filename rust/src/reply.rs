@@ -1,5 +1,5 @@
 //! Answers of calls.
-use crate::error::{PutError, PutIfError, Spent, TurnError};
+use crate::error::{PutError, PutIfAbsentError, PutIfError, Spent, TurnError};
 use crate::handle::Handle;
 use crate::raw::{self, RawAnswer, RawReply};
 
@@ -147,6 +147,14 @@ pub(crate) fn put_if((status, reply): Told) -> Result<u64, PutIfError> {
         raw::SPENT => Err(PutIfError::Spent),
         other => not_told(other),
     }
+}
+
+/// The answer of a put of a key that must be absent.
+pub(crate) fn put_if_absent((status, reply): Told) -> Result<Put, PutIfAbsentError> {
+    if status == raw::PRESENT {
+        return Err(PutIfAbsentError::Present { since: reply.since });
+    }
+    Put::of((status, reply)).map_err(PutIfAbsentError::Put)
 }
 
 /// The answer of a try for the turn. With the turn, it is the answer of the call.

@@ -1,4 +1,6 @@
-use cefrodil::{Cache, Desk, Mix, OpenError, Put, PutIfError, Removal, Reply, Shape, Shards, TurnError, Why};
+use cefrodil::{
+    Cache, Desk, Mix, OpenError, Put, PutError, PutIfAbsentError, PutIfError, Removal, Reply, Shape, Shards, TurnError, Why,
+};
 use std::error::Error;
 use std::thread;
 
@@ -16,8 +18,10 @@ fn each_call_answers() -> Result<(), Box<dyn Error>> {
     assert_eq!(writer.put_if(1, 1, &[0, 0]), Err(PutIfError::Changed { since: 2 }));
     assert_eq!(writer.put_if(9, 1, &[0, 0]), Err(PutIfError::NotThere { at: 2 }));
     assert_eq!(writer.put_if(1, 2, &[2, 5])?, 3);
+    assert_eq!(writer.put_if_absent(1, &[0, 0]), Err(PutIfAbsentError::Present { since: 3 }));
     assert_eq!(writer.remove(1)?, Removal::Removed { at: 4 });
     assert_eq!(writer.remove(1)?, Removal::NotThere { at: 4 });
+    assert_eq!(writer.put_if_absent(1, &[6, 7])?, Put::Stored { at: 5, moves: 0, evicted: None });
     is_send(&writer);
     is_send(&readers[0]);
     Ok(())

@@ -2,12 +2,12 @@
 use Rattle.std.specs.Prelude.{ℕ, ◌≡◌, List, length, MatchResult, Result}
 use mathlib.Core.Option.{Option, none, some}
 use Rattle.mc_door.specs.Held.{role_in, width_of}
-use Rattle.mc_door.specs.Means.{CanWrite, HasTurns, IsMisuse, PutIfMeans, PutMeans, RemovalMeans, TryPutIfMeans, TryPutMeans, TryRemovalMeans}
+use Rattle.mc_door.specs.Means.{CanWrite, HasTurns, IsMisuse, PutIfAbsentMeans, PutIfMeans, PutMeans, RemovalMeans, TryPutIfAbsentMeans, TryPutIfMeans, TryPutMeans, TryRemovalMeans}
 use Rattle.mc_door.specs.Roles.{Role}
 use Rattle.mc_door.specs.declared.held.Held.{Held}
 use Rattle.mc_door.specs.declared.looked.Looked.{Looked}
 use Rattle.mc_door.specs.declared.side.Misuse.{Misuse}
-use Rattle.cefrodil.specs.Tellings.{closed_told, lookup_told, put_if_told, put_told, removal_told, try_put_if_told, told_of, try_put_told, try_removal_told}
+use Rattle.cefrodil.specs.Tellings.{closed_told, lookup_told, put_if_absent_told, put_if_told, put_told, removal_told, try_put_if_absent_told, try_put_if_told, told_of, try_put_told, try_removal_told}
 use Rattle.cefrodil.specs.declared.told.Told.{Told}
 
 -- before and after a call nothing lies behind the handle, and this holds; or something does, and that holds of the two
@@ -42,6 +42,11 @@ PutIfGives b b' key since v told =
     Gives b b' (told ≡ closed_told) (λ h h'. HasMade put_if_told (PutIfMeans (width_of h) (role_in h) (role_in h') key since v)
     (λ why. IsMisuse CanWrite (width_of h) (role_in h) (length v) why × (h' ≡ h)) h h' told)
 
+abbrev pub PutIfAbsentGives : Option Held → Option Held → ℕ → List ℕ → Told → Type 0
+PutIfAbsentGives b b' key v told =
+    Gives b b' (told ≡ closed_told) (λ h h'. HasMade put_if_absent_told (PutIfAbsentMeans (width_of h) (role_in h) (role_in h') key v)
+    (λ why. IsMisuse CanWrite (width_of h) (role_in h) (length v) why × (h' ≡ h)) h h' told)
+
 abbrev pub RemovalGives : Option Held → Option Held → ℕ → Told → Type 0
 RemovalGives b b' key told =
     Gives b b' (told ≡ closed_told) (λ h h'. HasMade removal_told (RemovalMeans (width_of h) (role_in h) (role_in h') key)
@@ -55,6 +60,11 @@ TryPutGives b b' key v told =
 abbrev pub TryPutIfGives : Option Held → Option Held → ℕ → ℕ → List ℕ → Told → Type 0
 TryPutIfGives b b' key since v told =
     Gives b b' (told ≡ closed_told) (λ h h'. HasMade try_put_if_told (TryPutIfMeans (width_of h) (role_in h) (role_in h') key since v)
+    (λ why. IsMisuse HasTurns (width_of h) (role_in h) (length v) why × (h' ≡ h)) h h' told)
+
+abbrev pub TryPutIfAbsentGives : Option Held → Option Held → ℕ → List ℕ → Told → Type 0
+TryPutIfAbsentGives b b' key v told =
+    Gives b b' (told ≡ closed_told) (λ h h'. HasMade try_put_if_absent_told (TryPutIfAbsentMeans (width_of h) (role_in h) (role_in h') key v)
     (λ why. IsMisuse HasTurns (width_of h) (role_in h) (length v) why × (h' ≡ h)) h h' told)
 
 abbrev pub TryRemovalGives : Option Held → Option Held → ℕ → Told → Type 0

@@ -2,6 +2,8 @@
 use Rattle.std.specs.Prelude.{ℕ, Some, None, Result, Ok, Err}
 use Rattle.mc_cache.specs.declared.desk.DeskError.{DeskError}
 use Rattle.mc_cache.specs.declared.desk.DeskError.TheVariants as desk
+use Rattle.mc_plan.specs.declared.answer.AbsentError.{AbsentError}
+use Rattle.mc_plan.specs.declared.answer.AbsentError.TheVariants as absent
 use Rattle.mc_plan.specs.declared.answer.IfError.{IfError}
 use Rattle.mc_plan.specs.declared.answer.IfError.TheVariants as if_error
 use Rattle.mc_plan.specs.declared.answer.Put.{Put}
@@ -17,7 +19,7 @@ use Rattle.mc_door.specs.declared.side.Misuse.{Misuse}
 use Rattle.mc_door.specs.declared.side.Misuse.TheVariants as misuse
 use Rattle.cefrodil.specs.declared.many.RawAnswer.{RawAnswer}
 use Rattle.cefrodil.specs.declared.told.Told.{Told}
-use Rattle.cefrodil.specs.declared.status.TheConstants.{OK, ABSENT, BUSY, NO_PATH, ALL_RECENT, SPENT, CHANGED, HELD, CLOSED, KIND, WIDTH}
+use Rattle.cefrodil.specs.declared.status.TheConstants.{OK, ABSENT, BUSY, NO_PATH, ALL_RECENT, SPENT, CHANGED, HELD, CLOSED, KIND, WIDTH, PRESENT}
 use Rattle.cefrodil.specs.declared.told.TheConstants.{NOTHING, STORED, EVICTED, RENEWED}
 
 abbrev pub plain : ℕ → Told
@@ -69,6 +71,15 @@ abbrev pub put_if_told : Result ℕ IfError → Told
 put_if_told (Ok at) = done_told (Renewed at)
 put_if_told (Err why) = not_put_if_told why
 
+-- the key is there, and `since` is the moment of its last put
+abbrev pub not_absent_told : AbsentError → Told
+not_absent_told (absent.Present since) = record { status = PRESENT; reply = record { at = 0; since = since; evicted = 0; moves = 0; put = NOTHING } }
+not_absent_told (absent.Put why) = not_put_told why
+
+abbrev pub put_if_absent_told : Result Put AbsentError → Told
+put_if_absent_told (Ok done) = done_told done
+put_if_absent_told (Err why) = not_absent_told why
+
 abbrev pub gone_told : Remove → Told
 gone_told (remove.Removed at) = told_at OK at
 gone_told (remove.NotThere at) = told_at ABSENT at
@@ -87,6 +98,11 @@ abbrev pub try_put_if_told : Result ℕ (DeskError IfError) → Told
 try_put_if_told (Ok at) = done_told (Renewed at)
 try_put_if_told (Err desk.Held) = plain HELD
 try_put_if_told (Err (desk.Call why)) = not_put_if_told why
+
+abbrev pub try_put_if_absent_told : Result Put (DeskError AbsentError) → Told
+try_put_if_absent_told (Ok done) = done_told done
+try_put_if_absent_told (Err desk.Held) = plain HELD
+try_put_if_absent_told (Err (desk.Call why)) = not_absent_told why
 
 abbrev pub try_removal_told : Result Remove (DeskError Spent) → Told
 try_removal_told (Ok done) = gone_told done

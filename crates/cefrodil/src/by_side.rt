@@ -1,10 +1,10 @@
 //! Calls by a side, told in the words that C sees. Each is one function for each width, so an answer stays in registers.
 ghost use Rattle.std.specs.Prelude.{◌≡◌, length};
 ghost use Rattle.mc_words.specs.Places.{IsWidth};
-ghost use Rattle.mc_door.specs.Means.{CanLook, CanWrite, HasTurns, IsMisuse, GetMeans, GetOrDeskMeans, PutIfMeans, PutMeans, RemovalMeans, TryPutIfMeans, TryPutMeans, TryRemovalMeans};
+ghost use Rattle.mc_door.specs.Means.{CanLook, CanWrite, HasTurns, IsMisuse, GetMeans, GetOrDeskMeans, PutIfAbsentMeans, PutIfMeans, PutMeans, RemovalMeans, TryPutIfAbsentMeans, TryPutIfMeans, TryPutMeans, TryRemovalMeans};
 ghost use Rattle.mc_door.specs.Roles.{role_of};
 ghost use Rattle.cefrodil.specs.Calls.{HasTold};
-ghost use Rattle.cefrodil.specs.Tellings.{lookup_told, put_if_told, put_told, removal_told, try_put_if_told, try_put_told, try_removal_told};
+ghost use Rattle.cefrodil.specs.Tellings.{lookup_told, put_if_absent_told, put_if_told, put_told, removal_told, try_put_if_absent_told, try_put_if_told, try_put_told, try_removal_told};
 
 use crate::told::{RawReply, Told};
 use mc_door::Side;
@@ -72,6 +72,21 @@ pub(crate) fn put_if<const V: usize>(
     Told::put_if(made).tell(reply)
 }
 
+/// Puts the key if it is absent.
+#[inline(never)]
+pub(crate) fn put_if_absent<const V: usize>(
+    side: &mut Side<V>,
+    key: u64,
+    value: &[u64],
+    reply: &mut RawReply,
+) -> u32
+    ensures { HasTold put_if_absent_told (PutIfAbsentMeans V (role_of side.old) (role_of side.new) key value.now)
+        (λ why. IsMisuse CanWrite V (role_of side.old) (length value.now) why × (side.new ≡ side.old)) (record { status = result; reply = reply.new }) }
+{
+    let made = side.put_if_absent(key, value);
+    Told::put_if_absent(made).tell(reply)
+}
+
 /// Takes the key out.
 #[inline(never)]
 pub(crate) fn remove<const V: usize>(side: &mut Side<V>, key: u64, reply: &mut RawReply) -> u32
@@ -127,6 +142,21 @@ pub(crate) fn try_put_if<const V: usize>(
 {
     let made = side.try_put_if(key, since, value);
     Told::try_put_if(made).tell(reply)
+}
+
+/// Tries once for the turn, to put the key if it is absent.
+#[inline(never)]
+pub(crate) fn try_put_if_absent<const V: usize>(
+    side: &mut Side<V>,
+    key: u64,
+    value: &[u64],
+    reply: &mut RawReply,
+) -> u32
+    ensures { HasTold try_put_if_absent_told (TryPutIfAbsentMeans V (role_of side.old) (role_of side.new) key value.now)
+        (λ why. IsMisuse HasTurns V (role_of side.old) (length value.now) why × (side.new ≡ side.old)) (record { status = result; reply = reply.new }) }
+{
+    let made = side.try_put_if_absent(key, value);
+    Told::try_put_if_absent(made).tell(reply)
 }
 
 /// Tries once for the turn, to take the key out.

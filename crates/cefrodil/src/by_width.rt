@@ -1,9 +1,9 @@
 //! The same calls by what a handle keeps, whatever the width of its values.
 ghost use Rattle.std.specs.Prelude.{◌≡◌, length};
 ghost use Rattle.mc_door.specs.Held.{role_in, width_of};
-ghost use Rattle.mc_door.specs.Means.{CanLook, CanWrite, HasTurns, IsMisuse, GetMeans, GetOrDeskMeans, PutIfMeans, PutMeans, RemovalMeans, TryPutIfMeans, TryPutMeans, TryRemovalMeans};
+ghost use Rattle.mc_door.specs.Means.{CanLook, CanWrite, HasTurns, IsMisuse, GetMeans, GetOrDeskMeans, PutIfAbsentMeans, PutIfMeans, PutMeans, RemovalMeans, TryPutIfAbsentMeans, TryPutIfMeans, TryPutMeans, TryRemovalMeans};
 ghost use Rattle.cefrodil.specs.Calls.{HasTold};
-ghost use Rattle.cefrodil.specs.Tellings.{lookup_told, put_if_told, put_told, removal_told, try_put_if_told, try_put_told, try_removal_told};
+ghost use Rattle.cefrodil.specs.Tellings.{lookup_told, put_if_absent_told, put_if_told, put_told, removal_told, try_put_if_absent_told, try_put_if_told, try_put_told, try_removal_told};
 
 use crate::by_side;
 use crate::told::RawReply;
@@ -53,6 +53,16 @@ pub(crate) fn put_if(
         (λ why. IsMisuse CanWrite (width_of held.old) (role_in held.old) (length value.now) why × (held.new ≡ held.old)) (record { status = result; reply = reply.new }) }
 {
     with_side!(held, side => by_side::put_if(side, key, since, value, reply))
+}
+
+/// Puts the key if it is absent.
+#[inline(always)]
+pub(crate) fn put_if_absent(held: &mut Held, key: u64, value: &[u64], reply: &mut RawReply) -> u32
+    ensures width { width_of held.new ≡ width_of held.old }
+    ensures told { HasTold put_if_absent_told (PutIfAbsentMeans (width_of held.old) (role_in held.old) (role_in held.new) key value.now)
+        (λ why. IsMisuse CanWrite (width_of held.old) (role_in held.old) (length value.now) why × (held.new ≡ held.old)) (record { status = result; reply = reply.new }) }
+{
+    with_side!(held, side => by_side::put_if_absent(side, key, value, reply))
 }
 
 /// Takes the key out.
@@ -105,6 +115,21 @@ pub(crate) fn try_put_if(
         (λ why. IsMisuse HasTurns (width_of held.old) (role_in held.old) (length value.now) why × (held.new ≡ held.old)) (record { status = result; reply = reply.new }) }
 {
     with_side!(held, side => by_side::try_put_if(side, key, since, value, reply))
+}
+
+/// Tries once for the turn, to put the key if it is absent.
+#[inline(always)]
+pub(crate) fn try_put_if_absent(
+    held: &mut Held,
+    key: u64,
+    value: &[u64],
+    reply: &mut RawReply,
+) -> u32
+    ensures width { width_of held.new ≡ width_of held.old }
+    ensures told { HasTold try_put_if_absent_told (TryPutIfAbsentMeans (width_of held.old) (role_in held.old) (role_in held.new) key value.now)
+        (λ why. IsMisuse HasTurns (width_of held.old) (role_in held.old) (length value.now) why × (held.new ≡ held.old)) (record { status = result; reply = reply.new }) }
+{
+    with_side!(held, side => by_side::try_put_if_absent(side, key, value, reply))
 }
 
 /// Tries once for the turn, to take the key out.

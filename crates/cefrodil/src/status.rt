@@ -74,3 +74,6 @@ pub const NO_ITEM: u32 = 23;
 
 /// Shards must be a power of two from 1 to 256.
 pub const SHARDS: u32 = 24;
+
+/// The key is there, and was to be put only if it was absent.
+pub const PRESENT: u32 = 25;

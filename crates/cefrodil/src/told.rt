@@ -1,10 +1,10 @@
 //! What a call tells C: a status, and the numbers of a reply.
 ghost use Rattle.std.specs.Prelude.{◌≡◌};
-ghost use Rattle.cefrodil.specs.Tellings.{closed_told, done_told, gone_told, lookup_told, misuse_told, not_put_if_told, not_put_told, plain, put_if_told, put_told, removal_told, told_at, try_put_if_told, told_of, try_put_told, try_removal_told};
+ghost use Rattle.cefrodil.specs.Tellings.{closed_told, done_told, gone_told, lookup_told, misuse_told, not_absent_told, not_put_if_told, not_put_told, plain, put_if_absent_told, put_if_told, put_told, removal_told, told_at, try_put_if_absent_told, try_put_if_told, told_of, try_put_told, try_removal_told};
 ghost use Rattle.mc_plan.specs.declared.answer.Put.TheVariants.{Renewed};
 
 use crate::status;
-use mc_door::{DeskError, IfError, Looked, Misuse, Put, PutError, Remove, Spent};
+use mc_door::{AbsentError, DeskError, IfError, Looked, Misuse, Put, PutError, Remove, Spent};
 
 /// No change of a key is told.
 const NOTHING: u32 = 0;
@@ -181,6 +181,30 @@ impl Told {
     }
 
     #[inline(always)]
+    fn not_absent(why: AbsentError) -> Told
+        ensures { result ≡ not_absent_told why }
+    {
+        match why {
+            AbsentError::Present { since } => {
+                let mut told = Told::plain(status::PRESENT);
+                told.reply.since = since;
+                told
+            }
+            AbsentError::Put(why) => Told::not_put(why),
+        }
+    }
+
+    #[inline(always)]
+    fn put_if_absent_answer(answer: Result<Put, AbsentError>) -> Told
+        ensures { result ≡ put_if_absent_told answer }
+    {
+        match answer {
+            Ok(put) => Told::done(put),
+            Err(why) => Told::not_absent(why),
+        }
+    }
+
+    #[inline(always)]
     fn gone(answer: Remove) -> Told
         ensures { result ≡ gone_told answer }
     {
@@ -221,6 +245,17 @@ impl Told {
             Ok(at) => Told::done_if(at),
             Err(DeskError::Held) => Told::plain(status::HELD),
             Err(DeskError::Call(why)) => Told::not_put_if(why),
+        }
+    }
+
+    #[inline(always)]
+    fn try_put_if_absent_answer(answer: Result<Put, DeskError<AbsentError>>) -> Told
+        ensures { result ≡ try_put_if_absent_told answer }
+    {
+        match answer {
+            Ok(put) => Told::done(put),
+            Err(DeskError::Held) => Told::plain(status::HELD),
+            Err(DeskError::Call(why)) => Told::not_absent(why),
         }
     }
 
@@ -277,6 +312,16 @@ impl Told {
     }
 
     #[inline(always)]
+    pub(crate) fn put_if_absent(made: Result<Result<Put, AbsentError>, Misuse>) -> Told
+        ensures { result ≡ told_of put_if_absent_told made }
+    {
+        match made {
+            Ok(answer) => Told::put_if_absent_answer(answer),
+            Err(why) => Told::misuse(why),
+        }
+    }
+
+    #[inline(always)]
     pub(crate) fn removal(made: Result<Result<Remove, Spent>, Misuse>) -> Told
         ensures { result ≡ told_of removal_told made }
     {
@@ -302,6 +347,18 @@ impl Told {
     {
         match made {
             Ok(answer) => Told::try_put_if_answer(answer),
+            Err(why) => Told::misuse(why),
+        }
+    }
+
+    #[inline(always)]
+    pub(crate) fn try_put_if_absent(
+        made: Result<Result<Put, DeskError<AbsentError>>, Misuse>,
+    ) -> Told
+        ensures { result ≡ told_of try_put_if_absent_told made }
+    {
+        match made {
+            Ok(answer) => Told::try_put_if_absent_answer(answer),
             Err(why) => Told::misuse(why),
         }
     }

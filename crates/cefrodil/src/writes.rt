@@ -1,6 +1,6 @@
 //! Writes, as C makes them: by the writer, and by a pass in a turn.
 ghost use Rattle.std.specs.Prelude.{◌≡◌};
-ghost use Rattle.cefrodil.specs.Calls.{PutGives, PutIfGives, RemovalGives, TryPutGives, TryPutIfGives, TryRemovalGives};
+ghost use Rattle.cefrodil.specs.Calls.{PutGives, PutIfAbsentGives, PutIfGives, RemovalGives, TryPutGives, TryPutIfAbsentGives, TryPutIfGives, TryRemovalGives};
 ghost use Rattle.cefrodil.specs.Open.{kept};
 
 use crate::by_width;
@@ -39,6 +39,22 @@ pub extern "C" fn cefrodil_put_if(
     ensures told { PutIfGives (kept writer.old) (kept writer.new) key since value.now (record { status = result; reply = reply.new }) }
 {
     told_of_handle!(alloc, writer, reply, held => by_width::put_if(&mut held, key, since, value, reply))
+}
+
+/// Puts a key if it is absent, by the writer's handle.
+#[tactic(auto, using(crate::proofs::Gives::gives_open, crate::proofs::Gives::gives_closed))]
+#[unsafe(no_mangle)]
+pub extern "C" fn cefrodil_put_if_absent(
+    alloc: Global,
+    writer: &mut Slot,
+    key: u64,
+    value: &[u64],
+    reply: &mut RawReply,
+) -> u32
+    ensures open { writer.new.live ≡ writer.old.live }
+    ensures told { PutIfAbsentGives (kept writer.old) (kept writer.new) key value.now (record { status = result; reply = reply.new }) }
+{
+    told_of_handle!(alloc, writer, reply, held => by_width::put_if_absent(&mut held, key, value, reply))
 }
 
 /// Takes a key out, by the writer's handle.
@@ -104,6 +120,22 @@ pub extern "C" fn cefrodil_try_put_if(
     ensures told { TryPutIfGives (kept pass.old) (kept pass.new) key since value.now (record { status = result; reply = reply.new }) }
 {
     told_of_handle!(alloc, pass, reply, held => by_width::try_put_if(&mut held, key, since, value, reply))
+}
+
+/// Tries once for the turn, to put a key if it is absent, by a pass.
+#[tactic(auto, using(crate::proofs::Gives::gives_open, crate::proofs::Gives::gives_closed))]
+#[unsafe(no_mangle)]
+pub extern "C" fn cefrodil_try_put_if_absent(
+    alloc: Global,
+    pass: &mut Slot,
+    key: u64,
+    value: &[u64],
+    reply: &mut RawReply,
+) -> u32
+    ensures open { pass.new.live ≡ pass.old.live }
+    ensures told { TryPutIfAbsentGives (kept pass.old) (kept pass.new) key value.now (record { status = result; reply = reply.new }) }
+{
+    told_of_handle!(alloc, pass, reply, held => by_width::try_put_if_absent(&mut held, key, value, reply))
 }
 
 /// Tries once for the turn, to take a key out, by a pass.

@@ -1,12 +1,13 @@
 -- What the calls of a side mean.
 use Rattle.std.specs.Prelude.{ℕ, ◌≡◌, ◌≢◌, List, length, Result}
-use Rattle.mc_cache.specs.Plain.{HasAnswered, history, seen, PutMeans as PutOf, PutIfMeans as PutIfOf, RemovalMeans as RemovalOf, TurnMeans}
-use Rattle.mc_cache.specs.Turns.{HasTried, HasLookedOrMet}
+use Rattle.mc_cache.specs.Plain.{HasAnswered, history, seen, PutMeans as PutOf, PutIfAbsentMeans as PutIfAbsentOf, PutIfMeans as PutIfOf, RemovalMeans as RemovalOf, TurnMeans}
+use Rattle.mc_cache.specs.Turns.{HasTried, HasTriedIfAbsent, HasLookedOrMet}
 use Rattle.mc_cache.specs.declared.desk.DeskError.{DeskError}
 use Rattle.mc_plan.specs.WholeCalls.Call.{PutCall, PutIfCall, RemoveCall}
 use Rattle.mc_plan.specs.declared.answer.Answer.TheVariants as answer
 use Rattle.mc_reader.specs.Records.{HasLooked}
-use Rattle.mc_writer.specs.WriterCalls.{HasCalled}
+use Rattle.mc_writer.specs.WriterCalls.{HasCalled, HasPutIfAbsent}
+use Rattle.mc_plan.specs.declared.answer.AbsentError.{AbsentError}
 use Rattle.mc_plan.specs.declared.answer.IfError.{IfError}
 use Rattle.mc_plan.specs.declared.answer.Put.{Put}
 use Rattle.mc_plan.specs.declared.answer.PutError.{PutError}
@@ -72,6 +73,10 @@ abbrev pub PutIfMeans : (V : ℕ) → Role → Role → ℕ → ℕ → List ℕ
 PutIfMeans V (Writes w) (Writes w') key since v told = (length v ≡ V) × (w'.of ≡ w.of) × HasCalled V w.of.layout.shape (PutIfCall key since v) w w' (answer.PutIf told) × PutIfOf V (history V w) (history V w') key since v told
 PutIfMeans V _ _ key since v told = ⊥
 
+abbrev pub PutIfAbsentMeans : (V : ℕ) → Role → Role → ℕ → List ℕ → Result Put AbsentError → Type 0
+PutIfAbsentMeans V (Writes w) (Writes w') key v told = (length v ≡ V) × (w'.of ≡ w.of) × HasPutIfAbsent V w.of.layout.shape key v w w' told × PutIfAbsentOf V (history V w) (history V w') key v told
+PutIfAbsentMeans V _ _ key v told = ⊥
+
 abbrev pub RemovalMeans : (V : ℕ) → Role → Role → ℕ → Result Remove Spent → Type 0
 RemovalMeans V (Writes w) (Writes w') key told = (w'.of ≡ w.of) × HasCalled V w.of.layout.shape (RemoveCall key) w w' (answer.Remove told) × RemovalOf V (history V w) (history V w') key told
 RemovalMeans V _ _ key told = ⊥
@@ -86,6 +91,11 @@ abbrev pub TryPutIfMeans : (V : ℕ) → Role → Role → ℕ → ℕ → List 
 TryPutIfMeans V (Passes r) (Passes r') key since v told = (length v ≡ V) × (r'.of ≡ r.of) × HasTried V r.of.layout.shape (PutIfCall key since v) answer.PutIf r r' told × TurnMeans (λ h h' answer. PutIfOf V h h' key since v answer) (seen V r) (seen V r') told
 TryPutIfMeans V (Shares s rs) (Shares s' rs') key since v told = (length v ≡ V) × (s' ≡ s) × IsAtShard V s key rs rs' (λ r r'. HasTried V s.shape (PutIfCall key since v) answer.PutIf r r' told) (λ h h'. TurnMeans (λ a b answer. PutIfOf V a b key since v answer) h h' told)
 TryPutIfMeans V _ _ key since v told = ⊥
+
+abbrev pub TryPutIfAbsentMeans : (V : ℕ) → Role → Role → ℕ → List ℕ → Result Put (DeskError AbsentError) → Type 0
+TryPutIfAbsentMeans V (Passes r) (Passes r') key v told = (length v ≡ V) × (r'.of ≡ r.of) × HasTriedIfAbsent V r.of.layout.shape key v r r' told × TurnMeans (λ h h' answer. PutIfAbsentOf V h h' key v answer) (seen V r) (seen V r') told
+TryPutIfAbsentMeans V (Shares s rs) (Shares s' rs') key v told = (length v ≡ V) × (s' ≡ s) × IsAtShard V s key rs rs' (λ r r'. HasTriedIfAbsent V s.shape key v r r' told) (λ h h'. TurnMeans (λ a b answer. PutIfAbsentOf V a b key v answer) h h' told)
+TryPutIfAbsentMeans V _ _ key v told = ⊥
 
 abbrev pub TryRemovalMeans : (V : ℕ) → Role → Role → ℕ → Result Remove (DeskError Spent) → Type 0
 TryRemovalMeans V (Passes r) (Passes r') key told = (r'.of ≡ r.of) × HasTried V r.of.layout.shape (RemoveCall key) answer.Remove r r' told × TurnMeans (λ h h' answer. RemovalOf V h h' key answer) (seen V r) (seen V r') told

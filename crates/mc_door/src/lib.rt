@@ -22,7 +22,7 @@ mod writer_side;
 pub use held::Held;
 pub use looked::Looked;
 pub use mc_cache::{
-    DeskError, GROUP, IfError, OpenError, Put, PutError, Remove, Shape, ShapeError, Spent, Why,
+    AbsentError, DeskError, GROUP, IfError, OpenError, Put, PutError, Remove, Shape, ShapeError, Spent, Why,
 };
 pub use mc_shards::{OpenShardsError, shard_shape};
 pub use new_passes::NewPasses;

@@ -1,13 +1,15 @@
 //! A pass at the desk of a cache, with the desk and the cache.
 ghost use Rattle.std.specs.Prelude.{◌≡◌, length};
-ghost use Rattle.mc_cache.specs.Plain.{HasAnswered, PutIfMeans, PutMeans, RemovalMeans, TurnMeans, seen};
-ghost use Rattle.mc_cache.specs.Turns.{HasLookedOrMet, HasTried};
+ghost use Rattle.mc_cache.specs.Plain.{HasAnswered, PutIfAbsentMeans, PutIfMeans, PutMeans, RemovalMeans, TurnMeans, seen};
+ghost use Rattle.mc_cache.specs.Turns.{HasLookedOrMet, HasTried, HasTriedIfAbsent};
 ghost use Rattle.mc_plan.specs.WholeCalls.Call.{PutCall, PutIfCall, RemoveCall};
 ghost use Rattle.mc_plan.specs.declared.answer.Answer.TheVariants as answer;
 ghost use Rattle.mc_reader.specs.Records.{HasLooked};
 
 use crate::words::array_of;
-use mc_cache::{Cache, Desk, DeskError, IfError, Put, PutError, Reader, Remove, Reply, Spent};
+use mc_cache::{
+    AbsentError, Cache, Desk, DeskError, IfError, Put, PutError, Reader, Remove, Reply, Spent,
+};
 use std::alloc::Global;
 use std::sync::Arc;
 
@@ -85,6 +87,22 @@ impl<const V: usize> PassSide<V> {
         let value = array_of::<V>(value);
         self.desk
             .try_put_if(&self.cache, &mut self.pass, key, since, value)
+    }
+
+    #[inline(always)]
+    pub(crate) fn try_put_if_absent(
+        &mut self,
+        key: u64,
+        value: &[u64],
+    ) -> Result<Put, DeskError<AbsentError>>
+        requires { length value.now ≡ V }
+        ensures of { self.new.pass.of ≡ self.old.pass.of }
+        ensures turn { HasTriedIfAbsent V self.old.pass.of.layout.shape key value.now self.old.pass self.new.pass result }
+        ensures plain { TurnMeans (λ h h' told. PutIfAbsentMeans V h h' key value.now told) (seen V self.old.pass) (seen V self.new.pass) result }
+    {
+        let value = array_of::<V>(value);
+        self.desk
+            .try_put_if_absent(&self.cache, &mut self.pass, key, value)
     }
 
     #[inline(always)]

@@ -1,15 +1,15 @@
 //! A pass of a cache of shards, with the shards.
 ghost use Rattle.std.specs.Prelude.{◌≡◌, length};
-ghost use Rattle.mc_cache.specs.Turns.{HasLookedOrMet, HasTried};
+ghost use Rattle.mc_cache.specs.Turns.{HasLookedOrMet, HasTried, HasTriedIfAbsent};
 ghost use Rattle.mc_plan.specs.WholeCalls.Call.{PutCall, PutIfCall, RemoveCall};
 ghost use Rattle.mc_plan.specs.declared.answer.Answer.TheVariants as answer;
 ghost use Rattle.mc_reader.specs.Records.{HasLooked};
-ghost use Rattle.mc_shards.specs.Plain.{HasAnswered, PutIfMeans, PutMeans, RemovalMeans, TurnMeans};
+ghost use Rattle.mc_shards.specs.Plain.{HasAnswered, PutIfAbsentMeans, PutIfMeans, PutMeans, RemovalMeans, TurnMeans};
 ghost use Rattle.mc_shards.specs.Sharded.{ArePassOf};
 ghost use Rattle.mc_door.specs.AtShards.{IsAtShard};
 
 use crate::words::array_of;
-use mc_cache::{DeskError, IfError, Put, PutError, Remove, Reply, Spent};
+use mc_cache::{AbsentError, DeskError, IfError, Put, PutError, Remove, Reply, Spent};
 use mc_shards::{Pass, Shards};
 use std::alloc::Global;
 use std::sync::Arc;
@@ -83,6 +83,22 @@ impl<const V: usize> ShardSide<V> {
     {
         self.pass
             .try_put_if(&self.shards, key, since, array_of::<V>(value))
+    }
+
+    #[inline(always)]
+    pub(crate) fn try_put_if_absent(
+        &mut self,
+        key: u64,
+        value: &[u64],
+    ) -> Result<Put, DeskError<AbsentError>>
+        requires { length value.now ≡ V }
+        ensures of { self.new.shards.value ≡ self.old.shards.value }
+        ensures turn { IsAtShard V self.old.shards.value key self.old.pass self.new.pass
+            (λ r r'. HasTriedIfAbsent V self.old.shards.value.shape key value.now r r' result)
+            (λ h h'. TurnMeans (λ a b told. PutIfAbsentMeans V a b key value.now told) h h' result) }
+    {
+        self.pass
+            .try_put_if_absent(&self.shards, key, array_of::<V>(value))
     }
 
     #[inline(always)]

@@ -2,14 +2,14 @@
 ghost use Rattle.std.specs.Prelude.{◌≡◌, ◌↔◌, IsTrue, length, MatchResult};
 ghost use Rattle.mc_words.specs.Places.{IsWidth};
 ghost use Rattle.mc_door.specs.Roles.{role_of};
-ghost use Rattle.mc_door.specs.Means.{CanLook, CanWrite, GetMeans, GetOrDeskMeans, HasTurns, IsMisuse, Looks, LooksAtDesk, PutIfMeans, PutMeans, RemovalMeans, TryPutIfMeans, TryPutMeans, TryRemovalMeans};
+ghost use Rattle.mc_door.specs.Means.{CanLook, CanWrite, GetMeans, GetOrDeskMeans, HasTurns, IsMisuse, Looks, LooksAtDesk, PutIfAbsentMeans, PutIfMeans, PutMeans, RemovalMeans, TryPutIfAbsentMeans, TryPutIfMeans, TryPutMeans, TryRemovalMeans};
 
 use crate::looked::Looked;
 use crate::pass_side::PassSide;
 use crate::reader_side::ReaderSide;
 use crate::shard_side::ShardSide;
 use crate::writer_side::WriterSide;
-use mc_cache::{DeskError, IfError, Put, PutError, Remove, Reply, Spent};
+use mc_cache::{AbsentError, DeskError, IfError, Put, PutError, Remove, Reply, Spent};
 
 /// Why a call was not made. Nothing was changed.
 #[derive(Clone, Copy, Debug, PartialEq, Eq)]
@@ -128,6 +128,25 @@ impl<const V: usize> Side<V> {
         Ok(side.put_if(key, since, value))
     }
 
+    /// Puts a key if it is absent: `Writer::put_if_absent`, by the writer.
+    #[inline(always)]
+    pub fn put_if_absent(
+        &mut self,
+        key: u64,
+        value: &[u64],
+    ) -> Result<Result<Put, AbsentError>, Misuse>
+        ensures { MatchResult result (λ told. PutIfAbsentMeans V (role_of self.old) (role_of self.new) key value.now told)
+            (λ why. IsMisuse CanWrite V (role_of self.old) (length value.now) why × (self.new ≡ self.old)) }
+    {
+        let Side::Writer(side) = self else {
+            return Err(Misuse::Kind);
+        };
+        if value.len() != V {
+            return Err(Misuse::Width);
+        }
+        Ok(side.put_if_absent(key, value))
+    }
+
     /// Takes a key out: `Writer::remove`, by the writer.
     #[inline(always)]
     pub fn remove(&mut self, key: u64) -> Result<Result<Remove, Spent>, Misuse>
@@ -241,6 +260,29 @@ impl<const V: usize> Side<V> {
         match self {
             Side::Pass(side) => Ok(side.try_put_if(key, since, value)),
             Side::Shard(side) => Ok(side.try_put_if(key, since, value)),
+            Side::Writer(_) | Side::Reader(_) => Err(Misuse::Kind),
+        }
+    }
+
+    /// Tries once for the turn, to put a key if it is absent: `Desk::try_put_if_absent` or `Pass::try_put_if_absent`, by a pass.
+    #[inline(always)]
+    pub fn try_put_if_absent(
+        &mut self,
+        key: u64,
+        value: &[u64],
+    ) -> Result<Result<Put, DeskError<AbsentError>>, Misuse>
+        ensures { MatchResult result (λ told. TryPutIfAbsentMeans V (role_of self.old) (role_of self.new) key value.now told)
+            (λ why. IsMisuse HasTurns V (role_of self.old) (length value.now) why × (self.new ≡ self.old)) }
+    {
+        if !self.has_turns() {
+            return Err(Misuse::Kind);
+        }
+        if value.len() != V {
+            return Err(Misuse::Width);
+        }
+        match self {
+            Side::Pass(side) => Ok(side.try_put_if_absent(key, value)),
+            Side::Shard(side) => Ok(side.try_put_if_absent(key, value)),
             Side::Writer(_) | Side::Reader(_) => Err(Misuse::Kind),
         }
     }

@@ -1,12 +1,12 @@
 //! The writer of a cache, with the cache.
 ghost use Rattle.std.specs.Prelude.{◌≡◌, length};
-ghost use Rattle.mc_cache.specs.Plain.{PutIfMeans, PutMeans, RemovalMeans, history};
+ghost use Rattle.mc_cache.specs.Plain.{PutIfAbsentMeans, PutIfMeans, PutMeans, RemovalMeans, history};
 ghost use Rattle.mc_plan.specs.WholeCalls.Call.{PutCall, PutIfCall, RemoveCall};
 ghost use Rattle.mc_plan.specs.declared.answer.Answer.TheVariants as answer;
-ghost use Rattle.mc_writer.specs.WriterCalls.{HasCalled};
+ghost use Rattle.mc_writer.specs.WriterCalls.{HasCalled, HasPutIfAbsent};
 
 use crate::words::array_of;
-use mc_cache::{Cache, IfError, Put, PutError, Remove, Spent, Writer};
+use mc_cache::{AbsentError, Cache, IfError, Put, PutError, Remove, Spent, Writer};
 use std::alloc::Global;
 use std::sync::Arc;
 
@@ -38,6 +38,17 @@ impl<const V: usize> WriterSide<V> {
     {
         self.writer
             .put_if(&self.cache, key, since, array_of::<V>(value))
+    }
+
+    #[inline(always)]
+    pub(crate) fn put_if_absent(&mut self, key: u64, value: &[u64]) -> Result<Put, AbsentError>
+        requires { length value.now ≡ V }
+        ensures of { self.new.writer.of ≡ self.old.writer.of }
+        ensures called { HasPutIfAbsent V self.old.writer.of.layout.shape key value.now self.old.writer self.new.writer result }
+        ensures plain { PutIfAbsentMeans V (history V self.old.writer) (history V self.new.writer) key value.now result }
+    {
+        self.writer
+            .put_if_absent(&self.cache, key, array_of::<V>(value))
     }
 
     #[inline(always)]
