@@ -43,7 +43,9 @@ fn known() -> Option<PathBuf> {
     if !version.starts_with(SERIES) {
         return None;
     }
-    answer("--variable=libdir").map(PathBuf::from).filter(|folder| folder.join(ARCHIVE).is_file())
+    // Some versions of pkg-config put a backslash before a space.
+    let folder = PathBuf::from(answer("--variable=libdir")?.replace('\\', ""));
+    folder.join(ARCHIVE).is_file().then_some(folder)
 }
 
 /// What pkg-config answers, if it is there and knows the library.
