@@ -1,6 +1,6 @@
-// A cache of host names for a server of several threads, each with a reader. What a thread doesn't find it resolves the slow way, and
-// queues it for the one thread that writes. A hash of the name is its key; a second hash, kept in the value, tells apart names of one
-// key. (If strangers choose the names, take a keyed hash.)
+// A cache of host names for a server of several threads, each with a reader. If a thread doesn't find a name, it resolves the name the
+// slow way, and queues the answer for the one thread that writes. The key is a hash of the name. The value keeps a second hash, which
+// tells apart names of one key. If strangers choose the names, take a keyed hash.
 #include "cefrodil.hpp"
 #include <condition_variable>
 #include <cstdio>

@@ -1,5 +1,5 @@
-//! A cache of host names for a server whose threads come and go: each takes a reader from a pool. What a thread doesn't find it
-//! resolves the slow way, and sends to the one thread that writes.
+//! A cache of host names for a server whose threads come and go: each takes a reader from a pool. If a thread doesn't find a name,
+//! it resolves the name the slow way, and sends the answer to the one thread that writes.
 use cefrodil::{Cache, Pool, Reader, Shape, Writer};
 use std::error::Error;
 use std::hash::{BuildHasher, RandomState};
@@ -12,7 +12,8 @@ const NAMES: u32 = 500;
 const ROUNDS: u32 = 4;
 const LOOKUPS: u32 = 20_000;
 
-/// Hashes names. The first hash of a name is its key; the second one is kept in the value, and tells apart names of one key.
+/// Hashes names, keyed by secrets. The first hash of a name is its key. The value keeps the second, which tells apart names of one
+/// key.
 #[derive(Clone, Default)]
 struct Hashes(RandomState, RandomState);
 
