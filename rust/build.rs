@@ -1,30 +1,62 @@
-//! Links the archive, which `c/build` makes: from the folder `native` here, or from the one that `CEFRODIL_LIB` names.
+//! Links the archive, which `c/build` makes: from the folder that `CEFRODIL_LIB` names, else from the folder `native` here, else from
+//! the one that pkg-config knows.
 use std::env;
 use std::path::PathBuf;
-use std::process::exit;
+use std::process::{exit, Command};
 
-const HOW: &str = "build it with `c/build FOLDER` and set CEFRODIL_LIB to FOLDER/lib";
+const ARCHIVE: &str = "libcefrodil.a";
+const HOW: &str = "build it with `c/build FOLDER` and set CEFRODIL_LIB to FOLDER/lib, or PKG_CONFIG_PATH to FOLDER/lib/pkgconfig";
+// Before version 1.0 another minor version may differ in its calls.
+const SERIES: &str = concat!(env!("CARGO_PKG_VERSION_MAJOR"), ".", env!("CARGO_PKG_VERSION_MINOR"), ".");
 
 fn main() {
-    println!("cargo::rerun-if-env-changed=CEFRODIL_LIB");
-    let named = env::var_os("CEFRODIL_LIB").map(PathBuf::from);
-    let here = PathBuf::from(env::var_os("CARGO_MANIFEST_DIR").expect("cargo sets CARGO_MANIFEST_DIR"));
-    let folder = named.clone().unwrap_or(here.join("native"));
-    let archive = folder.join("libcefrodil.a");
-    println!("cargo::rerun-if-changed={}", archive.display());
-    if named.is_some() && !folder.is_absolute() {
-        eprintln!("CEFRODIL_LIB must be an absolute path, and not {}", folder.display());
-        exit(1);
+    for name in ["CEFRODIL_LIB", "PKG_CONFIG", "PKG_CONFIG_PATH", "PKG_CONFIG_LIBDIR"] {
+        println!("cargo::rerun-if-env-changed={name}");
     }
-    if !archive.is_file() {
-        // Without an archive `cargo check` and `cargo doc` work, so it is an error only if a folder was named.
-        let missing = format!("there is no libcefrodil.a in {}: {HOW}", folder.display());
-        if named.is_some() {
-            eprintln!("{missing}");
-            exit(1);
+    let here = PathBuf::from(env::var_os("CARGO_MANIFEST_DIR").expect("cargo sets CARGO_MANIFEST_DIR")).join("native");
+    println!("cargo::rerun-if-changed={}", here.join(ARCHIVE).display());
+    let folder = if let Some(named) = env::var_os("CEFRODIL_LIB").map(PathBuf::from) {
+        if !named.is_absolute() {
+            fail(&format!("CEFRODIL_LIB must be an absolute path, and not {}", named.display()));
         }
-        println!("cargo::warning={missing}");
-    }
+        if !named.join(ARCHIVE).is_file() {
+            fail(&format!("there is no {ARCHIVE} in {}: {HOW}", named.display()));
+        }
+        named
+    } else if here.join(ARCHIVE).is_file() {
+        here
+    } else {
+        known().unwrap_or_else(|| {
+            // Without an archive `cargo check` and `cargo doc` work, so this is no error yet.
+            println!("cargo::warning=there is no {ARCHIVE} in {}, nor where pkg-config looks: {HOW}", here.display());
+            here
+        })
+    };
+    println!("cargo::rerun-if-changed={}", folder.join(ARCHIVE).display());
     println!("cargo::rustc-link-search=native={}", folder.display());
     println!("cargo::rustc-link-lib=static=cefrodil");
+}
+
+/// Where pkg-config finds the archive of this version, if it does.
+fn known() -> Option<PathBuf> {
+    let version = answer("--modversion")?;
+    if !version.starts_with(SERIES) {
+        return None;
+    }
+    // Some versions of pkg-config put a backslash before a space.
+    let folder = PathBuf::from(answer("--variable=libdir")?.replace('\\', ""));
+    folder.join(ARCHIVE).is_file().then_some(folder)
+}
+
+/// What pkg-config answers, if it is there and knows the library.
+fn answer(question: &str) -> Option<String> {
+    let program = env::var_os("PKG_CONFIG").unwrap_or_else(|| "pkg-config".into());
+    let output = Command::new(program).args([question, "cefrodil"]).output().ok()?;
+    let text = String::from_utf8(output.stdout).ok()?;
+    output.status.success().then(|| text.trim_end().to_owned())
+}
+
+fn fail(why: &str) -> ! {
+    eprintln!("{why}");
+    exit(1)
 }

@@ -45,5 +45,8 @@ fn main() -> Result<(), Box<dyn Error>> {
     let mut pass = desk.pass().ok_or("no pass came back")?;
     let sum: u64 = (0..COUNTERS).filter_map(|key| pass.get_or_desk(key).value()).map(|[count]| count).sum();
     println!("{sum} additions");
+    if sum != ADDITIONS * THREADS as u64 {
+        return Err("an addition was lost".into());
+    }
     Ok(())
 }

@@ -87,5 +87,8 @@ fn main() -> Result<(), Box<dyn Error>> {
         allowed += more;
     }
     println!("{allowed} of {} requests allowed", WINDOWS * REQUESTS * u64::from(CLIENTS) * THREADS as u64);
+    if allowed != WINDOWS * LIMIT * u64::from(CLIENTS) {
+        return Err("each client must get as many requests as the limit says".into());
+    }
     Ok(())
 }

@@ -31,7 +31,8 @@ pub struct Desk<const WORDS: usize> {
 }
 
 /// A thread's access to a [`Desk`] or to [`Shards`](crate::Shards): it looks up like a reader, and tries for the turn to write. It may
-/// move to another thread, but two threads can't share it. Dropping it returns it to its desk. A pass of shards is closed.
+/// move to another thread, but two threads can't share it. Dropping it returns it to its desk. A pass of shards, or of
+/// [`Desk::into_passes`], is closed.
 #[must_use = "a pass that is dropped goes back to its desk, or is closed"]
 pub struct Pass<'a, const WORDS: usize> {
     desk: Option<&'a Desk<WORDS>>,
@@ -64,6 +65,29 @@ impl<const WORDS: usize> Desk<WORDS> {
         let handle = self.passes.lock().unwrap_or_else(PoisonError::into_inner).pop()?;
         Some(Pass { desk: Some(self), handle: Some(handle) })
     }
+
+    /// Ends the desk and returns its passes. They borrow nothing, so a thread that isn't scoped can own one. A pass that is dropped
+    /// is closed; dropping the last one frees the cache.
+    ///
+    /// ```
+    /// use cefrodil::{Desk, Shape};
+    ///
+    /// let passes = Desk::<1>::open(&Shape::for_items(100)?, 2)?.into_passes();
+    /// let threads: Vec<_> = passes
+    ///     .into_iter()
+    ///     .zip(0..)
+    ///     .map(|(mut pass, key)| std::thread::spawn(move || while pass.try_put(key, &[key]).is_err() {}))
+    ///     .collect();
+    /// for thread in threads {
+    ///     thread.join().expect("it ends");
+    /// }
+    /// # Ok::<(), Box<dyn std::error::Error>>(())
+    /// ```
+    #[must_use]
+    pub fn into_passes(self) -> Vec<Pass<'static, WORDS>> {
+        let handles = self.passes.into_inner().unwrap_or_else(PoisonError::into_inner);
+        handles.into_iter().map(Pass::owning).collect()
+    }
 }
 
 impl<const WORDS: usize> Debug for Desk<WORDS> {
@@ -88,7 +112,8 @@ impl<const WORDS: usize> Drop for Pass<'_, WORDS> {
 }
 
 impl<const WORDS: usize> Pass<'static, WORDS> {
-    pub(crate) fn of_shards(handle: Handle) -> Pass<'static, WORDS> {
+    /// A pass that returns to no desk.
+    pub(crate) fn owning(handle: Handle) -> Pass<'static, WORDS> {
         Pass { desk: None, handle: Some(handle) }
     }
 }

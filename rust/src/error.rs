@@ -86,7 +86,7 @@ pub enum Why {
 #[derive(Clone, Copy, Debug, PartialEq, Eq, Hash)]
 pub struct Spent;
 
-/// Why a try for the turn failed.
+/// Why a try for the turn failed. There will be no third reason, so a `match` may list both.
 #[derive(Clone, Copy, Debug, PartialEq, Eq, Hash)]
 pub enum TurnError<E> {
     /// The try did not win. Nothing was done.

@@ -5,7 +5,7 @@ use crate::raw::{self, RawShape};
 /// Whether the library hashes keys, or takes them as they are.
 #[derive(Clone, Copy, Debug, Default, PartialEq, Eq, Hash)]
 pub enum Mix {
-    /// Hashes keys by MurmurHash3's finalizer.
+    /// Hashes keys by the finalizer of `MurmurHash3`.
     #[default]
     Full,
     /// Takes keys as they are. For tests.

@@ -51,6 +51,6 @@ impl<const WORDS: usize> Shards<WORDS> {
         [u64; WORDS]: Value,
     {
         let handles = Handle::open_shards(&shape.raw(), shards, WORDS, passes).map_err(OpenError::of)?;
-        Ok(handles.into_iter().map(Pass::of_shards).collect())
+        Ok(handles.into_iter().map(Pass::owning).collect())
     }
 }

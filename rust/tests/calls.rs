@@ -37,13 +37,13 @@ fn many_keys_are_looked_up() -> Result<(), Box<dyn Error>> {
     let keys: Vec<u64> = (0..77).collect();
     let mut replies = [Reply::Busy; 77];
     readers[0].get_many(&keys, &mut replies);
-    for key in 0..77 {
+    for (key, reply) in (0..77).zip(replies) {
         let expected = if key % 2 == 0 {
             Reply::Found { value: [key / 2; 3], at: 50, since: key / 2 + 1 }
         } else {
             Reply::Absent { at: 50 }
         };
-        assert_eq!(replies[key as usize], expected);
+        assert_eq!(reply, expected);
     }
     readers[0].get_many(&[], &mut []);
     let desk = Desk::<3>::open(&Shape::for_items(100)?, 1)?;
