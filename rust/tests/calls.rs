@@ -1,6 +1,4 @@
-use cefrodil::{
-    Cache, Desk, Mix, OpenError, Put, PutError, PutIfAbsentError, PutIfError, Removal, Reply, Shape, Shards, TurnError, Why,
-};
+use cefrodil::{Cache, Desk, Mix, OpenError, Put, PutIfAbsentError, PutIfError, Removal, Reply, Shape, Shards, TurnError, Why};
 use std::error::Error;
 use std::thread;
 
