@@ -4,7 +4,7 @@
 #include <pthread.h>
 #include <stdio.h>
 
-enum { THREADS = 4, NUMBERS = 30000, ITEMS = 20000 };
+enum { THREADS = 4, NUMBERS = 10000, ITEMS = 8000 };
 
 /* A thread with its pass, and how many results it computed. */
 struct worker {

@@ -5,7 +5,7 @@
 #include <thread>
 
 constexpr int threads = 4;
-constexpr uint64_t numbers = 30000, items = 20000;
+constexpr uint64_t numbers = 10000, items = 8000;
 
 // A thread's access to the results. The function gets an argument, and the memo for its own calls.
 template <class Function> class Memo {

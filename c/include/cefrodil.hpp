@@ -7,7 +7,9 @@
 #include <array>
 #include <cstddef>
 #include <cstdint>
+#include <cstring>
 #include <optional>
+#include <type_traits>
 #include <utility>
 #include <vector>
 
@@ -40,6 +42,23 @@ enum class [[nodiscard]] Status : uint32_t {
 };
 
 inline const char *text(Status status) noexcept { return cefrodil_text(static_cast<uint32_t>(status)); }
+
+// How many words a type takes as a value.
+template <class Type> inline constexpr size_t words_of = (sizeof(Type) + sizeof(uint64_t) - 1) / sizeof(uint64_t);
+
+// The bytes of a trivially copyable type as the words of a value, and back. Bytes behind the type are 0.
+template <class Type> std::array<uint64_t, words_of<Type>> to_words(const Type &value) noexcept {
+    static_assert(std::is_trivially_copyable_v<Type> && words_of<Type> <= 8, "a value is up to 64 bytes, which can be copied as they are");
+    std::array<uint64_t, words_of<Type>> words{};
+    std::memcpy(words.data(), &value, sizeof value);
+    return words;
+}
+template <class Type> Type from_words(const std::array<uint64_t, words_of<Type>> &words) noexcept {
+    static_assert(std::is_trivially_copyable_v<Type> && words_of<Type> <= 8, "a value is up to 64 bytes, which can be copied as they are");
+    Type value;
+    std::memcpy(&value, words.data(), sizeof value);
+    return value;
+}
 
 // The answer of a lookup. `value` is there if the key was found.
 template <size_t Words> struct Answer {

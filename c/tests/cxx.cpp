@@ -38,6 +38,25 @@ static void apart(const cefrodil_shape &shape) {
     MUST(!moved.is_open() && readers[1].get(1).status == Status::absent);
 }
 
+// A type of the program goes in and comes out.
+static void typed(const cefrodil_shape &shape) {
+    struct Account {
+        double rate;
+        uint32_t owner;
+        char name[8];
+    };
+    static_assert(cefrodil::words_of<Account> == 3 && cefrodil::words_of<char> == 1 && cefrodil::words_of<char[9]> == 2);
+    Writer<cefrodil::words_of<Account>> writer;
+    std::vector<Reader<cefrodil::words_of<Account>>> readers;
+    MUST(cefrodil::open(shape, 1, writer, readers) == Status::ok);
+    MUST(writer.put(1, cefrodil::to_words(Account{0.5, 70, "seventy"})).status == Status::ok);
+    const auto found = readers[0].get(1);
+    MUST(found.value);
+    const auto account = cefrodil::from_words<Account>(*found.value);
+    MUST(account.rate == 0.5 && account.owner == 70 && account.name[6] == 'y' && account.name[7] == 0);
+    MUST(cefrodil::to_words(uint16_t(7))[0] == 7);
+}
+
 static void by_turns(std::vector<Pass<1>> passes) {
     MUST(passes[0].try_put(1, {0}).status == Status::ok);
     std::vector<std::thread> threads;
@@ -64,6 +83,7 @@ int main() {
     const std::optional<cefrodil_shape> shape = cefrodil::shape_for_items(100), part = cefrodil::shape_for_shards(100, 4);
     MUST(shape && part && !cefrodil::shape_for_items(0) && !cefrodil::shape_for_shards(100, 3));
     apart(*shape);
+    typed(*shape);
     std::vector<Pass<1>> passes;
     MUST(cefrodil::open_desk(*shape, 3, passes) == Status::ok);
     by_turns(std::move(passes));

@@ -5,7 +5,7 @@ use std::error::Error;
 use std::thread;
 
 const THREADS: usize = 4;
-const NUMBERS: u64 = 30_000;
+const NUMBERS: u64 = 10_000;
 
 /// How many steps lead from a number to 1, if an even number is halved and an odd one becomes 3n + 1.
 struct Steps {
@@ -43,7 +43,7 @@ fn plain_steps(number: u64) -> u64 {
 }
 
 fn main() -> Result<(), Box<dyn Error>> {
-    let passes = Desk::<1>::open(&Shape::for_items(20_000)?, THREADS)?.into_passes();
+    let passes = Desk::<1>::open(&Shape::for_items(8_000)?, THREADS)?.into_passes();
     let threads: Vec<_> = passes
         .into_iter()
         .map(|known| {
