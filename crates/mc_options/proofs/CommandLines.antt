@@ -12,7 +12,7 @@ use Rattle.clap.specs.declared.parser.matches.ArgMatches.{ArgMatches}
 use Rattle.clap.specs.declared.parser.matches.Found.{Found}
 use Rattle.clap.proofs.WalkLemmas.{first_value-rows}
 use Rattle.mc_script.proofs.Digits.{digits_model}
-use Rattle.mc_options.specs.Options.{MixNames, faults_of, number_in, program, texts_of}
+use Rattle.mc_options.specs.Options.{MixNames, faults_of, number_in, whole_command, texts_of}
 
 -- ---- numbers
 
@@ -59,19 +59,21 @@ text-none g f id is = ap (option_and_then g) (is ∙ first_value-rows f id)
 -- ---- the parse
 
 -- the library says all of the program's command
-pub simple_and_free : (mixes : MixNames) → is_simple_and_free (program mixes) ≡ true
-simple_and_free mixes = refl
+pub simple_and_free : (name : Text) (mixes : MixNames) → is_simple_and_free (whole_command name mixes) ≡ true
+simple_and_free name mixes = refl
 
-pub simple : (mixes : MixNames) → is_simple (program mixes) ≡ true
-simple mixes = refl
+pub simple : (name : Text) (mixes : MixNames) → is_simple (whole_command name mixes) ≡ true
+simple name mixes = refl
 
 -- a parse fails by the words' faults alone
-pub fails_by : {T : Type 0} (app : App) (mixes : MixNames) (words : List Text) (r : Result T Error) → app ≡ program mixes
-    → (is_simple_and_free app ≡ true → FailsBy (fault_of app words) r) → FailsBy (faults_of mixes words) r
+pub fails_by : {T : Type 0} (app : App) (name : Text) (mixes : MixNames) (words : List Text) (r : Result T Error) → app ≡ whole_command name mixes
+    → (is_simple_and_free app ≡ true → FailsBy (fault_of app words) r) → FailsBy (faults_of name mixes words) r
 unfolding faults_of
-fails_by app mixes words r is fails = subst (λ (a : App). is_simple_and_free a ≡ true → FailsBy (fault_of a words) r) is fails (simple_and_free mixes)
+fails_by app name mixes words r is fails =
+    subst (λ (a : App). is_simple_and_free a ≡ true → FailsBy (fault_of a words) r) is fails (simple_and_free name mixes)
 
 -- and what it finds are the texts of the options
-pub finds : (app : App) (mixes : MixNames) (words : List Text) (m : ArgMatches) → app ≡ program mixes → HasMatchesOf app words m → rows_of (found_of m) ≡ texts_of mixes words
+pub finds : (app : App) (name : Text) (mixes : MixNames) (words : List Text) (m : ArgMatches) → app ≡ whole_command name mixes → HasMatchesOf app words m
+    → rows_of (found_of m) ≡ texts_of name mixes words
 unfolding texts_of
-finds app mixes words m is found = (subst (λ (a : App). HasMatchesOf a words m) is found (simple mixes)).0
+finds app name mixes words m is found = (subst (λ (a : App). HasMatchesOf a words m) is found (simple name mixes)).0

@@ -1,4 +1,4 @@
--- What the words of a command line ask of `mcstep`; the first of them is the program's own name.
+-- What the words of a command line ask of `mcstep` and `mcpicture`; the first of them is the program's own name.
 -- The library `clap` defines how words are read: `fault_of` gives the kind of their first fault, and `matches_of` the
 -- text of each option, which is its default's where the option isn't given.
 use Rattle.std.specs.Prelude.{◌≡◌, ◌≢◌, ◌⊎◌, ◌&&◌, ℕ, true, pos, List, [], ◌∷◌, Option, Some, None, Result, map, length, codes, fold, nat_le, nat_lt, option_and_then, if◌then◌else◌, MatchResult}
@@ -63,7 +63,7 @@ step_bounds = bounds (codes "2") (codes "2")
 abbrev pub step_others : MixNames → List Rule
 step_others mixes = others mixes (codes "plain") (codes "2")
 
--- the option of `mcstep` alone
+-- the option that `mcload` doesn't have
 abbrev pub words_rule : Rule
 words_rule = option (codes "words") (parser.Signed (pos 1) (pos 2)) (codes "1")
 
@@ -71,12 +71,13 @@ words_rule = option (codes "words") (parser.Signed (pos 1) (pos 2)) (codes "1")
 abbrev pub with_rules : App → List Rule → App
 with_rules app rules = fold with_rule app rules
 
--- the command `mcstep`, which has a version, without its options
-abbrev pub mcstep_command : App
-mcstep_command = on_top (λ s. record s { has_version = true }) (new_app (codes "mcstep"))
+-- the command of a program by its name, which has a version, without its options
+abbrev pub named_command : Text → App
+named_command name = on_top (λ s. record s { has_version = true }) (new_app name)
 
-abbrev pub program : MixNames → App
-program mixes = with_rules (with_rules (with_rules (with_rules mcstep_command step_sizes) step_bounds) (step_others mixes)) (words_rule ∷ [])
+abbrev pub whole_command : Text → MixNames → App
+whole_command name mixes =
+    with_rules (with_rules (with_rules (with_rules (named_command name) step_sizes) step_bounds) (step_others mixes)) (words_rule ∷ [])
 
 -- ---- what their texts say
 
@@ -105,46 +106,46 @@ pub record Says (rows : List Row) (o : Options) : Type 0 where
   pub readers : option_and_then (number_in 0 4294967295) (first_of (codes "readers") rows) ≡ Some o.readers
   pub words : option_and_then (number_in 1 2) (first_of (codes "words") rows) ≡ Some o.words
 
--- ---- what the words ask for
+-- ---- what the words ask of the program of a name
 
 -- the kinds of the words' first fault; none where they are taken
-unfoldable pub faults_of : MixNames → List Text → Kinds
-faults_of mixes words = fault_of (program mixes) words
+unfoldable pub faults_of : Text → MixNames → List Text → Kinds
+faults_of name mixes words = fault_of (whole_command name mixes) words
 
 -- the options with their texts
-unfoldable pub texts_of : MixNames → List Text → List Row
-texts_of mixes words = matches_of (program mixes) words
+unfoldable pub texts_of : Text → MixNames → List Text → List Row
+texts_of name mixes words = matches_of (whole_command name mixes) words
 
 -- the words are taken, and say these options
-abbrev pub GivesOptions : List Text → Options → Type 0
-GivesOptions words o = (mixes : MixNames) × AreMixes mixes × (faults_of mixes words ≡ []) × Says (texts_of mixes words) o
+abbrev pub GivesOptions : Text → List Text → Options → Type 0
+GivesOptions name words o = (mixes : MixNames) × AreMixes mixes × (faults_of name mixes words ≡ []) × Says (texts_of name mixes words) o
 
 -- the words are taken, but some text doesn't say a value of its option, as a number with a sign
-abbrev pub SaysNothing : List Text → Type 0
-SaysNothing words =
-    (mixes : MixNames) × AreMixes mixes × (faults_of mixes words ≡ []) × ((o : Options) → Says (texts_of mixes words) o → ⊥)
+abbrev pub SaysNothing : Text → List Text → Type 0
+SaysNothing name words =
+    (mixes : MixNames) × AreMixes mixes × (faults_of name mixes words ≡ []) × ((o : Options) → Says (texts_of name mixes words) o → ⊥)
 
 -- the words have a fault of this kind
-abbrev pub HasFault : List Text → ErrorKind → Type 0
-HasFault words k = (mixes : MixNames) × AreMixes mixes × IsAmong k (faults_of mixes words)
+abbrev pub HasFault : Text → List Text → ErrorKind → Type 0
+HasFault name words k = (mixes : MixNames) × AreMixes mixes × IsAmong k (faults_of name mixes words)
 
 -- the words ask for help
-abbrev pub AsksHelp : List Text → Type 0
-AsksHelp words = HasFault words kind.DisplayHelp
+abbrev pub AsksHelp : Text → List Text → Type 0
+AsksHelp name words = HasFault name words kind.DisplayHelp
 
 -- the words ask for the version
-abbrev pub AsksVersion : List Text → Type 0
-AsksVersion words = HasFault words kind.DisplayVersion
+abbrev pub AsksVersion : Text → List Text → Type 0
+AsksVersion name words = HasFault name words kind.DisplayVersion
 
 -- the words have another fault
-abbrev pub IsFaulty : List Text → Type 0
-IsFaulty words =
-    ((k : ErrorKind) × (k ≢ kind.DisplayHelp) × (k ≢ kind.DisplayVersion) × HasFault words k) ⊎ SaysNothing words
+abbrev pub IsFaulty : Text → List Text → Type 0
+IsFaulty name words =
+    ((k : ErrorKind) × (k ≢ kind.DisplayHelp) × (k ≢ kind.DisplayVersion) × HasFault name words k) ⊎ SaysNothing name words
 
 -- why no options are read: memory was short, of which no clause can say more, or the words have a fault of this kind
-abbrev pub IsUnread : List Text → ErrorKind → Type 0
-IsUnread words k = (k ≡ kind.OutOfMemory) ⊎ (HasFault words k ⊎ ((k ≡ kind.ValueValidation) × SaysNothing words))
+abbrev pub IsUnread : Text → List Text → ErrorKind → Type 0
+IsUnread name words k = (k ≡ kind.OutOfMemory) ⊎ (HasFault name words k ⊎ ((k ≡ kind.ValueValidation) × SaysNothing name words))
 
 -- the options that the words say, or why there are none
-abbrev pub Reads : List Text → Result Options Error → Type 0
-Reads words r = MatchResult r (GivesOptions words) (λ e. IsUnread words (kind_of e))
+abbrev pub Reads : Text → List Text → Result Options Error → Type 0
+Reads name words r = MatchResult r (GivesOptions name words) (λ e. IsUnread name words (kind_of e))

@@ -1,7 +1,7 @@
-//! The command lines of `mcstep` and `mcload`, read by `clap`, and what the programs tell on standard error.
+//! The command lines of `mcstep`, `mcpicture` and `mcload`, read by `clap`, and what the programs tell on standard error.
 //!
 //! ```text
-//! let options = options_of(alloc, &["mcstep", "--buckets", "8"])?;
+//! let options = options_of(alloc, program, &["mcstep", "--buckets", "8"])?;
 //! let load = load_options_of(alloc, &["mcload", "run", "--readers", "2"])?;
 //! ```
 #![tactic(auto)]
@@ -11,5 +11,5 @@ mod options;
 mod told;
 
 pub use load_options::{LoadOptions, load_options_of};
-pub use options::{Options, options_of};
+pub use options::{Options, Program, options_of};
 pub use told::{FAILED, REFUSED, Refusal, tell, tell_fault};

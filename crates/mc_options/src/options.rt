@@ -1,10 +1,10 @@
-//! The options of `mcstep`.
+//! The options of `mcstep` and `mcpicture`.
 ghost use Rattle.std.specs.Prelude.{◌≡◌, ◌⊎◌, false, IfOk, MatchResult, codes, map, option_and_then};
 ghost use Rattle.std.specs.Result.{result_ok};
 ghost use Rattle.clap.specs.Words.{app_of, first_of, found_of, kind_of, rows_of, rule_of};
 ghost use Rattle.mc_words.specs.declared.shape.Shape.{Shape};
 ghost use Rattle.mc_options.specs.Inside.OptionRows.{row_rule, step_rules, shared_rules};
-ghost use Rattle.mc_options.specs.Options.{AreMixes, MixNames, Reads, Says, SaysShape, mix_in, mcstep_command, number_in, program, with_rules, words_rule};
+ghost use Rattle.mc_options.specs.Options.{AreMixes, MixNames, Reads, Says, SaysShape, mix_in, whole_command, named_command, number_in, with_rules, words_rule};
 
 use clap::builder::ValueParser;
 use clap::error::ErrorKind;
@@ -23,9 +23,19 @@ pub struct Options {
     pub words: u8,
 }
 
+/// What a program says of itself.
+#[derive(Clone, Copy)]
+pub struct Program<'a> {
+    pub name: &'a str,
+    /// What it does.
+    pub about: &'a str,
+    /// The end of the help's example: the command that takes the script, and what it writes.
+    pub example: &'a str,
+}
+
 pub(crate) const VERSION: &str = "0.1.0";
 
-/// What the help says of scripts, behind the options.
+/// What the help says of scripts, behind the options and before the example's command.
 const SCRIPTS: &str = "\
 Commands of a script, one a line:
   put K V..            Puts key K with its value, as many numbers as --words says
@@ -44,10 +54,7 @@ Commands of a script, one a line:
 Numbers are decimal. A line whose first word begins with # is a comment.
 
 Example: a put falls between a reader's accesses, so the reader looks again.
-  printf 'begin 0 get 0\\nr 0\\nput 0 7\\nr 0 14\\n' | mcstep
-writes
-  stored at 1 moves 0
-  reader 0 found 7 at 1";
+  printf 'begin 0 get 0\\nr 0\\nput 0 7\\nr 0 14\\n' | ";
 
 /// The most that a `u32` can be.
 pub(crate) const MOST_SIZE: u64 = 4_294_967_295;
@@ -160,7 +167,7 @@ pub(crate) fn shared_rows<'a>(defaults: Defaults<'a>, limit: &'a str) -> [Option
     ]
 }
 
-/// The options of `mcstep` that `mcload` has too.
+/// The options that `mcload` has too.
 fn step_rows<'a>() -> [OptionRow<'a>; 8]
     ensures { (mixes : MixNames) × AreMixes mixes × (map row_rule result ≡ step_rules mixes) }
 {
@@ -179,7 +186,7 @@ fn step_rows<'a>() -> [OptionRow<'a>; 8]
     )
 }
 
-/// The option of `mcstep` alone.
+/// The option that `mcload` doesn't have.
 fn words_row<'a>() -> OptionRow<'a>
     ensures { row_rule result ≡ words_rule }
 {
@@ -191,21 +198,31 @@ fn words_row<'a>() -> OptionRow<'a>
     }
 }
 
-/// The command without its options.
-fn named<'a>(alloc: Global) -> Command<'a>
-    ensures { app_of result ≡ mcstep_command }
-{
-    Command::new(alloc, "mcstep")
-        .version(VERSION)
-        .about("Replays a script of cache calls, which comes on standard input")
-        .after_help(SCRIPTS)
+/// What the help says behind the options.
+fn help_of(alloc: Global, program: &Program<'_>) -> Result<String, AllocError> {
+    let example = program.example;
+    format!(in alloc; "{SCRIPTS}{example}")
 }
 
-fn command<'a>(alloc: Global) -> Result<Command<'a>, AllocError>
-    ensures { IfOk result (λ c. (mixes : MixNames) × AreMixes mixes × (app_of c ≡ program mixes)) }
+/// The command without its options.
+fn named<'a>(alloc: Global, program: Program<'a>, help: &'a str) -> Command<'a>
+    ensures { app_of result ≡ named_command program.entry.name.now }
+{
+    Command::new(alloc, program.name)
+        .version(VERSION)
+        .about(program.about)
+        .after_help(help)
+}
+
+fn command<'a>(
+    alloc: Global,
+    program: Program<'a>,
+    help: &'a str,
+) -> Result<Command<'a>, AllocError>
+    ensures { IfOk result (λ c. (mixes : MixNames) × AreMixes mixes × (app_of c ≡ whole_command program.entry.name.now mixes)) }
 {
     let rows = step_rows();
-    let command = with_options(alloc, named(alloc), rows.as_slice())?;
+    let command = with_options(alloc, named(alloc, program, help), rows.as_slice())?;
     command.arg(option(alloc, &words_row()))
 }
 
@@ -333,10 +350,15 @@ pub(crate) fn refusal(
 }
 
 /// The options of the words, the program's own name first.
-pub fn options_of<S: AsStr>(alloc: Global, words: &[S]) -> Result<Options, Error>
-    ensures { Reads (map S.text words.now) result }
+pub fn options_of<S: AsStr>(
+    alloc: Global,
+    program: Program<'_>,
+    words: &[S],
+) -> Result<Options, Error>
+    ensures { Reads program.entry.name.now (map S.text words.now) result }
 {
-    let mut command = command(alloc)?;
+    let help = help_of(alloc, &program)?;
+    let mut command = command(alloc, program, help.as_str())?;
     let matches = match command.try_get_matches_from_mut(words) {
         Ok(matches) => matches,
         Err(error) => return Err(error),

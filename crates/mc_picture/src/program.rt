@@ -4,7 +4,7 @@ ghost use Rattle.mc_words.specs.Places.{IsWidth};
 use crate::film::{Film, MOST_STEPS, Trouble};
 use crate::page::{Opening, draw_page};
 use crate::recording::Recording;
-use mc_options::{FAILED, Options, REFUSED, Refusal, options_of, tell, tell_fault};
+use mc_options::{FAILED, Options, Program, REFUSED, Refusal, options_of, tell, tell_fault};
 use mc_replay::play_watched;
 use mc_script::send;
 use mc_step::status_of;
@@ -13,6 +13,15 @@ use std::alloc::Global;
 use std::convert::AsStr;
 use std::io::{BufRead, Write};
 use std::{fmt, io};
+
+/// What the program says of itself.
+fn program<'a>() -> Program<'a> {
+    Program {
+        name: "mcpicture",
+        about: "Draws a script of cache calls, which comes on standard input, as an SVG",
+        example: "mcpicture > a.svg",
+    }
+}
 
 /// Why there is no picture, as it is told.
 impl fmt::Display for Trouble {
@@ -128,7 +137,7 @@ pub fn run_picture<S: AsStr, R: BufRead, W: Write, E: Write>(
     output: &mut W,
     errors: &mut E,
 ) -> u8 {
-    match options_of(alloc, words) {
+    match options_of(alloc, program(), words) {
         Ok(options) => draw_options(alloc, options, input, output, errors),
         Err(error) => tell_fault(error, output, errors),
     }

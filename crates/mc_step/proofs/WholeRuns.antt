@@ -1,5 +1,5 @@
 -- Runs of the whole program, from those of its parts.
-use Rattle.std.proofs.Common.{◌≡◌, ℕ, List, subst, inl, inr}
+use Rattle.std.proofs.Common.{◌≡◌, ℕ, List, codes, subst, inl, inr}
 use Rattle.clap.specs.declared.error.kind.ErrorKind.{ErrorKind}
 use Rattle.mc_words.specs.declared.checked.Checked.{Checked}
 use Rattle.mc_words.specs.declared.shape.Shape.{Shape}
@@ -19,12 +19,12 @@ runs_accepted o V c input output errors status shape width ends =
     inl (shape.1, subst (λ (sh : Shape). Ends o.words sh o.readers input output errors status) shape.0 at_width)
 
 -- the end of a run whose words give no options
-pub runs_fault : (words : List (List ℕ)) (k : ErrorKind) (input output errors : Stream) (status : ℕ) → IsUnread words k → IsUntouched input → TellsFault k output errors status → Runs words input output errors status
+pub runs_fault : (words : List (List ℕ)) (k : ErrorKind) (input output errors : Stream) (status : ℕ) → IsUnread (codes "mcstep") words k → IsUntouched input → TellsFault k output errors status → Runs words input output errors status
 runs_fault words k input output errors status why kept (inl short) = is_short kept short.1
 runs_fault words k input output errors status (inl oom) kept (inr (inl (inl help, printed))) = absurd (cc)
 runs_fault words k input output errors status (inl oom) kept (inr (inl (inr version, printed))) = absurd (cc)
-runs_fault words k input output errors status (inr (inl fault)) kept (inr (inl (inl help, printed))) = prints (inl (subst (HasFault words) help fault)) kept printed
-runs_fault words k input output errors status (inr (inl fault)) kept (inr (inl (inr version, printed))) = prints (inr (subst (HasFault words) version fault)) kept printed
+runs_fault words k input output errors status (inr (inl fault)) kept (inr (inl (inl help, printed))) = prints (inl (subst (HasFault (codes "mcstep") words) help fault)) kept printed
+runs_fault words k input output errors status (inr (inl fault)) kept (inr (inl (inr version, printed))) = prints (inr (subst (HasFault (codes "mcstep") words) version fault)) kept printed
 runs_fault words k input output errors status (inr (inr none)) kept (inr (inl (inl help, printed))) = absurd (cc)
 runs_fault words k input output errors status (inr (inr none)) kept (inr (inl (inr version, printed))) = absurd (cc)
 runs_fault words k input output errors status (inl oom) kept (inr (inr told)) = absurd (told.0 oom)

@@ -53,7 +53,7 @@ RunsOptions o input output errors status =
 
 -- what the words of the command line ask for, and what comes of it
 pub data Runs (words : List (List ℕ)) (input output errors : Stream) (status : ℕ) : Type 0 where
-  runs : (o : Options) → GivesOptions words o → RunsOptions o input output errors status → Runs words input output errors status
-  prints : AsksHelp words ⊎ AsksVersion words → IsUntouched input → Prints errors status → Runs words input output errors status
-  refuses : IsFaulty words → IsUntouched input → IsUntouched output → status ≡ refused → Runs words input output errors status
+  runs : (o : Options) → GivesOptions (codes "mcstep") words o → RunsOptions o input output errors status → Runs words input output errors status
+  prints : AsksHelp (codes "mcstep") words ⊎ AsksVersion (codes "mcstep") words → IsUntouched input → Prints errors status → Runs words input output errors status
+  refuses : IsFaulty (codes "mcstep") words → IsUntouched input → IsUntouched output → status ≡ refused → Runs words input output errors status
   is_short : IsUntouched input → IsShort output errors status → Runs words input output errors status

@@ -1,16 +1,27 @@
 //! The whole program `mcstep`, over any streams.
-ghost use Rattle.std.specs.Prelude.{◌≡◌, ◌≤◌, map};
+ghost use Rattle.std.specs.Prelude.{◌≡◌, ◌≤◌, codes, map};
 ghost use Rattle.mc_words.specs.Checks.{shape_of};
 ghost use Rattle.mc_words.specs.Places.{IsWidth};
 ghost use Rattle.mc_options.specs.Streams.{stream};
 ghost use Rattle.mc_step.specs.Programs.{Ends, RunsOptions, Runs, status_of};
 
-use mc_options::{FAILED, Options, REFUSED, Refusal, options_of, tell, tell_fault};
+use mc_options::{FAILED, Options, Program, REFUSED, Refusal, options_of, tell, tell_fault};
 use mc_replay::{Fault, play};
 use mc_words::Checked;
 use std::alloc::Global;
 use std::convert::AsStr;
 use std::io::{BufRead, Write};
+
+/// What the program says of itself.
+fn program<'a>() -> Program<'a>
+    ensures { result.name.now ≡ codes "mcstep" }
+{
+    Program {
+        name: "mcstep",
+        about: "Replays a script of cache calls, which comes on standard input",
+        example: "mcstep\nwrites\n  stored at 1 moves 0\n  reader 0 found 7 at 1",
+    }
+}
 
 /// The exit status of a replay that stops by a fault.
 pub fn status_of(fault: Fault) -> u8
@@ -92,7 +103,7 @@ pub fn run_step<S: AsStr, R: BufRead, W: Write, E: Write>(
     ensures { Runs (map S.text words.now) (stream (R.remaining input.old) (R.remaining input.new))
         (stream (W.contents output.old) (W.contents output.new)) (stream (E.contents errors.old) (E.contents errors.new)) result }
 {
-    match options_of(alloc, words) {
+    match options_of(alloc, program(), words) {
         Ok(options) => run_options(alloc, options, input, output, errors),
         Err(error) => tell_fault(error, output, errors),
     }

@@ -59,13 +59,14 @@ impl Player {
     /// Begins a transcript, if this is the command line of one.
     fn begin(&mut self, rt: &impl Print, line: &str) -> io::Result<()> {
         self.asked = self.line;
-        match line.strip_prefix("$ ") {
-            Some(command) if command.split(' ').next() == Some("mcstep") => {
-                self.current = Some(Transcript::new(self.alloc, command)?);
-                Ok(())
-            }
-            _ => self.refuse(rt),
-        }
+        let command = line.strip_prefix("$ ").unwrap_or("");
+        let is_drawn = match command.split(' ').next() {
+            Some("mcstep") => false,
+            Some("mcpicture") => true,
+            _ => return self.refuse(rt),
+        };
+        self.current = Some(Transcript::new(self.alloc, command, is_drawn)?);
+        Ok(())
     }
 
     /// Adds a line to the current transcript.

@@ -1,5 +1,6 @@
 //! A script with its answers.
 use crate::escape::add_line;
+use mc_picture::run_picture;
 use mc_step::run_step;
 use std::alloc::{AllocError, Global};
 use std::str;
@@ -17,15 +18,22 @@ pub(crate) struct Outcome {
 pub(crate) struct Transcript {
     alloc: Global,
     command: String,
+    /// Whether `mcpicture` draws the script.
+    is_drawn: bool,
     script: Vec<u8>,
     pub(crate) due: Outcome,
 }
 
 impl Transcript {
-    pub(crate) fn new(alloc: Global, command: &str) -> Result<Transcript, AllocError> {
+    pub(crate) fn new(
+        alloc: Global,
+        command: &str,
+        is_drawn: bool,
+    ) -> Result<Transcript, AllocError> {
         Ok(Transcript {
             alloc,
             command: String::from_str(alloc, command)?,
+            is_drawn,
             script: Vec::new(alloc),
             due: Outcome {
                 output: Vec::new(alloc),
@@ -55,19 +63,19 @@ impl Transcript {
         status.is_some()
     }
 
-    /// Runs `mcstep` with the lines of the script so far.
+    /// Runs the program with the lines of the script so far.
     pub(crate) fn run(&self) -> Result<Outcome, AllocError> {
-        let words: Vec<&str> = self.command.as_str().split(' ').collect(self.alloc)?;
+        let alloc = self.alloc;
+        let words: Vec<&str> = self.command.as_str().split(' ').collect(alloc)?;
+        let words = words.as_slice();
         let mut input = self.script.as_slice();
-        let mut output = Vec::new(self.alloc);
-        let mut errors = Vec::new(self.alloc);
-        let status = run_step(
-            self.alloc,
-            words.as_slice(),
-            &mut input,
-            &mut output,
-            &mut errors,
-        );
+        let mut output = Vec::new(alloc);
+        let mut errors = Vec::new(alloc);
+        let status = if self.is_drawn {
+            run_picture(alloc, words, &mut input, &mut output, &mut errors)
+        } else {
+            run_step(alloc, words, &mut input, &mut output, &mut errors)
+        };
         Ok(Outcome {
             output,
             errors,
