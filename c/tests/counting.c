@@ -1,41 +1,43 @@
-/* Threads count keys that no thread has put yet. The first to count a key puts 1, and only if the key is absent, so no count is lost. */
+/* Threads count keys that no thread has put yet. All of them see that a key is absent before any of them puts it. The first to put it puts 1,
+ * and only if the key is absent, so no count is lost. */
 #include "cefrodil.h"
 #include "must.h"
 #include <pthread.h>
 #include <sched.h>
 #include <stdio.h>
-#include <stdlib.h>
 
-enum { THREADS = 4, KEYS = 20000 };
+enum { THREADS = 4, KEYS = 2000 };
 
 static cefrodil_handle passes[THREADS];
+static pthread_barrier_t all_looked;
 
-static uint32_t count(cefrodil_handle *pass, uint64_t key) {
-    uint64_t value = 0;
+/* One more than what the lookup found. */
+static uint32_t count(cefrodil_handle *pass, uint64_t key, uint32_t looked, uint64_t found, uint64_t since) {
     cefrodil_reply reply;
-    uint32_t status = cefrodil_get(pass, key, &value, 1, &reply);
-    if (status == CEFRODIL_ABSENT) {
-        value = 1;
-        return cefrodil_try_put_if_absent(pass, key, &value, 1, &reply);
+    if (looked == CEFRODIL_ABSENT) {
+        uint64_t one = 1;
+        return cefrodil_try_put_if_absent(pass, key, &one, 1, &reply);
     }
-    if (status != CEFRODIL_OK) {
-        return status;
+    if (looked != CEFRODIL_OK) {
+        return looked;
     }
-    value++;
-    return cefrodil_try_put_if(pass, key, reply.since, &value, 1, &reply);
+    found++;
+    return cefrodil_try_put_if(pass, key, since, &found, 1, &reply);
 }
 
-/* Returns null if all went well. */
+/* A key that cannot be put is found out at the end: a thread that gave up would leave the others waiting. */
 static void *count_all(void *handle) {
     cefrodil_handle *pass = (cefrodil_handle *)handle;
     for (uint64_t key = 0; key < KEYS; key++) {
-        uint32_t status = count(pass, key);
+        uint64_t found = 0;
+        cefrodil_reply reply;
+        uint32_t looked = cefrodil_get(pass, key, &found, 1, &reply);
+        pthread_barrier_wait(&all_looked);
+        uint32_t status = count(pass, key, looked, found, reply.since);
         while (status == CEFRODIL_BUSY || status == CEFRODIL_HELD || status == CEFRODIL_CHANGED || status == CEFRODIL_PRESENT) {
             sched_yield();
-            status = count(pass, key);
-        }
-        if (status != CEFRODIL_OK) {
-            return handle;
+            looked = cefrodil_get(pass, key, &found, 1, &reply);
+            status = count(pass, key, looked, found, reply.since);
         }
     }
     return NULL;
@@ -47,12 +49,12 @@ int main(void) {
     pthread_t threads[THREADS];
     MUST(cefrodil_shape_for_items(2 * KEYS, &shape) == CEFRODIL_OK);
     MUST(cefrodil_open_desk(&shape, 1, passes, THREADS) == CEFRODIL_OK);
+    MUST(pthread_barrier_init(&all_looked, NULL, THREADS) == 0);
     for (int i = 0; i < THREADS; i++) {
         MUST(pthread_create(&threads[i], NULL, count_all, &passes[i]) == 0);
     }
     for (int i = 0; i < THREADS; i++) {
-        void *failed;
-        MUST(pthread_join(threads[i], &failed) == 0 && failed == NULL);
+        MUST(pthread_join(threads[i], NULL) == 0);
     }
     for (uint64_t key = 0; key < KEYS; key++) {
         uint64_t value = 0;

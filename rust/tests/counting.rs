@@ -1,42 +1,47 @@
-//! Threads count keys that no thread has put yet. The first to count a key puts 1, and only if the key is absent, so no count is lost.
+//! Threads count keys that no thread has put yet. All of them see that a key is absent before any of them puts it. The first to put it puts 1,
+//! and only if the key is absent, so no count is lost.
 use cefrodil::{Desk, Pass, PutIfAbsentError, PutIfError, Reply, Shape, TurnError};
+use std::sync::Barrier;
 use std::thread;
 
 const THREADS: usize = 4;
-const KEYS: u64 = 20_000;
+const KEYS: u64 = 2_000;
 
-// Whether the key was counted: another thread may have put it first, or have the turn.
-fn counts(pass: &mut Pass<1>, key: u64) -> bool {
-    match pass.get(key) {
-        Reply::Found { value: [count], since, .. } => match pass.try_put_if(key, since, &[count + 1]) {
-            Ok(_) => true,
-            Err(TurnError::Held | TurnError::Call(PutIfError::Changed { .. })) => false,
-            Err(why) => panic!("{why}"),
-        },
-        Reply::Absent { .. } => match pass.try_put_if_absent(key, &[1]) {
-            Ok(_) => true,
-            Err(TurnError::Held | TurnError::Call(PutIfAbsentError::Present { .. })) => false,
-            Err(why) => panic!("{why}"),
-        },
+// One more than what the lookup found. False if another thread put it first or has the turn. A key that can't be put is found out at the
+// end: a thread that gave up would leave the others waiting.
+fn counts(pass: &mut Pass<1>, key: u64, looked: Reply<1>) -> bool {
+    match looked {
+        Reply::Found { value: [count], since, .. } => {
+            let put = pass.try_put_if(key, since, &[count + 1]);
+            !matches!(put, Err(TurnError::Held | TurnError::Call(PutIfError::Changed { .. })))
+        }
+        Reply::Absent { .. } => {
+            let put = pass.try_put_if_absent(key, &[1]);
+            !matches!(put, Err(TurnError::Held | TurnError::Call(PutIfAbsentError::Present { .. })))
+        }
         Reply::Busy => false,
     }
 }
 
-fn count_all(desk: &Desk<1>) {
+fn count_all(desk: &Desk<1>, all_looked: &Barrier) {
     let mut pass = desk.pass().expect("there is a pass for each thread");
     for key in 0..KEYS {
-        while !counts(&mut pass, key) {
+        let mut looked = pass.get(key);
+        all_looked.wait();
+        while !counts(&mut pass, key, looked) {
             thread::yield_now();
+            looked = pass.get(key);
         }
     }
 }
 
 #[test]
 fn no_count_of_a_new_key_is_lost() {
-    let desk = Desk::<1>::open(&Shape::for_items(40_000).unwrap(), THREADS).unwrap();
+    let desk = Desk::<1>::open(&Shape::for_items(4_000).unwrap(), THREADS).unwrap();
+    let all_looked = Barrier::new(THREADS);
     thread::scope(|threads| {
         for _ in 0..THREADS {
-            threads.spawn(|| count_all(&desk));
+            threads.spawn(|| count_all(&desk, &all_looked));
         }
     });
     let mut pass = desk.pass().unwrap();
