@@ -6,6 +6,7 @@
 
 mod entries;
 mod held;
+mod listed;
 mod looked;
 mod new_passes;
 mod new_sides;
@@ -20,6 +21,7 @@ mod words;
 mod writer_side;
 
 pub use held::Held;
+pub use listed::ListError;
 pub use looked::Looked;
 pub use mc_cache::{
     DeskError, GROUP, IfError, OpenError, Put, PutError, Remove, Shape, ShapeError, Spent, Why,
