@@ -174,16 +174,16 @@ CEFRODIL_CHECKED cefrodil_status cefrodil_shape_for_shards(uint32_t items, uint3
 CEFRODIL_CHECKED cefrodil_status cefrodil_open_shards(const cefrodil_shape *shape, uint32_t shards, size_t words,
                                                       cefrodil_handle *passes, size_t pass_count);
 
-/* Looks a key up, by a reader or a pass.
+/* Looks a key up, by any handle. By the writer it is never busy.
  * OK: `value`, `at` and `since` are set. ABSENT: `at` is set. BUSY: ask again, or treat it as a miss.
- * CLOSED, KIND, WIDTH. `value` is written only with OK. `reply` may be null. */
+ * CLOSED, WIDTH. `value` is written only with OK. `reply` may be null. */
 CEFRODIL_CHECKED cefrodil_status cefrodil_get(cefrodil_handle *reader, uint64_t key, uint64_t *value, size_t words,
                                               cefrodil_reply *reply);
 
 /* Looks `key_count` keys up. Equivalent to calling cefrodil_get for each key in order. `values` has one value after the other,
  * so `value_words` must be `key_count` times the words of a value.
  * OK: answer i is that of key i; value i was written if its status is OK, and is unchanged otherwise.
- * CLOSED, KIND; BAD_COUNT: `answer_count` is not `key_count`; WIDTH: `value_words` does not match. With these nothing is written. */
+ * CLOSED; BAD_COUNT: `answer_count` is not `key_count`; WIDTH: `value_words` does not match. With these nothing is written. */
 CEFRODIL_CHECKED cefrodil_status cefrodil_get_many(cefrodil_handle *reader, const uint64_t *keys, size_t key_count,
                                                    uint64_t *values, size_t value_words, cefrodil_answer *answers,
                                                    size_t answer_count);
@@ -227,6 +227,20 @@ cefrodil_status cefrodil_try_remove(cefrodil_handle *pass, uint64_t key, cefrodi
 /* Like cefrodil_try_put, with up to `tries` tries, at least one, one after the other without a pause. HELD: none of them won. */
 cefrodil_status cefrodil_put_within(cefrodil_handle *pass, uint32_t tries, uint64_t key, const uint64_t *value,
                                     size_t words, cefrodil_reply *reply);
+
+/* The number of changes to the table, which is the `at` of a lookup made now; the number of keys in it; the number of keys that it
+ * holds at most, the `items` of its shape. By the writer. None of the three looks through the table.
+ * OK: the number is set. CLOSED, KIND: it is unchanged. */
+CEFRODIL_CHECKED cefrodil_status cefrodil_moment(cefrodil_handle *writer, uint64_t *moment);
+CEFRODIL_CHECKED cefrodil_status cefrodil_len(cefrodil_handle *writer, uint64_t *len);
+CEFRODIL_CHECKED cefrodil_status cefrodil_capacity(cefrodil_handle *writer, uint64_t *capacity);
+
+/* Lists each key with its value, by the writer or a pass. A pass tries once for the turn, and a pass of shards once for that of each
+ * shard, so it lists each shard at a moment of its own. An entry is its key, then the words of its value, as cefrodil_open_with
+ * takes it. Readers may go on meanwhile. This call takes memory for the whole list, and frees it.
+ * OK: the first `count` entries of `entries` are written. BAD_COUNT: there are `count` entries, and `entry_words` is less than
+ * `count` times (1 + the words of a value). HELD: a try did not win. CLOSED, KIND, NO_MEMORY. Unless OK, `entries` is unchanged. */
+CEFRODIL_CHECKED cefrodil_status cefrodil_entries(cefrodil_handle *handle, uint64_t *entries, size_t entry_words, uint64_t *count);
 
 /* Closes a handle, in any thread. Closing the last handle frees the cache.
  * OK, or CLOSED if it was not open, or null. The handle is closed afterwards. */

@@ -118,6 +118,18 @@ template <size_t Words> Answer<Words> answer(cefrodil_status status, const cefro
     return told;
 }
 
+// Lists the entries by a handle: how many they are, and then each, until they fit.
+template <size_t Words> Status entries(cefrodil_handle *raw, std::vector<uint64_t> &words) {
+    uint64_t count = 0;
+    cefrodil_status status;
+    do {
+        words.resize(count * (1 + Words) + 1);
+        status = cefrodil_entries(raw, words.data(), words.size(), &count);
+    } while (status == CEFRODIL_BAD_COUNT);
+    words.resize(status == CEFRODIL_OK ? count * (1 + Words) : 0);
+    return static_cast<Status>(status);
+}
+
 // Opens `count` handles by a call of C, which takes an array of them. Then each gets its place in `handles`.
 template <class Kind, class Open> Status open_all(std::vector<Kind> &handles, size_t count, Open open) {
     std::vector<cefrodil_handle> raw(count != 0 && count <= 1024 ? count : 1);
@@ -161,6 +173,18 @@ template <size_t Words> class Writer : public Handle {
         const cefrodil_status status = cefrodil_remove(raw(), key, &reply);
         return inside::written(status, reply);
     }
+    // Never busy.
+    [[nodiscard]] Answer<Words> get(uint64_t key) {
+        cefrodil_reply reply;
+        Value value;
+        const cefrodil_status status = cefrodil_get(raw(), key, value.data(), Words, &reply);
+        return inside::answer<Words>(status, reply, value);
+    }
+    Status moment(uint64_t &number) { return static_cast<Status>(cefrodil_moment(raw(), &number)); }
+    Status len(uint64_t &number) { return static_cast<Status>(cefrodil_len(raw(), &number)); }
+    Status capacity(uint64_t &number) { return static_cast<Status>(cefrodil_capacity(raw(), &number)); }
+    // Each key with its value, one entry after the other. Unless ok, `words` is empty.
+    Status entries(std::vector<uint64_t> &words) { return inside::entries<Words>(raw(), words); }
 };
 
 // A reader of a cache.
@@ -224,6 +248,8 @@ template <size_t Words> class Pass : public Reader<Words> {
         const cefrodil_status status = cefrodil_try_remove(this->raw(), key, &reply);
         return inside::written(status, reply);
     }
+    // Like Writer::entries. It is held if a try for the turn does not win.
+    Status try_entries(std::vector<uint64_t> &words) { return inside::entries<Words>(this->raw(), words); }
 };
 
 // The shape for so many items, or none if that is out of range.

@@ -31,9 +31,16 @@ static void apart(const cefrodil_shape &shape) {
     MUST(readers[1].get_many(keys, 2, values, answers) == Status::ok && readers[1].get_many(nullptr, 0, nullptr, nullptr) == Status::ok);
     MUST(answers[0].status == CEFRODIL_ABSENT && values[0][0] == 5 && answers[1].status == CEFRODIL_OK && values[1][1] == 8);
     MUST(writer.put_if(1, 9, {0, 0}).status == Status::changed && writer.put(1, {7, 9}).renewed);
+    uint64_t keys_now = 0, most = 0, moment = 0;
+    MUST(writer.len(keys_now) == Status::ok && writer.capacity(most) == Status::ok && writer.moment(moment) == Status::ok);
+    MUST(keys_now == 1 && most == shape.items && moment == 2 && (*writer.get(1).value)[1] == 9);
+    std::vector<uint64_t> list;
+    MUST(writer.entries(list) == Status::ok && list.size() == 3 && list[0] == 1 && list[2] == 9);
     Writer<2> moved = std::move(writer);
     MUST(!writer.is_open() && writer.put(1, {0, 0}).status == Status::closed);
+    MUST(writer.entries(list) == Status::closed && list.empty());
     MUST(moved.remove(1).status == Status::ok && readers[1].get(1).at == 3);
+    MUST(moved.entries(list) == Status::ok && list.empty());
     moved = Writer<2>();
     MUST(!moved.is_open() && readers[1].get(1).status == Status::absent);
 }
@@ -58,7 +65,8 @@ static void typed(const cefrodil_shape &shape) {
 }
 
 static void by_turns(std::vector<Pass<1>> passes) {
-    MUST(passes[0].try_put(1, {0}).status == Status::ok);
+    std::vector<uint64_t> list;
+    MUST(passes[0].try_put(1, {0}).status == Status::ok && passes[1].try_entries(list) == Status::ok && list.size() == 2 && list[0] == 1);
     std::vector<std::thread> threads;
     for (Pass<1> &pass : passes) {
         threads.emplace_back([mine = std::move(pass)]() mutable {

@@ -1,4 +1,4 @@
-/* A cache is opened with entries: what becomes of each, and what is refused. */
+/* A cache is opened with entries: what becomes of each, and what is refused. Then they are listed. */
 #include "cefrodil.h"
 #include "must.h"
 #include <stdio.h>
@@ -100,6 +100,71 @@ static void refused(void) {
     }
 }
 
+/* The list of a cache opens another one with the same keys. */
+static void listed(void) {
+    cefrodil_shape shape = shape_of(4, 3, most);
+    uint64_t list[7] = {99, 99, 99, 99, 99, 99, 99}, count = 98;
+    uint32_t statuses[4];
+    MUST(cefrodil_open_with(&shape, 1, nine, 8, statuses, 4, &writer, readers, 2) == CEFRODIL_OK);
+    MUST(cefrodil_entries(&readers[0], list, 6, &count) == CEFRODIL_KIND && count == 98);
+    MUST(cefrodil_entries(&writer, list, 5, &count) == CEFRODIL_BAD_COUNT && count == 3 && list[0] == 99);
+    count = 98;
+    MUST(cefrodil_entries(&writer, list, 6, &count) == CEFRODIL_OK && count == 3 && list[6] == 99);
+    for (size_t i = 0; i < 6; i++) {
+        MUST(list[i] == nine[i]);
+    }
+    list[4] = 99;
+    MUST(cefrodil_remove(&writer, 4, &reply) == CEFRODIL_OK && cefrodil_entries(&writer, list, 7, &count) == CEFRODIL_OK && count == 2);
+    MUST(list[0] == 0 && list[2] == 8 && list[3] == 8 && list[4] == 99);
+    close_all();
+    shape = shape_of(8, 16, most);
+    MUST(cefrodil_open_with(&shape, 1, list, 2 * count, statuses, count, &writer, readers, 1) == CEFRODIL_OK);
+    MUST(cefrodil_get(&writer, 8, list, 1, &reply) == CEFRODIL_OK && list[0] == 8 && reply.at == 2 && reply.since == 2);
+    close_all();
+}
+
+/* So are values of each width, and a cache without keys. */
+static void listed_widths(void) {
+    cefrodil_shape shape = shape_of(4, 3, most);
+    for (size_t words = 1; words <= 8; words++) {
+        uint64_t entries[18], list[18] = {0}, count;
+        uint32_t statuses[2];
+        for (size_t i = 0; i < 18; i++) {
+            entries[i] = 100 + i;
+        }
+        MUST(cefrodil_open_with(&shape, words, entries, 2 * (words + 1), statuses, 2, &writer, readers, 1) == CEFRODIL_OK);
+        MUST(cefrodil_entries(&writer, list, 2 * (words + 1) - 1, &count) == CEFRODIL_BAD_COUNT && count == 2 && list[0] == 0);
+        MUST(cefrodil_entries(&writer, list, 18, &count) == CEFRODIL_OK && count == 2);
+        for (size_t i = 0; i < 18; i++) {
+            MUST(list[i] == (i < 2 * (words + 1) ? entries[i] : 0));
+        }
+        close_all();
+        MUST(cefrodil_open(&shape, words, &writer, readers, 1) == CEFRODIL_OK);
+        MUST(cefrodil_entries(&writer, list, 0, &count) == CEFRODIL_OK && count == 0);
+        close_all();
+    }
+}
+
+/* A pass lists, too: at a desk, and of shards. */
+static void listed_by_turns(void) {
+    cefrodil_shape shape = shape_of(8, 16, most);
+    for (int of_shards = 0; of_shards < 2; of_shards++) {
+        uint64_t list[20] = {0}, count, sum = 0;
+        shape.mix = CEFRODIL_MIX_FULL;
+        MUST((of_shards ? cefrodil_open_shards(&shape, 4, 1, readers, 2) : cefrodil_open_desk(&shape, 1, readers, 2)) == CEFRODIL_OK);
+        for (uint64_t key = 1; key <= 10; key++) {
+            MUST(cefrodil_try_put(&readers[0], key, &key, 1, &reply) == CEFRODIL_OK);
+        }
+        MUST(cefrodil_entries(&readers[1], list, 19, &count) == CEFRODIL_BAD_COUNT && count == 10 && list[0] == 0);
+        MUST(cefrodil_entries(&readers[1], list, 20, &count) == CEFRODIL_OK && count == 10);
+        for (size_t i = 0; i < 20; i += 2) {
+            MUST(list[i] == list[i + 1]);
+            sum += list[i];
+        }
+        MUST(sum == 55 && cefrodil_close(&readers[0]) == CEFRODIL_OK && cefrodil_close(&readers[1]) == CEFRODIL_OK);
+    }
+}
+
 int main(void) {
     loads(shape_of(4, 3, most), 8, 3, CEFRODIL_NO_ITEM);
     loads(shape_of(2, 8, most), 9, 8, CEFRODIL_NO_PATH);
@@ -108,6 +173,9 @@ int main(void) {
     twice();
     widths();
     refused();
+    listed();
+    listed_widths();
+    listed_by_turns();
     if (line_of_failure != 0) {
         printf("entries: line %d fails\n", line_of_failure);
         return 1;

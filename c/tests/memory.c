@@ -1,4 +1,5 @@
-/* Each allocation of an opening is refused in turn: no handle is open then, and nothing is kept. Linked with --wrap. */
+/* Each allocation of an opening is refused in turn: no handle is open then, and nothing is kept. So is that of a list of entries. Linked
+ * with --wrap. */
 #include "cefrodil.h"
 #include <stdio.h>
 
@@ -85,6 +86,44 @@ static long allocations(const cefrodil_shape *shape, size_t words, enum how how)
     return -1;
 }
 
+/* Each allocation of a list is refused in turn: then nothing is written. A list keeps nothing. The three entries are one key. */
+static int lists(cefrodil_handle *lister, size_t words) {
+    long allowed = 0, before = kept;
+    for (; allowed < 20; allowed++) {
+        uint64_t list[9] = {99}, count = 98;
+        left = allowed;
+        uint32_t status = cefrodil_entries(lister, list, 1 + words, &count);
+        left = -1;
+        if (kept != before) {
+            return 0;
+        }
+        if (status == CEFRODIL_OK) {
+            return count == 1 && list[0] == 0 && allowed > 0;
+        }
+        if (status != CEFRODIL_NO_MEMORY || count != 98 || list[0] != 99) {
+            return 0;
+        }
+    }
+    return 0;
+}
+
+static int all_list(const cefrodil_shape *shape, size_t words) {
+    cefrodil_reply reply;
+    int listed = open_one(shape, words, WITH_ENTRIES) == CEFRODIL_OK && lists(&writer, words);
+    for (enum how how = BY_TURNS; how <= BY_SHARDS; how++) {
+        for (int i = 0; i < 4; i++) {
+            cefrodil_close(&handles[i]);
+        }
+        cefrodil_close(&writer);
+        listed = listed && open_one(shape, words, how) == CEFRODIL_OK &&
+                 cefrodil_try_put(&handles[0], 0, entries, words, &reply) == CEFRODIL_OK && lists(&handles[0], words);
+    }
+    for (int i = 0; i < 4; i++) {
+        cefrodil_close(&handles[i]);
+    }
+    return listed;
+}
+
 int main(void) {
     cefrodil_shape shape;
     if (cefrodil_shape_for_items(100, &shape) != CEFRODIL_OK) {
@@ -95,6 +134,10 @@ int main(void) {
         long by_shards = allocations(&shape, words, BY_SHARDS), with_entries = allocations(&shape, words, WITH_ENTRIES);
         if (apart < 5 || by_turns < 5 || by_shards < 4 * by_turns - 20 || with_entries != apart + 2) {
             printf("memory: %zu words: %ld, %ld, %ld, %ld\n", words, apart, by_turns, by_shards, with_entries);
+            return 1;
+        }
+        if (!all_list(&shape, words)) {
+            printf("memory: a list of %zu words\n", words);
             return 1;
         }
     }

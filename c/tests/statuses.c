@@ -54,6 +54,8 @@ static void closed(void) {
     MUST(cefrodil_try_put(&none, 1, value, 2, &reply) == CEFRODIL_CLOSED);
     MUST(cefrodil_try_put_if(&none, 1, 0, value, 2, &reply) == CEFRODIL_CLOSED);
     MUST(cefrodil_try_remove(&none, 1, &reply) == CEFRODIL_CLOSED);
+    MUST(cefrodil_moment(&none, value) == CEFRODIL_CLOSED && cefrodil_len(&none, value) == CEFRODIL_CLOSED);
+    MUST(cefrodil_capacity(&none, value) == CEFRODIL_CLOSED && cefrodil_entries(&none, value, 1, value + 1) == CEFRODIL_CLOSED && value[0] == 1 && value[1] == 2);
     MUST(cefrodil_close(&none) == CEFRODIL_CLOSED && cefrodil_close(NULL) == CEFRODIL_CLOSED);
     MUST(cefrodil_get(&none, 1, value, 2, NULL) == CEFRODIL_CLOSED);
 }
@@ -79,7 +81,9 @@ static void writes(void) {
     MUST(cefrodil_put_if(&writer, 1, 1, value, 1, &reply) == CEFRODIL_WIDTH);
     MUST(cefrodil_put_if_absent(&writer, 1, value, 1, &reply) == CEFRODIL_WIDTH);
     MUST(cefrodil_get(&readers[0], 1, found, 1, &reply) == CEFRODIL_WIDTH);
-    MUST(cefrodil_get(&writer, 1, found, 2, &reply) == CEFRODIL_KIND);
+    MUST(cefrodil_get(&writer, 1, found, 2, &reply) == CEFRODIL_ABSENT && reply.at == 4);
+    MUST(cefrodil_get(&writer, 1, found, 1, &reply) == CEFRODIL_WIDTH);
+    MUST(cefrodil_get_or_desk(&writer, 1, found, 2, &reply) == CEFRODIL_KIND);
     MUST(cefrodil_get_or_desk(&readers[0], 1, found, 2, &reply) == CEFRODIL_KIND);
     MUST(cefrodil_put(&readers[0], 1, value, 2, &reply) == CEFRODIL_KIND);
     MUST(cefrodil_put_if_absent(&readers[0], 1, value, 2, &reply) == CEFRODIL_KIND);
@@ -89,12 +93,29 @@ static void writes(void) {
     MUST(cefrodil_try_remove(&readers[1], 1, &reply) == CEFRODIL_KIND);
 }
 
+/* What the writer knows after four changes, and after four keys more. */
+static void counts(cefrodil_handle *other) {
+    uint64_t number = 99, value[2] = {7, 8}, found[2] = {0, 0};
+    MUST(cefrodil_moment(other, &number) == CEFRODIL_KIND && cefrodil_len(other, &number) == CEFRODIL_KIND);
+    MUST(cefrodil_capacity(other, &number) == CEFRODIL_KIND && number == 99);
+    MUST(cefrodil_moment(&writer, &number) == CEFRODIL_OK && number == 4);
+    MUST(cefrodil_len(&writer, &number) == CEFRODIL_OK && number == 0);
+    MUST(cefrodil_capacity(&writer, &number) == CEFRODIL_OK && number == 20);
+    for (uint64_t key = 1; key <= 4; key++) {
+        MUST(cefrodil_put(&writer, key, value, 2, &reply) == CEFRODIL_OK && reply.at == 4 + key);
+        MUST(cefrodil_len(&writer, &number) == CEFRODIL_OK && number == key);
+    }
+    MUST(cefrodil_put(&writer, 4, value, 2, &reply) == CEFRODIL_OK && cefrodil_len(&writer, &number) == CEFRODIL_OK && number == 4);
+    MUST(cefrodil_get(&writer, 3, found, 2, &reply) == CEFRODIL_OK && found[0] == 7 && found[1] == 8 && reply.at == 9 && reply.since == 7);
+    MUST(cefrodil_remove(&writer, 3, &reply) == CEFRODIL_OK && cefrodil_len(&writer, &number) == CEFRODIL_OK && number == 3);
+    MUST(cefrodil_moment(&writer, &number) == CEFRODIL_OK && number == 10);
+}
+
 /* The cache has the key 1 alone, with the value 7, 8 of its fourth change. */
-static void many(cefrodil_handle *reader, cefrodil_handle *other) {
+static void many(cefrodil_handle *reader) {
     uint64_t keys[4] = {2, 1, 3, 1}, values[8] = {1, 2, 3, 4, 5, 6, 0, 0};
     const uint64_t expected[8] = {1, 2, 7, 8, 5, 6, 7, 8};
     answers[0].status = answers[3].status = 99, answers[1].unused = 99;
-    MUST(cefrodil_get_many(other, keys, 4, values, 7, answers, 3) == CEFRODIL_KIND);
     MUST(cefrodil_get_many(reader, keys, 4, values, 7, answers, 3) == CEFRODIL_BAD_COUNT);
     MUST(cefrodil_get_many(reader, keys, 3, values, 6, answers, 4) == CEFRODIL_BAD_COUNT);
     MUST(cefrodil_get_many(reader, keys, 4, values, 7, answers, 4) == CEFRODIL_WIDTH);
@@ -118,19 +139,19 @@ static void many_by_a_reader(void) {
     for (int i = 0; i < 4; i++) {
         MUST(cefrodil_put(&writer, 1, value, 2, &reply) == CEFRODIL_OK);
     }
-    many(&readers[1], &writer);
+    many(&readers[1]);
+    many(&writer);
     MUST(cefrodil_close(&writer) == CEFRODIL_OK && cefrodil_close(&readers[0]) == CEFRODIL_OK && cefrodil_close(&readers[1]) == CEFRODIL_OK);
 }
 
 static void many_by_a_pass(void) {
     uint64_t value[2] = {7, 8};
     MUST(cefrodil_open_desk(&shape, 2, passes, 1) == CEFRODIL_OK);
-    MUST(cefrodil_open(&shape, 2, &writer, readers, 1) == CEFRODIL_OK);
     for (int i = 0; i < 4; i++) {
         MUST(cefrodil_try_put(&passes[0], 1, value, 2, &reply) == CEFRODIL_OK);
     }
-    many(&passes[0], &writer);
-    MUST(cefrodil_close(&passes[0]) == CEFRODIL_OK && cefrodil_close(&writer) == CEFRODIL_OK && cefrodil_close(&readers[0]) == CEFRODIL_OK);
+    many(&passes[0]);
+    MUST(cefrodil_close(&passes[0]) == CEFRODIL_OK);
 }
 
 /* With every item put just now, and each found since, a put finds none to evict or evicts one. */
@@ -243,6 +264,7 @@ int main(void) {
     shapes();
     closed();
     writes();
+    counts(&readers[0]);
     evictions();
     last_close();
     spent();

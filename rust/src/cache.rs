@@ -37,8 +37,8 @@ pub struct Opened<const WORDS: usize> {
 }
 
 impl<const WORDS: usize> Cache<WORDS> {
-    /// Opens an empty cache of this shape, with its writer and this many readers, 1 to 1024. This takes all memory; no later
-    /// call takes any.
+    /// Opens an empty cache of this shape, with its writer and this many readers, 1 to 1024. This takes all memory; of later
+    /// calls only [`Writer::entries`] takes any.
     ///
     /// # Errors
     ///
@@ -189,6 +189,61 @@ impl<const WORDS: usize> Writer<WORDS> {
     /// [`Spent`]: nothing was changed.
     pub fn remove(&mut self, key: u64) -> Result<Removal, Spent> {
         Removal::of(self.0.remove(key))
+    }
+
+    /// Looks the key up. Never [`Reply::Busy`]. A hit marks the key as recently used.
+    #[must_use]
+    pub fn get(&mut self, key: u64) -> Reply<WORDS> {
+        let mut value = [0; WORDS];
+        let told = self.0.get(key, &mut value);
+        Reply::of(told, value)
+    }
+
+    /// The number of changes made to the table: the `at` of a lookup made now.
+    #[must_use]
+    pub fn moment(&mut self) -> u64 {
+        reply::number(self.0.moment())
+    }
+
+    /// The number of keys in the cache. It is kept, not counted, so this is quick at every size.
+    #[must_use]
+    pub fn len(&mut self) -> usize {
+        reply::number(self.0.len()) as usize
+    }
+
+    /// Whether no key is in the cache.
+    #[must_use]
+    pub fn is_empty(&mut self) -> bool {
+        self.len() == 0
+    }
+
+    /// The number of keys that the cache holds at most: the `items` of its shape.
+    #[must_use]
+    pub fn capacity(&mut self) -> usize {
+        reply::number(self.0.capacity()) as usize
+    }
+
+    /// Lists each key with its value, as [`Cache::open_with`] takes them. The cache goes on. The library takes memory for the
+    /// list, too. If there is none, this ends the program, as a `Vec` does.
+    ///
+    /// # Examples
+    ///
+    /// A larger cache takes over the entries:
+    ///
+    /// ```
+    /// use cefrodil::{Cache, Reply, Shape};
+    ///
+    /// let (mut small, _readers) = Cache::<1>::open(&Shape::for_items(100)?, 1)?;
+    /// small.put(7, &[70])?;
+    /// assert_eq!((small.len(), small.capacity(), small.moment()), (1, 100, 1));
+    /// let mut large = Cache::<1>::open_with(&Shape::for_items(1000)?, 1, &small.entries())?;
+    /// assert!(large.left.is_empty());
+    /// assert_eq!(large.writer.get(7), Reply::Found { value: [70], at: 1, since: 1 });
+    /// # Ok::<(), Box<dyn std::error::Error>>(())
+    /// ```
+    #[must_use]
+    pub fn entries(&mut self) -> Vec<(u64, [u64; WORDS])> {
+        reply::entries(&mut self.0).expect("a writer has no turns")
     }
 }
 

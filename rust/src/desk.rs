@@ -194,4 +194,11 @@ impl<const WORDS: usize> Pass<'_, WORDS> {
     pub fn try_remove(&mut self, key: u64) -> Result<Removal, TurnError<Spent>> {
         reply::turn(self.handle().try_remove(key), Removal::of)
     }
+
+    /// Lists each key with its value, in a turn, as [`Writer::entries`](crate::Writer::entries) does. A pass of shards takes a turn
+    /// at each shard, so it lists each at a moment of its own. `None` if a try for a turn did not win.
+    #[must_use]
+    pub fn try_entries(&mut self) -> Option<Vec<(u64, [u64; WORDS])>> {
+        reply::entries(self.handle())
+    }
 }

@@ -201,4 +201,31 @@ impl Handle {
         let status = unsafe { raw::cefrodil_try_remove(&mut self.0, key, &mut reply) };
         (status, reply)
     }
+    pub fn moment(&mut self) -> (u32, u64) {
+        let mut moment = 0;
+        // SAFETY: as in `get`.
+        let status = unsafe { raw::cefrodil_moment(&mut self.0, &mut moment) };
+        (status, moment)
+    }
+
+    pub fn len(&mut self) -> (u32, u64) {
+        let mut len = 0;
+        // SAFETY: as in `get`.
+        let status = unsafe { raw::cefrodil_len(&mut self.0, &mut len) };
+        (status, len)
+    }
+
+    pub fn capacity(&mut self) -> (u32, u64) {
+        let mut capacity = 0;
+        // SAFETY: as in `get`.
+        let status = unsafe { raw::cefrodil_capacity(&mut self.0, &mut capacity) };
+        (status, capacity)
+    }
+
+    pub fn entries(&mut self, entries: &mut [u64]) -> (u32, u64) {
+        let mut count = 0;
+        // SAFETY: as in `get`.
+        let status = unsafe { raw::cefrodil_entries(&mut self.0, entries.as_mut_ptr(), entries.len(), &mut count) };
+        (status, count)
+    }
 }

@@ -54,6 +54,7 @@ pub const BAD_DEPTH: u32 = 18;
 pub const BAD_TRIES: u32 = 19;
 pub const BAD_LIMIT: u32 = 20;
 pub const BAD_READERS: u32 = 21;
+pub const BAD_COUNT: u32 = 22;
 pub const NO_ITEM: u32 = 23;
 pub const BAD_SHARDS: u32 = 24;
 pub const PRESENT: u32 = 25;
@@ -139,5 +140,9 @@ unsafe extern "C" {
         reply: *mut RawReply,
     ) -> u32;
     pub fn cefrodil_try_remove(pass: *mut RawHandle, key: u64, reply: *mut RawReply) -> u32;
+    pub fn cefrodil_moment(writer: *mut RawHandle, moment: *mut u64) -> u32;
+    pub fn cefrodil_len(writer: *mut RawHandle, len: *mut u64) -> u32;
+    pub fn cefrodil_capacity(writer: *mut RawHandle, capacity: *mut u64) -> u32;
+    pub fn cefrodil_entries(handle: *mut RawHandle, entries: *mut u64, entry_words: usize, count: *mut u64) -> u32;
     pub fn cefrodil_close(handle: *mut RawHandle) -> u32;
 }

@@ -2,6 +2,7 @@
 use crate::error::{PutError, PutIfAbsentError, PutIfError, Spent, TurnError};
 use crate::handle::Handle;
 use crate::raw::{self, RawAnswer, RawReply};
+use std::alloc::{handle_alloc_error, Layout};
 
 /// The answer of a lookup. `at` is its moment: the number of changes to the table when the answer was true. A count, not a time.
 #[derive(Clone, Copy, Debug, Default, PartialEq, Eq, Hash)]
@@ -155,6 +156,37 @@ pub(crate) fn put_if_absent((status, reply): Told) -> Result<Put, PutIfAbsentErr
         return Err(PutIfAbsentError::Present { since: reply.since });
     }
     Put::of((status, reply)).map_err(PutIfAbsentError::Put)
+}
+
+/// A number that the writer knows.
+pub(crate) fn number((status, number): (u32, u64)) -> u64 {
+    match status {
+        raw::OK => number,
+        other => not_told(other),
+    }
+}
+
+/// The entries of a cache, or none if a try for the turn did not win. The first call tells how many there are.
+pub(crate) fn entries<const WORDS: usize>(handle: &mut Handle) -> Option<Vec<(u64, [u64; WORDS])>> {
+    let mut words = Vec::new();
+    loop {
+        let (status, count) = handle.entries(&mut words);
+        words.resize(count as usize * (1 + WORDS), 0);
+        match status {
+            raw::OK => return Some(words.chunks_exact(1 + WORDS).map(entry).collect()),
+            raw::BAD_COUNT => {}
+            raw::HELD => return None,
+            raw::NO_MEMORY => handle_alloc_error(Layout::new::<u64>()),
+            other => not_told(other),
+        }
+    }
+}
+
+// A key, and behind it the words of its value.
+fn entry<const WORDS: usize>(words: &[u64]) -> (u64, [u64; WORDS]) {
+    let mut value = [0; WORDS];
+    value.copy_from_slice(&words[1..]);
+    (words[0], value)
 }
 
 /// The answer of a try for the turn. With the turn, it is the answer of the call.

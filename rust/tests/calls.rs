@@ -26,6 +26,42 @@ fn each_call_answers() -> Result<(), Box<dyn Error>> {
 }
 
 #[test]
+fn the_writer_looks_up_counts_and_lists() -> Result<(), Box<dyn Error>> {
+    let (mut writer, mut readers) = Cache::<2>::open(&Shape::for_items(100)?, 1)?;
+    assert!(writer.is_empty() && writer.capacity() == 100 && writer.moment() == 0 && writer.entries().is_empty());
+    for key in 0..60 {
+        writer.put(key, &[key, 2 * key])?;
+    }
+    writer.remove(7)?;
+    assert_eq!((writer.len(), writer.moment()), (59, 61));
+    assert_eq!(writer.get(7), Reply::Absent { at: 61 });
+    assert_eq!(writer.get(8), Reply::Found { value: [8, 16], at: 61, since: 9 });
+    let mut entries = writer.entries();
+    entries.sort_unstable();
+    let expected: Vec<_> = (0..60).filter(|key| *key != 7).map(|key| (key, [key, 2 * key])).collect();
+    assert_eq!(entries, expected);
+    assert_eq!(readers[0].get(8), writer.get(8));
+    Ok(())
+}
+
+#[test]
+fn passes_list() -> Result<(), Box<dyn Error>> {
+    let desk = Desk::<2>::open(&Shape::for_items(100)?, 1)?;
+    let mut shards = Shards::<2>::open(&Shape::for_shards(500, 8)?, 8, 1)?;
+    for pass in [&mut desk.pass().ok_or("no pass")?, &mut shards[0]] {
+        assert_eq!(pass.try_entries(), Some(Vec::new()));
+        let expected: Vec<_> = (0..50).map(|key| (key, [key, 3])).collect();
+        for (key, value) in &expected {
+            pass.try_put(*key, value)?;
+        }
+        let mut entries = pass.try_entries().ok_or("the turn was held")?;
+        entries.sort_unstable();
+        assert_eq!(entries, expected);
+    }
+    Ok(())
+}
+
+#[test]
 fn many_keys_are_looked_up() -> Result<(), Box<dyn Error>> {
     let (mut writer, mut readers) = Cache::<3>::open(&Shape::for_items(100)?, 1)?;
     for key in 0..50 {

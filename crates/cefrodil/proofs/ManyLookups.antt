@@ -3,22 +3,10 @@ use Rattle.std.proofs.Common.{ℕ, ◌≡◌, ◌+◌, ◌*◌, ◌<◌, List, [
 use Rattle.std.proofs.lemmas.List.{take_at, drop_at, drop-drop, drop_all, take_more_set, take-append-drop}
 use Rattle.std.proofs.lemmas.Slice.{take-put_mid, drop-put_mid}
 use borrow.Rule.Slice.PartMut.{put_mid}
-use Rattle.mc_door.specs.Means.{CanLook, GetMeans}
-use Rattle.mc_door.specs.Roles.{Role, Writes, Reads, Passes, Shares}
-use Rattle.mc_door.specs.declared.looked.Looked.{Looked}
+use Rattle.mc_door.specs.Roles.{Role}
 use Rattle.cefrodil.specs.Inside.Looking.{AreLookedUpTo}
 use Rattle.cefrodil.specs.Many.{HasLooked, HaveLooked}
 use Rattle.cefrodil.specs.declared.many.RawAnswer.{RawAnswer}
-
--- who looked up can do so again
-pub still_looks : (V : ℕ) (role role' : Role) (key : ℕ) (old new : List ℕ) (told : Looked) → GetMeans V role role' key old new told → CanLook role'
-still_looks V role (Reads r) key old new told means = tt
-still_looks V role (Passes r) key old new told means = tt
-still_looks V role (Shares s rs) key old new told means = tt
-still_looks V (Writes w) (Writes w') key old new told means = means.1
-still_looks V (Reads r) (Writes w) key old new told means = means.1
-still_looks V (Passes r) (Writes w) key old new told means = means.1
-still_looks V (Shares s rs) (Writes w) key old new told means = means.1
 
 -- the first key's lookup, and then the others
 looked_first : (words : ℕ) (h next h' : Role) (key : ℕ) (keys old v new : List ℕ) (answer : RawAnswer) (more : List RawAnswer)
@@ -33,9 +21,9 @@ looked_first words h next h' key keys old v new answer more long first rest = (
 -- one key more
 pub one_more : (words : ℕ) (first now next : Role) (keys old values : List ℕ) (answers : List RawAnswer) (n k : ℕ) (key : ℕ) (v values' : List ℕ) (answer : RawAnswer)
     → AreLookedUpTo words first now keys old values answers n → n < length keys → length answers ≡ length keys → n * words + words ≤ length values → get_or keys n 0 ≡ key → k ≡ words
-    → CanLook next → HasLooked words now next key (take k (drop (n * words) values)) v answer → length v ≡ words
+    → HasLooked words now next key (take k (drop (n * words) values)) v answer → length v ≡ words
     → values' ≡ put_mid (n * words) k values v → AreLookedUpTo words first next keys old values' (set answers n answer) (n + 1)
-one_more words first now next keys old values answers n k key v values' answer so lt many room is wide looks looked_k long put_k =
+one_more words first now next keys old values answers n k key v values' answer so lt many room is wide looked_k long put_k =
     let looked : HasLooked words now next key (take words (drop (n * words) values)) v answer = subst (λ (m : ℕ). HasLooked words now next key (take m (drop (n * words) values)) v answer) wide looked_k in
     let put : values' ≡ put_mid (n * words) words values v = put_k ∙ ap (λ (m : ℕ). put_mid (n * words) m values v) wide in
     let more_words : (n + 1) * words ≡ n * words + words = omega arith in
@@ -46,7 +34,6 @@ one_more words first now next keys old values answers n k key v values' answer s
     let written : take (n * words + words) values' ≡ take (n * words) values ++ v = rw put (take-put_mid (n * words) words values v (n * words + words) (omega (arith, long)) (omega (arith, room))) in
     let told : take (n + 1) (set answers n answer) ≡ take n answers ++ answer ∷ [] = take_more_set answers n answer (omega (arith, lt, many)) in
     record {
-      looks = looks;
       later = rw more_words (behind ∙ same);
       so_far = λ h' new more rest.
           let others : HaveLooked words next h' (drop (n + 1) keys) (drop words (drop (n * words) old)) new more =

@@ -1,5 +1,7 @@
 pub mod Calls
+pub mod Counts
 pub mod Kept
+pub mod Listing
 pub mod Loading
 pub mod Many
 pub mod Open

@@ -2,14 +2,14 @@
 use Rattle.std.specs.Prelude.{ℕ, ◌≡◌, ◌≢◌, ◌⊎◌, ◌*◌, List, [], ◌∷◌, drop, length, take}
 use mathlib.Core.Option.{Option}
 use Rattle.mc_door.specs.Held.{role_in, width_of}
-use Rattle.mc_door.specs.Means.{CanLook, GetMeans}
+use Rattle.mc_door.specs.Means.{GetMeans}
 use Rattle.mc_door.specs.Roles.{Role}
 use Rattle.mc_door.specs.declared.held.Held.{Held}
 use Rattle.mc_door.specs.declared.looked.Looked.{Looked}
 use Rattle.cefrodil.specs.Calls.{Gives}
 use Rattle.cefrodil.specs.Tellings.{answer_of}
 use Rattle.cefrodil.specs.declared.many.RawAnswer.{RawAnswer}
-use Rattle.cefrodil.specs.declared.status.TheConstants.{OK, CLOSED, COUNT, KIND, WIDTH}
+use Rattle.cefrodil.specs.declared.status.TheConstants.{OK, CLOSED, COUNT, WIDTH}
 
 -- a lookup by a side for values of so many words: this was told
 pub record HasLooked (V : ℕ) (role role' : Role) (key : ℕ) (old new : List ℕ) (answer : RawAnswer) : Type 0 where
@@ -26,18 +26,17 @@ HaveLooked V role role' (key ∷ keys) old new (answer ∷ answers) =
 HaveLooked V role role' [] old new (answer ∷ answers) = ⊥
 HaveLooked V role role' (key ∷ keys) old new [] = ⊥
 
--- for so many keys, words of values and answers the first that applies: it can't look up, there are more or fewer answers than keys,
--- the values have another width
+-- for so many keys, words of values and answers the first that applies: there are more or fewer answers than keys, the values have
+-- another width
 abbrev pub IsManyMisuse : Held → ℕ → ℕ → ℕ → ℕ → Type 0
 IsManyMisuse h keys words answers status =
-    ((status ≡ KIND) × (¬ CanLook (role_in h))) ⊎
-    ((status ≡ COUNT) × CanLook (role_in h) × (answers ≢ keys)) ⊎
-    ((status ≡ WIDTH) × CanLook (role_in h) × (answers ≡ keys) × (words ≢ keys * width_of h))
+    ((status ≡ COUNT) × (answers ≢ keys)) ⊎
+    ((status ≡ WIDTH) × (answers ≡ keys) × (words ≢ keys * width_of h))
 
 -- each key was looked up, or nothing was done
 abbrev pub MeansMany : Held → Held → List ℕ → List ℕ → List ℕ → List RawAnswer → List RawAnswer → ℕ → Type 0
 MeansMany h h' keys old new answers answers' status =
-    ((status ≡ OK) × CanLook (role_in h) × (length old ≡ length keys * width_of h) × (width_of h' ≡ width_of h) × HaveLooked (width_of h) (role_in h) (role_in h') keys old new answers') ⊎
+    ((status ≡ OK) × (length old ≡ length keys * width_of h) × (width_of h' ≡ width_of h) × HaveLooked (width_of h) (role_in h) (role_in h') keys old new answers') ⊎
     (IsManyMisuse h (length keys) (length old) (length answers) status × (h' ≡ h) × (new ≡ old) × (answers' ≡ answers))
 
 abbrev pub ManyGive : Option Held → Option Held → List ℕ → List ℕ → List ℕ → List RawAnswer → List RawAnswer → ℕ → Type 0

@@ -5,7 +5,9 @@
 mod by_side;
 mod by_width;
 mod closing;
+mod counts;
 pub mod handle;
+mod listing;
 mod loading;
 mod lookups;
 mod many;

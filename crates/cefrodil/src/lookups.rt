@@ -9,7 +9,7 @@ use crate::slot::{Slot, told_of_handle};
 use crate::told::{RawReply, Told};
 use std::alloc::Global;
 
-/// What the cache holds of the key, by a reader's handle or a pass. The value is written only where it was found.
+/// What the cache holds of the key, by any handle. The value is written only where it was found.
 #[tactic(auto, using(crate::proofs::Gives::gives_open, crate::proofs::Gives::gives_closed))]
 #[unsafe(no_mangle)]
 pub extern "C" fn cefrodil_get(

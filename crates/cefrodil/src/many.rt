@@ -1,7 +1,6 @@
 //! Lookups of many keys in one call, as C makes it.
 ghost use Rattle.std.specs.Prelude.{◌≡◌, ◌*◌, length};
 ghost use Rattle.mc_door.specs.Held.{role_in, width_of};
-ghost use Rattle.mc_door.specs.Means.{CanLook};
 ghost use Rattle.mc_door.specs.Roles.{role_of};
 ghost use Rattle.mc_words.specs.Places.{IsWidth};
 ghost use Rattle.cefrodil.specs.Many.{HasLooked, HaveLooked, ManyGive, MeansMany};
@@ -9,7 +8,7 @@ ghost use Rattle.cefrodil.specs.Open.{kept};
 ghost use Rattle.cefrodil.specs.Tellings.{answer_of};
 
 use crate::slot::Slot;
-use crate::status::{ABSENT, BUSY, CLOSED, COUNT, KIND, OK, WIDTH};
+use crate::status::{ABSENT, BUSY, CLOSED, COUNT, OK, WIDTH};
 use mc_door::{GROUP, Held, Looked, Side, with_side};
 use std::alloc::Global;
 
@@ -45,13 +44,11 @@ impl RawAnswer {
     }
 }
 
-// One lookup, by a side that looks up.
+// One lookup.
 #[inline(always)]
 fn look_up<const V: usize>(side: &mut Side<V>, key: u64, value: &mut [u64]) -> RawAnswer
     requires width { IsWidth V }
-    requires looks { CanLook (role_of side.old) }
     requires value { length value.old ≡ V }
-    ensures looks { CanLook (role_of side.new) }
     ensures looked { HasLooked V (role_of side.old) (role_of side.new) key value.old value.new result }
 {
     match side.get(key, value) {
@@ -69,7 +66,6 @@ fn look_up_all<const V: usize>(
     answers: &mut [RawAnswer],
 )
     requires width { IsWidth V }
-    requires looks { CanLook (role_of side.old) }
     requires answers { length answers.old ≡ length keys.now }
     requires values { length values.old ≡ length keys.now * V }
     ensures { HaveLooked V (role_of side.old) (role_of side.new) keys.now values.old values.new answers.new }
@@ -85,7 +81,6 @@ fn look_up_all<const V: usize>(
 
 // The same whatever the width.
 fn look_up_each(held: &mut Held, keys: &[u64], values: &mut [u64], answers: &mut [RawAnswer])
-    requires looks { CanLook (role_in held.old) }
     requires answers { length answers.old ≡ length keys.now }
     requires values { length values.old ≡ length keys.now * width_of held.old }
     ensures width { width_of held.new ≡ width_of held.old }
@@ -97,9 +92,6 @@ fn look_up_each(held: &mut Held, keys: &[u64], values: &mut [u64], answers: &mut
 fn get_many(held: &mut Held, keys: &[u64], values: &mut [u64], answers: &mut [RawAnswer]) -> u32
     ensures { MeansMany held.old held.new keys.now values.old values.new answers.old answers.new result }
 {
-    if !held.can_look() {
-        return KIND;
-    }
     if answers.len() != keys.len() {
         return COUNT;
     }
@@ -110,8 +102,7 @@ fn get_many(held: &mut Held, keys: &[u64], values: &mut [u64], answers: &mut [Ra
     OK
 }
 
-/// What the cache holds of each of the keys, one lookup after the other in the order of the keys, by a reader's handle or a pass. The
-/// values stand one after the other; each is written only where its key was found.
+/// What the cache holds of each of the keys, one lookup after the other in the order of the keys, by any handle. The values stand one after the other; each is written only where its key was found.
 #[tactic(auto, using(crate::proofs::Gives::gives_open, crate::proofs::Gives::gives_closed))]
 #[unsafe(no_mangle)]
 pub extern "C" fn cefrodil_get_many(

@@ -3,6 +3,7 @@ pub mod KeptMoments
 pub mod OrderedAnswers
 pub mod PlainCalls
 pub mod FailedCalls
+pub mod EntryCounts
 pub mod LoadedEntries
 pub mod HistoryLaws
 pub mod Sent

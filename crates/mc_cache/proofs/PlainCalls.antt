@@ -3,7 +3,7 @@ use Rattle.std.proofs.Common.{ℕ, ◌≡◌, ◌∙◌, List, [], ◌∷◌, �
 use Rattle.std.proofs.lemmas.List.{length_push}
 use Rattle.std.proofs.lemmas.List.Elements.{All-weaker}
 use Rattle.mc_words.proofs.Maps.{held-put, held-remove}
-use Rattle.mc_words.specs.History.{map_value, IsLegal, IsTrueAnswer}
+use Rattle.mc_words.specs.History.{key_count, map_value, IsLegal, IsTrueAnswer}
 use Rattle.mc_words.specs.declared.history.Change.{Change}
 use Rattle.mc_words.specs.declared.history.Change.TheVariants as change
 use Rattle.mc_words.specs.declared.history.Reply.{Reply}
@@ -166,6 +166,12 @@ module _ (V : ℕ) (o cells : Opening) (self seat : WriterRecord) (table : cells
 pub moment_tells : (V : ℕ) (books : Books) (self seat : WriterRecord) (n : ℕ) → seat ≡ self → IsRested V books seat → KeepsMoment V seat n → n ≡ length (history V self)
 unfolding history
 moment_tells V books self seat n same rested e = e ∙ (agrees_now V seat.of books seat refl rested).at_moment ∙ ap (λ (w : WriterRecord). length (history V w)) same
+
+-- the number of keys that the books know is that of the history
+pub keys_now : (V : ℕ) (books : Books) (self seat : WriterRecord) (n : ℕ) → seat ≡ self → IsRested V books seat → n ≡ key_count (state_of V (shape_of books.checked) seat.acts).history → n ≡ key_count (history V self)
+unfolding history
+keys_now V books self seat n same rested e =
+    e ∙ ap (λ (sh : Shape). key_count (state_of V sh seat.acts).history) (shape_is V seat.of books seat refl rested) ∙ ap (λ (w : WriterRecord). key_count (history V w)) same
 
 -- the moment that the words hold, which a reader finds where it meets the writer
 pub moment_met : (V : ℕ) (o cells : Opening) (books : Books) (self seat : WriterRecord) (n : ℕ) → cells ≡ o → seat ≡ self → self.of ≡ o → IsRested V books seat → n ≡ moment (state_of V cells.layout.shape seat.acts).words → n ≡ length (state_of V o.layout.shape self.acts).history

@@ -1,5 +1,6 @@
 //! The entries of a cache that goes on.
-ghost use Rattle.std.specs.Prelude.{◌≡◌, IfOk};
+ghost use Rattle.std.specs.Prelude.{◌≡◌, IfOk, length};
+ghost use Rattle.mc_words.specs.History.{key_count};
 ghost use Rattle.mc_theory.specs.Lists.{state_of};
 ghost use Rattle.mc_writer.specs.WriterCalls.{IsRested};
 ghost use Rattle.mc_search.specs.Entries.{AreEntriesOf, AreInOrder};
@@ -44,6 +45,7 @@ impl<const V: usize> Writer<V> {
         ensures entries { IfOk result (λ es. AreEntriesOf V (state_of V cache.now.layout.shape self.old.acts).history es.items) }
         ensures order { IfOk result (λ es. AreInOrder V cache.now.layout.shape (state_of V cache.now.layout.shape self.old.acts).words 0 cache.now.layout.shape.items es.items) }
         ensures plain { IfOk result (λ es. AreEntriesOf V (history V self.old) es.items) }
+        ensures many { IfOk result (λ es. length es.items ≡ key_count (history V self.old)) }
     {
         let entries = list_beside(alloc, &cache.cells, &mut self.seat, &self.books)?;
         Ok(entries)

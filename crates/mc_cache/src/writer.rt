@@ -1,5 +1,6 @@
 //! The writer.
 ghost use Rattle.std.specs.Prelude.{◌≡◌, length};
+ghost use Rattle.mc_words.specs.History.{key_count};
 ghost use Rattle.mc_theory.specs.Lists.{state_of};
 ghost use Rattle.mc_shared.specs.SeatFacts.{IsRun};
 ghost use Rattle.mc_cache.specs.Resting.{IsAtRest};
@@ -141,6 +142,20 @@ impl<const V: usize> Writer<V> {
         ensures plain { result ≡ length (history V self.now) }
     {
         self.moment
+    }
+
+    /// How many keys the cache holds. The call reads no word of the table, so it takes the same time for each size.
+    pub fn len(&self) -> usize
+        ensures plain { result ≡ key_count (history V self.now) }
+    {
+        self.books.key_count()
+    }
+
+    /// How many keys the cache holds at most: the items of its shape.
+    pub fn capacity(&self) -> usize
+        ensures { result ≡ self.now.of.layout.shape.items }
+    {
+        self.books.items() as usize
     }
 
     /// What always holds of a writer between two calls, for proofs: its acts are lawful and within the limit, each has its note,

@@ -6,4 +6,5 @@ pub mod Held
 pub mod NewSides
 pub mod NewPasses
 pub mod Loading
+pub mod Listing
 pub mod Inside

@@ -1,18 +1,19 @@
 -- What the calls of a side mean.
 use Rattle.std.specs.Prelude.{ℕ, ◌≡◌, ◌≢◌, List, length, Result}
-use Rattle.mc_cache.specs.Plain.{HasAnswered, history, seen, PutMeans as PutOf, PutIfAbsentMeans as PutIfAbsentOf, PutIfMeans as PutIfOf, RemovalMeans as RemovalOf, TurnMeans}
+use Rattle.mc_cache.specs.Plain.{HasAnswered, history, seen, PutMeans as PutOf, PutIfAbsentMeans as PutIfAbsentOf, PutIfMeans as PutIfOf, RemovalMeans as RemovalOf, TurnMeans, TellsNow}
 use Rattle.mc_cache.specs.Turns.{HasTried, HasTriedIfAbsent, HasLookedOrMet}
 use Rattle.mc_cache.specs.declared.desk.DeskError.{DeskError}
 use Rattle.mc_plan.specs.WholeCalls.Call.{PutCall, PutIfCall, RemoveCall}
 use Rattle.mc_plan.specs.declared.answer.Answer.TheVariants as answer
 use Rattle.mc_reader.specs.Records.{HasLooked}
-use Rattle.mc_writer.specs.WriterCalls.{HasCalled, HasPutIfAbsent}
+use Rattle.mc_writer.specs.WriterCalls.{HasCalled, HasPutIfAbsent, HasGot}
 use Rattle.mc_plan.specs.declared.answer.AbsentError.{AbsentError}
 use Rattle.mc_plan.specs.declared.answer.IfError.{IfError}
 use Rattle.mc_plan.specs.declared.answer.Put.{Put}
 use Rattle.mc_plan.specs.declared.answer.PutError.{PutError}
 use Rattle.mc_plan.specs.declared.answer.Remove.{Remove}
 use Rattle.mc_plan.specs.declared.answer.Spent.{Spent}
+use Rattle.mc_words.specs.History.{key_count}
 use Rattle.mc_words.specs.declared.history.Reply.{Reply}
 use Rattle.mc_door.specs.declared.looked.Looked.{Looked}
 use Rattle.mc_door.specs.declared.side.Misuse.{Misuse}
@@ -21,11 +22,9 @@ use Rattle.mc_door.specs.Looks.{reply_of, LeavesUnlessFound}
 use Rattle.mc_door.specs.AtShards.{IsAtShard}
 use Rattle.mc_door.specs.Roles.{Role, Writes, Reads, Passes, Shares}
 
+-- every side looks up
 abbrev pub CanLook : Role → Type 0
-CanLook (Writes w) = ⊥
-CanLook (Reads r) = Unit {0}
-CanLook (Passes r) = Unit {0}
-CanLook (Shares s rs) = Unit {0}
+CanLook role = Unit {0}
 
 abbrev pub CanWrite : Role → Type 0
 CanWrite (Writes w) = Unit {0}
@@ -44,8 +43,10 @@ abbrev pub IsMisuse : (Role → Type 0) → ℕ → Role → ℕ → Misuse → 
 IsMisuse Can V role words Kind = ¬ Can role
 IsMisuse Can V role words Width = Can role × (words ≢ V)
 
--- a lookup by a reader or a pass: the answer is true of what it has seen. By a pass of shards it is one in the key's shard
+-- a lookup by the writer tells what the map holds now. By a reader or a pass the answer is true of what it has seen, and by a pass of
+-- shards it is one in the key's shard
 abbrev pub Looks : (V : ℕ) → Role → Role → ℕ → Reply V → Type 0
+Looks V (Writes w) (Writes w') key reply = (w'.of ≡ w.of) × HasGot V w.of.layout.shape key w w' reply × TellsNow (history V w) key reply × (history V w' ≡ history V w)
 Looks V (Reads r) (Reads r') key reply = (r'.of ≡ r.of) × HasLooked V r.of.layout.shape key r r' reply × HasAnswered V (seen V r) (seen V r') key reply
 Looks V (Passes r) (Passes r') key reply = (r'.of ≡ r.of) × HasLooked V r.of.layout.shape key r r' reply × HasAnswered V (seen V r) (seen V r') key reply
 Looks V (Shares s rs) (Shares s' rs') key reply = (s' ≡ s) × IsAtShard V s key rs rs' (λ r r'. HasLooked V s.shape key r r' reply) (λ h h'. HasAnswered V h h' key reply)
@@ -63,6 +64,19 @@ GetMeans V role role' key old new told = (length old ≡ V) × Looks V role role
 
 abbrev pub GetOrDeskMeans : (V : ℕ) → Role → Role → ℕ → List ℕ → List ℕ → Looked → Type 0
 GetOrDeskMeans V role role' key old new told = (length old ≡ V) × LooksAtDesk V role role' key (reply_of V new told) × LeavesUnlessFound old new told
+
+-- what the writer knows: the number of changes, of keys, and of items
+abbrev pub MomentIs : (V : ℕ) → Role → ℕ → Type 0
+MomentIs V (Writes w) n = n ≡ length (history V w)
+MomentIs V role n = ⊥
+
+abbrev pub LenIs : (V : ℕ) → Role → ℕ → Type 0
+LenIs V (Writes w) n = n ≡ key_count (history V w)
+LenIs V role n = ⊥
+
+abbrev pub CapacityIs : (V : ℕ) → Role → ℕ → Type 0
+CapacityIs V (Writes w) n = n ≡ w.of.layout.shape.items
+CapacityIs V role n = ⊥
 
 -- a put by the writer
 abbrev pub PutMeans : (V : ℕ) → Role → Role → ℕ → List ℕ → Result Put PutError → Type 0

@@ -1,9 +1,12 @@
 //! A side of a cache whose values have one of eight widths.
-ghost use Rattle.std.specs.Prelude.{◌≡◌, ◌↔◌, IsTrue};
+ghost use Rattle.std.specs.Prelude.{◌≡◌, MatchOption, MatchResult, length};
 ghost use Rattle.mc_door.specs.Held.{role_in, width_of};
-ghost use Rattle.mc_door.specs.Means.{CanLook};
+ghost use Rattle.mc_door.specs.Listing.{HasListed, RefusesList, SeesMore};
+ghost use Rattle.mc_door.specs.Means.{CanWrite, CapacityIs, LenIs, MomentIs};
 
+use crate::listed::ListError;
 use crate::side::Side;
+use std::alloc::Global;
 
 /// What a handle keeps: a side of a cache, whose values have as many words as the variant says.
 #[derive(Drop)]
@@ -43,10 +46,34 @@ impl Held {
         with_side!(self, side => side.words())
     }
 
-    /// Whether it looks up: a reader does, and a pass.
-    pub fn can_look(&self) -> bool
-        ensures { IsTrue result ↔ CanLook (role_in self.now) }
+    /// The number of changes made to the map, if it is a writer.
+    pub fn moment(&self) -> Option<u64>
+        ensures { MatchOption result (¬ CanWrite (role_in self.now)) (MomentIs (width_of self.now) (role_in self.now)) }
     {
-        with_side!(self, side => side.can_look())
+        with_side!(self, side => side.moment())
+    }
+
+    /// How many keys the cache holds, if it is a writer.
+    pub fn len(&self) -> Option<u64>
+        ensures { MatchOption result (¬ CanWrite (role_in self.now)) (LenIs (width_of self.now) (role_in self.now)) }
+    {
+        with_side!(self, side => side.len())
+    }
+
+    /// How many keys it holds at most, if it is a writer.
+    pub fn capacity(&self) -> Option<u64>
+        ensures { MatchOption result (¬ CanWrite (role_in self.now)) (CapacityIs (width_of self.now) (role_in self.now)) }
+    {
+        with_side!(self, side => side.capacity())
+    }
+
+    /// Writes each key of the cache with its value, and returns how many they are. By the writer or a pass.
+    pub fn entries(&mut self, alloc: Global, words: &mut [u64]) -> Result<usize, ListError>
+        ensures width { width_of self.new ≡ width_of self.old }
+        ensures more { SeesMore (width_of self.old) (role_in self.old) (role_in self.new) }
+        ensures listed { MatchResult result (λ count. HasListed (width_of self.old) (role_in self.new) words.old words.new count)
+            (λ e. RefusesList (width_of self.old) (role_in self.old) (role_in self.new) (length words.old) e × (words.new ≡ words.old)) }
+    {
+        with_side!(self, side => side.entries(alloc, words))
     }
 }

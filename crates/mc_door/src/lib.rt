@@ -6,6 +6,7 @@
 
 mod entries;
 mod held;
+mod listed;
 mod looked;
 mod new_passes;
 mod new_sides;
@@ -20,9 +21,11 @@ mod words;
 mod writer_side;
 
 pub use held::Held;
+pub use listed::ListError;
 pub use looked::Looked;
 pub use mc_cache::{
-    AbsentError, DeskError, GROUP, IfError, OpenError, Put, PutError, Remove, Shape, ShapeError, Spent, Why,
+    AbsentError, DeskError, GROUP, IfError, OpenError, Put, PutError, Remove, Shape, ShapeError,
+    Spent, Why,
 };
 pub use mc_shards::{OpenShardsError, shard_shape};
 pub use new_passes::NewPasses;

@@ -1,6 +1,6 @@
 //! A pass at the desk of a cache, with the desk and the cache.
-ghost use Rattle.std.specs.Prelude.{◌≡◌, length};
-ghost use Rattle.mc_cache.specs.Plain.{HasAnswered, PutIfAbsentMeans, PutIfMeans, PutMeans, RemovalMeans, TurnMeans, seen};
+ghost use Rattle.std.specs.Prelude.{◌≡◌, length, IfOk};
+ghost use Rattle.mc_cache.specs.Plain.{HasAnswered, PutIfAbsentMeans, PutIfMeans, PutMeans, RemovalMeans, TurnMeans, seen, AreEntriesOf, Begins};
 ghost use Rattle.mc_cache.specs.Turns.{HasLookedOrMet, HasTried, HasTriedIfAbsent};
 ghost use Rattle.mc_plan.specs.WholeCalls.Call.{PutCall, PutIfCall, RemoveCall};
 ghost use Rattle.mc_plan.specs.declared.answer.Answer.TheVariants as answer;
@@ -10,6 +10,7 @@ use crate::words::array_of;
 use mc_cache::{
     AbsentError, Cache, Desk, DeskError, IfError, Put, PutError, Reader, Remove, Reply, Spent,
 };
+use mc_words::NoMemory;
 use std::alloc::Global;
 use std::sync::Arc;
 
@@ -112,5 +113,16 @@ impl<const V: usize> PassSide<V> {
         ensures plain { TurnMeans (λ h h' told. RemovalMeans V h h' key told) (seen V self.old.pass) (seen V self.new.pass) result }
     {
         self.desk.try_remove(&self.cache, &mut self.pass, key)
+    }
+
+    pub(crate) fn entries(
+        &mut self,
+        alloc: Global,
+    ) -> Result<Vec<(u64, [u64; V])>, DeskError<NoMemory>>
+        ensures of { self.new.pass.of ≡ self.old.pass.of }
+        ensures begins { Begins (seen V self.old.pass) (seen V self.new.pass) }
+        ensures plain { IfOk result (λ es. AreEntriesOf V (seen V self.new.pass) es.items) }
+    {
+        self.desk.try_entries(alloc, &self.cache, &mut self.pass)
     }
 }

@@ -1,16 +1,17 @@
 //! A pass of a cache of shards, with the shards.
-ghost use Rattle.std.specs.Prelude.{◌≡◌, length};
+ghost use Rattle.std.specs.Prelude.{◌≡◌, length, IfOk};
 ghost use Rattle.mc_cache.specs.Turns.{HasLookedOrMet, HasTried, HasTriedIfAbsent};
 ghost use Rattle.mc_plan.specs.WholeCalls.Call.{PutCall, PutIfCall, RemoveCall};
 ghost use Rattle.mc_plan.specs.declared.answer.Answer.TheVariants as answer;
 ghost use Rattle.mc_reader.specs.Records.{HasLooked};
-ghost use Rattle.mc_shards.specs.Plain.{HasAnswered, PutIfAbsentMeans, PutIfMeans, PutMeans, RemovalMeans, TurnMeans};
+ghost use Rattle.mc_shards.specs.Plain.{HasAnswered, PutIfAbsentMeans, PutIfMeans, PutMeans, RemovalMeans, TurnMeans, AllBegin, AreEntriesOfAll, seens};
 ghost use Rattle.mc_shards.specs.Sharded.{ArePassOf};
 ghost use Rattle.mc_door.specs.AtShards.{IsAtShard};
 
 use crate::words::array_of;
 use mc_cache::{AbsentError, DeskError, IfError, Put, PutError, Remove, Reply, Spent};
 use mc_shards::{Pass, Shards};
+use mc_words::NoMemory;
 use std::alloc::Global;
 use std::sync::Arc;
 
@@ -109,5 +110,16 @@ impl<const V: usize> ShardSide<V> {
             (λ h h'. TurnMeans (λ a b told. RemovalMeans V a b key told) h h' result) }
     {
         self.pass.try_remove(&self.shards, key)
+    }
+
+    pub(crate) fn entries(
+        &mut self,
+        alloc: Global,
+    ) -> Result<Vec<(u64, [u64; V])>, DeskError<NoMemory>>
+        ensures of { self.new.shards.value ≡ self.old.shards.value }
+        ensures begins { AllBegin (seens V self.old.pass) (seens V self.new.pass) }
+        ensures plain { IfOk result (λ es. AreEntriesOfAll V self.old.shards.value.shape.mix (seens V self.new.pass) es.items) }
+    {
+        self.pass.entries(alloc, &self.shards)
     }
 }

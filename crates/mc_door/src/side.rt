@@ -1,8 +1,8 @@
 //! A side of a cache, for values of so many words.
-ghost use Rattle.std.specs.Prelude.{◌≡◌, ◌↔◌, IsTrue, length, MatchResult};
+ghost use Rattle.std.specs.Prelude.{◌≡◌, ◌↔◌, IsTrue, length, MatchOption, MatchResult};
 ghost use Rattle.mc_words.specs.Places.{IsWidth};
 ghost use Rattle.mc_door.specs.Roles.{role_of};
-ghost use Rattle.mc_door.specs.Means.{CanLook, CanWrite, GetMeans, GetOrDeskMeans, HasTurns, IsMisuse, Looks, LooksAtDesk, PutIfAbsentMeans, PutIfMeans, PutMeans, RemovalMeans, TryPutIfAbsentMeans, TryPutIfMeans, TryPutMeans, TryRemovalMeans};
+ghost use Rattle.mc_door.specs.Means.{CanLook, CanWrite, GetMeans, GetOrDeskMeans, HasTurns, IsMisuse, Looks, LooksAtDesk, PutIfAbsentMeans, PutIfMeans, PutMeans, RemovalMeans, TryPutIfAbsentMeans, TryPutIfMeans, TryPutMeans, TryRemovalMeans, CapacityIs, LenIs, MomentIs};
 
 use crate::looked::Looked;
 use crate::pass_side::PassSide;
@@ -36,16 +36,6 @@ impl<const V: usize> Side<V> {
         V
     }
 
-    pub(crate) fn can_look(&self) -> bool
-        ensures { IsTrue result ↔ CanLook (role_of self.now) }
-    {
-        match self {
-            Side::Writer(_) => false,
-            Side::Reader(_) => true,
-            Side::Pass(_) | Side::Shard(_) => true,
-        }
-    }
-
     // Whether it tries for turns: a pass does.
     fn has_turns(&self) -> bool
         ensures { IsTrue result ↔ HasTurns (role_of self.now) }
@@ -61,9 +51,6 @@ impl<const V: usize> Side<V> {
         ensures { MatchResult result (λ reply. (words ≡ V) × Looks V (role_of self.old) (role_of self.new) key reply)
             (λ why. IsMisuse CanLook V (role_of self.old) words why × (self.new ≡ self.old)) }
     {
-        if let Side::Writer(_) = self {
-            return Err(Misuse::Kind);
-        }
         if words != V {
             return Err(Misuse::Width);
         }
@@ -71,7 +58,7 @@ impl<const V: usize> Side<V> {
             Side::Reader(side) => Ok(side.get(key)),
             Side::Pass(side) => Ok(side.get(key)),
             Side::Shard(side) => Ok(side.get(key)),
-            Side::Writer(_) => Err(Misuse::Kind),
+            Side::Writer(side) => Ok(side.get(key)),
         }
     }
 
@@ -161,7 +148,7 @@ impl<const V: usize> Side<V> {
 }
 
 impl<const V: usize> Side<V> {
-    /// What the cache holds of the key: `Reader::get` or `Pass::get`, by a reader or a pass. The value is written only where it was found.
+    /// What the cache holds of the key: `get` of the writer, a reader or a pass. The value is written only where it was found.
     #[inline(always)]
     pub fn get(&mut self, key: u64, value: &mut [u64]) -> Result<Looked, Misuse>
         requires width { IsWidth V }
@@ -183,13 +170,14 @@ impl<const V: usize> Side<V> {
 }
 
 impl<const V: usize> Side<V> {
-    /// Loads ahead the words that lookups of the first of these keys will read, of `GROUP` keys at most: `Cache::touch_ahead`, by a reader
-    /// or a pass at a desk.
+    /// Loads ahead the words that lookups of the first of these keys will read, of `GROUP` keys at most: `Cache::touch_ahead`, by any side
+    /// but a pass of shards.
     pub fn touch_ahead(&self, keys: &[u64]) {
         match self {
             Side::Reader(side) => side.cache.touch_ahead(keys),
             Side::Pass(side) => side.cache.touch_ahead(keys),
-            Side::Writer(_) | Side::Shard(_) => {}
+            Side::Writer(side) => side.cache.touch_ahead(keys),
+            Side::Shard(_) => {}
         }
     }
 
@@ -298,5 +286,37 @@ impl<const V: usize> Side<V> {
             Side::Shard(side) => Ok(side.try_remove(key)),
             Side::Writer(_) | Side::Reader(_) => Err(Misuse::Kind),
         }
+    }
+}
+
+impl<const V: usize> Side<V> {
+    /// The number of changes made to the map: `Writer::moment`. `None` by another side.
+    pub fn moment(&self) -> Option<u64>
+        ensures { MatchOption result (¬ CanWrite (role_of self.now)) (MomentIs V (role_of self.now)) }
+    {
+        let Side::Writer(side) = self else {
+            return None;
+        };
+        Some(side.moment())
+    }
+
+    /// How many keys the cache holds: `Writer::len`. `None` by another side.
+    pub fn len(&self) -> Option<u64>
+        ensures { MatchOption result (¬ CanWrite (role_of self.now)) (LenIs V (role_of self.now)) }
+    {
+        let Side::Writer(side) = self else {
+            return None;
+        };
+        Some(side.len() as u64)
+    }
+
+    /// How many keys it holds at most: `Writer::capacity`. `None` by another side.
+    pub fn capacity(&self) -> Option<u64>
+        ensures { MatchOption result (¬ CanWrite (role_of self.now)) (CapacityIs V (role_of self.now)) }
+    {
+        let Side::Writer(side) = self else {
+            return None;
+        };
+        Some(side.capacity() as u64)
     }
 }

@@ -1,12 +1,14 @@
 //! The writer of a cache, with the cache.
-ghost use Rattle.std.specs.Prelude.{◌≡◌, length};
-ghost use Rattle.mc_cache.specs.Plain.{PutIfAbsentMeans, PutIfMeans, PutMeans, RemovalMeans, history};
+ghost use Rattle.std.specs.Prelude.{◌≡◌, length, IfOk};
+ghost use Rattle.mc_cache.specs.Plain.{PutIfAbsentMeans, PutIfMeans, PutMeans, RemovalMeans, history, AreEntriesOf, TellsNow};
 ghost use Rattle.mc_plan.specs.WholeCalls.Call.{PutCall, PutIfCall, RemoveCall};
 ghost use Rattle.mc_plan.specs.declared.answer.Answer.TheVariants as answer;
-ghost use Rattle.mc_writer.specs.WriterCalls.{HasCalled, HasPutIfAbsent};
+ghost use Rattle.mc_writer.specs.WriterCalls.{HasCalled, HasPutIfAbsent, HasGot};
+ghost use Rattle.mc_words.specs.History.{key_count};
 
 use crate::words::array_of;
-use mc_cache::{AbsentError, Cache, IfError, Put, PutError, Remove, Spent, Writer};
+use mc_cache::{AbsentError, Cache, IfError, Put, PutError, Remove, Reply, Spent, Writer};
+use mc_words::NoMemory;
 use std::alloc::Global;
 use std::sync::Arc;
 
@@ -58,5 +60,39 @@ impl<const V: usize> WriterSide<V> {
         ensures plain { RemovalMeans V (history V self.old.writer) (history V self.new.writer) key result }
     {
         self.writer.remove(&self.cache, key)
+    }
+
+    #[inline(always)]
+    pub(crate) fn get(&mut self, key: u64) -> Reply<V>
+        ensures of { self.new.writer.of ≡ self.old.writer.of }
+        ensures got { HasGot V self.old.writer.of.layout.shape key self.old.writer self.new.writer result }
+        ensures plain { TellsNow (history V self.old.writer) key result × (history V self.new.writer ≡ history V self.old.writer) }
+    {
+        self.writer.get(&self.cache, key)
+    }
+
+    pub(crate) fn moment(&self) -> u64
+        ensures plain { result ≡ length (history V self.now.writer) }
+    {
+        self.writer.moment()
+    }
+
+    pub(crate) fn len(&self) -> usize
+        ensures plain { result ≡ key_count (history V self.now.writer) }
+    {
+        self.writer.len()
+    }
+
+    pub(crate) fn capacity(&self) -> usize
+        ensures { result ≡ self.now.writer.of.layout.shape.items }
+    {
+        self.writer.capacity()
+    }
+
+    pub(crate) fn entries(&mut self, alloc: Global) -> Result<Vec<(u64, [u64; V])>, NoMemory>
+        ensures writer { self.new.writer ≡ self.old.writer }
+        ensures plain { IfOk result (λ es. AreEntriesOf V (history V self.old.writer) es.items) }
+    {
+        self.writer.entries(alloc, &self.cache)
     }
 }

@@ -11,3 +11,4 @@ pub mod CanEnd
 pub mod ActKinds
 pub mod EndOnce
 pub mod DueActs
+pub mod UsedItems

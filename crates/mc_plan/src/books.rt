@@ -1,6 +1,7 @@
 //! What the writer keeps of its table beside the words, and how it decides a call.
 ghost use Rattle.std.specs.Prelude.{ℕ, ◌≡◌, ◌+◌, ◌*◌, ◌^◌, ◌<◌, ◌≤◌, [], ◌↔◌, IfOk, IsTrue};
 ghost use Rattle.mc_words.specs.Checks.{shape_of};
+ghost use Rattle.mc_words.specs.History.{key_count};
 ghost use Rattle.mc_words.specs.KeyParts.{HasParts};
 ghost use Rattle.mc_words.specs.Places.{IsWidth};
 ghost use Rattle.mc_theory.specs.States.{State, opening};
@@ -53,6 +54,21 @@ impl Books {
             path: Path::direct(Place::default()),
             moves: ArrayVec::new(),
         })
+    }
+
+    /// How many keys the table holds. No word is read. Condition: the books are those of a table, between two calls.
+    pub fn key_count(&self) -> usize
+        requires { (V : ℕ) × (s : State V) × AreBooksOf V self.now s }
+        ensures { (V : ℕ) (s : State V) → AreBooksOf V self.now s → result ≡ key_count s.history }
+    {
+        self.free.used()
+    }
+
+    /// How many keys the table holds at most.
+    pub fn items(&self) -> u32
+        ensures { result ≡ (shape_of self.now.checked).items }
+    {
+        self.checked.shape().items
     }
 
     /// Whether so many version changes more could pass the limit.

@@ -198,3 +198,12 @@ new_kept f ordered none fresh room = record {
 pub free_below : (f : FreeItems) (i : ℕ) → IsConsistent f → IsFreeIn f i → i < f.items
 free_below f i kept (Fresh above l) = l
 free_below f i kept (Returned c) = let b = All-contains (λ j. j < f.fresh) (returned_items f) i kept.below c in omega (arith, kept.within, b)
+
+-- ---- how many items are in use
+-- no more were given back than were taken
+pub returned_below : (f : FreeItems) → IsConsistent f → length (returned_items f) ≤ f.fresh
+returned_below f kept =
+    length-le_from_distinct_below (returned_items f) f.fresh kept.distinct (λ q t. All-contains (λ i. i < f.fresh) (returned_items f) q kept.below (Contains-from_any (λ x y e. eqb-true x y e) q (returned_items f) t))
+
+pub returned_many : (f : FreeItems) → length (returned_items f) ≡ length (heap_items f.returned)
+returned_many f = length-map (heap_items f.returned) (λ (r : Reverse ℕ). r.0)

@@ -1,5 +1,5 @@
 //! Which items are free.
-ghost use Rattle.std.specs.Prelude.{ℕ, ◌≡◌, ◌<◌, ◌≤◌, ◌↔◌, IfOk, IfSome, IfNone, IsTrue};
+ghost use Rattle.std.specs.Prelude.{ℕ, ◌≡◌, ◌+◌, ◌<◌, ◌≤◌, ◌↔◌, IfOk, IfSome, IfNone, IsTrue, length};
 
 use std::alloc::{AllocError, Global};
 use std::cmp::Reverse;
@@ -16,7 +16,7 @@ pub struct FreeItems {
 }
 
 impl FreeItems {
-    ghost use Rattle.mc_search.specs.Free.{IsConsistent, IsFreeIn, TakesFree, GivesBack};
+    ghost use Rattle.mc_search.specs.Free.{IsConsistent, IsFreeIn, TakesFree, GivesBack, returned_items};
     ghost use Rattle.std.specs.BinaryHeap.{heap_len};
 
     /// All items of a table.
@@ -40,6 +40,14 @@ impl FreeItems {
         ensures { IsTrue result ↔ ((i : ℕ) → IsFreeIn self.now i → ⊥) }
     {
         self.fresh == self.items && self.returned.is_empty()
+    }
+
+    /// How many items are not free.
+    pub fn used(&self) -> usize
+        requires { IsConsistent self.now }
+        ensures { result + length (returned_items self.now) ≡ self.now.fresh }
+    {
+        self.fresh as usize - self.returned.len()
     }
 
     // Takes the least of the items that were given back. It is a call of its own, as most tables give none back between two puts.

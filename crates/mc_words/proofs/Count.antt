@@ -1,5 +1,5 @@
--- The keys that stand are no more than the items, and as many where no item is free.
-use Rattle.std.proofs.Common.{ℕ, zero, suc, ◌≡◌, ◌<◌, ◌≤◌, true, false, eqb, List, [], ◌∷◌, length, Option, Some, None, refl, sym, ◌∙◌, subst, inl, inr, arith}
+-- The keys that stand are no more than the items, and as many where no item is free: as many as items are in use.
+use Rattle.std.proofs.Common.{ℕ, zero, suc, ◌≡◌, ◌+◌, ◌<◌, ◌≤◌, true, false, eqb, List, [], ◌∷◌, ◌++◌, ◌||◌, length, length-append, Option, Some, None, refl, sym, ◌∙◌, subst, inl, inr, arith}
 use Rattle.std.specs.Option.{is_some, IsSome}
 use Rattle.std.specs.List.{AllByRecursion, IsDistinct, list_any}
 use Rattle.std.specs.Map.{keys_of}
@@ -7,7 +7,8 @@ use Rattle.std.specs.Cmp.{nat_eq_equiv}
 use Rattle.std.proofs.lemmas.Bool.{cases_Bool, eqb-true, eq-eqb, or_cases, or_left, or_right, false≢true}
 use Rattle.std.proofs.lemmas.Map.Keys.{IsDistinct-cons, IsDistinct-head, IsDistinct-tail}
 use Rattle.std.proofs.lemmas.Map.Made.{is_some-lookup}
-use Rattle.std.proofs.lemmas.Map.Steps.{length-le_from_distinct_below, length-le_from_keys}
+use Rattle.std.proofs.lemmas.Map.Steps.{le-length_from_below, length-le_from_distinct_below, length-le_from_keys}
+use Rattle.std.proofs.lemmas.List.Folds.{list_any-append}
 use Rattle.std.proofs.lemmas.Map.Entries.{length-keys_of}
 use Rattle.mc_words.specs.History.{map_value, key_count, map_from}
 use Rattle.mc_words.specs.Places.{item}
@@ -38,10 +39,11 @@ record Items (V : ℕ) (sh : Shape) (w : List ℕ) (ks : List ℕ) : Type 0 wher
   many : length its ≡ length ks
   distinct : IsDistinct eqb its
   stand : (i : ℕ) → list_any (eqb i) its ≡ true → (k : ℕ) × (list_any (eqb k) ks ≡ true) × ((q : ℕ) × Stands V sh w k q i)
+  each : (k : ℕ) → list_any (eqb k) ks ≡ true → (i : ℕ) × (list_any (eqb i) its ≡ true) × ((q : ℕ) × Stands V sh w k q i)
 
 items_of : (V : ℕ) (sh : Shape) (w : List ℕ) (ks : List ℕ) → IsDistinct eqb ks → ((k : ℕ) → list_any (eqb k) ks ≡ true → IsPresent V sh w k) → Items V sh w ks
 unfolding IsDistinct
-items_of V sh w [] d here = record { its = []; many = refl; distinct = tt; stand = λ i t. absurd (false≢true t) }
+items_of V sh w [] d here = record { its = []; many = refl; distinct = tt; stand = λ i t. absurd (false≢true t); each = λ k t. absurd (false≢true t) }
 items_of V sh w (k ∷ ks) d here =
     let rest = items_of V sh w ks (IsDistinct-tail eqb k ks d) (λ f t. here f (or_right (eqb f k) (list_any (eqb f) ks) t)) in
     let mine : IsPresent V sh w k = here k (or_left (eqb k k) (list_any (eqb k) ks) (eq-eqb k k refl)) in
@@ -57,6 +59,12 @@ items_of V sh w (k ∷ ks) d here =
         | inr e ↦
             let other = rest.stand i e in
             (other.0, or_right (eqb other.0 k) (list_any (eqb other.0) ks) other.1, other.2)
+      ];
+      each = λ f t. elim (or_cases (eqb f k) (list_any (eqb f) ks) t) [
+        | inl e ↦ (mine.1, or_left (eqb mine.1 mine.1) (list_any (eqb mine.1) rest.its) (eq-eqb mine.1 mine.1 refl), (mine.0, subst (λ (y : ℕ). Stands V sh w y mine.0 mine.1) (sym (eqb-true f k e)) mine.2))
+        | inr e ↦
+            let other = rest.each f e in
+            (other.0, or_right (eqb other.0 mine.1) (list_any (eqb other.0) rest.its) other.1, other.2)
       ];
     }
 
@@ -138,3 +146,47 @@ room_from_free V sh w h a free =
       | inr e ↦ (its.stand i e).2.1.names.in_items
     ]) in
     omega (arith, its.many, length-keys_of m, fit)
+
+-- ---- as many keys stand as items are in use
+apart_append : (x : ℕ) (xs ys : List ℕ) → AllByRecursion (λ y. eqb x y ≡ false) xs → AllByRecursion (λ y. eqb x y ≡ false) ys → AllByRecursion (λ y. eqb x y ≡ false) (xs ++ ys)
+apart_append x [] ys a b = b
+apart_append x (z ∷ xs) ys a b = (a.0, apart_append x xs ys a.1 b)
+
+distinct_append : (xs ys : List ℕ) → IsDistinct eqb xs → IsDistinct eqb ys → ((x : ℕ) → list_any (eqb x) xs ≡ true → list_any (eqb x) ys ≡ true → ⊥) → IsDistinct eqb (xs ++ ys)
+distinct_append [] ys d e apart = e
+distinct_append (x ∷ xs) ys d e apart =
+    IsDistinct-cons eqb x (xs ++ ys)
+    (apart_append x xs ys (IsDistinct-head eqb x xs d) (none_any x ys (apart x (or_left (eqb x x) (list_any (eqb x) xs) (eq-eqb x x refl)))))
+    (distinct_append xs ys (IsDistinct-tail eqb x xs d) e (λ y t. apart y (or_right (eqb y x) (list_any (eqb y) xs) t)))
+
+-- the numbers below n that are not in the list are the items in use
+pub record AreUnused (sh : Shape) (w : List ℕ) (n : ℕ) (unused : List ℕ) : Type 0 where
+  pub distinct : IsDistinct eqb unused
+  pub below : (i : ℕ) → list_any (eqb i) unused ≡ true → i < n
+  pub named : (i : ℕ) → i < n → (list_any (eqb i) unused ≡ true → ⊥) → (q : ℕ) × NamesItem sh w q i
+  pub used : (q i : ℕ) → NamesItem sh w q i → (i < n) × (list_any (eqb i) unused ≡ true → ⊥)
+
+pub keys_and_unused : (V : ℕ) (sh : Shape) (w : List ℕ) (h : List (Change V)) → ((k : ℕ) → AgreesAt V sh w k (map_value h k)) → (n : ℕ) (unused : List ℕ) → AreUnused sh w n unused → key_count h + length unused ≡ n
+unfolding map_value key_count IsDistinct
+keys_and_unused V sh w h a n unused u =
+    let m = map_from 1 [] h in
+    let ks = keys_of m in
+    let its = items_of V sh w ks (distinct_keys 1 [] h tt) (λ k t. present_from V sh w k (map_value h k) (a k) (is_some-lookup (eqb k) m ∙ t)) in
+    let all : List ℕ = its.its ++ unused in
+    let in_all : (i : ℕ) → list_any (eqb i) all ≡ (list_any (eqb i) its.its || list_any (eqb i) unused) = λ i. list_any-append (eqb i) its.its unused in
+    let distinct = distinct_append its.its unused its.distinct u.distinct (λ i t. let here = its.stand i t in (u.used here.2.0 i here.2.1.names).1) in
+    let most : length all ≤ n = length-le_from_distinct_below all n distinct (λ i t. elim (or_cases (list_any (eqb i) its.its) (list_any (eqb i) unused) (sym (in_all i) ∙ t)) [
+      | inl e ↦ let here = its.stand i e in (u.used here.2.0 i here.2.1.names).0
+      | inr e ↦ u.below i e
+    ]) in
+    let least : n ≤ length all = le-length_from_below all n (λ i l. elim (cases_Bool (list_any (eqb i) unused)) [
+      | inl t ↦ in_all i ∙ or_right (list_any (eqb i) its.its) (list_any (eqb i) unused) t
+      | inr f ↦
+          let here = u.named i l (λ t. false≢true (sym f ∙ t)) in
+          let key = item V sh w i 0 in
+          let stands : Stands V sh w key here.0 i = record { names = here.1; key = refl } in
+          let there = its.each key (sym (is_some-lookup (eqb key) m) ∙ some_from_present V sh w key (map_value h key) (a key) (here.0, i, stands)) in
+          let same : there.0 ≡ i = one_item V sh w key (map_value h key) (a key) there.2.0 here.0 there.0 i there.2.1 stands in
+          in_all i ∙ or_left (list_any (eqb i) its.its) (list_any (eqb i) unused) (subst (λ (y : ℕ). list_any (eqb y) its.its ≡ true) same there.1)
+    ]) in
+    omega (arith, its.many, length-keys_of m, length-append its.its unused, most, least)

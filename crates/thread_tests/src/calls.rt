@@ -15,6 +15,8 @@ pub enum Call {
     Look(u64),
     LookBeside(u64),
     CatchUp,
+    Len,
+    Capacity,
 }
 
 /// What a call answers: its moment, and what the name says before it.
@@ -40,6 +42,8 @@ pub enum Told {
     Absent(u64),
     Busy,
     Moment(u64),
+    Keys(usize),
+    Items(usize),
 }
 
 impl Told {
@@ -114,5 +118,7 @@ pub fn make(cache: &Cache<1>, writer: &mut Writer<1>, reader: &mut Reader<1>, ca
         Call::Look(key) => Told::of_reply(reader.get(cache, key)),
         Call::LookBeside(key) => Told::of_reply(reader.get_beside(cache, writer, key)),
         Call::CatchUp => Told::Moment(reader.catch_up(cache, writer)),
+        Call::Len => Told::Keys(writer.len()),
+        Call::Capacity => Told::Items(writer.capacity()),
     }
 }

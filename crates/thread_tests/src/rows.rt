@@ -284,6 +284,28 @@ fn a_reader_catches_up_and_looks_beside_the_writer(rt: HostRuntime) -> Result<()
     check_rows(rt.alloc(), small(), &BESIDE_THE_WRITER)
 }
 
+const COUNTED: [(Call, Told); 14] = [
+    (Call::Len, Told::Keys(0)),
+    (Call::Capacity, Told::Items(2)),
+    (Call::Put(0, 10), Told::Stored(1)),
+    (Call::Len, Told::Keys(1)),
+    (Call::Put(1, 11), Told::Stored(2)),
+    (Call::Put(1, 12), Told::Renewed(3)),
+    (Call::Len, Told::Keys(2)),
+    (Call::Put(2, 12), Told::StoredAfter(0, 5)),
+    (Call::Len, Told::Keys(2)),
+    (Call::Remove(1), Told::Removed(6)),
+    (Call::Len, Told::Keys(1)),
+    (Call::Remove(1), Told::NotThere(6)),
+    (Call::Put(1, 13), Told::Stored(7)),
+    (Call::Len, Told::Keys(2)),
+];
+
+#[test]
+fn the_writer_counts_its_keys(rt: HostRuntime) -> Result<(), Fail> {
+    check_rows(rt.alloc(), with_items(2), &COUNTED)
+}
+
 // The puts of `NOT_USED`, which answer as is said there.
 fn put_three(cache: &Cache<1>, writer: &mut Writer<1>)
     requires { writer.old.of ≡ cache.now }

@@ -16,7 +16,7 @@ loop-index-preserved g c =
     length-take-le (n * V + V - n * V) (drop (n * V) values) (omega (arith, length-drop (n * V) values, room)) in
     one_more V (role_of c.args.side.now) (role_of c.loop-index.side) (role_of c.look_up.new.side) c.args.keys.now c.args.values.now values c.loop-index.answers n (n * V + V - n * V)
     (slice_index c.args.keys.now n) c.look_up.new.value _ c.look_up.result c.loop-index.invariant c.loop-index-test.true (c.loop-index.auto.answers ∙ c.requires.answers) room refl wide
-    c.look_up.ensures.looks c.look_up.ensures.looked (c.look_up.auto.value ∙ cut ∙ wide) refl
+    c.look_up.ensures.looked (c.look_up.auto.value ∙ cut ∙ wide) refl
 
 pub returns : goal.returns
 returns g c =

@@ -1,0 +1,31 @@
+-- Entries, as the calls by handles list them.
+use Rattle.std.specs.Prelude.{ℕ, ◌≡◌, List, length, MatchResult, Result, Ok, Err}
+use mathlib.Core.Option.{Option}
+use Rattle.mc_door.specs.Held.{role_in, width_of}
+use Rattle.mc_door.specs.Listing.{HasListed, RefusesList, SeesMore}
+use Rattle.mc_door.specs.declared.held.Held.{Held}
+use Rattle.mc_door.specs.declared.listed.ListError.{ListError}
+use Rattle.mc_door.specs.declared.listed.ListError.TheVariants as why
+use Rattle.cefrodil.specs.Calls.{Gives}
+use Rattle.cefrodil.specs.declared.status.TheConstants.{OK, CLOSED, COUNT, HELD, KIND, NO_MEMORY}
+
+-- the status; and how many entries there are, where that is known
+abbrev pub TellsList : Result ℕ ListError → ℕ → ℕ → ℕ → Type 0
+TellsList (Ok many) old new status = (status ≡ OK) × (new ≡ many)
+TellsList (Err why.Kind) old new status = (status ≡ KIND) × (new ≡ old)
+TellsList (Err why.Held) old new status = (status ≡ HELD) × (new ≡ old)
+TellsList (Err (why.Count many)) old new status = (status ≡ COUNT) × (new ≡ many)
+TellsList (Err why.NoMemory) old new status = (status ≡ NO_MEMORY) × (new ≡ old)
+
+-- the entries were written, or there was a reason why not, and then nothing was
+pub record HasMadeList (h h' : Held) (old new : List ℕ) (count count' status : ℕ) : Type 0 where
+  pub width : width_of h' ≡ width_of h
+  pub more : SeesMore (width_of h) (role_in h) (role_in h')
+  pub made : Result ℕ ListError
+  pub means : MatchResult made (λ many. HasListed (width_of h) (role_in h') old new many)
+      (λ e. RefusesList (width_of h) (role_in h) (role_in h') (length old) e × (new ≡ old))
+  pub told : TellsList made count count' status
+
+abbrev pub ListGives : Option Held → Option Held → List ℕ → List ℕ → ℕ → ℕ → ℕ → Type 0
+ListGives b b' old new count count' status =
+    Gives b b' ((status ≡ CLOSED) × (new ≡ old) × (count' ≡ count)) (λ h h'. HasMadeList h h' old new count count' status)

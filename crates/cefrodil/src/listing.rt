@@ -1,0 +1,49 @@
+//! The entries of a cache that goes on, as C asks for them.
+ghost use Rattle.std.specs.Prelude.{◌≡◌};
+ghost use Rattle.cefrodil.specs.Listing.{ListGives, TellsList};
+ghost use Rattle.cefrodil.specs.Open.{kept};
+
+use crate::slot::Slot;
+use crate::status::{CLOSED, COUNT, HELD, KIND, NO_MEMORY, OK};
+use mc_door::ListError;
+use std::alloc::Global;
+
+// Writes how many entries there are, where that is known.
+fn tell(listed: Result<usize, ListError>, count: &mut u64) -> u32
+    ensures { TellsList listed count.old count.new result }
+{
+    match listed {
+        Ok(many) => {
+            *count = many as u64;
+            OK
+        }
+        Err(ListError::Kind) => KIND,
+        Err(ListError::Held) => HELD,
+        Err(ListError::Count(many)) => {
+            *count = many as u64;
+            COUNT
+        }
+        Err(ListError::NoMemory) => NO_MEMORY,
+    }
+}
+
+/// Each key of the cache with its value, by the writer's handle or a pass, one entry after the other: its key, and then its value.
+#[tactic(auto, using(crate::proofs::Gives::gives_open, crate::proofs::Gives::gives_closed))]
+#[unsafe(no_mangle)]
+pub extern "C" fn cefrodil_entries(
+    alloc: Global,
+    handle: &mut Slot,
+    entries: &mut [u64],
+    count: &mut u64,
+) -> u32
+    ensures open { handle.new.live ≡ handle.old.live }
+    ensures told { ListGives (kept handle.old) (kept handle.new) entries.old entries.new count.old count.new result }
+{
+    let Some(mut held) = handle.take(alloc) else {
+        return CLOSED;
+    };
+    let listed = held.entries(alloc, entries);
+    let status = tell(listed, count);
+    handle.put(held);
+    status
+}

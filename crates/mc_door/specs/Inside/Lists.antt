@@ -1,0 +1,23 @@
+-- A list, before it is written as words.
+use Rattle.std.specs.Prelude.{ℕ, ◌≡◌, List, Result, Ok, Err}
+use Rattle.mc_words.specs.declared.no_memory.NoMemory.{NoMemory}
+use Rattle.mc_cache.specs.declared.desk.DeskError.{DeskError}
+use Rattle.mc_cache.specs.declared.desk.DeskError.TheVariants as desk
+use Rattle.mc_door.specs.Listing.{CanList}
+use Rattle.mc_door.specs.Means.{HasTurns}
+use Rattle.mc_door.specs.Roles.{Role}
+use Rattle.mc_door.specs.declared.listed.ListError.{ListError}
+use Rattle.mc_door.specs.declared.listed.ListError.TheVariants as why
+
+-- what a turn listed
+abbrev pub of_turn : {T : Type 0} → Result T (DeskError NoMemory) → Result T ListError
+of_turn (Ok listed) = Ok listed
+of_turn (Err desk.Held) = Err why.Held
+of_turn (Err (desk.Call e)) = Err why.NoMemory
+
+-- nothing was listed
+abbrev pub RefusesOutright : Role → ListError → Type 0
+RefusesOutright role why.Kind = ¬ CanList role
+RefusesOutright role why.Held = HasTurns role
+RefusesOutright role (why.Count count) = ⊥
+RefusesOutright role why.NoMemory = CanList role

@@ -1,0 +1,55 @@
+-- The entries of a cache as words, as a list for C has them.
+use Rattle.std.specs.Prelude.{ℕ, ◌≡◌, ◌+◌, ◌*◌, ◌<◌, List, [], ◌∷◌, ◌++◌, drop, length}
+use Rattle.mc_cache.specs.Plain.{AreEntriesOf, Begins, history, seen}
+use Rattle.mc_shards.specs.Plain.{AllBegin, AreEntriesOfAll, seens}
+use Rattle.mc_door.specs.Means.{HasTurns}
+use Rattle.mc_door.specs.Roles.{Role, Writes, Reads, Passes, Shares}
+use Rattle.mc_door.specs.declared.listed.ListError.{ListError}
+use Rattle.mc_door.specs.declared.listed.ListError.TheVariants as why
+
+-- the writer lists, and a pass in a turn
+abbrev pub CanList : Role → Type 0
+CanList (Writes w) = Unit {0}
+CanList (Reads r) = ⊥
+CanList (Passes r) = Unit {0}
+CanList (Shares s rs) = Unit {0}
+
+-- a pass has seen more of the histories at most. The others are as they were
+abbrev pub SeesMore : (V : ℕ) → Role → Role → Type 0
+SeesMore V (Writes w) (Writes w') = w' ≡ w
+SeesMore V (Reads r) (Reads r') = r' ≡ r
+SeesMore V (Passes r) (Passes r') = (r'.of ≡ r.of) × Begins (seen V r) (seen V r')
+SeesMore V (Shares s rs) (Shares s' rs') = (s' ≡ s) × AllBegin (seens V rs) (seens V rs')
+SeesMore V _ _ = ⊥
+
+-- all entries of the history that the side has made or seen
+abbrev pub AreEntries : (V : ℕ) → Role → List (ℕ × List ℕ) → Type 0
+AreEntries V (Writes w) es = AreEntriesOf V (history V w) es
+AreEntries V (Reads r) es = ⊥
+AreEntries V (Passes r) es = AreEntriesOf V (seen V r) es
+AreEntries V (Shares s rs) es = AreEntriesOfAll V s.shape.mix (seens V rs) es
+
+-- the entries one after the other, each as its key and then its value
+abbrev pub words_of : List (ℕ × List ℕ) → List ℕ
+words_of [] = []
+words_of (e ∷ es) = e.0 ∷ e.1 ++ words_of es
+
+-- so many entries were written, and the words behind them are as they were
+pub record AreWritten (V : ℕ) (es : List (ℕ × List ℕ)) (old new : List ℕ) (count : ℕ) : Type 0 where
+  pub many : count ≡ length es
+  pub words : new ≡ words_of es ++ drop (count * (1 + V)) old
+
+-- all entries were written
+abbrev pub HasListed : (V : ℕ) → Role → List ℕ → List ℕ → ℕ → Type 0
+HasListed V role old new count = (es : List (ℕ × List ℕ)) × AreEntries V role es × AreWritten V es old new count
+
+-- there are so many entries, for which the words do not suffice
+abbrev pub HasMore : (V : ℕ) → Role → ℕ → ℕ → Type 0
+HasMore V role words count = (es : List (ℕ × List ℕ)) × AreEntries V role es × (count ≡ length es) × (words < count * (1 + V))
+
+-- the side does not list, its try for a turn was held, there are more entries than fit, or there is no memory
+abbrev pub RefusesList : (V : ℕ) → Role → Role → ℕ → ListError → Type 0
+RefusesList V role role' words why.Kind = ¬ CanList role
+RefusesList V role role' words why.Held = HasTurns role
+RefusesList V role role' words (why.Count count) = HasMore V role' words count
+RefusesList V role role' words why.NoMemory = CanList role

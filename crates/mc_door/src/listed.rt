@@ -1,0 +1,98 @@
+//! The entries of a cache, written as the words that cross the border.
+ghost use Rattle.std.specs.Prelude.{◌≡◌, ◌+◌, ◌*◌, ◌<◌, MatchResult, length};
+ghost use Rattle.mc_words.specs.Places.{IsWidth};
+ghost use Rattle.mc_door.specs.Listing.{AreEntries, AreWritten, HasListed, RefusesList, SeesMore, words_of};
+ghost use Rattle.mc_door.specs.Inside.Lists.{RefusesOutright, of_turn};
+ghost use Rattle.mc_door.specs.Roles.{role_of};
+ghost use Rattle.mc_door.specs.declared.listed.ListError.TheVariants as why;
+
+use crate::side::Side;
+use mc_cache::DeskError;
+use mc_words::NoMemory;
+use std::alloc::Global;
+
+/// Why the entries were not listed. Nothing was written.
+#[derive(Clone, Copy, Debug, PartialEq, Eq)]
+pub enum ListError {
+    /// A side of this kind doesn't list.
+    Kind,
+    /// The try for a turn did not win.
+    Held,
+    /// There are this many entries, and fewer words than they have.
+    Count(usize),
+    /// There is no memory for the list.
+    NoMemory,
+}
+
+// Writes the entries one after the other, each as its key and then its value.
+fn write_entries<const V: usize>(entries: &[(u64, [u64; V])], words: &mut [u64])
+    requires { length words.old ≡ length entries.now * (1 + V) }
+    ensures { words.new ≡ words_of entries.now }
+{
+    for index in 0..entries.len() {
+        let start = index * (1 + V);
+        let entry = entries[index];
+        words[start] = entry.0;
+        words[start + 1..start + 1 + V].copy_from_slice(&entry.1);
+    }
+}
+
+// The same, where there are words enough.
+fn write_all<const V: usize>(
+    entries: &[(u64, [u64; V])],
+    words: &mut [u64],
+) -> Result<usize, ListError>
+    requires { IsWidth V }
+    ensures { MatchResult result (λ count. AreWritten V entries.now words.old words.new count)
+        (λ e. (e ≡ why.Count (length entries.now)) × (length words.old < length entries.now * (1 + V)) × (words.new ≡ words.old)) }
+{
+    let count = entries.len();
+    let Some(needed) = count.checked_mul(1 + V) else {
+        return Err(ListError::Count(count));
+    };
+    if needed > words.len() {
+        return Err(ListError::Count(count));
+    }
+    write_entries::<V>(entries, &mut words[..needed]);
+    Ok(count)
+}
+
+// What a turn listed.
+fn of_turn<T>(listed: Result<T, DeskError<NoMemory>>) -> Result<T, ListError>
+    ensures { result ≡ of_turn listed }
+{
+    match listed {
+        Ok(entries) => Ok(entries),
+        Err(DeskError::Held) => Err(ListError::Held),
+        Err(DeskError::Call(NoMemory)) => Err(ListError::NoMemory),
+    }
+}
+
+impl<const V: usize> Side<V> {
+    fn list(&mut self, alloc: Global) -> Result<Vec<(u64, [u64; V])>, ListError>
+        ensures more { SeesMore V (role_of self.old) (role_of self.new) }
+        ensures listed { MatchResult result (λ es. AreEntries V (role_of self.new) es.items) (RefusesOutright (role_of self.old)) }
+    {
+        match self {
+            Side::Writer(side) => match side.entries(alloc) {
+                Ok(entries) => Ok(entries),
+                Err(NoMemory) => Err(ListError::NoMemory),
+            },
+            Side::Pass(side) => of_turn(side.entries(alloc)),
+            Side::Shard(side) => of_turn(side.entries(alloc)),
+            Side::Reader(_) => Err(ListError::Kind),
+        }
+    }
+
+    /// Writes each key of the cache with its value, and returns how many they are: `Writer::entries`, `Desk::try_entries` or
+    /// `Pass::entries`, by the writer or a pass.
+    pub fn entries(&mut self, alloc: Global, words: &mut [u64]) -> Result<usize, ListError>
+        requires width { IsWidth V }
+        ensures more { SeesMore V (role_of self.old) (role_of self.new) }
+        ensures listed { MatchResult result (λ count. HasListed V (role_of self.new) words.old words.new count)
+            (λ e. RefusesList V (role_of self.old) (role_of self.new) (length words.old) e × (words.new ≡ words.old)) }
+    {
+        let entries = self.list(alloc)?;
+        write_all::<V>(entries.as_slice(), words)
+    }
+}
