@@ -1,1 +1,2 @@
 pub mod TakenOut
+pub mod OneShard
