@@ -50,6 +50,7 @@ impl<const V: usize> WriterSide<V> {
     {
         self.writer.remove(&self.cache, key)
     }
+
     #[inline(always)]
     pub(crate) fn get(&mut self, key: u64) -> Reply<V>
         ensures of { self.new.writer.of ≡ self.old.writer.of }
