@@ -1,5 +1,5 @@
 -- Handles of shards are all open, or none is.
-use Rattle.std.proofs.Common.{ℕ, ◌≡◌, ◌≢◌, ◌+◌, ◌<◌, ◌↔◌, get_or-set_other, List, Option, Some, MatchOption, length, All, ap, inr, refl, ◌∙◌, subst, arith}
+use Rattle.std.proofs.Common.{ℕ, ◌≡◌, ◌≢◌, ◌+◌, ◌<◌, ◌↔◌, get_or-set_other, List, Option, Some, MatchOption, length, All, inr, refl, ◌∙◌, subst, arith}
 use Rattle.std.proofs.Math.ListN.{set, length-set}
 use Rattle.std.proofs.lemmas.List.Elements.{AllWithin-more_set, All-from_all_within}
 use mathlib.Core.Option.{some}
