@@ -193,7 +193,7 @@ CEFRODIL_CHECKED cefrodil_status cefrodil_get_many(cefrodil_handle *reader, cons
 CEFRODIL_CHECKED cefrodil_status cefrodil_get_or_desk(cefrodil_handle *pass, uint64_t key, uint64_t *value, size_t words,
                                                       cefrodil_reply *reply);
 
-/* Puts a key with this value, by the writer. May evict another key.
+/* Puts a key with this value, by the writer. A new key evicts another one if the table is full: its `len` is its `capacity`.
  * OK: `at`, `put` and `moves` are set, and with PUT_EVICTED `evicted`. NO_PATH, ALL_RECENT or SPENT: the key was not put.
  * CLOSED, KIND, WIDTH. */
 cefrodil_status cefrodil_put(cefrodil_handle *writer, uint64_t key, const uint64_t *value, size_t words,
@@ -205,7 +205,7 @@ cefrodil_status cefrodil_put(cefrodil_handle *writer, uint64_t key, const uint64
 CEFRODIL_CHECKED cefrodil_status cefrodil_put_if(cefrodil_handle *writer, uint64_t key, uint64_t since,
                                                  const uint64_t *value, size_t words, cefrodil_reply *reply);
 
-/* Puts a key only if it is absent, by the writer. May evict another key.
+/* Puts a key only if it is absent, by the writer. Evicts as cefrodil_put does.
  * OK: as in cefrodil_put; `put` is never PUT_RENEWED. PRESENT: `since` is that of the key's last put, and the key counts as used.
  * NO_PATH, ALL_RECENT or SPENT: the key is absent, and was not put. CLOSED, KIND, WIDTH. */
 CEFRODIL_CHECKED cefrodil_status cefrodil_put_if_absent(cefrodil_handle *writer, uint64_t key, const uint64_t *value,

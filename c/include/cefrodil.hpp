@@ -36,6 +36,7 @@ enum class [[nodiscard]] Status : uint32_t {
     bad_tries = CEFRODIL_BAD_TRIES,
     bad_limit = CEFRODIL_BAD_LIMIT,
     bad_readers = CEFRODIL_BAD_READERS,
+    bad_count = CEFRODIL_BAD_COUNT,
     no_item = CEFRODIL_NO_ITEM,
     bad_shards = CEFRODIL_BAD_SHARDS,
     present = CEFRODIL_PRESENT
@@ -46,15 +47,19 @@ inline const char *text(Status status) noexcept { return cefrodil_text(static_ca
 // How many words a type takes as a value.
 template <class Type> inline constexpr size_t words_of = (sizeof(Type) + sizeof(uint64_t) - 1) / sizeof(uint64_t);
 
-// The bytes of a trivially copyable type as the words of a value, and back. Bytes behind the type are 0.
+// Whether a type can be a value: up to 64 bytes that can be copied as they are, into an object that needs no arguments.
+template <class Type>
+inline constexpr bool is_value = std::is_trivially_copyable_v<Type> &&std::is_default_constructible_v<Type> && words_of<Type> <= 8;
+
+// The bytes of such a type as the words of a value, and back. Bytes behind the type are 0.
 template <class Type> std::array<uint64_t, words_of<Type>> to_words(const Type &value) noexcept {
-    static_assert(std::is_trivially_copyable_v<Type> && words_of<Type> <= 8, "a value is up to 64 bytes, which can be copied as they are");
+    static_assert(is_value<Type>, "a value is trivially copyable, default-constructible, and of up to 64 bytes");
     std::array<uint64_t, words_of<Type>> words{};
     std::memcpy(words.data(), &value, sizeof value);
     return words;
 }
 template <class Type> Type from_words(const std::array<uint64_t, words_of<Type>> &words) noexcept {
-    static_assert(std::is_trivially_copyable_v<Type> && words_of<Type> <= 8, "a value is up to 64 bytes, which can be copied as they are");
+    static_assert(is_value<Type>, "a value is trivially copyable, default-constructible, and of up to 64 bytes");
     Type value;
     std::memcpy(&value, words.data(), sizeof value);
     return value;
@@ -68,7 +73,8 @@ template <size_t Words> struct Answer {
     uint64_t since;
 };
 
-// The answer of a write. `evicted` is there if another key was evicted.
+// The answer of a write. `evicted` is there if another key was evicted. After a put, `at` is the key's token for the next `put_if`. `since` is
+// set by the statuses `changed` and `present`.
 struct Written {
     Status status;
     std::optional<uint64_t> evicted;
@@ -77,10 +83,17 @@ struct Written {
     bool renewed;
 };
 
-// A handle: it moves, and closes itself.
+// What a Writer, a Reader and a Pass have in common: a handle that moves, and closes itself.
 class Handle {
   public:
-    Handle() = default;
+    bool is_open() const noexcept { return raw_.live_; }
+    // Closes the handle now. Closing the last handle frees the cache. Until then, the others go on.
+    Status close() noexcept { return static_cast<Status>(cefrodil_close(&raw_)); }
+    // The handle for calls of cefrodil.h.
+    cefrodil_handle *raw() noexcept { return &raw_; }
+
+  protected:
+    Handle() noexcept {}
     Handle(Handle &&other) noexcept : raw_(std::exchange(other.raw_, cefrodil_handle{})) {}
     Handle &operator=(Handle &&other) noexcept {
         if (this != &other) {
@@ -92,9 +105,6 @@ class Handle {
     Handle(const Handle &) = delete;
     Handle &operator=(const Handle &) = delete;
     ~Handle() { cefrodil_close(&raw_); }
-
-    bool is_open() const noexcept { return raw_.live_; }
-    cefrodil_handle *raw() noexcept { return &raw_; }
 
   private:
     cefrodil_handle raw_ = CEFRODIL_EMPTY;
@@ -130,16 +140,18 @@ template <size_t Words> Status entries(cefrodil_handle *raw, std::vector<uint64_
     return static_cast<Status>(status);
 }
 
-// Opens `count` handles by a call of C, which takes an array of them. Then each gets its place in `handles`.
+// Opens `count` handles by a call of C, which takes an array of them. If it succeeds, they take the place of `handles`. All memory is taken
+// before the call.
 template <class Kind, class Open> Status open_all(std::vector<Kind> &handles, size_t count, Open open) {
-    std::vector<cefrodil_handle> raw(count != 0 && count <= 1024 ? count : 1);
-    const auto status = static_cast<Status>(open(raw.data(), count <= 1024 ? count : 0));
-    handles.clear();
+    count = count <= 1024 ? count : 0;
+    std::vector<cefrodil_handle> raw(count != 0 ? count : 1);
+    std::vector<Kind> opened(count);
+    const auto status = static_cast<Status>(open(raw.data(), count));
     if (status == Status::ok) {
-        handles.resize(count);
         for (size_t i = 0; i < count; i++) {
-            *handles[i].raw() = raw[i];
+            *opened[i].raw() = raw[i];
         }
+        handles = std::move(opened);
     }
     return status;
 }
@@ -152,6 +164,7 @@ template <size_t Words> class Writer : public Handle {
 
   public:
     using Value = std::array<uint64_t, Words>;
+    Writer() noexcept {}
 
     Written put(uint64_t key, const Value &value) {
         cefrodil_reply reply;
@@ -193,6 +206,7 @@ template <size_t Words> class Reader : public Handle {
 
   public:
     using Value = std::array<uint64_t, Words>;
+    Reader() noexcept {}
 
     [[nodiscard]] Answer<Words> get(uint64_t key) {
         cefrodil_reply reply;
@@ -216,6 +230,7 @@ template <size_t Words> class Reader : public Handle {
 template <size_t Words> class Pass : public Reader<Words> {
   public:
     using Value = std::array<uint64_t, Words>;
+    Pass() noexcept {}
 
     [[nodiscard]] Answer<Words> get_or_desk(uint64_t key) {
         cefrodil_reply reply;
@@ -270,14 +285,36 @@ template <size_t Words> class Pass : public Reader<Words> {
     return shape;
 }
 
-// Opens a cache: its writer, and so many readers. The writer must not be open.
+// Opens a cache: its writer, and so many readers. Unless ok, `writer` and `readers` are unchanged. in_use: the writer is open.
 template <size_t Words> Status open(const cefrodil_shape &shape, size_t count, Writer<Words> &writer, std::vector<Reader<Words>> &readers) {
     return inside::open_all(readers, count, [&](cefrodil_handle *raw, size_t many) {
         return cefrodil_open(&shape, Words, writer.raw(), raw, many);
     });
 }
 
-// Opens a cache for threads that write by turns: so many passes.
+// The same with entries, each its key and then its value, as Writer::entries lists them. `statuses` says what became of each.
+template <size_t Words>
+Status open_with(const cefrodil_shape &shape, size_t count, const std::vector<uint64_t> &entries, Writer<Words> &writer,
+                 std::vector<Reader<Words>> &readers, std::vector<Status> &statuses) {
+    // C takes no null pointer, even for no entries.
+    const uint64_t no_entry = 0;
+    const size_t many = entries.size() / (1 + Words);
+    std::vector<uint32_t> raw_statuses(many + 1);
+    std::vector<Status> told(many, Status::ok);
+    const Status status = inside::open_all(readers, count, [&](cefrodil_handle *raw, size_t readers_asked) {
+        return cefrodil_open_with(&shape, Words, entries.empty() ? &no_entry : entries.data(), entries.size(), raw_statuses.data(), many,
+                                  writer.raw(), raw, readers_asked);
+    });
+    if (status == Status::ok) {
+        for (size_t i = 0; i < many; i++) {
+            told[i] = static_cast<Status>(raw_statuses[i]);
+        }
+        statuses = std::move(told);
+    }
+    return status;
+}
+
+// Opens a cache for threads that write by turns: so many passes. Unless ok, `passes` is unchanged.
 template <size_t Words> Status open_desk(const cefrodil_shape &shape, size_t count, std::vector<Pass<Words>> &passes) {
     return inside::open_all(passes, count, [&](cefrodil_handle *raw, size_t many) {
         return cefrodil_open_desk(&shape, Words, raw, many);

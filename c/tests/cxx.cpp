@@ -14,6 +14,9 @@ using cefrodil::Writer;
 static_assert(!std::is_copy_constructible_v<Writer<2>> && std::is_nothrow_move_constructible_v<Writer<2>>);
 static_assert(!std::is_copy_assignable_v<Pass<2>> && std::is_nothrow_move_assignable_v<Pass<2>>);
 static_assert(!std::is_convertible_v<Status, bool>);
+// A handle is of one kind and one width.
+static_assert(!std::is_constructible_v<Writer<1>, Reader<1>> && !std::is_constructible_v<Writer<4>, Writer<1>>);
+static_assert(!std::is_constructible_v<Reader<1>, cefrodil::Handle> && !std::is_default_constructible_v<cefrodil::Handle>);
 
 static void apart(const cefrodil_shape &shape) {
     Writer<2> writer;
@@ -41,8 +44,25 @@ static void apart(const cefrodil_shape &shape) {
     MUST(writer.entries(list) == Status::closed && list.empty());
     MUST(moved.remove(1).status == Status::ok && readers[1].get(1).at == 3);
     MUST(moved.entries(list) == Status::ok && list.empty());
-    moved = Writer<2>();
-    MUST(!moved.is_open() && readers[1].get(1).status == Status::absent);
+    MUST(cefrodil::open(shape, 1, moved, readers) == Status::in_use && readers.size() == 2 && readers[1].is_open());
+    MUST(moved.close() == Status::ok && !moved.is_open() && moved.close() == Status::closed);
+    MUST(readers[1].get(1).status == Status::absent);
+    moved = {};
+}
+
+// The entries of one cache open another.
+static void opened_with(const cefrodil_shape &shape) {
+    Writer<1> writer, other;
+    std::vector<Reader<1>> readers;
+    std::vector<Status> statuses;
+    std::vector<uint64_t> list{1, 10, 2, 20};
+    MUST(cefrodil::open_with(shape, 1, list, writer, readers, statuses) == Status::ok && readers.size() == 1);
+    MUST(statuses.size() == 2 && statuses[0] == Status::ok && statuses[1] == Status::ok && (*readers[0].get(2).value)[0] == 20);
+    MUST(writer.entries(list) == Status::ok && list.size() == 4);
+    list.push_back(3);
+    MUST(cefrodil::open_with(shape, 1, list, other, readers, statuses) == Status::bad_count && !other.is_open());
+    MUST(statuses.size() == 2 && readers.size() == 1 && readers[0].is_open());
+    MUST(cefrodil::open_with(shape, 2, {}, other, readers, statuses) == Status::ok && statuses.empty() && readers.size() == 2);
 }
 
 // A type of the program goes in and comes out.
@@ -91,6 +111,7 @@ int main() {
     const std::optional<cefrodil_shape> shape = cefrodil::shape_for_items(100), part = cefrodil::shape_for_shards(100, 4);
     MUST(shape && part && !cefrodil::shape_for_items(0) && !cefrodil::shape_for_shards(100, 3));
     apart(*shape);
+    opened_with(*shape);
     typed(*shape);
     std::vector<Pass<1>> passes;
     MUST(cefrodil::open_desk(*shape, 3, passes) == Status::ok);

@@ -7,7 +7,7 @@ use crate::shape::Shape;
 use crate::width::Value;
 use std::fmt::{self, Debug, Formatter};
 
-/// Opens caches whose values have this many words, 1 to 8. This type has no values. [`Cache::open`] returns a writer and readers;
+/// Opens caches whose values have this many words, 1 to 8. It is only a name: [`Cache::open`] returns a writer and readers;
 /// dropping the last of them frees the cache.
 #[derive(Debug)]
 pub struct Cache<const WORDS: usize>(());
@@ -133,7 +133,7 @@ impl<const WORDS: usize> Debug for Reader<WORDS> {
 }
 
 impl<const WORDS: usize> Writer<WORDS> {
-    /// Puts the key with this value. May evict another key.
+    /// Puts the key with this value. A new key evicts another one if the cache is full: its `len` is its `capacity`.
     ///
     /// # Errors
     ///

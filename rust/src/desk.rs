@@ -10,7 +10,7 @@ use std::sync::{Mutex, PoisonError};
 /// A cache for threads that write by turns: a try-lock around its writer. Threads share the desk, and each takes a [`Pass`].
 ///
 /// ```
-/// use cefrodil::{Desk, Shape};
+/// use cefrodil::{Desk, Shape, TurnError};
 ///
 /// let desk = Desk::<1>::open(&Shape::for_items(100)?, 2)?;
 /// std::thread::scope(|threads| {
@@ -18,7 +18,7 @@ use std::sync::{Mutex, PoisonError};
 ///         let desk = &desk;
 ///         threads.spawn(move || {
 ///             let mut pass = desk.pass().expect("there are two passes");
-///             while pass.try_put(key, &[key]).is_err() {
+///             while let Err(TurnError::Held) = pass.try_put(key, &[key]) {
 ///                 std::thread::yield_now();
 ///             }
 ///         });
@@ -31,8 +31,8 @@ pub struct Desk<const WORDS: usize> {
 }
 
 /// A thread's access to a [`Desk`] or to [`Shards`](crate::Shards): it looks up like a reader, and tries for the turn to write. It may
-/// move to another thread, but two threads can't share it. Dropping it returns it to its desk. A pass of shards, or of
-/// [`Desk::into_passes`], is closed.
+/// move to another thread, but two threads can't share it. Dropping it returns it to its desk; a pass of shards, or of
+/// [`Desk::into_passes`], is closed when it is dropped.
 #[must_use = "a pass that is dropped goes back to its desk, or is closed"]
 pub struct Pass<'a, const WORDS: usize> {
     desk: Option<&'a Desk<WORDS>>,
@@ -70,13 +70,19 @@ impl<const WORDS: usize> Desk<WORDS> {
     /// is closed; dropping the last one frees the cache.
     ///
     /// ```
-    /// use cefrodil::{Desk, Shape};
+    /// use cefrodil::{Desk, Shape, TurnError};
     ///
     /// let passes = Desk::<1>::open(&Shape::for_items(100)?, 2)?.into_passes();
     /// let threads: Vec<_> = passes
     ///     .into_iter()
     ///     .zip(0..)
-    ///     .map(|(mut pass, key)| std::thread::spawn(move || while pass.try_put(key, &[key]).is_err() {}))
+    ///     .map(|(mut pass, key)| {
+    ///         std::thread::spawn(move || {
+    ///             while let Err(TurnError::Held) = pass.try_put(key, &[key]) {
+    ///                 std::thread::yield_now();
+    ///             }
+    ///         })
+    ///     })
     ///     .collect();
     /// for thread in threads {
     ///     thread.join().expect("it ends");

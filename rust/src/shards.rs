@@ -5,8 +5,8 @@ use crate::handle::Handle;
 use crate::shape::Shape;
 use crate::width::Value;
 
-/// Opens caches of shards, whose values have this many words, 1 to 8. This type has no values. [`Shards::open`] returns passes;
-/// dropping the last of them frees the cache.
+/// Opens caches of shards, whose values have this many words, 1 to 8. It is only a name: [`Shards::open`]
+/// returns passes, and dropping the last of them frees the cache.
 ///
 /// Each shard is a table with a turn of its own. The hash of a key says which shard holds it, so threads that write different
 /// keys rarely want the same turn. Moments and `since` count the changes of the key's shard: never compare those of two keys.
@@ -16,7 +16,8 @@ pub struct Shards<const WORDS: usize>(());
 
 impl<const WORDS: usize> Shards<WORDS> {
     /// Opens that many empty shards, a power of two from 1 to 256, each of this shape, with this many passes, 1 to 1024.
-    /// [`Shape::for_shards`] chooses the shape. This takes all memory; no later call takes any.
+    /// [`Shape::for_shards`] chooses the shape. This takes all memory; of later
+    /// calls, only [`Pass::try_entries`] takes any.
     ///
     /// # Errors
     ///
@@ -25,14 +26,20 @@ impl<const WORDS: usize> Shards<WORDS> {
     /// # Examples
     ///
     /// ```
-    /// use cefrodil::{Reply, Shape, Shards};
+    /// use cefrodil::{Reply, Shape, Shards, TurnError};
     ///
     /// let mut passes = Shards::<1>::open(&Shape::for_shards(10_000, 16)?, 16, 3)?;
     /// let mut mine = passes.pop().expect("there are three");
     /// let threads: Vec<_> = passes
     ///     .into_iter()
     ///     .zip(0..)
-    ///     .map(|(mut pass, key)| std::thread::spawn(move || while pass.put_within(100, key, &[key]).is_err() {}))
+    ///     .map(|(mut pass, key)| {
+    ///         std::thread::spawn(move || {
+    ///             while let Err(TurnError::Held) = pass.put_within(100, key, &[key]) {
+    ///                 std::thread::yield_now();
+    ///             }
+    ///         })
+    ///     })
     ///     .collect();
     /// for thread in threads {
     ///     thread.join().expect("it ends");
