@@ -1,5 +1,5 @@
 -- When a call may fail, from what its answer means.
-use Rattle.std.proofs.Common.{ℕ, ◌≡◌, ◌+◌, ◌*◌, ◌<◌, ◌≤◌, ◌∙◌, ◌++◌, length, List, Result, Ok, Err, ap, arith, subst, sym}
+use Rattle.std.proofs.Common.{ℕ, ◌≡◌, ◌+◌, ◌*◌, ◌<◌, ◌∙◌, List, Result, Ok, Err, ap, arith, subst, sym}
 use Rattle.mc_words.specs.Answers.{Quiet}
 use Rattle.mc_words.specs.History.{key_count, map_value}
 use Rattle.mc_words.specs.declared.history.Change.{Change}
@@ -22,7 +22,7 @@ use Rattle.mc_plan.specs.declared.answer.PutError.{PutError}
 use Rattle.mc_plan.specs.declared.answer.PutError.TheVariants.{NoPath, AllRecent, Spent}
 use Rattle.mc_plan.specs.declared.answer.Remove.{Remove}
 use Rattle.mc_plan.specs.declared.answer.Spent.{Spent as RemoveSpent}
-use Rattle.mc_shared.specs.Records.{Opening, ReaderRecord, WriterRecord, reader_record}
+use Rattle.mc_shared.specs.Records.{Opening, ReaderRecord, WriterRecord}
 use Rattle.mc_writer.specs.WriterCalls.{HasCalled, HasPutIfAbsent}
 use Rattle.mc_cache.specs.Failing.{IsSpent, PutFails, PutIfAbsentFails, PutIfFails, RemovalFails, TurnFails, version_changes, versions_seen}
 use Rattle.mc_cache.specs.Inside.Turned.{HasEnded, turned}

@@ -27,7 +27,8 @@ mod sizing;
 
 pub use closing::StillOpen;
 pub use mc_cache::{
-    AbsentError, DeskError, IfError, Mix, NoMemory, OpenError, Put, PutError, Remove, Reply, Shape, Spent,
+    AbsentError, DeskError, IfError, Mix, NoMemory, OpenError, Put, PutError, Remove, Reply, Shape,
+    Spent,
 };
 pub use opening::{OpenShardsError, open_shards};
 pub use pass::Pass;

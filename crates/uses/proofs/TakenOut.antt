@@ -1,5 +1,5 @@
 -- Of two puts of one key that must be absent, the later one found it taken out.
-use Rattle.std.proofs.Common.{ℕ, ◌≡◌, ◌≢◌, ◌∙◌, ◌⊎◌, List, [], ◌∷◌, ◌++◌, Some, None, IsSome, Result, Ok, Err, ap, append-nil, append_assoc, arith, inl, inr, refl, subst, sym}
+use Rattle.std.proofs.Common.{ℕ, ◌≡◌, ◌∙◌, ◌⊎◌, List, [], ◌∷◌, ◌++◌, Some, None, IsSome, Result, Ok, Err, ap, append-nil, append_assoc, arith, inl, inr, refl, subst, sym}
 use Rattle.std.proofs.lemmas.Bool.{false≢true}
 use Rattle.std.proofs.lemmas.Bool.Decides.{eqb_tells}
 use Rattle.std.proofs.lemmas.List.{append_cancel_left}

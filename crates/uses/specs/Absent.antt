@@ -1,5 +1,5 @@
 -- Two puts of a key that must be absent.
-use Rattle.std.specs.Prelude.{ℕ, ◌≡◌, List, None, IsSome, Result, Ok, Err}
+use Rattle.std.specs.Prelude.{ℕ, ◌≡◌, List, None, IsSome, Result, Ok}
 use Rattle.mc_cache.specs.AbsentError.{AbsentError}
 use Rattle.mc_cache.specs.Change.{Change}
 use Rattle.mc_cache.specs.Plain.{Begins, map_value}

@@ -1,4 +1,4 @@
-use Rattle.std.proofs.Common.{◌≡◌, List, [], ◌∷◌, length, ap, inl, inr, subst, sym, ◌∙◌}
+use Rattle.std.proofs.Common.{◌≡◌, List, [], ◌∷◌, length, ap, inl, inr, subst}
 use Rattle.mc_cache.specs.Change.{Change}
 use Rattle.mc_cache.specs.Plain.{Begins, IsBetween, IsTrueAnswer, history, seen}
 use Rattle.uses.proofs.beside.get_between_meetings.Goals as goal

@@ -1,7 +1,6 @@
-use Rattle.std.proofs.Common.{◌∙◌, ap, subst, sym}
+use Rattle.std.proofs.Common.{subst, sym}
 use Rattle.mc_shared.specs.Records.{WriterRecord}
 use Rattle.mc_writer.specs.WriterCalls.{HasPutIfAbsent}
-use Rattle.mc_writer.proofs.AbsentCalls.{same_opening}
 use Rattle.mc_cache.proofs.FailedCalls.{put_if_absent_fails}
 use Rattle.mc_cache.proofs.PlainCalls.{put_if_absent_means}
 use Rattle.mc_cache.proofs.writer.Writer.put_if_absent.Goals as goal

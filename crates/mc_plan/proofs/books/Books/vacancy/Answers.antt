@@ -7,7 +7,6 @@ use Rattle.mc_words.specs.Places.{item, payload, slot_number}
 use Rattle.mc_words.specs.Standing.{Stands, IsAbsent}
 use Rattle.mc_theory.specs.States.{State}
 use Rattle.mc_plan.specs.WholeCalls.{PutCall, quiet_of}
-use Rattle.mc_plan.specs.Books.{AreBooksOf}
 use Rattle.mc_plan.specs.declared.answer.Answer.TheVariants as answer
 use Rattle.mc_plan.specs.declared.answer.PutError.TheVariants as why
 use Rattle.mc_plan.proofs.Calls.AfterPlan.{idle_planned, placed_in, moment_in}
