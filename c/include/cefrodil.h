@@ -1,12 +1,12 @@
 /*
  * Cefrodil: a fixed-size in-memory cache from 64-bit keys to values of 1 to 8 64-bit words. One writer changes it. Many
- * readers look up without a lock. The library behind these calls is proved; docs/PROMISES.md says exactly what. It runs
- * on Linux on x86-64-v2.
+ * readers look up without a lock. The library behind these calls is proved; docs/PROMISES.md of its repository says
+ * exactly what. It runs on Linux on x86-64-v2.
  *
  * What you promise at every call, because no proof can check it:
  *
  *   1. A handle is memory of yours. You zeroed it once (CEFRODIL_EMPTY), and since then only this library wrote it. To
- *      move a handle, copy it and zero the old place. Never use a copy beside the original.
+ *      move a handle, use cefrodil_take, or copy it and zero the old place. Never use a copy beside the original.
  *   2. One call at a time uses a handle. It passes from one thread to another by a lock, by a thread's start or join, or
  *      by an atomic that one thread stores with release order and the other loads with acquire order. Each of these
  *      puts the earlier calls before the later ones. Calls with different handles of one cache need no synchronization.
@@ -54,7 +54,7 @@ typedef struct cefrodil_handle {
     bool live_;
 } cefrodil_handle;
 
-/* An empty handle. Every handle must have this value before it is opened. */
+/* The value of an empty handle, with which it is declared. Every handle must have this value before it is opened. */
 #define CEFRODIL_EMPTY {0, false}
 
 /* The sizes of a table and the limits of its calls. cefrodil_shape_for_items fills one in. */
@@ -73,7 +73,8 @@ enum { CEFRODIL_MIX_FULL = 0, CEFRODIL_MIX_NONE = 1 };
 
 /* The numbers of an answer. Every call sets every field; a field that does not apply to the status is 0. */
 typedef struct cefrodil_reply {
-    uint64_t at;      /* number of changes to the table when the answer was true; for a write, its own included */
+    uint64_t at;      /* number of changes to the table when the answer was true; for a write, its own included, and an eviction
+                       * before a put is a change of its own */
     uint64_t since;   /* the `at` of the key's last put */
     uint64_t evicted; /* the key that was evicted for the new one */
     uint32_t moves;   /* how many keys were moved for the new one */
@@ -246,9 +247,45 @@ CEFRODIL_CHECKED cefrodil_status cefrodil_entries(cefrodil_handle *handle, uint6
  * OK, or CLOSED if it was not open, or null. The handle is closed afterwards. */
 cefrodil_status cefrodil_close(cefrodil_handle *handle);
 
+/* A compiler that sees a null pointer in a call warns of it. */
+#if defined(__GNUC__)
+#define CEFRODIL_NO_NULL(call) extern __typeof__(call) call __attribute__((nonnull))
+CEFRODIL_NO_NULL(cefrodil_shape_for_items);
+CEFRODIL_NO_NULL(cefrodil_open);
+CEFRODIL_NO_NULL(cefrodil_open_with);
+CEFRODIL_NO_NULL(cefrodil_open_desk);
+CEFRODIL_NO_NULL(cefrodil_shape_for_shards);
+CEFRODIL_NO_NULL(cefrodil_open_shards);
+CEFRODIL_NO_NULL(cefrodil_get);
+CEFRODIL_NO_NULL(cefrodil_get_many);
+CEFRODIL_NO_NULL(cefrodil_get_or_desk);
+CEFRODIL_NO_NULL(cefrodil_moment);
+CEFRODIL_NO_NULL(cefrodil_len);
+CEFRODIL_NO_NULL(cefrodil_capacity);
+CEFRODIL_NO_NULL(cefrodil_entries);
+CEFRODIL_NO_NULL(cefrodil_put);
+CEFRODIL_NO_NULL(cefrodil_put_if);
+CEFRODIL_NO_NULL(cefrodil_put_if_absent);
+CEFRODIL_NO_NULL(cefrodil_remove);
+CEFRODIL_NO_NULL(cefrodil_try_put);
+CEFRODIL_NO_NULL(cefrodil_put_within);
+CEFRODIL_NO_NULL(cefrodil_try_put_if);
+CEFRODIL_NO_NULL(cefrodil_try_put_if_absent);
+CEFRODIL_NO_NULL(cefrodil_try_remove);
+CEFRODIL_NO_NULL(cefrodil_close);
+#undef CEFRODIL_NO_NULL
+#endif
+
 #ifdef __cplusplus
 }
 #endif
+
+/* Moves a handle: returns it, and leaves the old place empty. */
+static inline cefrodil_handle cefrodil_take(cefrodil_handle *from) {
+    const cefrodil_handle empty = CEFRODIL_EMPTY, taken = *from;
+    *from = empty;
+    return taken;
+}
 
 /* The exports take no null pointer. From here on these two names mean what takes one. */
 CEFRODIL_CHECKED static inline cefrodil_status cefrodil_get_unless_null(cefrodil_handle *reader, uint64_t key, uint64_t *value,

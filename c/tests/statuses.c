@@ -200,9 +200,13 @@ static void turns(void) {
     MUST(cefrodil_close(&passes[1]) == CEFRODIL_OK);
 }
 
-/* The writer goes first: its readers can still look up. */
+/* The writer goes first: its readers can still look up. A handle that was moved is the same one. */
 static void last_close(void) {
     uint64_t found[2];
+    cefrodil_handle moved = cefrodil_take(&readers[1]);
+    MUST(moved.live_ && !readers[1].live_ && cefrodil_get(&moved, 500, found, 2, &reply) == CEFRODIL_ABSENT);
+    MUST(cefrodil_get(&readers[1], 500, found, 2, &reply) == CEFRODIL_CLOSED);
+    readers[1] = cefrodil_take(&moved);
     MUST(cefrodil_close(&writer) == CEFRODIL_OK && cefrodil_close(&writer) == CEFRODIL_CLOSED);
     MUST(cefrodil_get(&readers[0], 500, found, 2, &reply) == CEFRODIL_ABSENT);
     MUST(cefrodil_close(&readers[0]) == CEFRODIL_OK && cefrodil_close(&readers[1]) == CEFRODIL_OK);
