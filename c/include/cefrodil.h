@@ -11,7 +11,8 @@
  *      by an atomic that one thread stores with release order and the other loads with acquire order. Each of these
  *      puts the earlier calls before the later ones. Calls with different handles of one cache need no synchronization.
  *   3. Pointers are to memory of yours, aligned for their types and valid for the whole call. None of it overlaps. They
- *      are never null, even if a count is 0; only cefrodil_close takes a null handle, and cefrodil_get a null reply.
+ *      are never null, but for a handle of cefrodil_close, a reply of cefrodil_get, and an array of cefrodil_open_with,
+ *      cefrodil_get_many or cefrodil_entries whose count is 0.
  *      `value` has `words` words; an array has as many elements as its count says.
  *   4. No call comes from a signal handler, nor from the forked child of a process with threads. Every call returns: no
  *      longjmp, exception or asynchronous cancellation leaves it. A handle is used in the process that opened it.
@@ -287,7 +288,7 @@ static inline cefrodil_handle cefrodil_take(cefrodil_handle *from) {
     return taken;
 }
 
-/* The exports take no null pointer. From here on these two names mean what takes one. */
+/* The exports take no null pointer. From here on these names mean what takes one where that is allowed. */
 CEFRODIL_CHECKED static inline cefrodil_status cefrodil_get_unless_null(cefrodil_handle *reader, uint64_t key, uint64_t *value,
                                                                         size_t words, cefrodil_reply *reply) {
     cefrodil_reply unread;
@@ -298,10 +299,38 @@ static inline cefrodil_status cefrodil_close_unless_null(cefrodil_handle *handle
     return handle != NULL ? cefrodil_close(handle) : CEFRODIL_CLOSED;
 }
 
+CEFRODIL_CHECKED static inline cefrodil_status cefrodil_open_with_or_none(const cefrodil_shape *shape, size_t words, const uint64_t *entries,
+                                                                          size_t entry_words, uint32_t *statuses, size_t status_count,
+                                                                          cefrodil_handle *writer, cefrodil_handle *readers,
+                                                                          size_t reader_count) {
+    uint64_t no_entry = 0;
+    uint32_t no_status = 0;
+    return cefrodil_open_with(shape, words, entry_words != 0 ? entries : &no_entry, entry_words, status_count != 0 ? statuses : &no_status,
+                              status_count, writer, readers, reader_count);
+}
+
+CEFRODIL_CHECKED static inline cefrodil_status cefrodil_get_many_or_none(cefrodil_handle *reader, const uint64_t *keys, size_t key_count,
+                                                                         uint64_t *values, size_t value_words, cefrodil_answer *answers,
+                                                                         size_t answer_count) {
+    uint64_t no_key = 0, no_value = 0;
+    cefrodil_answer no_answer;
+    return cefrodil_get_many(reader, key_count != 0 ? keys : &no_key, key_count, value_words != 0 ? values : &no_value, value_words,
+                             answer_count != 0 ? answers : &no_answer, answer_count);
+}
+
+CEFRODIL_CHECKED static inline cefrodil_status cefrodil_entries_or_none(cefrodil_handle *handle, uint64_t *entries, size_t entry_words,
+                                                                        uint64_t *count) {
+    uint64_t no_entry = 0;
+    return cefrodil_entries(handle, entry_words != 0 ? entries : &no_entry, entry_words, count);
+}
+
 #define cefrodil_get cefrodil_get_unless_null
 #define cefrodil_close cefrodil_close_unless_null
+#define cefrodil_open_with cefrodil_open_with_or_none
+#define cefrodil_get_many cefrodil_get_many_or_none
+#define cefrodil_entries cefrodil_entries_or_none
 
-/* The text of a status. */
+/* The text of a status. Both libraries have it as a call of this name, too. */
 static inline const char *cefrodil_text(uint32_t status) {
     switch (status) {
     case CEFRODIL_OK: return "ok";

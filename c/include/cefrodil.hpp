@@ -133,7 +133,7 @@ template <size_t Words> Status entries(cefrodil_handle *raw, std::vector<uint64_
     uint64_t count = 0;
     cefrodil_status status;
     do {
-        words.resize(count * (1 + Words) + 1);
+        words.resize(count * (1 + Words));
         status = cefrodil_entries(raw, words.data(), words.size(), &count);
     } while (status == CEFRODIL_BAD_COUNT);
     words.resize(status == CEFRODIL_OK ? count * (1 + Words) : 0);
@@ -217,12 +217,7 @@ template <size_t Words> class Reader : public Handle {
     // Equivalent to get for each key in order. Each of the `count` values is written only if its answer's status is CEFRODIL_OK.
     Status get_many(const uint64_t *keys, size_t count, Value *values, cefrodil_answer *answers) {
         static_assert(sizeof(Value) == Words * sizeof(uint64_t), "values lie one after the other");
-        // C takes no null pointer, even for no keys.
-        uint64_t no_key = 0, no_word = 0;
-        cefrodil_answer no_answer;
-        const bool some = count != 0;
-        return static_cast<Status>(cefrodil_get_many(raw(), some ? keys : &no_key, count, some ? values->data() : &no_word, Words * count,
-                                                     some ? answers : &no_answer, count));
+        return static_cast<Status>(cefrodil_get_many(raw(), keys, count, count != 0 ? values->data() : nullptr, Words * count, answers, count));
     }
 };
 
@@ -296,14 +291,11 @@ template <size_t Words> Status open(const cefrodil_shape &shape, size_t count, W
 template <size_t Words>
 Status open_with(const cefrodil_shape &shape, size_t count, const std::vector<uint64_t> &entries, Writer<Words> &writer,
                  std::vector<Reader<Words>> &readers, std::vector<Status> &statuses) {
-    // C takes no null pointer, even for no entries.
-    const uint64_t no_entry = 0;
     const size_t many = entries.size() / (1 + Words);
-    std::vector<uint32_t> raw_statuses(many + 1);
+    std::vector<uint32_t> raw_statuses(many);
     std::vector<Status> told(many, Status::ok);
     const Status status = inside::open_all(readers, count, [&](cefrodil_handle *raw, size_t readers_asked) {
-        return cefrodil_open_with(&shape, Words, entries.empty() ? &no_entry : entries.data(), entries.size(), raw_statuses.data(), many,
-                                  writer.raw(), raw, readers_asked);
+        return cefrodil_open_with(&shape, Words, entries.data(), entries.size(), raw_statuses.data(), many, writer.raw(), raw, readers_asked);
     });
     if (status == Status::ok) {
         for (size_t i = 0; i < many; i++) {

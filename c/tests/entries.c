@@ -142,6 +142,10 @@ static void listed_widths(void) {
         MUST(cefrodil_open(&shape, words, &writer, readers, 1) == CEFRODIL_OK);
         MUST(cefrodil_entries(&writer, list, 0, &count) == CEFRODIL_OK && count == 0);
         close_all();
+        MUST(cefrodil_open_with(&shape, words, NULL, 0, NULL, 0, &writer, readers, 1) == CEFRODIL_OK);
+        count = 98;
+        MUST(cefrodil_entries(&writer, NULL, 0, &count) == CEFRODIL_OK && count == 0);
+        close_all();
     }
 }
 

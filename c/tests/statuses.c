@@ -123,6 +123,7 @@ static void many(cefrodil_handle *reader) {
     MUST(cefrodil_get_many(reader, keys, 0, values, 1, answers, 0) == CEFRODIL_WIDTH);
     MUST(values[2] == 3 && values[7] == 0 && answers[0].status == 99 && answers[3].status == 99);
     MUST(cefrodil_get_many(reader, keys, 0, values, 0, answers, 0) == CEFRODIL_OK && answers[0].status == 99);
+    MUST(cefrodil_get_many(reader, NULL, 0, NULL, 0, NULL, 0) == CEFRODIL_OK);
     MUST(cefrodil_get_many(reader, keys, 4, values, 8, answers, 4) == CEFRODIL_OK);
     for (size_t i = 0; i < 8; i++) {
         MUST(values[i] == expected[i]);
