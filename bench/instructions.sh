@@ -28,7 +28,7 @@ count() {
         door) run=("$built/door" "${options[@]}") ;;
         twin) run=("$built/contest" "${options[@]}" twin) ;;
     esac
-    told=$(valgrind --tool=callgrind --callgrind-out-file=/dev/null "${run[@]}" 2> "$folder/errors") || fail "$name: $(tail -n 1 "$folder/errors")"
+    told=$(valgrind --fair-sched=yes --tool=callgrind --callgrind-out-file=/dev/null "${run[@]}" 2> "$folder/errors") || fail "$name: $(tail -n 1 "$folder/errors")"
     echo "$(sed -n 's/.*Collected : \([0-9]*\).*/\1/p' "$folder/errors") $(sed -n "s/.*\"$what\":\([0-9]*\).*/\1/p" <<< "$told")"
 }
 

@@ -49,7 +49,7 @@ template <class Type> inline constexpr size_t words_of = (sizeof(Type) + sizeof(
 
 // Whether a type can be a value: up to 64 bytes that can be copied as they are, into an object that needs no arguments.
 template <class Type>
-inline constexpr bool is_value = std::is_trivially_copyable_v<Type> &&std::is_default_constructible_v<Type> && words_of<Type> <= 8;
+inline constexpr bool is_value = std::is_trivially_copyable_v<Type> && std::is_default_constructible_v<Type> && words_of<Type> <= 8;
 
 // The bytes of such a type as the words of a value, and back. Bytes behind the type are 0.
 template <class Type> std::array<uint64_t, words_of<Type>> to_words(const Type &value) noexcept {
