@@ -7,9 +7,9 @@
  *
  *   1. A handle is memory of yours. You zeroed it once (CEFRODIL_EMPTY), and since then only this library wrote it. To
  *      move a handle, use cefrodil_take, or copy it and zero the old place. Never use a copy beside the original.
- *   2. One call at a time uses a handle. It passes from one thread to another by a lock, by a thread's start or join, or
- *      by an atomic that one thread stores with release order and the other loads with acquire order. Each of these
- *      puts the earlier calls before the later ones. Calls with different handles of one cache need no synchronization.
+ *   2. One call at a time uses a handle. It passes from one thread to another by a lock, or by a thread's start or join.
+ *      Or one thread stores an atomic with release order, and the other loads it with acquire order. Each of these puts
+ *      the earlier calls before the later ones. Calls with different handles of one cache need no synchronization.
  *   3. Pointers are to memory of yours, aligned for their types and valid for the whole call. None of it overlaps. They
  *      are never null, but for a handle of cefrodil_close, a reply of cefrodil_get, and an array of cefrodil_open_with,
  *      cefrodil_get_many or cefrodil_entries whose count is 0.
