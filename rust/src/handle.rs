@@ -202,24 +202,23 @@ impl Handle {
         (status, reply)
     }
     pub fn moment(&mut self) -> (u32, u64) {
-        let mut moment = 0;
-        // SAFETY: as in `get`.
-        let status = unsafe { raw::cefrodil_moment(&mut self.0, &mut moment) };
-        (status, moment)
+        self.number(raw::cefrodil_moment)
     }
 
     pub fn len(&mut self) -> (u32, u64) {
-        let mut len = 0;
-        // SAFETY: as in `get`.
-        let status = unsafe { raw::cefrodil_len(&mut self.0, &mut len) };
-        (status, len)
+        self.number(raw::cefrodil_len)
     }
 
     pub fn capacity(&mut self) -> (u32, u64) {
-        let mut capacity = 0;
+        self.number(raw::cefrodil_capacity)
+    }
+
+    // One of the three calls that write a number.
+    fn number(&mut self, call: unsafe extern "C" fn(*mut RawHandle, *mut u64) -> u32) -> (u32, u64) {
+        let mut number = 0;
         // SAFETY: as in `get`.
-        let status = unsafe { raw::cefrodil_capacity(&mut self.0, &mut capacity) };
-        (status, capacity)
+        let status = unsafe { call(&mut self.0, &mut number) };
+        (status, number)
     }
 
     pub fn entries(&mut self, entries: &mut [u64]) -> (u32, u64) {
