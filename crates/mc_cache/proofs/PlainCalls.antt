@@ -1,5 +1,5 @@
 -- What calls of the cache mean, from what they do to records.
-use Rattle.std.proofs.Common.{ℕ, ◌≡◌, ◌∙◌, List, [], ◌∷◌, ◌++◌, length, Option, Some, None, Result, Ok, Err, All, ap, arith, append-nil, append_assoc, refl, sym, subst}
+use Rattle.std.proofs.Common.{ℕ, ◌≡◌, ◌∙◌, List, [], ◌∷◌, ◌++◌, length, Option, Some, None, Result, Ok, Err, All, IfOk, ap, arith, append-nil, append_assoc, refl, sym, subst}
 use Rattle.std.proofs.lemmas.List.{length_push}
 use Rattle.std.proofs.lemmas.List.Elements.{All-weaker}
 use Rattle.mc_words.proofs.Maps.{held-put, held-remove}
@@ -46,6 +46,9 @@ use Rattle.mc_plan.specs.declared.books.Books.{Books}
 use Rattle.mc_words.specs.Places.{moment}
 use Rattle.mc_theory.specs.declared.act.Act.TheVariants.{Mark}
 use Rattle.mc_shared.specs.declared.layout.Layout.{Layout}
+use Rattle.mc_writer.specs.declared.entry.Entry.{Entry}
+use Rattle.mc_writer.specs.declared.entry.Swapped.{Swapped}
+use Rattle.mc_cache.specs.Taking.{Holds, SwapMeans, giving_way, put_of, swap_answer}
 use Rattle.mc_cache.specs.Plain.{Begins, HasAnswered, HasMet, PutIfAbsentMeans, PutIfMeans, PutMeans, RemovalMeans, TellsNow, history, seen}
 
 -- ---- the states before a call and after it
@@ -158,6 +161,14 @@ module _ (V : ℕ) (o cells : Opening) (self seat : WriterRecord) (table : cells
   put_if_absent_means after k v (Err (absent.Put refused)) h = (held_now k None h.absent, put_means after k v (Err refused) h.called)
   put_if_absent_means after k v (Err (absent.Present since)) h =
       ((h.value, held_now k (Some (h.value ++ since ∷ [])) h.got.replies.0, h.size), history_kept after k (Found h.value h.at since) h.got ∙ sym history_before)
+
+  pub entry_now : (k : ℕ) (entry : Option (Entry V)) → Holds (state_of V cells.layout.shape seat.acts).history k entry → Holds (history V self) k entry
+  entry_now k entry = subst (λ (h : List (Change V)). Holds h k entry) (sym history_before)
+
+  pub swap_means : (after : WriterRecord) (k : ℕ) (v : List ℕ) (told : Result (Swapped V) PutError) → HasCalled V cells.layout.shape (PutCall k v) seat after (swap_answer told)
+      → IfOk told (λ swapped. Holds (state_of V cells.layout.shape seat.acts).history (giving_way k swapped.put) swapped.old) → SwapMeans V (history V self) (history V after) k v told
+  swap_means after k v told h old =
+      (put_means after k v (put_of told) h, subst (λ (x : List (Change V)). IfOk told (λ swapped. Holds x (giving_way k swapped.put) swapped.old)) (sym history_before) old)
 
   pub entries_now : (es : List (ℕ × List ℕ)) → AreEntriesOf V (state_of V cells.layout.shape seat.acts).history es → AreEntriesOf V (history V self) es
   entries_now es e = subst (λ (h : List (Change V)). AreEntriesOf V h es) (sym history_before) e

@@ -17,6 +17,10 @@ use Rattle.mc_plan.specs.declared.answer.Spent.{Spent as RemoveSpent}
 use Rattle.mc_shared.specs.Records.{ReaderRecord, WriterRecord}
 use Rattle.mc_cache.specs.declared.desk.DeskError.{DeskError}
 use Rattle.mc_cache.specs.declared.desk.DeskError.TheVariants as desk
+use Rattle.mc_cache.specs.declared.taking.Replaced.{Replaced}
+use Rattle.mc_cache.specs.declared.taking.Take.{Take}
+use Rattle.mc_cache.specs.Taking.{put_if_of, put_of, removal_of}
+use Rattle.mc_writer.specs.declared.entry.Swapped.{Swapped}
 
 -- how many version changes a writer has made, and how many a reader has seen
 unfoldable pub version_changes : (V : ℕ) → WriterRecord → ℕ
@@ -52,6 +56,16 @@ PutIfFails sh h made told = Unit {0}
 abbrev pub RemovalFails : {V : ℕ} → Shape → List (Change V) → ℕ → Result Remove RemoveSpent → Type 0
 RemovalFails sh h made (Ok told) = Unit {0}
 RemovalFails sh h made (Err spent) = IsSpent sh h made 2
+
+-- a call that also returns what it takes out of the map may fail as the call without that
+abbrev pub SwapFails : {V : ℕ} → Shape → List (Change V) → ℕ → ℕ → Result (Swapped V) PutError → Type 0
+SwapFails sh h made k told = PutFails sh h made k (put_of told)
+
+abbrev pub SwapIfFails : {V : ℕ} → Shape → List (Change V) → ℕ → Result (Replaced V) IfError → Type 0
+SwapIfFails sh h made told = PutIfFails sh h made (put_if_of told)
+
+abbrev pub TakeFails : {V : ℕ} → Shape → List (Change V) → ℕ → Result (Take V) RemoveSpent → Type 0
+TakeFails sh h made told = RemovalFails sh h made (removal_of told)
 
 -- a try for the turn may fail if the try was held, or as its call may fail
 abbrev pub TurnFails : {T E : Type 0} → (Result T E → Type 0) → Result T (DeskError E) → Type 0

@@ -5,6 +5,7 @@ pub mod Orders
 pub mod Plain
 pub mod PlainLaws
 pub mod Resting
+pub mod Taking
 pub mod Turns
 pub mod Inside
 -- what callers name besides

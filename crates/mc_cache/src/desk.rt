@@ -4,13 +4,16 @@ ghost use Rattle.mc_cache.specs.Resting.{IsAtRest};
 
 use crate::cache::Cache;
 use crate::reader::Reader;
+use crate::taking::{Replaced, Take};
 use crate::turn::{
-    get_in_turn, list_in_turn, put_if_absent_in_turn, put_if_in_turn, put_in_turn, remove_in_turn,
+    count_in_turn, get_in_turn, list_in_turn, put_if_absent_in_turn, put_if_in_turn, put_in_turn,
+    remove_in_turn, swap_if_in_turn, swap_in_turn, take_in_turn,
 };
 use crate::writer::Writer;
 use counted_slot::{Counted, Fits};
 use mc_plan::{AbsentError, IfError, Put, PutError, Remove, Spent};
 use mc_words::{NoMemory, Reply};
+use mc_writer::Swapped;
 use std::alloc::{AllocFailed, Global};
 use std::marker::Model;
 use std::snapshot::Snapshot;
@@ -92,9 +95,11 @@ impl<const V: usize> Desk<V> {
 }
 
 impl<const V: usize> Desk<V> {
-    ghost use Rattle.mc_cache.specs.Failing.{PutFails, PutIfAbsentFails, PutIfFails, RemovalFails, TurnFails, versions_seen};
+    ghost use Rattle.mc_cache.specs.Failing.{PutFails, PutIfAbsentFails, PutIfFails, RemovalFails, SwapFails, SwapIfFails, TakeFails, TurnFails, versions_seen};
+    ghost use Rattle.mc_cache.specs.Taking.{SwapIfMeans, SwapMeans, TakeMeans, swap_answer, swap_if_answer, take_answer};
     ghost use Rattle.mc_cache.specs.Plain.{AreEntriesOf, Begins, PutIfAbsentMeans, PutIfMeans, PutMeans, RemovalMeans, TurnMeans, seen};
-    ghost use Rattle.mc_cache.specs.Turns.{HasTried, HasTriedIfAbsent, HasTriedToList};
+    ghost use Rattle.mc_cache.specs.Turns.{HasMetAtDesk, HasTried, HasTriedIfAbsent, HasTriedToList};
+    ghost use Rattle.mc_words.specs.History.{key_count};
     ghost use Rattle.mc_plan.specs.WholeCalls.{PutCall, PutIfCall, RemoveCall};
     ghost use Rattle.mc_plan.specs.declared.answer.Answer.TheVariants as answer;
 
@@ -203,6 +208,75 @@ impl<const V: usize> Desk<V> {
         answer
     }
 
+    /// Like `try_put`, with `Writer::swap`.
+    #[inline(always)]
+    pub fn try_swap(
+        &self,
+        cache: &Cache<V>,
+        pass: &mut Reader<V>,
+        key: u64,
+        value: [u64; V],
+    ) -> Result<Swapped<V>, DeskError<PutError>>
+        requires of { (self.now ≡ cache.now) × (pass.old.of ≡ cache.now) }
+        ensures of { pass.new.of ≡ pass.old.of }
+        ensures turn { HasTried V cache.now.layout.shape (PutCall key value.entry) swap_answer pass.old pass.new result }
+        ensures plain { TurnMeans (λ h h' told. SwapMeans V h h' key value.entry told) (seen V pass.old) (seen V pass.new) result }
+        ensures fails { TurnFails (SwapFails cache.now.layout.shape (seen V pass.new) (versions_seen V pass.new) key) result }
+    {
+        let Some(mut boxed) = self.take() else {
+            return Err(DeskError::Held);
+        };
+        let answer = swap_in_turn(cache, pass, &mut boxed.writer, key, value);
+        self.give(boxed);
+        answer
+    }
+
+    /// Like `try_put`, with `Writer::swap_if`.
+    #[inline(always)]
+    pub fn try_swap_if(
+        &self,
+        cache: &Cache<V>,
+        pass: &mut Reader<V>,
+        key: u64,
+        since: u64,
+        value: [u64; V],
+    ) -> Result<Replaced<V>, DeskError<IfError>>
+        requires of { (self.now ≡ cache.now) × (pass.old.of ≡ cache.now) }
+        ensures of { pass.new.of ≡ pass.old.of }
+        ensures turn { HasTried V cache.now.layout.shape (PutIfCall key since value.entry) swap_if_answer pass.old pass.new result }
+        ensures plain { TurnMeans (λ h h' told. SwapIfMeans V h h' key since value.entry told) (seen V pass.old) (seen V pass.new) result }
+        ensures fails { TurnFails (SwapIfFails cache.now.layout.shape (seen V pass.new) (versions_seen V pass.new)) result }
+    {
+        let Some(mut boxed) = self.take() else {
+            return Err(DeskError::Held);
+        };
+        let answer = swap_if_in_turn(cache, pass, &mut boxed.writer, key, since, value);
+        self.give(boxed);
+        answer
+    }
+
+    /// Like `try_put`, with `Writer::take`.
+    #[inline(always)]
+    pub fn try_take(
+        &self,
+        cache: &Cache<V>,
+        pass: &mut Reader<V>,
+        key: u64,
+    ) -> Result<Take<V>, DeskError<Spent>>
+        requires of { (self.now ≡ cache.now) × (pass.old.of ≡ cache.now) }
+        ensures of { pass.new.of ≡ pass.old.of }
+        ensures turn { HasTried V cache.now.layout.shape (RemoveCall key) take_answer pass.old pass.new result }
+        ensures plain { TurnMeans (λ h h' told. TakeMeans V h h' key told) (seen V pass.old) (seen V pass.new) result }
+        ensures fails { TurnFails (TakeFails cache.now.layout.shape (seen V pass.new) (versions_seen V pass.new)) result }
+    {
+        let Some(mut boxed) = self.take() else {
+            return Err(DeskError::Held);
+        };
+        let answer = take_in_turn(cache, pass, &mut boxed.writer, key);
+        self.give(boxed);
+        answer
+    }
+
     /// Tries once for the turn, and with it lists each key with its value, in the order of their items. The pass has then seen all
     /// changes that led to this list. Condition: desk and pass are of this cache.
     pub fn try_entries(
@@ -223,6 +297,22 @@ impl<const V: usize> Desk<V> {
         let listed = list_in_turn(alloc, cache, pass, &mut boxed.writer);
         self.give(boxed);
         listed
+    }
+
+    /// Tries once for the turn, and with it counts the keys that the cache holds. `None` if the try did not win. The pass has then seen all
+    /// changes that led to this number. Condition: desk and pass are of this cache.
+    pub fn try_len(&self, cache: &Cache<V>, pass: &mut Reader<V>) -> Option<usize>
+        requires of { (self.now ≡ cache.now) × (pass.old.of ≡ cache.now) }
+        ensures of { pass.new.of ≡ pass.old.of }
+        ensures held { IfNone result (pass.new ≡ pass.old) }
+        ensures met { IfSome result (λ _. HasMetAtDesk V pass.old pass.new) }
+        ensures begins { Begins (seen V pass.old) (seen V pass.new) }
+        ensures plain { IfSome result (λ many. many ≡ key_count (seen V pass.new)) }
+    {
+        let mut boxed = self.take()?;
+        let many = count_in_turn(cache, pass, &mut boxed.writer);
+        self.give(boxed);
+        Some(many)
     }
 
     /// Takes the writer off the desk. `None` if a turn's try to give it back did not win.

@@ -29,6 +29,7 @@ mod listing;
 mod loading;
 mod opening;
 mod reader;
+mod taking;
 mod turn;
 mod writer;
 
@@ -39,6 +40,8 @@ pub use loading::{Opened, open_with};
 pub use mc_plan::{AbsentError, IfError, Put, PutError, Remove, Spent, Why};
 pub use mc_reader::GROUP;
 pub use mc_words::{Change, Mix, NoMemory, Reply, Shape, ShapeError};
+pub use mc_writer::{Entry, Swapped};
 pub use opening::{OpenError, open};
 pub use reader::Reader;
+pub use taking::{Replaced, Take};
 pub use writer::Writer;

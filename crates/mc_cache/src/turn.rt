@@ -3,17 +3,21 @@ ghost use Rattle.std.specs.Prelude.{◌≡◌, IfOk};
 ghost use Rattle.mc_plan.specs.WholeCalls.{PutCall, PutIfCall, RemoveCall};
 ghost use Rattle.mc_plan.specs.declared.answer.Answer.TheVariants as answer;
 ghost use Rattle.mc_cache.specs.Inside.Turned.{HasBegunWith, HasEnded, HasLookedInTurn, turned};
-ghost use Rattle.mc_cache.specs.Failing.{PutFails, PutIfAbsentFails, PutIfFails, RemovalFails, TurnFails, versions_seen};
+ghost use Rattle.mc_cache.specs.Failing.{PutFails, PutIfAbsentFails, PutIfFails, RemovalFails, SwapFails, SwapIfFails, TakeFails, TurnFails, versions_seen};
+ghost use Rattle.mc_cache.specs.Taking.{SwapIfMeans, SwapMeans, TakeMeans, swap_answer, swap_if_answer, take_answer};
 ghost use Rattle.mc_cache.specs.Plain.{AreEntriesOf, Begins, HasMet, PutIfAbsentMeans, PutIfMeans, PutMeans, RemovalMeans, TurnMeans, history, seen};
 ghost use Rattle.mc_cache.specs.Resting.{IsAtRest};
-ghost use Rattle.mc_cache.specs.Turns.{HasTried, HasTriedIfAbsent, HasTriedToList};
+ghost use Rattle.mc_cache.specs.Turns.{HasMetAtDesk, HasTried, HasTriedIfAbsent, HasTriedToList};
+ghost use Rattle.mc_words.specs.History.{key_count};
 
 use crate::cache::Cache;
 use crate::desk::DeskError;
 use crate::reader::Reader;
+use crate::taking::{Replaced, Take};
 use crate::writer::Writer;
 use mc_plan::{AbsentError, IfError, Put, PutError, Remove, Spent};
 use mc_words::{NoMemory, Reply};
+use mc_writer::Swapped;
 use std::alloc::Global;
 
 // The pass meets the writer before the call.
@@ -137,6 +141,69 @@ pub(crate) fn remove_in_turn<const V: usize>(
     turned(answer)
 }
 
+/// A turn that puts a key and returns the entry that gives way.
+pub(crate) fn swap_in_turn<const V: usize>(
+    cache: &Cache<V>,
+    pass: &mut Reader<V>,
+    writer: &mut Writer<V>,
+    key: u64,
+    value: [u64; V],
+) -> Result<Swapped<V>, DeskError<PutError>>
+    requires of { (pass.old.of ≡ cache.now) × (writer.old.of ≡ cache.now) }
+    ensures writer { (writer.new.of ≡ writer.old.of) × IsAtRest V writer.new }
+    ensures of { pass.new.of ≡ pass.old.of }
+    ensures turn { HasTried V cache.now.layout.shape (PutCall key value.entry) swap_answer pass.old pass.new result }
+    ensures plain { TurnMeans (λ h h' told. SwapMeans V h h' key value.entry told) (seen V pass.old) (seen V pass.new) result }
+    ensures fails { TurnFails (SwapFails cache.now.layout.shape (seen V pass.new) (versions_seen V pass.new) key) result }
+{
+    begin(cache, pass, writer);
+    let answer = writer.swap(cache, key, value);
+    end(cache, pass, writer);
+    turned(answer)
+}
+
+/// A turn that overwrites on a condition and returns the earlier entry.
+pub(crate) fn swap_if_in_turn<const V: usize>(
+    cache: &Cache<V>,
+    pass: &mut Reader<V>,
+    writer: &mut Writer<V>,
+    key: u64,
+    since: u64,
+    value: [u64; V],
+) -> Result<Replaced<V>, DeskError<IfError>>
+    requires of { (pass.old.of ≡ cache.now) × (writer.old.of ≡ cache.now) }
+    ensures writer { (writer.new.of ≡ writer.old.of) × IsAtRest V writer.new }
+    ensures of { pass.new.of ≡ pass.old.of }
+    ensures turn { HasTried V cache.now.layout.shape (PutIfCall key since value.entry) swap_if_answer pass.old pass.new result }
+    ensures plain { TurnMeans (λ h h' told. SwapIfMeans V h h' key since value.entry told) (seen V pass.old) (seen V pass.new) result }
+    ensures fails { TurnFails (SwapIfFails cache.now.layout.shape (seen V pass.new) (versions_seen V pass.new)) result }
+{
+    begin(cache, pass, writer);
+    let answer = writer.swap_if(cache, key, since, value);
+    end(cache, pass, writer);
+    turned(answer)
+}
+
+/// A turn that removes a key and returns its entry.
+pub(crate) fn take_in_turn<const V: usize>(
+    cache: &Cache<V>,
+    pass: &mut Reader<V>,
+    writer: &mut Writer<V>,
+    key: u64,
+) -> Result<Take<V>, DeskError<Spent>>
+    requires of { (pass.old.of ≡ cache.now) × (writer.old.of ≡ cache.now) }
+    ensures writer { (writer.new.of ≡ writer.old.of) × IsAtRest V writer.new }
+    ensures of { pass.new.of ≡ pass.old.of }
+    ensures turn { HasTried V cache.now.layout.shape (RemoveCall key) take_answer pass.old pass.new result }
+    ensures plain { TurnMeans (λ h h' told. TakeMeans V h h' key told) (seen V pass.old) (seen V pass.new) result }
+    ensures fails { TurnFails (TakeFails cache.now.layout.shape (seen V pass.new) (versions_seen V pass.new)) result }
+{
+    begin(cache, pass, writer);
+    let answer = writer.take(cache, key);
+    end(cache, pass, writer);
+    turned(answer)
+}
+
 /// A turn that looks a key up beside the writer.
 pub(crate) fn get_in_turn<const V: usize>(
     cache: &Cache<V>,
@@ -167,4 +234,20 @@ pub(crate) fn list_in_turn<const V: usize>(
 {
     begin(cache, pass, writer);
     turned(writer.entries(alloc, cache))
+}
+
+/// A turn that counts the keys.
+pub(crate) fn count_in_turn<const V: usize>(
+    cache: &Cache<V>,
+    pass: &mut Reader<V>,
+    writer: &mut Writer<V>,
+) -> usize
+    requires of { (pass.old.of ≡ cache.now) × (writer.old.of ≡ cache.now) }
+    ensures writer { (writer.new ≡ writer.old) × IsAtRest V writer.new }
+    ensures met { HasMetAtDesk V pass.old pass.new }
+    ensures begins { Begins (seen V pass.old) (seen V pass.new) }
+    ensures plain { result ≡ key_count (seen V pass.new) }
+{
+    begin(cache, pass, writer);
+    writer.len()
 }

@@ -24,11 +24,12 @@ mod opening;
 mod pass;
 mod shards;
 mod sizing;
+mod taking;
 
 pub use closing::StillOpen;
 pub use mc_cache::{
-    AbsentError, DeskError, IfError, Mix, NoMemory, OpenError, Put, PutError, Remove, Reply, Shape,
-    Spent,
+    AbsentError, DeskError, Entry, IfError, Mix, NoMemory, OpenError, Put, PutError, Remove,
+    Replaced, Reply, Shape, Spent, Swapped, Take,
 };
 pub use opening::{OpenShardsError, open_shards};
 pub use pass::Pass;

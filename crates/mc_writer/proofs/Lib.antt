@@ -4,3 +4,4 @@ pub mod RunningDeeds
 pub mod WholeCalls
 pub mod Rests
 pub mod AbsentCalls
+pub mod Chosen

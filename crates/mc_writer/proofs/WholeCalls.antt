@@ -4,7 +4,7 @@ use Rattle.mc_words.specs.KeyParts.{HasParts}
 use Rattle.mc_words.specs.declared.key_parts.KeyParts.{KeyParts}
 use Rattle.mc_words.specs.declared.shape.Shape.{Shape}
 use Rattle.mc_words.specs.Checks.{shape_of}
-use Rattle.mc_theory.specs.Lists.{AreAllowed, Made, state_of}
+use Rattle.mc_theory.specs.Lists.{Made, state_of}
 use Rattle.mc_theory.specs.States.{State}
 use Rattle.mc_theory.specs.declared.act.Act.{Act}
 use Rattle.mc_theory.proofs.Lists.Fronts.{state_append}
@@ -18,12 +18,12 @@ use Rattle.mc_plan.specs.declared.books.Books.{Books}
 use Rattle.mc_plan.proofs.Calls.DueActs.{plan_ends, planned_due, sweep_may}
 use Rattle.mc_plan.proofs.Calls.SweptStates.{swept_still}
 use Rattle.mc_shared.specs.declared.layout.Layout.{Layout}
-use Rattle.mc_shared.specs.Records.{Opening, NotesGrow}
+use Rattle.mc_shared.specs.Records.{Opening}
 use Rattle.mc_shared.specs.Views.{layout_of}
 use Rattle.mc_shared.proofs.GrownNotes.{grow_self, grow_trans}
 use Rattle.mc_writer.specs.WriterCalls.{HasCalled, IsRested}
 use Rattle.mc_writer.specs.Inside.Pens.{HasMade, IsDue, IsSamePen, state_at}
-use Rattle.mc_writer.specs.Inside.Turns.{HasTurned}
+use Rattle.mc_writer.specs.Inside.Turns.{HasRead, HasTurned}
 use Rattle.mc_writer.specs.declared.pen.Pen.{Pen}
 use Rattle.mc_writer.proofs.Pens.{made_none, plan_is_due, same_then, shape_kept}
 
@@ -54,14 +54,6 @@ pub known_there : (V : ℕ) (p : Pen V) (b : Books) → IsRested V b p.seat.now 
 known_there V p b rested = subst (λ (x : Shape). AreBooksOf V b (state_of V x p.seat.now.acts)) (shape_there V p b (layout_rested V p b rested)) rested.known
 
 -- ---- the hand's readings, and those of a call that sweeps for no item
--- `q` is the pen after these readings, each of which may be made
-pub record HasRead (V : ℕ) (p q : Pen V) (rs : List Swept) : Type 0 where
-  pub same : IsSamePen V p q
-  pub of : q.seat.now.of ≡ p.seat.now.of
-  pub acts : q.seat.now.acts ≡ p.seat.now.acts ++ hand_acts rs
-  pub notes : NotesGrow p.seat.now.notes q.seat.now.notes
-  pub may : AreAllowed p.cells.now.layout.shape (state_at V p) (hand_acts rs)
-
 pub has_read : (V : ℕ) (p q : Pen V) (b : Books) (waiting : Waiting V) (call : Call) (t : HasTurned V b waiting call p q) → shape_of b.checked ≡ p.cells.now.layout.shape → HasRead V p q t.readings
 has_read V p q b waiting call t shape =
     record { same = t.same; of = t.of; acts = t.acts; notes = t.notes; may = (sweep_may V p.cells.now.layout.shape b waiting call p.seat.now.acts t.readings shape t.sweeping).0 }

@@ -1,2 +1,3 @@
 pub mod WriterCalls
+pub mod GivenWay
 pub mod Inside

@@ -15,6 +15,7 @@ impl<'a, const V: usize> Pen<'a, V> {
     ghost use Rattle.mc_writer.specs.Inside.Pens.{IsDue, HasMade};
 
     // Writes the words of a value. The items begin at this place.
+    #[inline(always)]
     fn write_value(&mut self, items: usize, i: u32, value: &[u64; V])
         requires width { IsWidth V }
         requires items { (items ≡ item_place V self.old.cells.now.layout.shape 0 0) × (items < 2 ^ 40) }
@@ -27,6 +28,7 @@ impl<'a, const V: usize> Pen<'a, V> {
     }
 
     // Writes a value, and behind it the stamp: the moment that the put is to have. The items begin at this place.
+    #[inline(always)]
     fn write_payload(&mut self, items: usize, i: u32, value: &[u64; V], at: u64)
         requires width { IsWidth V }
         requires items { (items ≡ item_place V self.old.cells.now.layout.shape 0 0) × (items < 2 ^ 40) }

@@ -1,18 +1,19 @@
 //! The writer's puts of keys that are not there, once they have room: they are stored at once, or after the hand's way round.
-ghost use Rattle.std.specs.Prelude.{◌≡◌, ◌^◌, ◌<◌, [], IfNone, IfSome, List, Ok, Some};
+ghost use Rattle.std.specs.Prelude.{◌≡◌, ◌^◌, ◌<◌, [], IfErr, IfNone, IfOk, IfSome, List, Err, Ok, Some};
 ghost use Rattle.mc_words.specs.Checks.{shape_of};
 ghost use Rattle.mc_words.specs.KeyParts.{HasParts};
-ghost use Rattle.mc_words.specs.Places.{word_count};
+ghost use Rattle.mc_words.specs.Places.{IsWidth, word_count};
 ghost use Rattle.mc_theory.specs.States.{State};
 ghost use Rattle.mc_search.specs.Sweeps.{Swept, IsOver, next_item};
 ghost use Rattle.mc_plan.specs.Books.{HasRoom, IsSweeping, Waits};
+ghost use Rattle.mc_plan.specs.Decisions.{storing_told};
 ghost use Rattle.mc_plan.specs.WholeCalls.{Call, IsSweepOf, PutCall};
 ghost use Rattle.mc_plan.specs.declared.answer.Answer.TheVariants as answer;
 ghost use Rattle.mc_shared.specs.Views.{layout_of};
 ghost use Rattle.mc_writer.specs.WriterCalls.{HasCalled, IsRested};
 
 use crate::pen::Pen;
-use mc_plan::{Books, Put, PutError, Room, Waiting};
+use mc_plan::{Books, Put, PutError, Replacement, Room, Waiting};
 use mc_shared::turn_hand_unless_clear;
 use mc_words::KeyParts;
 
@@ -39,6 +40,7 @@ impl<'a, const V: usize> Pen<'a, V> {
     }
 
     // Reads bits until the sweep is over.
+    #[inline(always)]
     fn turn_round(&mut self, waiting: &mut Waiting<V>)
         requires sweeping { (b : Books) × (call : Call) × IsSweeping V b waiting.old call (state_at V self.old) [] ×
             (shape_of b.checked ≡ self.old.cells.now.layout.shape) }
@@ -57,6 +59,8 @@ impl<'a, const V: usize> Pen<'a, V> {
 // The puts.
 impl<'a, const V: usize> Pen<'a, V> {
     ghost use Rattle.mc_writer.specs.Inside.Pens.{IsSamePen, state_at};
+    ghost use Rattle.mc_writer.specs.Inside.Turns.{IsChosen};
+    ghost use Rattle.mc_writer.specs.declared.pen.Pen.{Pen};
 
     /// Stores a key that finds this room. `None`: no item is free, and nothing is done.
     #[inline(always)]
@@ -89,6 +93,51 @@ impl<'a, const V: usize> Pen<'a, V> {
         }
     }
 
+    /// Chooses the key whose item the put takes, where no item is free: the hand goes round.
+    #[inline(always)]
+    pub(crate) fn choose(
+        &mut self,
+        books: &mut Books,
+        key: u64,
+        value: &[u64; V],
+        room: Room,
+    ) -> Result<Replacement, PutError>
+        requires layout { self.old.cells.now.layout ≡ layout_of V (shape_of books.old.checked) }
+        requires waits { Waits V books.old key value.now (state_at V self.old) room }
+        ensures same { IsSamePen V self.old self.new }
+        ensures shape { books.new.checked ≡ books.old.checked }
+        ensures chosen { IfOk result (λ taken. IsChosen V books.new key value.now self.old self.new taken) }
+        ensures refused { IfErr result (λ why. HasCalled V self.old.cells.now.layout.shape (PutCall key value.now) self.old.seat.now self.new.seat.now (answer.Put (Err why)) ×
+            IsRested V books.new self.new.seat.now) }
+    {
+        let mut waiting = Waiting::new(books, key, *value, room);
+        self.turn_round(&mut waiting);
+        books.finish::<V, Pen<V>>(self, &waiting)
+    }
+
+    /// Takes the item of the key that was chosen, and puts the key there.
+    #[inline(always)]
+    pub(crate) fn take_item(
+        &mut self,
+        books: &Books,
+        key: u64,
+        parts: KeyParts,
+        value: &[u64; V],
+        taken: Replacement,
+    ) -> Put
+        requires width { IsWidth V }
+        requires parts { HasParts self.old.cells.now.layout.shape key parts }
+        requires chosen { (before : Pen V) × IsChosen V books.now key value.now before self.old taken }
+        ensures same { IsSamePen V self.old self.new }
+        ensures called { (before : Pen V) → IsChosen V books.now key value.now before self.old taken →
+            HasCalled V before.cells.now.layout.shape (PutCall key value.now) before.seat.now self.new.seat.now (answer.Put (Ok result)) }
+        ensures rested { IsRested V books.now self.new.seat.now }
+        ensures told { result ≡ storing_told books.now.moves.items taken.storing (Some taken.victim.key) }
+    {
+        self.make_replacement(books, key, parts, value, taken);
+        books.told(taken.storing, Some(taken.victim.key))
+    }
+
     /// Puts a key that finds this room, and for which no item is free.
     #[inline(always)]
     fn put_waiting(
@@ -106,13 +155,8 @@ impl<'a, const V: usize> Pen<'a, V> {
         ensures called { HasCalled V self.old.cells.now.layout.shape (PutCall key value.now) self.old.seat.now self.new.seat.now (answer.Put result) }
         ensures rested { IsRested V books.new self.new.seat.now }
     {
-        let mut waiting = Waiting::new(books, key, *value, room);
-        self.turn_round(&mut waiting);
-        match books.finish::<V, Pen<V>>(self, &waiting) {
-            Ok(taken) => {
-                self.make_replacement(books, key, parts, value, taken);
-                Ok(books.told(taken.storing, Some(taken.victim.key)))
-            }
+        match self.choose(books, key, value, room) {
+            Ok(taken) => Ok(self.take_item(books, key, parts, value, taken)),
             Err(why) => Err(why),
         }
     }

@@ -13,6 +13,7 @@
 
 mod absent_call;
 mod deeds;
+mod entry;
 mod get_call;
 mod if_call;
 mod inserting;
@@ -20,11 +21,14 @@ mod kept_call;
 mod pen;
 mod put_call;
 mod remove_call;
+mod swap_call;
 
 pub use absent_call::put_if_absent;
+pub use entry::{Entry, Swapped, entry_of};
 pub use get_call::{get, look, moment};
 pub use if_call::put_if;
 pub use kept_call::put_kept;
 pub use pen::Pen;
 pub use put_call::put;
 pub use remove_call::remove;
+pub use swap_call::swap;

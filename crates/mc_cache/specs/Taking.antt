@@ -1,0 +1,50 @@
+-- What the calls mean that also return the entry which they take out of the map: it is what the map held just before.
+use Rattle.std.specs.Prelude.{ℕ, List, Some, Result, Ok, Err, IfOk}
+pub use Rattle.mc_writer.specs.GivenWay.{Holds, giving_way, put_of}
+use Rattle.mc_words.specs.declared.history.Change.{Change}
+use Rattle.mc_plan.specs.declared.answer.Answer.{Answer}
+use Rattle.mc_plan.specs.declared.answer.Answer.TheVariants as answer
+use Rattle.mc_plan.specs.declared.answer.IfError.{IfError}
+use Rattle.mc_plan.specs.declared.answer.PutError.{PutError}
+use Rattle.mc_plan.specs.declared.answer.Remove.{Remove}
+use Rattle.mc_plan.specs.declared.answer.Remove.TheVariants as removal
+use Rattle.mc_plan.specs.declared.answer.Spent.{Spent}
+use Rattle.mc_writer.specs.declared.entry.Swapped.{Swapped}
+use Rattle.mc_cache.specs.Plain.{PutIfMeans, PutMeans, RemovalMeans}
+use Rattle.mc_cache.specs.declared.taking.Replaced.{Replaced}
+use Rattle.mc_cache.specs.declared.taking.Take.{Take}
+use Rattle.mc_cache.specs.declared.taking.Take.TheVariants.{Taken, NotThere}
+
+-- the answer of the put on a condition, and that of the removal
+abbrev pub put_if_of : {V : ℕ} → Result (Replaced V) IfError → Result ℕ IfError
+put_if_of (Ok replaced) = Ok replaced.at
+put_if_of (Err why) = Err why
+
+abbrev pub removal_of : {V : ℕ} → Result (Take V) Spent → Result Remove Spent
+removal_of (Ok (Taken at old)) = Ok (removal.Removed at)
+removal_of (Ok (NotThere at)) = Ok (removal.NotThere at)
+removal_of (Err spent) = Err spent
+
+-- the same, as answers of whole calls
+abbrev pub swap_answer : {V : ℕ} → Result (Swapped V) PutError → Answer
+swap_answer told = answer.Put (put_of told)
+
+abbrev pub swap_if_answer : {V : ℕ} → Result (Replaced V) IfError → Answer
+swap_if_answer told = answer.PutIf (put_if_of told)
+
+abbrev pub take_answer : {V : ℕ} → Result (Take V) Spent → Answer
+take_answer told = answer.Remove (removal_of told)
+
+-- a put, and what the map held of the key that gave way
+abbrev pub SwapMeans : (V : ℕ) → List (Change V) → List (Change V) → ℕ → List ℕ → Result (Swapped V) PutError → Type 0
+SwapMeans V h h' k v told = PutMeans V h h' k v (put_of told) × IfOk told (λ swapped. Holds h (giving_way k swapped.put) swapped.old)
+
+-- a put on a condition, and what the map held of its key
+abbrev pub SwapIfMeans : (V : ℕ) → List (Change V) → List (Change V) → ℕ → ℕ → List ℕ → Result (Replaced V) IfError → Type 0
+SwapIfMeans V h h' k since v told = PutIfMeans V h h' k since v (put_if_of told) × IfOk told (λ replaced. Holds h k (Some replaced.old))
+
+-- a removal, and what the map held of its key
+abbrev pub TakeMeans : (V : ℕ) → List (Change V) → List (Change V) → ℕ → Result (Take V) Spent → Type 0
+TakeMeans V h h' k (Ok (Taken at old)) = RemovalMeans V h h' k (Ok (removal.Removed at)) × Holds h k (Some old)
+TakeMeans V h h' k (Ok (NotThere at)) = RemovalMeans V h h' k (Ok (removal.NotThere at))
+TakeMeans V h h' k (Err spent) = RemovalMeans V h h' k (Err spent)

@@ -1,0 +1,99 @@
+//! The writer's calls that also return the entry which they take out of the map.
+ghost use Rattle.std.specs.Prelude.{◌≡◌};
+ghost use Rattle.mc_cache.specs.Failing.{SwapFails, SwapIfFails, TakeFails, version_changes};
+ghost use Rattle.mc_cache.specs.Plain.{history};
+ghost use Rattle.mc_cache.specs.Taking.{Holds, SwapIfMeans, SwapMeans, TakeMeans, swap_answer, swap_if_answer, take_answer};
+ghost use Rattle.mc_plan.specs.WholeCalls.{PutCall, PutIfCall, RemoveCall};
+ghost use Rattle.mc_writer.specs.WriterCalls.{HasCalled};
+
+use crate::cache::Cache;
+use crate::writer::Writer;
+use mc_plan::{IfError, PutError, Remove, Spent};
+use mc_writer::{Entry, Swapped, entry_of, moment, swap};
+
+/// What a put on a condition did: the moment of its change, and the key's earlier entry.
+#[derive(Clone, Copy, Debug, PartialEq, Eq)]
+pub struct Replaced<const V: usize> {
+    pub at: u64,
+    pub old: Entry<V>,
+}
+
+/// What a removal did that returns the entry. `at` is the moment after it.
+#[derive(Clone, Copy, Debug, PartialEq, Eq)]
+pub enum Take<const V: usize> {
+    Taken { at: u64, old: Entry<V> },
+    NotThere { at: u64 },
+}
+
+impl<const V: usize> Writer<V> {
+    // What the map holds of the key. It makes no act.
+    fn entry(&mut self, cache: &Cache<V>, key: u64) -> Option<Entry<V>>
+        requires of { self.old.of ≡ cache.now }
+        ensures writer { self.new ≡ self.old }
+        ensures holds { Holds (history V self.old) key result }
+    {
+        entry_of(&cache.cells, &mut self.seat, &self.books, key)
+    }
+
+    /// Puts the key as `put` does, and returns the entry that gives way: the key's earlier one, or that of the key that is evicted.
+    pub fn swap(
+        &mut self,
+        cache: &Cache<V>,
+        key: u64,
+        value: [u64; V],
+    ) -> Result<Swapped<V>, PutError>
+        requires of { self.old.of ≡ cache.now }
+        ensures called { HasCalled V cache.now.layout.shape (PutCall key value.entry) self.old self.new (swap_answer result) }
+        ensures plain { SwapMeans V (history V self.old) (history V self.new) key value.entry result }
+        ensures fails { SwapFails cache.now.layout.shape (history V self.new) (version_changes V self.new) key result }
+    {
+        let told = swap(&cache.cells, &mut self.seat, &mut self.books, key, &value);
+        self.moment = moment(&cache.cells, &mut self.seat);
+        told
+    }
+
+    /// Overwrites the key's value as `put_if` does, and returns the earlier entry.
+    pub fn swap_if(
+        &mut self,
+        cache: &Cache<V>,
+        key: u64,
+        since: u64,
+        value: [u64; V],
+    ) -> Result<Replaced<V>, IfError>
+        requires of { self.old.of ≡ cache.now }
+        ensures called { HasCalled V cache.now.layout.shape (PutIfCall key since value.entry) self.old self.new (swap_if_answer result) }
+        ensures plain { SwapIfMeans V (history V self.old) (history V self.new) key since value.entry result }
+        ensures fails { SwapIfFails cache.now.layout.shape (history V self.new) (version_changes V self.new) result }
+    {
+        let found = self.entry(cache, key);
+        match self.put_if(cache, key, since, value) {
+            Ok(at) => {
+                let Some(old) = found else {
+                    unreachable!();
+                };
+                Ok(Replaced { at, old })
+            }
+            Err(why) => Err(why),
+        }
+    }
+
+    /// Removes the key as `remove` does, and returns its entry.
+    pub fn take(&mut self, cache: &Cache<V>, key: u64) -> Result<Take<V>, Spent>
+        requires of { self.old.of ≡ cache.now }
+        ensures called { HasCalled V cache.now.layout.shape (RemoveCall key) self.old self.new (take_answer result) }
+        ensures plain { TakeMeans V (history V self.old) (history V self.new) key result }
+        ensures fails { TakeFails cache.now.layout.shape (history V self.new) (version_changes V self.new) result }
+    {
+        let found = self.entry(cache, key);
+        match self.remove(cache, key) {
+            Ok(Remove::Removed { at }) => {
+                let Some(old) = found else {
+                    unreachable!();
+                };
+                Ok(Take::Taken { at, old })
+            }
+            Ok(Remove::NotThere { at }) => Ok(Take::NotThere { at }),
+            Err(spent) => Err(spent),
+        }
+    }
+}

@@ -1,0 +1,48 @@
+-- Puts that take an item: once it is chosen whose, the words still agree with the history, and once its acts are made, the put is over.
+use Rattle.std.proofs.Common.{ℕ, ◌≡◌, List, Ok, None, Some, refl, sym, subst, ◌∙◌, []}
+use Rattle.std.proofs.lemmas.Option.{none-some}
+use Rattle.mc_words.specs.Checks.{shape_of}
+use Rattle.mc_words.specs.History.{map_value}
+use Rattle.mc_words.specs.Standing.{Agrees}
+use Rattle.mc_words.specs.declared.shape.Shape.{Shape}
+use Rattle.mc_theory.specs.States.{State}
+use Rattle.mc_search.specs.Sweeps.{Swept}
+use Rattle.mc_plan.specs.Books.{AreBooksOf}
+use Rattle.mc_plan.specs.Decisions.{replacement_acts, storing_told}
+use Rattle.mc_plan.specs.WholeCalls.{IsSweepOf, PutCall}
+use Rattle.mc_plan.specs.declared.answer.Answer.TheVariants as answer
+use Rattle.mc_plan.specs.declared.answer.Put.{Put}
+use Rattle.mc_plan.specs.declared.answer.Put.TheVariants.{Stored, Renewed}
+use Rattle.mc_plan.specs.declared.books.Books.{Books}
+use Rattle.mc_plan.specs.declared.decision.Replacement.{Replacement}
+use Rattle.mc_plan.proofs.Deeds.QuietStates.{agrees_quiet}
+use Rattle.mc_shared.specs.Views.{layout_of}
+use Rattle.mc_writer.specs.GivenWay.{giving_way}
+use Rattle.mc_writer.specs.WriterCalls.{HasCalled, IsRested}
+use Rattle.mc_writer.specs.Inside.Pens.{HasMade, IsDue, IsSamePen, state_at}
+use Rattle.mc_writer.specs.Inside.Turns.{HasRead, IsChosen}
+use Rattle.mc_writer.specs.declared.pen.Pen.{Pen}
+use Rattle.mc_writer.proofs.Pens.{shape_kept}
+use Rattle.mc_writer.proofs.WholeCalls.{due_now, made_now, shape_there, words_still}
+
+-- the hand writes no word, so the words agree with the history as before
+pub agrees_read : (V : ℕ) (p q : Pen V) (b : Books) (rs : List Swept) → p.cells.now.layout ≡ layout_of V (shape_of b.checked) → AreBooksOf V b (state_at V p) → HasRead V p q rs → Agrees V q.cells.now.layout.shape (state_at V q).words None (state_at V p).history
+agrees_read V p q b rs layout known read =
+    subst (λ (sh : Shape). Agrees V sh (state_at V q).words None (state_at V p).history) (shape_there V p b layout ∙ sym (shape_kept read.same))
+    (subst (λ (w : List ℕ). Agrees V (shape_of b.checked) w None (state_at V p).history) (sym (words_still V p q rs read)) (agrees_quiet V (shape_of b.checked) (state_at V p) known.quiet))
+
+module _ (V : ℕ) (b : Books) (k : ℕ) (v : List ℕ) (p q : Pen V) (r : Replacement) (is : IsChosen V b k v p q r) where
+  -- the acts of the replacement are due
+  pub chosen_due : IsDue V (replacement_acts b.moves.items q.cells.now.layout.shape k v r) q
+  chosen_due = due_now V p q b b (PutCall k v) (answer.Put (Ok (storing_told b.moves.items r.storing (Some r.victim.key)))) (λ sh. replacement_acts b.moves.items sh k v r) is.readings is.layout refl is.read is.planned
+
+  -- and once they are made, the put is over
+  pub chosen_made : (after : Pen V) → HasMade V (replacement_acts b.moves.items q.cells.now.layout.shape k v r) q after
+      → IsSamePen V p after × HasCalled V p.cells.now.layout.shape (PutCall k v) p.seat.now after.seat.now (answer.Put (Ok (storing_told b.moves.items r.storing (Some r.victim.key)))) × IsRested V b after.seat.now
+  chosen_made after m = made_now V p q b b (PutCall k v) (answer.Put (Ok (storing_told b.moves.items r.storing (Some r.victim.key)))) (λ sh. replacement_acts b.moves.items sh k v r) is.readings is.layout refl is.read is.planned after m is.sweeps
+
+-- a put for which the hand did not go round evicts nothing: what gives way is the key itself, which the map did not hold
+pub unswept_old : (V : ℕ) (sh : Shape) (s : State V) (k : ℕ) (told : Put) → IsSweepOf V sh s [] (answer.Put (Ok told)) → map_value s.history k ≡ None → map_value s.history (giving_way k told) ≡ None
+unswept_old V sh s k (Stored at moves None) sweeps none = none
+unswept_old V sh s k (Stored at moves (Some other)) sweeps none = absurd (none-some sweeps.1.0 sweeps.1.2)
+unswept_old V sh s k (Renewed at) sweeps none = none
