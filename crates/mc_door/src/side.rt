@@ -27,13 +27,15 @@ pub enum Side<const V: usize> {
     Reader(ReaderSide<V>),
     Pass(PassSide<V>),
     Shard(ShardSide<V>),
+    /// None: it stands for a side that a call has in hand.
+    Nothing,
 }
 
 // A call by a pass, whose value has so many words.
 macro_rules! by_turn {
     ($side:expr, $words:expr, $pass:ident => $call:expr) => {
         match $side {
-            Side::Writer(_) | Side::Reader(_) => Err(Misuse::Kind),
+            Side::Writer(_) | Side::Reader(_) | Side::Nothing => Err(Misuse::Kind),
             _ if $words != V => Err(Misuse::Width),
             Side::Pass($pass) => Ok($call),
             Side::Shard($pass) => Ok($call),
@@ -47,7 +49,7 @@ macro_rules! by_writer {
         match $side {
             Side::Writer(_) if $words != V => Err(Misuse::Width),
             Side::Writer($writer) => Ok($call),
-            Side::Reader(_) | Side::Pass(_) | Side::Shard(_) => Err(Misuse::Kind),
+            Side::Reader(_) | Side::Pass(_) | Side::Shard(_) | Side::Nothing => Err(Misuse::Kind),
         }
     };
 }
@@ -124,6 +126,7 @@ impl<const V: usize> Side<V> {
             Side::Pass(side) => Ok(Looked::of(side.get(key), value)),
             Side::Shard(side) => Ok(Looked::of(side.get(key), value)),
             Side::Writer(side) => Ok(Looked::of(side.get(key), value)),
+            Side::Nothing => Ok(Looked::Busy),
         }
     }
 
@@ -146,7 +149,7 @@ impl<const V: usize> Side<V> {
             Side::Reader(side) => side.cache.touch_ahead(keys),
             Side::Pass(side) => side.cache.touch_ahead(keys),
             Side::Writer(side) => side.cache.touch_ahead(keys),
-            Side::Shard(_) => {}
+            Side::Shard(_) | Side::Nothing => {}
         }
     }
 
