@@ -75,13 +75,13 @@ module _ {M : Type 1} {𝓤 : Ura M} {𝓛 : Logic 𝓤} {K : Type 0} {Γ : List
 
   -- a handle with something behind it, in hand
   pub full_out : K → (d : Handle.Denot) (x : Held.Denot) → d.value ≡ some x → (vs : List Val)
-      → ((b o : ℕ) (h : Val) → vs ≡ at_block h b o ∷ [] → Good (layout Heap) h
+      → ((b o : ℕ) (h : Val) → d.at ≡ block_ptr b o → vs ≡ at_block h b o ∷ [] → Good (layout Heap) h
       → Seq K 𝓛 (‵ (box_owns (ghosts.dealloc_token d.alloc) Held (block_ptr b o) x) ∷ ‵ (Heap.own_val d.alloc (h ∷ [])) ∷ Γ) G)
       → Seq K 𝓛 (‵ (Handle.own_val d vs) ∷ Γ) G
   full_out t d x full vs go =
       fsplit t $ move t (1 ∷ []) $ rewrite t 0 (λ (kept : Option Held.Denot). ‵ (kept_at d.alloc d.at kept)) full refl $ move t (1 ∷ 0 ∷ []) $ fjoin t $
       use1 𝓛 (‵ (Boxed.own_val (record { at = d.at; alloc = d.alloc; value = x }) vs)) (id⊢ 𝓤 _) $
-      boxed_out t (record { at = d.at; alloc = d.alloc; value = x }) vs (λ b o h at is fits. go b o h is fits)
+      boxed_out t (record { at = d.at; alloc = d.alloc; value = x }) vs go
 
   pub full_in : K → (b o : ℕ) (h : Val) (a : Heap.Denot) (x : Held.Denot)
       → Step K 𝓛 (‵ (Handle.own_val (record { at = block_ptr b o; alloc = a; value = some x }) (at_block h b o ∷ [])) ∷ Γ) G (‵ (box_owns (ghosts.dealloc_token a) Held (block_ptr b o) x) ∷ ‵ (Heap.own_val a (h ∷ [])) ∷ Γ) G

@@ -1,2 +1,3 @@
 pub mod Filling
+pub mod Lent
 pub mod Looking

@@ -1,15 +1,45 @@
 //! Calls by a side, told in the words that C sees. Each is one function for each width, so an answer stays in registers.
 ghost use Rattle.std.specs.Prelude.{◌≡◌, length};
 ghost use Rattle.mc_words.specs.Places.{IsWidth};
-ghost use Rattle.mc_door.specs.Means.{CanLook, CanWrite, HasTurns, IsMisuse, GetMeans, GetOrDeskMeans, PutIfAbsentMeans, PutIfMeans, PutMeans, RemovalMeans, TryPutIfAbsentMeans, TryPutIfMeans, TryPutMeans, TryRemovalMeans};
+ghost use Rattle.mc_door.specs.Means.{CanWrite, HasTurns, IsMisuse, GetOrDeskMeans, PutIfAbsentMeans, PutIfMeans, PutMeans, RemovalMeans, TryPutIfAbsentMeans, TryPutIfMeans, TryPutMeans, TryRemovalMeans};
 ghost use Rattle.mc_door.specs.Roles.{role_of};
 ghost use Rattle.cefrodil.specs.Calls.{HasTold};
+ghost use Rattle.cefrodil.specs.Inside.Looking.{TellsLookup};
 ghost use Rattle.cefrodil.specs.Tellings.{lookup_told, put_if_absent_told, put_if_told, put_told, removal_told, try_put_if_absent_told, try_put_if_told, try_put_told, try_removal_told};
 
 use crate::told::{RawReply, Told};
 use mc_door::Side;
 
-/// Looks the key up.
+// Looks the key up.
+#[inline(always)]
+fn look_up<const V: usize>(
+    side: &mut Side<V>,
+    key: u64,
+    value: &mut [u64],
+    reply: &mut RawReply,
+) -> u32
+    requires { IsWidth V }
+    ensures { TellsLookup V side.old side.new key value.old value.new (record { status = result; reply = reply.new }) }
+{
+    let made = side.get(key, value);
+    Told::lookup(made).tell(reply)
+}
+
+// The same out of line.
+#[inline(never)]
+fn look_up_apart<const V: usize>(
+    side: &mut Side<V>,
+    key: u64,
+    value: &mut [u64],
+    reply: &mut RawReply,
+) -> u32
+    requires { IsWidth V }
+    ensures { TellsLookup V side.old side.new key value.old value.new (record { status = result; reply = reply.new }) }
+{
+    look_up(side, key, value, reply)
+}
+
+/// Looks the key up. A reader's lookup shares no registers with those of other sides.
 #[inline(never)]
 pub(crate) fn get<const V: usize>(
     side: &mut Side<V>,
@@ -18,11 +48,12 @@ pub(crate) fn get<const V: usize>(
     reply: &mut RawReply,
 ) -> u32
     requires { IsWidth V }
-    ensures { HasTold lookup_told (GetMeans V (role_of side.old) (role_of side.new) key value.old value.new)
-        (λ why. IsMisuse CanLook V (role_of side.old) (length value.old) why × (side.new ≡ side.old) × (value.new ≡ value.old)) (record { status = result; reply = reply.new }) }
+    ensures { TellsLookup V side.old side.new key value.old value.new (record { status = result; reply = reply.new }) }
 {
-    let made = side.get(key, value);
-    Told::lookup(made).tell(reply)
+    match side {
+        Side::Reader(_) => look_up(side, key, value, reply),
+        Side::Writer(_) | Side::Pass(_) | Side::Shard(_) => look_up_apart(side, key, value, reply),
+    }
 }
 
 /// Looks the key up, or tries for the turn where that is busy.

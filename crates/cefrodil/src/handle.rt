@@ -1,6 +1,7 @@
 // A handle that C keeps: the address of a box, as a pointer to nothing that C may read.
 ghost use Rattle.std.specs.Prelude.{◌≡◌, ℕ};
 ghost use mathlib.Core.Option.{Option, none, some};
+ghost use Rattle.std.specs.Borrow.{sem};
 ghost use Rattle.cefrodil.specs.Kept.{kept_at};
 ghost use Rattle.mc_door.specs.declared.held.Held.{Held};
 
@@ -30,6 +31,8 @@ impl Model for Handle {
 unsafe impl Send for Handle {}
 
 impl Handle {
+    ghost use Rattle.cefrodil.specs.Inside.Lent.{LendsHeld};
+
     #[inline(always)]
     pub(crate) fn empty(alloc: Global) -> Handle
         ensures { result.value ≡ none }
@@ -49,6 +52,16 @@ impl Handle {
             at: at as *mut Nothing,
             alloc,
         }
+    }
+
+    // What lies behind it, where it lies.
+    #[inline(always)]
+    pub(crate) fn held(&mut self) -> &mut Held
+        requires { ¬ (self.old.value ≡ none) }
+        ensures* writes_back { sem 𝓛 (LendsHeld self.entry result) }
+        ensures value { some result.now ≡ self.old.value }
+    {
+        unsafe { &mut *(self.at as *mut Held) }
     }
 
     #[inline(always)]

@@ -39,11 +39,9 @@ pub extern "C" fn cefrodil_entries(
     ensures open { handle.new.live ≡ handle.old.live }
     ensures told { ListGives (kept handle.old) (kept handle.new) entries.old entries.new count.old count.new result }
 {
-    let Some(mut held) = handle.take(alloc) else {
+    if !handle.live {
         return CLOSED;
-    };
-    let listed = held.entries(alloc, entries);
-    let status = tell(listed, count);
-    handle.put(held);
-    status
+    }
+    let listed = handle.handle.held().entries(alloc, entries);
+    tell(listed, count)
 }

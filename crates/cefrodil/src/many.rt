@@ -10,7 +10,6 @@ ghost use Rattle.cefrodil.specs.Tellings.{answer_of};
 use crate::slot::Slot;
 use crate::status::{ABSENT, BUSY, CLOSED, COUNT, OK, WIDTH};
 use mc_door::{GROUP, Held, Looked, Side, with_side};
-use std::alloc::Global;
 
 /// One answer of many. What its status has no use for is 0.
 #[repr(C)]
@@ -106,7 +105,6 @@ fn get_many(held: &mut Held, keys: &[u64], values: &mut [u64], answers: &mut [Ra
 #[tactic(auto, using(crate::proofs::Gives::gives_open, crate::proofs::Gives::gives_closed))]
 #[unsafe(no_mangle)]
 pub extern "C" fn cefrodil_get_many(
-    alloc: Global,
     reader: &mut Slot,
     keys: &[u64],
     values: &mut [u64],
@@ -115,10 +113,8 @@ pub extern "C" fn cefrodil_get_many(
     ensures open { reader.new.live ≡ reader.old.live }
     ensures told { ManyGive (kept reader.old) (kept reader.new) keys.now values.old values.new answers.old answers.new result }
 {
-    let Some(mut held) = reader.take(alloc) else {
+    if !reader.live {
         return CLOSED;
-    };
-    let status = get_many(&mut held, keys, values, answers);
-    reader.put(held);
-    status
+    }
+    get_many(reader.handle.held(), keys, values, answers)
 }

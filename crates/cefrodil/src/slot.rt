@@ -61,16 +61,14 @@ impl Slot {
     }
 }
 
-// A call by a handle: what it keeps is taken out, the call is made with it, and it is put back. The call is told, or that the handle is
-// closed.
+// A call by a handle is made with what lies behind it, where it lies. The call is told, or that the handle is closed.
 macro_rules! told_of_handle {
-    ($alloc:ident, $slot:ident, $reply:ident, $held:ident => $status:expr) => {{
-        let Some(mut $held) = $slot.take($alloc) else {
+    ($slot:ident, $reply:ident, $held:ident => $status:expr) => {{
+        if !$slot.live {
             return Told::closed().tell($reply);
-        };
-        let status = $status;
-        $slot.put($held);
-        status
+        }
+        let $held = $slot.handle.held();
+        $status
     }};
 }
 

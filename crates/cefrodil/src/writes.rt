@@ -6,13 +6,11 @@ ghost use Rattle.cefrodil.specs.Open.{kept};
 use crate::by_width;
 use crate::slot::{Slot, told_of_handle};
 use crate::told::{RawReply, Told};
-use std::alloc::Global;
 
 /// Puts a key, by the writer's handle.
 #[tactic(auto, using(crate::proofs::Gives::gives_open, crate::proofs::Gives::gives_closed))]
 #[unsafe(no_mangle)]
 pub extern "C" fn cefrodil_put(
-    alloc: Global,
     writer: &mut Slot,
     key: u64,
     value: &[u64],
@@ -21,14 +19,13 @@ pub extern "C" fn cefrodil_put(
     ensures open { writer.new.live ≡ writer.old.live }
     ensures told { PutGives (kept writer.old) (kept writer.new) key value.now (record { status = result; reply = reply.new }) }
 {
-    told_of_handle!(alloc, writer, reply, held => by_width::put(&mut held, key, value, reply))
+    told_of_handle!(writer, reply, held => by_width::put(held, key, value, reply))
 }
 
 /// Puts a key anew, if its last put was at the moment `since`, by the writer's handle.
 #[tactic(auto, using(crate::proofs::Gives::gives_open, crate::proofs::Gives::gives_closed))]
 #[unsafe(no_mangle)]
 pub extern "C" fn cefrodil_put_if(
-    alloc: Global,
     writer: &mut Slot,
     key: u64,
     since: u64,
@@ -38,14 +35,13 @@ pub extern "C" fn cefrodil_put_if(
     ensures open { writer.new.live ≡ writer.old.live }
     ensures told { PutIfGives (kept writer.old) (kept writer.new) key since value.now (record { status = result; reply = reply.new }) }
 {
-    told_of_handle!(alloc, writer, reply, held => by_width::put_if(&mut held, key, since, value, reply))
+    told_of_handle!(writer, reply, held => by_width::put_if(held, key, since, value, reply))
 }
 
 /// Puts a key if it is absent, by the writer's handle.
 #[tactic(auto, using(crate::proofs::Gives::gives_open, crate::proofs::Gives::gives_closed))]
 #[unsafe(no_mangle)]
 pub extern "C" fn cefrodil_put_if_absent(
-    alloc: Global,
     writer: &mut Slot,
     key: u64,
     value: &[u64],
@@ -54,29 +50,23 @@ pub extern "C" fn cefrodil_put_if_absent(
     ensures open { writer.new.live ≡ writer.old.live }
     ensures told { PutIfAbsentGives (kept writer.old) (kept writer.new) key value.now (record { status = result; reply = reply.new }) }
 {
-    told_of_handle!(alloc, writer, reply, held => by_width::put_if_absent(&mut held, key, value, reply))
+    told_of_handle!(writer, reply, held => by_width::put_if_absent(held, key, value, reply))
 }
 
 /// Takes a key out, by the writer's handle.
 #[tactic(auto, using(crate::proofs::Gives::gives_open, crate::proofs::Gives::gives_closed))]
 #[unsafe(no_mangle)]
-pub extern "C" fn cefrodil_remove(
-    alloc: Global,
-    writer: &mut Slot,
-    key: u64,
-    reply: &mut RawReply,
-) -> u32
+pub extern "C" fn cefrodil_remove(writer: &mut Slot, key: u64, reply: &mut RawReply) -> u32
     ensures open { writer.new.live ≡ writer.old.live }
     ensures told { RemovalGives (kept writer.old) (kept writer.new) key (record { status = result; reply = reply.new }) }
 {
-    told_of_handle!(alloc, writer, reply, held => by_width::remove(&mut held, key, reply))
+    told_of_handle!(writer, reply, held => by_width::remove(held, key, reply))
 }
 
 /// Tries once for the turn, to put a key, by a pass.
 #[tactic(auto, using(crate::proofs::Gives::gives_open, crate::proofs::Gives::gives_closed))]
 #[unsafe(no_mangle)]
 pub extern "C" fn cefrodil_try_put(
-    alloc: Global,
     pass: &mut Slot,
     key: u64,
     value: &[u64],
@@ -85,14 +75,13 @@ pub extern "C" fn cefrodil_try_put(
     ensures open { pass.new.live ≡ pass.old.live }
     ensures told { TryPutGives (kept pass.old) (kept pass.new) key value.now (record { status = result; reply = reply.new }) }
 {
-    told_of_handle!(alloc, pass, reply, held => by_width::try_put(&mut held, key, value, reply))
+    told_of_handle!(pass, reply, held => by_width::try_put(held, key, value, reply))
 }
 
 /// Tries up to so many times, at least once, for the turn, to put a key, by a pass.
 #[tactic(auto, using(crate::proofs::Gives::gives_open, crate::proofs::Gives::gives_closed))]
 #[unsafe(no_mangle)]
 pub extern "C" fn cefrodil_put_within(
-    alloc: Global,
     pass: &mut Slot,
     tries: u32,
     key: u64,
@@ -102,14 +91,13 @@ pub extern "C" fn cefrodil_put_within(
     ensures open { pass.new.live ≡ pass.old.live }
     ensures told { TryPutGives (kept pass.old) (kept pass.new) key value.now (record { status = result; reply = reply.new }) }
 {
-    told_of_handle!(alloc, pass, reply, held => by_width::put_within(&mut held, tries, key, value, reply))
+    told_of_handle!(pass, reply, held => by_width::put_within(held, tries, key, value, reply))
 }
 
 /// Tries once for the turn, to put a key anew on a condition, by a pass.
 #[tactic(auto, using(crate::proofs::Gives::gives_open, crate::proofs::Gives::gives_closed))]
 #[unsafe(no_mangle)]
 pub extern "C" fn cefrodil_try_put_if(
-    alloc: Global,
     pass: &mut Slot,
     key: u64,
     since: u64,
@@ -119,14 +107,13 @@ pub extern "C" fn cefrodil_try_put_if(
     ensures open { pass.new.live ≡ pass.old.live }
     ensures told { TryPutIfGives (kept pass.old) (kept pass.new) key since value.now (record { status = result; reply = reply.new }) }
 {
-    told_of_handle!(alloc, pass, reply, held => by_width::try_put_if(&mut held, key, since, value, reply))
+    told_of_handle!(pass, reply, held => by_width::try_put_if(held, key, since, value, reply))
 }
 
 /// Tries once for the turn, to put a key if it is absent, by a pass.
 #[tactic(auto, using(crate::proofs::Gives::gives_open, crate::proofs::Gives::gives_closed))]
 #[unsafe(no_mangle)]
 pub extern "C" fn cefrodil_try_put_if_absent(
-    alloc: Global,
     pass: &mut Slot,
     key: u64,
     value: &[u64],
@@ -135,20 +122,15 @@ pub extern "C" fn cefrodil_try_put_if_absent(
     ensures open { pass.new.live ≡ pass.old.live }
     ensures told { TryPutIfAbsentGives (kept pass.old) (kept pass.new) key value.now (record { status = result; reply = reply.new }) }
 {
-    told_of_handle!(alloc, pass, reply, held => by_width::try_put_if_absent(&mut held, key, value, reply))
+    told_of_handle!(pass, reply, held => by_width::try_put_if_absent(held, key, value, reply))
 }
 
 /// Tries once for the turn, to take a key out, by a pass.
 #[tactic(auto, using(crate::proofs::Gives::gives_open, crate::proofs::Gives::gives_closed))]
 #[unsafe(no_mangle)]
-pub extern "C" fn cefrodil_try_remove(
-    alloc: Global,
-    pass: &mut Slot,
-    key: u64,
-    reply: &mut RawReply,
-) -> u32
+pub extern "C" fn cefrodil_try_remove(pass: &mut Slot, key: u64, reply: &mut RawReply) -> u32
     ensures open { pass.new.live ≡ pass.old.live }
     ensures told { TryRemovalGives (kept pass.old) (kept pass.new) key (record { status = result; reply = reply.new }) }
 {
-    told_of_handle!(alloc, pass, reply, held => by_width::try_remove(&mut held, key, reply))
+    told_of_handle!(pass, reply, held => by_width::try_remove(held, key, reply))
 }

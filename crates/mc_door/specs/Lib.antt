@@ -5,6 +5,7 @@ pub mod Means
 pub mod Held
 pub mod NewSides
 pub mod NewPasses
+pub mod Leaving
 pub mod Loading
 pub mod Listing
 pub mod Inside

@@ -3,7 +3,7 @@ use Rattle.std.specs.Prelude.{ℕ, ◌≡◌, ◌+◌, ◌*◌, ◌<◌, List, [
 use Rattle.mc_cache.specs.Plain.{AreEntriesOf, Begins, history, seen}
 use Rattle.mc_shards.specs.Plain.{AllBegin, AreEntriesOfAll, seens}
 use Rattle.mc_door.specs.Means.{HasTurns}
-use Rattle.mc_door.specs.Roles.{Role, Writes, Reads, Passes, Shares}
+use Rattle.mc_door.specs.Roles.{Role, Writes, Reads, Passes, Shares, Idle}
 use Rattle.mc_door.specs.declared.listed.ListError.{ListError}
 use Rattle.mc_door.specs.declared.listed.ListError.TheVariants as why
 
@@ -13,6 +13,7 @@ CanList (Writes w) = Unit {0}
 CanList (Reads r) = ⊥
 CanList (Passes r) = Unit {0}
 CanList (Shares s rs) = Unit {0}
+CanList Idle = ⊥
 
 -- a pass has seen more of the histories at most. The others are as they were
 abbrev pub SeesMore : (V : ℕ) → Role → Role → Type 0
@@ -20,6 +21,7 @@ SeesMore V (Writes w) (Writes w') = w' ≡ w
 SeesMore V (Reads r) (Reads r') = r' ≡ r
 SeesMore V (Passes r) (Passes r') = (r'.of ≡ r.of) × Begins (seen V r) (seen V r')
 SeesMore V (Shares s rs) (Shares s' rs') = (s' ≡ s) × AllBegin (seens V rs) (seens V rs')
+SeesMore V Idle Idle = Unit {0}
 SeesMore V _ _ = ⊥
 
 -- all entries of the history that the side has made or seen
@@ -28,6 +30,7 @@ AreEntries V (Writes w) es = AreEntriesOf V (history V w) es
 AreEntries V (Reads r) es = ⊥
 AreEntries V (Passes r) es = AreEntriesOf V (seen V r) es
 AreEntries V (Shares s rs) es = AreEntriesOfAll V s.shape.mix (seens V rs) es
+AreEntries V Idle es = ⊥
 
 -- the entries one after the other, each as its key and then its value
 abbrev pub words_of : List (ℕ × List ℕ) → List ℕ

@@ -15,14 +15,15 @@ use Rattle.mc_plan.specs.declared.answer.Remove.{Remove}
 use Rattle.mc_plan.specs.declared.answer.Spent.{Spent}
 use Rattle.mc_words.specs.History.{key_count}
 use Rattle.mc_words.specs.declared.history.Reply.{Reply}
+use Rattle.mc_words.specs.declared.history.Reply.TheVariants.{Busy}
 use Rattle.mc_door.specs.declared.looked.Looked.{Looked}
 use Rattle.mc_door.specs.declared.side.Misuse.{Misuse}
 use Rattle.mc_door.specs.declared.side.Misuse.TheVariants.{Kind, Width}
 use Rattle.mc_door.specs.Looks.{reply_of, LeavesUnlessFound}
 use Rattle.mc_door.specs.AtShards.{IsAtShard}
-use Rattle.mc_door.specs.Roles.{Role, Writes, Reads, Passes, Shares}
+use Rattle.mc_door.specs.Roles.{Role, Writes, Reads, Passes, Shares, Idle}
 
--- every side looks up
+-- every side looks up. No side is always busy
 abbrev pub CanLook : Role → Type 0
 CanLook role = Unit {0}
 
@@ -31,12 +32,14 @@ CanWrite (Writes w) = Unit {0}
 CanWrite (Reads r) = ⊥
 CanWrite (Passes r) = ⊥
 CanWrite (Shares s rs) = ⊥
+CanWrite Idle = ⊥
 
 abbrev pub HasTurns : Role → Type 0
 HasTurns (Writes w) = ⊥
 HasTurns (Reads r) = ⊥
 HasTurns (Passes r) = Unit {0}
 HasTurns (Shares s rs) = Unit {0}
+HasTurns Idle = ⊥
 
 -- the first that applies: the side has no such call; the value has another width
 abbrev pub IsMisuse : (Role → Type 0) → ℕ → Role → ℕ → Misuse → Type 0
@@ -50,6 +53,7 @@ Looks V (Writes w) (Writes w') key reply = (w'.of ≡ w.of) × HasGot V w.of.lay
 Looks V (Reads r) (Reads r') key reply = (r'.of ≡ r.of) × HasLooked V r.of.layout.shape key r r' reply × HasAnswered V (seen V r) (seen V r') key reply
 Looks V (Passes r) (Passes r') key reply = (r'.of ≡ r.of) × HasLooked V r.of.layout.shape key r r' reply × HasAnswered V (seen V r) (seen V r') key reply
 Looks V (Shares s rs) (Shares s' rs') key reply = (s' ≡ s) × IsAtShard V s key rs rs' (λ r r'. HasLooked V s.shape key r r' reply) (λ h h'. HasAnswered V h h' key reply)
+Looks V Idle Idle key reply = reply ≡ Busy
 Looks V _ _ key reply = ⊥
 
 -- the same by a pass alone, which tries for the turn where it is busy

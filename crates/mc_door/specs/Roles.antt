@@ -11,9 +11,12 @@ pub data Role : Type 0 where
   Passes : ReaderRecord → Role
   -- a pass of shards: which they are, and its record of each
   Shares : Sharded → List ReaderRecord → Role
+  -- no side of any cache
+  Idle : Role
 
 abbrev pub role_of : {V : ℕ} → Side V → Role
 role_of (side.Writer s) = Writes s.writer
 role_of (side.Reader s) = Reads s.reader
 role_of (side.Pass s) = Passes s.pass
 role_of (side.Shard s) = Shares s.shards.value s.pass
+role_of side.Nothing = Idle

@@ -1,11 +1,15 @@
 //! A side of a cache whose values have one of eight widths.
-ghost use Rattle.std.specs.Prelude.{◌≡◌, MatchOption, MatchResult, length};
+ghost use Rattle.std.specs.Prelude.{◌≡◌, IfErr, IfOk, IfSome, MatchOption, MatchResult, length};
 ghost use Rattle.mc_door.specs.Held.{role_in, width_of};
+ghost use Rattle.mc_door.specs.Leaving.{BecomesReader, IsWriterBack, RefusesToLeave};
 ghost use Rattle.mc_door.specs.Listing.{HasListed, RefusesList, SeesMore};
 ghost use Rattle.mc_door.specs.Means.{CanWrite, CapacityIs, LenIs, MomentIs};
+ghost use Rattle.mc_door.specs.Roles.{Idle};
 
+use crate::leaving::LeaveError;
 use crate::listed::ListError;
 use crate::side::Side;
+use crate::widths::with_sides;
 use std::alloc::Global;
 
 /// What a handle keeps: a side of a cache, whose values have as many words as the variant says.
@@ -39,6 +43,13 @@ macro_rules! with_side {
 }
 
 impl Held {
+    /// No side of any cache.
+    pub fn nothing() -> Held
+        ensures { role_in result ≡ Idle }
+    {
+        Held::One(Side::Nothing)
+    }
+
     /// How many words a value has.
     pub fn words(&self) -> usize
         ensures { result ≡ width_of self.now }
@@ -75,5 +86,20 @@ impl Held {
             (λ e. RefusesList (width_of self.old) (role_in self.old) (role_in self.new) (length words.old) e × (words.new ≡ words.old)) }
     {
         with_side!(self, side => side.entries(alloc, words))
+    }
+
+    /// A pass leaves its desk, and is a reader then. The last one that leaves gets the writer.
+    pub fn leave(&mut self) -> Result<Option<Held>, LeaveError>
+        ensures width { width_of self.new ≡ width_of self.old }
+        ensures left { IfOk result (λ left. BecomesReader (role_in self.old) (role_in self.new) ×
+            IfSome left (λ held. (width_of held ≡ width_of self.old) × IsWriterBack (width_of self.old) (role_in self.old) (role_in held))) }
+        ensures refused { IfErr result (λ why. RefusesToLeave (role_in self.old) why × (self.new ≡ self.old)) }
+    {
+        macro_rules! left {
+            ($side:ident, $variant:ident) => {
+                Ok($side.leave()?.map(Held::$variant))
+            };
+        }
+        with_sides!(Held, self, left)
     }
 }

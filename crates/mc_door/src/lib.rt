@@ -6,6 +6,7 @@
 
 mod entries;
 mod held;
+mod leaving;
 mod listed;
 mod looked;
 mod new_passes;
@@ -21,6 +22,7 @@ mod words;
 mod writer_side;
 
 pub use held::Held;
+pub use leaving::LeaveError;
 pub use listed::ListError;
 pub use looked::Looked;
 pub use mc_cache::{

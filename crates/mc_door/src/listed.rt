@@ -80,7 +80,7 @@ impl<const V: usize> Side<V> {
             },
             Side::Pass(side) => of_turn(side.entries(alloc)),
             Side::Shard(side) => of_turn(side.entries(alloc)),
-            Side::Reader(_) => Err(ListError::Kind),
+            Side::Reader(_) | Side::Nothing => Err(ListError::Kind),
         }
     }
 

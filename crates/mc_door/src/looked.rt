@@ -1,8 +1,7 @@
 //! What a lookup tells, where its value is written beside its answer.
-ghost use Rattle.std.specs.Prelude.{◌≡◌, IfOk, length};
-ghost use Rattle.mc_door.specs.Inside.Tells.{Tells};
+ghost use Rattle.std.specs.Prelude.{◌≡◌, length};
+ghost use Rattle.mc_door.specs.Looks.{LeavesUnlessFound, reply_of};
 
-use crate::side::Misuse;
 use mc_cache::Reply;
 
 /// What a lookup told. The value, where there is one, was written where the caller asked for it.
@@ -16,24 +15,22 @@ pub enum Looked {
 impl Looked {
     /// Tells a reply, and writes its value if it has one.
     #[inline(always)]
-    pub(crate) fn of<const V: usize>(
-        answer: Result<Reply<V>, Misuse>,
-        value: &mut [u64],
-    ) -> Result<Looked, Misuse>
-        requires { IfOk answer (λ _. length value.old ≡ V) }
-        ensures { Tells V value.old value.new answer.entry result }
+    pub(crate) fn of<const V: usize>(reply: Reply<V>, value: &mut [u64]) -> Looked
+        requires { length value.old ≡ V }
+        ensures told { reply.entry ≡ reply_of V value.new result }
+        ensures left { LeavesUnlessFound value.old value.new result }
     {
-        match answer? {
+        match reply {
             Reply::Found {
                 value: found,
                 at,
                 since,
             } => {
                 value.copy_from_slice(&found);
-                Ok(Looked::Found { at, since })
+                Looked::Found { at, since }
             }
-            Reply::Absent { at } => Ok(Looked::Absent { at }),
-            Reply::Busy => Ok(Looked::Busy),
+            Reply::Absent { at } => Looked::Absent { at },
+            Reply::Busy => Looked::Busy,
         }
     }
 }

@@ -1,15 +1,15 @@
 //! A side of a cache, for values of so many words.
-ghost use Rattle.std.specs.Prelude.{◌≡◌, ◌↔◌, IsTrue, length, MatchOption, MatchResult};
+ghost use Rattle.std.specs.Prelude.{◌≡◌, length, MatchOption, MatchResult};
 ghost use Rattle.mc_words.specs.Places.{IsWidth};
 ghost use Rattle.mc_door.specs.Roles.{role_of};
-ghost use Rattle.mc_door.specs.Means.{CanLook, CanWrite, GetMeans, GetOrDeskMeans, HasTurns, IsMisuse, Looks, LooksAtDesk, PutIfAbsentMeans, PutIfMeans, PutMeans, RemovalMeans, TryPutIfAbsentMeans, TryPutIfMeans, TryPutMeans, TryRemovalMeans, CapacityIs, LenIs, MomentIs};
+ghost use Rattle.mc_door.specs.Means.{CanLook, CanWrite, GetMeans, GetOrDeskMeans, HasTurns, IsMisuse, PutIfAbsentMeans, PutIfMeans, PutMeans, RemovalMeans, TryPutIfAbsentMeans, TryPutIfMeans, TryPutMeans, TryRemovalMeans, CapacityIs, LenIs, MomentIs};
 
 use crate::looked::Looked;
 use crate::pass_side::PassSide;
 use crate::reader_side::ReaderSide;
 use crate::shard_side::ShardSide;
 use crate::writer_side::WriterSide;
-use mc_cache::{AbsentError, DeskError, IfError, Put, PutError, Remove, Reply, Spent};
+use mc_cache::{AbsentError, DeskError, IfError, Put, PutError, Remove, Spent};
 
 /// Why a call was not made. Nothing was changed.
 #[derive(Clone, Copy, Debug, PartialEq, Eq)]
@@ -27,6 +27,31 @@ pub enum Side<const V: usize> {
     Reader(ReaderSide<V>),
     Pass(PassSide<V>),
     Shard(ShardSide<V>),
+    /// None: it stands for a side that a call has in hand.
+    Nothing,
+}
+
+// A call by a pass, whose value has so many words.
+macro_rules! by_turn {
+    ($side:expr, $words:expr, $pass:ident => $call:expr) => {
+        match $side {
+            Side::Writer(_) | Side::Reader(_) | Side::Nothing => Err(Misuse::Kind),
+            _ if $words != V => Err(Misuse::Width),
+            Side::Pass($pass) => Ok($call),
+            Side::Shard($pass) => Ok($call),
+        }
+    };
+}
+
+// A call by the writer, whose value has so many words.
+macro_rules! by_writer {
+    ($side:expr, $words:expr, $writer:ident => $call:expr) => {
+        match $side {
+            Side::Writer(_) if $words != V => Err(Misuse::Width),
+            Side::Writer($writer) => Ok($call),
+            Side::Reader(_) | Side::Pass(_) | Side::Shard(_) | Side::Nothing => Err(Misuse::Kind),
+        }
+    };
 }
 
 impl<const V: usize> Side<V> {
@@ -36,63 +61,13 @@ impl<const V: usize> Side<V> {
         V
     }
 
-    // Whether it tries for turns: a pass does.
-    fn has_turns(&self) -> bool
-        ensures { IsTrue result ↔ HasTurns (role_of self.now) }
-    {
-        match self {
-            Side::Writer(_) | Side::Reader(_) => false,
-            Side::Pass(_) | Side::Shard(_) => true,
-        }
-    }
-
-    #[inline(always)]
-    fn look(&mut self, key: u64, words: usize) -> Result<Reply<V>, Misuse>
-        ensures { MatchResult result (λ reply. (words ≡ V) × Looks V (role_of self.old) (role_of self.new) key reply)
-            (λ why. IsMisuse CanLook V (role_of self.old) words why × (self.new ≡ self.old)) }
-    {
-        if words != V {
-            return Err(Misuse::Width);
-        }
-        match self {
-            Side::Reader(side) => Ok(side.get(key)),
-            Side::Pass(side) => Ok(side.get(key)),
-            Side::Shard(side) => Ok(side.get(key)),
-            Side::Writer(side) => Ok(side.get(key)),
-        }
-    }
-
-    #[inline(always)]
-    fn look_at_desk(&mut self, key: u64, words: usize) -> Result<Reply<V>, Misuse>
-        ensures { MatchResult result (λ reply. (words ≡ V) × LooksAtDesk V (role_of self.old) (role_of self.new) key reply)
-            (λ why. IsMisuse HasTurns V (role_of self.old) words why × (self.new ≡ self.old)) }
-    {
-        if !self.has_turns() {
-            return Err(Misuse::Kind);
-        }
-        if words != V {
-            return Err(Misuse::Width);
-        }
-        match self {
-            Side::Pass(side) => Ok(side.get_or_desk(key)),
-            Side::Shard(side) => Ok(side.get_or_desk(key)),
-            Side::Writer(_) | Side::Reader(_) => Err(Misuse::Kind),
-        }
-    }
-
     /// Puts a key: `Writer::put`, by the writer.
     #[inline(always)]
     pub fn put(&mut self, key: u64, value: &[u64]) -> Result<Result<Put, PutError>, Misuse>
         ensures { MatchResult result (λ told. PutMeans V (role_of self.old) (role_of self.new) key value.now told)
             (λ why. IsMisuse CanWrite V (role_of self.old) (length value.now) why × (self.new ≡ self.old)) }
     {
-        let Side::Writer(side) = self else {
-            return Err(Misuse::Kind);
-        };
-        if value.len() != V {
-            return Err(Misuse::Width);
-        }
-        Ok(side.put(key, value))
+        by_writer!(self, value.len(), side => side.put(key, value))
     }
 
     /// Puts a key anew, if its last put was at this moment: `Writer::put_if`, by the writer.
@@ -106,13 +81,7 @@ impl<const V: usize> Side<V> {
         ensures { MatchResult result (λ told. PutIfMeans V (role_of self.old) (role_of self.new) key since value.now told)
             (λ why. IsMisuse CanWrite V (role_of self.old) (length value.now) why × (self.new ≡ self.old)) }
     {
-        let Side::Writer(side) = self else {
-            return Err(Misuse::Kind);
-        };
-        if value.len() != V {
-            return Err(Misuse::Width);
-        }
-        Ok(side.put_if(key, since, value))
+        by_writer!(self, value.len(), side => side.put_if(key, since, value))
     }
 
     /// Puts a key if it is absent: `Writer::put_if_absent`, by the writer.
@@ -125,13 +94,7 @@ impl<const V: usize> Side<V> {
         ensures { MatchResult result (λ told. PutIfAbsentMeans V (role_of self.old) (role_of self.new) key value.now told)
             (λ why. IsMisuse CanWrite V (role_of self.old) (length value.now) why × (self.new ≡ self.old)) }
     {
-        let Side::Writer(side) = self else {
-            return Err(Misuse::Kind);
-        };
-        if value.len() != V {
-            return Err(Misuse::Width);
-        }
-        Ok(side.put_if_absent(key, value))
+        by_writer!(self, value.len(), side => side.put_if_absent(key, value))
     }
 
     /// Takes a key out: `Writer::remove`, by the writer.
@@ -155,7 +118,16 @@ impl<const V: usize> Side<V> {
         ensures { MatchResult result (λ told. GetMeans V (role_of self.old) (role_of self.new) key value.old value.new told)
             (λ why. IsMisuse CanLook V (role_of self.old) (length value.old) why × (self.new ≡ self.old) × (value.new ≡ value.old)) }
     {
-        Looked::of(self.look(key, value.len()), value)
+        if value.len() != V {
+            return Err(Misuse::Width);
+        }
+        match self {
+            Side::Reader(side) => Ok(Looked::of(side.get(key), value)),
+            Side::Pass(side) => Ok(Looked::of(side.get(key), value)),
+            Side::Shard(side) => Ok(Looked::of(side.get(key), value)),
+            Side::Writer(side) => Ok(Looked::of(side.get(key), value)),
+            Side::Nothing => Ok(Looked::Busy),
+        }
     }
 
     /// What the cache holds of the key: `Reader::get_or_desk` or `Pass::get_or_desk`, by a pass.
@@ -165,7 +137,7 @@ impl<const V: usize> Side<V> {
         ensures { MatchResult result (λ told. GetOrDeskMeans V (role_of self.old) (role_of self.new) key value.old value.new told)
             (λ why. IsMisuse HasTurns V (role_of self.old) (length value.old) why × (self.new ≡ self.old) × (value.new ≡ value.old)) }
     {
-        Looked::of(self.look_at_desk(key, value.len()), value)
+        by_turn!(self, value.len(), side => Looked::of(side.get_or_desk(key), value))
     }
 }
 
@@ -177,7 +149,7 @@ impl<const V: usize> Side<V> {
             Side::Reader(side) => side.cache.touch_ahead(keys),
             Side::Pass(side) => side.cache.touch_ahead(keys),
             Side::Writer(side) => side.cache.touch_ahead(keys),
-            Side::Shard(_) => {}
+            Side::Shard(_) | Side::Nothing => {}
         }
     }
 
@@ -191,17 +163,7 @@ impl<const V: usize> Side<V> {
         ensures { MatchResult result (λ told. TryPutMeans V (role_of self.old) (role_of self.new) key value.now told)
             (λ why. IsMisuse HasTurns V (role_of self.old) (length value.now) why × (self.new ≡ self.old)) }
     {
-        if !self.has_turns() {
-            return Err(Misuse::Kind);
-        }
-        if value.len() != V {
-            return Err(Misuse::Width);
-        }
-        match self {
-            Side::Pass(side) => Ok(side.try_put(key, value)),
-            Side::Shard(side) => Ok(side.try_put(key, value)),
-            Side::Writer(_) | Side::Reader(_) => Err(Misuse::Kind),
-        }
+        by_turn!(self, value.len(), side => side.try_put(key, value))
     }
 
     /// Tries up to so many times, at least once, for the turn, to put, by a pass.
@@ -215,17 +177,7 @@ impl<const V: usize> Side<V> {
         ensures { MatchResult result (λ told. TryPutMeans V (role_of self.old) (role_of self.new) key value.now told)
             (λ why. IsMisuse HasTurns V (role_of self.old) (length value.now) why × (self.new ≡ self.old)) }
     {
-        if !self.has_turns() {
-            return Err(Misuse::Kind);
-        }
-        if value.len() != V {
-            return Err(Misuse::Width);
-        }
-        match self {
-            Side::Pass(side) => Ok(side.put_within(tries, key, value)),
-            Side::Shard(side) => Ok(side.put_within(tries, key, value)),
-            Side::Writer(_) | Side::Reader(_) => Err(Misuse::Kind),
-        }
+        by_turn!(self, value.len(), side => side.put_within(tries, key, value))
     }
 
     /// Tries once for the turn, to put on a condition: `Desk::try_put_if` or `Pass::try_put_if`, by a pass.
@@ -239,17 +191,7 @@ impl<const V: usize> Side<V> {
         ensures { MatchResult result (λ told. TryPutIfMeans V (role_of self.old) (role_of self.new) key since value.now told)
             (λ why. IsMisuse HasTurns V (role_of self.old) (length value.now) why × (self.new ≡ self.old)) }
     {
-        if !self.has_turns() {
-            return Err(Misuse::Kind);
-        }
-        if value.len() != V {
-            return Err(Misuse::Width);
-        }
-        match self {
-            Side::Pass(side) => Ok(side.try_put_if(key, since, value)),
-            Side::Shard(side) => Ok(side.try_put_if(key, since, value)),
-            Side::Writer(_) | Side::Reader(_) => Err(Misuse::Kind),
-        }
+        by_turn!(self, value.len(), side => side.try_put_if(key, since, value))
     }
 
     /// Tries once for the turn, to put a key if it is absent: `Desk::try_put_if_absent` or `Pass::try_put_if_absent`, by a pass.
@@ -262,17 +204,7 @@ impl<const V: usize> Side<V> {
         ensures { MatchResult result (λ told. TryPutIfAbsentMeans V (role_of self.old) (role_of self.new) key value.now told)
             (λ why. IsMisuse HasTurns V (role_of self.old) (length value.now) why × (self.new ≡ self.old)) }
     {
-        if !self.has_turns() {
-            return Err(Misuse::Kind);
-        }
-        if value.len() != V {
-            return Err(Misuse::Width);
-        }
-        match self {
-            Side::Pass(side) => Ok(side.try_put_if_absent(key, value)),
-            Side::Shard(side) => Ok(side.try_put_if_absent(key, value)),
-            Side::Writer(_) | Side::Reader(_) => Err(Misuse::Kind),
-        }
+        by_turn!(self, value.len(), side => side.try_put_if_absent(key, value))
     }
 
     /// Tries once for the turn, to take a key out: `Desk::try_remove` or `Pass::try_remove`, by a pass.
@@ -281,11 +213,7 @@ impl<const V: usize> Side<V> {
         ensures { MatchResult result (λ told. TryRemovalMeans V (role_of self.old) (role_of self.new) key told)
             (λ why. IsMisuse HasTurns V (role_of self.old) V why × (self.new ≡ self.old)) }
     {
-        match self {
-            Side::Pass(side) => Ok(side.try_remove(key)),
-            Side::Shard(side) => Ok(side.try_remove(key)),
-            Side::Writer(_) | Side::Reader(_) => Err(Misuse::Kind),
-        }
+        by_turn!(self, V, side => side.try_remove(key))
     }
 }
 

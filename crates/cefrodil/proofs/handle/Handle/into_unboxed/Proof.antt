@@ -34,7 +34,7 @@ into_unboxed_spec 𝓤 𝓛 𝓜 𝓡 wired =
     let Runs : List Val → SProp 𝓤 = λ ws. WpFn 𝓤 H 𝓣.C 𝓣.Λ fn ws ((walk_of 𝓛 f.ended stayed c).post z) in
     qed 𝓛 ((raw (alive 𝓛 f.ended.signature z.0.0 z.0.1) ⊛ ‵ (owns (types_at f.ended.signature.params z.0.0) z.0.3 z.0.4)) ∷ raw (fact 𝓤 Full) ∷ []) ∵
     move ! (1 ∷ []) $ heard ! Full (λ full. let kept = some_of handle.value full in
-    split ! $ move ! (1 ∷ []) $ fsplit ! $ full_out ! handle kept.0 kept.1 z.0.4.0 (λ b o h is fits.
+    split ! $ move ! (1 ∷ []) $ fsplit ! $ full_out ! handle kept.0 kept.1 z.0.4.0 (λ b o h at is fits.
     let w : Val = at_block h b o in let typed = block_typed h b o fits in let made : Boxed.Denot = record { at = block_ptr b o; alloc = handle.alloc; value = kept.0 } in
     suffices ! (Runs (w ∷ [])) (subst (λ (ws : List Val). ent 𝓤 (Runs (w ∷ [])) (Runs ws)) (sym (λ i. is i ++ [])) (id⊢ 𝓤 (Runs (w ∷ [])))) $
     enter ! 𝓣.C 𝓣.Λ fn (w ∷ []) _ $ alloc_all ! (λ locals. pass_all ! refl (typed, tt) $
