@@ -230,6 +230,19 @@ cefrodil_status cefrodil_try_remove(cefrodil_handle *pass, uint64_t key, cefrodi
 cefrodil_status cefrodil_put_within(cefrodil_handle *pass, uint32_t tries, uint64_t key, const uint64_t *value,
                                     size_t words, cefrodil_reply *reply);
 
+/* Like cefrodil_put, cefrodil_put_if and cefrodil_remove, and they also return the entry that gives way: the key's earlier one, or that
+ * of the key that was evicted. So a program that keeps objects behind the cache knows which to free. By the writer; or by a pass,
+ * which tries once for the turn. `former` has `former_words` words.
+ * OK: as without that. If an entry gave way, `former` is its value, and `since` the `at` of its last put. If a new key evicted none,
+ * `former` is unchanged, and `since` is 0. HELD: the try of a pass did not win. WIDTH: `words` or `former_words` does not match.
+ * Otherwise as without that. Unless OK, `former` is unchanged. */
+CEFRODIL_CHECKED cefrodil_status cefrodil_swap(cefrodil_handle *handle, uint64_t key, const uint64_t *value, size_t words,
+                                               uint64_t *former, size_t former_words, cefrodil_reply *reply);
+CEFRODIL_CHECKED cefrodil_status cefrodil_swap_if(cefrodil_handle *handle, uint64_t key, uint64_t since, const uint64_t *value,
+                                                  size_t words, uint64_t *former, size_t former_words, cefrodil_reply *reply);
+CEFRODIL_CHECKED cefrodil_status cefrodil_take_out(cefrodil_handle *handle, uint64_t key, uint64_t *former, size_t former_words,
+                                                   cefrodil_reply *reply);
+
 /* The number of changes to the table, which is the `at` of a lookup made now; the number of keys in it; the number of keys that it
  * holds at most, the `items` of its shape. By the writer. None of the three looks through the table.
  * OK: the number is set. CLOSED, KIND: it is unchanged. */
@@ -273,6 +286,9 @@ CEFRODIL_NO_NULL(cefrodil_put_within);
 CEFRODIL_NO_NULL(cefrodil_try_put_if);
 CEFRODIL_NO_NULL(cefrodil_try_put_if_absent);
 CEFRODIL_NO_NULL(cefrodil_try_remove);
+CEFRODIL_NO_NULL(cefrodil_swap);
+CEFRODIL_NO_NULL(cefrodil_swap_if);
+CEFRODIL_NO_NULL(cefrodil_take_out);
 CEFRODIL_NO_NULL(cefrodil_close);
 #undef CEFRODIL_NO_NULL
 #endif

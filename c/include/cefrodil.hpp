@@ -83,6 +83,17 @@ struct Written {
     bool renewed;
 };
 
+// The answer of a write that also returns the entry which gives way. `old` is there if one did: its value. `old_since` is the `at` of its last
+// put, and its key is `evicted` if that is there, or else the key that was written.
+template <size_t Words> struct Swapped {
+    Status status;
+    std::optional<uint64_t> evicted;
+    std::optional<std::array<uint64_t, Words>> old;
+    uint64_t at;
+    uint64_t old_since;
+    uint64_t since; // set by the status `changed`
+};
+
 // What a Writer, a Reader and a Pass have in common: a handle that moves, and closes itself.
 class Handle {
   public:
@@ -126,6 +137,37 @@ template <size_t Words> Answer<Words> answer(cefrodil_status status, const cefro
         told.value = value;
     }
     return told;
+}
+
+// `gone`: an entry gives way if the call is done.
+template <size_t Words> Swapped<Words> swapped(cefrodil_status status, const cefrodil_reply &reply, const std::array<uint64_t, Words> &old, bool gone) {
+    const Written write = written(status, reply);
+    const bool done = status == CEFRODIL_OK && gone;
+    Swapped<Words> told{write.status, write.evicted, std::nullopt, write.at, done ? write.since : 0, done ? 0 : write.since};
+    if (done) {
+        told.old = old;
+    }
+    return told;
+}
+
+// The calls by the writer or a pass that return the entry which gives way.
+template <size_t Words> Swapped<Words> swap(cefrodil_handle *raw, uint64_t key, const std::array<uint64_t, Words> &value) {
+    cefrodil_reply reply;
+    std::array<uint64_t, Words> old{};
+    const cefrodil_status status = cefrodil_swap(raw, key, value.data(), Words, old.data(), Words, &reply);
+    return swapped<Words>(status, reply, old, reply.put != CEFRODIL_PUT_STORED);
+}
+template <size_t Words> Swapped<Words> swap_if(cefrodil_handle *raw, uint64_t key, uint64_t since, const std::array<uint64_t, Words> &value) {
+    cefrodil_reply reply;
+    std::array<uint64_t, Words> old{};
+    const cefrodil_status status = cefrodil_swap_if(raw, key, since, value.data(), Words, old.data(), Words, &reply);
+    return swapped<Words>(status, reply, old, true);
+}
+template <size_t Words> Swapped<Words> take(cefrodil_handle *raw, uint64_t key) {
+    cefrodil_reply reply;
+    std::array<uint64_t, Words> old{};
+    const cefrodil_status status = cefrodil_take_out(raw, key, old.data(), Words, &reply);
+    return swapped<Words>(status, reply, old, true);
 }
 
 // Lists the entries by a handle: how many they are, and then each, until they fit.
@@ -186,6 +228,10 @@ template <size_t Words> class Writer : public Handle {
         const cefrodil_status status = cefrodil_remove(raw(), key, &reply);
         return inside::written(status, reply);
     }
+    // Like put, put_if and remove, and they also return the entry that gives way.
+    [[nodiscard]] Swapped<Words> swap(uint64_t key, const Value &value) { return inside::swap<Words>(raw(), key, value); }
+    [[nodiscard]] Swapped<Words> swap_if(uint64_t key, uint64_t since, const Value &value) { return inside::swap_if<Words>(raw(), key, since, value); }
+    [[nodiscard]] Swapped<Words> take(uint64_t key) { return inside::take<Words>(raw(), key); }
     // Never busy.
     [[nodiscard]] Answer<Words> get(uint64_t key) {
         cefrodil_reply reply;
@@ -258,6 +304,12 @@ template <size_t Words> class Pass : public Reader<Words> {
         const cefrodil_status status = cefrodil_try_remove(this->raw(), key, &reply);
         return inside::written(status, reply);
     }
+    // Like try_put, try_put_if and try_remove, and they also return the entry that gives way.
+    [[nodiscard]] Swapped<Words> try_swap(uint64_t key, const Value &value) { return inside::swap<Words>(this->raw(), key, value); }
+    [[nodiscard]] Swapped<Words> try_swap_if(uint64_t key, uint64_t since, const Value &value) {
+        return inside::swap_if<Words>(this->raw(), key, since, value);
+    }
+    [[nodiscard]] Swapped<Words> try_take(uint64_t key) { return inside::take<Words>(this->raw(), key); }
     // Like Writer::entries. It is held if a try for the turn does not win.
     Status try_entries(std::vector<uint64_t> &words) { return inside::entries<Words>(this->raw(), words); }
 };

@@ -2,7 +2,7 @@
 use crate::error::{OpenError, PutError, PutIfAbsentError, PutIfError, Spent, Why};
 use crate::handle::Handle;
 use crate::raw;
-use crate::reply::{self, Put, Removal, Reply};
+use crate::reply::{self, Put, Removal, Replaced, Reply, Swapped, Take};
 use crate::shape::Shape;
 use crate::width::Value;
 use std::fmt::{self, Debug, Formatter};
@@ -189,6 +189,52 @@ impl<const WORDS: usize> Writer<WORDS> {
     /// [`Spent`]: nothing was changed.
     pub fn remove(&mut self, key: u64) -> Result<Removal, Spent> {
         Removal::of(self.0.remove(key))
+    }
+
+    /// Puts the key as [`put`](Writer::put) does, and returns the entry that gives way: the key's earlier one, or that of the key that
+    /// was evicted. So a program that keeps objects behind the cache knows which to drop.
+    ///
+    /// # Errors
+    ///
+    /// [`PutError`]: no key and no value was changed.
+    ///
+    /// # Examples
+    ///
+    /// ```
+    /// use cefrodil::{Cache, Entry, Shape};
+    ///
+    /// let (mut writer, _readers) = Cache::<1>::open(&Shape::for_items(1)?, 1)?;
+    /// assert_eq!(writer.swap(7, &[70])?.old, None);
+    /// assert_eq!(writer.swap(7, &[71])?.old, Some(Entry { key: 7, value: [70], since: 1 }));
+    /// assert_eq!(writer.swap(8, &[80])?.old, Some(Entry { key: 7, value: [71], since: 2 }));
+    /// # Ok::<(), Box<dyn std::error::Error>>(())
+    /// ```
+    pub fn swap(&mut self, key: u64, value: &[u64; WORDS]) -> Result<Swapped<WORDS>, PutError> {
+        let mut old = [0; WORDS];
+        let told = self.0.swap(key, value, &mut old);
+        Swapped::of(key, old, told)
+    }
+
+    /// Overwrites the key's value as [`put_if`](Writer::put_if) does, and returns the earlier entry.
+    ///
+    /// # Errors
+    ///
+    /// The first variant of [`PutIfError`] that applies, in their order. Nothing was changed.
+    pub fn swap_if(&mut self, key: u64, since: u64, value: &[u64; WORDS]) -> Result<Replaced<WORDS>, PutIfError> {
+        let mut old = [0; WORDS];
+        let told = self.0.swap_if(key, since, value, &mut old);
+        Replaced::of(key, old, told)
+    }
+
+    /// Removes the key as [`remove`](Writer::remove) does, and returns its entry.
+    ///
+    /// # Errors
+    ///
+    /// [`Spent`]: nothing was changed.
+    pub fn take(&mut self, key: u64) -> Result<Take<WORDS>, Spent> {
+        let mut old = [0; WORDS];
+        let told = self.0.take_out(key, &mut old);
+        Take::of(key, old, told)
     }
 
     /// Looks the key up. Never [`Reply::Busy`]. A hit marks the key as recently used.

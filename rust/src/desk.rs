@@ -1,7 +1,7 @@
 //! A cache for threads that write by turns.
 use crate::error::{OpenError, PutError, PutIfAbsentError, PutIfError, Spent, TurnError};
 use crate::handle::Handle;
-use crate::reply::{self, Put, Removal, Reply};
+use crate::reply::{self, Put, Removal, Replaced, Reply, Swapped, Take};
 use crate::shape::Shape;
 use crate::width::Value;
 use std::fmt::{self, Debug, Formatter};
@@ -199,6 +199,39 @@ impl<const WORDS: usize> Pass<'_, WORDS> {
     /// [`TurnError`]: nothing was changed.
     pub fn try_remove(&mut self, key: u64) -> Result<Removal, TurnError<Spent>> {
         reply::turn(self.handle().try_remove(key), Removal::of)
+    }
+
+    /// Like [`try_put`](Pass::try_put), with [`Writer::swap`](crate::Writer::swap).
+    ///
+    /// # Errors
+    ///
+    /// [`TurnError`]: no key and no value was changed.
+    pub fn try_swap(&mut self, key: u64, value: &[u64; WORDS]) -> Result<Swapped<WORDS>, TurnError<PutError>> {
+        let mut old = [0; WORDS];
+        let told = self.handle().swap(key, value, &mut old);
+        reply::turn(told, |told| Swapped::of(key, old, told))
+    }
+
+    /// Like [`try_put`](Pass::try_put), with [`Writer::swap_if`](crate::Writer::swap_if).
+    ///
+    /// # Errors
+    ///
+    /// [`TurnError`]: nothing was changed.
+    pub fn try_swap_if(&mut self, key: u64, since: u64, value: &[u64; WORDS]) -> Result<Replaced<WORDS>, TurnError<PutIfError>> {
+        let mut old = [0; WORDS];
+        let told = self.handle().swap_if(key, since, value, &mut old);
+        reply::turn(told, |told| Replaced::of(key, old, told))
+    }
+
+    /// Like [`try_put`](Pass::try_put), with [`Writer::take`](crate::Writer::take).
+    ///
+    /// # Errors
+    ///
+    /// [`TurnError`]: nothing was changed.
+    pub fn try_take(&mut self, key: u64) -> Result<Take<WORDS>, TurnError<Spent>> {
+        let mut old = [0; WORDS];
+        let told = self.handle().take_out(key, &mut old);
+        reply::turn(told, |told| Take::of(key, old, told))
     }
 
     /// Lists each key with its value, in a turn, as [`Writer::entries`](crate::Writer::entries) does. A pass of shards takes a turn

@@ -201,6 +201,34 @@ impl Handle {
         let status = unsafe { raw::cefrodil_try_remove(&mut self.0, key, &mut reply) };
         (status, reply)
     }
+
+    pub fn swap(&mut self, key: u64, value: &[u64], old: &mut [u64]) -> (u32, RawReply) {
+        let mut reply = RawReply::default();
+        let (value_words, old_words) = (value.len(), old.len());
+        // SAFETY: as in `get`; the lengths of the two arrays are passed with them.
+        let status = unsafe {
+            raw::cefrodil_swap(&mut self.0, key, value.as_ptr(), value_words, old.as_mut_ptr(), old_words, &mut reply)
+        };
+        (status, reply)
+    }
+
+    pub fn swap_if(&mut self, key: u64, since: u64, value: &[u64], old: &mut [u64]) -> (u32, RawReply) {
+        let mut reply = RawReply::default();
+        let (value_words, old_words) = (value.len(), old.len());
+        // SAFETY: as in `swap`.
+        let status = unsafe {
+            raw::cefrodil_swap_if(&mut self.0, key, since, value.as_ptr(), value_words, old.as_mut_ptr(), old_words, &mut reply)
+        };
+        (status, reply)
+    }
+
+    pub fn take_out(&mut self, key: u64, old: &mut [u64]) -> (u32, RawReply) {
+        let mut reply = RawReply::default();
+        // SAFETY: as in `get`.
+        let status = unsafe { raw::cefrodil_take_out(&mut self.0, key, old.as_mut_ptr(), old.len(), &mut reply) };
+        (status, reply)
+    }
+
     pub fn moment(&mut self) -> (u32, u64) {
         self.number(raw::cefrodil_moment)
     }

@@ -21,7 +21,7 @@ pub use desk::{Desk, Pass};
 pub use error::{OpenError, PutError, PutIfAbsentError, PutIfError, Spent, TurnError, Why};
 pub use handle::version;
 pub use pool::{Lent, Pool};
-pub use reply::{Put, Removal, Reply};
+pub use reply::{Entry, Put, Removal, Replaced, Reply, Swapped, Take};
 pub use shape::{Mix, Shape};
 pub use shards::Shards;
 pub use width::Value;

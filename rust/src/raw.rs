@@ -140,6 +140,26 @@ unsafe extern "C" {
         reply: *mut RawReply,
     ) -> u32;
     pub fn cefrodil_try_remove(pass: *mut RawHandle, key: u64, reply: *mut RawReply) -> u32;
+    pub fn cefrodil_swap(
+        handle: *mut RawHandle,
+        key: u64,
+        value: *const u64,
+        words: usize,
+        former: *mut u64,
+        former_words: usize,
+        reply: *mut RawReply,
+    ) -> u32;
+    pub fn cefrodil_swap_if(
+        handle: *mut RawHandle,
+        key: u64,
+        since: u64,
+        value: *const u64,
+        words: usize,
+        former: *mut u64,
+        former_words: usize,
+        reply: *mut RawReply,
+    ) -> u32;
+    pub fn cefrodil_take_out(handle: *mut RawHandle, key: u64, former: *mut u64, former_words: usize, reply: *mut RawReply) -> u32;
     pub fn cefrodil_moment(writer: *mut RawHandle, moment: *mut u64) -> u32;
     pub fn cefrodil_len(writer: *mut RawHandle, len: *mut u64) -> u32;
     pub fn cefrodil_capacity(writer: *mut RawHandle, capacity: *mut u64) -> u32;

@@ -60,6 +60,52 @@ pub enum Removal {
     },
 }
 
+/// An entry that a write took out of the cache, as it was just before.
+#[derive(Clone, Copy, Debug, PartialEq, Eq, Hash)]
+pub struct Entry<const WORDS: usize> {
+    /// The key.
+    pub key: u64,
+    /// The value.
+    pub value: [u64; WORDS],
+    /// The moment of the key's last put.
+    pub since: u64,
+}
+
+/// What a put did, and the entry that gave way to it.
+#[derive(Clone, Copy, Debug, PartialEq, Eq, Hash)]
+pub struct Swapped<const WORDS: usize> {
+    /// What the put did.
+    pub put: Put,
+    /// The key's earlier entry, or that of the key that was evicted. `None` if the key is new and evicted no other.
+    pub old: Option<Entry<WORDS>>,
+}
+
+/// What a conditional put did.
+#[derive(Clone, Copy, Debug, PartialEq, Eq, Hash)]
+pub struct Replaced<const WORDS: usize> {
+    /// The moment of the put.
+    pub at: u64,
+    /// The key's earlier entry.
+    pub old: Entry<WORDS>,
+}
+
+/// What a removal did that returns the entry. `at` is its moment: the number of changes to the table after it.
+#[derive(Clone, Copy, Debug, PartialEq, Eq, Hash)]
+pub enum Take<const WORDS: usize> {
+    /// The key was removed.
+    Taken {
+        /// The moment.
+        at: u64,
+        /// The entry.
+        old: Entry<WORDS>,
+    },
+    /// The key was not there.
+    NotThere {
+        /// The moment.
+        at: u64,
+    },
+}
+
 type Told = (u32, RawReply);
 
 // Other statuses mean a closed handle, a handle of another kind, or another width. The types of this crate exclude them.
@@ -158,6 +204,34 @@ pub(crate) fn put_if_absent((status, reply): Told) -> Result<Put, PutIfAbsentErr
     Put::of((status, reply)).map_err(PutIfAbsentError::Put)
 }
 
+impl<const WORDS: usize> Swapped<WORDS> {
+    pub(crate) fn of(key: u64, value: [u64; WORDS], told: Told) -> Result<Swapped<WORDS>, PutError> {
+        let put = Put::of(told)?;
+        let entry = |key| Some(Entry { key, value, since: told.1.since });
+        let old = match put {
+            Put::Renewed { .. } => entry(key),
+            Put::Stored { evicted, .. } => evicted.and_then(entry),
+        };
+        Ok(Swapped { put, old })
+    }
+}
+
+impl<const WORDS: usize> Replaced<WORDS> {
+    pub(crate) fn of(key: u64, value: [u64; WORDS], told: Told) -> Result<Replaced<WORDS>, PutIfError> {
+        let at = put_if(told)?;
+        Ok(Replaced { at, old: Entry { key, value, since: told.1.since } })
+    }
+}
+
+impl<const WORDS: usize> Take<WORDS> {
+    pub(crate) fn of(key: u64, value: [u64; WORDS], told: Told) -> Result<Take<WORDS>, Spent> {
+        Ok(match Removal::of(told)? {
+            Removal::Removed { at } => Take::Taken { at, old: Entry { key, value, since: told.1.since } },
+            Removal::NotThere { at } => Take::NotThere { at },
+        })
+    }
+}
+
 /// A number that the writer knows.
 pub(crate) fn number((status, number): (u32, u64)) -> u64 {
     match status {
@@ -190,7 +264,7 @@ fn entry<const WORDS: usize>(words: &[u64]) -> (u64, [u64; WORDS]) {
 }
 
 /// The answer of a try for the turn. With the turn, it is the answer of the call.
-pub(crate) fn turn<T, E>(told: Told, answer: fn(Told) -> Result<T, E>) -> Result<T, TurnError<E>> {
+pub(crate) fn turn<T, E>(told: Told, answer: impl FnOnce(Told) -> Result<T, E>) -> Result<T, TurnError<E>> {
     if told.0 == raw::HELD {
         return Err(TurnError::Held);
     }

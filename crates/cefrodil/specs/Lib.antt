@@ -8,5 +8,6 @@ pub mod Open
 pub mod Openings
 pub mod RawShapes
 pub mod ShardOpenings
+pub mod Taking
 pub mod Tellings
 pub mod Inside

@@ -43,7 +43,7 @@ pub(crate) struct Told {
 
 impl Told {
     #[inline(always)]
-    fn plain(status: u32) -> Told
+    pub(crate) fn plain(status: u32) -> Told
         ensures { result ≡ plain status }
     {
         Told {
@@ -68,7 +68,7 @@ impl Told {
     }
 
     #[inline(always)]
-    fn misuse(why: Misuse) -> Told
+    pub(crate) fn misuse(why: Misuse) -> Told
         ensures { result ≡ misuse_told why }
     {
         match why {
@@ -79,7 +79,7 @@ impl Told {
 
     // A status and a moment.
     #[inline(always)]
-    fn at(status: u32, at: u64) -> Told
+    pub(crate) fn at(status: u32, at: u64) -> Told
         ensures { result ≡ told_at status at }
     {
         let mut told = Told::plain(status);
@@ -103,7 +103,7 @@ impl Told {
     }
 
     #[inline(always)]
-    fn done(put: Put) -> Told
+    pub(crate) fn done(put: Put) -> Told
         ensures { result ≡ done_told put }
     {
         let (at, moves, evicted) = match put {
@@ -127,7 +127,7 @@ impl Told {
     }
 
     #[inline(always)]
-    fn not_put(why: PutError) -> Told
+    pub(crate) fn not_put(why: PutError) -> Told
         ensures { result ≡ not_put_told why }
     {
         match why {
@@ -148,7 +148,7 @@ impl Told {
     }
 
     #[inline(always)]
-    fn not_put_if(why: IfError) -> Told
+    pub(crate) fn not_put_if(why: IfError) -> Told
         ensures { result ≡ not_put_if_told why }
     {
         match why {
@@ -164,7 +164,7 @@ impl Told {
 
     // A put on a condition always finds its key.
     #[inline(always)]
-    fn done_if(at: u64) -> Told
+    pub(crate) fn done_if(at: u64) -> Told
         ensures { result ≡ done_told (Renewed at) }
     {
         Told::done(Put::Renewed { at })

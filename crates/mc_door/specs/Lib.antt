@@ -1,5 +1,6 @@
 pub mod Looks
 pub mod Roles
+pub mod Taking
 pub mod AtShards
 pub mod Means
 pub mod Held

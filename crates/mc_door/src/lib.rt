@@ -17,6 +17,7 @@ mod rest;
 mod shard_rest;
 mod shard_side;
 mod side;
+mod taking;
 mod widths;
 mod words;
 mod writer_side;
@@ -26,8 +27,8 @@ pub use leaving::LeaveError;
 pub use listed::ListError;
 pub use looked::Looked;
 pub use mc_cache::{
-    AbsentError, DeskError, GROUP, IfError, OpenError, Put, PutError, Remove, Shape, ShapeError,
-    Spent, Why,
+    AbsentError, DeskError, Entry, GROUP, IfError, OpenError, Put, PutError, Remove, Replaced, Shape,
+    ShapeError, Spent, Swapped, Take, Why,
 };
 pub use mc_shards::{OpenShardsError, shard_shape};
 pub use new_passes::NewPasses;

@@ -1,0 +1,109 @@
+/* A program keeps objects behind the cache: the value of a key is the number of its object. Each object that it makes is in the cache, or was
+ * returned to be freed, and none twice. */
+#include "cefrodil.h"
+#include "must.h"
+#include <stdio.h>
+
+enum { OBJECTS = 1000, ITEMS = 100, KEYS = 300 };
+
+static cefrodil_handle handle = CEFRODIL_EMPTY;
+static int freed[OBJECTS];
+
+static void free_object(uint64_t object) {
+    MUST(object < OBJECTS);
+    if (object < OBJECTS) {
+        freed[object]++;
+    }
+}
+
+/* Puts an object under its key, and frees the one that gives way. */
+static void keep(uint64_t object) {
+    cefrodil_reply reply;
+    uint64_t old = OBJECTS;
+    MUST(cefrodil_swap(&handle, object * 7 % KEYS, &object, 1, &old, 1, &reply) == CEFRODIL_OK);
+    if (reply.put != CEFRODIL_PUT_STORED) {
+        MUST(reply.since != 0);
+        free_object(old);
+    } else {
+        MUST(old == OBJECTS && reply.since == 0);
+    }
+}
+
+/* Takes every key out, and frees its object. */
+static void empty(void) {
+    for (uint64_t key = 0; key < KEYS; key++) {
+        cefrodil_reply reply;
+        uint64_t old = OBJECTS;
+        const uint32_t status = cefrodil_take_out(&handle, key, &old, 1, &reply);
+        MUST(status == CEFRODIL_OK || (status == CEFRODIL_ABSENT && old == OBJECTS));
+        if (status == CEFRODIL_OK) {
+            free_object(old);
+        }
+    }
+}
+
+static void keep_all(void) {
+    for (int i = 0; i < OBJECTS; i++) {
+        freed[i] = 0;
+    }
+    for (uint64_t object = 0; object < OBJECTS; object++) {
+        keep(object);
+    }
+    empty();
+    for (int i = 0; i < OBJECTS; i++) {
+        MUST(freed[i] == 1);
+    }
+    MUST(cefrodil_close(&handle) == CEFRODIL_OK);
+}
+
+/* An object takes the place of another one only if that is the one that was seen. */
+static void replace(void) {
+    cefrodil_reply reply;
+    uint64_t value = 70, old = 0;
+    MUST(cefrodil_swap(&handle, 7, &value, 1, &old, 1, &reply) == CEFRODIL_OK && reply.put == CEFRODIL_PUT_STORED && reply.at == 1);
+    value = 71;
+    MUST(cefrodil_swap_if(&handle, 7, 2, &value, 1, &old, 1, &reply) == CEFRODIL_CHANGED && reply.since == 1 && old == 0);
+    MUST(cefrodil_swap_if(&handle, 8, 1, &value, 1, &old, 1, &reply) == CEFRODIL_ABSENT && reply.at == 1 && old == 0);
+    MUST(cefrodil_swap_if(&handle, 7, 1, &value, 1, &old, 1, &reply) == CEFRODIL_OK && reply.at == 2 && reply.since == 1 && old == 70);
+    MUST(reply.put == CEFRODIL_PUT_RENEWED);
+    MUST(cefrodil_take_out(&handle, 7, &old, 1, &reply) == CEFRODIL_OK && reply.at == 3 && reply.since == 2 && old == 71);
+    MUST(cefrodil_take_out(&handle, 7, &old, 1, &reply) == CEFRODIL_ABSENT && reply.at == 3 && old == 71);
+    MUST(cefrodil_swap(&handle, 7, &value, 1, &old, 2, &reply) == CEFRODIL_WIDTH && cefrodil_take_out(&handle, 7, &old, 2, &reply) == CEFRODIL_WIDTH);
+    MUST(cefrodil_close(&handle) == CEFRODIL_OK);
+    MUST(cefrodil_swap(&handle, 7, &value, 1, &old, 1, &reply) == CEFRODIL_CLOSED && old == 71);
+    MUST(cefrodil_swap_if(&handle, 7, 1, &value, 1, &old, 1, &reply) == CEFRODIL_CLOSED);
+    MUST(cefrodil_take_out(&handle, 7, &old, 1, &reply) == CEFRODIL_CLOSED);
+}
+
+static void by_a_reader(cefrodil_handle *reader) {
+    cefrodil_reply reply;
+    uint64_t value = 70, old = 0;
+    MUST(cefrodil_swap(reader, 7, &value, 1, &old, 1, &reply) == CEFRODIL_KIND && cefrodil_take_out(reader, 7, &old, 1, &reply) == CEFRODIL_KIND);
+    MUST(cefrodil_swap_if(reader, 7, 1, &value, 1, &old, 1, &reply) == CEFRODIL_KIND);
+    MUST(cefrodil_close(reader) == CEFRODIL_OK);
+}
+
+int main(void) {
+    cefrodil_shape shape, of_shard;
+    cefrodil_handle reader = CEFRODIL_EMPTY;
+    MUST(cefrodil_shape_for_items(ITEMS, &shape) == CEFRODIL_OK && cefrodil_shape_for_shards(ITEMS, 4, &of_shard) == CEFRODIL_OK);
+    MUST(cefrodil_open(&shape, 1, &handle, &reader, 1) == CEFRODIL_OK);
+    keep_all();
+    by_a_reader(&reader);
+    MUST(cefrodil_open_desk(&shape, 1, &handle, 1) == CEFRODIL_OK);
+    keep_all();
+    MUST(cefrodil_open_shards(&of_shard, 4, 1, &handle, 1) == CEFRODIL_OK);
+    keep_all();
+    MUST(cefrodil_open(&shape, 1, &handle, &reader, 1) == CEFRODIL_OK && cefrodil_close(&reader) == CEFRODIL_OK);
+    replace();
+    MUST(cefrodil_open_desk(&shape, 1, &handle, 1) == CEFRODIL_OK);
+    replace();
+    MUST(cefrodil_open_shards(&of_shard, 4, 1, &handle, 1) == CEFRODIL_OK);
+    replace();
+    if (line_of_failure != 0) {
+        printf("objects: line %d fails\n", line_of_failure);
+        return 1;
+    }
+    puts("objects: ok");
+    return 0;
+}

@@ -1,0 +1,71 @@
+//! A program keeps objects behind the cache: the value of a key is the number of its object. Each object that it makes is in the cache, or was
+//! returned to be dropped, and none twice.
+use cefrodil::{Cache, Desk, Entry, Pass, PutIfError, Shape, Shards, Take, TurnError, Writer};
+
+const OBJECTS: u64 = 1_000;
+const KEYS: u64 = 300;
+
+fn key_of(object: u64) -> u64 {
+    object * 7 % KEYS
+}
+
+fn each_once(mut returned: Vec<u64>) {
+    returned.sort_unstable();
+    assert_eq!(returned, (0..OBJECTS).collect::<Vec<_>>());
+}
+
+fn keep_by_writer(writer: &mut Writer<1>) -> Vec<u64> {
+    let mut returned = Vec::new();
+    for object in 0..OBJECTS {
+        let swapped = writer.swap(key_of(object), &[object]).expect("there is room");
+        returned.extend(swapped.old.map(|old| old.value[0]));
+    }
+    for key in 0..KEYS {
+        if let Take::Taken { old, .. } = writer.take(key).expect("the limit is far") {
+            returned.push(old.value[0]);
+        }
+    }
+    returned
+}
+
+fn keep_by_pass(pass: &mut Pass<1>) -> Vec<u64> {
+    let mut returned = Vec::new();
+    for object in 0..OBJECTS {
+        let swapped = pass.try_swap(key_of(object), &[object]).expect("nobody else has the turn");
+        returned.extend(swapped.old.map(|old| old.value[0]));
+    }
+    for key in 0..KEYS {
+        if let Take::Taken { old, .. } = pass.try_take(key).expect("nobody else has the turn") {
+            returned.push(old.value[0]);
+        }
+    }
+    returned
+}
+
+#[test]
+fn no_object_is_lost() {
+    let shape = Shape::for_items(100).unwrap();
+    let (mut writer, _readers) = Cache::<1>::open(&shape, 1).unwrap();
+    each_once(keep_by_writer(&mut writer));
+    let desk = Desk::<1>::open(&shape, 1).unwrap();
+    each_once(keep_by_pass(&mut desk.pass().unwrap()));
+    let mut passes = Shards::<1>::open(&Shape::for_shards(100, 4).unwrap(), 4, 1).unwrap();
+    each_once(keep_by_pass(&mut passes[0]));
+}
+
+#[test]
+fn an_object_takes_the_place_of_the_one_that_was_seen() {
+    let shape = Shape::for_items(100).unwrap();
+    let (mut writer, _readers) = Cache::<1>::open(&shape, 1).unwrap();
+    writer.put(7, &[70]).unwrap();
+    assert_eq!(writer.swap_if(7, 2, &[71]), Err(PutIfError::Changed { since: 1 }));
+    let replaced = writer.swap_if(7, 1, &[71]).unwrap();
+    assert_eq!((replaced.at, replaced.old), (2, Entry { key: 7, value: [70], since: 1 }));
+    assert_eq!(writer.take(7), Ok(Take::Taken { at: 3, old: Entry { key: 7, value: [71], since: 2 } }));
+    assert_eq!(writer.take(7), Ok(Take::NotThere { at: 3 }));
+    let desk = Desk::<1>::open(&shape, 1).unwrap();
+    let mut pass = desk.pass().unwrap();
+    pass.try_put(7, &[70]).unwrap();
+    assert_eq!(pass.try_swap_if(7, 2, &[71]), Err(TurnError::Call(PutIfError::Changed { since: 1 })));
+    assert_eq!(pass.try_swap_if(7, 1, &[71]).unwrap().old, Entry { key: 7, value: [70], since: 1 });
+}
