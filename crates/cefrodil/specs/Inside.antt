@@ -1,4 +1,3 @@
 pub mod Filling
 pub mod Lent
 pub mod Looking
-pub mod Turning

@@ -4,9 +4,7 @@ ghost use Rattle.mc_words.specs.Places.{IsWidth};
 ghost use Rattle.mc_door.specs.Means.{CanWrite, HasTurns, IsMisuse, GetOrDeskMeans, PutIfAbsentMeans, PutIfMeans, PutMeans, RemovalMeans, TryPutIfAbsentMeans, TryPutIfMeans, TryPutMeans, TryRemovalMeans};
 ghost use Rattle.mc_door.specs.Roles.{role_of};
 ghost use Rattle.cefrodil.specs.Calls.{HasTold};
-ghost use Rattle.mc_door.specs.Leaving.{IsPass};
 ghost use Rattle.cefrodil.specs.Inside.Looking.{TellsLookup};
-ghost use Rattle.cefrodil.specs.Inside.Turning.{TellsTryPut};
 ghost use Rattle.cefrodil.specs.Tellings.{lookup_told, put_if_absent_told, put_if_told, put_told, removal_told, try_put_if_absent_told, try_put_if_told, try_put_told, try_removal_told};
 
 use crate::told::{RawReply, Told};
@@ -130,38 +128,7 @@ pub(crate) fn remove<const V: usize>(side: &mut Side<V>, key: u64, reply: &mut R
     Told::removal(made).tell(reply)
 }
 
-// Tries once for the turn, to put the key.
-#[inline(always)]
-fn put_in_turn<const V: usize>(
-    side: &mut Side<V>,
-    key: u64,
-    value: &[u64],
-    reply: &mut RawReply,
-) -> u32
-    ensures { TellsTryPut V side.old side.new key value.now (record { status = result; reply = reply.new }) }
-{
-    let made = side.try_put(key, value);
-    Told::try_put(made).tell(reply)
-}
-
-// The same at a desk, out of line.
-#[inline(never)]
-fn put_at_desk<const V: usize>(
-    side: &mut Side<V>,
-    key: u64,
-    value: &[u64],
-    reply: &mut RawReply,
-) -> u32
-    requires { IsPass (role_of side.old) }
-    ensures { TellsTryPut V side.old side.new key value.now (record { status = result; reply = reply.new }) }
-{
-    match side {
-        Side::Pass(_) => put_in_turn(side, key, value, reply),
-        _ => unreachable!(),
-    }
-}
-
-/// Tries once for the turn, to put the key. A turn at a desk shares no registers with one of a shard.
+/// Tries once for the turn, to put the key.
 #[inline(never)]
 pub(crate) fn try_put<const V: usize>(
     side: &mut Side<V>,
@@ -169,13 +136,11 @@ pub(crate) fn try_put<const V: usize>(
     value: &[u64],
     reply: &mut RawReply,
 ) -> u32
-    ensures { TellsTryPut V side.old side.new key value.now (record { status = result; reply = reply.new }) }
+    ensures { HasTold try_put_told (TryPutMeans V (role_of side.old) (role_of side.new) key value.now)
+        (λ why. IsMisuse HasTurns V (role_of side.old) (length value.now) why × (side.new ≡ side.old)) (record { status = result; reply = reply.new }) }
 {
-    match side {
-        Side::Shard(_) => put_in_turn(side, key, value, reply),
-        Side::Pass(_) => put_at_desk(side, key, value, reply),
-        _ => put_in_turn(side, key, value, reply),
-    }
+    let made = side.try_put(key, value);
+    Told::try_put(made).tell(reply)
 }
 
 /// Tries up to so many times for the turn, to put the key.
