@@ -130,7 +130,8 @@ typedef enum cefrodil_status {
     CEFRODIL_BAD_COUNT = 22,   /* counts that belong together do not match */
     CEFRODIL_NO_ITEM = 23,     /* every item is in use */
     CEFRODIL_BAD_SHARDS = 24,  /* the number of shards must be a power of two, 1 to 256 */
-    CEFRODIL_PRESENT = 25      /* the key is there; its last put was at `since` */
+    CEFRODIL_PRESENT = 25,     /* the key is there; its last put was at `since` */
+    CEFRODIL_NOT_LAST = 26     /* other passes are at the desk */
 } cefrodil_status;
 
 CEFRODIL_SAME_SIZE(sizeof(cefrodil_status) == 4, "as the library returns it: compile without -fshort-enums");
@@ -243,6 +244,12 @@ CEFRODIL_CHECKED cefrodil_status cefrodil_swap_if(cefrodil_handle *handle, uint6
 CEFRODIL_CHECKED cefrodil_status cefrodil_take_out(cefrodil_handle *handle, uint64_t key, uint64_t *former, size_t former_words,
                                                    cefrodil_reply *reply);
 
+/* Ends a pass's turns: its handle becomes a reader's. The last pass of a desk gets the writer back, so a program can go on with one
+ * writer. For that every pass of the desk leaves, in any order and in any thread, or is closed.
+ * OK: this was the last pass, and `writer` is open. NOT_LAST: other passes are at the desk, and `writer` is empty.
+ * Otherwise nothing was done. IN_USE: `writer` was open before. CLOSED; KIND: also by a pass of shards; NO_MEMORY. */
+CEFRODIL_CHECKED cefrodil_status cefrodil_leave_desk(cefrodil_handle *pass, cefrodil_handle *writer);
+
 /* The number of changes to the table, which is the `at` of a lookup made now; the number of keys in it; the number of keys that it
  * holds at most, the `items` of its shape. By the writer. None of the three looks through the table.
  * OK: the number is set. CLOSED, KIND: it is unchanged. */
@@ -289,6 +296,7 @@ CEFRODIL_NO_NULL(cefrodil_try_remove);
 CEFRODIL_NO_NULL(cefrodil_swap);
 CEFRODIL_NO_NULL(cefrodil_swap_if);
 CEFRODIL_NO_NULL(cefrodil_take_out);
+CEFRODIL_NO_NULL(cefrodil_leave_desk);
 CEFRODIL_NO_NULL(cefrodil_close);
 #undef CEFRODIL_NO_NULL
 #endif
@@ -375,6 +383,7 @@ static inline const char *cefrodil_text(uint32_t status) {
     case CEFRODIL_NO_ITEM: return "no item";
     case CEFRODIL_BAD_SHARDS: return "shards must be a power of two from 1 to 256";
     case CEFRODIL_PRESENT: return "present";
+    case CEFRODIL_NOT_LAST: return "other passes are at the desk";
     default: return "no status";
     }
 }

@@ -26,6 +26,7 @@ enum class [[nodiscard]] Status : uint32_t {
     changed = CEFRODIL_CHANGED,
     held = CEFRODIL_HELD,
     closed = CEFRODIL_CLOSED,
+    kind = CEFRODIL_KIND,
     in_use = CEFRODIL_IN_USE,
     no_memory = CEFRODIL_NO_MEMORY,
     bad_mix = CEFRODIL_BAD_MIX,
@@ -39,7 +40,8 @@ enum class [[nodiscard]] Status : uint32_t {
     bad_count = CEFRODIL_BAD_COUNT,
     no_item = CEFRODIL_NO_ITEM,
     bad_shards = CEFRODIL_BAD_SHARDS,
-    present = CEFRODIL_PRESENT
+    present = CEFRODIL_PRESENT,
+    not_last = CEFRODIL_NOT_LAST
 };
 
 inline const char *text(Status status) noexcept { return cefrodil_text(static_cast<uint32_t>(status)); }
@@ -310,6 +312,18 @@ template <size_t Words> class Pass : public Reader<Words> {
         return inside::swap_if<Words>(this->raw(), key, since, value);
     }
     [[nodiscard]] Swapped<Words> try_take(uint64_t key) { return inside::take<Words>(this->raw(), key); }
+    // Ends the pass's turns: it becomes `reader`. The last pass of a desk gets the writer back (ok); the others don't (not_last). With
+    // another status nothing was done. in_use: `reader` or `writer` is open. kind: it is a pass of shards.
+    [[nodiscard]] Status leave(Reader<Words> &reader, Writer<Words> &writer) noexcept {
+        if (reader.is_open()) {
+            return Status::in_use;
+        }
+        const auto status = static_cast<Status>(cefrodil_leave_desk(this->raw(), writer.raw()));
+        if (status == Status::ok || status == Status::not_last) {
+            *reader.raw() = cefrodil_take(this->raw());
+        }
+        return status;
+    }
     // Like Writer::entries. It is held if a try for the turn does not win.
     Status try_entries(std::vector<uint64_t> &words) { return inside::entries<Words>(this->raw(), words); }
 };

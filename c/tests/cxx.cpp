@@ -107,6 +107,15 @@ static void by_turns(std::vector<Pass<1>> passes) {
     }
 }
 
+// Both passes leave, and the second one gets the writer.
+static void leaving(std::vector<Pass<1>> passes) {
+    cefrodil::Reader<1> readers[2];
+    cefrodil::Writer<1> writer;
+    MUST(passes[0].try_put(1, {7}).status == Status::ok && passes[0].leave(readers[0], writer) == Status::not_last && !writer.is_open());
+    MUST(passes[1].leave(readers[0], writer) == Status::in_use && passes[1].leave(readers[1], writer) == Status::ok);
+    MUST(!passes[1].is_open() && writer.put(1, {8}).at == 2 && readers[0].get(1).at == 2 && readers[1].get(1).at == 2);
+}
+
 int main() {
     const std::optional<cefrodil_shape> shape = cefrodil::shape_for_items(100), part = cefrodil::shape_for_shards(100, 4);
     MUST(shape && part && !cefrodil::shape_for_items(0) && !cefrodil::shape_for_shards(100, 3));
@@ -116,6 +125,9 @@ int main() {
     std::vector<Pass<1>> passes;
     MUST(cefrodil::open_desk(*shape, 3, passes) == Status::ok);
     by_turns(std::move(passes));
+    MUST(cefrodil::open_desk(*shape, 2, passes) == Status::ok);
+    leaving(std::move(passes));
+    passes.clear();
     MUST(cefrodil::open_shards(*part, 3, 3, passes) == Status::bad_shards && passes.empty());
     MUST(cefrodil::open_shards(*part, 4, 3, passes) == Status::ok);
     by_turns(std::move(passes));

@@ -1,5 +1,5 @@
-/* Each allocation of an opening is refused in turn: no handle is open then, and nothing is kept. So is that of a list of entries. Linked
- * with --wrap. */
+/* Each allocation of an opening is refused in turn: no handle is open then, and nothing is kept. So is that of a list of entries, and
+ * that of a pass that leaves its desk. Linked with --wrap. */
 #include "cefrodil.h"
 #include <stdio.h>
 
@@ -124,6 +124,24 @@ static int all_list(const cefrodil_shape *shape, size_t words) {
     return listed;
 }
 
+/* A pass that finds no memory is still at its desk. The writer's handle is all that leaving keeps. */
+static int leaves(const cefrodil_shape *shape, size_t words) {
+    cefrodil_reply reply;
+    long before;
+    int left_it = open_one(shape, words, BY_TURNS) == CEFRODIL_OK;
+    for (int i = 1; i < 4; i++) {
+        cefrodil_close(&handles[i]);
+    }
+    before = kept, left = 0;
+    left_it = left_it && cefrodil_leave_desk(&handles[0], &writer) == CEFRODIL_NO_MEMORY && !writer.live_;
+    left = -1;
+    left_it = left_it && kept == before && cefrodil_try_put(&handles[0], 1, entries, words, &reply) == CEFRODIL_OK &&
+              cefrodil_leave_desk(&handles[0], &writer) == CEFRODIL_OK && cefrodil_put(&writer, 2, entries, words, &reply) == CEFRODIL_OK;
+    cefrodil_close(&handles[0]);
+    cefrodil_close(&writer);
+    return left_it;
+}
+
 int main(void) {
     cefrodil_shape shape;
     if (cefrodil_shape_for_items(100, &shape) != CEFRODIL_OK) {
@@ -138,6 +156,10 @@ int main(void) {
         }
         if (!all_list(&shape, words)) {
             printf("memory: a list of %zu words\n", words);
+            return 1;
+        }
+        if (!leaves(&shape, words)) {
+            printf("memory: a desk of %zu words\n", words);
             return 1;
         }
     }

@@ -201,6 +201,33 @@ static void turns(void) {
     MUST(cefrodil_close(&passes[1]) == CEFRODIL_OK);
 }
 
+/* The last pass that leaves gets the writer; each is a reader then. */
+static void leaving(void) {
+    uint64_t value[2] = {7, 8}, found[2] = {0, 0}, number = 0;
+    MUST(cefrodil_open_desk(&shape, 2, passes, 2) == CEFRODIL_OK);
+    MUST(cefrodil_try_put(&passes[0], 1, value, 2, &reply) == CEFRODIL_OK && reply.at == 1);
+    MUST(cefrodil_leave_desk(&none, &writer) == CEFRODIL_CLOSED && !writer.live_);
+    MUST(cefrodil_leave_desk(&passes[0], &writer) == CEFRODIL_NOT_LAST && !writer.live_);
+    MUST(cefrodil_try_put(&passes[0], 2, value, 2, &reply) == CEFRODIL_KIND);
+    MUST(cefrodil_leave_desk(&passes[0], &writer) == CEFRODIL_KIND && !writer.live_);
+    MUST(cefrodil_try_put(&passes[1], 2, value, 2, &reply) == CEFRODIL_OK && reply.at == 2);
+    MUST(cefrodil_leave_desk(&passes[1], &writer) == CEFRODIL_OK && writer.live_);
+    MUST(cefrodil_leave_desk(&passes[0], &writer) == CEFRODIL_IN_USE && writer.live_);
+    MUST(cefrodil_moment(&writer, &number) == CEFRODIL_OK && number == 2);
+    MUST(cefrodil_put(&writer, 3, value, 2, &reply) == CEFRODIL_OK && reply.at == 3);
+    for (int i = 0; i < 2; i++) {
+        MUST(cefrodil_get(&passes[i], 3, found, 2, &reply) == CEFRODIL_OK && found[1] == 8 && reply.at == 3);
+        MUST(cefrodil_close(&passes[i]) == CEFRODIL_OK);
+    }
+    MUST(cefrodil_close(&writer) == CEFRODIL_OK);
+    /* A pass that was closed is at no desk. */
+    MUST(cefrodil_open_desk(&shape, 2, passes, 2) == CEFRODIL_OK && cefrodil_close(&passes[1]) == CEFRODIL_OK);
+    MUST(cefrodil_leave_desk(&passes[0], &writer) == CEFRODIL_OK);
+    MUST(cefrodil_close(&writer) == CEFRODIL_OK && cefrodil_close(&passes[0]) == CEFRODIL_OK);
+    MUST(cefrodil_open_shards(&shape, 2, 2, passes, 1) == CEFRODIL_OK);
+    MUST(cefrodil_leave_desk(&passes[0], &writer) == CEFRODIL_KIND && !writer.live_ && cefrodil_close(&passes[0]) == CEFRODIL_OK);
+}
+
 /* The writer goes first: its readers can still look up. A handle that was moved is the same one. */
 static void last_close(void) {
     uint64_t found[2];
@@ -274,6 +301,7 @@ int main(void) {
     last_close();
     spent();
     turns();
+    leaving();
     many_by_a_reader();
     many_by_a_pass();
     most_handles();

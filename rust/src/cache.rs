@@ -20,10 +20,10 @@ pub struct Cache<const WORDS: usize>(());
 /// fn shared<T: Sync>() {}
 /// shared::<cefrodil::Writer<1>>();
 /// ```
-pub struct Writer<const WORDS: usize>(Handle);
+pub struct Writer<const WORDS: usize>(pub(crate) Handle);
 
 /// A reader of a cache. It may move to another thread, but two threads can't share it.
-pub struct Reader<const WORDS: usize>(Handle);
+pub struct Reader<const WORDS: usize>(pub(crate) Handle);
 
 /// A cache that was opened with entries, with its writer and readers.
 #[derive(Debug)]

@@ -1,6 +1,8 @@
 //! A cache for threads that write by turns.
+use crate::cache::{Reader, Writer};
 use crate::error::{OpenError, PutError, PutIfAbsentError, PutIfError, Spent, TurnError};
 use crate::handle::Handle;
+use crate::raw;
 use crate::reply::{self, Put, Removal, Replaced, Reply, Swapped, Take};
 use crate::shape::Shape;
 use crate::width::Value;
@@ -93,6 +95,42 @@ impl<const WORDS: usize> Desk<WORDS> {
     pub fn into_passes(self) -> Vec<Pass<'static, WORDS>> {
         let handles = self.passes.into_inner().unwrap_or_else(PoisonError::into_inner);
         handles.into_iter().map(Pass::owning).collect()
+    }
+}
+
+impl<const WORDS: usize> Desk<WORDS> {
+    /// Ends the turns: returns the writer, and a reader for each pass.
+    ///
+    /// ```
+    /// use cefrodil::{Desk, Shape};
+    ///
+    /// let desk = Desk::<1>::open(&Shape::for_items(100)?, 2)?;
+    /// let _ = desk.pass().expect("there are two passes").try_put(1, &[7])?;
+    /// let (mut writer, readers) = desk.end().expect("there is memory");
+    /// assert_eq!((writer.moment(), readers.len()), (1, 2));
+    /// # Ok::<(), Box<dyn std::error::Error>>(())
+    /// ```
+    ///
+    /// # Errors
+    ///
+    /// The desk, if memory runs out, with the passes that had not left it yet. It is also returned if a pass of it was forgotten
+    /// ([`std::mem::forget`]): that pass still has a share of the writer.
+    pub fn end(self) -> Result<(Writer<WORDS>, Vec<Reader<WORDS>>), Desk<WORDS>> {
+        let mut passes = self.passes.into_inner().unwrap_or_else(PoisonError::into_inner);
+        let mut readers = Vec::with_capacity(passes.len());
+        while let Some(mut pass) = passes.pop() {
+            let (status, writer) = pass.leave_desk();
+            if status == raw::OK || status == raw::NOT_LAST {
+                readers.push(Reader(pass));
+            } else {
+                passes.push(pass);
+                break;
+            }
+            if status == raw::OK {
+                return Ok((Writer(writer), readers));
+            }
+        }
+        Err(Desk { passes: Mutex::new(passes) })
     }
 }
 

@@ -229,6 +229,14 @@ impl Handle {
         (status, reply)
     }
 
+    /// A pass leaves its desk, and is a reader then. The handle beside the status is the writer's, if it was the last pass.
+    pub fn leave_desk(&mut self) -> (u32, Handle) {
+        let mut writer = Handle::empty();
+        // SAFETY: as in `get`.
+        let status = unsafe { raw::cefrodil_leave_desk(&mut self.0, &mut writer.0) };
+        (status, writer)
+    }
+
     pub fn moment(&mut self) -> (u32, u64) {
         self.number(raw::cefrodil_moment)
     }

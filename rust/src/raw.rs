@@ -58,6 +58,7 @@ pub const BAD_COUNT: u32 = 22;
 pub const NO_ITEM: u32 = 23;
 pub const BAD_SHARDS: u32 = 24;
 pub const PRESENT: u32 = 25;
+pub const NOT_LAST: u32 = 26;
 
 pub const PUT_EVICTED: u32 = 2;
 pub const PUT_RENEWED: u32 = 3;
@@ -160,6 +161,7 @@ unsafe extern "C" {
         reply: *mut RawReply,
     ) -> u32;
     pub fn cefrodil_take_out(handle: *mut RawHandle, key: u64, former: *mut u64, former_words: usize, reply: *mut RawReply) -> u32;
+    pub fn cefrodil_leave_desk(pass: *mut RawHandle, writer: *mut RawHandle) -> u32;
     pub fn cefrodil_moment(writer: *mut RawHandle, moment: *mut u64) -> u32;
     pub fn cefrodil_len(writer: *mut RawHandle, len: *mut u64) -> u32;
     pub fn cefrodil_capacity(writer: *mut RawHandle, capacity: *mut u64) -> u32;

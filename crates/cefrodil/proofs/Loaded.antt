@@ -8,7 +8,7 @@ use Rattle.mc_words.specs.declared.history.Change.{Change}
 use Rattle.mc_cache.specs.Plain.{TakesOrNames, history}
 use Rattle.mc_shared.specs.Records.{Opening}
 use Rattle.mc_door.specs.Loading.{IsLoadedWriter, entries_in}
-use Rattle.mc_door.specs.Roles.{Role, Writes, Reads, Passes, Shares}
+use Rattle.mc_door.specs.Roles.{Role, Writes, Reads, Passes, Shares, Idle}
 use mathlib.Core.Bool.{cond, false}
 use mathlib.Core.Option.{some}
 use lib.Dec.{eqb}
@@ -62,6 +62,7 @@ named_within V count o words left (Writes w) loaded =
 named_within V count o words left (Reads r) loaded = absurd loaded
 named_within V count o words left (Passes r) loaded = absurd loaded
 named_within V count o words left (Shares s rs) loaded = absurd loaded
+named_within V count o words left Idle loaded = absurd loaded
 
 pub are_loaded : (raw : RawShape) (words count : ℕ) (entries statuses : List ℕ) (writer : Slot) (readers : List Slot) (sh : Shape) (first : Rest) (held : Held) (left : List (ℕ × Why))
     → IsShapeOf raw sh → (opening_in first).layout ≡ layout_of words sh → width_in first ≡ words → has_desk_in first ≡ false → length statuses ≡ count → AreEntries words (length entries) count

@@ -1,6 +1,7 @@
 pub mod Calls
 pub mod Counts
 pub mod Kept
+pub mod Leaving
 pub mod Listing
 pub mod Loading
 pub mod Many

@@ -52,7 +52,7 @@ pub(crate) fn get<const V: usize>(
 {
     match side {
         Side::Reader(_) => look_up(side, key, value, reply),
-        Side::Writer(_) | Side::Pass(_) | Side::Shard(_) => look_up_apart(side, key, value, reply),
+        _ => look_up_apart(side, key, value, reply),
     }
 }
 

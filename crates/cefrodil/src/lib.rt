@@ -7,6 +7,7 @@ mod by_width;
 mod closing;
 mod counts;
 pub mod handle;
+mod leaving;
 mod listing;
 mod loading;
 mod lookups;

@@ -77,3 +77,6 @@ pub const SHARDS: u32 = 24;
 
 /// The key is there, and was to be put only if it was absent.
 pub const PRESENT: u32 = 25;
+
+/// Other passes are at the desk.
+pub const NOT_LAST: u32 = 26;

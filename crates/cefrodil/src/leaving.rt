@@ -1,0 +1,39 @@
+//! A pass leaves its desk.
+ghost use Rattle.std.specs.Prelude.{◌≡◌, false, true};
+ghost use Rattle.cefrodil.specs.Leaving.{LeaveGives};
+ghost use Rattle.cefrodil.specs.Open.{kept};
+
+use crate::opening::boxed;
+use crate::slot::Slot;
+use crate::status::{CLOSED, IN_USE, KIND, NO_MEMORY, NOT_LAST, OK};
+use mc_door::{Held, LeaveError};
+use std::alloc::Global;
+
+/// A pass leaves its desk, and its handle is a reader's then. The writer goes into the other handle with the last pass of the desk.
+#[tactic(auto, using(crate::proofs::Gives::gives_open, crate::proofs::Gives::gives_closed))]
+#[unsafe(no_mangle)]
+pub extern "C" fn cefrodil_leave_desk(alloc: Global, pass: &mut Slot, writer: &mut Slot) -> u32
+    ensures in_use { writer.old.live ≡ true → (result ≡ IN_USE) × (pass.new ≡ pass.old) × (writer.new ≡ writer.old) }
+    ensures left { writer.old.live ≡ false → LeaveGives (kept pass.old) (kept pass.new) (kept writer.new) result }
+{
+    if writer.live {
+        return IN_USE;
+    }
+    if !pass.live {
+        return CLOSED;
+    }
+    // Memory first: behind this the writer's handle has a place.
+    let Some(mut place) = boxed(alloc, Held::nothing()) else {
+        return NO_MEMORY;
+    };
+    match pass.handle.held().leave() {
+        Ok(Some(back)) => {
+            *place = back;
+            writer.put(place);
+            OK
+        }
+        Ok(None) => NOT_LAST,
+        Err(LeaveError::Kind) => KIND,
+        Err(LeaveError::NoMemory) => NO_MEMORY,
+    }
+}
