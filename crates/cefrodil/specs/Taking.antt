@@ -1,5 +1,5 @@
 -- What the calls give that also return the entry which they take out of the map.
-use Rattle.std.specs.Prelude.{ℕ, ◌≡◌, List, length, Some, None, Option as Maybe, Result, Ok, Err}
+use Rattle.std.specs.Prelude.{ℕ, ◌≡◌, List, length, Some, None, Option as Maybe, Result, Ok, Err, MatchResult}
 use mathlib.Core.Option.{Option}
 use Rattle.mc_cache.specs.declared.desk.DeskError.{DeskError}
 use Rattle.mc_cache.specs.declared.desk.DeskError.TheVariants as desk
@@ -18,8 +18,9 @@ use Rattle.mc_door.specs.Means.{IsMisuse}
 use Rattle.mc_door.specs.Roles.{Role}
 use Rattle.mc_door.specs.Taking.{IsMisuseOfTwo, SwapIfMeans, SwapMeans, TakeMeans, left_by, old_of_swap, old_of_swap_if, old_of_take}
 use Rattle.mc_door.specs.declared.held.Held.{Held}
-use Rattle.cefrodil.specs.Calls.{Gives, HasTold}
-use Rattle.cefrodil.specs.Tellings.{closed_told, done_told, not_put_if_told, not_put_told, plain, told_at}
+use Rattle.mc_door.specs.declared.side.Misuse.{Misuse}
+use Rattle.cefrodil.specs.Calls.{Gives}
+use Rattle.cefrodil.specs.Tellings.{closed_told, done_told, not_put_if_told, not_put_told, plain, told_at, told_of}
 use Rattle.cefrodil.specs.declared.status.TheConstants.{OK, ABSENT, HELD, SPENT}
 use Rattle.cefrodil.specs.declared.told.Told.{Told}
 
@@ -44,21 +45,24 @@ take_told (Ok (NotThere at)) = told_at ABSENT at
 take_told (Err desk.Held) = plain HELD
 take_told (Err (desk.Call spent)) = plain SPENT
 
--- a call by a side of this role, and the words of the room for the old value before it and after it
-abbrev pub TellsSwap : (V : ℕ) → Role → Role → ℕ → List ℕ → List ℕ → List ℕ → Told → Type 0
-TellsSwap V role role' key v room room' told =
-    HasTold (swap_told {V = V}) (λ answer. SwapMeans V role role' key v answer × (room' ≡ left_by (old_of_swap answer) room))
-    (λ why. IsMisuseOfTwo V role (length v) (length room) why × (role' ≡ role) × (room' ≡ room)) told
+-- a call by a side of this role told this. The words of the room for the old value are these before it, and those after it
+pub record TellsSwap (V : ℕ) (role role' : Role) (key : ℕ) (v room room' : List ℕ) (told : Told) : Type 0 where
+  pub made : Result (Result (Swapped V) (DeskError PutError)) Misuse
+  pub is : told ≡ told_of swap_told made
+  pub means : MatchResult made (λ answer. SwapMeans V role role' key v answer × (room' ≡ left_by (old_of_swap answer) room))
+      (λ why. IsMisuseOfTwo V role (length v) (length room) why × (role' ≡ role) × (room' ≡ room))
 
-abbrev pub TellsSwapIf : (V : ℕ) → Role → Role → ℕ → ℕ → List ℕ → List ℕ → List ℕ → Told → Type 0
-TellsSwapIf V role role' key since v room room' told =
-    HasTold (swap_if_told {V = V}) (λ answer. SwapIfMeans V role role' key since v answer × (room' ≡ left_by (old_of_swap_if answer) room))
-    (λ why. IsMisuseOfTwo V role (length v) (length room) why × (role' ≡ role) × (room' ≡ room)) told
+pub record TellsSwapIf (V : ℕ) (role role' : Role) (key since : ℕ) (v room room' : List ℕ) (told : Told) : Type 0 where
+  pub made : Result (Result (Replaced V) (DeskError IfError)) Misuse
+  pub is : told ≡ told_of swap_if_told made
+  pub means : MatchResult made (λ answer. SwapIfMeans V role role' key since v answer × (room' ≡ left_by (old_of_swap_if answer) room))
+      (λ why. IsMisuseOfTwo V role (length v) (length room) why × (role' ≡ role) × (room' ≡ room))
 
-abbrev pub TellsTake : (V : ℕ) → Role → Role → ℕ → List ℕ → List ℕ → Told → Type 0
-TellsTake V role role' key room room' told =
-    HasTold (take_told {V = V}) (λ answer. TakeMeans V role role' key answer × (room' ≡ left_by (old_of_take answer) room))
-    (λ why. IsMisuse CanList V role (length room) why × (role' ≡ role) × (room' ≡ room)) told
+pub record TellsTake (V : ℕ) (role role' : Role) (key : ℕ) (room room' : List ℕ) (told : Told) : Type 0 where
+  pub made : Result (Result (Take V) (DeskError Spent)) Misuse
+  pub is : told ≡ told_of take_told made
+  pub means : MatchResult made (λ answer. TakeMeans V role role' key answer × (room' ≡ left_by (old_of_take answer) room))
+      (λ why. IsMisuse CanList V role (length room) why × (role' ≡ role) × (room' ≡ room))
 
 -- the same by a handle
 abbrev pub SwapGives : Option Held → Option Held → ℕ → List ℕ → List ℕ → List ℕ → Told → Type 0

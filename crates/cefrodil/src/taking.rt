@@ -1,5 +1,6 @@
 //! Calls that also return the entry which they take out of the map, as C makes them: by the writer's handle, and by a pass in a turn.
 ghost use Rattle.std.specs.Prelude.{◌≡◌};
+ghost use Rattle.mc_words.specs.Places.{IsWidth};
 ghost use Rattle.mc_door.specs.Held.{role_in, width_of};
 ghost use Rattle.mc_door.specs.Roles.{role_of};
 ghost use Rattle.cefrodil.specs.Open.{kept};
@@ -17,6 +18,7 @@ fn swap_by_side<const V: usize>(
     room: &mut [u64],
     reply: &mut RawReply,
 ) -> u32
+    requires { IsWidth V }
     ensures { TellsSwap V (role_of side.old) (role_of side.new) key value.now room.old room.new (record { status = result; reply = reply.new }) }
 {
     let made = side.swap(key, value, room);
@@ -32,6 +34,7 @@ fn swap_if_by_side<const V: usize>(
     room: &mut [u64],
     reply: &mut RawReply,
 ) -> u32
+    requires { IsWidth V }
     ensures { TellsSwapIf V (role_of side.old) (role_of side.new) key since value.now room.old room.new (record { status = result; reply = reply.new }) }
 {
     let made = side.swap_if(key, since, value, room);
@@ -45,6 +48,7 @@ fn take_by_side<const V: usize>(
     room: &mut [u64],
     reply: &mut RawReply,
 ) -> u32
+    requires { IsWidth V }
     ensures { TellsTake V (role_of side.old) (role_of side.new) key room.old room.new (record { status = result; reply = reply.new }) }
 {
     let made = side.take(key, room);

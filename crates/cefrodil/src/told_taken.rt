@@ -9,7 +9,7 @@ use mc_door::{DeskError, Entry, IfError, Misuse, PutError, Replaced, Spent, Swap
 
 impl Told {
     fn with_stamp<const V: usize>(mut self, old: Option<Entry<V>>) -> Told
-        ensures { result ≡ with_stamp old.entry self.entry }
+        ensures { result ≡ with_stamp old.entry self }
     {
         match old {
             Some(entry) => {
