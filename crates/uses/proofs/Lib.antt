@@ -1,2 +1,3 @@
 pub mod TakenOut
 pub mod OneShard
+pub mod Kept
