@@ -5,8 +5,8 @@ ghost use Rattle.uses.specs.Owned.{LosesNone};
 
 use mc_cache::{Cache, Entry, PutError, Spent, Take, Writer, laws};
 
-/// Puts the number of an object under a key. Each object in the map stays there or is returned, whether its key was overwritten or
-/// evicted. If the put is refused, the map is as it was.
+/// Puts the number of an object under a key. Each entry of the map stays there or is returned, whether its key was overwritten or evicted,
+/// and never both. If the put is refused, the map is as it was.
 pub fn put_object(
     cache: &Cache<1>,
     writer: &mut Writer<1>,
