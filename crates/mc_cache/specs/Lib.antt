@@ -16,3 +16,5 @@ pub use Rattle.mc_plan.specs.declared.answer.Put
 pub use Rattle.mc_plan.specs.declared.answer.PutError
 pub use Rattle.mc_plan.specs.declared.answer.Remove
 pub use Rattle.mc_plan.specs.declared.answer.Spent
+pub use Rattle.mc_writer.specs.declared.entry.Entry
+pub use Rattle.mc_writer.specs.declared.entry.Swapped

@@ -1,7 +1,10 @@
 //! One call of a cache, by its writer or by a reader, and what it answers.
 ghost use Rattle.std.specs.Prelude.{◌≡◌};
 
-use mc_cache::{AbsentError, Cache, IfError, Put, PutError, Reader, Remove, Reply, Spent, Writer};
+use mc_cache::{
+    AbsentError, Cache, Entry, IfError, Put, PutError, Reader, Remove, Replaced, Reply, Spent,
+    Swapped, Take, Writer,
+};
 
 /// A call. A look is the reader's, all others are the writer's.
 #[derive(Clone, Copy)]
@@ -11,6 +14,10 @@ pub enum Call {
     PutIf(u64, u64, u64),
     PutIfAbsent(u64, u64),
     Remove(u64),
+    Swap(u64, u64),
+    /// As `PutIf`.
+    SwapIf(u64, u64, u64),
+    Take(u64),
     Get(u64),
     Look(u64),
     LookBeside(u64),
@@ -37,6 +44,12 @@ pub enum Told {
     Removed(u64),
     NotThere(u64),
     SpentRemove,
+    /// Stored, with no move, after an eviction of this entry: its key, value and stamp.
+    StoredFor([u64; 3], u64),
+    /// Renewed, and this was the entry before.
+    RenewedFrom([u64; 3], u64),
+    /// Removed, and this was the entry.
+    Taken([u64; 3], u64),
     /// The value, the moment and the stamp.
     Found(u64, u64, u64),
     Absent(u64),
@@ -91,6 +104,38 @@ impl Told {
         }
     }
 
+    fn of_swap(told: Result<Swapped<1>, PutError>) -> Told {
+        let Ok(
+            Swapped {
+                put,
+                old: Some(old),
+            },
+        ) = told
+        else {
+            return Told::of_put(told.map(|swapped: Swapped<1>| -> Put { swapped.put }));
+        };
+        match Told::of_put(Ok(put)) {
+            Told::StoredAfter(key, at) if key == old.key => Told::StoredFor(words_of(old), at),
+            Told::Renewed(at) => Told::RenewedFrom(words_of(old), at),
+            other => other,
+        }
+    }
+
+    fn of_swap_if(told: Result<Replaced<1>, IfError>) -> Told {
+        match told {
+            Ok(Replaced { at, old }) => Told::RenewedFrom(words_of(old), at),
+            Err(why) => Told::RefusedIf(why),
+        }
+    }
+
+    fn of_take(told: Result<Take<1>, Spent>) -> Told {
+        match told {
+            Ok(Take::Taken { at, old }) => Told::Taken(words_of(old), at),
+            Ok(Take::NotThere { at }) => Told::NotThere(at),
+            Err(_) => Told::SpentRemove,
+        }
+    }
+
     fn of_reply(reply: Reply<1>) -> Told {
         match reply {
             Reply::Found { value, at, since } => Told::Found(value[0], at, since),
@@ -98,6 +143,11 @@ impl Told {
             Reply::Busy => Told::Busy,
         }
     }
+}
+
+// The entry's key, value and stamp.
+fn words_of(entry: Entry<1>) -> [u64; 3] {
+    [entry.key, entry.value[0], entry.since]
 }
 
 /// Makes a call.
@@ -114,6 +164,11 @@ pub fn make(cache: &Cache<1>, writer: &mut Writer<1>, reader: &mut Reader<1>, ca
             Told::of_put_if_absent(writer.put_if_absent(cache, key, [value]))
         }
         Call::Remove(key) => Told::of_remove(writer.remove(cache, key)),
+        Call::Swap(key, value) => Told::of_swap(writer.swap(cache, key, [value])),
+        Call::SwapIf(key, since, value) => {
+            Told::of_swap_if(writer.swap_if(cache, key, since, [value]))
+        }
+        Call::Take(key) => Told::of_take(writer.take(cache, key)),
         Call::Get(key) => Told::of_reply(writer.get(cache, key)),
         Call::Look(key) => Told::of_reply(reader.get(cache, key)),
         Call::LookBeside(key) => Told::of_reply(reader.get_beside(cache, writer, key)),

@@ -51,6 +51,8 @@ mod shards;
 #[cfg(test)]
 mod sharing;
 #[cfg(test)]
+mod taken;
+#[cfg(test)]
 mod texts;
 #[cfg(test)]
 mod truth;

@@ -45,8 +45,8 @@ fn check_rows_of(
     Ok(())
 }
 
-// The same, with a new cache and its one reader.
-fn check_rows(alloc: Global, shape: Shape, rows: &[(Call, Told)]) -> Result<(), Fail> {
+/// Makes the calls in turn, in a new cache with one reader. Each has to answer what is due.
+pub fn check_rows(alloc: Global, shape: Shape, rows: &[(Call, Told)]) -> Result<(), Fail> {
     let (cache, mut writer, mut reader) = open_for_one(alloc, shape)?;
     check_rows_of(&cache, &mut writer, &mut reader, rows)
 }
@@ -54,11 +54,12 @@ fn check_rows(alloc: Global, shape: Shape, rows: &[(Call, Told)]) -> Result<(), 
 const FIRST_EIGHT: [u64; 8] = [0, 4, 8, 12, 16, 20, 24, 28];
 
 /// As many items as slots, and keys as they are.
-fn small() -> Shape {
+pub fn small() -> Shape {
     with_items(16)
 }
 
-fn with_items(items: u32) -> Shape {
+/// Four buckets, so many items, and keys as they are.
+pub fn with_items(items: u32) -> Shape {
     shape(items, MOST, Mix::Plain)
 }
 

@@ -1,2 +1,4 @@
 pub mod TakenOut
 pub mod OneShard
+pub mod Kept
+pub mod Stamps
