@@ -1,6 +1,6 @@
 -- `held` lends what lies behind the handle, and the handle follows it.
 use Rattle.std.proofs.Common.{◌≡◌, ℕ, List, [], ◌∷◌, ◌++◌, refl, sym, subst}
-use mathlib.Core.Option.{Option, none, some}
+use mathlib.Core.Option.{none, some}
 use seplogic.Ra.Ura.{Ura}
 use mir.Raw.{raw as bare}
 use mir.Syntax.{Fn, named}
@@ -20,7 +20,6 @@ use types.Logic.{Logic, sem}
 use types.Part.{whole, sub, look_in}
 use types.Run.{stop, fld, load, of_opd, addr, first, blocks, exec, returns, enter}
 use types.SemTy.{Body as Borrowed}
-use denote.Builtin.{RefMutOf}
 use denote.Exit.{no}
 use denote.Follow.{follows, Part, lends_Part}
 use denote.Memory.{cell_at, lone, mem, part_at, part_of}
