@@ -2,10 +2,9 @@
 ghost use Rattle.std.specs.Prelude.{◌≡◌, ◌+◌, ◌≤◌, ◌<◌, IfSome, length, vec_len, vec_capacity};
 ghost use Rattle.mc_words.specs.Readers.{most_readers};
 
-use mc_cache::Reply;
 use mc_check::Record;
 use mc_shards::{Pass, Shards};
-use mc_workers::{Draws, Gate, Load};
+use mc_workers::{Draws, Gate, Load, moment_of};
 
 /// A reader's pass, what it draws, and what it was told.
 #[derive(Drop)]
@@ -19,14 +18,6 @@ pub(crate) struct Asking<const V: usize> {
     pub(crate) refused: Option<u64>,
     ghost some_words: { 1 ≤ V },
     ghost most_words: { V ≤ 8 },
-}
-
-/// The moment of a reply.
-pub(crate) fn moment_of<const V: usize>(reply: &Reply<V>) -> Option<u64> {
-    match *reply {
-        Reply::Found { at, .. } | Reply::Absent { at } => Some(at),
-        Reply::Busy => None,
-    }
 }
 
 impl<const V: usize> Asking<V> {

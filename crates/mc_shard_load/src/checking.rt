@@ -8,14 +8,14 @@ ghost use Rattle.mc_shard_load.specs.Inside.Beginnings.{CanAudit};
 ghost use Rattle.mc_shard_load.specs.Inside.Sums.{AreTrueIn, HaveAllNoted, all_tries, answers_of};
 ghost use Rattle.mc_shard_load.specs.Inside.Tries.{HaveTriedWhole};
 
-use crate::asking::{Asking, moment_of};
+use crate::asking::Asking;
 use crate::dated::Dated;
 use crate::merging::{Share, gather, misplaced, write_history};
 use crate::ready::Audit;
 use crate::trying::Trying;
 use mc_check::{Checker, Record, key_of};
 use mc_shards::{Pass, Shards};
-use mc_workers::Load;
+use mc_workers::{Load, moment_of};
 use std::alloc::Global;
 
 /// Writes those of the answers that are about the shard's keys behind others. There is room for all.

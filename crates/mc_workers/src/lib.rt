@@ -29,6 +29,7 @@ pub use asked::Load;
 pub use draws::Draws;
 pub use error::LoadError;
 pub use gate::{Free, Gate};
+pub use looking::moment_of;
 pub use mc_cache::OpenError;
 pub use mc_check::{Record, check};
 pub use meter::{DELAYS, Figures, Meter};

@@ -29,8 +29,8 @@ pub(crate) struct Looking<const V: usize> {
     ghost most_keys: { many ≤ most_at_once },
 }
 
-/// The moment of a reply.
-fn moment_of<const V: usize>(reply: &Reply<V>) -> Option<u64> {
+/// The moment of a reply. `Busy` has none.
+pub fn moment_of<const V: usize>(reply: &Reply<V>) -> Option<u64> {
     match *reply {
         Reply::Found { at, .. } | Reply::Absent { at } => Some(at),
         Reply::Busy => None,
