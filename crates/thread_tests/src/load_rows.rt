@@ -61,7 +61,11 @@ fn keys_are_refused_before_readers(rt: HostRuntime) -> Result<(), Fail> {
 
 #[test]
 fn writers_take_turns(rt: HostRuntime) -> Result<(), Fail> {
-    for (shards, writers, writes) in [("1", "2", "4000"), ("4", "1", "2000"), ("256", "8", "16000")] {
+    for (shards, writers, writes) in [
+        ("1", "2", "4000"),
+        ("4", "1", "2000"),
+        ("256", "8", "16000"),
+    ] {
         let words = ["mcload", "run", "--shards", shards, "--writers", writers];
         let lines = format!(in rt.alloc(); "lookups 6000\nwrites {writes}\nsum ok\nwrong 0\n")?;
         assert!(rt; tells(&rt, rt.alloc(), words.as_slice(), lines.as_str(), "", 0));
@@ -75,8 +79,20 @@ fn writers_are_refused_before_keys_shards_and_readers(rt: HostRuntime) -> Result
         ("0", "0", "0", "0", "writers must be from 1 to 8"),
         ("9", "1", "64", "1", "writers must be from 1 to 8"),
         ("8", "0", "0", "0", "keys must be from 1 to 4294967296"),
-        ("1", "0", "64", "0", "shards must be a power of two from 1 to 256"),
-        ("8", "0", "64", "512", "shards must be a power of two from 1 to 256"),
+        (
+            "1",
+            "0",
+            "64",
+            "0",
+            "shards must be a power of two from 1 to 256",
+        ),
+        (
+            "8",
+            "0",
+            "64",
+            "512",
+            "shards must be a power of two from 1 to 256",
+        ),
         ("8", "0", "64", "1", "readers must be from 1 to 1024"),
         ("8", "1016", "64", "1", "readers must be from 1 to 1024"),
     ] {
