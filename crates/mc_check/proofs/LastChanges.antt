@@ -15,7 +15,8 @@ use Rattle.mc_words.specs.declared.history.Change.TheVariants.{Put, Remove, Evic
 use Rattle.mc_words.specs.declared.history.Reply.{Reply}
 use Rattle.mc_words.specs.declared.history.Reply.TheVariants.{Found, Absent}
 use Rattle.mc_words.proofs.Maps.{held-none, held-put, held-remove, held-evict, held-other, key_of}
-use Rattle.mc_check.specs.Inside.Last.{key_in, moment_in, value_in, value_after, AreOthers, IsLast, IsStampOf}
+use Rattle.mc_check.specs.Changes.{key_in}
+use Rattle.mc_check.specs.Inside.Last.{moment_in, value_in, value_after, AreOthers, IsLast, IsStampOf}
 
 pub Some-injective : {A : Type 0} (x y : A) → Some x ≡ Some y → x ≡ y
 Some-injective x y e = cc

@@ -11,7 +11,8 @@ use Rattle.mc_words.specs.declared.history.Change.{Change}
 use Rattle.mc_words.specs.declared.history.Change.TheVariants.{Remove}
 use Rattle.mc_check.proofs.LastChanges.{Some-injective}
 use Rattle.mc_check.specs.declared.mentions.Mention.{Mention}
-use Rattle.mc_check.specs.Inside.Last.{key_in, IsLast}
+use Rattle.mc_check.specs.Changes.{key_in}
+use Rattle.mc_check.specs.Inside.Last.{IsLast}
 use Rattle.mc_check.specs.Inside.Mentions.{AreInTime, AreMentionsOf, IsBound, MentionAll, mention, rank, rank_of}
 
 -- ---- in the order of time

@@ -1,12 +1,13 @@
 //! The last change of a key before a moment.
 ghost use Rattle.std.specs.Prelude.{◌≡◌, ◌≤◌, ◌<◌, length, IfSome};
 ghost use Rattle.std.specs.Bool.{Decides};
-ghost use Rattle.mc_check.specs.Inside.Last.{IsLast, IsStampOf, key_in, value_after};
+ghost use Rattle.mc_check.specs.Changes.{key_in};
+ghost use Rattle.mc_check.specs.Inside.Last.{IsLast, IsStampOf, value_after};
 
 use mc_words::Change;
 
 /// The key that is changed.
-pub(crate) fn key_of<const V: usize>(change: &Change<V>) -> u64
+pub fn key_of<const V: usize>(change: &Change<V>) -> u64
     ensures { result ≡ key_in change.now }
 {
     match *change {

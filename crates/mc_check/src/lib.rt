@@ -15,4 +15,5 @@ mod mentions;
 mod record;
 
 pub use checker::{Checker, check};
+pub use last::key_of;
 pub use record::Record;

@@ -7,13 +7,13 @@ use Rattle.clap.specs.declared.error.kind.ErrorKind.TheVariants as kind
 use Rattle.mc_options.specs.LoadOptions.{GivesLoad, HasLoadFault, SaysNoLoad}
 use Rattle.mc_options.specs.declared.load_options.LoadOptions.{LoadOptions}
 use Rattle.mc_cache.specs.declared.opening.OpenError.TheVariants as opening
-use Rattle.mc_workers.specs.DeskLoads.{RefusesTurns, ReportsTurns}
+use Rattle.mc_shard_load.specs.ShardLoads.{RefusesTurns, ReportsTurns}
 use Rattle.mc_workers.specs.Loads.{RefusesLoad, Reports}
 use Rattle.mc_workers.specs.declared.asked.Load.{Load}
 use Rattle.mc_workers.specs.declared.error.LoadError.{LoadError}
 use Rattle.mc_workers.specs.declared.error.LoadError.TheVariants as error
 use Rattle.mc_workers.specs.declared.report.Report.{Report}
-use Rattle.mc_workers.specs.declared.turns.DeskReport.{DeskReport}
+use Rattle.mc_shard_load.specs.declared.turns.TurnsReport.{TurnsReport}
 use Rattle.mc_options.specs.Statuses.{failed, refused}
 use Rattle.mc_options.specs.Streams.{IsShort, IsUntouched, Prints, Stream, Tells}
 use Rattle.mc_options.specs.ShapeTexts.{shape_text}
@@ -28,7 +28,7 @@ abbrev pub report_text : Report → List ℕ
 report_text r = lines_text r.lookups r.writes (r.found + r.absent + r.busy == r.lookups) r.wrong
 
 -- of the answers, and of the tries
-abbrev pub turns_text : DeskReport → List ℕ
+abbrev pub turns_text : TurnsReport → List ℕ
 turns_text r = lines_text r.lookups r.calls ((r.found + r.absent + r.busy == r.lookups) && (r.held + r.answered == r.calls)) r.wrong
 
 -- what is told of a load that is refused
@@ -38,6 +38,7 @@ load_text (error.Open opening.Readers) = codes "readers must be from 1 to 1024"
 load_text (error.Open opening.NoMemory) = codes "no memory"
 load_text error.NoMemory = codes "no memory"
 load_text error.Writers = codes "writers must be from 1 to 8"
+load_text error.Shards = codes "shards must be a power of two from 1 to 256"
 load_text error.Keys = codes "keys must be from 1 to 4294967296"
 load_text (error.Gate who call) = codes "gate"
 
@@ -48,6 +49,7 @@ load_status (error.Open opening.Readers) = refused
 load_status (error.Open opening.NoMemory) = failed
 load_status error.NoMemory = failed
 load_status error.Writers = refused
+load_status error.Shards = refused
 load_status error.Keys = refused
 load_status (error.Gate who call) = failed
 
@@ -66,21 +68,25 @@ WritesReport o output errors status = (r : Report) × Reports 4 (load_of o) r ×
 
 -- so was a load whose writers take turns
 abbrev pub WritesTurns : LoadOptions → Stream → Stream → ℕ → Type 0
-WritesTurns o output errors status = (r : DeskReport) × ReportsTurns 4 (load_of o) o.writers r × WritesLines o.histogram output (turns_text r) status × IsUntouched errors
+WritesTurns o output errors status = (r : TurnsReport) × ReportsTurns 4 (load_of o) o.shards o.writers r × WritesLines o.histogram output (turns_text r) status × IsUntouched errors
+
+-- one writer has one cache for itself
+abbrev pub IsAlone : LoadOptions → Type 0
+IsAlone o = (o.writers ≡ 1) × (o.shards ≡ 1)
 
 -- why a load is refused, though not by its gate, which lets every call through
 abbrev pub IsRefused : LoadOptions → LoadError → Type 0
-IsRefused o why = ((o.writers ≡ 1) × RefusesLoad (λ who call. ⊥) (load_of o) why) ⊎ ((o.writers ≢ 1) × RefusesTurns (λ who call. ⊥) (load_of o) o.writers why)
+IsRefused o why = (IsAlone o × RefusesLoad (λ who call. ⊥) (load_of o) why) ⊎ ((¬ IsAlone o) × RefusesTurns (λ who call. ⊥) (load_of o) o.shards o.writers why)
 
 -- the refusal is told
 abbrev pub TellsRefusal : LoadOptions → Stream → Stream → ℕ → Type 0
 TellsRefusal o output errors status =
     (why : LoadError) × IsRefused o why × IsUntouched output × Tells errors (codes "refused: " ++ load_text why) × (status ≡ load_status why)
 
--- a load with these options: one writer has the cache for itself, several take turns
+-- a load with these options: a writer that isn't alone takes turns
 abbrev pub RunsLoad : LoadOptions → Stream → Stream → ℕ → Type 0
 RunsLoad o output errors status =
-    ((o.writers ≡ 1) × WritesReport o output errors status) ⊎ ((o.writers ≢ 1) × WritesTurns o output errors status) ⊎ TellsRefusal o output errors status
+    (IsAlone o × WritesReport o output errors status) ⊎ ((¬ IsAlone o) × WritesTurns o output errors status) ⊎ TellsRefusal o output errors status
 
 -- the words have a fault that is neither help nor version
 abbrev pub IsLoadFaulty : List (List ℕ) → Type 0

@@ -1,5 +1,6 @@
 //! What `mcload` prints of how its workers fared.
-use mc_workers::{Figures, Meter, Turns};
+use mc_shard_load::Turns;
+use mc_workers::{Figures, Meter};
 use std::alloc::Global;
 use std::fmt;
 use std::fmt::{Display, Write as _};
@@ -18,6 +19,8 @@ enum Worker {
 struct Row {
     worker: Worker,
     figures: Figures,
+    /// Whether it says how far answers were behind.
+    delays: bool,
 }
 
 impl Display for Row {
@@ -32,11 +35,14 @@ impl Display for Row {
             busy,
             behind,
         } = self.figures;
-        write!(
-            f,
-            " calls/s {calls_a_second} busy {busy} behind {} {} {} {} {}",
-            behind[0], behind[1], behind[2], behind[3], behind[4]
-        )?;
+        write!(f, " calls/s {calls_a_second} busy {busy}")?;
+        if self.delays {
+            write!(
+                f,
+                " behind {} {} {} {} {}",
+                behind[0], behind[1], behind[2], behind[3], behind[4]
+            )?;
+        }
         match self.worker {
             Worker::Trying(_, turns) => {
                 write!(f, " held {} answered {}", turns.held, turns.answered)
@@ -59,24 +65,34 @@ fn worker_of(who: u32, readers: u32, turns: &[Turns]) -> Worker {
 }
 
 /// A line for each worker: calls a second, answers without a moment, and how many answers were how many changes behind the
-/// newest; of several writers also how many of its tries were held and answered.
+/// newest; of several writers also how many of its tries were held and answered. Nothing is behind where there are several shards, since
+/// each has moments of its own.
 pub(crate) fn histogram<C>(
     alloc: Global,
     meter: &Meter<'_, C>,
     turns: &[Turns],
+    shards: u32,
 ) -> Result<String, fmt::Error> {
     let mut text = String::new(alloc);
-    writeln!(
-        text,
-        "changes behind: 0, 1 to 9, 10 to 99, 100 to 999, more"
-    )?;
+    let delays = shards == 1;
+    if delays {
+        writeln!(
+            text,
+            "changes behind: 0, 1 to 9, 10 to 99, 100 to 999, more"
+        )?;
+    }
     let readers = meter.readers();
     for who in 0..u32::MAX {
         let Some(figures) = meter.figures(who as usize) else {
             break;
         };
         let worker = worker_of(who, readers, turns);
-        writeln!(text, "{}", Row { worker, figures })?;
+        let row = Row {
+            worker,
+            figures,
+            delays,
+        };
+        writeln!(text, "{row}")?;
     }
     Ok(text)
 }

@@ -13,6 +13,5 @@ mod load_run;
 mod load_told;
 
 pub use load_run::run_load;
-pub use mc_workers::{
-    DeskReport, Free, Gate, Load, LoadError, Record, Report, check, load, load_desk, load_many,
-};
+pub use mc_shard_load::{TurnsReport, load_shards};
+pub use mc_workers::{Free, Gate, Load, LoadError, Record, Report, check, load, load_many};

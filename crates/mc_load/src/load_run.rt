@@ -1,8 +1,9 @@
 //! The whole program `mcload`, over any streams.
-ghost use Rattle.std.specs.Prelude.{◌≡◌, ◌≢◌, ◌++◌, codes, false, map, true};
+ghost use Rattle.std.specs.Prelude.{◌≡◌, ◌++◌, codes, false, map, true};
+ghost use Rattle.std.specs.Bool.{Decides};
 ghost use Rattle.mc_options.specs.Streams.{Tells, stream};
 ghost use Rattle.mc_workers.specs.Loads.{MayAskAtOnce};
-ghost use Rattle.mc_load.specs.LoadPrograms.{Loads, RunsLoad, WritesLines, load_of, load_status, load_text};
+ghost use Rattle.mc_load.specs.LoadPrograms.{IsAlone, Loads, RunsLoad, WritesLines, load_of, load_status, load_text};
 ghost use Rattle.mc_load.specs.Inside.Histograms.{AppendsSome};
 ghost use Rattle.mc_load.specs.Told.{text_of};
 
@@ -10,10 +11,9 @@ use crate::histogram::histogram;
 use crate::load_told::{Lines, LoadRefusal};
 use mc_options::{FAILED, LoadOptions, REFUSED, load_options_of, tell, tell_fault};
 use mc_script::send;
+use mc_shard_load::{MOST_WRITERS, Turns, load_shards, run_shards};
 use mc_words::MOST_READERS;
-use mc_workers::{
-    Free, Load, LoadError, MOST_WRITERS, Meter, OpenError, Turns, load_desk, load_many, run_desk,
-};
+use mc_workers::{Free, Load, LoadError, Meter, OpenError, load_many};
 use std::alloc::Global;
 use std::convert::AsStr;
 use std::fmt::{InlineText, Write as _};
@@ -42,10 +42,11 @@ fn write_histogram<W: Write, C>(
     output: &mut W,
     meter: &Meter<'_, C>,
     turns: &[Turns],
+    shards: u32,
 ) -> u8
     ensures { AppendsSome (stream (W.contents output.old) (W.contents output.new)) result }
 {
-    let Ok(text) = histogram(alloc, meter, turns) else {
+    let Ok(text) = histogram(alloc, meter, turns, shards) else {
         return FAILED;
     };
     let (_, all) = send(output, text.as_bytes());
@@ -59,12 +60,13 @@ fn write_measured<W: Write, C>(
     told: Lines,
     meter: &Meter<'_, C>,
     turns: &[Turns],
+    shards: u32,
 ) -> u8
     ensures { WritesLines true (stream (W.contents output.old) (W.contents output.new)) (text_of told) result }
 {
     let status = write_report(output, told);
     if status == 0 {
-        write_histogram(alloc, output, meter, turns)
+        write_histogram(alloc, output, meter, turns, shards)
     } else {
         status
     }
@@ -76,6 +78,7 @@ fn status_of(why: LoadError) -> u8
 {
     match why {
         LoadError::Writers
+        | LoadError::Shards
         | LoadError::Keys
         | LoadError::Open(OpenError::Shape(_) | OpenError::Readers) => REFUSED,
         LoadError::NoMemory | LoadError::Open(OpenError::NoMemory) | LoadError::Gate { .. } => {
@@ -116,6 +119,13 @@ fn refuse<E: Write>(errors: &mut E, why: LoadError) -> u8
     status_of(why)
 }
 
+/// Whether one writer has one cache for itself.
+fn is_alone(options: LoadOptions) -> bool
+    ensures { Decides result (IsAlone options) }
+{
+    options.writers == 1 && options.shards == 1
+}
+
 /// Runs a load with one writer and writes its report.
 fn run_plain<R: Threads + Sync, W: Write, E: Write>(
     rt: &R,
@@ -124,7 +134,7 @@ fn run_plain<R: Threads + Sync, W: Write, E: Write>(
     output: &mut W,
     errors: &mut E,
 ) -> u8
-    requires one { options.writers ≡ 1 }
+    requires alone { IsAlone options }
     requires many { MayAskAtOnce options.many }
     ensures { RunsLoad options (stream (W.contents output.old) (W.contents output.new)) (stream (E.contents errors.old) (E.contents errors.new)) result }
 {
@@ -144,12 +154,12 @@ fn run_measured<R: Threads + Sync + Clock, W: Write, E: Write>(
     errors: &mut E,
 ) -> u8
     requires histogram { options.histogram ≡ true }
-    requires one { options.writers ≡ 1 }
+    requires alone { IsAlone options }
     requires many { MayAskAtOnce options.many }
     ensures { RunsLoad options (stream (W.contents output.old) (W.contents output.new)) (stream (E.contents errors.old) (E.contents errors.new)) result }
 {
     match load_many::<4, R, Meter<'_, R>>(rt, alloc, load_for(options), meter, options.many) {
-        Ok(report) => write_measured(alloc, output, Lines::of(report), meter, &[]),
+        Ok(report) => write_measured(alloc, output, Lines::of(report), meter, &[], 1),
         Err(why) => refuse(errors, why),
     }
 }
@@ -162,10 +172,15 @@ fn run_turns<R: Threads + Sync, W: Write, E: Write>(
     output: &mut W,
     errors: &mut E,
 ) -> u8
-    requires several { options.writers ≢ 1 }
+    requires several { ¬ IsAlone options }
     ensures { RunsLoad options (stream (W.contents output.old) (W.contents output.new)) (stream (E.contents errors.old) (E.contents errors.new)) result }
 {
-    match load_desk::<4, R, Free>(rt, alloc, load_for(options), options.writers, &Free) {
+    let LoadOptions {
+        shards,
+        writers,
+        ..
+    } = options;
+    match load_shards::<4, R, Free>(rt, alloc, load_for(options), shards, writers, &Free) {
         Ok(report) => write_report(output, Lines::of_turns(report)),
         Err(why) => refuse(errors, why),
     }
@@ -180,14 +195,19 @@ fn run_turns_measured<R: Threads + Sync + Clock, W: Write, E: Write>(
     output: &mut W,
     errors: &mut E,
 ) -> u8
-    requires several { options.writers ≢ 1 }
+    requires several { ¬ IsAlone options }
     requires histogram { options.histogram ≡ true }
     ensures { RunsLoad options (stream (W.contents output.old) (W.contents output.new)) (stream (E.contents errors.old) (E.contents errors.new)) result }
 {
-    match run_desk::<4, R, Meter<'_, R>>(rt, alloc, load_for(options), options.writers, meter) {
+    let LoadOptions {
+        shards,
+        writers,
+        ..
+    } = options;
+    match run_shards::<4, R, Meter<'_, R>>(rt, alloc, load_for(options), shards, writers, meter) {
         Ok(run) => {
             let told = Lines::of_turns(run.report);
-            write_measured(alloc, output, told, meter, &run.turns)
+            write_measured(alloc, output, told, meter, &run.turns, shards)
         }
         Err(why) => refuse(errors, why),
     }
@@ -206,7 +226,7 @@ fn run_with_meter<R: Threads + Sync + Clock, W: Write, E: Write>(
     requires many { MayAskAtOnce options.many }
     ensures { RunsLoad options (stream (W.contents output.old) (W.contents output.new)) (stream (E.contents errors.old) (E.contents errors.new)) result }
 {
-    if options.writers == 1 {
+    if is_alone(options) {
         run_measured(rt, alloc, options, meter, output, errors)
     } else {
         run_turns_measured(rt, alloc, options, meter, output, errors)
@@ -231,7 +251,7 @@ fn run_for<R: Threads + Sync + Clock, W: Write, E: Write>(
             return run_with_meter(rt, alloc, options, &meter, output, errors);
         }
     }
-    if options.writers == 1 {
+    if is_alone(options) {
         run_plain(rt, alloc, options, output, errors)
     } else {
         run_turns(rt, alloc, options, output, errors)

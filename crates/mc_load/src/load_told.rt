@@ -4,7 +4,8 @@ ghost use Rattle.mc_load.specs.LoadPrograms.{load_text, report_text, turns_text}
 ghost use Rattle.mc_load.specs.Told.{text_of};
 
 use mc_options::Refusal;
-use mc_workers::{DeskReport, LoadError, OpenError, Report};
+use mc_shard_load::TurnsReport;
+use mc_workers::{LoadError, OpenError, Report};
 use std::fmt;
 use std::fmt::Display;
 
@@ -39,7 +40,7 @@ impl Lines {
     }
 
     /// Of a load whose writers take turns.
-    pub(crate) fn of_turns(report: DeskReport) -> Lines
+    pub(crate) fn of_turns(report: TurnsReport) -> Lines
         ensures { text_of result ≡ turns_text report }
     {
         let are_answers = adds_up(report.found, report.absent, report.busy, report.lookups);
@@ -83,6 +84,9 @@ impl Display for LoadRefusal {
                 write!(f, "refused: no memory")
             }
             LoadError::Writers => write!(f, "refused: writers must be from 1 to 8"),
+            LoadError::Shards => {
+                write!(f, "refused: shards must be a power of two from 1 to 256")
+            }
             LoadError::Keys => write!(f, "refused: keys must be from 1 to 4294967296"),
             LoadError::Gate { .. } => write!(f, "refused: gate"),
         }

@@ -36,6 +36,7 @@ abbrev pub load_draws : List Rule
 load_draws =
     option (codes "lookups") (parser.Signed (pos 0) (pos 1048576)) (codes "2000")
     ∷ option (codes "many") (parser.Signed (pos 1) (pos 64)) (codes "1")
+    ∷ option (codes "shards") (parser.Signed (pos 0) (pos 4294967295)) (codes "1")
     ∷ option (codes "writers") (parser.Signed (pos 0) (pos 4294967295)) (codes "1")
     ∷ option (codes "writes") (parser.Signed (pos 0) (pos 1048576)) (codes "2000")
     ∷ option (codes "keys") (parser.Unsigned 0 18446744073709551615) (codes "64")
@@ -66,6 +67,7 @@ pub record SaysLoad (rows : List Row) (o : LoadOptions) : Type 0 where
   pub readers : option_and_then (number_in 0 4294967295) (first_of (codes "readers") rows) ≡ Some o.readers
   pub lookups : option_and_then (number_in 0 1048576) (first_of (codes "lookups") rows) ≡ Some o.lookups
   pub many : option_and_then (number_in 1 64) (first_of (codes "many") rows) ≡ Some o.many
+  pub shards : option_and_then (number_in 0 4294967295) (first_of (codes "shards") rows) ≡ Some o.shards
   pub writers : option_and_then (number_in 0 4294967295) (first_of (codes "writers") rows) ≡ Some o.writers
   pub writes : option_and_then (number_in 0 1048576) (first_of (codes "writes") rows) ≡ Some o.writes
   pub keys : option_and_then (number_in 0 18446744073709551615) (first_of (codes "keys") rows) ≡ Some o.keys

@@ -23,6 +23,7 @@ pub struct LoadOptions {
     pub lookups: u32,
     /// Keys of each call of a reader, from 1 to 64.
     pub many: u32,
+    pub shards: u32,
     pub writers: u32,
     /// Calls of each writer, at most 2^20.
     pub writes: u32,
@@ -42,7 +43,8 @@ const MOST_AT_ONCE: u64 = 64;
 const RUNS: &str = "\
 One writer and the readers run in threads. The writer puts and removes keys that it draws, one call in eight a removal; each
 reader looks up keys that it draws. Then each answer is compared with what the map held at the answer's moment.
-Several writers share the cache by turns: each call is tried once, and what another's turn kept from it is counted too.
+Several writers share the cache by turns: each call is tried once, and what another's turn kept from it is counted too. With
+several shards each shard has turns of its own, also for one writer, and answers are checked shard by shard.
 
 Example:
   mcload run --readers 2 --keys 1000
@@ -69,7 +71,7 @@ fn shared_load_rows<'a>() -> [OptionRow<'a>; 8]
 }
 
 /// The other options of `mcload` that have values, in the order of its help.
-fn load_rows<'a>() -> [OptionRow<'a>; 6]
+fn load_rows<'a>() -> [OptionRow<'a>; 7]
     ensures { map row_rule result ≡ load_draws }
 {
     let word = value_parser!(u64);
@@ -85,13 +87,19 @@ fn load_rows<'a>() -> [OptionRow<'a>; 6]
             name: "many",
             takes: ValueParser::Signed(1, 64),
             default: "1",
-            help: "Keys that a reader looks up by one call, from 1 to 64, where there is one writer",
+            help: "Keys that a reader looks up by one call, from 1 to 64, where no turns are taken",
+        },
+        OptionRow {
+            name: "shards",
+            takes: ValueParser::Signed(0, 4_294_967_295),
+            default: "1",
+            help: "Shards, a power of two from 1 to 256; the shape is that of each shard",
         },
         OptionRow {
             name: "writers",
             takes: ValueParser::Signed(0, 4_294_967_295),
             default: "1",
-            help: "Writers, from 1 to 8; where there are several, they take turns",
+            help: "Writers, from 1 to 8; where there are several, or several shards, they take turns",
         },
         OptionRow {
             name: "writes",
@@ -122,7 +130,9 @@ fn histogram_arg<'a>(alloc: Global) -> Arg<'a>
     Arg::new(alloc, "histogram")
         .long("histogram")
         .action(ArgAction::SetTrue)
-        .help("Also prints calls a second, and how far answers were behind the newest change")
+        .help(
+            "Also prints calls a second, and with one shard how far answers were behind the newest change",
+        )
 }
 
 /// The first argument.
@@ -178,6 +188,7 @@ fn load_options_in(matches: &ArgMatches) -> Result<LoadOptions, &'static str>
     let readers = number(matches, "readers", 0, MOST_SIZE)?;
     let lookups = number(matches, "lookups", 0, MOST_CALLS)?;
     let many = number(matches, "many", 1, MOST_AT_ONCE)?;
+    let shards = number(matches, "shards", 0, MOST_SIZE)?;
     let writers = number(matches, "writers", 0, MOST_SIZE)?;
     let writes = number(matches, "writes", 0, MOST_CALLS)?;
     let keys = number(matches, "keys", 0, u64::MAX)?;
@@ -187,6 +198,7 @@ fn load_options_in(matches: &ArgMatches) -> Result<LoadOptions, &'static str>
         readers: readers as u32,
         lookups: lookups as u32,
         many: many as u32,
+        shards: shards as u32,
         writers: writers as u32,
         writes: writes as u32,
         keys,

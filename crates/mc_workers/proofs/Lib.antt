@@ -1,8 +1,4 @@
 pub mod Batches
-pub mod DeskLookups
-pub mod DeskRefusals
-pub mod DeskTries
-pub mod DeskTurns
 pub mod Each
 pub mod Histories
 pub mod Readers

@@ -84,6 +84,7 @@ refused_call o may load ls (error.Open x) keys shape readers many ended by r = a
 refused_call o may load ls error.NoMemory keys shape readers many ended by r = absurd r
 refused_call o may load ls error.Keys keys shape readers many ended by r = absurd r
 refused_call o may load ls error.Writers keys shape readers many ended by r = absurd r
+refused_call o may load ls error.Shards keys shape readers many ended by r = absurd r
 
 -- what no gate refuses is refused whatever the gate may refuse
 pub refused_by_none : (may : ℕ → ℕ → Type 0) (load : Load) (why : LoadError) → RefusesLoad (λ who call. ⊥) load why → RefusesLoad may load why
@@ -92,3 +93,4 @@ refused_by_none may load (error.Open x) r = r
 refused_by_none may load error.NoMemory r = r
 refused_by_none may load error.Keys r = r
 refused_by_none may load error.Writers r = absurd r
+refused_by_none may load error.Shards r = absurd r

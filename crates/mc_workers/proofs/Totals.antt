@@ -9,7 +9,7 @@ use Rattle.mc_words.specs.declared.history.Reply.TheVariants.{Found, Absent, Bus
 use Rattle.mc_check.specs.Wrong.{AreWrong}
 use Rattle.mc_check.specs.declared.record.Record.{Record}
 use Rattle.mc_workers.specs.Loads.{is_absent, is_busy, is_found, total_of}
-use Rattle.mc_workers.specs.Inside.DeskSums.{answers_of}
+use Rattle.mc_workers.specs.Inside.Workers.{answers_of}
 use Rattle.mc_workers.specs.declared.looking.Looking.{Looking}
 
 -- how many answers of one reader are of a kind

@@ -1,11 +1,6 @@
 pub mod Beginnings
-pub mod Dates
-pub mod DeskBeginnings
-pub mod DeskRefusals
-pub mod DeskSums
 pub mod Drawn
 pub mod Journals
 pub mod Parted
 pub mod Refusals
-pub mod Tries
 pub mod Workers

@@ -1,6 +1,4 @@
-pub mod Dates
-pub mod DeskLoads
+pub mod Drawn
 pub mod Draws
 pub mod Inside
 pub mod Loads
-pub mod Turns

@@ -98,6 +98,7 @@ IsCall load who call = (1 ≤ call) × (((who ≡ 0) × (call ≤ load.writes)) 
 -- the first fault of what was asked for; where there is none, memory was refused, or the gate refused a call, which is one that it may refuse
 abbrev pub RefusesLoad : (ℕ → ℕ → Type 0) → Load → LoadError → Type 0
 RefusesLoad may load error.Writers = ⊥
+RefusesLoad may load error.Shards = ⊥
 RefusesLoad may load error.Keys = ¬ HasKeys load.keys
 RefusesLoad may load (error.Open why) = HasKeys load.keys × RefusesOpening load.shape load.readers why
 RefusesLoad may load error.NoMemory = HasKeys load.keys × IsShape load.shape × HasReaders load.readers

@@ -8,16 +8,17 @@ use rand_pcg::Lcg64Xsh32;
 
 /// The draws of one worker: a generator of the load's seed, on a stream of the worker's own.
 #[derive(Drop)]
-pub(crate) struct Draws {
+pub struct Draws {
     generator: Lcg64Xsh32,
     keys: u64,
     ghost some_keys: { 1 ≤ keys },
 }
 
 impl Draws {
-    ghost use Rattle.mc_workers.specs.Inside.Drawn.{HasDrawn};
+    ghost use Rattle.mc_workers.specs.Drawn.{HasDrawn};
 
-    pub(crate) fn new(load: Load, stream: u64) -> Draws
+    /// From the first word on. Condition: the load has some keys.
+    pub fn new(load: Load, stream: u64) -> Draws
         requires { 1 ≤ load.keys }
         ensures { HasDrawn load stream 0 result }
     {
@@ -28,7 +29,7 @@ impl Draws {
     }
 
     /// A key below the number of keys.
-    pub(crate) fn key(&mut self) -> u64
+    pub fn key(&mut self) -> u64
         ensures drawn { (load : Load) (who n : ℕ) → HasDrawn load who n self.old → HasDrawn load who (n + 1) self.new }
         ensures key { (load : Load) (who n : ℕ) → HasDrawn load who n self.old → result ≡ drawn_key load who n }
     {
@@ -36,7 +37,7 @@ impl Draws {
     }
 
     /// Whether a call of the writer is a removal: one in eight is.
-    pub(crate) fn is_removal(&mut self) -> bool
+    pub fn is_removal(&mut self) -> bool
         ensures drawn { (load : Load) (who n : ℕ) → HasDrawn load who n self.old → HasDrawn load who (n + 1) self.new }
         ensures removal { (load : Load) (who n : ℕ) → HasDrawn load who n self.old → (IsTrue result ↔ (drawn_word load who n % 8 ≡ 0)) }
     {

@@ -1,13 +1,12 @@
 //! A reader at work.
 ghost use Rattle.std.specs.Prelude.{ℕ, ◌≡◌, ◌+◌, ◌^◌, ◌≤◌, ◌<◌, IfSome, None, Some, length, take, vec_len, vec_capacity};
-ghost use Rattle.std.specs.Option.{ForSome};
 ghost use Rattle.mc_shared.specs.Records.{Opening};
 ghost use Rattle.mc_workers.specs.Loads.{most_at_once};
 
 use crate::asked::Load;
 use crate::draws::Draws;
 use crate::gate::Gate;
-use mc_cache::{Cache, Desk, Reader, Reply};
+use mc_cache::{Cache, Reader, Reply};
 use mc_check::Record;
 
 /// The most keys of one call.
@@ -30,8 +29,8 @@ pub(crate) struct Looking<const V: usize> {
     ghost most_keys: { many ≤ most_at_once },
 }
 
-/// The moment of a reply.
-fn moment_of<const V: usize>(reply: &Reply<V>) -> Option<u64> {
+/// The moment of a reply. `Busy` has none.
+pub fn moment_of<const V: usize>(reply: &Reply<V>) -> Option<u64> {
     match *reply {
         Reply::Found { at, .. } | Reply::Absent { at } => Some(at),
         Reply::Busy => None,
@@ -39,7 +38,8 @@ fn moment_of<const V: usize>(reply: &Reply<V>) -> Option<u64> {
 }
 
 impl<const V: usize> Looking<V> {
-    ghost use Rattle.mc_workers.specs.Inside.Drawn.{AreNext, HasDrawn};
+    ghost use Rattle.mc_workers.specs.Drawn.{HasDrawn};
+    ghost use Rattle.mc_workers.specs.Inside.Drawn.{AreNext};
     ghost use Rattle.mc_workers.specs.Inside.Workers.{AreNextOf, AreTrueNow, HasEnded, HasNotedDrawn, IsLooking, IsNextOf, IsReady, IsTrueNow};
     ghost use Rattle.mc_words.specs.Readers.{most_readers};
 
@@ -77,33 +77,21 @@ impl<const V: usize> Looking<V> {
         }
     }
 
-    /// Looks one key up, and where there is a desk, tries for the turn rather than being told `Busy`.
-    fn get(&mut self, cache: &Cache<V>, desk: Option<&Desk<V>>, key: u64) -> Reply<V>
+    /// Looks one key up.
+    fn get(&mut self, cache: &Cache<V>, key: u64) -> Reply<V>
         requires looking { IsLooking V cache.now self.old }
-        requires desk { ForSome desk (λ d. d.now ≡ cache.now) }
         ensures looking { IsLooking V cache.now self.new }
         ensures truth { IsTrueNow V cache.now self.new key result }
         ensures records { self.new.records ≡ self.old.records }
         ensures kept { (self.new.number ≡ self.old.number) × (self.new.refused ≡ self.old.refused) }
         ensures draws { self.new.draws ≡ self.old.draws }
     {
-        match desk {
-            Some(desk) => self.reader.get_or_desk(cache, desk, key),
-            None => self.reader.get(cache, key),
-        }
+        self.reader.get(cache, key)
     }
 
     /// Looks the keys up, by one call where they are several.
-    fn look<G: Gate>(
-        &mut self,
-        cache: &Cache<V>,
-        desk: Option<&Desk<V>>,
-        gate: &G,
-        keys: &[u64],
-        replies: &mut [Reply<V>],
-    )
+    fn look<G: Gate>(&mut self, cache: &Cache<V>, gate: &G, keys: &[u64], replies: &mut [Reply<V>])
         requires looking { IsLooking V cache.now self.old }
-        requires desk { ForSome desk (λ d. d.now ≡ cache.now) }
         requires number { self.old.number < most_readers }
         requires many { length replies.old ≡ length keys.now }
         requires room { vec_len self.old.records + length keys.now ≤ vec_capacity self.old.records }
@@ -115,7 +103,7 @@ impl<const V: usize> Looking<V> {
         ensures draws { self.new.draws ≡ self.old.draws }
     {
         if keys.len() == 1 {
-            let reply = self.get(cache, desk, keys[0]);
+            let reply = self.get(cache, keys[0]);
             self.note(gate, keys[0], reply);
         } else {
             self.reader.get_many(cache, keys, replies);
@@ -151,14 +139,7 @@ impl<const V: usize> Looking<V> {
     }
 
     /// Makes the load's lookups, or fewer where the gate refuses a call. The calls before it are made.
-    pub(crate) fn run<G: Gate>(
-        &mut self,
-        cache: &Cache<V>,
-        desk: Option<&Desk<V>>,
-        gate: &G,
-        load: Load,
-    )
-        requires desk { ForSome desk (λ d. d.now ≡ cache.now) }
+    pub(crate) fn run<G: Gate>(&mut self, cache: &Cache<V>, gate: &G, load: Load)
         requires ready { IsReady V cache.now load self.old.number self.old }
         requires number { self.old.number < most_readers }
         ensures ended { HasEnded V cache.now load self.old.number self.new }
@@ -171,7 +152,7 @@ impl<const V: usize> Looking<V> {
         while self.records.len() < lookups {
             let most = many.min(lookups - self.records.len());
             let through = self.ask(gate, most, &mut keys);
-            self.look(cache, desk, gate, &keys[..through], &mut replies[..through]);
+            self.look(cache, gate, &keys[..through], &mut replies[..through]);
             if through < most {
                 return;
             }

@@ -23,7 +23,7 @@ pub struct Report {
 
 impl Report {
     /// Of a writer that has made so many calls and changes, and of no reader.
-    pub(crate) fn none(writes: u64, changes: u64) -> Report
+    pub fn none(writes: u64, changes: u64) -> Report
         ensures counts { (result.lookups ≡ 0) × (result.wrong ≡ 0) }
         ensures answers { (result.found ≡ 0) × (result.absent ≡ 0) × (result.busy ≡ 0) }
         ensures writer { (result.writes ≡ writes) × (result.changes ≡ changes) }
@@ -40,7 +40,7 @@ impl Report {
     }
 
     /// Adds the answers of one reader, of which so many are wrong.
-    pub(crate) fn add(&mut self, tally: Tally, wrong: u64)
+    pub fn add(&mut self, tally: Tally, wrong: u64)
         requires many { self.old.lookups + (tally.found + tally.absent + tally.busy) < 2 ^ 64 }
         requires answers { self.old.found + self.old.absent + self.old.busy ≡ self.old.lookups }
         requires wrong { self.old.wrong + wrong < 2 ^ 64 }
@@ -61,10 +61,10 @@ impl Report {
 
 /// How many answers of each kind there are.
 #[derive(Clone, Copy)]
-pub(crate) struct Tally {
-    pub(crate) found: u64,
-    pub(crate) absent: u64,
-    pub(crate) busy: u64,
+pub struct Tally {
+    pub found: u64,
+    pub absent: u64,
+    pub busy: u64,
 }
 
 /// How many answers found the key.
@@ -114,7 +114,7 @@ fn busy<const V: usize>(records: &[Record<V>]) -> u64
 
 impl Tally {
     /// The answers of one reader.
-    pub(crate) fn of<const V: usize>(records: &[Record<V>]) -> Tally
+    pub fn of<const V: usize>(records: &[Record<V>]) -> Tally
         ensures found { result.found ≡ count_by (λ r. is_found r.reply) records.now }
         ensures absent { result.absent ≡ count_by (λ r. is_absent r.reply) records.now }
         ensures busy { result.busy ≡ count_by (λ r. is_busy r.reply) records.now }

@@ -33,7 +33,7 @@ fn look_all<const V: usize, R: Threads + Sync, G: Gate>(
         requires { IsReady V cache.now load looking.now.number looking.now × (looking.now.number < most_readers) }
         ensures ended { HasEnded V cache.entry.now load looking.entry.now.number looking.exit.now }
         ensures refused { IfSome looking.exit.now.refused (λ call. G.may_refuse gate.entry.now (looking.entry.now.number + 1) call) }
-    { looking.run(cache, None, gate, load) };
+    { looking.run(cache, gate, load) };
     for_each_mut(rt, lookings.as_mut_slice(), threads, &look);
 }
 

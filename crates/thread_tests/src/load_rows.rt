@@ -61,20 +61,40 @@ fn keys_are_refused_before_readers(rt: HostRuntime) -> Result<(), Fail> {
 
 #[test]
 fn writers_take_turns(rt: HostRuntime) -> Result<(), Fail> {
-    let words = ["mcload", "run", "--writers", "2", "--lookups", "2000"];
-    let lines = "lookups 6000\nwrites 4000\nsum ok\nwrong 0\n";
-    assert!(rt; tells(&rt, rt.alloc(), words.as_slice(), lines, "", 0));
+    for (shards, writers, writes) in [
+        ("1", "2", "4000"),
+        ("4", "1", "2000"),
+        ("256", "8", "16000"),
+    ] {
+        let words = ["mcload", "run", "--shards", shards, "--writers", writers];
+        let lines = format!(in rt.alloc(); "lookups 6000\nwrites {writes}\nsum ok\nwrong 0\n")?;
+        assert!(rt; tells(&rt, rt.alloc(), words.as_slice(), lines.as_str(), "", 0));
+    }
     Ok(())
 }
 
 #[test]
-fn writers_are_refused_before_keys_and_readers(rt: HostRuntime) -> Result<(), Fail> {
-    for (writers, readers, keys, why) in [
-        ("0", "0", "0", "writers must be from 1 to 8"),
-        ("9", "1", "64", "writers must be from 1 to 8"),
-        ("8", "0", "0", "keys must be from 1 to 4294967296"),
-        ("8", "0", "64", "readers must be from 1 to 1024"),
-        ("8", "1017", "64", "readers must be from 1 to 1024"),
+fn writers_are_refused_before_keys_shards_and_readers(rt: HostRuntime) -> Result<(), Fail> {
+    for (writers, readers, keys, shards, why) in [
+        ("0", "0", "0", "0", "writers must be from 1 to 8"),
+        ("9", "1", "64", "1", "writers must be from 1 to 8"),
+        ("8", "0", "0", "0", "keys must be from 1 to 4294967296"),
+        (
+            "1",
+            "0",
+            "64",
+            "0",
+            "shards must be a power of two from 1 to 256",
+        ),
+        (
+            "8",
+            "0",
+            "64",
+            "512",
+            "shards must be a power of two from 1 to 256",
+        ),
+        ("8", "0", "64", "1", "readers must be from 1 to 1024"),
+        ("8", "1016", "64", "1", "readers must be from 1 to 1024"),
     ] {
         let words = [
             "mcload",
@@ -85,6 +105,8 @@ fn writers_are_refused_before_keys_and_readers(rt: HostRuntime) -> Result<(), Fa
             readers,
             "--keys",
             keys,
+            "--shards",
+            shards,
         ];
         let told = format!(in rt.alloc(); "refused: {why}\n")?;
         assert!(rt; tells(&rt, rt.alloc(), words.as_slice(), "", told.as_str(), 2));

@@ -5,7 +5,7 @@ use mc_load::LoadError;
 use mc_words::ShapeError;
 use std::alloc::AllocError;
 
-const LOADS: [(LoadError, &str); 7] = [
+const LOADS: [(LoadError, &str); 8] = [
     (
         LoadError::Open(OpenError::Shape(ShapeError::Depth)),
         "depth must be from 0 to 8",
@@ -19,6 +19,10 @@ const LOADS: [(LoadError, &str); 7] = [
     (LoadError::Keys, "keys must be from 1 to 4294967296"),
     (LoadError::Gate { who: 1, call: 2 }, "gate"),
     (LoadError::Writers, "writers must be from 1 to 8"),
+    (
+        LoadError::Shards,
+        "shards must be a power of two from 1 to 256",
+    ),
 ];
 
 #[test]

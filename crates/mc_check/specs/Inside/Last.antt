@@ -4,18 +4,13 @@ use Rattle.mc_words.specs.declared.history.Change.{Change}
 use Rattle.mc_words.specs.declared.history.Change.TheVariants.{Put, Remove, Evict}
 use Rattle.mc_words.specs.declared.history.Reply.{Reply}
 use Rattle.mc_words.specs.declared.history.Reply.TheVariants.{Found, Absent, Busy}
+use Rattle.mc_check.specs.Changes.{key_in}
 
 -- how many changes the reply names
 abbrev pub moment_in : {V : ℕ} → Reply V → ℕ
 moment_in (Found v at since) = at
 moment_in (Absent at) = at
 moment_in Busy = 0
-
--- the key that is changed
-abbrev pub key_in : {V : ℕ} → Change V → ℕ
-key_in (Put k v) = k
-key_in (Remove k) = k
-key_in (Evict k) = k
 
 -- the value that the key has after the change
 abbrev pub value_in : {V : ℕ} → Change V → Option (List ℕ)

@@ -4,7 +4,7 @@ use Rattle.std.specs.List.{Contains}
 use Rattle.std.specs.List.Sorted.{IsNonDecreasingBy}
 use Rattle.mc_words.specs.declared.history.Change.{Change}
 use Rattle.mc_check.specs.declared.mentions.Mention.{Mention}
-use Rattle.mc_check.specs.Inside.Last.{key_in}
+use Rattle.mc_check.specs.Changes.{key_in}
 
 -- the place of a mention in the order: by key, and then by moment
 abbrev pub rank : ℕ → ℕ → ℕ

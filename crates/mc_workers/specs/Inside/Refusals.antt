@@ -20,6 +20,7 @@ pub record IsFirstRefused {V : ℕ} (ls : List (Looking V)) (n call : ℕ) : Typ
 abbrev pub IsFirstRefusal : {V : ℕ} → List (Looking V) → LoadError → Type 0
 IsFirstRefusal ls (error.Gate who call) = (n : ℕ) × (who ≡ n + 1) × IsFirstRefused ls n call
 IsFirstRefusal ls error.Writers = ⊥
+IsFirstRefusal ls error.Shards = ⊥
 IsFirstRefusal ls error.Keys = ⊥
 IsFirstRefusal ls error.NoMemory = ⊥
 IsFirstRefusal ls (error.Open why) = ⊥

@@ -1,13 +1,15 @@
 -- The writer and the readers at work, between two calls.
-use Rattle.std.specs.Prelude.{ℕ, ◌≡◌, ◌+◌, ◌*◌, ◌≤◌, ◌<◌, All, List, None, IfSome, length, slice_index_or, vec_capacity, vec_len}
+use Rattle.std.specs.Prelude.{ℕ, ◌≡◌, ◌+◌, ◌*◌, ◌≤◌, ◌<◌, All, List, None, IfSome, length, map, slice_index_or, vec_capacity, vec_len}
 use Rattle.mc_words.specs.History.{IsTrueAnswer}
 use Rattle.mc_words.specs.declared.history.Reply.{Reply}
 use Rattle.mc_theory.specs.Lists.{IsLawful}
 use Rattle.mc_shared.specs.Records.{Opening}
 use Rattle.mc_reader.specs.Records.{AreTrueAnswers}
+use Rattle.mc_check.specs.declared.record.Record.{Record}
 use Rattle.mc_workers.specs.Draws.{drawn_key}
 use Rattle.mc_workers.specs.Loads.{AreDrawn, AreTrue, HasMade, history_after}
-use Rattle.mc_workers.specs.Inside.Drawn.{AreNext, HasDrawn}
+use Rattle.mc_workers.specs.Drawn.{HasDrawn}
+use Rattle.mc_workers.specs.Inside.Drawn.{AreNext}
 use Rattle.mc_workers.specs.declared.asked.Load.{Load}
 use Rattle.mc_workers.specs.declared.looking.Looking.{Looking}
 use Rattle.mc_workers.specs.declared.writing.Writing.{Writing}
@@ -67,6 +69,10 @@ pub record HasEnded (V : ℕ) (o : Opening) (load : Load) (n : ℕ) (l : Looking
   pub number : l.number ≡ n
   pub whole : l.refused ≡ None → length l.records.items ≡ load.lookups
   pub refused : IfSome l.refused (λ call. (1 ≤ call) × (call ≤ load.lookups))
+
+-- the answers that the readers wrote down
+abbrev pub answers_of : {V : ℕ} → List (Looking V) → List (List (Record V))
+answers_of {V} ls = map (λ (l : Looking V). l.records.items) ls
 
 abbrev pub AreReady : (V : ℕ) → Opening → Load → List (Looking V) → Type 0
 AreReady V o load ls = (n : ℕ) (d : Looking V) → n < length ls → IsReady V o load n (slice_index_or ls n d)

@@ -9,7 +9,7 @@ use Rattle.mc_load.proofs.load_run.run_plain.Goals as goal
 pub returns-in-Ok : goal.returns-in-Ok
 returns-in-Ok g c =
     inl (
-      c.requires.one,
+      c.requires.alone,
       (
         c.in-Ok.report,
         subst (λ (l : Load). Reports 4 l c.in-Ok.report) c.load_for.ensures c.in-Ok.ensures,
@@ -22,7 +22,7 @@ pub returns-in-Err : goal.returns-in-Err
 returns-in-Err g c =
     inr (inr (
       c.in-Err.why,
-      inl (c.requires.one, subst (λ (l : Load). RefusesLoad (λ who call. ⊥) l c.in-Err.why) c.load_for.ensures c.in-Err.ensures),
+      inl (c.requires.alone, subst (λ (l : Load). RefusesLoad (λ who call. ⊥) l c.in-Err.why) c.load_for.ensures c.in-Err.ensures),
       Keeps-refl (g.W.Write.contents c.args.output.now),
       c.refuse.ensures.told,
       c.refuse.ensures.status,

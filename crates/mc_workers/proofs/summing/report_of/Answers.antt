@@ -5,7 +5,7 @@ use Rattle.mc_theory.specs.Lists.{IsLawful}
 use Rattle.mc_theory.proofs.Lists.Fronts.{state_holds}
 use Rattle.mc_shared.specs.Records.{Opening, WriterRecord}
 use Rattle.mc_workers.specs.Loads.{AreTrue, HasLookedUp, HasMade, history_after, is_absent, is_busy, is_found}
-use Rattle.mc_workers.specs.Inside.DeskSums.{answers_of}
+use Rattle.mc_workers.specs.Inside.Workers.{answers_of}
 use Rattle.mc_workers.specs.declared.looking.Looking.{Looking}
 use Rattle.mc_workers.proofs.Readers.{ended_front, whole_front, ended_last, whole_last, first_less, some_element, more_lookups, few_lookups, rest_more}
 use Rattle.mc_workers.proofs.Totals.{counted_less, kinds_add, none_counted, total_counted}

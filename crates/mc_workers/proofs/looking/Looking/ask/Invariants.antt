@@ -1,5 +1,6 @@
 use Rattle.std.proofs.Common.{ℕ, ◌≡◌, ◌+◌, length, take}
-use Rattle.mc_workers.specs.Inside.Drawn.{AreNext, HasDrawn}
+use Rattle.mc_workers.specs.Drawn.{HasDrawn}
+use Rattle.mc_workers.specs.Inside.Drawn.{AreNext}
 use Rattle.mc_workers.specs.declared.asked.Load.{Load}
 use Rattle.mc_workers.proofs.looking.Looking.ask.Given as goal
 

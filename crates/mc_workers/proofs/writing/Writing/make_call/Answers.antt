@@ -5,7 +5,7 @@ use Rattle.mc_plan.specs.WholeCalls.{Call}
 use Rattle.mc_plan.specs.WholeCalls.Call.{PutCall, RemoveCall}
 use Rattle.mc_writer.specs.WriterCalls.{HasCalled}
 use Rattle.mc_workers.specs.Draws.{drawn_call, drawn_key, drawn_word}
-use Rattle.mc_workers.specs.Inside.Drawn.{HasDrawn}
+use Rattle.mc_workers.specs.Drawn.{HasDrawn}
 use Rattle.mc_workers.proofs.Histories.{made_more, put_drawn, removal_drawn}
 use Rattle.mc_workers.proofs.writing.Writing.make_call.Goals as goal
 

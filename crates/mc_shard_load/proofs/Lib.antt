@@ -1,0 +1,4 @@
+pub mod Refused
+pub mod Told
+pub mod Totals
+pub mod Tries

@@ -1,0 +1,14 @@
+use Rattle.std.proofs.Common.{◌≡◌, ◌+◌, ◌*◌, take}
+use Rattle.mc_workers.specs.Loads.{is_absent, is_busy, is_found, total_of}
+use Rattle.mc_shard_load.specs.Inside.Sums.{answers_of}
+use Rattle.mc_shard_load.proofs.summing.answers_of.Given as goal
+
+abbrev pub invariant-loop-n : goal.invariant-loop-n
+invariant-loop-n g l = record {
+  lookups : l.report.lookups ≡ l.n * l.fn.load.lookups;
+  sum : l.report.found + l.report.absent + l.report.busy ≡ l.report.lookups;
+  wrong : l.report.wrong ≡ 0;
+  found : l.report.found ≡ total_of is_found (answers_of (take l.n l.fn.askings));
+  absent : l.report.absent ≡ total_of is_absent (answers_of (take l.n l.fn.askings));
+  busy : l.report.busy ≡ total_of is_busy (answers_of (take l.n l.fn.askings));
+}

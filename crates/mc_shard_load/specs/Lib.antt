@@ -1,0 +1,4 @@
+pub mod Dates
+pub mod Inside
+pub mod ShardLoads
+pub mod Turns
