@@ -27,8 +27,8 @@ pub use leaving::LeaveError;
 pub use listed::ListError;
 pub use looked::Looked;
 pub use mc_cache::{
-    AbsentError, DeskError, Entry, GROUP, IfError, OpenError, Put, PutError, Remove, Replaced, Shape,
-    ShapeError, Spent, Swapped, Take, Why,
+    AbsentError, DeskError, Entry, GROUP, IfError, OpenError, Put, PutError, Remove, Replaced,
+    Shape, ShapeError, Spent, Swapped, Take, Why,
 };
 pub use mc_shards::{OpenShardsError, shard_shape};
 pub use new_passes::NewPasses;

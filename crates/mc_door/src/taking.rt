@@ -70,8 +70,7 @@ impl<const V: usize> PassSide<V> {
         ensures plain { TurnMeans (λ h h' told. SwapOf V h h' key value.now told) (seen V self.old.pass) (seen V self.new.pass) result }
     {
         let value = array_of::<V>(value);
-        self.desk
-            .try_swap(&self.cache, &mut self.pass, key, value)
+        self.desk.try_swap(&self.cache, &mut self.pass, key, value)
     }
 
     fn swap_if(
