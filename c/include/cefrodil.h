@@ -257,6 +257,10 @@ CEFRODIL_CHECKED cefrodil_status cefrodil_moment(cefrodil_handle *writer, uint64
 CEFRODIL_CHECKED cefrodil_status cefrodil_len(cefrodil_handle *writer, uint64_t *len);
 CEFRODIL_CHECKED cefrodil_status cefrodil_capacity(cefrodil_handle *writer, uint64_t *capacity);
 
+/* The number of keys in the table, by a pass of a desk, which tries once for the turn.
+ * OK: `len` is set. HELD: the try did not win. CLOSED; KIND: also by a pass of shards. Unless OK, `len` is unchanged. */
+CEFRODIL_CHECKED cefrodil_status cefrodil_try_len(cefrodil_handle *pass, uint64_t *len);
+
 /* Lists each key with its value, by the writer or a pass. A pass tries once for the turn, and a pass of shards once for that of each
  * shard, so it lists each shard at a moment of its own. An entry is its key, then the words of its value, as cefrodil_open_with
  * takes it. Readers may go on meanwhile. This call takes memory for the whole list, and frees it.
@@ -283,6 +287,7 @@ CEFRODIL_NO_NULL(cefrodil_get_or_desk);
 CEFRODIL_NO_NULL(cefrodil_moment);
 CEFRODIL_NO_NULL(cefrodil_len);
 CEFRODIL_NO_NULL(cefrodil_capacity);
+CEFRODIL_NO_NULL(cefrodil_try_len);
 CEFRODIL_NO_NULL(cefrodil_entries);
 CEFRODIL_NO_NULL(cefrodil_put);
 CEFRODIL_NO_NULL(cefrodil_put_if);

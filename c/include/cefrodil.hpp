@@ -324,6 +324,8 @@ template <size_t Words> class Pass : public Reader<Words> {
         }
         return status;
     }
+    // The number of keys, in a turn at a desk. It is held if the try does not win.
+    Status try_len(uint64_t &number) { return static_cast<Status>(cefrodil_try_len(this->raw(), &number)); }
     // Like Writer::entries. It is held if a try for the turn does not win.
     Status try_entries(std::vector<uint64_t> &words) { return inside::entries<Words>(this->raw(), words); }
 };

@@ -48,6 +48,8 @@ static void closed(void) {
     MUST(cefrodil_get_or_desk(&none, 1, value, 2, &reply) == CEFRODIL_CLOSED);
     MUST(cefrodil_put(&none, 1, value, 2, &reply) == CEFRODIL_CLOSED);
     MUST(cefrodil_put_if(&none, 1, 0, value, 2, &reply) == CEFRODIL_CLOSED);
+    uint64_t len = 99;
+    MUST(cefrodil_try_len(&none, &len) == CEFRODIL_CLOSED && len == 99);
     MUST(cefrodil_put_if_absent(&none, 1, value, 2, &reply) == CEFRODIL_CLOSED);
     MUST(cefrodil_try_put_if_absent(&none, 1, value, 2, &reply) == CEFRODIL_CLOSED);
     MUST(cefrodil_remove(&none, 1, &reply) == CEFRODIL_CLOSED);
@@ -98,6 +100,7 @@ static void counts(cefrodil_handle *other) {
     uint64_t number = 99, value[2] = {7, 8}, found[2] = {0, 0};
     MUST(cefrodil_moment(other, &number) == CEFRODIL_KIND && cefrodil_len(other, &number) == CEFRODIL_KIND);
     MUST(cefrodil_capacity(other, &number) == CEFRODIL_KIND && number == 99);
+    MUST(cefrodil_try_len(other, &number) == CEFRODIL_KIND && cefrodil_try_len(&writer, &number) == CEFRODIL_KIND && number == 99);
     MUST(cefrodil_moment(&writer, &number) == CEFRODIL_OK && number == 4);
     MUST(cefrodil_len(&writer, &number) == CEFRODIL_OK && number == 0);
     MUST(cefrodil_capacity(&writer, &number) == CEFRODIL_OK && number == 20);
@@ -189,6 +192,8 @@ static void turns(void) {
     MUST(cefrodil_try_put_if_absent(&passes[0], 1, value, 2, &reply) == CEFRODIL_OK && reply.at == 1 && reply.put == CEFRODIL_PUT_STORED);
     MUST(cefrodil_try_put_if_absent(&passes[1], 1, value, 2, &reply) == CEFRODIL_PRESENT && reply.since == 1 && reply.at == 0);
     MUST(cefrodil_try_put_if_absent(&passes[1], 1, value, 1, &reply) == CEFRODIL_WIDTH);
+    uint64_t len = 99;
+    MUST(cefrodil_try_len(&passes[1], &len) == CEFRODIL_OK && len == 1);
     MUST(cefrodil_get(&passes[1], 1, found, 2, &reply) == CEFRODIL_OK && found[1] == 8);
     MUST(cefrodil_get_or_desk(&passes[1], 2, found, 2, &reply) == CEFRODIL_ABSENT && reply.at == 1);
     MUST(cefrodil_try_put_if(&passes[1], 1, 1, value, 2, &reply) == CEFRODIL_OK && reply.at == 2);

@@ -272,6 +272,14 @@ impl<const WORDS: usize> Pass<'_, WORDS> {
         reply::turn(told, |told| Take::of(key, old, told))
     }
 
+    /// The number of keys in the cache, in a turn. `None` if the try for the turn did not win, or if this is a pass of shards: no call
+    /// sees several shards at one moment.
+    #[must_use]
+    pub fn try_len(&mut self) -> Option<usize> {
+        let (status, len) = self.handle().try_len();
+        (status == raw::OK).then_some(len as usize)
+    }
+
     /// Lists each key with its value, in a turn, as [`Writer::entries`](crate::Writer::entries) does. A pass of shards takes a turn
     /// at each shard, so it lists each at a moment of its own. `None` if a try for a turn did not win.
     #[must_use]

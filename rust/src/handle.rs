@@ -249,7 +249,11 @@ impl Handle {
         self.number(raw::cefrodil_capacity)
     }
 
-    // One of the three calls that write a number.
+    pub fn try_len(&mut self) -> (u32, u64) {
+        self.number(raw::cefrodil_try_len)
+    }
+
+    // One of the four calls that write a number.
     fn number(&mut self, call: unsafe extern "C" fn(*mut RawHandle, *mut u64) -> u32) -> (u32, u64) {
         let mut number = 0;
         // SAFETY: as in `get`.

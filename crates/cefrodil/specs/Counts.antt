@@ -1,12 +1,15 @@
--- Numbers that the writer knows, as the calls by its handle give them.
-use Rattle.std.specs.Prelude.{ℕ, ◌≡◌, MatchOption, Option as Known}
+-- Numbers that the writer knows, as the calls by its handle give them; and the number of keys, as a pass counts them in a turn.
+use Rattle.std.specs.Prelude.{ℕ, ◌≡◌, MatchOption, MatchResult, Option as Known, Result, Ok, Err}
 use mathlib.Core.Option.{Option}
+use Rattle.mc_door.specs.Counting.{CountsInTurn, RefusesCount}
 use Rattle.mc_door.specs.Held.{role_in, width_of}
 use Rattle.mc_door.specs.Means.{CanWrite}
 use Rattle.mc_door.specs.Roles.{Role}
+use Rattle.mc_door.specs.declared.counting.CountError.{CountError}
+use Rattle.mc_door.specs.declared.counting.CountError.TheVariants as why
 use Rattle.mc_door.specs.declared.held.Held.{Held}
 use Rattle.cefrodil.specs.Calls.{Gives}
-use Rattle.cefrodil.specs.declared.status.TheConstants.{OK, CLOSED, KIND}
+use Rattle.cefrodil.specs.declared.status.TheConstants.{OK, CLOSED, HELD, KIND}
 
 -- the writer's number is written; by another handle nothing is
 pub record HasCounted (Is : ℕ → Role → ℕ → Type 0) (h : Held) (old new status : ℕ) : Type 0 where
@@ -16,3 +19,18 @@ pub record HasCounted (Is : ℕ → Role → ℕ → Type 0) (h : Held) (old new
 
 abbrev pub CountGives : (ℕ → Role → ℕ → Type 0) → Option Held → Option Held → ℕ → ℕ → ℕ → Type 0
 CountGives Is b b' old new status = Gives b b' ((status ≡ CLOSED) × (new ≡ old)) (λ h h'. (h' ≡ h) × HasCounted Is h old new status)
+
+-- the status; and the number, where it was counted
+abbrev pub TellsCount : Result ℕ CountError → ℕ → ℕ → ℕ → Type 0
+TellsCount (Ok many) old new status = (status ≡ OK) × (new ≡ many)
+TellsCount (Err why.Kind) old new status = (status ≡ KIND) × (new ≡ old)
+TellsCount (Err why.Held) old new status = (status ≡ HELD) × (new ≡ old)
+
+pub record HasCountedInTurn (h h' : Held) (old new status : ℕ) : Type 0 where
+  pub width : width_of h' ≡ width_of h
+  pub made : Result ℕ CountError
+  pub is : MatchResult made (CountsInTurn (width_of h) (role_in h) (role_in h')) (RefusesCount (role_in h) (role_in h'))
+  pub told : TellsCount made old new status
+
+abbrev pub CountInTurnGives : Option Held → Option Held → ℕ → ℕ → ℕ → Type 0
+CountInTurnGives b b' old new status = Gives b b' ((status ≡ CLOSED) × (new ≡ old)) (λ h h'. HasCountedInTurn h h' old new status)

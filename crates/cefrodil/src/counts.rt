@@ -1,11 +1,12 @@
-//! Numbers that the writer knows, as C asks for them.
+//! Numbers that the writer knows, as C asks for them; and the number of keys, by a pass.
 ghost use Rattle.std.specs.Prelude.{◌≡◌, MatchOption};
 ghost use Rattle.mc_door.specs.Means.{CapacityIs, LenIs, MomentIs};
-ghost use Rattle.cefrodil.specs.Counts.{CountGives};
+ghost use Rattle.cefrodil.specs.Counts.{CountGives, CountInTurnGives, TellsCount};
 ghost use Rattle.cefrodil.specs.Open.{kept};
 
 use crate::slot::Slot;
-use crate::status::{CLOSED, KIND, OK};
+use crate::status::{CLOSED, HELD, KIND, OK};
+use mc_door::CountError;
 
 // Writes the number, if there is one.
 fn tell(known: Option<u64>, number: &mut u64) -> u32
@@ -60,4 +61,32 @@ pub extern "C" fn cefrodil_capacity(writer: &mut Slot, capacity: &mut u64) -> u3
     }
     let held = writer.handle.held();
     tell(held.capacity(), capacity)
+}
+
+// Writes the number, if it was counted.
+fn tell_count(counted: Result<u64, CountError>, number: &mut u64) -> u32
+    ensures { TellsCount counted number.old number.new result }
+{
+    match counted {
+        Ok(many) => {
+            *number = many;
+            OK
+        }
+        Err(CountError::Kind) => KIND,
+        Err(CountError::Held) => HELD,
+    }
+}
+
+/// How many keys the cache holds, by a pass at a desk, in a turn.
+#[tactic(auto, using(crate::proofs::Gives::gives_open, crate::proofs::Gives::gives_closed))]
+#[unsafe(no_mangle)]
+pub extern "C" fn cefrodil_try_len(pass: &mut Slot, len: &mut u64) -> u32
+    ensures open { pass.new.live ≡ pass.old.live }
+    ensures told { CountInTurnGives (kept pass.old) (kept pass.new) len.old len.new result }
+{
+    if !pass.live {
+        return CLOSED;
+    }
+    let counted = pass.handle.held().try_len();
+    tell_count(counted, len)
 }

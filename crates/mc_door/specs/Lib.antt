@@ -7,6 +7,7 @@ pub mod Held
 pub mod NewSides
 pub mod NewPasses
 pub mod Leaving
+pub mod Counting
 pub mod Loading
 pub mod Listing
 pub mod Inside

@@ -4,6 +4,7 @@
 //! know of: a call that the side can't make, or a value of another width, is a `Misuse`.
 #![tactic(auto)]
 
+mod counting;
 mod entries;
 mod held;
 mod leaving;
@@ -22,6 +23,7 @@ mod widths;
 mod words;
 mod writer_side;
 
+pub use counting::CountError;
 pub use held::Held;
 pub use leaving::LeaveError;
 pub use listed::ListError;

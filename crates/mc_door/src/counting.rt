@@ -1,0 +1,56 @@
+//! A pass counts the keys, in a turn.
+ghost use Rattle.std.specs.Prelude.{◌≡◌, IfNone, IfSome, MatchResult};
+ghost use Rattle.mc_words.specs.History.{key_count};
+ghost use Rattle.mc_cache.specs.Plain.{Begins, seen};
+ghost use Rattle.mc_door.specs.Counting.{CountsInTurn, RefusesCount};
+ghost use Rattle.mc_door.specs.Held.{role_in, width_of};
+ghost use Rattle.mc_door.specs.Roles.{role_of};
+
+use crate::held::Held;
+use crate::pass_side::PassSide;
+use crate::side::Side;
+use crate::with_side;
+
+/// Why the keys were not counted. Nothing was done.
+#[derive(Clone, Copy, Debug, PartialEq, Eq)]
+pub enum CountError {
+    /// A side of this kind is at no desk.
+    Kind,
+    /// The try for the turn did not win.
+    Held,
+}
+
+impl<const V: usize> PassSide<V> {
+    fn try_len(&mut self) -> Option<usize>
+        ensures of { self.new.pass.of ≡ self.old.pass.of }
+        ensures held { IfNone result (self.new.pass ≡ self.old.pass) }
+        ensures begins { Begins (seen V self.old.pass) (seen V self.new.pass) }
+        ensures plain { IfSome result (λ many. many ≡ key_count (seen V self.new.pass)) }
+    {
+        self.desk.try_len(&self.cache, &mut self.pass)
+    }
+}
+
+impl<const V: usize> Side<V> {
+    fn try_len(&mut self) -> Result<u64, CountError>
+        ensures { MatchResult result (CountsInTurn V (role_of self.old) (role_of self.new)) (RefusesCount (role_of self.old) (role_of self.new)) }
+    {
+        let Side::Pass(side) = self else {
+            return Err(CountError::Kind);
+        };
+        match side.try_len() {
+            Some(many) => Ok(many as u64),
+            None => Err(CountError::Held),
+        }
+    }
+}
+
+impl Held {
+    /// How many keys the cache holds: `Desk::try_len`, by a pass at a desk.
+    pub fn try_len(&mut self) -> Result<u64, CountError>
+        ensures width { width_of self.new ≡ width_of self.old }
+        ensures counted { MatchResult result (CountsInTurn (width_of self.old) (role_in self.old) (role_in self.new)) (RefusesCount (role_in self.old) (role_in self.new)) }
+    {
+        with_side!(self, side => side.try_len())
+    }
+}
