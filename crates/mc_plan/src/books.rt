@@ -20,13 +20,14 @@ use std::alloc::Global;
 /// The writer's bookkeeping beside the words: which items are free, where the hand stands, how many version changes were made.
 #[derive(Drop)]
 pub struct Books {
-    pub(crate) checked: Checked,
-    finder: Finder,
-    free: FreeItems,
-    /// The item at which the hand stands, but while a call sweeps: at which it stood when the call began.
-    hand: u32,
+    // What most puts write lies together, ahead of what they only read: turns take it from one processor to the other.
     /// The version changes, with those of what was decided.
     version_steps: u64,
+    /// The item at which the hand stands, but while a call sweeps: at which it stood when the call began.
+    hand: u32,
+    free: FreeItems,
+    pub(crate) checked: Checked,
+    finder: Finder,
     /// The path of the last put that needed more than one move.
     path: Path,
     /// The moves of the last path.
@@ -46,11 +47,11 @@ impl Books {
         let finder = Finder::new(alloc, checked)?;
         let free = FreeItems::new(alloc, checked.shape().items)?;
         Ok(Books {
+            version_steps: 0,
+            hand: 0,
+            free,
             checked: *checked,
             finder,
-            free,
-            hand: 0,
-            version_steps: 0,
             path: Path::direct(Place::default()),
             moves: ArrayVec::new(),
         })

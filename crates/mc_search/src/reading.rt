@@ -37,6 +37,22 @@ pub struct Held<const V: usize> {
     pub since: u64,
 }
 
+/// What an item holds at which a key stands. Condition: the words agree with some history, and no deed runs.
+#[inline(always)]
+pub fn read_at<const V: usize, P: Peek>(checked: &Checked, peek: &mut P, item: u32) -> Held<V>
+    requires width { IsWidth V }
+    requires agrees { (h : List (Change V)) × Agrees V (shape_of checked.now) (P.words peek.old) None h }
+    requires stands { (k q : ℕ) × Stands V (shape_of checked.now) (P.words peek.old) k q item }
+    ensures found { (h : List (Change V)) (k q : ℕ) → Agrees V (shape_of checked.now) (P.words peek.old) None h →
+        Stands V (shape_of checked.now) (P.words peek.old) k q item → map_value h k ≡ Some (result.value ++ result.since ∷ []) }
+    ensures item { result.item ≡ item }
+    ensures kept { peek.new ≡ peek.old }
+{
+    let value = value_at::<V, P>(checked, peek, item);
+    let since = stamp_at::<V, P>(checked, peek, item);
+    Held { item, value, since }
+}
+
 /// The item at which the key stands, its value and its stamp. Condition: the words agree with some history, and no deed runs.
 pub fn read<const V: usize, P: Peek>(checked: &Checked, peek: &mut P, key: u64) -> Option<Held<V>>
     requires width { IsWidth V }
@@ -47,11 +63,7 @@ pub fn read<const V: usize, P: Peek>(checked: &Checked, peek: &mut P, key: u64) 
     ensures kept { peek.new ≡ peek.old }
 {
     match find::<V, P>(checked, peek, key) {
-        Some((_, item)) => {
-            let value = value_at::<V, P>(checked, peek, item);
-            let since = stamp_at::<V, P>(checked, peek, item);
-            Some(Held { item, value, since })
-        }
+        Some((_, item)) => Some(read_at::<V, P>(checked, peek, item)),
         None => None,
     }
 }

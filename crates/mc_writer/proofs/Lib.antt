@@ -5,3 +5,4 @@ pub mod WholeCalls
 pub mod Rests
 pub mod AbsentCalls
 pub mod Chosen
+pub mod GivenWay

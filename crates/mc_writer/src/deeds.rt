@@ -15,7 +15,6 @@ impl<'a, const V: usize> Pen<'a, V> {
     ghost use Rattle.mc_writer.specs.Inside.Pens.{IsDue, HasMade};
 
     // Writes the words of a value. The items begin at this place.
-    #[inline(always)]
     fn write_value(&mut self, items: usize, i: u32, value: &[u64; V])
         requires width { IsWidth V }
         requires items { (items ≡ item_place V self.old.cells.now.layout.shape 0 0) × (items < 2 ^ 40) }

@@ -1,7 +1,7 @@
 //! An entry of the map, and what the table holds of a key.
-ghost use Rattle.std.specs.Prelude.{◌≡◌, List, None};
-ghost use Rattle.mc_words.specs.Places.{IsWidth};
-ghost use Rattle.mc_words.specs.Standing.{Agrees};
+ghost use Rattle.std.specs.Prelude.{ℕ, ◌≡◌, ◌<◌, List, None, Some};
+ghost use Rattle.mc_words.specs.Places.{IsWidth, slot_number};
+ghost use Rattle.mc_words.specs.Standing.{Agrees, Stands};
 ghost use Rattle.mc_words.specs.declared.history.Change.{Change};
 ghost use Rattle.mc_theory.specs.Lists.{state_of};
 ghost use Rattle.mc_writer.specs.GivenWay.{Holds};
@@ -9,8 +9,9 @@ ghost use Rattle.mc_writer.specs.WriterCalls.{IsRested};
 
 use crate::pen::Pen;
 use mc_plan::{Books, Put};
-use mc_search::read;
+use mc_search::{read, read_at, slot_at};
 use mc_shared::{Cells, WriterSeat};
+use mc_words::Place;
 
 /// An entry of the map.
 #[derive(Clone, Copy, Debug, PartialEq, Eq)]
@@ -30,6 +31,36 @@ pub struct Swapped<const V: usize> {
 
 impl<'a, const V: usize> Pen<'a, V> {
     ghost use Rattle.mc_writer.specs.Inside.Pens.{state_at};
+
+    /// The entry of the key that stands at the item. Condition: the words agree with some history, and no deed runs.
+    #[inline(always)]
+    pub(crate) fn entry_at(&mut self, key: u64, item: u32) -> Entry<V>
+        requires width { IsWidth V }
+        requires agrees { (h : List (Change V)) × Agrees V self.old.cells.now.layout.shape (state_at V self.old).words None h }
+        requires stands { (q : ℕ) × Stands V self.old.cells.now.layout.shape (state_at V self.old).words key q item }
+        ensures holds { (h : List (Change V)) → Agrees V self.old.cells.now.layout.shape (state_at V self.old).words None h → Holds h key (Some result) }
+        ensures same { self.new ≡ self.old }
+    {
+        let held = read_at::<V, Pen<V>>(self.cells.checked(), self, item);
+        let value = held.value;
+        let since = held.since;
+        Entry { key, value, since }
+    }
+
+    /// The entry of the key that stands in the slot. Condition: the words agree with some history, and no deed runs.
+    #[inline(always)]
+    pub(crate) fn entry_in(&mut self, key: u64, place: Place) -> Entry<V>
+        requires width { IsWidth V }
+        requires agrees { (h : List (Change V)) × Agrees V self.old.cells.now.layout.shape (state_at V self.old).words None h }
+        requires slot { place.slot < 4 }
+        requires stands { (i : ℕ) × Stands V self.old.cells.now.layout.shape (state_at V self.old).words key (slot_number place) i }
+        ensures holds { (h : List (Change V)) → Agrees V self.old.cells.now.layout.shape (state_at V self.old).words None h → Holds h key (Some result) }
+        ensures same { self.new ≡ self.old }
+    {
+        let checked = self.cells.checked();
+        let word = slot_at(checked, self, place);
+        self.entry_at(key, checked.item_in(word))
+    }
 
     /// What the table holds of a key. Condition: the words agree with some history, and no deed runs.
     pub(crate) fn entry(&mut self, key: u64) -> Option<Entry<V>>

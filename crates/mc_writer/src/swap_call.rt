@@ -39,9 +39,12 @@ impl<'a, const V: usize> Pen<'a, V> {
     {
         match self.choose(books, key, value, room) {
             Ok(taken) => {
-                let old = self.entry(taken.victim.key);
+                let old = self.entry_in(taken.victim.key, taken.victim.place);
                 let put = self.take_item(books, key, parts, value, taken);
-                Ok(Swapped { put, old })
+                Ok(Swapped {
+                    put,
+                    old: Some(old),
+                })
             }
             Err(why) => Err(why),
         }
@@ -90,11 +93,11 @@ impl<'a, const V: usize> Pen<'a, V> {
         match books.decide::<V, Pen<V>>(self, key, parts, value) {
             Decision::Refuse(why) => Err(why),
             Decision::Renew { item, at } => {
-                let old = self.entry(key);
+                let old = self.entry_at(key, item);
                 self.make_renewal(key, parts, value, at, item);
                 Ok(Swapped {
                     put: Put::Renewed { at },
-                    old,
+                    old: Some(old),
                 })
             }
             Decision::Insert { at } => self.swap_new(books, key, parts, value, at),
