@@ -80,6 +80,7 @@ def turns():
             rows.append(Row(f'{calls}: writes by turns', 'writes_s', run, WRITERS))
             rows.append(Row('the same: lookups', 'lookups_s', run, WRITERS))
             rows += [Row(f'the same: writes with {many} shards', 'writes_s', run, WRITERS, f'shards{many}') for many in (16, 64)]
+            rows.append(Row('the same: lookups with 64 shards', 'lookups_s', run, WRITERS, 'shards64'))
     return rows
 
 

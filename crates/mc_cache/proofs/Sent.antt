@@ -4,12 +4,11 @@ use denote.Hole.{as_row}
 use denote.Struct.Field.{u64-field}
 use denote.Param.Send.{IsSync, sendable, view_sync}
 use denote.Param.SendFields.{as_row_sync, declared_sync}
-use Rattle.std.proofs.Crossing.{Box-send, Box-sync}
-use Rattle.counted_slot.proofs.Counted.TheSendSync.{the_sync as counted_sync}
+use Rattle.atomic_table.proofs.owned.Table.TheSendSync.{the_sync as table_sync}
 use Rattle.mc_shared.proofs.Sent.{writer_sync as seat_sync}
 use Rattle.mc_shared.specs.contracts.seats.WriterSeat as seat
 use Rattle.mc_plan.proofs.books.Books.TheSendSync.{the_sync as books_sync}
-use Rattle.mc_cache.proofs.writer.Writer.TheSendSync.{the_send as writer_send}
+use Rattle.mc_cache.proofs.desk.Desk.TheSendSync.{the_sync}
 use Rattle.mc_cache.specs.contracts.desk.Desk as desk
 use Rattle.mc_cache.specs.contracts.writer.Writer as writer
 
@@ -17,10 +16,10 @@ moment_sync : IsSync (as_row u64-field)
 moment_sync = search sendable depth 20
 
 parts_sync : (V : RattleType) → IsSync (writer.TheInside.the_row V)
-parts_sync V = declared_sync (writer.TheInside.the_type V) (as_row_sync seat.the_field seat_sync, (books_sync, (moment_sync, tt)))
+parts_sync V = declared_sync (writer.TheInside.the_type V) (as_row_sync seat.the_field seat_sync, (moment_sync, (books_sync, tt)))
 
 pub writer_sync : (V : RattleType) → IsSync (writer.the_row V)
 writer_sync V = view_sync (writer.TheInside.the_row V) _ _ _ _ (parts_sync V)
 
 pub desk_sync : (V : RattleType) → IsSync (desk.the_row V)
-desk_sync V = search (sendable, counted_sync, writer_sync, writer_send, Box-send, Box-sync) depth 30
+desk_sync V = the_sync V

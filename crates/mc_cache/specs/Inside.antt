@@ -1,2 +1,3 @@
-pub mod Turned
 pub mod KeptMoments
+pub mod Lending
+pub mod Turned

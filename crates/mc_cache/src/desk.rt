@@ -1,8 +1,9 @@
 //! The writer, shared by turns that are tried for once.
-ghost use Rattle.std.specs.Prelude.{◌≡◌, IfNone, IfOk, IfSome, MatchResult, length};
+ghost use Rattle.std.specs.Prelude.{◌≡◌, ◌∷◌, [], IfNone, IfOk, IfSome, MatchResult, length};
 ghost use Rattle.mc_cache.specs.Resting.{IsAtRest};
 
 use crate::cache::Cache;
+use crate::lending::{FREE, LiesThere, WORDS, give, take};
 use crate::reader::Reader;
 use crate::taking::{Replaced, Take};
 use crate::turn::{
@@ -10,20 +11,13 @@ use crate::turn::{
     remove_in_turn, swap_if_in_turn, swap_in_turn, take_in_turn,
 };
 use crate::writer::Writer;
-use counted_slot::{Counted, Fits};
+use atomic_table::{Refused, Table};
 use mc_plan::{AbsentError, IfError, Put, PutError, Remove, Spent};
 use mc_words::{NoMemory, Reply};
 use mc_writer::Swapped;
 use std::alloc::{AllocFailed, Global};
 use std::marker::Model;
 use std::snapshot::Snapshot;
-
-// The words of the slot. The high half says whether the writer is there.
-const HOME: u64 = 0;
-
-const AWAY: u64 = 0x1_0000_0000;
-
-const TAKEN: u64 = counted_slot::TAKEN;
 
 /// Why a try for the turn failed.
 #[derive(Clone, Copy, Debug, PartialEq, Eq)]
@@ -34,64 +28,33 @@ pub enum DeskError<E> {
     Call(E),
 }
 
-// The writer in memory of its own, so that a turn moves a pointer and not the writer.
-#[derive(Drop)]
-struct Boxed<const V: usize> {
-    writer: Box<Writer<V>, Global>,
-}
-
-// The tag is the writer as it came.
-impl<const V: usize> Fits for Boxed<V> {
-    type Tag = Snapshot<Writer<V>>;
-
-    ghost fits = { λ tag boxed. (boxed.writer.value.of ≡ tag.value.of) × IsAtRest V boxed.writer.value };
+// The writer of a list that holds nothing else.
+fn only_one<const V: usize>(mut writers: Vec<Writer<V>>) -> Writer<V>
+    requires one { length writers.items ≡ 1 }
+    ensures { writers.entry.items ≡ result ∷ [] }
+{
+    let Some(writer) = writers.pop() else {
+        unreachable!();
+    };
+    writer
 }
 
 /// A try-lock around the writer of a cache, for threads that write by turns. Lend it to every thread, as the cache. In
 /// contracts it is the table that was opened.
 #[derive(Drop)]
 pub struct Desk<const V: usize> {
-    slot: Counted<Option<Boxed<V>>>,
+    table: Table<Writer<V>, Snapshot<Writer<V>>, Snapshot<Writer<V>>, LiesThere, Global>,
 }
 
 impl<const V: usize> Model for Desk<V> {
+    ghost use Rattle.std.specs.Prelude.{◌≡◌};
     ghost use Rattle.mc_shared.specs.Records.{Opening};
 
     ghost Value = { Opening };
 
-    ghost view = { λ d. d.slot.value.of };
-}
+    ghost view = { λ d. d.table.shared.key.value.of };
 
-impl<const V: usize> Desk<V> {
-    // Takes the writer, if it is there and the try wins. If the word says that it is not there, the slot is left alone.
-    #[inline(always)]
-    fn take(&self) -> Option<Boxed<V>>
-        ensures writer { IfSome result (λ boxed. (boxed.writer.value.of ≡ self.now) × IsAtRest V boxed.writer.value) }
-    {
-        if self.slot.load() != HOME {
-            return None;
-        }
-        let (found, claim) = self.slot.turn(HOME, TAKEN);
-        if found != HOME {
-            claim.done();
-            return None;
-        }
-        claim.put(None, AWAY)
-    }
-
-    // Gives the writer back. If the try does not win, the writer is dropped.
-    #[inline(always)]
-    fn give(&self, boxed: Boxed<V>)
-        requires of { boxed.writer.value.of ≡ self.now }
-        requires rests { IsAtRest V boxed.writer.value }
-    {
-        let (found, claim) = self.slot.turn(AWAY, AWAY + TAKEN);
-        if found == AWAY {
-            let _ = claim.put(Some(boxed), HOME);
-        } else {
-            claim.done();
-        }
-    }
+    ghost invariant = { λ d. (d.table.shared.table_id.words ≡ 16) × (d.table.shared.table_id.slots ≡ 1) };
 }
 
 impl<const V: usize> Desk<V> {
@@ -108,11 +71,17 @@ impl<const V: usize> Desk<V> {
         ensures of { MatchResult result (λ desk. desk ≡ writer.entry.of) (λ failed. failed.value ≡ writer.entry) }
     {
         writer.known();
-        let tag = Snapshot::of(&writer);
-        let writer = Box::new(alloc, writer)?;
-        Ok(Desk {
-            slot: Counted::new(Some(Boxed { writer }), &tag),
-        })
+        let key = Snapshot::of(&writer);
+        let Ok(mut writers) = Vec::with_capacity(alloc, 1) else {
+            return Err(AllocFailed { value: writer });
+        };
+        writers.push(writer)?;
+        match Table::new(alloc, &[FREE; WORDS], writers, &key) {
+            Ok((table, _seat)) => Ok(Desk { table }),
+            Err(Refused { slots }) => Err(AllocFailed {
+                value: only_one(slots),
+            }),
+        }
     }
 
     /// Tries once for the turn, and with it calls `Writer::put`. The caller's reader is its pass: with the turn, it catches
@@ -131,11 +100,12 @@ impl<const V: usize> Desk<V> {
         ensures plain { TurnMeans (λ h h' told. PutMeans V h h' key value.entry told) (seen V pass.old) (seen V pass.new) result }
         ensures fails { TurnFails (PutFails cache.now.layout.shape (seen V pass.new) (versions_seen V pass.new) key) result }
     {
-        let Some(mut boxed) = self.take() else {
+        let shared = &self.table.shared;
+        let Some(mut seat) = take(shared) else {
             return Err(DeskError::Held);
         };
-        let answer = put_in_turn(cache, pass, &mut boxed.writer, key, value);
-        self.give(boxed);
+        let answer = put_in_turn(cache, pass, seat.slot_mut(shared, 0), key, value);
+        give(shared, seat);
         answer
     }
 
@@ -155,11 +125,12 @@ impl<const V: usize> Desk<V> {
         ensures plain { TurnMeans (λ h h' told. PutIfMeans V h h' key since value.entry told) (seen V pass.old) (seen V pass.new) result }
         ensures fails { TurnFails (PutIfFails cache.now.layout.shape (seen V pass.new) (versions_seen V pass.new)) result }
     {
-        let Some(mut boxed) = self.take() else {
+        let shared = &self.table.shared;
+        let Some(mut seat) = take(shared) else {
             return Err(DeskError::Held);
         };
-        let answer = put_if_in_turn(cache, pass, &mut boxed.writer, key, since, value);
-        self.give(boxed);
+        let answer = put_if_in_turn(cache, pass, seat.slot_mut(shared, 0), key, since, value);
+        give(shared, seat);
         answer
     }
 
@@ -178,11 +149,12 @@ impl<const V: usize> Desk<V> {
         ensures plain { TurnMeans (λ h h' told. PutIfAbsentMeans V h h' key value.entry told) (seen V pass.old) (seen V pass.new) result }
         ensures fails { TurnFails (PutIfAbsentFails cache.now.layout.shape (seen V pass.new) (versions_seen V pass.new) key) result }
     {
-        let Some(mut boxed) = self.take() else {
+        let shared = &self.table.shared;
+        let Some(mut seat) = take(shared) else {
             return Err(DeskError::Held);
         };
-        let answer = put_if_absent_in_turn(cache, pass, &mut boxed.writer, key, value);
-        self.give(boxed);
+        let answer = put_if_absent_in_turn(cache, pass, seat.slot_mut(shared, 0), key, value);
+        give(shared, seat);
         answer
     }
 
@@ -200,11 +172,12 @@ impl<const V: usize> Desk<V> {
         ensures plain { TurnMeans (λ h h' told. RemovalMeans V h h' key told) (seen V pass.old) (seen V pass.new) result }
         ensures fails { TurnFails (RemovalFails cache.now.layout.shape (seen V pass.new) (versions_seen V pass.new)) result }
     {
-        let Some(mut boxed) = self.take() else {
+        let shared = &self.table.shared;
+        let Some(mut seat) = take(shared) else {
             return Err(DeskError::Held);
         };
-        let answer = remove_in_turn(cache, pass, &mut boxed.writer, key);
-        self.give(boxed);
+        let answer = remove_in_turn(cache, pass, seat.slot_mut(shared, 0), key);
+        give(shared, seat);
         answer
     }
 
@@ -223,11 +196,12 @@ impl<const V: usize> Desk<V> {
         ensures plain { TurnMeans (λ h h' told. SwapMeans V h h' key value.entry told) (seen V pass.old) (seen V pass.new) result }
         ensures fails { TurnFails (SwapFails cache.now.layout.shape (seen V pass.new) (versions_seen V pass.new) key) result }
     {
-        let Some(mut boxed) = self.take() else {
+        let shared = &self.table.shared;
+        let Some(mut seat) = take(shared) else {
             return Err(DeskError::Held);
         };
-        let answer = swap_in_turn(cache, pass, &mut boxed.writer, key, value);
-        self.give(boxed);
+        let answer = swap_in_turn(cache, pass, seat.slot_mut(shared, 0), key, value);
+        give(shared, seat);
         answer
     }
 
@@ -247,11 +221,12 @@ impl<const V: usize> Desk<V> {
         ensures plain { TurnMeans (λ h h' told. SwapIfMeans V h h' key since value.entry told) (seen V pass.old) (seen V pass.new) result }
         ensures fails { TurnFails (SwapIfFails cache.now.layout.shape (seen V pass.new) (versions_seen V pass.new)) result }
     {
-        let Some(mut boxed) = self.take() else {
+        let shared = &self.table.shared;
+        let Some(mut seat) = take(shared) else {
             return Err(DeskError::Held);
         };
-        let answer = swap_if_in_turn(cache, pass, &mut boxed.writer, key, since, value);
-        self.give(boxed);
+        let answer = swap_if_in_turn(cache, pass, seat.slot_mut(shared, 0), key, since, value);
+        give(shared, seat);
         answer
     }
 
@@ -269,11 +244,12 @@ impl<const V: usize> Desk<V> {
         ensures plain { TurnMeans (λ h h' told. TakeMeans V h h' key told) (seen V pass.old) (seen V pass.new) result }
         ensures fails { TurnFails (TakeFails cache.now.layout.shape (seen V pass.new) (versions_seen V pass.new)) result }
     {
-        let Some(mut boxed) = self.take() else {
+        let shared = &self.table.shared;
+        let Some(mut seat) = take(shared) else {
             return Err(DeskError::Held);
         };
-        let answer = take_in_turn(cache, pass, &mut boxed.writer, key);
-        self.give(boxed);
+        let answer = take_in_turn(cache, pass, seat.slot_mut(shared, 0), key);
+        give(shared, seat);
         answer
     }
 
@@ -291,11 +267,12 @@ impl<const V: usize> Desk<V> {
         ensures begins { Begins (seen V pass.old) (seen V pass.new) }
         ensures plain { IfOk result (λ es. AreEntriesOf V (seen V pass.new) es.items) }
     {
-        let Some(mut boxed) = self.take() else {
+        let shared = &self.table.shared;
+        let Some(mut seat) = take(shared) else {
             return Err(DeskError::Held);
         };
-        let listed = list_in_turn(alloc, cache, pass, &mut boxed.writer);
-        self.give(boxed);
+        let listed = list_in_turn(alloc, cache, pass, seat.slot_mut(shared, 0));
+        give(shared, seat);
         listed
     }
 
@@ -309,18 +286,23 @@ impl<const V: usize> Desk<V> {
         ensures begins { Begins (seen V pass.old) (seen V pass.new) }
         ensures plain { IfSome result (λ many. many ≡ key_count (seen V pass.new)) }
     {
-        let mut boxed = self.take()?;
-        let many = count_in_turn(cache, pass, &mut boxed.writer);
-        self.give(boxed);
+        let shared = &self.table.shared;
+        let mut seat = take(shared)?;
+        let many = count_in_turn(cache, pass, seat.slot_mut(shared, 0));
+        give(shared, seat);
         Some(many)
     }
 
-    /// Takes the writer off the desk. `None` if a turn's try to give it back did not win.
+    /// Takes the writer off the desk. `None` if a turn never gave it back.
     pub fn end(self) -> Option<Writer<V>>
         ensures writer { IfSome result (λ w. (w.of ≡ self.entry) × IsAtRest V w) }
     {
-        let boxed = self.slot.into_inner()?;
-        Some(Box::into_inner(boxed.writer))
+        let Desk { table } = self;
+        let mut closed = table.close();
+        let word = closed.word(0);
+        let writer = closed.take(0);
+        closed.free();
+        if word == FREE { Some(writer) } else { None }
     }
 }
 
@@ -359,9 +341,10 @@ impl<const V: usize> Reader<V> {
         ensures none { IfNone result (self.new ≡ self.old) }
         ensures met { IfSome result (λ reply. HasLookedInTurn V cache.now self.old self.new key reply) }
     {
-        let mut boxed = desk.take()?;
-        let reply = get_in_turn(cache, self, &mut boxed.writer, key);
-        desk.give(boxed);
+        let shared = &desk.table.shared;
+        let mut seat = take(shared)?;
+        let reply = get_in_turn(cache, self, seat.slot_mut(shared, 0), key);
+        give(shared, seat);
         Some(reply)
     }
 }

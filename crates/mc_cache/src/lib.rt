@@ -25,6 +25,7 @@ mod cache;
 mod closing;
 mod desk;
 pub mod laws;
+mod lending;
 mod listing;
 mod loading;
 mod opening;

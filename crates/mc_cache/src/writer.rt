@@ -21,9 +21,9 @@ use std::marker::Model;
 #[derive(Drop)]
 pub struct Writer<const V: usize> {
     pub(crate) seat: WriterSeat,
-    pub(crate) books: Books,
     /// The number of changes made to the map.
     pub(crate) moment: u64,
+    pub(crate) books: Books,
 }
 
 impl<const V: usize> Model for Writer<V> {
