@@ -11,7 +11,7 @@ pub(crate) const FREE: u64 = 0;
 
 const LENT: u64 = 1;
 
-/// Only the first word is used. The others keep its cache line for it alone.
+/// Only the first word is used. The others keep its cache line from the writer and from other desks.
 pub(crate) const WORDS: usize = 16;
 
 /// The rule of the word: while it is 0 the writer is there, at rest, and it is that of the table which the key names.
