@@ -13,7 +13,7 @@ use mc_workers::{Gate, Load, LoadError};
 use std::alloc::Global;
 use std::thread::Threads;
 
-/// Runs the workers, and checks what they were told.
+/// Runs the workers, and checks their answers.
 fn run_workers<const V: usize, R: Threads + Sync, G: Gate>(
     rt: &R,
     alloc: Global,
@@ -67,11 +67,12 @@ pub fn run_shards<const V: usize, R: Threads + Sync, G: Gate>(
 }
 
 /// Opens that many shards, each of the load's shape, runs from 1 to 8 writers and the readers, each in a thread of its own, and checks
-/// what they were told, shard by shard. Each writer makes the load's number of calls, each by one try for the turn of its key's shard,
+/// their answers, shard by shard. Each writer makes the load's number of calls, each by one try for the turn of its key's shard,
 /// and each word of a value that it puts names the call and the writer. A reader whose lookup is `Busy` tries for the turn too. All
 /// room is made before a worker starts; between two calls a worker waits for nothing but the gate.
 ///
-/// Writer 0 is worker 0, and the others come behind the readers. With `n` writers there are at most `1023 - n` readers. That the report's `wrong` is 0 is shown by tests alone.
+/// Writer 0 is worker 0, and the others come behind the readers. With `n` writers there are at most `1023 - n` readers. Only tests show
+/// that the report's `wrong` is 0.
 /// Condition: a value has from 1 to 8 words.
 pub fn load_shards<const V: usize, R: Threads + Sync, G: Gate>(
     rt: &R,

@@ -1,4 +1,4 @@
-//! The changes of one shard that several writers were told of, in the order in which they were made.
+//! The changes of one shard that the answers of several writers report, in the order in which they were made.
 ghost use Rattle.std.specs.Prelude.{◌≡◌, ◌==◌, ◌+◌, ◌*◌, ◌≤◌, ◌++◌, length, vec_len, vec_capacity};
 ghost use Rattle.mc_words.specs.Keys.{shard_of};
 ghost use Rattle.mc_words.specs.Places.{IsWidth};
@@ -49,7 +49,7 @@ fn append<const V: usize>(all: &mut Vec<Dated<V>>, share: Share, journal: &[Date
     }
 }
 
-/// Writes the changes of the shard that all writers were told of into one list.
+/// Writes the changes of the shard that the answers of all writers report into one list.
 pub(crate) fn gather<const V: usize>(
     load: Load,
     share: Share,

@@ -37,7 +37,7 @@ fn answers_of<const V: usize>(load: Load, askings: &[Asking<V>]) -> Report
     report
 }
 
-/// What came of the tries of all writers, and how many changes they were told of.
+/// What came of the tries of all writers, and how many changes their answers report.
 fn tries_of<const V: usize>(load: Load, tryings: &[Trying<V>]) -> (Turns, u64)
     requires few { length tryings.now ≤ most_writers }
     requires tried { HaveTriedWhole load tryings.now }
@@ -101,7 +101,7 @@ fn check_all<const V: usize>(
     wrong
 }
 
-/// Checks what all workers were told, shard by shard, and adds it up.
+/// Checks the answers of all workers, shard by shard, and adds them up.
 pub(crate) fn run_of<const V: usize>(
     alloc: Global,
     load: Load,

@@ -1,5 +1,5 @@
 -- What a load reports, and why there may be no report.
-use Rattle.std.specs.Prelude.{ℕ, zero, suc, ◌≡◌, ◌+◌, ◌*◌, ◌^◌, ◌<◌, ◌≤◌, ◌⊎◌, All, Bool, true, false, count_by, sum_by, List, [], length, slice_index_or}
+use Rattle.std.specs.Prelude.{ℕ, zero, suc, ◌≡◌, ◌+◌, ◌*◌, ◌^◌, ◌<◌, ◌≤◌, ◌⊎◌, All, Bool, true, false, count_by, sum_by, List, [], length, slice_index_or, Option, Some, None}
 use Rattle.mc_words.specs.History.{IsLegal, IsTrueAnswer}
 use Rattle.mc_words.specs.Shapes.{IsShape}
 use Rattle.mc_words.specs.declared.history.Change.{Change}
@@ -41,6 +41,12 @@ pub record HasLookedUp {V : ℕ} (load : Load) (h : List (Change V)) (r : ℕ) (
 -- the history of these acts
 abbrev pub history_after : (V : ℕ) → Shape → List Made → List (Change V)
 history_after V sh acts = (state_of V sh acts).history
+
+-- the moment of an answer, where it has one
+abbrev pub at_of : {V : ℕ} → Reply V → Option ℕ
+at_of (reply.Found v at since) = Some at
+at_of (reply.Absent at) = Some at
+at_of reply.Busy = None
 
 -- the kinds of answers
 abbrev pub is_found : {V : ℕ} → Reply V → Bool

@@ -1,7 +1,7 @@
 //! A reader at work.
 ghost use Rattle.std.specs.Prelude.{ℕ, ◌≡◌, ◌+◌, ◌^◌, ◌≤◌, ◌<◌, IfSome, None, Some, length, take, vec_len, vec_capacity};
 ghost use Rattle.mc_shared.specs.Records.{Opening};
-ghost use Rattle.mc_workers.specs.Loads.{most_at_once};
+ghost use Rattle.mc_workers.specs.Loads.{at_of, most_at_once};
 
 use crate::asked::Load;
 use crate::draws::Draws;
@@ -12,7 +12,7 @@ use mc_check::Record;
 /// The most keys of one call.
 const MOST_AT_ONCE: usize = 64;
 
-/// A reader, what it draws, and what it was told.
+/// A reader, what it draws, and the answers that it got.
 #[derive(Drop)]
 pub(crate) struct Looking<const V: usize> {
     pub(crate) reader: Reader<V>,
@@ -30,7 +30,9 @@ pub(crate) struct Looking<const V: usize> {
 }
 
 /// The moment of a reply. `Busy` has none.
-pub fn moment_of<const V: usize>(reply: &Reply<V>) -> Option<u64> {
+pub fn moment_of<const V: usize>(reply: &Reply<V>) -> Option<u64>
+    ensures { result ≡ at_of reply.now }
+{
     match *reply {
         Reply::Found { at, .. } | Reply::Absent { at } => Some(at),
         Reply::Busy => None,
