@@ -40,7 +40,7 @@ pub struct Tried {
 }
 
 /// Tries to put 70 under 7 in one thread while the other tries to put 80 under it, each only if the key is absent. If both did, the key was
-/// taken out between the two puts: no put was overwritten. Nothing if the writer was lost.
+/// taken out between the two puts: no put was overwritten. `None` if a turn never gave the writer back.
 pub fn put_once<R: Threads + Sync>(
     rt: &R,
     cache: &Cache<1>,
