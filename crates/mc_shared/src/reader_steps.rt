@@ -12,7 +12,7 @@ use crate::ruled_words::RuledWords;
 use atomic_table::Seat;
 use mc_theory::Access;
 
-// A load of a reader.
+/// A load of a reader.
 pub(crate) fn load_as_reader<J: NamesAccess>(
     ruled: &RuledWords,
     seat: &mut Seat<(), Known>,
@@ -32,7 +32,7 @@ pub(crate) fn load_as_reader<J: NamesAccess>(
     ruled.table.shared.load::<Reads<J>>(seat, place)
 }
 
-// A mark of a reader: the step that sets the bit.
+/// A mark of a reader: the step that sets the bit.
 pub(crate) fn mark_as_reader<J: NamesItem>(
     ruled: &RuledWords,
     seat: &mut Seat<(), Known>,
@@ -59,8 +59,8 @@ pub(crate) fn mark_as_reader<J: NamesItem>(
         .fetch_or::<Marks<J>>(seat, place, 1u64 << bit);
 }
 
-// A mark of a reader. Where the bit is set, the load that found it so is the mark: it leaves what the step that sets the
-// bit would have left, at the same instant. Where it is clear, that step is made.
+/// A mark of a reader. Where the bit is set, the load that found it so is the mark: it leaves what the step that sets the
+/// bit would have left, at the same instant. Where it is clear, that step is made.
 pub(crate) fn mark_unless_set_as_reader<J: NamesItem>(
     ruled: &RuledWords,
     seat: &mut Seat<(), Known>,
