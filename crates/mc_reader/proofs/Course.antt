@@ -26,10 +26,12 @@ use Rattle.mc_shared.specs.TableRule.{IsRecord}
 use Rattle.mc_shared.specs.Views.{layout_of, AreLawful, IsFrontOf}
 use Rattle.mc_shared.proofs.ReaderRecords.{front_self, front_trans, front_length}
 use Rattle.mc_words.specs.Keys.{first_of, second_of, stripe_of}
-use Rattle.mc_words.specs.Places.{item_place, payload, slot_number, slot_place, version_place}
+use Rattle.mc_words.specs.Places.{payload, slot_number, slot_place, version_place, word_count}
 use Rattle.mc_words.specs.declared.place.Place.{Place}
 use Rattle.mc_theory.proofs.Lists.Growth.{readings_grow}
-use Rattle.mc_theory.specs.Writes.{place_read}
+use Rattle.mc_theory.specs.Writes.{place_read, IsAccess}
+use Rattle.mc_theory.proofs.Lists.WrittenWords.{reads_its_word}
+use Rattle.mc_lookup.proofs.NextAccess.{next_is_in_table}
 use Rattle.mc_theory.specs.declared.access.Access.TheVariants as access
 use Rattle.mc_reader.specs.Inside.Course.{IsOnCourse, Leads}
 use Rattle.mc_reader.specs.Inside.Rows.{row_of}
@@ -163,6 +165,12 @@ leads_trans V sh old mid new l m n a b = record {
 }
 
 -- ---- where a lookup reads
+-- what comes next lies before the recency words
+pub next_within : (V : ℕ) (sh : Shape) (l : Lookup V) (a : Access) (n : ℕ) → shape_for l ≡ sh → next_access l ≡ Some a → place_read V sh a ≡ Some n → n < word_count V sh
+next_within V sh l a n shape next here =
+    let is : IsAccess V sh a = subst (λ (z : Shape). IsAccess V z a) shape (next_is_in_table V l a next) in
+    (reads_its_word V sh [] a n here).1 is
+
 -- the version of its key
 pub version_read : (V : ℕ) (sh : Shape) (l : Lookup V) (k s place : ℕ) → shape_for l ≡ sh → l.key ≡ k → s ≡ stripe_of (shape_for l) l.key → place ≡ version_place (stripe_of sh k) → place_read V sh (access.Version s) ≡ Some place
 version_read V sh l k s place shape key is here = ap (λ (t : ℕ). Some (version_place t)) (is ∙ λ i. stripe_of (shape i) (key i)) ∙ ap Some (sym here)

@@ -2,15 +2,11 @@
 ghost use Rattle.std.specs.Prelude.{◌≡◌, ◌+◌, ◌<◌, ◌≤◌, ◌⊎◌, length, Some, MatchOption};
 ghost use Rattle.mc_theory.specs.Lists.{state_of};
 ghost use Rattle.mc_theory.specs.Plain.{IsBetween};
-ghost use Rattle.mc_theory.specs.Writes.{place_read};
-ghost use Rattle.mc_theory.specs.declared.access.Access.{Access};
 ghost use Rattle.mc_words.specs.History.{IsTrueAnswer};
 ghost use Rattle.mc_words.specs.Keys.{stripe_of};
 ghost use Rattle.mc_words.specs.Places.{item_place, version_place};
-ghost use Rattle.mc_lookup.specs.Machine.{shape_for, stage_of, next_access, slots_from, steps_left, IsRestart};
+ghost use Rattle.mc_lookup.specs.Machine.{shape_for, stage_of, slots_from, steps_left, IsRestart};
 ghost use Rattle.mc_lookup.specs.declared.stage.Stage.{Stage};
-ghost use Rattle.mc_shared.specs.Steps.{ReadsOne};
-ghost use Rattle.mc_shared.specs.Views.{layout_of};
 ghost use Rattle.mc_reader.specs.Records.{HasLooked};
 ghost use Rattle.mc_reader.specs.Inside.Course.{Leads, stage_after_scan};
 ghost use Rattle.mc_reader.specs.Inside.Rows.{row_of, ArePlacesOf};
@@ -20,27 +16,6 @@ use mc_lookup::{Lookup, Stage};
 use mc_shared::{Cells, ReaderSeat, mark_unless_set, read_at};
 use mc_theory::Access;
 use mc_words::{Reply, payload_words};
-
-// Reads what comes next, at its place.
-#[inline(always)]
-fn read_next<const V: usize>(
-    cells: &Cells<V>,
-    seat: &mut ReaderSeat,
-    lookup: &Lookup<V>,
-    access: Access,
-    place: usize,
-) -> u64
-    requires of { seat.old.of ≡ cells.now }
-    requires shape { shape_for {V = V} lookup.now ≡ cells.now.layout.shape }
-    requires next { next_access {V = V} lookup.now ≡ Some access }
-    requires place { place_read V cells.now.layout.shape access ≡ Some place }
-    ensures of { seat.new.of ≡ seat.old.of }
-    ensures number { seat.new.number ≡ seat.old.number }
-    ensures one { ReadsOne (layout_of V cells.now.layout.shape) seat.old.front seat.old.done access result seat.new.front seat.new.done }
-{
-    let _ = lookup;
-    read_at(cells, seat, access, place)
-}
 
 // Reads four slots, from this one of the eight on, which lies at `row`, and the key of each item that a slot names under
 // the key's tag. The item at which the key is found ends the scan.
@@ -64,10 +39,10 @@ fn scan_four<const V: usize>(
 {
     for j in 0..4u8 {
         let slot = Access::Slot(lookup.place(from + j));
-        let word = read_next(cells, seat, lookup, slot, row + usize::from(j));
+        let word = read_at(cells, seat, slot, row + usize::from(j));
         if let Some(i) = lookup.after_slot(from + j, word) {
             let place = cells.checked().item_from::<V>(items, i, 0);
-            let key = read_next(cells, seat, lookup, Access::Key(i), place);
+            let key = read_at(cells, seat, Access::Key(i), place);
             if lookup.after_key(from + j + 1, i, key) {
                 return Some(i);
             }
@@ -115,7 +90,7 @@ fn read_value<const V: usize>(
 {
     for count in 0..V as u8 {
         let place = cells.checked().item_from::<V>(items, i, count + 1);
-        let word = read_next(cells, seat, lookup, Access::Value(i, count + 1), place);
+        let word = read_at(cells, seat, Access::Value(i, count + 1), place);
         lookup.after_value(i, count, word);
     }
 }
@@ -139,7 +114,7 @@ fn read_stamp<const V: usize>(
     let place = cells
         .checked()
         .item_from::<V>(items, i, payload_words::<V>() as u8);
-    let word = read_next(cells, seat, lookup, Access::Stamp(i), place);
+    let word = read_at(cells, seat, Access::Stamp(i), place);
     lookup.after_stamp(i, word);
 }
 
@@ -180,10 +155,10 @@ fn conclude<const V: usize>(
     ensures stage { IsRestart (stage_of {V = V} lookup.new) }
 {
     // The moment before the version: if the version still stands, the moment lies in the window in which nothing of the key changed.
-    let at = read_next(cells, seat, lookup, Access::Moment, 0);
+    let at = read_at(cells, seat, Access::Moment, 0);
     lookup.after_moment(hit, at);
     let stripe = lookup.stripe();
-    let last = read_next(cells, seat, lookup, Access::Version(stripe), version);
+    let last = read_at(cells, seat, Access::Version(stripe), version);
     if lookup.after_last(hit, at, last) {
         if let Some(i) = hit {
             mark_unless_set(cells, seat, i);
@@ -209,7 +184,7 @@ fn try_once<const V: usize>(
     ensures stage { IsRestart (stage_of {V = V} lookup.new) }
 {
     let stripe = lookup.stripe();
-    let version = read_next(cells, seat, lookup, Access::Version(stripe), places.version);
+    let version = read_at(cells, seat, Access::Version(stripe), places.version);
     if lookup.after_first(version) {
         let hit = scan(cells, seat, lookup, places);
         if let Some(i) = hit {

@@ -4,9 +4,8 @@ use Rattle.std.specs.Prelude.{slice_index}
 use Rattle.mc_words.specs.declared.shape.Shape.{Shape}
 use Rattle.atomic_table.specs.Seated.{TableId}
 use Rattle.mc_words.specs.Keys.{stripe_of}
-use Rattle.mc_words.specs.Places.{word_count, version_place, moment, version}
+use Rattle.mc_words.specs.Places.{version_place, moment, version}
 use Rattle.mc_words.specs.Shapes.{IsShape}
-use Rattle.mc_words.proofs.Keys.{stripe_of-lt}
 use Rattle.mc_theory.specs.Acts.{IsAllowed}
 use Rattle.mc_theory.specs.Lists.{Made, state_of}
 use Rattle.mc_theory.specs.Traces.{HasVersionSteps}
@@ -84,69 +83,58 @@ counted_word : (w : List ℕ) (x : ℕ) → x ≡ slice_index w 0 → ◌≡◌ 
 unfolding moment
 counted_word w x is = ap (λ (y : ℕ). Some (0, y + 1)) (sym is)
 
-module _ (t : TableId) (me : SeatView) (o : Opening) (w : WriterRecord) (v : writer_record (opening_of t me.0.layout) (acts_of me.0) (tally_of me.0).notes ≡ w) (of : w.of ≡ o) (mine : IsWriter me) where
+-- the layout that a caller names by its shape and the number of words of a value is the table's
+pub layout_in : {V : ℕ} {sh : Shape} {o now : Opening} → o ≡ now → o.layout ≡ layout_of V sh → layout_of V now.layout.shape ≡ o.layout
+layout_in {V} {sh} {o} {now} same wide = sym (wide ∙ ap (layout_of V) (sym (ap (λ (l : Layout). l.shape) wide) ∙ ap (λ (p : Opening). p.layout.shape) same))
+
+-- a call on the writer's seat, whose caller knows how many words a value has
+module _ {V : ℕ} {sh : Shape} {t : TableId} {me : SeatView} {o now : Opening} {w : WriterRecord} (mine : IsWriter me) (v : writer_record (opening_of t me.0.layout) (acts_of me.0) (tally_of me.0).notes ≡ w) (same : o ≡ now) (wide : o.layout ≡ layout_of V sh) (of : w.of ≡ now) where
   layout_is : me.0.layout ≡ o.layout
-  layout_is = ap (λ (r : WriterRecord). r.of.layout) v ∙ ap (λ (p : Opening). p.layout) of
+  layout_is = ap (λ (r : WriterRecord). r.of.layout) v ∙ ap (λ (p : Opening). p.layout) (of ∙ sym same)
+
+  size_is : layout_of V now.layout.shape ≡ o.layout
+  size_is = layout_in same wide
 
   acts_is : acts_of me.0 ≡ w.acts
   acts_is = ap (λ (r : WriterRecord). r.acts) v
 
-  pub seat_of : opening_of t me.0.layout ≡ o
-  seat_of = ap (λ (r : WriterRecord). r.of) v ∙ of
+  may_in : (a : Act) → IsAllowed now.layout.shape (state_of V now.layout.shape w.acts) a → MayMake me.0.layout (acts_of me.0) a
+  may_in a h = may_make me a mine (subst (λ (y : Layout × List Made). IsAllowed y.0.shape (layout_state y.0 y.1) a) (λ i. ((size_is ∙ sym layout_is) i, sym acts_is i)) h)
 
-  pub seat_is : me ≡ (writer_view o.layout (acts_of me.0) (tally_of me.0), [])
-  seat_is = mine.seat ∙ (λ i. (writer_view (layout_is i) (acts_of me.0) (tally_of me.0), []))
-
-  allowed_in : (a : Act) → IsAllowed o.layout.shape (layout_state o.layout w.acts) a → IsAllowed me.0.layout.shape (layout_state me.0.layout (acts_of me.0)) a
-  allowed_in a h = subst (λ (y : Layout × List Made). IsAllowed y.0.shape (layout_state y.0 y.1) a) (λ i. (sym layout_is i, sym acts_is i)) h
-
-  may_in : (a : Act) → IsAllowed o.layout.shape (layout_state o.layout w.acts) a → MayMake me.0.layout (acts_of me.0) a
-  may_in a h = may_make me a mine (allowed_in a h)
-
-  pub may_at : (a : Act) → IsAllowed o.layout.shape (layout_state o.layout w.acts) a → MayMake o.layout (acts_of me.0) a
+  may_at : (a : Act) → IsAllowed now.layout.shape (state_of V now.layout.shape w.acts) a → MayMake o.layout (acts_of me.0) a
   may_at a h = subst (λ (l : Layout). MayMake l (acts_of me.0) a) layout_is (may_in a h)
-
-  pub writes_at : (a : Act) (n x : ℕ) → WritesAt o.layout w.acts a n x → WritesAt o.layout (acts_of me.0) a n x
-  writes_at a n x h = subst (λ (z : List Made). WritesAt o.layout z a n x) (sym acts_is) h
 
   -- where the moment and a close write, and that it fits
   pub moment_at : (x : ℕ) → x ≡ word_after o.layout (acts_of me.0) 0 → WritesAt o.layout (acts_of me.0) Moment 0 (x + 1)
   moment_at x is = counted_word (layout_state o.layout (acts_of me.0)).words x is
 
-  pub moment_below : 0 < word_count o.layout.width o.layout.shape
-  moment_below = omega arith
-
-  pub moment_fits : (x : ℕ) → x ≡ word_after o.layout (acts_of me.0) 0 → IsAllowed o.layout.shape (layout_state o.layout w.acts) Moment → x + 1 < 2 ^ 64
+  pub moment_fits : (x : ℕ) → x ≡ word_after o.layout (acts_of me.0) 0 → IsAllowed now.layout.shape (state_of V now.layout.shape w.acts) Moment → x + 1 < 2 ^ 64
   moment_fits x is h = write_small o.layout (acts_of me.0) Moment 0 (x + 1) (may_at Moment h) (moment_at x is)
 
-  pub close_at : (r : Running) → IsAllowed o.layout.shape (layout_state o.layout w.acts) Close → IsRunning o.layout.width w r → WritesAt o.layout (acts_of me.0) Close r.place (r.count + 1)
+  pub close_at : (r : Running) → IsAllowed now.layout.shape (state_of V now.layout.shape w.acts) Close → IsRunning V w r → WritesAt o.layout (acts_of me.0) Close r.place (r.count + 1)
   close_at r h run =
-      let s = layout_state o.layout w.acts in
-      let runs = subst (λ (p : Opening). RunsIn p.layout.shape (state_of o.layout.width p.layout.shape w.acts) r) of run.runs in
-      subst (λ (acts : List Made). WritesAt o.layout acts Close r.place (r.count + 1)) (sym acts_is) (close_writes o.layout.width o.layout.shape s.words s.hand s.cleared s.phase r h runs)
+      let s = state_of V now.layout.shape w.acts in
+      let runs = subst (λ (p : Opening). RunsIn p.layout.shape (state_of V p.layout.shape w.acts) r) of run.runs in
+      subst (λ (y : Layout × List Made). WritesAt y.0 y.1 Close r.place (r.count + 1)) (λ i. (size_is i, sym acts_is i)) (close_writes V now.layout.shape s.words s.hand s.cleared s.phase r h runs)
 
-  pub close_fits : (r : Running) → IsAllowed o.layout.shape (layout_state o.layout w.acts) Close → IsRunning o.layout.width w r → r.count + 1 < 2 ^ 64
+  pub close_fits : (r : Running) → IsAllowed now.layout.shape (state_of V now.layout.shape w.acts) Close → IsRunning V w r → r.count + 1 < 2 ^ 64
   close_fits r h run = write_small o.layout (acts_of me.0) Close r.place (r.count + 1) (may_at Close h) (close_at r h run)
 
   -- where an opening writes, and that it fits
-  pub open_at : (k : ℕ) (d : Deed) (n x : ℕ) → n ≡ version_place (stripe_of o.layout.shape k) → x ≡ word_after o.layout (acts_of me.0) n → WritesAt o.layout (acts_of me.0) (Open k d) n (x + 1)
-  open_at k d n x here is = version_at o.layout.shape (layout_state o.layout (acts_of me.0)).words (stripe_of o.layout.shape k) n x here is
+  pub open_at : (k : ℕ) (d : Deed) (n x : ℕ) → n ≡ version_place (stripe_of now.layout.shape k) → x ≡ word_after o.layout (acts_of me.0) n → WritesAt o.layout (acts_of me.0) (Open k d) n (x + 1)
+  open_at k d n x here is =
+      version_at o.layout.shape (layout_state o.layout (acts_of me.0)).words (stripe_of o.layout.shape k) n x (here ∙ ap (λ (p : Opening). version_place (stripe_of p.layout.shape k)) (sym same)) is
 
-  pub open_below : (k n : ℕ) → n ≡ version_place (stripe_of o.layout.shape k) → n < word_count o.layout.width o.layout.shape
-  open_below k n here =
-      let s : IsShape o.layout.shape = subst (λ (l : Layout). IsShape l.shape) layout_is mine.shape in
-      omega (arith, stripe_of-lt o.layout.shape k s, here)
-
-  pub open_fits : (k : ℕ) (d : Deed) (n x : ℕ) → n ≡ version_place (stripe_of o.layout.shape k) → x ≡ word_after o.layout (acts_of me.0) n → IsAllowed o.layout.shape (layout_state o.layout w.acts) (Open k d) → x + 1 < 2 ^ 64
+  pub open_fits : (k : ℕ) (d : Deed) (n x : ℕ) → n ≡ version_place (stripe_of now.layout.shape k) → x ≡ word_after o.layout (acts_of me.0) n → IsAllowed now.layout.shape (state_of V now.layout.shape w.acts) (Open k d) → x + 1 < 2 ^ 64
   open_fits k d n x here is h = write_small o.layout (acts_of me.0) (Open k d) n (x + 1) (may_at (Open k d) h) (open_at k d n x here is)
 
   -- ---- after a step
   -- what the caller sees of it
   pub acted_in : (t' : TableId) (me' : SeatView) (w' : WriterRecord) (a : Act) (b : ℕ) → t' ≡ t → writer_record (opening_of t' me'.0.layout) (acts_of me'.0) (tally_of me'.0).notes ≡ w' → me' ≡ (writer_view o.layout (acts_of me.0 ++ with_bit a b ∷ []) (tally_of me'.0), []) → AddsNote me me' → HasActed w w' a b
-  acted_in t' me' w' a b same v' e note =
+  acted_in t' me' w' a b table v' e note =
       let layout : me'.0.layout ≡ me.0.layout = ap (λ (m : SeatView). m.0.layout) e ∙ sym layout_is in
       record {
-        of = sym (ap (λ (r : WriterRecord). r.of) v') ∙ ((λ i. opening_of (same i) (layout i)) ∙ ap (λ (r : WriterRecord). r.of) v);
+        of = sym (ap (λ (r : WriterRecord). r.of) v') ∙ ((λ i. opening_of (table i) (layout i)) ∙ ap (λ (r : WriterRecord). r.of) v);
         acts = sym (ap (λ (r : WriterRecord). r.acts) v') ∙ (ap (λ (m : SeatView). acts_of m.0) e ∙ ap (λ (r : WriterRecord). r.acts ++ with_bit a b ∷ []) v);
         note = note.0;
         notes = sym (ap (λ (r : WriterRecord). r.notes) v') ∙ (note.1 ∙ ap (λ (r : WriterRecord). r.notes ++ note.0 ∷ []) v);
@@ -155,31 +143,28 @@ module _ (t : TableId) (me : SeatView) (o : Opening) (w : WriterRecord) (v : wri
   made_in : (me' : SeatView) (a : Act) (b : ℕ) → me' ≡ (writer_view o.layout (acts_of me.0 ++ with_bit a b ∷ []) (tally_of me'.0), []) → me' ≡ (writer_view me.0.layout (acts_of me.0 ++ with_bit a b ∷ []) (tally_of me'.0), [])
   made_in me' a b e = e ∙ (λ i. (writer_view (sym layout_is i) (acts_of me.0 ++ with_bit a b ∷ []) (tally_of me'.0), []))
 
-  pub after_plain : (me' : SeatView) (a : Act) (b : ℕ) → IsPlain a → IsAllowed o.layout.shape (layout_state o.layout w.acts) a → me' ≡ (writer_view o.layout (acts_of me.0 ++ with_bit a b ∷ []) (tally_of me'.0), []) → AddsNote me me' → IsWriter me'
+  pub after_plain : (me' : SeatView) (a : Act) (b : ℕ) → IsPlain a → IsAllowed now.layout.shape (state_of V now.layout.shape w.acts) a → me' ≡ (writer_view o.layout (acts_of me.0 ++ with_bit a b ∷ []) (tally_of me'.0), []) → AddsNote me me' → IsWriter me'
   after_plain me' a b is h e note = after_made me me' a b mine (may_in a h) (has_plain _ _ a is) (made_in me' a b e) note
 
-  pub after_moment : (me' : SeatView) (b : ℕ) → IsAllowed o.layout.shape (layout_state o.layout w.acts) Moment → me' ≡ (writer_view o.layout (acts_of me.0 ++ with_bit Moment b ∷ []) (tally_of me'.0), []) → AddsNote me me' → IsWriter me'
+  pub after_moment : (me' : SeatView) (b : ℕ) → IsAllowed now.layout.shape (state_of V now.layout.shape w.acts) Moment → me' ≡ (writer_view o.layout (acts_of me.0 ++ with_bit Moment b ∷ []) (tally_of me'.0), []) → AddsNote me me' → IsWriter me'
   after_moment me' b h e note = after_made me me' Moment b mine (may_in Moment h) tt (made_in me' Moment b e) note
 
-  pub after_close : (me' : SeatView) (b : ℕ) → IsAllowed o.layout.shape (layout_state o.layout w.acts) Close → me' ≡ (writer_view o.layout (acts_of me.0 ++ with_bit Close b ∷ []) (tally_of me'.0), []) → AddsNote me me' → IsWriter me'
+  pub after_close : (me' : SeatView) (b : ℕ) → IsAllowed now.layout.shape (state_of V now.layout.shape w.acts) Close → me' ≡ (writer_view o.layout (acts_of me.0 ++ with_bit Close b ∷ []) (tally_of me'.0), []) → AddsNote me me' → IsWriter me'
   after_close me' b h e note = after_made me me' Close b mine (may_in Close h) tt (made_in me' Close b e) note
 
-  pub after_open : (me' : SeatView) (k : ℕ) (d : Deed) (b : ℕ) → IsAllowed o.layout.shape (layout_state o.layout w.acts) (Open k d) → HasVersionSteps o.layout.shape.limit (layout_state o.layout w.acts).version_steps (Open k d)
+  pub after_open : (me' : SeatView) (k : ℕ) (d : Deed) (b : ℕ) → IsAllowed now.layout.shape (state_of V now.layout.shape w.acts) (Open k d) → HasVersionSteps now.layout.shape.limit (state_of V now.layout.shape w.acts).version_steps (Open k d)
       → me' ≡ (writer_view o.layout (acts_of me.0 ++ with_bit (Open k d) b ∷ []) (tally_of me'.0), []) → AddsNote me me' → IsWriter me'
   after_open me' k d b h has e note =
-      let has' : HasVersionSteps me.0.layout.shape.limit (layout_state me.0.layout (acts_of me.0)).version_steps (Open k d) = subst (λ (y : Layout × List Made). HasVersionSteps y.0.shape.limit (layout_state y.0 y.1).version_steps (Open k d)) (λ i. (sym layout_is i, sym acts_is i)) has in
+      let has' : HasVersionSteps me.0.layout.shape.limit (layout_state me.0.layout (acts_of me.0)).version_steps (Open k d) = subst (λ (y : Layout × List Made). HasVersionSteps y.0.shape.limit (layout_state y.0 y.1).version_steps (Open k d)) (λ i. ((size_is ∙ sym layout_is) i, sym acts_is i)) has in
       after_made me me' (Open k d) b mine (may_in (Open k d) h) has' (made_in me' (Open k d) b e) note
 
   -- and the version of the deed that it opens
-  pub opened_runs : (w' : WriterRecord) (k : ℕ) (d : Deed) (r : Running) (x : ℕ) → r.place ≡ version_place (stripe_of o.layout.shape k) → x ≡ word_after o.layout (acts_of me.0) r.place → r.count ≡ x + 1 → HasActed w w' (Open k d) 0 → IsRunning o.layout.width w' r
+  pub opened_runs : (w' : WriterRecord) (k : ℕ) (d : Deed) (r : Running) (x : ℕ) → r.place ≡ version_place (stripe_of now.layout.shape k) → x ≡ word_after o.layout (acts_of me.0) r.place → r.count ≡ x + 1 → HasActed w w' (Open k d) 0 → IsRunning V w' r
   opened_runs w' k d r x here is next h =
-      let shape : IsShape w.of.layout.shape = subst (λ (l : Layout). IsShape l.shape) (layout_is ∙ ap (λ (p : Opening). p.layout) (sym of)) mine.shape in
-      let word : x ≡ word_after o.layout w.acts r.place = subst (λ (acts : List Made). x ≡ word_after o.layout acts r.place) acts_is is in
-      let count : r.count ≡ version (layout_state o.layout w.acts).words (stripe_of o.layout.shape k) + 1 = next ∙ ap (λ y. y + 1) (version_is (layout_state o.layout w.acts).words _ r.place x here word) in
-      opened_acted r shape
-      (subst (λ (p : Opening). r.place ≡ version_place (stripe_of p.layout.shape k)) (sym of) here)
-      (subst (λ (p : Opening). r.count ≡ version (state_of o.layout.width p.layout.shape w.acts).words (stripe_of p.layout.shape k) + 1) (sym of) count)
-      h
+      let shape : IsShape w.of.layout.shape = subst (λ (l : Layout). IsShape l.shape) (ap (λ (z : WriterRecord). z.of.layout) v) mine.shape in
+      let place : r.place ≡ version_place (stripe_of w.of.layout.shape k) = here ∙ ap (λ (p : Opening). version_place (stripe_of p.layout.shape k)) (sym of) in
+      let word : x ≡ word_after (layout_of V w.of.layout.shape) w.acts r.place = subst (λ (y : Layout × List Made). x ≡ word_after y.0 y.1 r.place) (λ i. ((sym size_is ∙ ap (λ (p : Opening). layout_of V p.layout.shape) (sym of)) i, acts_is i)) is in
+      opened_acted r shape place (next ∙ ap (λ y. y + 1) (version_is (state_of V w.of.layout.shape w.acts).words _ r.place x place word)) h
 
 -- what an allowed act names is of the table, for a caller that knows the number of words of a value
 pub named_in : (V : ℕ) (sh : Shape) (o : Opening) (w : WriterRecord) (a : Act) → o.layout ≡ layout_of V sh → w.of ≡ o → IsRun w.of.layout w.acts → IsAllowed o.layout.shape (state_of V o.layout.shape w.acts) a → NamesIn V sh a

@@ -10,10 +10,13 @@ ghost use Rattle.mc_shared.specs.Records.{reader_record};
 
 use crate::catch_up::catch_up;
 use crate::cells::Cells;
-use crate::reader_steps::{mark_on_words, mark_unless_set_on_words, read_word, touch_word};
+use crate::reader_steps::{load_as_reader, mark_as_reader, mark_unless_set_as_reader};
 use crate::seats::{ReaderSeat, WriterSeat};
+use atomic_table::Badge;
 use mc_theory::Access;
 use mc_words::payload_words;
+use std::marker::Brand;
+use std::mem;
 
 /// One reading: a load of the word of the access.
 /// Condition: the seat is one of these words, and the access is one of the table and no mark.
@@ -35,7 +38,7 @@ pub fn read<const V: usize>(cells: &Cells<V>, reader: &mut ReaderSeat, access: A
         Access::Stamp(i) => checked.item_place::<V>(i, payload_words::<V>() as u8),
         Access::Moment | Access::Mark(_) => checked.moment_place(),
     };
-    read_word(&cells.ruled, reader, access, place)
+    read_at(cells, reader, access, place)
 }
 
 /// The same, for a caller that has worked out the place of the access.
@@ -53,7 +56,10 @@ pub fn read_at<const V: usize>(
     ensures number { reader.new.number ≡ reader.old.number }
     ensures one { ReadsOne (layout_of V cells.now.layout.shape) reader.old.front reader.old.done access result reader.new.front reader.new.done }
 {
-    read_word(&cells.ruled, reader, access, place)
+    let mut seat = mem::replace(&mut reader.badge, Badge::blank()).into_seat::<()>();
+    let word = load_as_reader::<Brand>(&cells.ruled, &mut seat, access, place);
+    reader.badge = seat.into_badge();
+    word
 }
 
 /// A load that enters no record, whose word proves nothing: it is on no seat. It brings the word into the processor's
@@ -63,7 +69,7 @@ pub fn read_at<const V: usize>(
 pub fn touch<const V: usize>(cells: &Cells<V>, place: usize) -> u64
     requires place { place < all_words V cells.now.layout.shape }
 {
-    touch_word(&cells.ruled, place)
+    cells.ruled.table.shared.peek(place)
 }
 
 /// Sets the recency bit of an item: one `fetch_or`.
@@ -74,7 +80,10 @@ pub fn mark<const V: usize>(cells: &Cells<V>, reader: &mut ReaderSeat, i: u32)
     ensures { reader.new ≡ reader_record reader.old.of reader.old.number reader.old.front (reader.old.done ++ mark_at i reader.old.front ∷ []) }
 {
     let place = cells.recency_place(i);
-    mark_on_words(&cells.ruled, reader, i, place, cells.checked.recency_bit(i));
+    let bit = cells.checked.recency_bit(i);
+    let mut seat = mem::replace(&mut reader.badge, Badge::blank()).into_seat::<()>();
+    mark_as_reader::<Brand>(&cells.ruled, &mut seat, i, place, bit);
+    reader.badge = seat.into_badge();
 }
 
 /// The same as `mark`. Where the bit is set already, the load that finds it so is the mark, and nothing is written.
@@ -84,7 +93,10 @@ pub fn mark_unless_set<const V: usize>(cells: &Cells<V>, reader: &mut ReaderSeat
     ensures { reader.new ≡ reader_record reader.old.of reader.old.number reader.old.front (reader.old.done ++ mark_at i reader.old.front ∷ []) }
 {
     let place = cells.recency_place(i);
-    mark_unless_set_on_words(&cells.ruled, reader, i, place, cells.checked.recency_bit(i));
+    let bit = cells.checked.recency_bit(i);
+    let mut seat = mem::replace(&mut reader.badge, Badge::blank()).into_seat::<()>();
+    mark_unless_set_as_reader::<Brand>(&cells.ruled, &mut seat, i, place, bit);
+    reader.badge = seat.into_badge();
 }
 
 /// Shows the reader all acts of the writer, and gives the moment. Condition: both seats are those of these words.

@@ -14,11 +14,12 @@ use crate::cells::Cells;
 use crate::running::Running;
 use crate::seats::WriterSeat;
 use crate::writer_steps::{
-    close_deed_on_words, count_moment_on_words, fetch_word, open_deed_on_words, set_mark_on_words,
-    set_mark_unless_set_on_words, turn_hand_on_words, turn_hand_unless_clear_on_words, write_word,
+    load_as_writer, set_mark_as_writer, set_mark_unless_set_as_writer, store_as_writer,
+    turn_hand_as_writer, turn_hand_unless_clear_as_writer,
 };
 use mc_theory::{Act, Deed};
 use mc_words::{KeyParts, Place};
+use std::marker::Brand;
 
 /// Opens a deed on a key: a load of its version, and a store of one more.
 /// Condition: the seat is that of these words, the act is allowed now, and leaves room for its close within the limit.
@@ -55,7 +56,10 @@ pub fn open_deed_by<const V: usize>(
     ensures running { IsRunning V writer.new result }
 {
     let place = cells.checked.version_place(parts.stripe);
-    open_deed_on_words(&cells.ruled, writer, key, deed, place)
+    let count = load_as_writer(&cells.ruled, &mut writer.seat, place) + 1;
+    let act = Act::Open(key, deed);
+    store_as_writer::<Brand>(&cells.ruled, &mut writer.seat, act, place, count);
+    Running { place, count }
 }
 
 /// Writes a slot word: one store. Condition: the seat is that of these words, and the act is allowed now.
@@ -71,7 +75,8 @@ pub fn write_slot<const V: usize>(
 {
     writer.known();
     let at = cells.checked.slot_place(place);
-    write_word(&cells.ruled, writer, Act::Slot(place, word), at, word);
+    let act = Act::Slot(place, word);
+    store_as_writer::<Brand>(&cells.ruled, &mut writer.seat, act, at, word);
 }
 
 /// Writes word `j` of an item, where word 0 is its key: one store.
@@ -89,7 +94,8 @@ pub fn write_item<const V: usize>(
 {
     writer.known();
     let at = cells.checked.item_place::<V>(i, j);
-    write_word(&cells.ruled, writer, Act::Item(i, j, word), at, word);
+    let act = Act::Item(i, j, word);
+    store_as_writer::<Brand>(&cells.ruled, &mut writer.seat, act, at, word);
 }
 
 /// The same, for a caller that has worked out where the items begin.
@@ -109,7 +115,8 @@ pub fn write_item_from<const V: usize>(
     ensures acted { HasActed writer.old writer.new (Item i j word) 0 }
 {
     let at = cells.checked.item_from::<V>(items, i, j);
-    write_word(&cells.ruled, writer, Act::Item(i, j, word), at, word);
+    let act = Act::Item(i, j, word);
+    store_as_writer::<Brand>(&cells.ruled, &mut writer.seat, act, at, word);
 }
 
 /// Counts the change of the deed that runs: a load of the moment, and a store of one more.
@@ -119,7 +126,8 @@ pub fn count_moment<const V: usize>(cells: &Cells<V>, writer: &mut WriterSeat)
     requires allowed { IsAllowed cells.now.layout.shape (state_of V cells.now.layout.shape writer.old.acts) Moment }
     ensures acted { HasActed writer.old writer.new Moment 0 }
 {
-    count_moment_on_words(&cells.ruled, writer);
+    let at = load_as_writer(&cells.ruled, &mut writer.seat, 0) + 1;
+    store_as_writer::<Brand>(&cells.ruled, &mut writer.seat, Act::Moment, 0, at);
 }
 
 /// Closes the deed that runs: one store of its version.
@@ -130,7 +138,8 @@ pub fn close_deed<const V: usize>(cells: &Cells<V>, writer: &mut WriterSeat, run
     requires allowed { IsAllowed cells.now.layout.shape (state_of V cells.now.layout.shape writer.old.acts) Close }
     ensures acted { HasActed writer.old writer.new Close 0 }
 {
-    close_deed_on_words(&cells.ruled, writer, running);
+    let Running { place, count } = running;
+    store_as_writer::<Brand>(&cells.ruled, &mut writer.seat, Act::Close, place, count + 1);
 }
 
 /// Sets the recency bit of an item: one `fetch_or`.
@@ -140,9 +149,9 @@ pub fn set_mark<const V: usize>(cells: &Cells<V>, writer: &mut WriterSeat, i: u3
     requires allowed { IsAllowed cells.now.layout.shape (state_of V cells.now.layout.shape writer.old.acts) (Mark i) }
     ensures acted { HasActed writer.old writer.new (Mark i) 0 }
 {
-    writer.known();
     let place = cells.recency_place(i);
-    set_mark_on_words(&cells.ruled, writer, i, place, cells.checked.recency_bit(i));
+    let bit = cells.checked.recency_bit(i);
+    set_mark_as_writer::<Brand>(&cells.ruled, &mut writer.seat, i, place, bit);
 }
 
 /// The same as `set_mark`. Where the bit is set already, the load that finds it so is the mark, and nothing is written.
@@ -151,9 +160,9 @@ pub fn set_mark_unless_set<const V: usize>(cells: &Cells<V>, writer: &mut Writer
     requires allowed { IsAllowed cells.now.layout.shape (state_of V cells.now.layout.shape writer.old.acts) (Mark i) }
     ensures acted { HasActed writer.old writer.new (Mark i) 0 }
 {
-    writer.known();
     let place = cells.recency_place(i);
-    set_mark_unless_set_on_words(&cells.ruled, writer, i, place, cells.checked.recency_bit(i));
+    let bit = cells.checked.recency_bit(i);
+    set_mark_unless_set_as_writer::<Brand>(&cells.ruled, &mut writer.seat, i, place, bit);
 }
 
 /// Reads the recency bit of the item at which the hand stands, and clears it: one `fetch_and`.
@@ -163,9 +172,9 @@ pub fn turn_hand<const V: usize>(cells: &Cells<V>, writer: &mut WriterSeat, i: u
     requires allowed { IsAllowed cells.now.layout.shape (state_of V cells.now.layout.shape writer.old.acts) (Hand i) }
     ensures acted { HasActed writer.old writer.new (Hand i) result }
 {
-    writer.known();
     let place = cells.recency_place(i);
-    turn_hand_on_words(&cells.ruled, writer, i, place, cells.checked.recency_bit(i))
+    let bit = cells.checked.recency_bit(i);
+    turn_hand_as_writer::<Brand>(&cells.ruled, &mut writer.seat, i, place, bit)
 }
 
 /// The same as `turn_hand`, for a caller that has worked out where the recency words begin. Where the bit is clear already, the load
@@ -184,7 +193,8 @@ pub fn turn_hand_unless_clear<const V: usize>(
     ensures acted { HasActed writer.old writer.new (Hand i) result }
 {
     let place = start + i as usize / 64;
-    turn_hand_unless_clear_on_words(&cells.ruled, writer, i, place, cells.checked.recency_bit(i))
+    let bit = cells.checked.recency_bit(i);
+    turn_hand_unless_clear_as_writer::<Brand>(&cells.ruled, &mut writer.seat, i, place, bit)
 }
 
 /// Makes one act. It gives the bit that the hand read, else 0.
@@ -224,5 +234,5 @@ pub fn fetch<const V: usize>(cells: &Cells<V>, writer: &mut WriterSeat, n: usize
     ensures writer { writer.new ≡ writer.old }
     ensures word { result ≡ slice_index (state_of V cells.now.layout.shape writer.old.acts).words n }
 {
-    fetch_word(&cells.ruled, writer, n)
+    load_as_writer(&cells.ruled, &mut writer.seat, n)
 }

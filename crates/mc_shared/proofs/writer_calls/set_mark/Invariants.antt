@@ -1,0 +1,5 @@
+use Rattle.mc_theory.specs.declared.act.Act.TheVariants.{Mark}
+use Rattle.mc_shared.proofs.writer_calls.set_mark.Given as goal
+
+abbrev pub ghosts-set_mark_as_writer : goal.ghosts-set_mark_as_writer
+ghosts-set_mark_as_writer g a = record { act = Mark a.item }

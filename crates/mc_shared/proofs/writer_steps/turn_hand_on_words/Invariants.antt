@@ -1,5 +1,0 @@
-use Rattle.mc_theory.specs.declared.act.Act.TheVariants.{Hand}
-use Rattle.mc_shared.proofs.writer_steps.turn_hand_on_words.Given as goal
-
-abbrev pub ghosts-turn_hand_as_writer : goal.ghosts-turn_hand_as_writer
-ghosts-turn_hand_as_writer a = record { act = Hand a.item }
