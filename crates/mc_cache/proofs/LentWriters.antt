@@ -8,7 +8,7 @@ use Rattle.atomic_table.proofs.Lists.{exchanged}
 use Rattle.atomic_table.specs.Table.{Act, Allows, Enters, Final, Me, State, Valid, carried_after, gives, keeps, opening, put_back, stepped, takes}
 use Rattle.std.specs.declared.snapshot.Snapshot.{Snapshot}
 use Rattle.mc_shared.specs.Records.{Opening, WriterRecord}
-use Rattle.mc_cache.specs.Inside.Lending.{HasTaken, IsFit, IsKept}
+use Rattle.mc_cache.specs.Lending.{HasTaken, IsFit, IsKept}
 
 abbrev Key : Type 0
 Key = Snapshot WriterRecord

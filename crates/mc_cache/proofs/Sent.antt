@@ -4,7 +4,6 @@ use denote.Hole.{as_row}
 use denote.Struct.Field.{u64-field}
 use denote.Param.Send.{IsSync, sendable, view_sync}
 use denote.Param.SendFields.{as_row_sync, declared_sync}
-use Rattle.atomic_table.proofs.owned.Table.TheSendSync.{the_sync as table_sync}
 use Rattle.mc_shared.proofs.Sent.{writer_sync as seat_sync}
 use Rattle.mc_shared.specs.contracts.seats.WriterSeat as seat
 use Rattle.mc_plan.proofs.books.Books.TheSendSync.{the_sync as books_sync}

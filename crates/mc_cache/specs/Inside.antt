@@ -1,3 +1,2 @@
 pub mod KeptMoments
-pub mod Lending
 pub mod Turned

@@ -1,6 +1,6 @@
 //! Where the writer lies between turns. Whoever wins the word borrows the writer where it lies, so no turn moves it.
 ghost use Rattle.std.specs.Prelude.{◌≡◌, ⊤, IfSome};
-ghost use Rattle.mc_cache.specs.Inside.Lending.{HasTaken, IsKept};
+ghost use Rattle.mc_cache.specs.Lending.{HasTaken, IsKept};
 
 use crate::writer::Writer;
 use atomic_table::{Play, Seat, Shared, TableRule};
