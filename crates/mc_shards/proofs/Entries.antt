@@ -13,7 +13,7 @@ use Rattle.mc_words.specs.declared.mix.Mix.{Mix}
 use Rattle.mc_shards.specs.Inside.Listed.{AreListed, own_of}
 use Rattle.mc_shards.specs.Plain.{AreEntriesOfAll}
 
-abbrev Entry : Type 0
+abbrev pub Entry : Type 0
 Entry = ℕ × List ℕ
 
 abbrev Differ : Entry → Entry → Type 0
@@ -71,7 +71,7 @@ own_here mix many n (e ∷ es) = elim (cases_eq (shard_of mix many e.0) n) [
   | inr other ↦ subst (λ (b : Bool). All (λ (d : Entry). shard_of mix many d.0 ≡ n) (cond b (e ∷ own_of mix many n es) (own_of mix many n es))) (sym (ne_eqb (shard_of mix many e.0) n other)) (own_here mix many n es)
 ]
 
-own_lookup : (mix : Mix) (many n k : ℕ) (es : List Entry) → shard_of mix many k ≡ n → lookup (λ q. eqb k q) (own_of mix many n es) ≡ lookup (λ q. eqb k q) es
+pub own_lookup : (mix : Mix) (many n k : ℕ) (es : List Entry) → shard_of mix many k ≡ n → lookup (λ q. eqb k q) (own_of mix many n es) ≡ lookup (λ q. eqb k q) es
 own_lookup mix many n k [] is = refl
 own_lookup mix many n k (e ∷ es) is = elim (cases_eq (shard_of mix many e.0) n) [
   | inl same ↦
