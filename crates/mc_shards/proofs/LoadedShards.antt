@@ -30,7 +30,7 @@ use Rattle.mc_cache.specs.Plain.{TakesOrNames, history, seen}
 use Rattle.mc_cache.proofs.HistoryLaws.{history_laws}
 use Rattle.mc_cache.proofs.LoadedEntries.{kept_history}
 use Rattle.mc_cache.proofs.PlainCalls.{seen_new}
-use Rattle.mc_shards.specs.Inside.Listed.{own_of}
+use Rattle.mc_shards.specs.Own.{own_of}
 use Rattle.mc_shards.specs.Loadings.{HaveMet, HoldEntries, ShardsLoad, new_writers, puts_of}
 use Rattle.mc_shards.specs.Plain.{history_of, seens}
 use Rattle.mc_shards.specs.Sharded.{ChangesAt}

@@ -14,7 +14,7 @@ use Rattle.mc_plan.specs.declared.answer.Why.{Why}
 use Rattle.mc_shared.specs.Records.{Opening, ReaderRecord, WriterRecord, writer_record}
 use Rattle.mc_writer.specs.WriterCalls.{HasCalled}
 use Rattle.mc_cache.specs.Plain.{TakesOrNames}
-use Rattle.mc_shards.specs.Inside.Listed.{own_of}
+use Rattle.mc_shards.specs.Own.{own_of}
 use Rattle.mc_shards.specs.Plain.{history_of}
 use Rattle.mc_shards.specs.Sharded.{ChangesAt}
 

@@ -4,9 +4,7 @@ ghost use Rattle.mc_shards.specs.Sharded.{ArePassOf};
 
 use crate::opening::SHAPE;
 use crate::seen::Seen;
-use mc_shards::{
-    OpenError, OpenShardsError, OpenedShards, Reply, Shape, Why, open_shards_with,
-};
+use mc_shards::{OpenError, OpenShardsError, OpenedShards, Reply, Shape, Why, open_shards_with};
 use std::alloc::Global;
 
 /// An entry of shard 1 among those of shard 0, for one of which no item is left.

@@ -29,7 +29,9 @@ fn are_found(opened: OpenedShards<1>) -> bool
     requires { All (ArePassOf opened.shards) opened.passes.items }
 {
     let OpenedShards {
-        shards, mut passes, ..
+        shards,
+        mut passes,
+        ..
     } = opened;
     let Some(mut pass) = passes.pop() else {
         return false;
