@@ -1,11 +1,12 @@
 //! The writer.
-ghost use Rattle.std.specs.Prelude.{◌≡◌, length};
+ghost use Rattle.std.specs.Prelude.{◌≡◌, ◌++◌, length};
 ghost use Rattle.mc_words.specs.History.{key_count};
 ghost use Rattle.mc_theory.specs.Lists.{state_of};
 ghost use Rattle.mc_shared.specs.SeatFacts.{IsRun};
 ghost use Rattle.mc_cache.specs.Resting.{IsAtRest};
 ghost use Rattle.mc_cache.specs.Failing.{PutFails, PutIfAbsentFails, PutIfFails, RemovalFails, version_changes};
 ghost use Rattle.mc_cache.specs.Plain.{IsLegal, PutIfAbsentMeans, PutIfMeans, PutMeans, RemovalMeans, TellsNow, history};
+ghost use Rattle.mc_plan.specs.Loads.{changes_by};
 ghost use Rattle.mc_plan.specs.WholeCalls.{KeptCall, PutCall, PutIfCall, RemoveCall};
 ghost use Rattle.mc_plan.specs.declared.answer.Answer.TheVariants as answer;
 ghost use Rattle.mc_writer.specs.WriterCalls.{HasCalled, HasGot, HasPutIfAbsent};
@@ -100,15 +101,12 @@ impl<const V: usize> Writer<V> {
         told
     }
 
-    // Puts a key as `put` does, but a new one only where an item is free.
-    pub(crate) fn put_kept(
-        &mut self,
-        cache: &Cache<V>,
-        key: u64,
-        value: [u64; V],
-    ) -> Result<Put, Why>
+    /// Puts the key as `put` does, but evicts no other key. After an `Err` the map is unchanged. The first reason that applies: `Spent`
+    /// if the limit on version changes could be exceeded, `NoItem` if every item is in use, `NoPath` if no path leads to an empty slot.
+    pub fn put_kept(&mut self, cache: &Cache<V>, key: u64, value: [u64; V]) -> Result<Put, Why>
         requires of { self.old.of ≡ cache.now }
         ensures called { HasCalled V cache.now.layout.shape (KeptCall key value.entry) self.old self.new (answer.Kept result) }
+        ensures plain { history V self.new ≡ history V self.old ++ changes_by key value.entry result }
     {
         let told = put_kept(&cache.cells, &mut self.seat, &mut self.books, key, &value);
         self.moment = moment(&cache.cells, &mut self.seat);

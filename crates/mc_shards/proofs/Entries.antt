@@ -10,13 +10,14 @@ use Rattle.mc_words.specs.History.{value_held}
 use Rattle.mc_words.specs.Keys.{shard_of}
 use Rattle.mc_words.specs.declared.history.Change.{Change}
 use Rattle.mc_words.specs.declared.mix.Mix.{Mix}
-use Rattle.mc_shards.specs.Inside.Listed.{AreListed, own_of}
+use Rattle.mc_shards.specs.Inside.Listed.{AreListed}
+use Rattle.mc_shards.specs.Own.{own_of}
 use Rattle.mc_shards.specs.Plain.{AreEntriesOfAll}
 
-abbrev Entry : Type 0
+abbrev pub Entry : Type 0
 Entry = ℕ × List ℕ
 
-abbrev Differ : Entry → Entry → Type 0
+abbrev pub Differ : Entry → Entry → Type 0
 Differ d e = d.0 ≢ e.0
 
 -- ---- lists of pairs
@@ -42,11 +43,11 @@ pairs_append xs ys a b across i j d less within =
       | inr l ↦ inr (omega (arith, l))
     ]
 
-none_in : (k : ℕ) (es : List Entry) → All (λ e. e.0 ≢ k) es → lookup (λ q. eqb k q) es ≡ None
+pub none_in : (k : ℕ) (es : List Entry) → All (λ e. e.0 ≢ k) es → lookup (λ q. eqb k q) es ≡ None
 none_in k [] a = refl
 none_in k (e ∷ es) a = ap (λ (b : Bool). cond b (Some e.1) (lookup (λ q. eqb k q) es)) (ne_eqb k e.0 (λ z. All-head (λ (d : Entry). d.0 ≢ k) e es a (sym z))) ∙ none_in k es (All-tail (λ (d : Entry). d.0 ≢ k) e es a)
 
-lookup_append : (k : ℕ) (xs ys : List Entry) → lookup (λ q. eqb k q) xs ≡ None → lookup (λ q. eqb k q) (xs ++ ys) ≡ lookup (λ q. eqb k q) ys
+pub lookup_append : (k : ℕ) (xs ys : List Entry) → lookup (λ q. eqb k q) xs ≡ None → lookup (λ q. eqb k q) (xs ++ ys) ≡ lookup (λ q. eqb k q) ys
 lookup_append k [] ys none = refl
 lookup_append k (x ∷ xs) ys none = elim (cases_eq k x.0) [
   | inl same ↦ absurd (some-none x.1 (sym (ap (λ (b : Bool). cond b (Some x.1) (lookup (λ q. eqb k q) xs)) (eq-eqb k x.0 same)) ∙ none))
@@ -59,7 +60,7 @@ lookup_append k (x ∷ xs) ys none = elim (cases_eq k x.0) [
     some-none : (v : List ℕ) → ◌≡◌ {A = Option (List ℕ)} (Some v) None → ⊥
     some-none v e = absurd cc
 
-append_none : (k : ℕ) (xs ys : List Entry) → lookup (λ q. eqb k q) ys ≡ None → lookup (λ q. eqb k q) (xs ++ ys) ≡ lookup (λ q. eqb k q) xs
+pub append_none : (k : ℕ) (xs ys : List Entry) → lookup (λ q. eqb k q) ys ≡ None → lookup (λ q. eqb k q) (xs ++ ys) ≡ lookup (λ q. eqb k q) xs
 append_none k [] ys none = none
 append_none k (x ∷ xs) ys none = ap (λ (o : Option (List ℕ)). cond (eqb k x.0) (Some x.1) o) (append_none k xs ys none)
 
@@ -71,7 +72,7 @@ own_here mix many n (e ∷ es) = elim (cases_eq (shard_of mix many e.0) n) [
   | inr other ↦ subst (λ (b : Bool). All (λ (d : Entry). shard_of mix many d.0 ≡ n) (cond b (e ∷ own_of mix many n es) (own_of mix many n es))) (sym (ne_eqb (shard_of mix many e.0) n other)) (own_here mix many n es)
 ]
 
-own_lookup : (mix : Mix) (many n k : ℕ) (es : List Entry) → shard_of mix many k ≡ n → lookup (λ q. eqb k q) (own_of mix many n es) ≡ lookup (λ q. eqb k q) es
+pub own_lookup : (mix : Mix) (many n k : ℕ) (es : List Entry) → shard_of mix many k ≡ n → lookup (λ q. eqb k q) (own_of mix many n es) ≡ lookup (λ q. eqb k q) es
 own_lookup mix many n k [] is = refl
 own_lookup mix many n k (e ∷ es) is = elim (cases_eq (shard_of mix many e.0) n) [
   | inl same ↦

@@ -1,6 +1,8 @@
 pub mod Sharded
 pub mod Plain
 pub mod Openings
+pub mod Own
+pub mod Loadings
 pub mod OneMap
 pub mod Spread
 pub mod Sizing

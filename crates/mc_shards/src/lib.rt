@@ -20,6 +20,7 @@
 mod closing;
 pub mod laws;
 mod listing;
+mod loading;
 mod opening;
 mod pass;
 mod shards;
@@ -27,9 +28,10 @@ mod sizing;
 mod taking;
 
 pub use closing::StillOpen;
+pub use loading::{OpenedShards, open_shards_with};
 pub use mc_cache::{
     AbsentError, DeskError, Entry, IfError, Mix, NoMemory, OpenError, Put, PutError, Remove,
-    Replaced, Reply, Shape, Spent, Swapped, Take,
+    Replaced, Reply, Shape, Spent, Swapped, Take, Why,
 };
 pub use opening::{OpenShardsError, open_shards};
 pub use pass::Pass;

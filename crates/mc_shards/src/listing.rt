@@ -1,7 +1,8 @@
 //! The entries of all shards.
 ghost use Rattle.std.specs.Prelude.{◌≡◌, ◌<◌, ◌++◌, IfOk, OnOk, length};
 ghost use Rattle.mc_words.specs.Shapes.{HasShards};
-ghost use Rattle.mc_shards.specs.Inside.Listed.{AddsShard, own_of};
+ghost use Rattle.mc_shards.specs.Inside.Listed.{AddsShard};
+ghost use Rattle.mc_shards.specs.Own.{own_of};
 ghost use Rattle.mc_shards.specs.Plain.{AllBegin, AreEntriesOfAll, Begins, seens};
 ghost use Rattle.mc_shards.specs.Sharded.{ArePassOf, ChangesAt};
 

@@ -1,18 +1,22 @@
 //! Opening shards.
-ghost use Rattle.std.specs.Prelude.{◌≡◌, [], ◌∷◌, ◌++◌, All, IfErr, IfOk, MatchResult, OnOk, length};
+ghost use Rattle.std.specs.Prelude.{◌≡◌, [], ◌∷◌, ◌++◌, All, IfErr, IfOk, MatchResult, OnOk, length, map};
 ghost use Rattle.mc_words.specs.Places.{IsWidth};
 ghost use Rattle.mc_words.specs.Readers.{HasReaders};
 ghost use Rattle.mc_words.specs.Shapes.{HasShards, IsShape};
+ghost use Rattle.mc_shared.specs.Records.{writer_record};
 ghost use Rattle.mc_shared.specs.Views.{layout_of};
 ghost use Rattle.mc_cache.specs.Openings.{RefusesOpening};
+ghost use Rattle.mc_cache.specs.Plain.{IsLegal, history};
 ghost use Rattle.mc_cache.specs.declared.opening.OpenError.TheVariants.{NoMemory};
+ghost use Rattle.mc_shards.specs.declared.opening.OpenShardsError.TheVariants.{Open};
 ghost use Rattle.mc_shards.specs.Openings.{HasSeenNothing, RefusesShards};
+ghost use Rattle.mc_shards.specs.Loadings.{new_writers};
 ghost use Rattle.mc_shards.specs.Inside.Dealt.{AreDealt};
 ghost use Rattle.mc_shards.specs.Sharded.{ArePassOf};
 
 use crate::pass::Pass;
 use crate::shards::Shards;
-use mc_cache::{Cache, Desk, OpenError, Reader, Shape, open};
+use mc_cache::{Cache, Desk, OpenError, Reader, Shape, Writer, open};
 use mc_words::{MOST_READERS, can_shard};
 use std::alloc::{AllocError, Global};
 use thiserror::Error;
@@ -26,8 +30,16 @@ pub enum OpenShardsError {
     Open(OpenError),
 }
 
+impl From<OpenError> for OpenShardsError {
+    ghost from_gives = { λ why e. e ≡ Open why };
+
+    fn from(why: OpenError) -> OpenShardsError {
+        OpenShardsError::Open(why)
+    }
+}
+
 // The first fault of the arguments, if there is one.
-fn check(shape: Shape, shards: u32, passes: u32) -> Result<(), OpenShardsError>
+pub(crate) fn check(shape: Shape, shards: u32, passes: u32) -> Result<(), OpenShardsError>
     ensures { MatchResult result (λ _. HasShards shards × IsShape shape × HasReaders passes) (λ e. RefusesShards shape shards passes e) }
 {
     if !can_shard(shards) {
@@ -90,35 +102,32 @@ fn deal<const V: usize>(
     Ok(dealt)
 }
 
-// One cache more, its desk, and the passes with a reader of it.
+// One cache more, its writer, and the passes with a reader of it.
 fn open_one<const V: usize>(
     alloc: Global,
     shape: Shape,
     passes: u32,
     caches: &Vec<Cache<V>>,
     given: Vec<Pass<V>>,
-) -> Result<(Cache<V>, Desk<V>, Vec<Pass<V>>), OpenError>
+) -> Result<(Cache<V>, Writer<V>, Vec<Pass<V>>), OpenError>
     requires width { IsWidth V }
     requires asked { IsShape shape × HasReaders passes }
     requires many { length given.items ≡ passes }
     requires given { All (AreDealt caches.now.items) given.items }
     ensures refused { MatchResult result (λ r. r.0.layout ≡ layout_of V shape) (λ e. RefusesOpening shape passes e) }
-    ensures desk { IfOk result (λ r. r.1 ≡ r.0) }
+    ensures writer { IfOk result (λ r. r.1 ≡ writer_record r.0 [] []) }
     ensures many { IfOk result (λ r. length r.2.items ≡ passes) }
     ensures dealt { IfOk result (λ r. All (AreDealt (caches.now.items ++ r.0 ∷ [])) r.2.items) }
 {
     let (cache, writer, readers) = open::<V>(alloc, shape, passes)?;
-    let Ok(desk) = Desk::new(alloc, writer) else {
-        return Err(OpenError::NoMemory);
-    };
     match deal::<V>(alloc, caches, &cache, given, readers) {
-        Ok(dealt) => Ok((cache, desk, dealt)),
+        Ok(dealt) => Ok((cache, writer, dealt)),
         Err(_) => Err(OpenError::NoMemory),
     }
 }
 
 // Adds a value to a list.
-fn add<T: Drop>(list: &mut Vec<T>, value: T) -> Result<(), OpenError>
+pub(crate) fn add<T: Drop>(list: &mut Vec<T>, value: T) -> Result<(), OpenError>
     ensures ok { OnOk result (list.new.items ≡ list.old.items ++ value ∷ []) }
     ensures err { IfErr result (λ e. e ≡ NoMemory) }
 {
@@ -128,34 +137,53 @@ fn add<T: Drop>(list: &mut Vec<T>, value: T) -> Result<(), OpenError>
     }
 }
 
-// All caches, their desks and the passes.
-fn open_all<const V: usize>(
+// All caches, their writers and the passes.
+pub(crate) fn open_all<const V: usize>(
     alloc: Global,
     shape: Shape,
     shards: u32,
     passes: u32,
-) -> Result<(Vec<Cache<V>>, Vec<Desk<V>>, Vec<Pass<V>>), OpenError>
+) -> Result<(Vec<Cache<V>>, Vec<Writer<V>>, Vec<Pass<V>>), OpenError>
     requires width { IsWidth V }
     requires asked { IsShape shape × HasReaders passes }
     ensures refused { MatchResult result (λ r. length r.0.items ≡ shards) (λ e. RefusesOpening shape passes e) }
     ensures shapes { IfOk result (λ r. All (λ o. o.layout ≡ layout_of V shape) r.0.items) }
-    ensures desks { IfOk result (λ r. r.1.items ≡ r.0.items) }
+    ensures writers { IfOk result (λ r. r.1.items ≡ new_writers r.0.items) }
     ensures many { IfOk result (λ r. length r.2.items ≡ passes) }
     ensures dealt { IfOk result (λ r. All (AreDealt r.0.items) r.2.items) }
 {
     let mut caches = Vec::new(alloc);
-    let mut desks = Vec::new(alloc);
+    let mut writers = Vec::new(alloc);
     let Ok(mut given) = blank_passes::<V>(alloc, passes) else {
         return Err(OpenError::NoMemory);
     };
     for shard in 0..shards {
         let _shard = shard;
-        let (cache, desk, dealt) = open_one::<V>(alloc, shape, passes, &caches, given)?;
+        let (cache, writer, dealt) = open_one::<V>(alloc, shape, passes, &caches, given)?;
         given = dealt;
         add(&mut caches, cache)?;
+        add(&mut writers, writer)?;
+    }
+    Ok((caches, writers, given))
+}
+
+// A desk for each writer.
+pub(crate) fn desks_of<const V: usize>(
+    alloc: Global,
+    writers: Vec<Writer<V>>,
+) -> Result<Vec<Desk<V>>, OpenError>
+    ensures desks { MatchResult result (λ desks. desks.items ≡ map (λ w. w.of) writers.entry.items) (λ e. e ≡ NoMemory) }
+    ensures legal { IfOk result (λ desks. All (λ w. IsLegal w.of.layout.shape.items (history V w)) writers.entry.items) }
+{
+    let mut desks = Vec::new(alloc);
+    for writer in writers {
+        writer.known();
+        let Ok(desk) = Desk::new(alloc, writer) else {
+            return Err(OpenError::NoMemory);
+        };
         add(&mut desks, desk)?;
     }
-    Ok((caches, desks, given))
+    Ok(desks)
 }
 
 /// Opens that many shards, each an empty cache of this shape with its writer on a desk, and that many passes. Returns the first error
@@ -175,15 +203,12 @@ pub fn open_shards<const V: usize>(
     ensures plain { IfOk result (λ r. All (HasSeenNothing V) r.1.items) }
 {
     check(shape, shards, passes)?;
-    match open_all::<V>(alloc, shape, shards, passes) {
-        Ok((caches, desks, passes)) => {
-            let shards = Shards {
-                shape,
-                caches,
-                desks,
-            };
-            Ok((shards, passes))
-        }
-        Err(why) => Err(OpenShardsError::Open(why)),
-    }
+    let (caches, writers, passes) = open_all::<V>(alloc, shape, shards, passes)?;
+    let desks = desks_of::<V>(alloc, writers)?;
+    let shards = Shards {
+        shape,
+        caches,
+        desks,
+    };
+    Ok((shards, passes))
 }

@@ -7,6 +7,7 @@ mod desk;
 mod loading;
 mod opening;
 mod seen;
+mod shards;
 mod world;
 
 use crate::opening::{Making, see_making};
@@ -28,6 +29,7 @@ fn see(alloc: Global, name: &str) -> Option<Seen> {
         "close" => Some(closing::see_closing(alloc)),
         "desk" => Some(desk::see_desk(alloc)),
         "load" => Some(loading::see_loading(alloc)),
+        "shards" => Some(shards::see_shards(alloc)),
         "entries" => Some(loading::see_entries(alloc)),
         _ => None,
     }

@@ -33,6 +33,8 @@ mod load_rows;
 #[cfg(test)]
 mod loaded;
 #[cfg(test)]
+mod loaded_shards;
+#[cfg(test)]
 mod looker;
 #[cfg(test)]
 mod marks;

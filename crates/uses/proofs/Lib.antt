@@ -2,3 +2,4 @@ pub mod TakenOut
 pub mod OneShard
 pub mod Kept
 pub mod Stamps
+pub mod SameEntries

@@ -2,14 +2,15 @@
 //!
 //! Each function is a caller, and its contract says something that the cache's words let it say: a value that was put is found,
 //! a reply in another thread is true of the writer's history, replies come in the order of their moments, two threads take turns at one
-//! writer, of two that put an absent key one succeeds, no object behind the index is lost, and a lookup in shards is no older than the put
-//! before it.
+//! writer, of two that put an absent key one succeeds, no object behind the index is lost, a lookup in shards is no older than the put
+//! before it, and shards that are opened anew hold what the old ones held.
 #![tactic(auto)]
 
 mod absent;
 mod again;
 mod beside;
 mod owned;
+mod reopened;
 mod shards;
 mod threads;
 mod turns;
@@ -19,6 +20,7 @@ pub use absent::{Tried, put_once};
 pub use again::overwrite;
 pub use beside::{get_between_meetings, put_and_get};
 pub use owned::{put_object, take_object};
+pub use reopened::reopen;
 pub use shards::put_and_get_in_shards;
 pub use threads::get_beside_a_put;
 pub use turns::put_in_turns;

@@ -1,13 +1,9 @@
 -- The entries of shards, from the last shard back to one of them.
-use Rattle.std.specs.Prelude.{ℕ, ◌≡◌, ◌+◌, ◌==◌, List, [], ◌∷◌, ◌++◌, filter}
-use Rattle.mc_words.specs.Keys.{shard_of}
+use Rattle.std.specs.Prelude.{ℕ, ◌≡◌, ◌+◌, List, [], ◌∷◌, ◌++◌}
 use Rattle.mc_words.specs.declared.history.Change.{Change}
 use Rattle.mc_words.specs.declared.mix.Mix.{Mix}
 use Rattle.mc_cache.specs.Plain.{AreEntriesOf}
-
--- those whose keys belong to shard n of so many
-abbrev pub own_of : Mix → ℕ → ℕ → List (ℕ × List ℕ) → List (ℕ × List ℕ)
-own_of mix many n es = filter (λ e. shard_of mix many e.0 == n) es
+use Rattle.mc_shards.specs.Own.{own_of}
 
 -- of the entries of a cache whose history is h those that belong to its shard were added
 abbrev pub AddsShard : (V : ℕ) → Mix → ℕ → ℕ → List (Change V) → List (ℕ × List ℕ) → List (ℕ × List ℕ) → Type 0

@@ -1,5 +1,5 @@
 use Rattle.std.proofs.Common.{◌≡◌, ◌++◌}
-use Rattle.mc_shards.specs.Inside.Listed.{own_of}
+use Rattle.mc_shards.specs.Own.{own_of}
 use Rattle.mc_shards.proofs.listing.list_own.Given as goal
 
 abbrev pub invariant-loop-entry : goal.invariant-loop-entry

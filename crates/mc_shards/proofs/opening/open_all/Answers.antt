@@ -1,10 +1,11 @@
 use Rattle.std.proofs.Common.{◌≡◌, [], ◌∷◌, ◌++◌, List, ap, arith, length, subst, sym, ◌∙◌}
 use Rattle.std.specs.List.{All}
-use Rattle.std.proofs.lemmas.List.{length_push}
+use Rattle.std.proofs.lemmas.List.{length_push, map-append}
 use Rattle.std.proofs.lemmas.List.Elements.{All-push, All-same}
-use Rattle.mc_shared.specs.Records.{Opening}
+use Rattle.mc_shared.specs.Records.{Opening, WriterRecord, writer_record}
 use Rattle.mc_shared.specs.Views.{layout_of}
 use Rattle.mc_shards.specs.Inside.Dealt.{AreDealt}
+use Rattle.mc_shards.specs.Loadings.{new_writers}
 use Rattle.mc_shards.proofs.opening.open_all.Goals as goal
 
 pub loop-shard-preserved : goal.loop-shard-preserved
@@ -14,11 +15,12 @@ loop-shard-preserved g c =
     let tables : List Opening = c.loop-shard.caches.items in
     let Shaped : Opening → Type 0 = λ o. o.layout ≡ layout_of g.row.V c.args.shape in
     let grown : c.add.new.list.items ≡ tables ++ cache ∷ [] = c.in_ok-add.ensures.ok in
-    let desks : c.add-in-loop-shard.new.list.items ≡ c.loop-shard.desks.items ++ c.in_ok-cache.desk ∷ [] = c.in_ok-add-2.ensures.ok in
+    let writers : c.add-in-loop-shard.new.list.items ≡ c.loop-shard.writers.items ++ c.in_ok-cache.writer ∷ [] = c.in_ok-add-2.ensures.ok in
     record {
       count = omega (arith, was.count, ap length grown ∙ length_push tables cache);
       shapes = All-same Shaped c.add.new.list.items (tables ++ cache ∷ []) grown (All-push Shaped tables cache was.shapes c.in_ok-cache.ensures.refused);
-      desks = desks ∙ (ap (λ (z : List Opening). z ++ c.in_ok-cache.desk ∷ []) was.desks ∙ (ap (λ (o : Opening). tables ++ o ∷ []) c.in_ok-cache.ensures.desk ∙ sym grown));
+      writers = writers ∙ (ap (λ (z : List WriterRecord). z ++ c.in_ok-cache.writer ∷ []) was.writers ∙ (ap (λ (w : WriterRecord). new_writers tables ++ w ∷ []) c.in_ok-cache.ensures.writer
+          ∙ (sym (map-append (λ (o : Opening). writer_record o [] []) tables (cache ∷ [])) ∙ ap new_writers (sym grown))));
       many = c.in_ok-cache.ensures.many;
       dealt = subst (λ (ts : List Opening). All (AreDealt ts) c.in_ok-cache.dealt.items) (sym grown) c.in_ok-cache.ensures.dealt;
     }

@@ -1,5 +1,16 @@
+use Rattle.std.proofs.Common.{◌∙◌, ap, map, subst, sym}
+use Rattle.mc_words.specs.Shapes.{HasShards}
+use Rattle.mc_shared.specs.Records.{WriterRecord}
 use Rattle.mc_shards.proofs.Dealt.{passes_new}
+use Rattle.mc_shards.proofs.LoadedShards.{tables_of_new}
 use Rattle.mc_shards.proofs.opening.open_shards.Goals as goal
 
-pub returns-in-Ok-clause-plain : goal.returns-in-Ok-clause-plain
-returns-in-Ok-clause-plain g c = passes_new g.row.V c.in-Ok.caches.items c.in-Ok.passes.items c.in-Ok.ensures.dealt
+pub invariant_of-shards : goal.invariant_of-shards
+invariant_of-shards g c = record {
+  many = subst HasShards (sym c.in_ok-caches.ensures.refused) c.in_ok-check.ensures.0;
+  shapes = c.in_ok-caches.ensures.shapes;
+  desks = c.in_ok-desks.ensures.desks ∙ (ap (map (λ (w : WriterRecord). w.of)) c.in_ok-caches.ensures.writers ∙ tables_of_new c.in_ok-caches.caches.items);
+}
+
+pub returns-clause-plain : goal.returns-clause-plain
+returns-clause-plain g c = passes_new g.row.V c.in_ok-caches.caches.items c.in_ok-caches.passes.items c.in_ok-caches.ensures.dealt

@@ -1,7 +1,8 @@
 use Rattle.std.proofs.Common.{ℕ, ◌∙◌, ◌++◌, ap, length, refl}
 use Rattle.mc_words.specs.declared.mix.Mix.{Mix}
 use Rattle.mc_cache.specs.Plain.{Begins}
-use Rattle.mc_shards.specs.Inside.Listed.{AddsShard, own_of}
+use Rattle.mc_shards.specs.Inside.Listed.{AddsShard}
+use Rattle.mc_shards.specs.Own.{own_of}
 use Rattle.mc_shards.specs.Sharded.{Sharded}
 use Rattle.mc_shards.proofs.Dealt.{here, kept_here, seens_here}
 use Rattle.mc_shards.proofs.pass.Pass.list_shard.Goals as goal

@@ -1,0 +1,45 @@
+use Rattle.std.proofs.Common.{ℕ, ◌≡◌, ◌∙◌, List, All, ap, arith, map, subst, sym}
+use Rattle.mc_words.specs.Shapes.{HasShards}
+use Rattle.mc_shared.specs.Records.{Opening, WriterRecord}
+use Rattle.mc_shared.specs.Views.{layout_of}
+use Rattle.mc_cache.specs.Plain.{IsLegal, history}
+use Rattle.mc_shards.specs.Loadings.{ShardsLoad}
+use Rattle.mc_shards.proofs.LoadedShards.{all_seen, held_all, shaped_tables, shaped_writers, tables_of_new}
+use Rattle.mc_shards.proofs.loading.open_shards_with.Goals as goal
+
+pub load-requires : goal.load-requires
+load-requires g c = (
+  omega arith,
+  (
+    omega arith,
+    (
+      omega arith,
+      (
+        subst HasShards (sym c.in_ok-caches.ensures.refused) c.in_ok-check.ensures.0,
+        (
+          c.in_ok-caches.ensures.shapes,
+          (ap (map (λ (w : WriterRecord). w.of)) c.in_ok-caches.ensures.writers ∙ tables_of_new c.in_ok-caches.caches.items, c.new-left.ensures.items),
+        ),
+      ),
+    ),
+  ),
+)
+
+pub returns-clause-plain : goal.returns-clause-plain
+returns-clause-plain g c =
+    let V = g.row.V in
+    let sh = c.args.shape in
+    let es = c.args.entries.now in
+    let tables = c.in_ok-caches.caches.items in
+    let ws = c.load.new.writers.items in
+    let left = c.load.new.left.items in
+    let of : map (λ (w : WriterRecord). w.of) ws ≡ tables = c.load.ensures.of in
+    let shapes : All (λ o. o.layout ≡ layout_of V sh) tables = c.in_ok-caches.ensures.shapes in
+    let loaded : ShardsLoad V sh c.in_ok-caches.writers.items 0 es ws left = c.in_ok-load.ensures.loaded in
+    let legal : All (λ w. IsLegal w.of.layout.shape.items (history V w)) ws =
+    subst (λ (xs : List WriterRecord). All (λ w. IsLegal w.of.layout.shape.items (history V w)) xs) c.meet_all.ensures.writers c.in_ok-desks.ensures.legal in (
+      map (history V) ws,
+      held_all V sh tables es ws left (shaped_tables V sh tables shapes) (shaped_writers V sh ws (subst (λ (os : List Opening). All (λ o. o.layout ≡ layout_of V sh) os) (sym of) shapes)) c.in_ok-load.ensures.wide legal
+          (subst (λ (xs : List WriterRecord). ShardsLoad V sh xs 0 es ws left) c.in_ok-caches.ensures.writers loaded),
+      all_seen V tables ws c.meet_all.new.passes.items of c.meet_all.ensures.passes c.meet_all.ensures.met,
+    )
