@@ -10,7 +10,7 @@ use std::marker::Model;
 #[derive(Drop)]
 pub struct Shards<const V: usize> {
     pub(crate) shape: Shape,
-    // A lookup reads these alone, so they don't share cache lines with the desks, which each turn writes.
+    // A lookup that isn't busy reads these alone.
     pub(crate) caches: Vec<Cache<V>>,
     pub(crate) desks: Vec<Desk<V>>,
 }
