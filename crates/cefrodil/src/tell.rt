@@ -29,7 +29,10 @@ fn done(put: Put, reply: &mut RawReply) -> u32
 {
     match put {
         Put::Renewed { at } => Told::renewed(at).tell(reply),
-        Put::Stored { at, moves, evicted } => Told::stored(at, moves, evicted).tell(reply),
+        Put::Stored { at, moves, evicted } => match evicted {
+            None => Told::stored(at, moves).tell(reply),
+            Some(key) => Told::evicted(at, moves, key).tell(reply),
+        },
     }
 }
 

@@ -1,5 +1,5 @@
 //! What a call tells C: a status, and the numbers of a reply.
-ghost use Rattle.std.specs.Prelude.{◌≡◌};
+ghost use Rattle.std.specs.Prelude.{◌≡◌, None, Some};
 ghost use Rattle.cefrodil.specs.Tellings.{closed_told, done_told, gone_told, lookup_told, misuse_told, not_absent_told, not_put_if_told, not_put_told, plain, told_at, told_of};
 ghost use Rattle.mc_plan.specs.declared.answer.Put.TheVariants.{Renewed, Stored};
 
@@ -112,18 +112,23 @@ impl Told {
     }
 
     #[inline(always)]
-    pub(crate) fn stored(at: u64, moves: u8, evicted: Option<u64>) -> Told
-        ensures { result ≡ done_told (Stored at moves evicted) }
+    pub(crate) fn stored(at: u64, moves: u8) -> Told
+        ensures { result ≡ done_told (Stored at moves None) }
     {
         let mut told = Told::at(status::OK, at);
         told.reply.moves = u32::from(moves);
-        match evicted {
-            None => told.reply.put = STORED,
-            Some(key) => {
-                told.reply.put = EVICTED;
-                told.reply.evicted = key;
-            }
-        }
+        told.reply.put = STORED;
+        told
+    }
+
+    #[inline(always)]
+    pub(crate) fn evicted(at: u64, moves: u8, key: u64) -> Told
+        ensures { result ≡ done_told (Stored at moves (Some key)) }
+    {
+        let mut told = Told::at(status::OK, at);
+        told.reply.moves = u32::from(moves);
+        told.reply.evicted = key;
+        told.reply.put = EVICTED;
         told
     }
 
@@ -133,7 +138,10 @@ impl Told {
     {
         match put {
             Put::Renewed { at } => Told::renewed(at),
-            Put::Stored { at, moves, evicted } => Told::stored(at, moves, evicted),
+            Put::Stored { at, moves, evicted } => match evicted {
+                None => Told::stored(at, moves),
+                Some(key) => Told::evicted(at, moves, key),
+            },
         }
     }
 
