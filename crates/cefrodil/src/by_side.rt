@@ -7,6 +7,7 @@ ghost use Rattle.cefrodil.specs.Calls.{HasTold};
 ghost use Rattle.cefrodil.specs.Inside.Looking.{TellsLookup};
 ghost use Rattle.cefrodil.specs.Tellings.{lookup_told, put_if_absent_told, put_if_told, put_told, removal_told, try_put_if_absent_told, try_put_if_told, try_put_told, try_removal_told};
 
+use crate::tell;
 use crate::told::{RawReply, Told};
 use mc_door::Side;
 
@@ -84,7 +85,7 @@ pub(crate) fn put<const V: usize>(
         (λ why. IsMisuse CanWrite V (role_of side.old) (length value.now) why × (side.new ≡ side.old)) (record { status = result; reply = reply.new }) }
 {
     let made = side.put(key, value);
-    Told::put(made).tell(reply)
+    tell::put(made, reply)
 }
 
 /// Puts the key anew on a condition.
@@ -100,7 +101,7 @@ pub(crate) fn put_if<const V: usize>(
         (λ why. IsMisuse CanWrite V (role_of side.old) (length value.now) why × (side.new ≡ side.old)) (record { status = result; reply = reply.new }) }
 {
     let made = side.put_if(key, since, value);
-    Told::put_if(made).tell(reply)
+    tell::put_if(made, reply)
 }
 
 /// Puts the key if it is absent.
@@ -115,7 +116,7 @@ pub(crate) fn put_if_absent<const V: usize>(
         (λ why. IsMisuse CanWrite V (role_of side.old) (length value.now) why × (side.new ≡ side.old)) (record { status = result; reply = reply.new }) }
 {
     let made = side.put_if_absent(key, value);
-    Told::put_if_absent(made).tell(reply)
+    tell::put_if_absent(made, reply)
 }
 
 /// Takes the key out.
@@ -125,7 +126,7 @@ pub(crate) fn remove<const V: usize>(side: &mut Side<V>, key: u64, reply: &mut R
         (λ why. IsMisuse CanWrite V (role_of side.old) V why × (side.new ≡ side.old)) (record { status = result; reply = reply.new }) }
 {
     let made = side.remove(key);
-    Told::removal(made).tell(reply)
+    tell::removal(made, reply)
 }
 
 /// Tries once for the turn, to put the key.
@@ -140,7 +141,7 @@ pub(crate) fn try_put<const V: usize>(
         (λ why. IsMisuse HasTurns V (role_of side.old) (length value.now) why × (side.new ≡ side.old)) (record { status = result; reply = reply.new }) }
 {
     let made = side.try_put(key, value);
-    Told::try_put(made).tell(reply)
+    tell::try_put(made, reply)
 }
 
 /// Tries up to so many times for the turn, to put the key.
@@ -156,7 +157,7 @@ pub(crate) fn put_within<const V: usize>(
         (λ why. IsMisuse HasTurns V (role_of side.old) (length value.now) why × (side.new ≡ side.old)) (record { status = result; reply = reply.new }) }
 {
     let made = side.put_within(tries, key, value);
-    Told::try_put(made).tell(reply)
+    tell::try_put(made, reply)
 }
 
 /// Tries once for the turn, to put the key anew on a condition.
@@ -172,7 +173,7 @@ pub(crate) fn try_put_if<const V: usize>(
         (λ why. IsMisuse HasTurns V (role_of side.old) (length value.now) why × (side.new ≡ side.old)) (record { status = result; reply = reply.new }) }
 {
     let made = side.try_put_if(key, since, value);
-    Told::try_put_if(made).tell(reply)
+    tell::try_put_if(made, reply)
 }
 
 /// Tries once for the turn, to put the key if it is absent.
@@ -187,7 +188,7 @@ pub(crate) fn try_put_if_absent<const V: usize>(
         (λ why. IsMisuse HasTurns V (role_of side.old) (length value.now) why × (side.new ≡ side.old)) (record { status = result; reply = reply.new }) }
 {
     let made = side.try_put_if_absent(key, value);
-    Told::try_put_if_absent(made).tell(reply)
+    tell::try_put_if_absent(made, reply)
 }
 
 /// Tries once for the turn, to take the key out.
@@ -197,5 +198,5 @@ pub(crate) fn try_remove<const V: usize>(side: &mut Side<V>, key: u64, reply: &m
         (λ why. IsMisuse HasTurns V (role_of side.old) V why × (side.new ≡ side.old)) (record { status = result; reply = reply.new }) }
 {
     let made = side.try_remove(key);
-    Told::try_removal(made).tell(reply)
+    tell::try_removal(made, reply)
 }

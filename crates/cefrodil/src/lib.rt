@@ -18,6 +18,7 @@ mod sharding;
 pub mod slot;
 mod status;
 mod taking;
+mod tell;
 mod told;
 mod told_taken;
 mod unboxed;

@@ -1,10 +1,10 @@
 //! What a call tells C: a status, and the numbers of a reply.
-ghost use Rattle.std.specs.Prelude.{◌≡◌};
-ghost use Rattle.cefrodil.specs.Tellings.{closed_told, done_told, gone_told, lookup_told, misuse_told, not_absent_told, not_put_if_told, not_put_told, plain, put_if_absent_told, put_if_told, put_told, removal_told, told_at, try_put_if_absent_told, try_put_if_told, told_of, try_put_told, try_removal_told};
-ghost use Rattle.mc_plan.specs.declared.answer.Put.TheVariants.{Renewed};
+ghost use Rattle.std.specs.Prelude.{◌≡◌, None, Some};
+ghost use Rattle.cefrodil.specs.Tellings.{closed_told, done_told, gone_told, lookup_told, misuse_told, not_absent_told, not_put_if_told, not_put_told, plain, told_at, told_of};
+ghost use Rattle.mc_plan.specs.declared.answer.Put.TheVariants.{Renewed, Stored};
 
 use crate::status;
-use mc_door::{AbsentError, DeskError, IfError, Looked, Misuse, Put, PutError, Remove, Spent};
+use mc_door::{AbsentError, IfError, Looked, Misuse, Put, PutError, Remove};
 
 /// No change of a key is told.
 const NOTHING: u32 = 0;
@@ -103,27 +103,46 @@ impl Told {
     }
 
     #[inline(always)]
+    pub(crate) fn renewed(at: u64) -> Told
+        ensures { result ≡ done_told (Renewed at) }
+    {
+        let mut told = Told::at(status::OK, at);
+        told.reply.put = RENEWED;
+        told
+    }
+
+    #[inline(always)]
+    pub(crate) fn stored(at: u64, moves: u8) -> Told
+        ensures { result ≡ done_told (Stored at moves None) }
+    {
+        let mut told = Told::at(status::OK, at);
+        told.reply.moves = u32::from(moves);
+        told.reply.put = STORED;
+        told
+    }
+
+    #[inline(always)]
+    pub(crate) fn evicted(at: u64, moves: u8, key: u64) -> Told
+        ensures { result ≡ done_told (Stored at moves (Some key)) }
+    {
+        let mut told = Told::at(status::OK, at);
+        told.reply.moves = u32::from(moves);
+        told.reply.evicted = key;
+        told.reply.put = EVICTED;
+        told
+    }
+
+    #[inline(always)]
     pub(crate) fn done(put: Put) -> Told
         ensures { result ≡ done_told put }
     {
-        let (at, moves, evicted) = match put {
-            Put::Renewed { at } => {
-                let mut told = Told::at(status::OK, at);
-                told.reply.put = RENEWED;
-                return told;
-            }
-            Put::Stored { at, moves, evicted } => (at, moves, evicted),
-        };
-        let mut told = Told::at(status::OK, at);
-        told.reply.moves = u32::from(moves);
-        match evicted {
-            None => told.reply.put = STORED,
-            Some(key) => {
-                told.reply.put = EVICTED;
-                told.reply.evicted = key;
-            }
+        match put {
+            Put::Renewed { at } => Told::renewed(at),
+            Put::Stored { at, moves, evicted } => match evicted {
+                None => Told::stored(at, moves),
+                Some(key) => Told::evicted(at, moves, key),
+            },
         }
-        told
     }
 
     #[inline(always)]
@@ -134,16 +153,6 @@ impl Told {
             PutError::NoPath => Told::plain(status::NO_PATH),
             PutError::AllRecent => Told::plain(status::ALL_RECENT),
             PutError::Spent => Told::plain(status::SPENT),
-        }
-    }
-
-    #[inline(always)]
-    fn put_answer(answer: Result<Put, PutError>) -> Told
-        ensures { result ≡ put_told answer }
-    {
-        match answer {
-            Ok(put) => Told::done(put),
-            Err(why) => Told::not_put(why),
         }
     }
 
@@ -162,26 +171,8 @@ impl Told {
         }
     }
 
-    // A put on a condition always finds its key.
     #[inline(always)]
-    pub(crate) fn done_if(at: u64) -> Told
-        ensures { result ≡ done_told (Renewed at) }
-    {
-        Told::done(Put::Renewed { at })
-    }
-
-    #[inline(always)]
-    fn put_if_answer(answer: Result<u64, IfError>) -> Told
-        ensures { result ≡ put_if_told answer }
-    {
-        match answer {
-            Ok(at) => Told::done_if(at),
-            Err(why) => Told::not_put_if(why),
-        }
-    }
-
-    #[inline(always)]
-    fn not_absent(why: AbsentError) -> Told
+    pub(crate) fn not_absent(why: AbsentError) -> Told
         ensures { result ≡ not_absent_told why }
     {
         match why {
@@ -195,17 +186,7 @@ impl Told {
     }
 
     #[inline(always)]
-    fn put_if_absent_answer(answer: Result<Put, AbsentError>) -> Told
-        ensures { result ≡ put_if_absent_told answer }
-    {
-        match answer {
-            Ok(put) => Told::done(put),
-            Err(why) => Told::not_absent(why),
-        }
-    }
-
-    #[inline(always)]
-    fn gone(answer: Remove) -> Told
+    pub(crate) fn gone(answer: Remove) -> Told
         ensures { result ≡ gone_told answer }
     {
         match answer {
@@ -214,64 +195,6 @@ impl Told {
         }
     }
 
-    #[inline(always)]
-    fn removal_answer(answer: Result<Remove, Spent>) -> Told
-        ensures { result ≡ removal_told answer }
-    {
-        match answer {
-            Ok(done) => Told::gone(done),
-            Err(Spent) => Told::plain(status::SPENT),
-        }
-    }
-}
-
-impl Told {
-    #[inline(always)]
-    fn try_put_answer(answer: Result<Put, DeskError<PutError>>) -> Told
-        ensures { result ≡ try_put_told answer }
-    {
-        match answer {
-            Ok(put) => Told::done(put),
-            Err(DeskError::Held) => Told::plain(status::HELD),
-            Err(DeskError::Call(why)) => Told::not_put(why),
-        }
-    }
-
-    #[inline(always)]
-    fn try_put_if_answer(answer: Result<u64, DeskError<IfError>>) -> Told
-        ensures { result ≡ try_put_if_told answer }
-    {
-        match answer {
-            Ok(at) => Told::done_if(at),
-            Err(DeskError::Held) => Told::plain(status::HELD),
-            Err(DeskError::Call(why)) => Told::not_put_if(why),
-        }
-    }
-
-    #[inline(always)]
-    fn try_put_if_absent_answer(answer: Result<Put, DeskError<AbsentError>>) -> Told
-        ensures { result ≡ try_put_if_absent_told answer }
-    {
-        match answer {
-            Ok(put) => Told::done(put),
-            Err(DeskError::Held) => Told::plain(status::HELD),
-            Err(DeskError::Call(why)) => Told::not_absent(why),
-        }
-    }
-
-    #[inline(always)]
-    fn try_removal_answer(answer: Result<Remove, DeskError<Spent>>) -> Told
-        ensures { result ≡ try_removal_told answer }
-    {
-        match answer {
-            Ok(done) => Told::gone(done),
-            Err(DeskError::Held) => Told::plain(status::HELD),
-            Err(DeskError::Call(Spent)) => Told::plain(status::SPENT),
-        }
-    }
-}
-
-impl Told {
     /// Writes the reply, and gives the status.
     #[inline(always)]
     pub(crate) fn tell(self, reply: &mut RawReply) -> u32
@@ -287,88 +210,6 @@ impl Told {
     {
         match made {
             Ok(answer) => Told::looked_answer(answer),
-            Err(why) => Told::misuse(why),
-        }
-    }
-
-    #[inline(always)]
-    pub(crate) fn put(made: Result<Result<Put, PutError>, Misuse>) -> Told
-        ensures { result ≡ told_of put_told made }
-    {
-        match made {
-            Ok(answer) => Told::put_answer(answer),
-            Err(why) => Told::misuse(why),
-        }
-    }
-
-    #[inline(always)]
-    pub(crate) fn put_if(made: Result<Result<u64, IfError>, Misuse>) -> Told
-        ensures { result ≡ told_of put_if_told made }
-    {
-        match made {
-            Ok(answer) => Told::put_if_answer(answer),
-            Err(why) => Told::misuse(why),
-        }
-    }
-
-    #[inline(always)]
-    pub(crate) fn put_if_absent(made: Result<Result<Put, AbsentError>, Misuse>) -> Told
-        ensures { result ≡ told_of put_if_absent_told made }
-    {
-        match made {
-            Ok(answer) => Told::put_if_absent_answer(answer),
-            Err(why) => Told::misuse(why),
-        }
-    }
-
-    #[inline(always)]
-    pub(crate) fn removal(made: Result<Result<Remove, Spent>, Misuse>) -> Told
-        ensures { result ≡ told_of removal_told made }
-    {
-        match made {
-            Ok(answer) => Told::removal_answer(answer),
-            Err(why) => Told::misuse(why),
-        }
-    }
-
-    #[inline(always)]
-    pub(crate) fn try_put(made: Result<Result<Put, DeskError<PutError>>, Misuse>) -> Told
-        ensures { result ≡ told_of try_put_told made }
-    {
-        match made {
-            Ok(answer) => Told::try_put_answer(answer),
-            Err(why) => Told::misuse(why),
-        }
-    }
-
-    #[inline(always)]
-    pub(crate) fn try_put_if(made: Result<Result<u64, DeskError<IfError>>, Misuse>) -> Told
-        ensures { result ≡ told_of try_put_if_told made }
-    {
-        match made {
-            Ok(answer) => Told::try_put_if_answer(answer),
-            Err(why) => Told::misuse(why),
-        }
-    }
-
-    #[inline(always)]
-    pub(crate) fn try_put_if_absent(
-        made: Result<Result<Put, DeskError<AbsentError>>, Misuse>,
-    ) -> Told
-        ensures { result ≡ told_of try_put_if_absent_told made }
-    {
-        match made {
-            Ok(answer) => Told::try_put_if_absent_answer(answer),
-            Err(why) => Told::misuse(why),
-        }
-    }
-
-    #[inline(always)]
-    pub(crate) fn try_removal(made: Result<Result<Remove, DeskError<Spent>>, Misuse>) -> Told
-        ensures { result ≡ told_of try_removal_told made }
-    {
-        match made {
-            Ok(answer) => Told::try_removal_answer(answer),
             Err(why) => Told::misuse(why),
         }
     }

@@ -34,7 +34,7 @@ impl Told {
         ensures { result ≡ swap_if_told answer.entry }
     {
         match answer {
-            Ok(replaced) => Told::done_if(replaced.at).with_stamp(Some(replaced.old)),
+            Ok(replaced) => Told::renewed(replaced.at).with_stamp(Some(replaced.old)),
             Err(DeskError::Held) => Told::plain(status::HELD),
             Err(DeskError::Call(why)) => Told::not_put_if(why),
         }
