@@ -15,6 +15,7 @@ impl<'a, const V: usize> Pen<'a, V> {
     ghost use Rattle.mc_writer.specs.Inside.Pens.{IsDue, HasMade};
 
     // Writes the words of a value. The items begin at this place.
+    #[inline(always)]
     fn write_value(&mut self, items: usize, i: u32, value: &[u64; V])
         requires width { IsWidth V }
         requires items { (items ≡ item_place V self.old.cells.now.layout.shape 0 0) × (items < 2 ^ 40) }
@@ -26,8 +27,8 @@ impl<'a, const V: usize> Pen<'a, V> {
         }
     }
 
-    // Writes a value, and behind it the stamp: the moment that the put is to have. The items begin at this place.
-    #[inline(always)]
+    // Writes a value, and behind it the stamp: the moment that the put is to have. The items begin at this place. The compiler decides
+    // whether it is a call: compiled into each renewal, it takes more instructions.
     fn write_payload(&mut self, items: usize, i: u32, value: &[u64; V], at: u64)
         requires width { IsWidth V }
         requires items { (items ≡ item_place V self.old.cells.now.layout.shape 0 0) × (items < 2 ^ 40) }
@@ -77,7 +78,9 @@ impl<'a, const V: usize> Pen<'a, V> {
         // old key finds another key there, and whoever looks for the new one looks again.
         let running = self.open_deed(key, parts, Deed::Fill);
         self.write_item_from(items, i, 0, key);
-        self.write_payload(items, i, value, at);
+        // Not `write_payload`: a call would save what a fill still needs.
+        self.write_value(items, i, value);
+        self.write_item_from(items, i, V as u8 + 1, at);
         self.write_slot(place, named);
         // The moment before the version: a lookup that finds the version even reads this moment or a later one.
         self.count_moment();
