@@ -1,5 +1,4 @@
-//! What a write tells C, written to its reply. Each form of an answer writes the reply by itself, and refusals do so out of line: then a
-//! call that did what it was asked for keeps fewer numbers at once.
+//! Writes a write's answer to C's reply, each form of it by itself. Misuse and a refused put are out of line, which saves registers.
 ghost use Rattle.std.specs.Prelude.{◌≡◌};
 ghost use Rattle.cefrodil.specs.Tellings.{done_told, misuse_told, not_put_told, put_if_absent_told, put_if_told, put_told, removal_told, told_of, try_put_if_absent_told, try_put_if_told, try_put_told, try_removal_told};
 

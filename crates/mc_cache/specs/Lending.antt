@@ -1,4 +1,4 @@
--- The rule of a desk's word, and what a seat has that took the writer.
+-- The rule of a desk's word, and what a seat has after it took the writer.
 use Rattle.std.specs.Prelude.{ℕ, ◌≡◌, ◌<◌, [], ◌∷◌, length, slice_index}
 use mathlib.Core.Option.{some}
 use lib.ListN.{get_elem?}

@@ -1,4 +1,4 @@
-//! Where the writer lies between turns. Whoever wins the word borrows the writer where it lies, so no turn moves it.
+//! The place of the writer at a desk. Whoever wins the desk's word borrows the writer in place, so no turn moves it.
 ghost use Rattle.std.specs.Prelude.{◌≡◌, ⊤, IfSome};
 ghost use Rattle.mc_cache.specs.Lending.{HasTaken, IsKept};
 
@@ -9,12 +9,13 @@ use std::snapshot::Snapshot;
 /// The word while the writer is there.
 pub(crate) const FREE: u64 = 0;
 
+// The word while a turn has the writer.
 const LENT: u64 = 1;
 
-/// Only the first word is used. The others keep its cache line from the writer and from other desks.
+/// Only the first word is used. The others fill the rest of its cache line, so the words of two desks never share one.
 pub(crate) const WORDS: usize = 16;
 
-/// The rule of the word: while it is 0 the writer is there, at rest, and it is that of the table which the key names.
+/// The rule of the desk's word: while it is 0, the writer is there and at rest. It is the writer of the key's table.
 pub(crate) struct LiesThere;
 
 impl<const V: usize> TableRule<Writer<V>, Snapshot<Writer<V>>, Snapshot<Writer<V>>> for LiesThere {
@@ -23,28 +24,28 @@ impl<const V: usize> TableRule<Writer<V>, Snapshot<Writer<V>>, Snapshot<Writer<V
     ghost first = { λ key. key };
 }
 
-// A look at the word, by a new seat.
+// A new seat loads the word.
 struct Comes;
 
 impl<const V: usize> Play<Writer<V>, Snapshot<Writer<V>>> for Comes {
     ghost then = { λ step before found after. after.0 ≡ before.0 };
 }
 
-// A try to take the writer.
+// A seat tries to take the writer.
 struct Takes;
 
 impl<const V: usize> Play<Writer<V>, Snapshot<Writer<V>>> for Takes {
     ghost then = { λ step before found after. found ≡ 0 → (after.0 ≡ before.0) × HasTaken V after };
 }
 
-// The writer is given back.
+// A seat gives the writer back.
 struct Gives;
 
 impl<const V: usize> Play<Writer<V>, Snapshot<Writer<V>>> for Gives {
     ghost then = { λ step before found after. ⊤ };
 }
 
-/// Takes the writer, if it is there and the try wins. If the word says that it is not there, the word is left alone.
+/// Takes the writer if it is there and the try wins. A word that says it is lent is not written.
 #[inline(always)]
 pub(crate) fn take<const V: usize>(
     shared: &Shared<Writer<V>, Snapshot<Writer<V>>, Snapshot<Writer<V>>, LiesThere>,

@@ -1,8 +1,8 @@
 //! The cache: one writer and many readers in threads, without locks.
 //!
 //! Lend the `Cache` to every thread. Its `Writer` and each `Reader` belong to one thread at a time. If several threads write
-//! now and then, put the writer on a `Desk`, and they take turns. Between `open` and `Cache::close` only calls that list entries
-//! allocate, and none waits.
+//! now and then, put the writer on a `Desk`, and they take turns. Between `open` and `Cache::close` only
+//! `Desk::new` and calls that list entries allocate. No call waits.
 //!
 //! The contracts of the writer's calls speak of its record, the list of its acts. Those of a reader's calls say that each
 //! answer is true of the history that the reader has seen. The clauses `plain` say both in histories alone.

@@ -101,8 +101,9 @@ impl<const V: usize> Writer<V> {
         told
     }
 
-    /// Puts the key as `put` does, but evicts no other key. After an `Err` the map is unchanged. The first reason that applies: `Spent`
-    /// if the limit on version changes could be exceeded, `NoItem` if every item is in use, `NoPath` if no path leads to an empty slot.
+    /// Puts the key as `put` does, but evicts no other key. After an `Err` the map is unchanged. Returns the first that applies:
+    /// `Spent` if the limit on version changes could be exceeded, `NoPath` if no path of at most `depth` moves leads to an empty
+    /// slot, `NoItem` if every item is in use.
     pub fn put_kept(&mut self, cache: &Cache<V>, key: u64, value: [u64; V]) -> Result<Put, Why>
         requires of { self.old.of ≡ cache.now }
         ensures called { HasCalled V cache.now.layout.shape (KeptCall key value.entry) self.old self.new (answer.Kept result) }

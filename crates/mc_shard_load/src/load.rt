@@ -71,7 +71,7 @@ pub fn run_shards<const V: usize, R: Threads + Sync, G: Gate>(
 /// and each word of a value that it puts names the call and the writer. A reader whose lookup is `Busy` tries for the turn too. All
 /// room is made before a worker starts; between two calls a worker waits for nothing but the gate.
 ///
-/// Writer 0 is worker 0, and the others come behind the readers. With `n` writers there are at most `1023 - n` readers. Only tests show
+/// Writer 0 is worker 0, and the others follow the readers. With `n` writers there are at most `1023 - n` readers. Only tests show
 /// that the report's `wrong` is 0.
 /// Condition: a value has from 1 to 8 words.
 pub fn load_shards<const V: usize, R: Threads + Sync, G: Gate>(

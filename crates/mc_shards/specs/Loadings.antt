@@ -1,4 +1,4 @@
--- What shards hold that are opened with entries.
+-- What shards opened with entries hold.
 use Rattle.std.specs.Prelude.{ℕ, ◌≡◌, ◌+◌, ◌==◌, List, [], ◌∷◌, ◌++◌, All, EachIndex, Result, length, map, reverse, slice_index_or}
 use Rattle.std.specs.Map.{lookup}
 use Rattle.mc_words.specs.History.{IsLegal, value_held}
@@ -35,9 +35,8 @@ pub record HoldEntries (V : ℕ) (sh : Shape) (es : List (ℕ × List ℕ)) (hs 
 abbrev pub new_writers : List Opening → List WriterRecord
 new_writers tables = map (λ o. writer_record o [] []) tables
 
--- from these writers on, one of each shard, a whole call is made for each of the entries, one after the other in their order: a put that
--- takes no other key's item, by the writer of the key's shard. The entries that are not put are left, each with the first reason that
--- applies. The first entry has the index n
+-- from these writers on, one of each shard, each entry in order is one whole call: a put by the writer of the key's shard that evicts
+-- nothing. An entry that is not put is left, with the first reason that applies. The first entry has the index n
 abbrev pub ShardsLoad : (V : ℕ) → Shape → List WriterRecord → ℕ → List (ℕ × List ℕ) → List WriterRecord → List (ℕ × Why) → Type 0
 ShardsLoad V sh ws n [] ws' left = (ws' ≡ ws) × (left ≡ [])
 ShardsLoad V sh ws n (e ∷ es) ws' left =

@@ -1,4 +1,4 @@
-//! Shards are opened with entries.
+//! Opening shards with entries.
 ghost use Rattle.std.specs.Prelude.{ℕ, ◌≡◌, All, IfErr, IfOk, List, MatchResult, OnOk, [], length, map};
 ghost use Rattle.mc_words.specs.declared.history.Change.{Change};
 ghost use Rattle.mc_words.specs.Keys.{shard_of};
@@ -25,12 +25,13 @@ use std::alloc::Global;
 #[derive(Drop)]
 pub struct OpenedShards<const V: usize> {
     pub shards: Shards<V>,
+    /// As many as asked for, each with a reader of every shard.
     pub passes: Vec<Pass<V>>,
     /// The entries that were left out: the index of each, in order, and the reason.
     pub left: Vec<(usize, Why)>,
 }
 
-// Puts a key in its shard, as long as no other key has to go.
+// Puts a key in its shard. Evicts no key.
 fn put_one<const V: usize>(
     shape: Shape,
     caches: &Vec<Cache<V>>,
@@ -51,7 +52,7 @@ fn put_one<const V: usize>(
     writer.put_kept(&caches[n], key, value)
 }
 
-// Puts the entries in their order, and names those that are left.
+// Puts the entries in order, and lists those that are left out.
 fn load<const V: usize>(
     shape: Shape,
     caches: &Vec<Cache<V>>,
@@ -111,9 +112,10 @@ fn meet_all<const V: usize>(
 }
 
 /// Opens shards like `open_shards`, and puts these entries, in order, each in its key's shard. They are put as by `put`, but none evicts
-/// another: an entry that can't be put so is left out, and reported with the reason. A key that is listed twice is put twice.
+/// another. An entry that can't be put is left out, and reported with the reason. A key listed twice is put twice.
 /// Every pass has seen these puts, so its first lookup finds them.
-/// Returns the first error that applies, as `open_shards` does. After an error nothing leaks.
+/// Returns the first error that applies, as `open_shards` does; `NoMemory` also if the list of entries left out finds none. After an error
+/// nothing leaks.
 /// Condition: a value has from 1 to 8 words.
 pub fn open_shards_with<const V: usize>(
     alloc: Global,

@@ -14,7 +14,7 @@ pub enum LoadError {
     /// The gate refused a call of this worker. Of several workers it is the writer, or else the first reader.
     #[error("gate")]
     Gate { who: u32, call: u64 },
-    /// Only a load in turns returns this one and `Shards`.
+    /// Only a load in turns returns this or `Shards`.
     #[error("writers must be from 1 to 8")]
     Writers,
     #[error("shards must be a power of two from 1 to 256")]

@@ -1,4 +1,4 @@
--- Where the entry lies that gives way to a put: the acts that are due tell.
+-- Where the entry that gives way lies: the acts that are due say so.
 use Rattle.std.proofs.Common.{ℕ, ◌+◌, ◌<◌, ◌≤◌, List, [], ◌∷◌, ◌++◌, arith, length}
 use Rattle.mc_words.specs.Keys.{stripe_of}
 use Rattle.mc_words.specs.Places.{slot_number, version}
@@ -16,7 +16,7 @@ use Rattle.mc_plan.specs.Decisions.{renewal_acts}
 use Rattle.mc_plan.specs.Making.{as_made}
 use Rattle.mc_plan.specs.Plans.{evict_acts}
 
--- that the version becomes odd moves no key
+-- making the version odd moves no key
 stood : (V : ℕ) (sh : Shape) (w : List ℕ) (k e q i : ℕ) → IsShape sh → Stands V sh (with_bump sh w k) e q i → Stands V sh w e q i
 stood V sh w k e q i shape = (same-with_version V sh w (stripe_of sh k) (version w (stripe_of sh k) + 1) e (stripe_of-lt sh k shape)).back q i
 

@@ -32,7 +32,7 @@ pub struct Swapped<const V: usize> {
 impl<'a, const V: usize> Pen<'a, V> {
     ghost use Rattle.mc_writer.specs.Inside.Pens.{state_at};
 
-    /// The entry of the key that stands at the item. Condition: the words agree with some history, and no deed runs.
+    /// Reads the entry of a key from its item. Condition: the words agree with some history, and no deed runs.
     #[inline(always)]
     pub(crate) fn entry_at(&mut self, key: u64, item: u32) -> Entry<V>
         requires width { IsWidth V }
@@ -47,7 +47,7 @@ impl<'a, const V: usize> Pen<'a, V> {
         Entry { key, value, since }
     }
 
-    /// The entry of the key that stands in the slot. Condition: the words agree with some history, and no deed runs.
+    /// Reads the entry of a key from its slot. Condition: the words agree with some history, and no deed runs.
     #[inline(always)]
     pub(crate) fn entry_in(&mut self, key: u64, place: Place) -> Entry<V>
         requires width { IsWidth V }

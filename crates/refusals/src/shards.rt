@@ -1,4 +1,4 @@
-//! Shards that can't be opened with entries were never begun, and the entries are the caller's still.
+//! If opening shards with entries fails, nothing is kept and the caller still has the entries.
 ghost use Rattle.std.specs.Prelude.{All};
 ghost use Rattle.mc_shards.specs.Sharded.{ArePassOf};
 
@@ -7,7 +7,7 @@ use crate::seen::Seen;
 use mc_shards::{OpenError, OpenShardsError, OpenedShards, Reply, Shape, Why, open_shards_with};
 use std::alloc::Global;
 
-/// An entry of shard 1 among those of shard 0, for one of which no item is left.
+/// Three keys of shard 0, whose items are only two, and one of shard 1.
 const ENTRIES: [(u64, [u64; 1]); 4] = [(2, [12]), (1 << 48, [21]), (1, [11]), (3, [13])];
 
 // Opens two shards of two items with the entries, and looks one up.

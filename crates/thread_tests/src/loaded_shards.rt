@@ -7,7 +7,7 @@ use mc_shards::{
 };
 use std::test::Fail;
 
-/// Two items a shard, of which a key that is not mixed names its own.
+/// Two items per shard. Keys are not mixed, so their bits 48 and up choose the shard.
 const SMALL: Shape = Shape {
     buckets: 4,
     items: 2,
@@ -18,7 +18,7 @@ const SMALL: Shape = Shape {
     mix: Mix::Plain,
 };
 
-/// A key of shard 1. Keys of one digit are of shard 0.
+/// A key of shard 1. Small keys are in shard 0.
 const OTHER: u64 = 1 << 48;
 
 /// Key 1 is there twice. With keys 1 and 2 shard 0 is full.

@@ -7,8 +7,8 @@ ghost use Rattle.uses.specs.Reopened.{AreReopened};
 use mc_shards::{OpenedShards, Pass, Shape, Shards, open_shards_with};
 use std::alloc::Global;
 
-/// Closes the shards and opens others with their entries. If none is left out, no key is lost and none is made up. Nothing where a turn was
-/// held or memory ran out.
+/// Closes the shards and opens others with their entries. If no entry is left out, no key is lost and none is made up. `None` if a turn was
+/// held, memory ran out, or the new shape or number of shards was refused.
 pub fn reopen(
     alloc: Global,
     shards: Shards<1>,
