@@ -27,8 +27,8 @@ MANY = 32
 LARGEST = 3_774_873
 # Programs that have several contestants, or options of their own.
 PROGRAMS = {'cefrodil': ('mcbench',), 'many': ('mcbench', '--many', str(MANY)), 'shards16': ('mcbench', '--shards', '16'),
-            'shards64': ('mcbench', '--shards', '64'), 'twin': ('contest', 'twin'), 'dashmap': ('contest', 'dashmap'),
-            'locked': ('contest', 'locked')}
+            'shards64': ('mcbench', '--shards', '64'), 'door_many': ('door', '--many', str(MANY)), 'twin': ('contest', 'twin'),
+            'dashmap': ('contest', 'dashmap'), 'locked': ('contest', 'locked')}
 # Figures of which each contestant has its own, and how they are shown.
 OWN = {'load_factor': '{:.3f}', 'bytes_key': '{:.0f}'}
 
@@ -50,7 +50,8 @@ def lookups(workload, keys, huge=False, many=False):
     """The rows of one workload: key by key and, if asked, by calls for many."""
     label = {'half': 'half present'}.get(workload, workload)
     rows = [Row(f'{label}, {keys:,} keys', 'ns_lookup', options(workload, keys), huge=huge)]
-    return rows + [rows[0]._replace(label=f'the same, {MANY} keys per call', ours='many')] * many
+    names = tuple('door_many' if name == 'door' else name for name in ALL)
+    return rows + [rows[0]._replace(label=f'the same, {MANY} keys per call', names=names, ours='many')] * many
 
 
 def peers():
@@ -163,6 +164,8 @@ def shown(number, figure, own):
 
 
 def cell(told, row, name):
+    if name == 'door' and row.ours == 'many':
+        name = 'door_many'
     if name not in row.names:
         return '-'
     name = row.ours if name == 'cefrodil' else name

@@ -2,7 +2,8 @@
 //
 // A contestant is a class with: a constructor that takes how many keys there will be; `get` (whether the key is there, and
 // its value); `put` (false where it is refused); `slots` (where keys can stand, or 0); `enter`, `tick` and `leave`, which each
-// thread calls at its beginning, now and then, and at its end.
+// thread calls at its beginning, now and then, and at its end. With `--many N` readers call `get_many`, if the contestant has it:
+// lookups of N keys, whose values it writes and of which it returns how many are there.
 #pragma once
 #include <algorithm>
 #include <array>
@@ -19,8 +20,8 @@
 
 typedef std::array<uint64_t, 4> Value;
 
-// How many keys are looked up at most before anything is measured.
-enum { WARM = 1000000 };
+// How many keys are looked up at most before anything is measured, and by one call.
+enum { WARM = 1000000, MOST = 64 };
 
 // The finalizer of MurmurHash3, by which the table hashes.
 static inline uint64_t mix(uint64_t key) {
@@ -54,7 +55,7 @@ struct Draw {
 
 struct Options {
     std::string workload = "hit";
-    uint64_t readers = 1, writers = 0, keys = 1000, capacity = 1000, write_every = 1, seed = 1;
+    uint64_t readers = 1, writers = 0, keys = 1000, capacity = 1000, write_every = 1, seed = 1, many = 1;
     double seconds = 0.3;
 
     Options(int count, char **words) {
@@ -73,6 +74,7 @@ struct Options {
         if (name == "--capacity") return capacity;
         if (name == "--write-every") return write_every;
         if (name == "--seed") return seed;
+        if (name == "--many") return many;
         fprintf(stderr, "no option %s\n", name.c_str());
         exit(2);
     }
@@ -99,16 +101,35 @@ static inline double resident() {
     return 4096.0 * pages;
 }
 
+// Looks keys up, by one call if the contestant has one, and returns how many are there.
+template <class C> auto get_many(C &map, const uint64_t *keys, Value *values, size_t many, int) -> decltype(map.get_many(keys, values, many)) {
+    return map.get_many(keys, values, many);
+}
+
+template <class C> size_t get_many(C &map, const uint64_t *keys, Value *values, size_t many, long) {
+    size_t hits = 0;
+    for (size_t n = 0; n < many; n++) hits += map.get(keys[n], values[n]);
+    return hits;
+}
+
 struct alignas(128) Tally {
     uint64_t lookups = 0, hits = 0, torn = 0, writes = 0, refused = 0;
     double seconds = 0;
+
+    void check(const Value &value) { torn += ((value[0] ^ value[1]) | (value[0] ^ value[2]) | (value[0] ^ value[3])) != 0; }
 
     template <class C> void look(C &map, uint64_t key) {
         // Numbers are added, with no branch on the answer, as `mcbench` counts.
         Value value{};
         lookups++;
         hits += map.get(key, value);
-        torn += ((value[0] ^ value[1]) | (value[0] ^ value[2]) | (value[0] ^ value[3])) != 0;
+        check(value);
+    }
+
+    template <class C> void look_many(C &map, const uint64_t *keys, Value *values, size_t many) {
+        lookups += many;
+        hits += get_many(map, keys, values, many, 0);
+        for (size_t n = 0; n < many; n++) check(values[n]);
     }
 
     template <class C> void put(C &map, uint64_t key, uint64_t word) {
@@ -123,10 +144,17 @@ template <class C> Tally work(C &map, const Options &options, uint64_t seed, boo
     uint64_t numbers = options.workload == "half" ? 2 * options.keys : options.keys;
     Draw draw(options.seed * 1000 + seed);
     Tally tally;
+    uint64_t keys[MOST], many = std::min<uint64_t>(options.many, MOST);
+    Value values[MOST] = {};
     map.enter();
     waiting--;
     while (waiting) __builtin_ia32_pause();
     double began = now(options.alone());
+    while (!puts && many > 1 && !over) {
+        for (uint64_t n = 0; n < many; n++) keys[n] = key_of(first + draw.below(numbers));
+        tally.look_many(map, keys, values, many);
+        map.tick();
+    }
     while (!over) {
         for (uint64_t n = 0; n < 64; n++) {
             uint64_t key = key_of(first + draw.below(numbers));
