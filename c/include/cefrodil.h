@@ -247,7 +247,8 @@ CEFRODIL_CHECKED cefrodil_status cefrodil_take_out(cefrodil_handle *handle, uint
 /* Ends a pass's turns: its handle becomes a reader's. The last pass of a desk gets the writer back, so a program can go on with one
  * writer. For that every pass of the desk leaves, in any order and in any thread, or is closed.
  * OK: this was the last pass, and `writer` is open. NOT_LAST: other passes are at the desk, and `writer` is empty.
- * Otherwise nothing was done. IN_USE: `writer` was open before. CLOSED; KIND: also by a pass of shards; NO_MEMORY. */
+ * Otherwise nothing was done: the first that applies of IN_USE (`writer` was open before), CLOSED, NO_MEMORY, KIND (also by a pass of
+ * shards). */
 CEFRODIL_CHECKED cefrodil_status cefrodil_leave_desk(cefrodil_handle *pass, cefrodil_handle *writer);
 
 /* The number of changes to the table, which is the `at` of a lookup made now; the number of keys in it; the number of keys that it

@@ -206,9 +206,8 @@ impl Handle {
         let mut reply = RawReply::default();
         let (value_words, old_words) = (value.len(), old.len());
         // SAFETY: as in `get`; the lengths of the two arrays are passed with them.
-        let status = unsafe {
-            raw::cefrodil_swap(&mut self.0, key, value.as_ptr(), value_words, old.as_mut_ptr(), old_words, &mut reply)
-        };
+        let status =
+            unsafe { raw::cefrodil_swap(&mut self.0, key, value.as_ptr(), value_words, old.as_mut_ptr(), old_words, &mut reply) };
         (status, reply)
     }
 

@@ -1,6 +1,6 @@
 //! A program keeps objects behind the cache: the value of a key is the number of its object. Each object that it makes is in the cache, or was
 //! returned to be dropped, and none twice.
-use cefrodil::{Cache, Desk, Entry, Pass, PutIfError, Shape, Shards, Take, TurnError, Writer};
+use cefrodil::{Cache, Desk, Entry, PutIfError, Shape, Shards, Take, TurnError};
 
 const OBJECTS: u64 = 1_000;
 const KEYS: u64 = 300;
@@ -14,43 +14,33 @@ fn each_once(mut returned: Vec<u64>) {
     assert_eq!(returned, (0..OBJECTS).collect::<Vec<_>>());
 }
 
-fn keep_by_writer(writer: &mut Writer<1>) -> Vec<u64> {
-    let mut returned = Vec::new();
-    for object in 0..OBJECTS {
-        let swapped = writer.swap(key_of(object), &[object]).expect("there is room");
-        returned.extend(swapped.old.map(|old| old.value[0]));
-    }
-    for key in 0..KEYS {
-        if let Take::Taken { old, .. } = writer.take(key).expect("the limit is far") {
-            returned.push(old.value[0]);
+// Keeps the objects by the two calls of a writer or a pass. Gives those that were returned.
+macro_rules! keep {
+    ($keeper:expr, $swap:ident, $take:ident) => {{
+        let mut returned = Vec::new();
+        for object in 0..OBJECTS {
+            let swapped = $keeper.$swap(key_of(object), &[object]).expect("there is room, and nobody else has the turn");
+            returned.extend(swapped.old.map(|old| old.value[0]));
         }
-    }
-    returned
-}
-
-fn keep_by_pass(pass: &mut Pass<1>) -> Vec<u64> {
-    let mut returned = Vec::new();
-    for object in 0..OBJECTS {
-        let swapped = pass.try_swap(key_of(object), &[object]).expect("nobody else has the turn");
-        returned.extend(swapped.old.map(|old| old.value[0]));
-    }
-    for key in 0..KEYS {
-        if let Take::Taken { old, .. } = pass.try_take(key).expect("nobody else has the turn") {
-            returned.push(old.value[0]);
+        for key in 0..KEYS {
+            if let Take::Taken { old, .. } = $keeper.$take(key).expect("the limit is far, and nobody else has the turn") {
+                returned.push(old.value[0]);
+            }
         }
-    }
-    returned
+        returned
+    }};
 }
 
 #[test]
 fn no_object_is_lost() {
     let shape = Shape::for_items(100).unwrap();
     let (mut writer, _readers) = Cache::<1>::open(&shape, 1).unwrap();
-    each_once(keep_by_writer(&mut writer));
+    each_once(keep!(writer, swap, take));
     let desk = Desk::<1>::open(&shape, 1).unwrap();
-    each_once(keep_by_pass(&mut desk.pass().unwrap()));
+    let mut pass = desk.pass().unwrap();
+    each_once(keep!(pass, try_swap, try_take));
     let mut passes = Shards::<1>::open(&Shape::for_shards(100, 4).unwrap(), 4, 1).unwrap();
-    each_once(keep_by_pass(&mut passes[0]));
+    each_once(keep!(passes[0], try_swap, try_take));
 }
 
 #[test]
