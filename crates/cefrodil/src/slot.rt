@@ -61,7 +61,7 @@ impl Slot {
     }
 }
 
-// A call by a handle is made with what lies behind it, where it lies. The call is told, or that the handle is closed.
+// Makes a call with what is behind the handle, in place. If the handle is closed, the reply says that instead.
 macro_rules! told_of_handle {
     ($slot:ident, $reply:ident, $held:ident => $status:expr) => {{
         if !$slot.live {

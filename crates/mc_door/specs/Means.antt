@@ -23,7 +23,7 @@ use Rattle.mc_door.specs.Looks.{reply_of, LeavesUnlessFound}
 use Rattle.mc_door.specs.AtShards.{IsAtShard}
 use Rattle.mc_door.specs.Roles.{Role, Writes, Reads, Passes, Shares, Idle}
 
--- every side looks up. No side is always busy
+-- every side looks up; `Idle` always answers `Busy`
 abbrev pub CanLook : Role → Type 0
 CanLook role = Unit {0}
 

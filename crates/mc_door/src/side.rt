@@ -27,7 +27,7 @@ pub enum Side<const V: usize> {
     Reader(ReaderSide<V>),
     Pass(PassSide<V>),
     Shard(ShardSide<V>),
-    /// None: it stands for a side that a call has in hand.
+    /// No side. It fills the place of one that a call has taken out, or has not put in yet.
     Nothing,
 }
 
