@@ -32,19 +32,6 @@ loaded_more V sh start before after es n k v left told index so called =
       loads_more V sh s 0 n es k v so.0 called.made so.1 left told so.3 (omega (arith, index)) a,
     )
 
--- one put makes its change of the history
-pub kept_history : (V : ℕ) (sh : Shape) (before after : WriterRecord) (k : ℕ) (v : List ℕ) (told : Result Put Why) → before.of.layout.shape ≡ sh → HasCalled V sh (KeptCall k v) before after (answer.Kept told) → history V after ≡ history V before ++ changes_by k v told
-unfolding history
-kept_history V sh before after k v told shape called =
-    let s = state_of V sh before.acts in
-    let one : Loads V sh s 0 ((k, v) ∷ []) called.made (changes_by k v told) (left_by 0 told) =
-    loads_more V sh s 0 0 [] k v [] called.made [] [] told (loads_none V sh s 0) (omega arith) called.answered in
-    let here : after.of.layout.shape ≡ sh = ap (λ (o : Opening). o.layout.shape) called.of ∙ shape in
-    ap (λ (z : Shape). (state_of V z after.acts).history) here
-    ∙ ap (λ (t : State V). t.history) (ap (state_of V sh) called.acts ∙ state_append V sh before.acts called.made)
-    ∙ loads_history V sh s 0 ((k, v) ∷ []) called.made (changes_by k v told) (left_by 0 told) one
-    ∙ ap (λ (z : Shape). (state_of V z before.acts).history ++ changes_by k v told) (sym shape)
-
 -- a new table has no history
 opening_new : (V : ℕ) (sh : Shape) → (opening V sh).history ≡ []
 unfolding opening

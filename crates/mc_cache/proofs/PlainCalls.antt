@@ -14,8 +14,9 @@ use Rattle.mc_theory.proofs.Lists.Histories.{history_all}
 use Rattle.mc_theory.specs.Lists.{IsLawful, Made, after_all, state_of}
 use Rattle.mc_theory.specs.Plain.{IsBetween}
 use Rattle.mc_theory.specs.States.{State, opening}
-use Rattle.mc_plan.specs.Calls.{IfAnswers, PutAnswers, RemoveAnswers}
-use Rattle.mc_plan.specs.WholeCalls.{PutCall, PutIfCall, RemoveCall, quiet_of}
+use Rattle.mc_plan.specs.Calls.{IfAnswers, KeptAnswers, PutAnswers, RemoveAnswers}
+use Rattle.mc_plan.specs.Loads.{changes_by}
+use Rattle.mc_plan.specs.WholeCalls.{KeptCall, PutCall, PutIfCall, RemoveCall, quiet_of}
 use Rattle.mc_plan.specs.declared.answer.Answer.TheVariants as answer
 use Rattle.mc_plan.specs.declared.answer.AbsentError.{AbsentError}
 use Rattle.mc_plan.specs.declared.answer.AbsentError.TheVariants as absent
@@ -28,6 +29,8 @@ use Rattle.mc_plan.specs.declared.answer.PutError.TheVariants.{NoPath, AllRecent
 use Rattle.mc_plan.specs.declared.answer.Remove.{Remove}
 use Rattle.mc_plan.specs.declared.answer.Remove.TheVariants.{Removed, NotThere}
 use Rattle.mc_plan.specs.declared.answer.Spent.{Spent as RemoveSpent}
+use Rattle.mc_plan.specs.declared.answer.Why.{Why}
+use Rattle.mc_plan.specs.declared.answer.Why.TheVariants as left
 use Rattle.mc_words.specs.Answers.{Quiet}
 use Rattle.mc_shared.specs.Records.{IsNewReader, Opening, ReaderRecord, WriterRecord}
 use Rattle.mc_shared.specs.Views.{IsFrontOf, with_bit}
@@ -49,7 +52,7 @@ use Rattle.mc_shared.specs.declared.layout.Layout.{Layout}
 use Rattle.mc_writer.specs.declared.entry.Entry.{Entry}
 use Rattle.mc_writer.specs.declared.entry.Swapped.{Swapped}
 use Rattle.mc_cache.specs.Taking.{Holds, SwapMeans, giving_way, put_of, swap_answer}
-use Rattle.mc_cache.specs.Plain.{Begins, HasAnswered, HasMet, PutIfAbsentMeans, PutIfMeans, PutMeans, RemovalMeans, TellsNow, history, seen}
+use Rattle.mc_cache.specs.Plain.{Begins, HasAnswered, HasMet, PutIfAbsentMeans, PutIfMeans, PutMeans, RemovalMeans, TellsNow, history, moment_of, seen}
 
 -- ---- the states before a call and after it
 -- a put's key has the value after it, and the moment of the put behind it
@@ -95,6 +98,24 @@ removal_answer_means : (V : ℕ) (sh : Shape) (s t : State V) (k : ℕ) (told : 
 removal_answer_means V sh s t k (Ok (Removed at)) a = (a.present, a.grows.history, ap (λ (h : List (Change V)). map_value h k) a.grows.history ∙ held-remove s.history k, a.moment)
 removal_answer_means V sh s t k (Ok (NotThere at)) a = (a.absent, ap (λ (q : Quiet V). q.history) a.unchanged, a.moment)
 removal_answer_means V sh s t k (Err spent) a = ap (λ (q : Quiet V). q.history) a.1
+
+kept_changes : (V : ℕ) (sh : Shape) (s t : State V) (k : ℕ) (v : List ℕ) (told : Result Put Why) → KeptAnswers sh (quiet_of s) k v told (quiet_of t) → t.history ≡ s.history ++ changes_by k v told
+kept_changes V sh s t k v (Ok (Stored at moves None)) a = a.grows.history
+kept_changes V sh s t k v (Ok (Stored at moves (Some evicted))) a = absurd a
+kept_changes V sh s t k v (Ok (Renewed at)) a = a.grows.history
+kept_changes V sh s t k v (Err left.NoPath) a = ap (λ (q : Quiet V). q.history) a.unchanged ∙ sym (append-nil s.history)
+kept_changes V sh s t k v (Err left.NoItem) a = ap (λ (q : Quiet V). q.history) a.unchanged ∙ sym (append-nil s.history)
+kept_changes V sh s t k v (Err left.Spent) a = ap (λ (q : Quiet V). q.history) a.1 ∙ sym (append-nil s.history)
+
+-- a refused call leaves the history
+pub refused_if : (V : ℕ) (h h' : List (Change V)) (k since : ℕ) (v : List ℕ) (why : IfError) → PutIfMeans V h h' k since v (Err why) → h' ≡ h
+refused_if V h h' k since v why.Spent m = m
+refused_if V h h' k since v (why.NotThere at) m = m.1
+refused_if V h h' k since v (why.Changed stands) m = m.2
+
+pub refused_if_absent : (V : ℕ) (h h' : List (Change V)) (k : ℕ) (v : List ℕ) (why : AbsentError) → PutIfAbsentMeans V h h' k v (Err why) → h' ≡ h
+refused_if_absent V h h' k v (absent.Put why) m = m.1
+refused_if_absent V h h' k v (absent.Present since) m = m.1
 
 -- ---- the histories of records
 -- the history of a record, and of one with these acts more
@@ -161,6 +182,18 @@ module _ (V : ℕ) (o cells : Opening) (self seat : WriterRecord) (table : cells
   put_if_absent_means after k v (Err (absent.Put refused)) h = (held_now k None h.absent, put_means after k v (Err refused) h.called)
   put_if_absent_means after k v (Err (absent.Present since)) h =
       ((h.value, held_now k (Some (h.value ++ since ∷ [])) h.got.replies.0, h.size), history_kept after k (Found h.value h.at since) h.got ∙ sym history_before)
+
+  pub kept_means : (after : WriterRecord) (k : ℕ) (v : List ℕ) (told : Result Put Why) → HasCalled V cells.layout.shape (KeptCall k v) seat after (answer.Kept told) → history V after ≡ history V self ++ changes_by k v told
+  kept_means after k v told h = history_called after h.made h.of h.acts ∙ kept_changes V cells.layout.shape (state_of V cells.layout.shape seat.acts) (after_all cells.layout.shape (state_of V cells.layout.shape seat.acts) h.made) k v told h.answered.means
+      ∙ ap (λ (x : List (Change V)). x ++ changes_by k v told) (sym history_before)
+
+  pub kept_leaves : (after : WriterRecord) (k : ℕ) (v : List ℕ) (why : Why) → HasCalled V cells.layout.shape (KeptCall k v) seat after (answer.Kept (Err why)) → history V after ≡ history V self
+  kept_leaves after k v why h = kept_means after k v (Err why) h ∙ append-nil (history V self)
+
+  pub kept_at : (after : WriterRecord) (k : ℕ) (v : List ℕ) (told : Put) → HasCalled V cells.layout.shape (KeptCall k v) seat after (answer.Kept (Ok told)) → moment_of told ≡ length (history V after)
+  kept_at after k v (Stored at moves None) h = h.answered.means.moment ∙ sym (ap length (history_called after h.made h.of h.acts))
+  kept_at after k v (Stored at moves (Some evicted)) h = absurd h.answered.means
+  kept_at after k v (Renewed at) h = h.answered.means.moment ∙ sym (ap length (history_called after h.made h.of h.acts))
 
   pub entry_now : (k : ℕ) (entry : Option (Entry V)) → Holds (state_of V cells.layout.shape seat.acts).history k entry → Holds (history V self) k entry
   entry_now k entry = subst (λ (h : List (Change V)). Holds h k entry) (sym history_before)

@@ -7,9 +7,9 @@ ghost use Rattle.mc_plan.specs.WholeCalls.{PutCall, PutIfCall, RemoveCall};
 ghost use Rattle.mc_writer.specs.WriterCalls.{HasCalled};
 
 use crate::cache::Cache;
-use crate::writer::Writer;
+use crate::writer::{Writer, at};
 use mc_plan::{IfError, PutError, Remove, Spent};
-use mc_writer::{Entry, Swapped, entry_of, moment, swap};
+use mc_writer::{Entry, Swapped, entry_of, swap};
 
 /// What a put on a condition did: the moment of its change, and the key's earlier entry.
 #[derive(Clone, Copy, Debug, PartialEq, Eq)]
@@ -47,9 +47,13 @@ impl<const V: usize> Writer<V> {
         ensures plain { SwapMeans V (history V self.old) (history V self.new) key value.entry result }
         ensures fails { SwapFails cache.now.layout.shape (history V self.new) (version_changes V self.new) key result }
     {
-        let told = swap(&cache.cells, &mut self.seat, &mut self.books, key, &value);
-        self.moment = moment(&cache.cells, &mut self.seat);
-        told
+        match swap(&cache.cells, &mut self.seat, &mut self.books, key, &value) {
+            Ok(swapped) => {
+                self.moment = at(&swapped.put);
+                Ok(swapped)
+            }
+            Err(why) => Err(why),
+        }
     }
 
     /// Overwrites the key's value as `put_if` does, and returns the earlier entry.

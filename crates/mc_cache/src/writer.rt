@@ -5,7 +5,7 @@ ghost use Rattle.mc_theory.specs.Lists.{state_of};
 ghost use Rattle.mc_shared.specs.SeatFacts.{IsRun};
 ghost use Rattle.mc_cache.specs.Resting.{IsAtRest};
 ghost use Rattle.mc_cache.specs.Failing.{PutFails, PutIfAbsentFails, PutIfFails, RemovalFails, version_changes};
-ghost use Rattle.mc_cache.specs.Plain.{IsLegal, PutIfAbsentMeans, PutIfMeans, PutMeans, RemovalMeans, TellsNow, history};
+ghost use Rattle.mc_cache.specs.Plain.{IsLegal, PutIfAbsentMeans, PutIfMeans, PutMeans, RemovalMeans, TellsNow, history, moment_of};
 ghost use Rattle.mc_plan.specs.Loads.{changes_by};
 ghost use Rattle.mc_plan.specs.WholeCalls.{KeptCall, PutCall, PutIfCall, RemoveCall};
 ghost use Rattle.mc_plan.specs.declared.answer.Answer.TheVariants as answer;
@@ -15,7 +15,7 @@ use crate::cache::Cache;
 use mc_plan::{AbsentError, Books, IfError, Put, PutError, Remove, Spent, Why};
 use mc_shared::WriterSeat;
 use mc_words::Reply;
-use mc_writer::{get, moment, put, put_if, put_if_absent, put_kept, remove};
+use mc_writer::{get, put, put_if, put_if_absent, put_kept, remove};
 use std::marker::Model;
 
 /// The one writer of a cache. In contracts it is its record: the acts that it has made.
@@ -39,6 +39,17 @@ impl<const V: usize> Model for Writer<V> {
     ghost invariant = { λ w. IsRested V w.books w.seat × KeepsMoment V w.seat w.moment };
 }
 
+/// The moment of a put's change.
+#[inline(always)]
+pub(crate) fn at(done: &Put) -> u64
+    ensures { result ≡ moment_of done.now }
+{
+    match done {
+        Put::Renewed { at } => *at,
+        Put::Stored { at, .. } => *at,
+    }
+}
+
 impl<const V: usize> Writer<V> {
     /// Puts the key with this value. May evict another key (section 4.1 of the paper of Fan, Andersen and Kaminsky). After an
     /// `Err` the map is unchanged: `Spent` if the limit on version changes could be exceeded, `NoPath` if no path of
@@ -50,9 +61,13 @@ impl<const V: usize> Writer<V> {
         ensures plain { PutMeans V (history V self.old) (history V self.new) key value.entry result }
         ensures fails { PutFails cache.now.layout.shape (history V self.new) (version_changes V self.new) key result }
     {
-        let told = put(&cache.cells, &mut self.seat, &mut self.books, key, &value);
-        self.moment = moment(&cache.cells, &mut self.seat);
-        told
+        match put(&cache.cells, &mut self.seat, &mut self.books, key, &value) {
+            Ok(done) => {
+                self.moment = at(&done);
+                Ok(done)
+            }
+            Err(why) => Err(why),
+        }
     }
 
     /// Overwrites the key's value if its last put was at the moment `since`, as a lookup of the key returned it. Returns the
@@ -70,16 +85,20 @@ impl<const V: usize> Writer<V> {
         ensures plain { PutIfMeans V (history V self.old) (history V self.new) key since value.entry result }
         ensures fails { PutIfFails cache.now.layout.shape (history V self.new) (version_changes V self.new) result }
     {
-        let told = put_if(
+        match put_if(
             &cache.cells,
             &mut self.seat,
             &mut self.books,
             key,
             since,
             &value,
-        );
-        self.moment = moment(&cache.cells, &mut self.seat);
-        told
+        ) {
+            Ok(at) => {
+                self.moment = at;
+                Ok(at)
+            }
+            Err(why) => Err(why),
+        }
     }
 
     /// Puts the key only if it is absent. After an `Err` the map is unchanged. `Present` has the moment of the key's last put; the
@@ -96,9 +115,13 @@ impl<const V: usize> Writer<V> {
         ensures plain { PutIfAbsentMeans V (history V self.old) (history V self.new) key value.entry result }
         ensures fails { PutIfAbsentFails cache.now.layout.shape (history V self.new) (version_changes V self.new) key result }
     {
-        let told = put_if_absent(&cache.cells, &mut self.seat, &mut self.books, key, &value);
-        self.moment = moment(&cache.cells, &mut self.seat);
-        told
+        match put_if_absent(&cache.cells, &mut self.seat, &mut self.books, key, &value) {
+            Ok(done) => {
+                self.moment = at(&done);
+                Ok(done)
+            }
+            Err(why) => Err(why),
+        }
     }
 
     /// Puts the key as `put` does, but evicts no other key. After an `Err` the map is unchanged. Returns the first that applies:
@@ -109,9 +132,13 @@ impl<const V: usize> Writer<V> {
         ensures called { HasCalled V cache.now.layout.shape (KeptCall key value.entry) self.old self.new (answer.Kept result) }
         ensures plain { history V self.new ≡ history V self.old ++ changes_by key value.entry result }
     {
-        let told = put_kept(&cache.cells, &mut self.seat, &mut self.books, key, &value);
-        self.moment = moment(&cache.cells, &mut self.seat);
-        told
+        match put_kept(&cache.cells, &mut self.seat, &mut self.books, key, &value) {
+            Ok(done) => {
+                self.moment = at(&done);
+                Ok(done)
+            }
+            Err(why) => Err(why),
+        }
     }
 
     /// Removes the key. `Err(Spent)` if the limit on version changes could be exceeded: nothing has changed.
@@ -121,9 +148,14 @@ impl<const V: usize> Writer<V> {
         ensures plain { RemovalMeans V (history V self.old) (history V self.new) key result }
         ensures fails { RemovalFails cache.now.layout.shape (history V self.new) (version_changes V self.new) result }
     {
-        let told = remove(&cache.cells, &mut self.seat, &mut self.books, key);
-        self.moment = moment(&cache.cells, &mut self.seat);
-        told
+        match remove(&cache.cells, &mut self.seat, &mut self.books, key) {
+            Ok(Remove::Removed { at }) => {
+                self.moment = at;
+                Ok(Remove::Removed { at })
+            }
+            Ok(Remove::NotThere { at }) => Ok(Remove::NotThere { at }),
+            Err(spent) => Err(spent),
+        }
     }
 
     /// Looks the key up at the writer's moment. Never `Busy`. A hit marks the key's item.

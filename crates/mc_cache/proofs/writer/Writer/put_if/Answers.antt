@@ -1,16 +1,24 @@
-use Rattle.std.proofs.Common.{subst, sym}
-use Rattle.mc_plan.specs.WholeCalls.{PutIfCall}
-use Rattle.mc_plan.specs.declared.answer.Answer.TheVariants as answer
-use Rattle.mc_shared.specs.Records.{WriterRecord}
-use Rattle.mc_writer.specs.WriterCalls.{HasCalled}
+use Rattle.std.proofs.Common.{Ok, Err}
 use Rattle.mc_cache.proofs.FailedCalls.{put_if_fails}
-use Rattle.mc_cache.proofs.PlainCalls.{put_if_means}
+use Rattle.mc_cache.proofs.KeptMoments.{counts_keeps, same_keeps}
+use Rattle.mc_cache.proofs.PlainCalls.{put_if_means, refused_if}
 use Rattle.mc_cache.proofs.writer.Writer.put_if.Goals as goal
 
-pub returns-clause-plain : goal.returns-clause-plain
-returns-clause-plain g c =
-    put_if_means g.row.V c.args.cache.now c.cache.inside.cells c.args.self.now c.self.inside.seat c.cache.view_is c.self.view_is c.requires.of c.moment-self-inside.new.seat c.args.key c.args.since c.args.value c.put_if-told.result (subst (λ (w : WriterRecord). HasCalled g.row.V c.cache.inside.cells.layout.shape (PutIfCall c.args.key c.args.since c.args.value) c.self.inside.seat w (answer.PutIf c.put_if-told.result)) (sym c.moment-self-inside.ensures.seat) c.put_if-told.ensures.called)
+pub returns-in-Ok-clause-plain : goal.returns-in-Ok-clause-plain
+returns-in-Ok-clause-plain g c = put_if_means g.row.V c.args.cache.now c.cache.inside.cells c.args.self.now c.self.inside.seat c.cache.view_is c.self.view_is c.requires.of c.put_if.new.seat c.args.key c.args.since c.args.value (Ok c.in-Ok.at) c.in-Ok.ensures.called
 
-pub returns-clause-fails : goal.returns-clause-fails
-returns-clause-fails g c =
-    put_if_fails g.row.V c.args.cache.now c.cache.inside.cells c.args.self.now c.self.inside.seat c.moment-self-inside.new.seat c.cache.view_is c.self.view_is c.requires.of c.args.key c.args.since c.args.value c.put_if-told.result (subst (λ (w : WriterRecord). HasCalled g.row.V c.cache.inside.cells.layout.shape (PutIfCall c.args.key c.args.since c.args.value) c.self.inside.seat w (answer.PutIf c.put_if-told.result)) (sym c.moment-self-inside.ensures.seat) c.put_if-told.ensures.called)
+pub returns-in-Err-clause-plain : goal.returns-in-Err-clause-plain
+returns-in-Err-clause-plain g c = put_if_means g.row.V c.args.cache.now c.cache.inside.cells c.args.self.now c.self.inside.seat c.cache.view_is c.self.view_is c.requires.of c.put_if.new.seat c.args.key c.args.since c.args.value (Err c.in-Err.why) c.in-Err.ensures.called
+
+pub returns-in-Err-clause-fails : goal.returns-in-Err-clause-fails
+returns-in-Err-clause-fails g c = put_if_fails g.row.V c.args.cache.now c.cache.inside.cells c.args.self.now c.self.inside.seat c.put_if.new.seat c.cache.view_is c.self.view_is c.requires.of c.args.key c.args.since c.args.value (Err c.in-Err.why) c.in-Err.ensures.called
+
+pub invariant_of-self : goal.invariant_of-self
+invariant_of-self g c =
+    let made = put_if_means g.row.V c.args.cache.now c.cache.inside.cells c.args.self.now c.self.inside.seat c.cache.view_is c.self.view_is c.requires.of c.put_if.new.seat c.args.key c.args.since c.args.value (Ok c.in-Ok.at) c.in-Ok.ensures.called in
+    (c.in-Ok.ensures.rested, counts_keeps g.row.V c.put_if.new.books c.put_if.new.seat c.in-Ok.at c.in-Ok.ensures.rested (made.at_end))
+
+pub invariant_of-self-in-Err : goal.invariant_of-self-in-Err
+invariant_of-self-in-Err g c =
+    let leaves = refused_if g.row.V _ _ c.args.key c.args.since c.args.value c.in-Err.why (put_if_means g.row.V c.args.cache.now c.cache.inside.cells c.args.self.now c.self.inside.seat c.cache.view_is c.self.view_is c.requires.of c.put_if.new.seat c.args.key c.args.since c.args.value (Err c.in-Err.why) c.in-Err.ensures.called) in
+    (c.in-Err.ensures.rested, same_keeps g.row.V c.self.inside.books c.put_if.new.books c.args.self.now c.self.inside.seat c.put_if.new.seat c.self.inside.moment c.self.view_is c.self.invariant.0 c.self.invariant.1 c.in-Err.ensures.rested leaves)

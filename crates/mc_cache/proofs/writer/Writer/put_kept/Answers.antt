@@ -1,16 +1,20 @@
-use Rattle.std.proofs.Common.{◌∙◌, ◌++◌, ap, subst, sym}
-use Rattle.mc_plan.specs.Loads.{changes_by}
-use Rattle.mc_plan.specs.WholeCalls.{KeptCall}
-use Rattle.mc_plan.specs.declared.answer.Answer.TheVariants as answer
-use Rattle.mc_shared.specs.Records.{Opening, WriterRecord}
-use Rattle.mc_writer.specs.WriterCalls.{HasCalled}
-use Rattle.mc_cache.specs.Plain.{history}
-use Rattle.mc_cache.proofs.LoadedEntries.{kept_history}
+use Rattle.std.proofs.Common.{◌∙◌, Ok, Err}
+use Rattle.mc_cache.proofs.KeptMoments.{counts_keeps, same_keeps}
+use Rattle.mc_cache.proofs.PlainCalls.{kept_at, kept_means, kept_leaves}
 use Rattle.mc_cache.proofs.writer.Writer.put_kept.Goals as goal
 
-pub returns-clause-plain : goal.returns-clause-plain
-returns-clause-plain g c =
-    kept_history g.row.V c.cache.inside.cells.layout.shape c.self.inside.seat c.moment-self-inside.new.seat c.args.key c.args.value c.put_kept-told.result
-    (ap (λ (w : WriterRecord). w.of.layout.shape) c.self.view_is ∙ ap (λ (o : Opening). o.layout.shape) (c.requires.of ∙ sym c.cache.view_is))
-    (subst (λ (w : WriterRecord). HasCalled g.row.V c.cache.inside.cells.layout.shape (KeptCall c.args.key c.args.value) c.self.inside.seat w (answer.Kept c.put_kept-told.result)) (sym c.moment-self-inside.ensures.seat) c.put_kept-told.ensures.called)
-    ∙ ap (λ (w : WriterRecord). history g.row.V w ++ changes_by c.args.key c.args.value c.put_kept-told.result) c.self.view_is
+pub returns-in-Ok-clause-plain : goal.returns-in-Ok-clause-plain
+returns-in-Ok-clause-plain g c = kept_means g.row.V c.args.cache.now c.cache.inside.cells c.args.self.now c.self.inside.seat c.cache.view_is c.self.view_is c.requires.of c.put_kept.new.seat c.args.key c.args.value (Ok c.in-Ok.done) c.in-Ok.ensures.called
+
+pub returns-in-Err-clause-plain : goal.returns-in-Err-clause-plain
+returns-in-Err-clause-plain g c = kept_means g.row.V c.args.cache.now c.cache.inside.cells c.args.self.now c.self.inside.seat c.cache.view_is c.self.view_is c.requires.of c.put_kept.new.seat c.args.key c.args.value (Err c.in-Err.why) c.in-Err.ensures.called
+
+pub invariant_of-self : goal.invariant_of-self
+invariant_of-self g c =
+    let at = kept_at g.row.V c.args.cache.now c.cache.inside.cells c.args.self.now c.self.inside.seat c.cache.view_is c.self.view_is c.requires.of c.put_kept.new.seat c.args.key c.args.value c.in-Ok.done c.in-Ok.ensures.called in
+    (c.in-Ok.ensures.rested, counts_keeps g.row.V c.put_kept.new.books c.put_kept.new.seat c.at-self-inside.result c.in-Ok.ensures.rested (c.at-self-inside.ensures ∙ at))
+
+pub invariant_of-self-in-Err : goal.invariant_of-self-in-Err
+invariant_of-self-in-Err g c =
+    let leaves = kept_leaves g.row.V c.args.cache.now c.cache.inside.cells c.args.self.now c.self.inside.seat c.cache.view_is c.self.view_is c.requires.of c.put_kept.new.seat c.args.key c.args.value c.in-Err.why c.in-Err.ensures.called in
+    (c.in-Err.ensures.rested, same_keeps g.row.V c.self.inside.books c.put_kept.new.books c.args.self.now c.self.inside.seat c.put_kept.new.seat c.self.inside.moment c.self.view_is c.self.invariant.0 c.self.invariant.1 c.in-Err.ensures.rested leaves)

@@ -1,22 +1,24 @@
-use Rattle.std.proofs.Common.{subst, sym}
-use Rattle.mc_plan.specs.WholeCalls.{PutCall}
-use Rattle.mc_shared.specs.Records.{WriterRecord}
-use Rattle.mc_writer.specs.WriterCalls.{HasCalled}
-use Rattle.mc_cache.specs.Taking.{put_of, swap_answer}
+use Rattle.std.proofs.Common.{◌∙◌, Ok, Err}
 use Rattle.mc_cache.proofs.FailedCalls.{put_fails}
-use Rattle.mc_cache.proofs.PlainCalls.{swap_means}
+use Rattle.mc_cache.proofs.KeptMoments.{counts_keeps, same_keeps}
+use Rattle.mc_cache.proofs.PlainCalls.{put_means, swap_means}
 use Rattle.mc_cache.proofs.writer.Writer.swap.Goals as goal
-use Rattle.mc_cache.proofs.writer.Writer.swap.Goals.{After-moment-self-inside}
-use Rattle.mc_cache.proofs.writer.Writer.swap.Given.{Over}
 
--- a whole put was made, up to where the moment was read
-called : (g : Over) (c : After-moment-self-inside g) → HasCalled g.row.V c.cache.inside.cells.layout.shape (PutCall c.args.key c.args.value) c.self.inside.seat c.moment-self-inside.new.seat (swap_answer c.swap-told.result)
-called g c = subst (λ (w : WriterRecord). HasCalled g.row.V c.cache.inside.cells.layout.shape (PutCall c.args.key c.args.value) c.self.inside.seat w (swap_answer c.swap-told.result)) (sym c.moment-self-inside.ensures.seat) c.swap-told.ensures.called
+pub returns-in-Ok-clause-plain : goal.returns-in-Ok-clause-plain
+returns-in-Ok-clause-plain g c = swap_means g.row.V c.args.cache.now c.cache.inside.cells c.args.self.now c.self.inside.seat c.cache.view_is c.self.view_is c.requires.of c.swap.new.seat c.args.key c.args.value (Ok c.in-Ok.swapped) c.in-Ok.ensures.called c.in-Ok.ensures.old
 
-pub returns-clause-plain : goal.returns-clause-plain
-returns-clause-plain g c =
-    swap_means g.row.V c.args.cache.now c.cache.inside.cells c.args.self.now c.self.inside.seat c.cache.view_is c.self.view_is c.requires.of c.moment-self-inside.new.seat c.args.key c.args.value c.swap-told.result (called g (goal.at.returns-clause-plain g c).After-moment-self-inside) c.swap-told.ensures.old
+pub returns-in-Err-clause-plain : goal.returns-in-Err-clause-plain
+returns-in-Err-clause-plain g c = (put_means g.row.V c.args.cache.now c.cache.inside.cells c.args.self.now c.self.inside.seat c.cache.view_is c.self.view_is c.requires.of c.swap.new.seat c.args.key c.args.value (Err c.in-Err.why) c.in-Err.ensures.called, tt)
 
-pub returns-clause-fails : goal.returns-clause-fails
-returns-clause-fails g c =
-    put_fails g.row.V c.args.cache.now c.cache.inside.cells c.args.self.now c.self.inside.seat c.moment-self-inside.new.seat c.cache.view_is c.self.view_is c.requires.of c.args.key c.args.value (put_of c.swap-told.result) (called g (goal.at.returns-clause-fails g c).After-moment-self-inside)
+pub returns-in-Err-clause-fails : goal.returns-in-Err-clause-fails
+returns-in-Err-clause-fails g c = put_fails g.row.V c.args.cache.now c.cache.inside.cells c.args.self.now c.self.inside.seat c.swap.new.seat c.cache.view_is c.self.view_is c.requires.of c.args.key c.args.value (Err c.in-Err.why) c.in-Err.ensures.called
+
+pub invariant_of-self : goal.invariant_of-self
+invariant_of-self g c =
+    let made = put_means g.row.V c.args.cache.now c.cache.inside.cells c.args.self.now c.self.inside.seat c.cache.view_is c.self.view_is c.requires.of c.swap.new.seat c.args.key c.args.value (Ok c.in-Ok.swapped.put) c.in-Ok.ensures.called in
+    (c.in-Ok.ensures.rested, counts_keeps g.row.V c.swap.new.books c.swap.new.seat c.at-self-inside.result c.in-Ok.ensures.rested (c.at-self-inside.ensures ∙ made.at))
+
+pub invariant_of-self-in-Err : goal.invariant_of-self-in-Err
+invariant_of-self-in-Err g c =
+    let leaves = put_means g.row.V c.args.cache.now c.cache.inside.cells c.args.self.now c.self.inside.seat c.cache.view_is c.self.view_is c.requires.of c.swap.new.seat c.args.key c.args.value (Err c.in-Err.why) c.in-Err.ensures.called in
+    (c.in-Err.ensures.rested, same_keeps g.row.V c.self.inside.books c.swap.new.books c.args.self.now c.self.inside.seat c.swap.new.seat c.self.inside.moment c.self.view_is c.self.invariant.0 c.self.invariant.1 c.in-Err.ensures.rested leaves)
