@@ -3,9 +3,9 @@ use Rattle.std.specs.Prelude.{ℕ, ◌≡◌, List, length, Some, None, Option a
 use mathlib.Core.Option.{Option}
 use Rattle.mc_cache.specs.declared.desk.DeskError.{DeskError}
 use Rattle.mc_cache.specs.declared.desk.DeskError.TheVariants as desk
-use Rattle.mc_cache.specs.declared.taking.Replaced.{Replaced}
-use Rattle.mc_cache.specs.declared.taking.Take.{Take}
-use Rattle.mc_cache.specs.declared.taking.Take.TheVariants.{Taken, NotThere}
+use Rattle.mc_writer.specs.declared.entry.Replaced.{Replaced}
+use Rattle.mc_writer.specs.declared.entry.Take.{Take}
+use Rattle.mc_writer.specs.declared.entry.Take.TheVariants.{Taken, NotThere}
 use Rattle.mc_plan.specs.declared.answer.IfError.{IfError}
 use Rattle.mc_plan.specs.declared.answer.Put.TheVariants.{Renewed}
 use Rattle.mc_plan.specs.declared.answer.PutError.{PutError}

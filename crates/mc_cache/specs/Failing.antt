@@ -17,8 +17,8 @@ use Rattle.mc_plan.specs.declared.answer.Spent.{Spent as RemoveSpent}
 use Rattle.mc_shared.specs.Records.{ReaderRecord, WriterRecord}
 use Rattle.mc_cache.specs.declared.desk.DeskError.{DeskError}
 use Rattle.mc_cache.specs.declared.desk.DeskError.TheVariants as desk
-use Rattle.mc_cache.specs.declared.taking.Replaced.{Replaced}
-use Rattle.mc_cache.specs.declared.taking.Take.{Take}
+use Rattle.mc_writer.specs.declared.entry.Replaced.{Replaced}
+use Rattle.mc_writer.specs.declared.entry.Take.{Take}
 use Rattle.mc_cache.specs.Taking.{put_if_of, put_of, removal_of}
 use Rattle.mc_writer.specs.declared.entry.Swapped.{Swapped}
 

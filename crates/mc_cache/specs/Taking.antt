@@ -1,31 +1,20 @@
 -- What the calls mean that also return the entry which they take out of the map: it is what the map held just before.
 use Rattle.std.specs.Prelude.{ℕ, List, Some, Result, Ok, Err, IfOk}
-pub use Rattle.mc_writer.specs.GivenWay.{Holds, giving_way, put_of}
+pub use Rattle.mc_writer.specs.GivenWay.{Holds, giving_way, put_if_of, put_of, removal_of}
 use Rattle.mc_words.specs.declared.history.Change.{Change}
 use Rattle.mc_plan.specs.declared.answer.Answer.{Answer}
 use Rattle.mc_plan.specs.declared.answer.Answer.TheVariants as answer
 use Rattle.mc_plan.specs.declared.answer.IfError.{IfError}
 use Rattle.mc_plan.specs.declared.answer.PutError.{PutError}
-use Rattle.mc_plan.specs.declared.answer.Remove.{Remove}
 use Rattle.mc_plan.specs.declared.answer.Remove.TheVariants as removal
 use Rattle.mc_plan.specs.declared.answer.Spent.{Spent}
 use Rattle.mc_writer.specs.declared.entry.Swapped.{Swapped}
 use Rattle.mc_cache.specs.Plain.{PutIfMeans, PutMeans, RemovalMeans}
-use Rattle.mc_cache.specs.declared.taking.Replaced.{Replaced}
-use Rattle.mc_cache.specs.declared.taking.Take.{Take}
-use Rattle.mc_cache.specs.declared.taking.Take.TheVariants.{Taken, NotThere}
+use Rattle.mc_writer.specs.declared.entry.Replaced.{Replaced}
+use Rattle.mc_writer.specs.declared.entry.Take.{Take}
+use Rattle.mc_writer.specs.declared.entry.Take.TheVariants.{Taken, NotThere}
 
--- the answer of the put on a condition, and that of the removal
-abbrev pub put_if_of : {V : ℕ} → Result (Replaced V) IfError → Result ℕ IfError
-put_if_of (Ok replaced) = Ok replaced.at
-put_if_of (Err why) = Err why
-
-abbrev pub removal_of : {V : ℕ} → Result (Take V) Spent → Result Remove Spent
-removal_of (Ok (Taken at old)) = Ok (removal.Removed at)
-removal_of (Ok (NotThere at)) = Ok (removal.NotThere at)
-removal_of (Err spent) = Err spent
-
--- the same, as answers of whole calls
+-- what is answered, as answers of whole calls
 abbrev pub swap_answer : {V : ℕ} → Result (Swapped V) PutError → Answer
 swap_answer told = answer.Put (put_of told)
 

@@ -5,7 +5,6 @@ ghost use Rattle.mc_cache.specs.Resting.{IsAtRest};
 use crate::cache::Cache;
 use crate::lending::{FREE, LiesThere, WORDS, give, take};
 use crate::reader::Reader;
-use crate::taking::{Replaced, Take};
 use crate::turn::{
     count_in_turn, get_in_turn, list_in_turn, put_if_absent_in_turn, put_if_in_turn, put_in_turn,
     remove_in_turn, swap_if_in_turn, swap_in_turn, take_in_turn,
@@ -14,7 +13,7 @@ use crate::writer::Writer;
 use atomic_table::{Refused, Table};
 use mc_plan::{AbsentError, IfError, Put, PutError, Remove, Spent};
 use mc_words::{NoMemory, Reply};
-use mc_writer::Swapped;
+use mc_writer::{Replaced, Swapped, Take};
 use std::alloc::{AllocFailed, Global};
 use std::marker::Model;
 use std::snapshot::Snapshot;

@@ -2,39 +2,16 @@
 ghost use Rattle.std.specs.Prelude.{◌≡◌};
 ghost use Rattle.mc_cache.specs.Failing.{SwapFails, SwapIfFails, TakeFails, version_changes};
 ghost use Rattle.mc_cache.specs.Plain.{history};
-ghost use Rattle.mc_cache.specs.Taking.{Holds, SwapIfMeans, SwapMeans, TakeMeans, swap_answer, swap_if_answer, take_answer};
+ghost use Rattle.mc_cache.specs.Taking.{SwapIfMeans, SwapMeans, TakeMeans, swap_answer, swap_if_answer, take_answer};
 ghost use Rattle.mc_plan.specs.WholeCalls.{PutCall, PutIfCall, RemoveCall};
 ghost use Rattle.mc_writer.specs.WriterCalls.{HasCalled};
 
 use crate::cache::Cache;
 use crate::writer::{Writer, at};
-use mc_plan::{IfError, PutError, Remove, Spent};
-use mc_writer::{Entry, Swapped, entry_of, swap};
-
-/// What a put on a condition did: the moment of its change, and the key's earlier entry.
-#[derive(Clone, Copy, Debug, PartialEq, Eq)]
-pub struct Replaced<const V: usize> {
-    pub at: u64,
-    pub old: Entry<V>,
-}
-
-/// What a removal did that returns the entry. `at` is the moment after it.
-#[derive(Clone, Copy, Debug, PartialEq, Eq)]
-pub enum Take<const V: usize> {
-    Taken { at: u64, old: Entry<V> },
-    NotThere { at: u64 },
-}
+use mc_plan::{IfError, PutError, Spent};
+use mc_writer::{Replaced, Swapped, Take, swap, swap_if, take};
 
 impl<const V: usize> Writer<V> {
-    // What the map holds of the key. It makes no act.
-    fn entry(&mut self, cache: &Cache<V>, key: u64) -> Option<Entry<V>>
-        requires of { self.old.of ≡ cache.now }
-        ensures writer { self.new ≡ self.old }
-        ensures holds { Holds (history V self.old) key result }
-    {
-        entry_of(&cache.cells, &mut self.seat, &self.books, key)
-    }
-
     /// Puts the key as `put` does, and returns the entry that gives way: the key's earlier one, or that of the key that is evicted.
     pub fn swap(
         &mut self,
@@ -69,13 +46,17 @@ impl<const V: usize> Writer<V> {
         ensures plain { SwapIfMeans V (history V self.old) (history V self.new) key since value.entry result }
         ensures fails { SwapIfFails cache.now.layout.shape (history V self.new) (version_changes V self.new) result }
     {
-        let found = self.entry(cache, key);
-        match self.put_if(cache, key, since, value) {
-            Ok(at) => {
-                let Some(old) = found else {
-                    unreachable!();
-                };
-                Ok(Replaced { at, old })
+        match swap_if(
+            &cache.cells,
+            &mut self.seat,
+            &mut self.books,
+            key,
+            since,
+            &value,
+        ) {
+            Ok(replaced) => {
+                self.moment = replaced.at;
+                Ok(replaced)
             }
             Err(why) => Err(why),
         }
@@ -88,15 +69,12 @@ impl<const V: usize> Writer<V> {
         ensures plain { TakeMeans V (history V self.old) (history V self.new) key result }
         ensures fails { TakeFails cache.now.layout.shape (history V self.new) (version_changes V self.new) result }
     {
-        let found = self.entry(cache, key);
-        match self.remove(cache, key) {
-            Ok(Remove::Removed { at }) => {
-                let Some(old) = found else {
-                    unreachable!();
-                };
+        match take(&cache.cells, &mut self.seat, &mut self.books, key) {
+            Ok(Take::Taken { at, old }) => {
+                self.moment = at;
                 Ok(Take::Taken { at, old })
             }
-            Ok(Remove::NotThere { at }) => Ok(Take::NotThere { at }),
+            Ok(Take::NotThere { at }) => Ok(Take::NotThere { at }),
             Err(spent) => Err(spent),
         }
     }

@@ -13,11 +13,10 @@ ghost use Rattle.mc_words.specs.History.{key_count};
 use crate::cache::Cache;
 use crate::desk::DeskError;
 use crate::reader::Reader;
-use crate::taking::{Replaced, Take};
 use crate::writer::Writer;
 use mc_plan::{AbsentError, IfError, Put, PutError, Remove, Spent};
 use mc_words::{NoMemory, Reply};
-use mc_writer::Swapped;
+use mc_writer::{Replaced, Swapped, Take};
 use std::alloc::Global;
 
 // The pass meets the writer before the call.

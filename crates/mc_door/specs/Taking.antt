@@ -5,9 +5,9 @@ use Rattle.mc_cache.specs.Taking.{SwapIfMeans as SwapIfOf, SwapMeans as SwapOf, 
 use Rattle.mc_cache.specs.Turns.{HasTried}
 use Rattle.mc_cache.specs.declared.desk.DeskError.{DeskError}
 use Rattle.mc_cache.specs.declared.desk.DeskError.TheVariants as desk
-use Rattle.mc_cache.specs.declared.taking.Replaced.{Replaced}
-use Rattle.mc_cache.specs.declared.taking.Take.{Take}
-use Rattle.mc_cache.specs.declared.taking.Take.TheVariants.{Taken, NotThere}
+use Rattle.mc_writer.specs.declared.entry.Replaced.{Replaced}
+use Rattle.mc_writer.specs.declared.entry.Take.{Take}
+use Rattle.mc_writer.specs.declared.entry.Take.TheVariants.{Taken, NotThere}
 use Rattle.mc_plan.specs.WholeCalls.Call.{PutCall, PutIfCall, RemoveCall}
 use Rattle.mc_plan.specs.declared.answer.IfError.{IfError}
 use Rattle.mc_plan.specs.declared.answer.PutError.{PutError}

@@ -14,7 +14,7 @@ use Rattle.mc_theory.specs.States.{State}
 use Rattle.mc_theory.specs.declared.act.Act.{Act}
 use Rattle.mc_plan.specs.Decisions.{renewal_acts}
 use Rattle.mc_plan.specs.Making.{as_made}
-use Rattle.mc_plan.specs.Plans.{evict_acts}
+use Rattle.mc_plan.specs.Plans.{evict_acts, remove_acts}
 
 -- making the version odd moves no key
 stood : (V : ℕ) (sh : Shape) (w : List ℕ) (k e q i : ℕ) → IsShape sh → Stands V sh (with_bump sh w k) e q i → Stands V sh w e q i
@@ -30,5 +30,10 @@ renewed_stands V sh s k at i (x ∷ xs) later shape some allowed =
 -- the slot that is cleared is the one in which the key stands
 pub evicted_stands : (V : ℕ) (sh : Shape) (s : State V) (k : ℕ) (p : Place) (later : List Act) → IsShape sh → AreAllowed sh s (as_made (evict_acts k p ++ later)) → (p.slot < 4) × ((i : ℕ) × Stands V sh s.words k (slot_number p) i)
 evicted_stands V sh s k p later shape allowed =
+    let stands : (i : ℕ) × Stands V sh (with_bump sh s.words k) k (slot_number p) i = allowed.1.0.2 in
+    (allowed.1.0.0, (stands.0, stood V sh s.words k k (slot_number p) stands.0 shape stands.1))
+
+pub removed_stands : (V : ℕ) (sh : Shape) (s : State V) (k : ℕ) (p : Place) (later : List Act) → IsShape sh → AreAllowed sh s (as_made (remove_acts k p ++ later)) → (p.slot < 4) × ((i : ℕ) × Stands V sh s.words k (slot_number p) i)
+removed_stands V sh s k p later shape allowed =
     let stands : (i : ℕ) × Stands V sh (with_bump sh s.words k) k (slot_number p) i = allowed.1.0.2 in
     (allowed.1.0.0, (stands.0, stood V sh s.words k k (slot_number p) stands.0 shape stands.1))

@@ -1,16 +1,13 @@
-//! An entry of the map, and what the table holds of a key.
+//! An entry of the map, and what calls return that take one out.
 ghost use Rattle.std.specs.Prelude.{ℕ, ◌≡◌, ◌<◌, List, None, Some};
 ghost use Rattle.mc_words.specs.Places.{IsWidth, slot_number};
 ghost use Rattle.mc_words.specs.Standing.{Agrees, Stands};
 ghost use Rattle.mc_words.specs.declared.history.Change.{Change};
-ghost use Rattle.mc_theory.specs.Lists.{state_of};
 ghost use Rattle.mc_writer.specs.GivenWay.{Holds};
-ghost use Rattle.mc_writer.specs.WriterCalls.{IsRested};
 
 use crate::pen::Pen;
-use mc_plan::{Books, Put};
-use mc_search::{read, read_at, slot_at};
-use mc_shared::{Cells, WriterSeat};
+use mc_plan::Put;
+use mc_search::{read_at, slot_at};
 use mc_words::Place;
 
 /// An entry of the map.
@@ -27,6 +24,20 @@ pub struct Entry<const V: usize> {
 pub struct Swapped<const V: usize> {
     pub put: Put,
     pub old: Option<Entry<V>>,
+}
+
+/// What a put on a condition did: the moment of its change, and the key's earlier entry.
+#[derive(Clone, Copy, Debug, PartialEq, Eq)]
+pub struct Replaced<const V: usize> {
+    pub at: u64,
+    pub old: Entry<V>,
+}
+
+/// What a removal did that returns the entry. `at` is the moment after it.
+#[derive(Clone, Copy, Debug, PartialEq, Eq)]
+pub enum Take<const V: usize> {
+    Taken { at: u64, old: Entry<V> },
+    NotThere { at: u64 },
 }
 
 impl<'a, const V: usize> Pen<'a, V> {
@@ -61,39 +72,4 @@ impl<'a, const V: usize> Pen<'a, V> {
         let word = slot_at(checked, self, place);
         self.entry_at(key, checked.item_in(word))
     }
-
-    /// What the table holds of a key. Condition: the words agree with some history, and no deed runs.
-    pub(crate) fn entry(&mut self, key: u64) -> Option<Entry<V>>
-        requires width { IsWidth V }
-        requires agrees { (h : List (Change V)) × Agrees V self.old.cells.now.layout.shape (state_at V self.old).words None h }
-        ensures holds { (h : List (Change V)) → Agrees V self.old.cells.now.layout.shape (state_at V self.old).words None h → Holds h key result }
-        ensures same { self.new ≡ self.old }
-    {
-        let checked = self.cells.checked();
-        match read::<V, Pen<V>>(checked, self, key) {
-            Some(held) => {
-                let value = held.value;
-                let since = held.since;
-                Some(Entry { key, value, since })
-            }
-            None => None,
-        }
-    }
-}
-
-/// What the map holds of a key, while the writer rests. No act is made.
-pub fn entry_of<const V: usize>(
-    cells: &Cells<V>,
-    seat: &mut WriterSeat,
-    books: &Books,
-    key: u64,
-) -> Option<Entry<V>>
-    requires of { seat.old.of ≡ cells.now }
-    requires rested { IsRested V books.now seat.old }
-    ensures holds { Holds (state_of V cells.now.layout.shape seat.old.acts).history key result }
-    ensures seat { seat.new ≡ seat.old }
-{
-    let _books = books;
-    let mut pen = Pen { cells, seat };
-    pen.entry(key)
 }

@@ -12,8 +12,8 @@ use mc_search::{Held, read};
 use mc_shared::{Cells, WriterSeat, set_mark_unless_set};
 use mc_words::Reply;
 
-/// The moment: how many changes of the map were made. No act is made.
-pub fn moment<const V: usize>(cells: &Cells<V>, seat: &mut WriterSeat) -> u64
+// The moment: how many changes of the map were made. No act is made.
+fn moment<const V: usize>(cells: &Cells<V>, seat: &mut WriterSeat) -> u64
     requires of { seat.old.of ≡ cells.now }
     ensures moment { result ≡ places.moment (state_of V cells.now.layout.shape seat.old.acts).words }
     ensures seat { seat.new ≡ seat.old }
