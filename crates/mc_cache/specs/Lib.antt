@@ -14,6 +14,7 @@ pub mod Inside
 pub use Rattle.mc_words.specs.declared.history.Change
 pub use Rattle.mc_words.specs.declared.history.Reply
 pub use Rattle.mc_plan.specs.declared.answer.AbsentError
+pub use Rattle.mc_plan.specs.declared.answer.IfError
 pub use Rattle.mc_plan.specs.declared.answer.Put
 pub use Rattle.mc_plan.specs.declared.answer.PutError
 pub use Rattle.mc_plan.specs.declared.answer.Remove
