@@ -12,7 +12,7 @@
  *      the earlier calls before the later ones. Calls with different handles of one cache need no synchronization.
  *   3. Pointers are to memory of yours, aligned for their types and valid for the whole call. None of it overlaps. They
  *      are never null, but for a handle of cefrodil_close, a reply of cefrodil_get, and an array of cefrodil_open_with,
- *      cefrodil_get_many or cefrodil_entries whose count is 0.
+ *      cefrodil_get_many, cefrodil_entries or cefrodil_stamped_entries whose count is 0.
  *      `value` has `words` words; an array has as many elements as its count says.
  *   4. No call comes from a signal handler, nor from the forked child of a process with threads. Every call returns: no
  *      longjmp, exception or asynchronous cancellation leaves it. A handle is used in the process that opened it.
@@ -269,6 +269,12 @@ CEFRODIL_CHECKED cefrodil_status cefrodil_try_len(cefrodil_handle *pass, uint64_
  * `count` times (1 + the words of a value). HELD: a try did not win. CLOSED, KIND, NO_MEMORY. Unless OK, `entries` is unchanged. */
 CEFRODIL_CHECKED cefrodil_status cefrodil_entries(cefrodil_handle *handle, uint64_t *entries, size_t entry_words, uint64_t *count);
 
+/* Lists each entry with its stamp, by the writer or a pass of a desk. An entry is its key, then the words of its value, then the moment
+ * of the key's last put (`since`): 2 + the words of a value.
+ * OK, BAD_COUNT, HELD, CLOSED, NO_MEMORY: as by cefrodil_entries. KIND: also by a pass of shards. */
+CEFRODIL_CHECKED cefrodil_status cefrodil_stamped_entries(cefrodil_handle *handle, uint64_t *entries, size_t entry_words,
+                                                          uint64_t *count);
+
 /* Closes a handle, in any thread. Closing the last handle frees the cache.
  * OK, or CLOSED if it was not open, or null. The handle is closed afterwards. */
 cefrodil_status cefrodil_close(cefrodil_handle *handle);
@@ -290,6 +296,7 @@ CEFRODIL_NO_NULL(cefrodil_len);
 CEFRODIL_NO_NULL(cefrodil_capacity);
 CEFRODIL_NO_NULL(cefrodil_try_len);
 CEFRODIL_NO_NULL(cefrodil_entries);
+CEFRODIL_NO_NULL(cefrodil_stamped_entries);
 CEFRODIL_NO_NULL(cefrodil_put);
 CEFRODIL_NO_NULL(cefrodil_put_if);
 CEFRODIL_NO_NULL(cefrodil_put_if_absent);
@@ -354,11 +361,18 @@ CEFRODIL_CHECKED static inline cefrodil_status cefrodil_entries_or_none(cefrodil
     return cefrodil_entries(handle, entry_words != 0 ? entries : &no_entry, entry_words, count);
 }
 
+CEFRODIL_CHECKED static inline cefrodil_status cefrodil_stamped_entries_or_none(cefrodil_handle *handle, uint64_t *entries,
+                                                                                size_t entry_words, uint64_t *count) {
+    uint64_t no_entry = 0;
+    return cefrodil_stamped_entries(handle, entry_words != 0 ? entries : &no_entry, entry_words, count);
+}
+
 #define cefrodil_get cefrodil_get_unless_null
 #define cefrodil_close cefrodil_close_unless_null
 #define cefrodil_open_with cefrodil_open_with_or_none
 #define cefrodil_get_many cefrodil_get_many_or_none
 #define cefrodil_entries cefrodil_entries_or_none
+#define cefrodil_stamped_entries cefrodil_stamped_entries_or_none
 
 /* The text of a status. Both libraries have it as a call of this name, too. */
 static inline const char *cefrodil_text(uint32_t status) {

@@ -172,16 +172,23 @@ template <size_t Words> Swapped<Words> take(cefrodil_handle *raw, uint64_t key) 
     return swapped<Words>(status, reply, old, true);
 }
 
-// Lists the entries by a handle: how many they are, and then each, until they fit.
-template <size_t Words> Status entries(cefrodil_handle *raw, std::vector<uint64_t> &words) {
+// Lists entries of `each` words by a call of C: how many they are, and then each, until they fit.
+template <class List> Status listed(size_t each, std::vector<uint64_t> &words, List list) {
     uint64_t count = 0;
     cefrodil_status status;
     do {
-        words.resize(count * (1 + Words));
-        status = cefrodil_entries(raw, words.data(), words.size(), &count);
+        words.resize(count * each);
+        status = list(words.data(), words.size(), &count);
     } while (status == CEFRODIL_BAD_COUNT);
-    words.resize(status == CEFRODIL_OK ? count * (1 + Words) : 0);
+    words.resize(status == CEFRODIL_OK ? count * each : 0);
     return static_cast<Status>(status);
+}
+template <size_t Words> Status entries(cefrodil_handle *raw, std::vector<uint64_t> &words) {
+    return listed(1 + Words, words, [&](uint64_t *list, size_t size, uint64_t *count) { return cefrodil_entries(raw, list, size, count); });
+}
+template <size_t Words> Status stamped_entries(cefrodil_handle *raw, std::vector<uint64_t> &words) {
+    return listed(2 + Words, words,
+                  [&](uint64_t *list, size_t size, uint64_t *count) { return cefrodil_stamped_entries(raw, list, size, count); });
 }
 
 // Opens `count` handles by a call of C, which takes an array of them. If it succeeds, they take the place of `handles`. All memory is taken
@@ -246,6 +253,8 @@ template <size_t Words> class Writer : public Handle {
     Status capacity(uint64_t &number) { return static_cast<Status>(cefrodil_capacity(raw(), &number)); }
     // Each key with its value, one entry after the other. Unless ok, `words` is empty.
     Status entries(std::vector<uint64_t> &words) { return inside::entries<Words>(raw(), words); }
+    // The same with stamps: each entry is its key, its value, and then the moment of the key's last put.
+    Status stamped_entries(std::vector<uint64_t> &words) { return inside::stamped_entries<Words>(raw(), words); }
 };
 
 // A reader of a cache.
@@ -328,6 +337,8 @@ template <size_t Words> class Pass : public Reader<Words> {
     Status try_len(uint64_t &number) { return static_cast<Status>(cefrodil_try_len(this->raw(), &number)); }
     // Like Writer::entries. It is held if a try for the turn does not win.
     Status try_entries(std::vector<uint64_t> &words) { return inside::entries<Words>(this->raw(), words); }
+    // Like Writer::stamped_entries, at a desk. It is held if the try for the turn does not win.
+    Status try_stamped_entries(std::vector<uint64_t> &words) { return inside::stamped_entries<Words>(this->raw(), words); }
 };
 
 // The shape for so many items, or none if that is out of range.

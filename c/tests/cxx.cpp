@@ -39,6 +39,7 @@ static void apart(const cefrodil_shape &shape) {
     MUST(keys_now == 1 && most == shape.items && moment == 2 && (*writer.get(1).value)[1] == 9);
     std::vector<uint64_t> list;
     MUST(writer.entries(list) == Status::ok && list.size() == 3 && list[0] == 1 && list[2] == 9);
+    MUST(writer.stamped_entries(list) == Status::ok && list.size() == 4 && list[0] == 1 && list[2] == 9 && list[3] == 2);
     Writer<2> moved = std::move(writer);
     MUST(!writer.is_open() && writer.put(1, {0, 0}).status == Status::closed);
     MUST(writer.entries(list) == Status::closed && list.empty());
@@ -87,6 +88,7 @@ static void typed(const cefrodil_shape &shape) {
 static void by_turns(std::vector<Pass<1>> passes) {
     std::vector<uint64_t> list;
     MUST(passes[0].try_put(1, {0}).status == Status::ok && passes[1].try_entries(list) == Status::ok && list.size() == 2 && list[0] == 1);
+    MUST(passes[1].try_stamped_entries(list) == Status::ok && list.size() == 3 && list[0] == 1 && list[2] == 1);
     std::vector<std::thread> threads;
     for (Pass<1> &pass : passes) {
         threads.emplace_back([mine = std::move(pass)]() mutable {

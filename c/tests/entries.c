@@ -169,6 +169,48 @@ static void listed_by_turns(void) {
     }
 }
 
+/* Each entry with the moment of its key's last put. */
+static void stamped(void) {
+    cefrodil_shape shape = shape_of(4, 3, most);
+    uint64_t list[10] = {99, 99, 99, 99, 99, 99, 99, 99, 99, 99}, count = 98, found[2];
+    MUST(cefrodil_open(&shape, 2, &writer, readers, 2) == CEFRODIL_OK);
+    MUST(cefrodil_stamped_entries(&writer, NULL, 0, &count) == CEFRODIL_OK && count == 0);
+    for (uint64_t n = 0; n < 3; n++) {
+        const uint64_t value[2] = {10 + n, 20 + n};
+        MUST(cefrodil_put(&writer, n % 2, value, 2, &reply) == CEFRODIL_OK);
+    }
+    count = 98;
+    MUST(cefrodil_stamped_entries(&readers[0], list, 8, &count) == CEFRODIL_KIND && count == 98);
+    MUST(cefrodil_stamped_entries(&writer, list, 7, &count) == CEFRODIL_BAD_COUNT && count == 2 && list[0] == 99);
+    MUST(cefrodil_stamped_entries(&writer, list, 10, &count) == CEFRODIL_OK && count == 2 && list[8] == 99 && list[9] == 99);
+    for (size_t i = 0; i < 8; i += 4) {
+        MUST(cefrodil_get(&readers[0], list[i], found, 2, &reply) == CEFRODIL_OK);
+        MUST(list[i + 1] == found[0] && list[i + 2] == found[1] && list[i + 3] == reply.since && list[i + 3] == (list[i] == 0 ? 3 : 2));
+    }
+    close_all();
+}
+
+/* So does a pass at a desk, but not one of shards. */
+static void stamped_by_turns(void) {
+    cefrodil_shape shape = shape_of(8, 16, most);
+    for (int of_shards = 0; of_shards < 2; of_shards++) {
+        uint64_t list[3] = {99, 99, 99}, count = 98;
+        const uint64_t value = 7;
+        shape.mix = CEFRODIL_MIX_FULL;
+        MUST((of_shards ? cefrodil_open_shards(&shape, 4, 1, readers, 2) : cefrodil_open_desk(&shape, 1, readers, 2)) == CEFRODIL_OK);
+        MUST(cefrodil_try_put(&readers[0], 5, &value, 1, &reply) == CEFRODIL_OK);
+        MUST(cefrodil_try_put(&readers[0], 5, &value, 1, &reply) == CEFRODIL_OK);
+        if (of_shards) {
+            MUST(cefrodil_stamped_entries(&readers[1], list, 3, &count) == CEFRODIL_KIND && count == 98 && list[0] == 99);
+        } else {
+            MUST(cefrodil_stamped_entries(&readers[1], list, 2, &count) == CEFRODIL_BAD_COUNT && count == 1 && list[0] == 99);
+            MUST(cefrodil_stamped_entries(&readers[1], list, 3, &count) == CEFRODIL_OK && count == 1);
+            MUST(list[0] == 5 && list[1] == 7 && list[2] == 2);
+        }
+        MUST(cefrodil_close(&readers[0]) == CEFRODIL_OK && cefrodil_close(&readers[1]) == CEFRODIL_OK);
+    }
+}
+
 int main(void) {
     loads(shape_of(4, 3, most), 8, 3, CEFRODIL_NO_ITEM);
     loads(shape_of(2, 8, most), 9, 8, CEFRODIL_NO_PATH);
@@ -180,6 +222,8 @@ int main(void) {
     listed();
     listed_widths();
     listed_by_turns();
+    stamped();
+    stamped_by_turns();
     if (line_of_failure != 0) {
         printf("entries: line %d fails\n", line_of_failure);
         return 1;

@@ -87,12 +87,12 @@ static long allocations(const cefrodil_shape *shape, size_t words, enum how how)
 }
 
 /* Each allocation of a list is refused in turn: then nothing is written. A list keeps nothing. The three entries are one key. */
-static int lists(cefrodil_handle *lister, size_t words) {
+static int lists(cefrodil_handle *lister, size_t words, bool stamped) {
     long allowed = 0, before = kept;
     for (; allowed < 20; allowed++) {
-        uint64_t list[9] = {99}, count = 98;
+        uint64_t list[10] = {99}, count = 98;
         left = allowed;
-        uint32_t status = cefrodil_entries(lister, list, 1 + words, &count);
+        uint32_t status = stamped ? cefrodil_stamped_entries(lister, list, 2 + words, &count) : cefrodil_entries(lister, list, 1 + words, &count);
         left = -1;
         if (kept != before) {
             return 0;
@@ -109,14 +109,16 @@ static int lists(cefrodil_handle *lister, size_t words) {
 
 static int all_list(const cefrodil_shape *shape, size_t words) {
     cefrodil_reply reply;
-    int listed = open_one(shape, words, WITH_ENTRIES) == CEFRODIL_OK && lists(&writer, words);
+    int listed = open_one(shape, words, WITH_ENTRIES) == CEFRODIL_OK && lists(&writer, words, false) &&
+                 lists(&writer, words, true);
     for (enum how how = BY_TURNS; how <= BY_SHARDS; how++) {
         for (int i = 0; i < 4; i++) {
             cefrodil_close(&handles[i]);
         }
         cefrodil_close(&writer);
         listed = listed && open_one(shape, words, how) == CEFRODIL_OK &&
-                 cefrodil_try_put(&handles[0], 0, entries, words, &reply) == CEFRODIL_OK && lists(&handles[0], words);
+                 cefrodil_try_put(&handles[0], 0, entries, words, &reply) == CEFRODIL_OK && lists(&handles[0], words, false) &&
+                 (how == BY_SHARDS || lists(&handles[0], words, true));
     }
     for (int i = 0; i < 4; i++) {
         cefrodil_close(&handles[i]);

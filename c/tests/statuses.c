@@ -58,6 +58,7 @@ static void closed(void) {
     MUST(cefrodil_try_remove(&none, 1, &reply) == CEFRODIL_CLOSED);
     MUST(cefrodil_moment(&none, value) == CEFRODIL_CLOSED && cefrodil_len(&none, value) == CEFRODIL_CLOSED);
     MUST(cefrodil_capacity(&none, value) == CEFRODIL_CLOSED && cefrodil_entries(&none, value, 1, value + 1) == CEFRODIL_CLOSED && value[0] == 1 && value[1] == 2);
+    MUST(cefrodil_stamped_entries(&none, value, 1, value + 1) == CEFRODIL_CLOSED && value[0] == 1 && value[1] == 2);
     MUST(cefrodil_close(&none) == CEFRODIL_CLOSED && cefrodil_close(NULL) == CEFRODIL_CLOSED);
     MUST(cefrodil_get(&none, 1, value, 2, NULL) == CEFRODIL_CLOSED);
 }

@@ -2,7 +2,7 @@
 use crate::error::{OpenError, PutError, PutIfAbsentError, PutIfError, Spent, Why};
 use crate::handle::Handle;
 use crate::raw;
-use crate::reply::{self, Put, Removal, Replaced, Reply, Swapped, Take};
+use crate::reply::{self, Entry, Put, Removal, Replaced, Reply, Swapped, Take};
 use crate::shape::Shape;
 use crate::width::Value;
 use std::fmt::{self, Debug, Formatter};
@@ -290,6 +290,33 @@ impl<const WORDS: usize> Writer<WORDS> {
     #[must_use]
     pub fn entries(&mut self) -> Vec<(u64, [u64; WORDS])> {
         reply::entries(&mut self.0).expect("a writer has no turns")
+    }
+
+    /// Lists each entry with the moment of its key's last put. Each `since` is that of a lookup of the key, so [`put_if`](Writer::put_if)
+    /// takes it. Memory is as for [`entries`](Writer::entries).
+    ///
+    /// # Examples
+    ///
+    /// Whatever was put before a moment is removed:
+    ///
+    /// ```
+    /// use cefrodil::{Cache, Entry, Shape};
+    ///
+    /// let (mut writer, _readers) = Cache::<1>::open(&Shape::for_items(100)?, 1)?;
+    /// writer.put(7, &[70])?;
+    /// let moment = writer.moment();
+    /// writer.put(8, &[80])?;
+    /// for entry in writer.stamped_entries() {
+    ///     if entry.since <= moment {
+    ///         writer.remove(entry.key)?;
+    ///     }
+    /// }
+    /// assert_eq!(writer.stamped_entries(), [Entry { key: 8, value: [80], since: 2 }]);
+    /// # Ok::<(), Box<dyn std::error::Error>>(())
+    /// ```
+    #[must_use]
+    pub fn stamped_entries(&mut self) -> Vec<Entry<WORDS>> {
+        reply::stamped_entries(&mut self.0).expect("a writer has no turns")
     }
 }
 

@@ -3,7 +3,7 @@ use crate::cache::{Reader, Writer};
 use crate::error::{OpenError, PutError, PutIfAbsentError, PutIfError, Spent, TurnError};
 use crate::handle::Handle;
 use crate::raw;
-use crate::reply::{self, Put, Removal, Replaced, Reply, Swapped, Take};
+use crate::reply::{self, Entry, Put, Removal, Replaced, Reply, Swapped, Take};
 use crate::shape::Shape;
 use crate::width::Value;
 use std::fmt::{self, Debug, Formatter};
@@ -285,5 +285,12 @@ impl<const WORDS: usize> Pass<'_, WORDS> {
     #[must_use]
     pub fn try_entries(&mut self) -> Option<Vec<(u64, [u64; WORDS])>> {
         reply::entries(self.handle())
+    }
+
+    /// Lists each entry with the moment of its key's last put, in a turn, as [`Writer::stamped_entries`](crate::Writer::stamped_entries)
+    /// does. `None` if the try for the turn did not win, or if this is a pass of shards: each shard counts its own moments.
+    #[must_use]
+    pub fn try_stamped_entries(&mut self) -> Option<Vec<Entry<WORDS>>> {
+        reply::stamped_entries(self.handle())
     }
 }

@@ -266,4 +266,11 @@ impl Handle {
         let status = unsafe { raw::cefrodil_entries(&mut self.0, entries.as_mut_ptr(), entries.len(), &mut count) };
         (status, count)
     }
+
+    pub fn stamped_entries(&mut self, entries: &mut [u64]) -> (u32, u64) {
+        let mut count = 0;
+        // SAFETY: as in `get`.
+        let status = unsafe { raw::cefrodil_stamped_entries(&mut self.0, entries.as_mut_ptr(), entries.len(), &mut count) };
+        (status, count)
+    }
 }

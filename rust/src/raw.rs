@@ -46,6 +46,7 @@ pub const ALL_RECENT: u32 = 4;
 pub const SPENT: u32 = 5;
 pub const CHANGED: u32 = 6;
 pub const HELD: u32 = 7;
+pub const KIND: u32 = 9;
 pub const NO_MEMORY: u32 = 12;
 pub const BAD_BUCKETS: u32 = 15;
 pub const BAD_ITEMS: u32 = 16;
@@ -173,5 +174,6 @@ unsafe extern "C" {
     pub fn cefrodil_capacity(writer: *mut RawHandle, capacity: *mut u64) -> u32;
     pub fn cefrodil_try_len(pass: *mut RawHandle, len: *mut u64) -> u32;
     pub fn cefrodil_entries(handle: *mut RawHandle, entries: *mut u64, entry_words: usize, count: *mut u64) -> u32;
+    pub fn cefrodil_stamped_entries(handle: *mut RawHandle, entries: *mut u64, entry_words: usize, count: *mut u64) -> u32;
     pub fn cefrodil_close(handle: *mut RawHandle) -> u32;
 }

@@ -60,7 +60,7 @@ pub enum Removal {
     },
 }
 
-/// An entry that a write took out of the cache, as it was just before.
+/// An entry that a write took out of the cache, as it was just before, or one of a list.
 #[derive(Clone, Copy, Debug, PartialEq, Eq, Hash)]
 pub struct Entry<const WORDS: usize> {
     /// The key.
@@ -240,16 +240,28 @@ pub(crate) fn number((status, number): (u32, u64)) -> u64 {
     }
 }
 
-/// The entries of a cache, or none if a try for the turn did not win. The first call tells how many there are.
+/// The entries of a cache, or none if a try for the turn did not win.
 pub(crate) fn entries<const WORDS: usize>(handle: &mut Handle) -> Option<Vec<(u64, [u64; WORDS])>> {
+    let words = listed(1 + WORDS, |words| handle.entries(words))?;
+    Some(words.chunks_exact(1 + WORDS).map(entry).collect())
+}
+
+/// The same with stamps. None also for a pass of shards, which has no such call.
+pub(crate) fn stamped_entries<const WORDS: usize>(handle: &mut Handle) -> Option<Vec<Entry<WORDS>>> {
+    let words = listed(2 + WORDS, |words| handle.stamped_entries(words))?;
+    Some(words.chunks_exact(2 + WORDS).map(stamped).collect())
+}
+
+// The words of a list whose entries have `each` words. The first call tells how many entries there are.
+fn listed(each: usize, mut list: impl FnMut(&mut [u64]) -> (u32, u64)) -> Option<Vec<u64>> {
     let mut words = Vec::new();
     loop {
-        let (status, count) = handle.entries(&mut words);
-        words.resize(count as usize * (1 + WORDS), 0);
+        let (status, count) = list(&mut words);
+        words.resize(count as usize * each, 0);
         match status {
-            raw::OK => return Some(words.chunks_exact(1 + WORDS).map(entry).collect()),
+            raw::OK => return Some(words),
             raw::BAD_COUNT => {}
-            raw::HELD => return None,
+            raw::HELD | raw::KIND => return None,
             raw::NO_MEMORY => handle_alloc_error(Layout::new::<u64>()),
             other => not_told(other),
         }
@@ -261,6 +273,12 @@ fn entry<const WORDS: usize>(words: &[u64]) -> (u64, [u64; WORDS]) {
     let mut value = [0; WORDS];
     value.copy_from_slice(&words[1..]);
     (words[0], value)
+}
+
+// A key, behind it the words of its value, and then its stamp.
+fn stamped<const WORDS: usize>(words: &[u64]) -> Entry<WORDS> {
+    let (key, value) = entry(&words[..1 + WORDS]);
+    Entry { key, value, since: words[1 + WORDS] }
 }
 
 /// The answer of a try for the turn. With the turn, it is the answer of the call.

@@ -1,4 +1,6 @@
-use cefrodil::{Cache, Desk, Mix, OpenError, Put, PutIfAbsentError, PutIfError, Removal, Reply, Shape, Shards, TurnError, Why};
+use cefrodil::{
+    Cache, Desk, Entry, Mix, OpenError, Put, PutIfAbsentError, PutIfError, Removal, Reply, Shape, Shards, TurnError, Why,
+};
 use std::error::Error;
 use std::thread;
 
@@ -41,6 +43,35 @@ fn the_writer_looks_up_counts_and_lists() -> Result<(), Box<dyn Error>> {
     let expected: Vec<_> = (0..60).filter(|key| *key != 7).map(|key| (key, [key, 2 * key])).collect();
     assert_eq!(entries, expected);
     assert_eq!(readers[0].get(8), writer.get(8));
+    Ok(())
+}
+
+#[test]
+fn a_list_has_stamps() -> Result<(), Box<dyn Error>> {
+    let (mut writer, mut readers) = Cache::<2>::open(&Shape::for_items(100)?, 1)?;
+    assert!(writer.stamped_entries().is_empty());
+    for n in 0..60 {
+        writer.put(n % 40, &[n, 2 * n])?;
+    }
+    let entries = writer.stamped_entries();
+    assert_eq!(entries.len(), 40);
+    for Entry { key, value, since } in entries {
+        assert_eq!(readers[0].get(key), Reply::Found { value, at: 60, since });
+        assert_eq!(since, if key < 20 { key + 41 } else { key + 1 });
+    }
+    Ok(())
+}
+
+#[test]
+fn passes_list_stamps() -> Result<(), Box<dyn Error>> {
+    let desk = Desk::<1>::open(&Shape::for_items(100)?, 1)?;
+    let mut pass = desk.pass().ok_or("no pass")?;
+    assert_eq!(pass.try_stamped_entries(), Some(Vec::new()));
+    pass.try_put(7, &[70])?;
+    pass.try_put(7, &[71])?;
+    assert_eq!(pass.try_stamped_entries(), Some(vec![Entry { key: 7, value: [71], since: 2 }]));
+    let mut shards = Shards::<1>::open(&Shape::for_shards(500, 8)?, 8, 1)?;
+    assert_eq!(shards[0].try_stamped_entries(), None);
     Ok(())
 }
 

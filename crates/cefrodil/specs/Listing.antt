@@ -3,6 +3,7 @@ use Rattle.std.specs.Prelude.{ℕ, ◌≡◌, List, length, MatchResult, Result,
 use mathlib.Core.Option.{Option}
 use Rattle.mc_door.specs.Held.{role_in, width_of}
 use Rattle.mc_door.specs.Listing.{HasListed, RefusesList, SeesMore}
+use Rattle.mc_door.specs.StampedListing.{HasListedStamped, RefusesStampedList}
 use Rattle.mc_door.specs.declared.held.Held.{Held}
 use Rattle.mc_door.specs.declared.listed.ListError.{ListError}
 use Rattle.mc_door.specs.declared.listed.ListError.TheVariants as why
@@ -29,3 +30,15 @@ pub record HasMadeList (h h' : Held) (old new : List ℕ) (count count' status :
 abbrev pub ListGives : Option Held → Option Held → List ℕ → List ℕ → ℕ → ℕ → ℕ → Type 0
 ListGives b b' old new count count' status =
     Gives b b' ((status ≡ CLOSED) × (new ≡ old) × (count' ≡ count)) (λ h h'. HasMadeList h h' old new count count' status)
+
+-- the entries were written with their stamps, or there was a reason why not, and then nothing was
+pub record HasMadeStampedList (h h' : Held) (old new : List ℕ) (count count' status : ℕ) : Type 0 where
+  pub width : width_of h' ≡ width_of h
+  pub made : Result ℕ ListError
+  pub means : MatchResult made (λ many. HasListedStamped (width_of h) (role_in h) (role_in h') old new many)
+      (λ e. RefusesStampedList (width_of h) (role_in h) (role_in h') (length old) e × (new ≡ old))
+  pub told : TellsList made count count' status
+
+abbrev pub StampedListGives : Option Held → Option Held → List ℕ → List ℕ → ℕ → ℕ → ℕ → Type 0
+StampedListGives b b' old new count count' status =
+    Gives b b' ((status ≡ CLOSED) × (new ≡ old) × (count' ≡ count)) (λ h h'. HasMadeStampedList h h' old new count count' status)

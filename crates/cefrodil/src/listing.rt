@@ -1,6 +1,6 @@
 //! The entries of a cache that goes on, as C asks for them.
 ghost use Rattle.std.specs.Prelude.{◌≡◌};
-ghost use Rattle.cefrodil.specs.Listing.{ListGives, TellsList};
+ghost use Rattle.cefrodil.specs.Listing.{ListGives, StampedListGives, TellsList};
 ghost use Rattle.cefrodil.specs.Open.{kept};
 
 use crate::slot::Slot;
@@ -43,5 +43,24 @@ pub extern "C" fn cefrodil_entries(
         return CLOSED;
     }
     let listed = handle.handle.held().entries(alloc, entries);
+    tell(listed, count)
+}
+
+/// Each entry of the cache with its stamp, by the writer's handle or a pass at a desk: its key, its value, and then its stamp.
+#[tactic(auto, using(crate::proofs::Gives::gives_open, crate::proofs::Gives::gives_closed))]
+#[unsafe(no_mangle)]
+pub extern "C" fn cefrodil_stamped_entries(
+    alloc: Global,
+    handle: &mut Slot,
+    entries: &mut [u64],
+    count: &mut u64,
+) -> u32
+    ensures open { handle.new.live ≡ handle.old.live }
+    ensures told { StampedListGives (kept handle.old) (kept handle.new) entries.old entries.new count.old count.new result }
+{
+    if !handle.live {
+        return CLOSED;
+    }
+    let listed = handle.handle.held().stamped_entries(alloc, entries);
     tell(listed, count)
 }

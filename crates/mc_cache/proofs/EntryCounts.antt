@@ -1,10 +1,11 @@
 -- A list of the entries is as long as there are keys.
-use Rattle.std.proofs.Common.{ℕ, suc, ◌≡◌, ◌≢◌, ◌<◌, ◌∙◌, List, [], ◌∷◌, AllPairs, Option, Some, None, eqb, false, get_or, is_some, length, ap, refl, sym, arith}
+use Rattle.std.proofs.Common.{ℕ, suc, ◌≡◌, ◌≢◌, ◌<◌, ◌∙◌, List, [], ◌∷◌, AllPairs, Option, Some, None, eqb, false, get_or, is_some, length, map, ap, refl, sym, arith}
 use Rattle.std.specs.Cmp.{nat_eq_equiv}
 use Rattle.std.specs.List.{AllByRecursion, IsDistinct}
 use Rattle.std.specs.Map.{keys_of}
 use Rattle.std.specs.Option.{option_map}
 use Rattle.std.proofs.lemmas.Bool.{ne_eqb}
+use Rattle.std.proofs.lemmas.List.{length-map}
 use Rattle.std.proofs.lemmas.Map.Entries.{length-keys_of}
 use Rattle.std.proofs.lemmas.Map.Keys.{IsDistinct-cons}
 use Rattle.std.proofs.lemmas.Map.Made.{is_some-lookup, length-from_same_keys}
@@ -12,6 +13,8 @@ use Rattle.mc_words.proofs.Maps.{distinct_keys}
 use Rattle.mc_words.specs.History.{key_count, map_from, map_value, value_of}
 use Rattle.mc_words.specs.declared.history.Change.{Change}
 use Rattle.mc_search.specs.Entries.{AreEntriesOf}
+use Rattle.mc_writer.specs.declared.entry.Entry.{Entry as Stamped}
+use Rattle.mc_cache.specs.Stamped.{AreStampedEntriesOf, pair_of}
 
 abbrev Entry : Type 0
 Entry = ℕ × List ℕ
@@ -38,3 +41,7 @@ entries_many V h es are =
     let same = length-from_same_keys nat_eq_equiv (keys_of es) (keys_of m) (distinct_entries es are.once) (distinct_keys 1 [] h tt) (λ k.
     sym (is_some-lookup (eqb k) es) ∙ ap is_some (are.values k) ∙ held_if_there V (map_value h k) ∙ is_some-lookup (eqb k) m) in
     sym (length-keys_of es) ∙ same ∙ length-keys_of m
+
+-- and so is one with their stamps
+pub stamped_many : (V : ℕ) (h : List (Change V)) (es : List (Stamped V)) → AreStampedEntriesOf V h es → length es ≡ key_count h
+stamped_many V h es are = sym (length-map es pair_of) ∙ entries_many V h (map pair_of es) are.entries

@@ -4,6 +4,7 @@ pub mod OrderedAnswers
 pub mod PlainCalls
 pub mod FailedCalls
 pub mod EntryCounts
+pub mod StampedLists
 pub mod LoadedEntries
 pub mod HistoryLaws
 pub mod Sent

@@ -51,6 +51,7 @@ use Rattle.mc_theory.specs.declared.act.Act.TheVariants.{Mark}
 use Rattle.mc_shared.specs.declared.layout.Layout.{Layout}
 use Rattle.mc_writer.specs.declared.entry.Entry.{Entry}
 use Rattle.mc_writer.specs.declared.entry.Swapped.{Swapped}
+use Rattle.mc_cache.specs.Stamped.{AreStampedEntriesOf}
 use Rattle.mc_cache.specs.Taking.{Holds, SwapMeans, giving_way, put_of, swap_answer}
 use Rattle.mc_cache.specs.Plain.{Begins, HasAnswered, HasMet, PutIfAbsentMeans, PutIfMeans, PutMeans, RemovalMeans, TellsNow, history, moment_of, seen}
 
@@ -205,6 +206,9 @@ module _ (V : ℕ) (o cells : Opening) (self seat : WriterRecord) (table : cells
 
   pub entries_now : (es : List (ℕ × List ℕ)) → AreEntriesOf V (state_of V cells.layout.shape seat.acts).history es → AreEntriesOf V (history V self) es
   entries_now es e = subst (λ (h : List (Change V)). AreEntriesOf V h es) (sym history_before) e
+
+  pub stamped_now : (es : List (Entry V)) → AreStampedEntriesOf V (state_of V cells.layout.shape seat.acts).history es → AreStampedEntriesOf V (history V self) es
+  stamped_now es e = subst (λ (h : List (Change V)). AreStampedEntriesOf V h es) (sym history_before) e
 
 -- the moment that a writer keeps is the length of the history
 pub moment_tells : (V : ℕ) (books : Books) (self seat : WriterRecord) (n : ℕ) → seat ≡ self → IsRested V books seat → KeepsMoment V seat n → n ≡ length (history V self)

@@ -1,2 +1,3 @@
 pub mod KeptMoments
+pub mod StampedLists
 pub mod Turned

@@ -6,6 +6,7 @@ pub mod Orders
 pub mod Plain
 pub mod PlainLaws
 pub mod Resting
+pub mod Stamped
 pub mod Taking
 pub mod Turns
 pub mod Inside
@@ -13,6 +14,7 @@ pub mod Inside
 pub use Rattle.mc_words.specs.declared.history.Change
 pub use Rattle.mc_words.specs.declared.history.Reply
 pub use Rattle.mc_plan.specs.declared.answer.AbsentError
+pub use Rattle.mc_plan.specs.declared.answer.IfError
 pub use Rattle.mc_plan.specs.declared.answer.Put
 pub use Rattle.mc_plan.specs.declared.answer.PutError
 pub use Rattle.mc_plan.specs.declared.answer.Remove

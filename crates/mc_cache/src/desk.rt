@@ -6,14 +6,14 @@ use crate::cache::Cache;
 use crate::lending::{FREE, LiesThere, WORDS, give, take};
 use crate::reader::Reader;
 use crate::turn::{
-    count_in_turn, get_in_turn, list_in_turn, put_if_absent_in_turn, put_if_in_turn, put_in_turn,
-    remove_in_turn, swap_if_in_turn, swap_in_turn, take_in_turn,
+    count_in_turn, get_in_turn, list_in_turn, list_stamped_in_turn, put_if_absent_in_turn,
+    put_if_in_turn, put_in_turn, remove_in_turn, swap_if_in_turn, swap_in_turn, take_in_turn,
 };
 use crate::writer::Writer;
 use atomic_table::{Refused, Table};
 use mc_plan::{AbsentError, IfError, Put, PutError, Remove, Spent};
 use mc_words::{NoMemory, Reply};
-use mc_writer::{Replaced, Swapped, Take};
+use mc_writer::{Entry, Replaced, Swapped, Take};
 use std::alloc::{AllocFailed, Global};
 use std::marker::Model;
 use std::snapshot::Snapshot;
@@ -58,6 +58,7 @@ impl<const V: usize> Model for Desk<V> {
 
 impl<const V: usize> Desk<V> {
     ghost use Rattle.mc_cache.specs.Failing.{PutFails, PutIfAbsentFails, PutIfFails, RemovalFails, SwapFails, SwapIfFails, TakeFails, TurnFails, versions_seen};
+    ghost use Rattle.mc_cache.specs.Stamped.{AreStampedEntriesOf};
     ghost use Rattle.mc_cache.specs.Taking.{SwapIfMeans, SwapMeans, TakeMeans, swap_answer, swap_if_answer, take_answer};
     ghost use Rattle.mc_cache.specs.Plain.{AreEntriesOf, Begins, PutIfAbsentMeans, PutIfMeans, PutMeans, RemovalMeans, TurnMeans, seen};
     ghost use Rattle.mc_cache.specs.Turns.{HasMetAtDesk, HasTried, HasTriedIfAbsent, HasTriedToList};
@@ -271,6 +272,28 @@ impl<const V: usize> Desk<V> {
             return Err(DeskError::Held);
         };
         let listed = list_in_turn(alloc, cache, pass, seat.slot_mut(shared, 0));
+        give(shared, seat);
+        listed
+    }
+
+    /// Like `try_entries`, with `Writer::stamped_entries`.
+    pub fn try_stamped_entries(
+        &self,
+        alloc: Global,
+        cache: &Cache<V>,
+        pass: &mut Reader<V>,
+    ) -> Result<Vec<Entry<V>>, DeskError<NoMemory>>
+        requires of { (self.now ≡ cache.now) × (pass.old.of ≡ cache.now) }
+        ensures of { pass.new.of ≡ pass.old.of }
+        ensures met { HasTriedToList V pass.old pass.new result }
+        ensures begins { Begins (seen V pass.old) (seen V pass.new) }
+        ensures plain { IfOk result (λ es. AreStampedEntriesOf V (seen V pass.new) es.items) }
+    {
+        let shared = &self.table.shared;
+        let Some(mut seat) = take(shared) else {
+            return Err(DeskError::Held);
+        };
+        let listed = list_stamped_in_turn(alloc, cache, pass, seat.slot_mut(shared, 0));
         give(shared, seat);
         listed
     }

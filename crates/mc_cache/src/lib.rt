@@ -30,6 +30,7 @@ mod listing;
 mod loading;
 mod opening;
 mod reader;
+mod stamped;
 mod taking;
 mod turn;
 mod writer;

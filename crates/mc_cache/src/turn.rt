@@ -7,6 +7,7 @@ ghost use Rattle.mc_cache.specs.Failing.{PutFails, PutIfAbsentFails, PutIfFails,
 ghost use Rattle.mc_cache.specs.Taking.{SwapIfMeans, SwapMeans, TakeMeans, swap_answer, swap_if_answer, take_answer};
 ghost use Rattle.mc_cache.specs.Plain.{AreEntriesOf, Begins, HasMet, PutIfAbsentMeans, PutIfMeans, PutMeans, RemovalMeans, TurnMeans, history, seen};
 ghost use Rattle.mc_cache.specs.Resting.{IsAtRest};
+ghost use Rattle.mc_cache.specs.Stamped.{AreStampedEntriesOf};
 ghost use Rattle.mc_cache.specs.Turns.{HasMetAtDesk, HasTried, HasTriedIfAbsent, HasTriedToList};
 ghost use Rattle.mc_words.specs.History.{key_count};
 
@@ -16,7 +17,7 @@ use crate::reader::Reader;
 use crate::writer::Writer;
 use mc_plan::{AbsentError, IfError, Put, PutError, Remove, Spent};
 use mc_words::{NoMemory, Reply};
-use mc_writer::{Replaced, Swapped, Take};
+use mc_writer::{Entry, Replaced, Swapped, Take};
 use std::alloc::Global;
 
 // The pass meets the writer before the call.
@@ -233,6 +234,23 @@ pub(crate) fn list_in_turn<const V: usize>(
 {
     begin(cache, pass, writer);
     turned(writer.entries(alloc, cache))
+}
+
+/// A turn that lists the entries with their stamps.
+pub(crate) fn list_stamped_in_turn<const V: usize>(
+    alloc: Global,
+    cache: &Cache<V>,
+    pass: &mut Reader<V>,
+    writer: &mut Writer<V>,
+) -> Result<Vec<Entry<V>>, DeskError<NoMemory>>
+    requires of { (pass.old.of ≡ cache.now) × (writer.old.of ≡ cache.now) }
+    ensures writer { (writer.new ≡ writer.old) × IsAtRest V writer.new }
+    ensures met { HasTriedToList V pass.old pass.new result }
+    ensures begins { Begins (seen V pass.old) (seen V pass.new) }
+    ensures plain { IfOk result (λ es. AreStampedEntriesOf V (seen V pass.new) es.items) }
+{
+    begin(cache, pass, writer);
+    turned(writer.stamped_entries(alloc, cache))
 }
 
 /// A turn that counts the keys.

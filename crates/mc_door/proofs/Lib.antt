@@ -2,3 +2,4 @@ pub mod LoadedSides
 pub mod MoreEntries
 pub mod NewReaders
 pub mod ListedWords
+pub mod HeldLists

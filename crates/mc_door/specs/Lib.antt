@@ -10,4 +10,5 @@ pub mod Leaving
 pub mod Counting
 pub mod Loading
 pub mod Listing
+pub mod StampedListing
 pub mod Inside

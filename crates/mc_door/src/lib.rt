@@ -18,6 +18,7 @@ mod rest;
 mod shard_rest;
 mod shard_side;
 mod side;
+mod stamped;
 mod taking;
 mod widths;
 mod words;

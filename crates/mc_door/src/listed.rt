@@ -1,5 +1,5 @@
 //! The entries of a cache, written as the words that cross the border.
-ghost use Rattle.std.specs.Prelude.{◌≡◌, ◌+◌, ◌*◌, ◌<◌, MatchResult, length};
+ghost use Rattle.std.specs.Prelude.{◌≡◌, ◌+◌, ◌*◌, ◌<◌, ◌≤◌, MatchResult, length};
 ghost use Rattle.mc_words.specs.Places.{IsWidth};
 ghost use Rattle.mc_door.specs.Listing.{AreEntries, AreWritten, HasListed, RefusesList, SeesMore, words_of};
 ghost use Rattle.mc_door.specs.Inside.Lists.{RefusesOutright, of_turn};
@@ -22,6 +22,16 @@ pub enum ListError {
     Count(usize),
     /// There is no memory for the list.
     NoMemory,
+}
+
+// The number of words that so many entries need, where there are as many.
+pub(crate) fn room_for(count: usize, each: usize, words: usize) -> Result<usize, ListError>
+    ensures { MatchResult result (λ needed. (needed ≡ count * each) × (needed ≤ words)) (λ e. (e ≡ why.Count count) × (words < count * each)) }
+{
+    match count.checked_mul(each) {
+        Some(needed) if needed <= words => Ok(needed),
+        _ => Err(ListError::Count(count)),
+    }
 }
 
 // Writes the entries one after the other, each as its key and then its value.
@@ -47,18 +57,13 @@ fn write_all<const V: usize>(
         (λ e. (e ≡ why.Count (length entries.now)) × (length words.old < length entries.now * (1 + V)) × (words.new ≡ words.old)) }
 {
     let count = entries.len();
-    let Some(needed) = count.checked_mul(1 + V) else {
-        return Err(ListError::Count(count));
-    };
-    if needed > words.len() {
-        return Err(ListError::Count(count));
-    }
+    let needed = room_for(count, 1 + V, words.len())?;
     write_entries::<V>(entries, &mut words[..needed]);
     Ok(count)
 }
 
 // What a turn listed.
-fn of_turn<T>(listed: Result<T, DeskError<NoMemory>>) -> Result<T, ListError>
+pub(crate) fn of_turn<T>(listed: Result<T, DeskError<NoMemory>>) -> Result<T, ListError>
     ensures { result ≡ of_turn listed }
 {
     match listed {

@@ -8,6 +8,7 @@ mod loading;
 mod opening;
 mod seen;
 mod shards;
+mod stamped;
 mod world;
 
 use crate::opening::{Making, see_making};
@@ -31,6 +32,7 @@ fn see(alloc: Global, name: &str) -> Option<Seen> {
         "load" => Some(loading::see_loading(alloc)),
         "shards" => Some(shards::see_shards(alloc)),
         "entries" => Some(loading::see_entries(alloc)),
+        "stamped" => Some(stamped::see_stamped(alloc)),
         _ => None,
     }
 }

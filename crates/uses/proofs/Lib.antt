@@ -1,5 +1,6 @@
 pub mod TakenOut
 pub mod OneShard
 pub mod Kept
+pub mod Touched
 pub mod Stamps
 pub mod SameEntries

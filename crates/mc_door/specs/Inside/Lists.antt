@@ -1,11 +1,13 @@
 -- A list, before it is written as words.
-use Rattle.std.specs.Prelude.{Result, Ok, Err}
+use Rattle.std.specs.Prelude.{ℕ, ◌≡◌, Result, Ok, Err}
 use Rattle.mc_words.specs.declared.no_memory.NoMemory.{NoMemory}
 use Rattle.mc_cache.specs.declared.desk.DeskError.{DeskError}
 use Rattle.mc_cache.specs.declared.desk.DeskError.TheVariants as desk
-use Rattle.mc_door.specs.Listing.{CanList}
+use Rattle.mc_door.specs.Leaving.{IsPass}
+use Rattle.mc_door.specs.Listing.{CanList, SeesMore}
 use Rattle.mc_door.specs.Means.{HasTurns}
 use Rattle.mc_door.specs.Roles.{Role}
+use Rattle.mc_door.specs.StampedListing.{CanListStamped}
 use Rattle.mc_door.specs.declared.listed.ListError.{ListError}
 use Rattle.mc_door.specs.declared.listed.ListError.TheVariants as why
 
@@ -21,3 +23,10 @@ RefusesOutright role why.Kind = ¬ CanList role
 RefusesOutright role why.Held = HasTurns role
 RefusesOutright role (why.Count count) = ⊥
 RefusesOutright role why.NoMemory = CanList role
+
+-- and none with its stamp
+abbrev pub RefusesStampedOutright : (V : ℕ) → Role → Role → ListError → Type 0
+RefusesStampedOutright V role role' why.Kind = (¬ CanListStamped role) × (role' ≡ role)
+RefusesStampedOutright V role role' why.Held = IsPass role × (role' ≡ role)
+RefusesStampedOutright V role role' (why.Count count) = ⊥
+RefusesStampedOutright V role role' why.NoMemory = SeesMore V role role' × CanListStamped role

@@ -1,0 +1,42 @@
+-- The entries of a cache with their stamps as words, as a list for C has them.
+use Rattle.std.specs.Prelude.{ℕ, ◌≡◌, ◌+◌, ◌*◌, ◌<◌, List, [], ◌∷◌, ◌++◌, length, map}
+use Rattle.mc_cache.specs.Plain.{history, seen}
+use Rattle.mc_cache.specs.Stamped.{AreStampedEntriesOf}
+use Rattle.mc_writer.specs.declared.entry.Entry.{Entry}
+use Rattle.mc_door.specs.Leaving.{IsPass}
+use Rattle.mc_door.specs.Listing.{AreWritten, SeesMore}
+use Rattle.mc_door.specs.Roles.{Role, Writes, Passes}
+use Rattle.mc_door.specs.declared.listed.ListError.{ListError}
+use Rattle.mc_door.specs.declared.listed.ListError.TheVariants as why
+
+-- the writer lists, and a pass at a desk in a turn
+abbrev pub CanListStamped : Role → Type 0
+CanListStamped (Writes w) = Unit {0}
+CanListStamped (Passes r) = Unit {0}
+CanListStamped _ = ⊥
+
+-- all entries of the history that the side has made or seen, with their stamps
+abbrev pub AreStampedEntries : (V : ℕ) → Role → List (Entry V) → Type 0
+AreStampedEntries V (Writes w) es = AreStampedEntriesOf V (history V w) es
+AreStampedEntries V (Passes r) es = AreStampedEntriesOf V (seen V r) es
+AreStampedEntries V _ es = ⊥
+
+-- an entry as a key with V + 1 words: its value, and then its stamp
+abbrev pub row_of : {V : ℕ} → Entry V → ℕ × List ℕ
+row_of entry = (entry.key, entry.value ++ entry.since ∷ [])
+
+-- all entries were written
+abbrev pub HasListedStamped : (V : ℕ) → Role → Role → List ℕ → List ℕ → ℕ → Type 0
+HasListedStamped V role role' old new count =
+    SeesMore V role role' × ((es : List (Entry V)) × AreStampedEntries V role' es × AreWritten (V + 1) (map row_of es) old new count)
+
+-- there are so many entries, for which the words do not suffice
+abbrev pub HasMoreStamped : (V : ℕ) → Role → ℕ → ℕ → Type 0
+HasMoreStamped V role words count = (es : List (Entry V)) × AreStampedEntries V role es × (count ≡ length es) × (words < count * (2 + V))
+
+-- the side does not list, its try for a turn was held, there are more entries than fit, or there is no memory
+abbrev pub RefusesStampedList : (V : ℕ) → Role → Role → ℕ → ListError → Type 0
+RefusesStampedList V role role' words why.Kind = (¬ CanListStamped role) × (role' ≡ role)
+RefusesStampedList V role role' words why.Held = IsPass role × (role' ≡ role)
+RefusesStampedList V role role' words (why.Count count) = SeesMore V role role' × HasMoreStamped V role' words count
+RefusesStampedList V role role' words why.NoMemory = SeesMore V role role' × CanListStamped role

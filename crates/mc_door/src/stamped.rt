@@ -1,0 +1,107 @@
+//! The entries of a cache with their stamps, written as the words that cross the border.
+ghost use Rattle.std.specs.Prelude.{◌≡◌, ◌+◌, ◌*◌, ◌<◌, IfOk, MatchResult, length, map};
+ghost use Rattle.mc_words.specs.Places.{IsWidth};
+ghost use Rattle.mc_cache.specs.Plain.{Begins, history, seen};
+ghost use Rattle.mc_cache.specs.Stamped.{AreStampedEntriesOf};
+ghost use Rattle.mc_cache.specs.Turns.{HasTriedToList};
+ghost use Rattle.mc_door.specs.Held.{role_in, width_of};
+ghost use Rattle.mc_door.specs.Inside.Lists.{RefusesStampedOutright};
+ghost use Rattle.mc_door.specs.Listing.{AreWritten, SeesMore, words_of};
+ghost use Rattle.mc_door.specs.Roles.{role_of};
+ghost use Rattle.mc_door.specs.StampedListing.{AreStampedEntries, HasListedStamped, RefusesStampedList, row_of};
+ghost use Rattle.mc_door.specs.declared.listed.ListError.TheVariants as why;
+
+use crate::held::Held;
+use crate::listed::{ListError, of_turn, room_for};
+use crate::pass_side::PassSide;
+use crate::side::Side;
+use crate::with_side;
+use crate::writer_side::WriterSide;
+use mc_cache::{DeskError, Entry};
+use mc_words::NoMemory;
+use std::alloc::Global;
+
+// Writes the entries one after the other, each as its key, its value and its stamp.
+fn write_stamped<const V: usize>(entries: &[Entry<V>], words: &mut [u64])
+    requires { length words.old ≡ length entries.now * (2 + V) }
+    ensures { words.new ≡ words_of (map row_of entries.now) }
+{
+    for index in 0..entries.len() {
+        let start = index * (2 + V);
+        let entry = entries[index];
+        let value = entry.value;
+        words[start] = entry.key;
+        words[start + 1..start + 1 + V].copy_from_slice(&value);
+        words[start + 1 + V] = entry.since;
+    }
+}
+
+// The same, where there are words enough.
+fn write_all<const V: usize>(entries: &[Entry<V>], words: &mut [u64]) -> Result<usize, ListError>
+    requires { IsWidth V }
+    ensures { MatchResult result (λ count. AreWritten (V + 1) (map row_of entries.now) words.old words.new count)
+        (λ e. (e ≡ why.Count (length entries.now)) × (length words.old < length entries.now * (2 + V)) × (words.new ≡ words.old)) }
+{
+    let count = entries.len();
+    let needed = room_for(count, 2 + V, words.len())?;
+    write_stamped::<V>(entries, &mut words[..needed]);
+    Ok(count)
+}
+
+impl<const V: usize> WriterSide<V> {
+    fn stamped_entries(&mut self, alloc: Global) -> Result<Vec<Entry<V>>, NoMemory>
+        ensures writer { self.new.writer ≡ self.old.writer }
+        ensures plain { IfOk result (λ es. AreStampedEntriesOf V (history V self.old.writer) es.items) }
+    {
+        self.writer.stamped_entries(alloc, &self.cache)
+    }
+}
+
+impl<const V: usize> PassSide<V> {
+    fn stamped_entries(&mut self, alloc: Global) -> Result<Vec<Entry<V>>, DeskError<NoMemory>>
+        ensures of { self.new.pass.of ≡ self.old.pass.of }
+        ensures met { HasTriedToList V self.old.pass self.new.pass result }
+        ensures begins { Begins (seen V self.old.pass) (seen V self.new.pass) }
+        ensures plain { IfOk result (λ es. AreStampedEntriesOf V (seen V self.new.pass) es.items) }
+    {
+        self.desk
+            .try_stamped_entries(alloc, &self.cache, &mut self.pass)
+    }
+}
+
+impl<const V: usize> Side<V> {
+    fn list_stamped(&mut self, alloc: Global) -> Result<Vec<Entry<V>>, ListError>
+        ensures { MatchResult result (λ es. SeesMore V (role_of self.old) (role_of self.new) × AreStampedEntries V (role_of self.new) es.items)
+            (RefusesStampedOutright V (role_of self.old) (role_of self.new)) }
+    {
+        match self {
+            Side::Writer(side) => match side.stamped_entries(alloc) {
+                Ok(entries) => Ok(entries),
+                Err(NoMemory) => Err(ListError::NoMemory),
+            },
+            Side::Pass(side) => of_turn(side.stamped_entries(alloc)),
+            Side::Shard(_) | Side::Reader(_) | Side::Nothing => Err(ListError::Kind),
+        }
+    }
+
+    fn stamped_entries(&mut self, alloc: Global, words: &mut [u64]) -> Result<usize, ListError>
+        requires width { IsWidth V }
+        ensures { MatchResult result (λ count. HasListedStamped V (role_of self.old) (role_of self.new) words.old words.new count)
+            (λ e. RefusesStampedList V (role_of self.old) (role_of self.new) (length words.old) e × (words.new ≡ words.old)) }
+    {
+        let entries = self.list_stamped(alloc)?;
+        write_all::<V>(entries.as_slice(), words)
+    }
+}
+
+impl Held {
+    /// Writes each entry of the cache as its key, its value and the moment of its key's last put, and returns how many they are:
+    /// `Writer::stamped_entries` or `Desk::try_stamped_entries`, by the writer or a pass at a desk.
+    pub fn stamped_entries(&mut self, alloc: Global, words: &mut [u64]) -> Result<usize, ListError>
+        ensures width { width_of self.new ≡ width_of self.old }
+        ensures listed { MatchResult result (λ count. HasListedStamped (width_of self.old) (role_in self.old) (role_in self.new) words.old words.new count)
+            (λ e. RefusesStampedList (width_of self.old) (role_in self.old) (role_in self.new) (length words.old) e × (words.new ≡ words.old)) }
+    {
+        with_side!(self, side => side.stamped_entries(alloc, words))
+    }
+}
