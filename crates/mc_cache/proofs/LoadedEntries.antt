@@ -10,9 +10,10 @@ use Rattle.mc_plan.specs.declared.answer.Answer.TheVariants as answer
 use Rattle.mc_plan.specs.declared.answer.Put.{Put}
 use Rattle.mc_plan.specs.declared.answer.Why.{Why}
 use Rattle.mc_plan.specs.Loads.{Loads, changes_by, left_by}
-use Rattle.mc_plan.proofs.Calls.Loading.{loads_history, loads_more, loads_none}
+use Rattle.mc_plan.proofs.Calls.Loading.{loads_history, loads_more}
 use Rattle.mc_shared.specs.Records.{Opening, WriterRecord}
 use Rattle.mc_writer.specs.WriterCalls.{HasCalled}
+use Rattle.mc_cache.proofs.PlainCalls.{kept_means}
 use Rattle.mc_cache.specs.Plain.{TakesOrNames, history}
 
 -- ---- the entries that were put so far
@@ -31,6 +32,11 @@ loaded_more V sh start before after es n k v left told index so called =
       called.acts ∙ ap (λ (xs : List Made). xs ++ called.made) so.2 ∙ append_assoc start.acts so.0 called.made,
       loads_more V sh s 0 n es k v so.0 called.made so.1 left told so.3 (omega (arith, index)) a,
     )
+
+-- one put makes its change of the history
+pub kept_history : (V : ℕ) (sh : Shape) (before after : WriterRecord) (k : ℕ) (v : List ℕ) (told : Result Put Why) → before.of.layout.shape ≡ sh → HasCalled V sh (KeptCall k v) before after (answer.Kept told) → history V after ≡ history V before ++ changes_by k v told
+kept_history V sh before after k v told shape called =
+    kept_means V before.of before.of before before refl refl refl after k v told (subst (λ (z : Shape). HasCalled V z (KeptCall k v) before after (answer.Kept told)) (sym shape) called)
 
 -- a new table has no history
 opening_new : (V : ℕ) (sh : Shape) → (opening V sh).history ≡ []
