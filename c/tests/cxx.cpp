@@ -88,7 +88,6 @@ static void typed(const cefrodil_shape &shape) {
 static void by_turns(std::vector<Pass<1>> passes) {
     std::vector<uint64_t> list;
     MUST(passes[0].try_put(1, {0}).status == Status::ok && passes[1].try_entries(list) == Status::ok && list.size() == 2 && list[0] == 1);
-    MUST(passes[1].try_stamped_entries(list) == Status::ok && list.size() == 3 && list[0] == 1 && list[2] == 1);
     std::vector<std::thread> threads;
     for (Pass<1> &pass : passes) {
         threads.emplace_back([mine = std::move(pass)]() mutable {
@@ -109,6 +108,14 @@ static void by_turns(std::vector<Pass<1>> passes) {
     }
 }
 
+// A pass of shards doesn't list stamps.
+static void stamped(Pass<1> &at_desk, Pass<1> &of_shards) {
+    std::vector<uint64_t> list;
+    MUST(at_desk.try_put(1, {7}).status == Status::ok && at_desk.try_put(1, {8}).status == Status::ok);
+    MUST(at_desk.try_stamped_entries(list) == Status::ok && list == std::vector<uint64_t>({1, 8, 2}));
+    MUST(of_shards.try_stamped_entries(list) == Status::kind && list.empty());
+}
+
 // Both passes leave, and the second one gets the writer.
 static void leaving(std::vector<Pass<1>> passes) {
     cefrodil::Reader<1> readers[2];
@@ -124,7 +131,9 @@ int main() {
     apart(*shape);
     opened_with(*shape);
     typed(*shape);
-    std::vector<Pass<1>> passes;
+    std::vector<Pass<1>> passes, others;
+    MUST(cefrodil::open_desk(*shape, 1, passes) == Status::ok && cefrodil::open_shards(*part, 4, 1, others) == Status::ok);
+    stamped(passes[0], others[0]);
     MUST(cefrodil::open_desk(*shape, 3, passes) == Status::ok);
     by_turns(std::move(passes));
     MUST(cefrodil::open_desk(*shape, 2, passes) == Status::ok);

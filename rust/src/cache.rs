@@ -38,7 +38,7 @@ pub struct Opened<const WORDS: usize> {
 
 impl<const WORDS: usize> Cache<WORDS> {
     /// Opens an empty cache of this shape, with its writer and this many readers, 1 to 1024. This takes all memory; of later
-    /// calls only [`Writer::entries`] takes any.
+    /// calls only [`Writer::entries`] and [`Writer::stamped_entries`] take any.
     ///
     /// # Errors
     ///
@@ -292,12 +292,12 @@ impl<const WORDS: usize> Writer<WORDS> {
         reply::entries(&mut self.0).expect("a writer has no turns")
     }
 
-    /// Lists each entry with the moment of its key's last put. Each `since` is that of a lookup of the key, so [`put_if`](Writer::put_if)
-    /// takes it. Memory is as for [`entries`](Writer::entries).
+    /// Lists each entry with the moment of its key's last put. A lookup of the key would return the same `since`, so pass it to
+    /// [`put_if`](Writer::put_if). The call takes memory as [`entries`](Writer::entries) does.
     ///
     /// # Examples
     ///
-    /// Whatever was put before a moment is removed:
+    /// Removes each key that has had no put since a moment:
     ///
     /// ```
     /// use cefrodil::{Cache, Entry, Shape};
