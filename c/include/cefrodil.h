@@ -247,16 +247,19 @@ CEFRODIL_CHECKED cefrodil_status cefrodil_take_out(cefrodil_handle *handle, uint
 /* Ends a pass's turns: its handle becomes a reader's. The last pass of a desk gets the writer back, so a program can go on with one
  * writer. For that every pass of the desk leaves, in any order and in any thread, or is closed.
  * OK: this was the last pass, and `writer` is open. NOT_LAST: other passes are at the desk, and `writer` is empty.
- * Otherwise nothing was done: the first that applies of IN_USE (`writer` was open before), CLOSED, NO_MEMORY, KIND (also by a pass of
- * shards). */
+ * Otherwise nothing was done: the first that applies of IN_USE (`writer` was open before), CLOSED, KIND (also by a pass of shards),
+ * NO_MEMORY. */
 CEFRODIL_CHECKED cefrodil_status cefrodil_leave_desk(cefrodil_handle *pass, cefrodil_handle *writer);
 
-/* The number of changes to the table, which is the `at` of a lookup made now; the number of keys in it; the number of keys that it
- * holds at most, the `items` of its shape. By the writer. None of the three looks through the table.
+/* The number of changes to the table, which is the `at` of a lookup made now, and the number of keys in it. By the writer. Neither
+ * looks through the table.
  * OK: the number is set. CLOSED, KIND: it is unchanged. */
 CEFRODIL_CHECKED cefrodil_status cefrodil_moment(cefrodil_handle *writer, uint64_t *moment);
 CEFRODIL_CHECKED cefrodil_status cefrodil_len(cefrodil_handle *writer, uint64_t *len);
-CEFRODIL_CHECKED cefrodil_status cefrodil_capacity(cefrodil_handle *writer, uint64_t *capacity);
+
+/* The number of keys that the cache holds at most: the `items` of its shape, times the shards if there are any. By any handle.
+ * OK: the number is set. CLOSED: it is unchanged. */
+CEFRODIL_CHECKED cefrodil_status cefrodil_capacity(cefrodil_handle *handle, uint64_t *capacity);
 
 /* The number of keys in the table, by a pass of a desk, which tries once for the turn.
  * OK: `len` is set. HELD: the try did not win. CLOSED; KIND: also by a pass of shards. Unless OK, `len` is unchanged. */

@@ -276,6 +276,8 @@ template <size_t Words> class Reader : public Handle {
         static_assert(sizeof(Value) == Words * sizeof(uint64_t), "values lie one after the other");
         return static_cast<Status>(cefrodil_get_many(raw(), keys, count, count != 0 ? values->data() : nullptr, Words * count, answers, count));
     }
+    // The number of keys that the cache holds at most. By a pass of shards, that of all shards.
+    Status capacity(uint64_t &number) { return static_cast<Status>(cefrodil_capacity(raw(), &number)); }
 };
 
 // A thread's access to a desk or to shards: it looks up like a reader, and tries for the turn to write.

@@ -36,6 +36,7 @@ static void apart(const cefrodil_shape &shape) {
     MUST(writer.put_if(1, 9, {0, 0}).status == Status::changed && writer.put(1, {7, 9}).renewed);
     uint64_t keys_now = 0, most = 0, moment = 0;
     MUST(writer.len(keys_now) == Status::ok && writer.capacity(most) == Status::ok && writer.moment(moment) == Status::ok);
+    MUST(readers[0].capacity(keys_now) == Status::ok && keys_now == most && writer.len(keys_now) == Status::ok);
     MUST(keys_now == 1 && most == shape.items && moment == 2 && (*writer.get(1).value)[1] == 9);
     std::vector<uint64_t> list;
     MUST(writer.entries(list) == Status::ok && list.size() == 3 && list[0] == 1 && list[2] == 9);

@@ -126,6 +126,18 @@ static int all_list(const cefrodil_shape *shape, size_t words) {
     return listed;
 }
 
+/* Another handle gets KIND, whether there is memory or not. */
+static int leaves_by_kind_first(const cefrodil_shape *shape, size_t words) {
+    cefrodil_handle reader = CEFRODIL_EMPTY, its_writer = CEFRODIL_EMPTY, none = CEFRODIL_EMPTY;
+    int kind = cefrodil_open(shape, words, &its_writer, &reader, 1) == CEFRODIL_OK;
+    left = 0;
+    kind = kind && cefrodil_leave_desk(&reader, &none) == CEFRODIL_KIND && cefrodil_leave_desk(&its_writer, &none) == CEFRODIL_KIND;
+    left = -1;
+    cefrodil_close(&reader);
+    cefrodil_close(&its_writer);
+    return kind && !none.live_;
+}
+
 /* A pass that finds no memory is still at its desk. The writer's handle is all that leaving keeps. */
 static int leaves(const cefrodil_shape *shape, size_t words) {
     cefrodil_reply reply;
@@ -137,6 +149,7 @@ static int leaves(const cefrodil_shape *shape, size_t words) {
     before = kept, left = 0;
     left_it = left_it && cefrodil_leave_desk(&handles[0], &writer) == CEFRODIL_NO_MEMORY && !writer.live_;
     left = -1;
+    left_it = left_it && leaves_by_kind_first(shape, words);
     left_it = left_it && kept == before && cefrodil_try_put(&handles[0], 1, entries, words, &reply) == CEFRODIL_OK &&
               cefrodil_leave_desk(&handles[0], &writer) == CEFRODIL_OK && cefrodil_put(&writer, 2, entries, words, &reply) == CEFRODIL_OK;
     cefrodil_close(&handles[0]);

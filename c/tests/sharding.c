@@ -48,6 +48,8 @@ static void calls(void) {
     MUST(cefrodil_put_within(&none, 3, 1, value, 2, &reply) == CEFRODIL_CLOSED);
     MUST(opened(SHARDS) == CEFRODIL_OK && opened(SHARDS) == CEFRODIL_IN_USE);
     MUST(cefrodil_get(&passes[0], 1, found, 2, &reply) == CEFRODIL_ABSENT && found[0] == 0 && reply.at == 0);
+    uint64_t capacity = 0;
+    MUST(cefrodil_capacity(&passes[1], &capacity) == CEFRODIL_OK && capacity == 103 * SHARDS);
     MUST(cefrodil_try_put(&passes[0], 1, value, 2, &reply) == CEFRODIL_OK && reply.at == 1 && reply.put == CEFRODIL_PUT_STORED);
     MUST(cefrodil_get(&passes[1], 1, found, 2, &reply) == CEFRODIL_OK && found[0] == 7 && found[1] == 8 && reply.since == 1);
     MUST(cefrodil_get_or_desk(&passes[1], 1, found, 2, &reply) == CEFRODIL_OK && reply.at == 1);

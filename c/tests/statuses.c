@@ -100,7 +100,8 @@ static void writes(void) {
 static void counts(cefrodil_handle *other) {
     uint64_t number = 99, value[2] = {7, 8}, found[2] = {0, 0};
     MUST(cefrodil_moment(other, &number) == CEFRODIL_KIND && cefrodil_len(other, &number) == CEFRODIL_KIND);
-    MUST(cefrodil_capacity(other, &number) == CEFRODIL_KIND && number == 99);
+    MUST(cefrodil_capacity(other, &number) == CEFRODIL_OK && number == 20);
+    number = 99;
     MUST(cefrodil_try_len(other, &number) == CEFRODIL_KIND && cefrodil_try_len(&writer, &number) == CEFRODIL_KIND && number == 99);
     MUST(cefrodil_moment(&writer, &number) == CEFRODIL_OK && number == 4);
     MUST(cefrodil_len(&writer, &number) == CEFRODIL_OK && number == 0);
@@ -195,6 +196,7 @@ static void turns(void) {
     MUST(cefrodil_try_put_if_absent(&passes[1], 1, value, 1, &reply) == CEFRODIL_WIDTH);
     uint64_t len = 99;
     MUST(cefrodil_try_len(&passes[1], &len) == CEFRODIL_OK && len == 1);
+    MUST(cefrodil_capacity(&passes[1], &len) == CEFRODIL_OK && len == 20);
     MUST(cefrodil_get(&passes[1], 1, found, 2, &reply) == CEFRODIL_OK && found[1] == 8);
     MUST(cefrodil_get_or_desk(&passes[1], 2, found, 2, &reply) == CEFRODIL_ABSENT && reply.at == 1);
     MUST(cefrodil_try_put_if(&passes[1], 1, 1, value, 2, &reply) == CEFRODIL_OK && reply.at == 2);

@@ -350,4 +350,10 @@ impl<const WORDS: usize> Reader<WORDS> {
     pub fn get_many(&mut self, keys: &[u64], replies: &mut [Reply<WORDS>]) {
         reply::many(&mut self.0, keys, replies);
     }
+
+    /// The number of keys that the cache holds at most: the `items` of its shape.
+    #[must_use]
+    pub fn capacity(&mut self) -> usize {
+        reply::number(self.0.capacity()) as usize
+    }
 }

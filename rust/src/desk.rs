@@ -280,6 +280,12 @@ impl<const WORDS: usize> Pass<'_, WORDS> {
         (status == raw::OK).then_some(len as usize)
     }
 
+    /// The number of keys that the cache holds at most: the `items` of its shape. By a pass of shards, that of all shards.
+    #[must_use]
+    pub fn capacity(&mut self) -> usize {
+        reply::number(self.handle().capacity()) as usize
+    }
+
     /// Lists each key with its value, in a turn, as [`Writer::entries`](crate::Writer::entries) does. A pass of shards takes a turn
     /// at each shard, so it lists each at a moment of its own. `None` if a try for a turn did not win.
     #[must_use]

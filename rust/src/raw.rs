@@ -171,7 +171,7 @@ unsafe extern "C" {
     pub fn cefrodil_leave_desk(pass: *mut RawHandle, writer: *mut RawHandle) -> u32;
     pub fn cefrodil_moment(writer: *mut RawHandle, moment: *mut u64) -> u32;
     pub fn cefrodil_len(writer: *mut RawHandle, len: *mut u64) -> u32;
-    pub fn cefrodil_capacity(writer: *mut RawHandle, capacity: *mut u64) -> u32;
+    pub fn cefrodil_capacity(handle: *mut RawHandle, capacity: *mut u64) -> u32;
     pub fn cefrodil_try_len(pass: *mut RawHandle, len: *mut u64) -> u32;
     pub fn cefrodil_entries(handle: *mut RawHandle, entries: *mut u64, entry_words: usize, count: *mut u64) -> u32;
     pub fn cefrodil_stamped_entries(handle: *mut RawHandle, entries: *mut u64, entry_words: usize, count: *mut u64) -> u32;

@@ -232,7 +232,7 @@ impl<const WORDS: usize> Take<WORDS> {
     }
 }
 
-/// A number that the writer knows.
+/// A number that the handle knows.
 pub(crate) fn number((status, number): (u32, u64)) -> u64 {
     match status {
         raw::OK => number,

@@ -43,6 +43,7 @@ fn the_writer_looks_up_counts_and_lists() -> Result<(), Box<dyn Error>> {
     let expected: Vec<_> = (0..60).filter(|key| *key != 7).map(|key| (key, [key, 2 * key])).collect();
     assert_eq!(entries, expected);
     assert_eq!(readers[0].get(8), writer.get(8));
+    assert_eq!(readers[0].capacity(), 100);
     Ok(())
 }
 
@@ -79,7 +80,9 @@ fn passes_list_stamps() -> Result<(), Box<dyn Error>> {
 fn passes_list() -> Result<(), Box<dyn Error>> {
     let desk = Desk::<2>::open(&Shape::for_items(100)?, 1)?;
     let mut shards = Shards::<2>::open(&Shape::for_shards(500, 8)?, 8, 1)?;
-    for pass in [&mut desk.pass().ok_or("no pass")?, &mut shards[0]] {
+    let shard = Shape::for_shards(500, 8)?.items as usize;
+    for (pass, most) in [(&mut desk.pass().ok_or("no pass")?, 100), (&mut shards[0], 8 * shard)] {
+        assert_eq!(pass.capacity(), most);
         assert_eq!(pass.try_entries(), Some(Vec::new()));
         let expected: Vec<_> = (0..50).map(|key| (key, [key, 3])).collect();
         for (key, value) in &expected {

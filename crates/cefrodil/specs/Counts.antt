@@ -1,9 +1,8 @@
--- Numbers that the writer knows, as the calls by its handle give them; and the number of keys, as a pass counts them in a turn.
+-- Numbers that a handle knows at once; and the number of keys, as a pass counts them in a turn.
 use Rattle.std.specs.Prelude.{ℕ, ◌≡◌, MatchOption, MatchResult, Option as Known, Result, Ok, Err}
 use mathlib.Core.Option.{Option}
 use Rattle.mc_door.specs.Counting.{CountsInTurn, RefusesCount}
 use Rattle.mc_door.specs.Held.{role_in, width_of}
-use Rattle.mc_door.specs.Means.{CanWrite}
 use Rattle.mc_door.specs.Roles.{Role}
 use Rattle.mc_door.specs.declared.counting.CountError.{CountError}
 use Rattle.mc_door.specs.declared.counting.CountError.TheVariants as why
@@ -11,14 +10,14 @@ use Rattle.mc_door.specs.declared.held.Held.{Held}
 use Rattle.cefrodil.specs.Calls.{Gives}
 use Rattle.cefrodil.specs.declared.status.TheConstants.{OK, CLOSED, HELD, KIND}
 
--- the writer's number is written; by another handle nothing is
-pub record HasCounted (Is : ℕ → Role → ℕ → Type 0) (h : Held) (old new status : ℕ) : Type 0 where
+-- the number is written, by a handle that knows it; by another nothing is
+pub record HasCounted (Knows : Role → Type 0) (Is : ℕ → Role → ℕ → Type 0) (h : Held) (old new status : ℕ) : Type 0 where
   pub known : Known ℕ
-  pub is : MatchOption known (¬ CanWrite (role_in h)) (Is (width_of h) (role_in h))
+  pub is : MatchOption known (¬ Knows (role_in h)) (Is (width_of h) (role_in h))
   pub told : MatchOption known ((status ≡ KIND) × (new ≡ old)) (λ n. (status ≡ OK) × (new ≡ n))
 
-abbrev pub CountGives : (ℕ → Role → ℕ → Type 0) → Option Held → Option Held → ℕ → ℕ → ℕ → Type 0
-CountGives Is b b' old new status = Gives b b' ((status ≡ CLOSED) × (new ≡ old)) (λ h h'. (h' ≡ h) × HasCounted Is h old new status)
+abbrev pub CountGives : (Role → Type 0) → (ℕ → Role → ℕ → Type 0) → Option Held → Option Held → ℕ → ℕ → ℕ → Type 0
+CountGives Knows Is b b' old new status = Gives b b' ((status ≡ CLOSED) × (new ≡ old)) (λ h h'. (h' ≡ h) × HasCounted Knows Is h old new status)
 
 -- the status; and the number, where it was counted
 abbrev pub TellsCount : Result ℕ CountError → ℕ → ℕ → ℕ → Type 0

@@ -15,9 +15,9 @@ HasLeft h h' w status =
     (((status ≡ OK) × Keeps (λ back. (width_of back ≡ width_of h) × IsWriterBack (width_of h) (role_in h) (role_in back)) w) ⊎
     ((status ≡ NOT_LAST) × (w ≡ none)))
 
--- the handle is of another kind, or there is no memory
+-- the handle is of another kind; or it is a pass, and there is no memory
 abbrev pub RefusesToLeave : Held → ℕ → Type 0
-RefusesToLeave h status = ((status ≡ KIND) × (¬ IsPass (role_in h))) ⊎ (status ≡ NO_MEMORY)
+RefusesToLeave h status = ((status ≡ KIND) × (¬ IsPass (role_in h))) ⊎ ((status ≡ NO_MEMORY) × IsPass (role_in h))
 
 -- the pass has left, or nothing was done
 abbrev pub Leaves : Held → Held → Option Held → ℕ → Type 0

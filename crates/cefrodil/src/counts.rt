@@ -1,6 +1,6 @@
-//! Numbers that the writer knows, as C asks for them; and the number of keys, by a pass.
+//! Numbers that a handle knows at once, as C asks for them; and the number of keys, by a pass.
 ghost use Rattle.std.specs.Prelude.{◌≡◌, MatchOption};
-ghost use Rattle.mc_door.specs.Means.{CapacityIs, LenIs, MomentIs};
+ghost use Rattle.mc_door.specs.Means.{CanWrite, CapacityIs, HasCache, LenIs, MomentIs};
 ghost use Rattle.cefrodil.specs.Counts.{CountGives, CountInTurnGives, TellsCount};
 ghost use Rattle.cefrodil.specs.Open.{kept};
 
@@ -26,7 +26,7 @@ fn tell(known: Option<u64>, number: &mut u64) -> u32
 #[unsafe(no_mangle)]
 pub extern "C" fn cefrodil_moment(writer: &mut Slot, moment: &mut u64) -> u32
     ensures open { writer.new.live ≡ writer.old.live }
-    ensures told { CountGives MomentIs (kept writer.old) (kept writer.new) moment.old moment.new result }
+    ensures told { CountGives CanWrite MomentIs (kept writer.old) (kept writer.new) moment.old moment.new result }
 {
     if !writer.live {
         return CLOSED;
@@ -40,7 +40,7 @@ pub extern "C" fn cefrodil_moment(writer: &mut Slot, moment: &mut u64) -> u32
 #[unsafe(no_mangle)]
 pub extern "C" fn cefrodil_len(writer: &mut Slot, len: &mut u64) -> u32
     ensures open { writer.new.live ≡ writer.old.live }
-    ensures told { CountGives LenIs (kept writer.old) (kept writer.new) len.old len.new result }
+    ensures told { CountGives CanWrite LenIs (kept writer.old) (kept writer.new) len.old len.new result }
 {
     if !writer.live {
         return CLOSED;
@@ -49,17 +49,17 @@ pub extern "C" fn cefrodil_len(writer: &mut Slot, len: &mut u64) -> u32
     tell(held.len(), len)
 }
 
-/// How many keys it holds at most, by the writer's handle.
+/// How many keys the cache holds at most, shards all together, by any handle.
 #[tactic(auto, using(crate::proofs::Gives::gives_open, crate::proofs::Gives::gives_closed))]
 #[unsafe(no_mangle)]
-pub extern "C" fn cefrodil_capacity(writer: &mut Slot, capacity: &mut u64) -> u32
-    ensures open { writer.new.live ≡ writer.old.live }
-    ensures told { CountGives CapacityIs (kept writer.old) (kept writer.new) capacity.old capacity.new result }
+pub extern "C" fn cefrodil_capacity(handle: &mut Slot, capacity: &mut u64) -> u32
+    ensures open { handle.new.live ≡ handle.old.live }
+    ensures told { CountGives HasCache CapacityIs (kept handle.old) (kept handle.new) capacity.old capacity.new result }
 {
-    if !writer.live {
+    if !handle.live {
         return CLOSED;
     }
-    let held = writer.handle.held();
+    let held = handle.handle.held();
     tell(held.capacity(), capacity)
 }
 

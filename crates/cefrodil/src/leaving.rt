@@ -22,11 +22,15 @@ pub extern "C" fn cefrodil_leave_desk(alloc: Global, pass: &mut Slot, writer: &m
     if !pass.live {
         return CLOSED;
     }
+    let held = pass.handle.held();
+    if !held.is_pass() {
+        return KIND;
+    }
     // Memory first: behind this the writer's handle has a place.
     let Some(mut place) = boxed(alloc, Held::nothing()) else {
         return NO_MEMORY;
     };
-    match pass.handle.held().leave() {
+    match held.leave() {
         Ok(Some(back)) => {
             *place = back;
             writer.put(place);

@@ -1,4 +1,6 @@
 //! The words of a cache.
+ghost use Rattle.std.specs.Prelude.{◌≡◌};
+
 use mc_reader::touch_ahead;
 use mc_shared::Cells;
 use std::marker::Model;
@@ -18,6 +20,13 @@ impl<const V: usize> Model for Cache<V> {
 }
 
 impl<const V: usize> Cache<V> {
+    /// How many keys the cache holds at most: the items of its shape.
+    pub fn capacity(&self) -> usize
+        ensures { result ≡ self.now.layout.shape.items }
+    {
+        self.cells.checked().shape().items as usize
+    }
+
     /// Loads ahead the words that lookups of the first of these keys will read, of `GROUP` keys at most. In a large cache the lookups
     /// then wait less. It changes nothing, and no answer depends on it.
     pub fn touch_ahead(&self, keys: &[u64]) {

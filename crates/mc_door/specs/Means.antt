@@ -1,5 +1,5 @@
 -- What the calls of a side mean.
-use Rattle.std.specs.Prelude.{ℕ, ◌≡◌, ◌≢◌, List, length, Result}
+use Rattle.std.specs.Prelude.{ℕ, ◌≡◌, ◌≢◌, ◌*◌, List, length, Result}
 use Rattle.mc_cache.specs.Plain.{HasAnswered, history, seen, PutMeans as PutOf, PutIfAbsentMeans as PutIfAbsentOf, PutIfMeans as PutIfOf, RemovalMeans as RemovalOf, TurnMeans, TellsNow}
 use Rattle.mc_cache.specs.Turns.{HasTried, HasTriedIfAbsent, HasLookedOrMet}
 use Rattle.mc_cache.specs.declared.desk.DeskError.{DeskError}
@@ -33,6 +33,14 @@ CanWrite (Reads r) = ⊥
 CanWrite (Passes r) = ⊥
 CanWrite (Shares s rs) = ⊥
 CanWrite Idle = ⊥
+
+-- the side is one of a cache
+abbrev pub HasCache : Role → Type 0
+HasCache (Writes w) = Unit {0}
+HasCache (Reads r) = Unit {0}
+HasCache (Passes r) = Unit {0}
+HasCache (Shares s rs) = Unit {0}
+HasCache Idle = ⊥
 
 abbrev pub HasTurns : Role → Type 0
 HasTurns (Writes w) = ⊥
@@ -69,7 +77,7 @@ GetMeans V role role' key old new told = (length old ≡ V) × Looks V role role
 abbrev pub GetOrDeskMeans : (V : ℕ) → Role → Role → ℕ → List ℕ → List ℕ → Looked → Type 0
 GetOrDeskMeans V role role' key old new told = (length old ≡ V) × LooksAtDesk V role role' key (reply_of V new told) × LeavesUnlessFound old new told
 
--- what the writer knows: the number of changes, of keys, and of items
+-- what the writer knows: the number of changes and of keys
 abbrev pub MomentIs : (V : ℕ) → Role → ℕ → Type 0
 MomentIs V (Writes w) n = n ≡ length (history V w)
 MomentIs V role n = ⊥
@@ -78,9 +86,13 @@ abbrev pub LenIs : (V : ℕ) → Role → ℕ → Type 0
 LenIs V (Writes w) n = n ≡ key_count (history V w)
 LenIs V role n = ⊥
 
+-- the number of items, of shards all together
 abbrev pub CapacityIs : (V : ℕ) → Role → ℕ → Type 0
 CapacityIs V (Writes w) n = n ≡ w.of.layout.shape.items
-CapacityIs V role n = ⊥
+CapacityIs V (Reads r) n = n ≡ r.of.layout.shape.items
+CapacityIs V (Passes r) n = n ≡ r.of.layout.shape.items
+CapacityIs V (Shares s rs) n = n ≡ s.shape.items * length s.tables
+CapacityIs V Idle n = ⊥
 
 -- a put by the writer
 abbrev pub PutMeans : (V : ℕ) → Role → Role → ℕ → List ℕ → Result Put PutError → Type 0

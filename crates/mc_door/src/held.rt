@@ -1,9 +1,9 @@
 //! A side of a cache whose values have one of eight widths.
-ghost use Rattle.std.specs.Prelude.{◌≡◌, IfErr, IfOk, IfSome, MatchOption, MatchResult, length};
+ghost use Rattle.std.specs.Prelude.{◌≡◌, ◌↔◌, IsTrue, IfErr, IfOk, IfSome, MatchOption, MatchResult, length};
 ghost use Rattle.mc_door.specs.Held.{role_in, width_of};
-ghost use Rattle.mc_door.specs.Leaving.{BecomesReader, IsWriterBack, RefusesToLeave};
+ghost use Rattle.mc_door.specs.Leaving.{BecomesReader, IsPass, IsWriterBack, RefusesToLeave};
 ghost use Rattle.mc_door.specs.Listing.{HasListed, RefusesList, SeesMore};
-ghost use Rattle.mc_door.specs.Means.{CanWrite, CapacityIs, LenIs, MomentIs};
+ghost use Rattle.mc_door.specs.Means.{CanWrite, CapacityIs, HasCache, LenIs, MomentIs};
 ghost use Rattle.mc_door.specs.Roles.{Idle};
 
 use crate::leaving::LeaveError;
@@ -71,9 +71,9 @@ impl Held {
         with_side!(self, side => side.len())
     }
 
-    /// How many keys it holds at most, if it is a writer.
+    /// How many keys the cache holds at most, shards all together, if it is a side of one.
     pub fn capacity(&self) -> Option<u64>
-        ensures { MatchOption result (¬ CanWrite (role_in self.now)) (CapacityIs (width_of self.now) (role_in self.now)) }
+        ensures { MatchOption result (¬ HasCache (role_in self.now)) (CapacityIs (width_of self.now) (role_in self.now)) }
     {
         with_side!(self, side => side.capacity())
     }
@@ -86,6 +86,13 @@ impl Held {
             (λ e. RefusesList (width_of self.old) (role_in self.old) (role_in self.new) (length words.old) e × (words.new ≡ words.old)) }
     {
         with_side!(self, side => side.entries(alloc, words))
+    }
+
+    /// Whether it is a pass at a desk.
+    pub fn is_pass(&self) -> bool
+        ensures { IsTrue result ↔ IsPass (role_in self.now) }
+    {
+        with_side!(self, side => side.is_pass())
     }
 
     /// A pass leaves its desk, and is a reader then. The last one that leaves gets the writer.

@@ -1,6 +1,6 @@
 //! A pass leaves its desk.
-ghost use Rattle.std.specs.Prelude.{◌≡◌, IfErr, IfOk, IfSome};
-ghost use Rattle.mc_door.specs.Leaving.{BecomesReader, IsWriterBack, RefusesToLeave};
+ghost use Rattle.std.specs.Prelude.{◌≡◌, ◌↔◌, IsTrue, IfErr, IfOk, IfSome};
+ghost use Rattle.mc_door.specs.Leaving.{BecomesReader, IsPass, IsWriterBack, RefusesToLeave};
 ghost use Rattle.mc_door.specs.Roles.{role_of};
 
 use crate::pass_side::PassSide;
@@ -19,6 +19,12 @@ pub enum LeaveError {
 }
 
 impl<const V: usize> Side<V> {
+    pub(crate) fn is_pass(&self) -> bool
+        ensures { IsTrue result ↔ IsPass (role_of self.now) }
+    {
+        matches!(self, Side::Pass(_))
+    }
+
     /// The pass leaves its desk, and is a reader then. The last one that leaves gets the writer.
     pub(crate) fn leave(&mut self) -> Result<Option<Side<V>>, LeaveError>
         ensures left { IfOk result (λ left. BecomesReader (role_of self.old) (role_of self.new) ×

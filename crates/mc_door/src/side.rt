@@ -2,7 +2,7 @@
 ghost use Rattle.std.specs.Prelude.{◌≡◌, length, MatchOption, MatchResult};
 ghost use Rattle.mc_words.specs.Places.{IsWidth};
 ghost use Rattle.mc_door.specs.Roles.{role_of};
-ghost use Rattle.mc_door.specs.Means.{CanLook, CanWrite, GetMeans, GetOrDeskMeans, HasTurns, IsMisuse, PutIfAbsentMeans, PutIfMeans, PutMeans, RemovalMeans, TryPutIfAbsentMeans, TryPutIfMeans, TryPutMeans, TryRemovalMeans, CapacityIs, LenIs, MomentIs};
+ghost use Rattle.mc_door.specs.Means.{CanLook, CanWrite, GetMeans, GetOrDeskMeans, HasCache, HasTurns, IsMisuse, PutIfAbsentMeans, PutIfMeans, PutMeans, RemovalMeans, TryPutIfAbsentMeans, TryPutIfMeans, TryPutMeans, TryRemovalMeans, CapacityIs, LenIs, MomentIs};
 
 use crate::looked::Looked;
 use crate::pass_side::PassSide;
@@ -238,13 +238,16 @@ impl<const V: usize> Side<V> {
         Some(side.len() as u64)
     }
 
-    /// How many keys it holds at most: `Writer::capacity`. `None` by another side.
+    /// How many keys the cache holds at most, shards all together: `Cache::capacity` or `Shards::capacity`. `None` by no side.
     pub fn capacity(&self) -> Option<u64>
-        ensures { MatchOption result (¬ CanWrite (role_of self.now)) (CapacityIs V (role_of self.now)) }
+        ensures { MatchOption result (¬ HasCache (role_of self.now)) (CapacityIs V (role_of self.now)) }
     {
-        let Side::Writer(side) = self else {
-            return None;
-        };
-        Some(side.capacity() as u64)
+        match self {
+            Side::Writer(side) => Some(side.cache.capacity() as u64),
+            Side::Reader(side) => Some(side.cache.capacity() as u64),
+            Side::Pass(side) => Some(side.cache.capacity() as u64),
+            Side::Shard(side) => Some(side.shards.capacity() as u64),
+            Side::Nothing => None,
+        }
     }
 }

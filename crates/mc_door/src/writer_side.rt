@@ -83,12 +83,6 @@ impl<const V: usize> WriterSide<V> {
         self.writer.len()
     }
 
-    pub(crate) fn capacity(&self) -> usize
-        ensures { result ≡ self.now.writer.of.layout.shape.items }
-    {
-        self.writer.capacity()
-    }
-
     pub(crate) fn entries(&mut self, alloc: Global) -> Result<Vec<(u64, [u64; V])>, NoMemory>
         ensures writer { self.new.writer ≡ self.old.writer }
         ensures plain { IfOk result (λ es. AreEntriesOf V (history V self.old.writer) es.items) }

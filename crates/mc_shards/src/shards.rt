@@ -1,5 +1,5 @@
 //! The caches of the shards, with a desk each.
-ghost use Rattle.std.specs.Prelude.{◌≡◌, ◌<◌, Some, length, slice_get};
+ghost use Rattle.std.specs.Prelude.{◌≡◌, ◌<◌, ◌*◌, Some, length, slice_get};
 ghost use Rattle.mc_shards.specs.Sharded.{shard_in};
 
 use mc_cache::{Cache, Desk, Shape};
@@ -36,6 +36,13 @@ impl<const V: usize> Shards<V> {
         ensures power { HasShards result }
     {
         self.caches.len() as u32
+    }
+
+    /// How many keys the shards hold at most, all together: the items of the shape, times the shards.
+    pub fn capacity(&self) -> usize
+        ensures { result ≡ self.now.shape.items * length self.now.tables }
+    {
+        self.shape.items as usize * self.count() as usize
     }
 
     /// The number of the key's shard, from 0.
