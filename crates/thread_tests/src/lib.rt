@@ -53,6 +53,8 @@ mod shards;
 #[cfg(test)]
 mod sharing;
 #[cfg(test)]
+mod stamped;
+#[cfg(test)]
 mod taken;
 #[cfg(test)]
 mod texts;

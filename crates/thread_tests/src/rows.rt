@@ -307,8 +307,8 @@ fn the_writer_counts_its_keys(rt: HostRuntime) -> Result<(), Fail> {
     check_rows(rt.alloc(), with_items(2), &COUNTED)
 }
 
-// The puts of `NOT_USED`, which answer as is said there.
-fn put_three(cache: &Cache<1>, writer: &mut Writer<1>)
+/// The puts of `NOT_USED`, which answer as is said there.
+pub fn put_three(cache: &Cache<1>, writer: &mut Writer<1>)
     requires { writer.old.of ≡ cache.now }
     ensures { writer.new.of ≡ writer.old.of }
 {
