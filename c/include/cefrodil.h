@@ -126,7 +126,7 @@ typedef enum cefrodil_status {
     CEFRODIL_BAD_DEPTH = 18,
     CEFRODIL_BAD_TRIES = 19,
     CEFRODIL_BAD_LIMIT = 20,
-    CEFRODIL_BAD_READERS = 21, /* there must be 1 to 1024 readers, or passes */
+    CEFRODIL_BAD_READERS = 21, /* there must be 1 to 1024 readers, or passes, and no more than are left */
     CEFRODIL_BAD_COUNT = 22,   /* counts that belong together do not match */
     CEFRODIL_NO_ITEM = 23,     /* every item is in use */
     CEFRODIL_BAD_SHARDS = 24,  /* the number of shards must be a power of two, 1 to 256 */
@@ -163,6 +163,13 @@ CEFRODIL_CHECKED cefrodil_status cefrodil_open_with(const cefrodil_shape *shape,
  * tries for the turn to write. Returns the statuses of cefrodil_open. */
 CEFRODIL_CHECKED cefrodil_status cefrodil_open_desk(const cefrodil_shape *shape, size_t words, cefrodil_handle *passes,
                                                     size_t pass_count);
+
+/* Puts the writer of an open cache on a desk, so that threads can write by turns. It may be the writer of cefrodil_open or
+ * cefrodil_open_with, or one that came back by cefrodil_leave_desk. Each of `pass_count` handles becomes a pass. Readers of the cache
+ * go on beside the desk. A cache gives out 1,024 readers and passes in its life. This call takes memory.
+ * OK: the passes are open, and `writer` is closed. IN_USE: one of the passes was open before. Otherwise returns the first that
+ * applies: CLOSED, KIND, BAD_READERS (no passes, or more than the cache has left to give), NO_MEMORY. Unless OK, nothing was done. */
+CEFRODIL_CHECKED cefrodil_status cefrodil_make_desk(cefrodil_handle *writer, cefrodil_handle *passes, size_t pass_count);
 
 /* Fills in the shape of each of `shards` shards that hold `items` items together. A shard gets its mean share and five standard
  * deviations more, because the hash gives some shards more keys than others.
@@ -289,6 +296,7 @@ CEFRODIL_NO_NULL(cefrodil_shape_for_items);
 CEFRODIL_NO_NULL(cefrodil_open);
 CEFRODIL_NO_NULL(cefrodil_open_with);
 CEFRODIL_NO_NULL(cefrodil_open_desk);
+CEFRODIL_NO_NULL(cefrodil_make_desk);
 CEFRODIL_NO_NULL(cefrodil_shape_for_shards);
 CEFRODIL_NO_NULL(cefrodil_open_shards);
 CEFRODIL_NO_NULL(cefrodil_get);

@@ -394,6 +394,14 @@ template <size_t Words> Status open_desk(const cefrodil_shape &shape, size_t cou
     });
 }
 
+// Puts the writer of an open cache on a desk, for threads that write by turns: so many passes. ok: the writer is closed. Unless ok, `writer`
+// and `passes` are unchanged. bad_readers: no passes, or more than the cache has left to give.
+template <size_t Words> Status make_desk(Writer<Words> &writer, size_t count, std::vector<Pass<Words>> &passes) {
+    return inside::open_all(passes, count, [&](cefrodil_handle *raw, size_t many) {
+        return cefrodil_make_desk(writer.raw(), raw, many);
+    });
+}
+
 // Opens a cache of so many shards: so many passes.
 template <size_t Words> Status open_shards(const cefrodil_shape &shape, uint32_t shards, size_t count, std::vector<Pass<Words>> &passes) {
     return inside::open_all(passes, count, [&](cefrodil_handle *raw, size_t many) {

@@ -117,13 +117,17 @@ static void stamped(Pass<1> &at_desk, Pass<1> &of_shards) {
     MUST(of_shards.try_stamped_entries(list) == Status::kind && list.empty());
 }
 
-// Both passes leave, and the second one gets the writer.
+// Both passes leave, and the second one gets the writer, which goes on a desk again.
 static void leaving(std::vector<Pass<1>> passes) {
     cefrodil::Reader<1> readers[2];
     cefrodil::Writer<1> writer;
     MUST(passes[0].try_put(1, {7}).status == Status::ok && passes[0].leave(readers[0], writer) == Status::not_last && !writer.is_open());
     MUST(passes[1].leave(readers[0], writer) == Status::in_use && passes[1].leave(readers[1], writer) == Status::ok);
     MUST(!passes[1].is_open() && writer.put(1, {8}).at == 2 && readers[0].get(1).at == 2 && readers[1].get(1).at == 2);
+    passes.clear();
+    MUST(cefrodil::make_desk(writer, 2000, passes) == Status::bad_readers && writer.is_open() && passes.empty());
+    MUST(cefrodil::make_desk(writer, 2, passes) == Status::ok && !writer.is_open() && passes.size() == 2);
+    MUST(passes[1].try_put(2, {9}).at == 3 && readers[0].get(2).at == 3);
 }
 
 int main() {

@@ -1,5 +1,5 @@
-/* Each allocation of an opening is refused in turn: no handle is open then, and nothing is kept. So is that of a list of entries, and
- * that of a pass that leaves its desk. Linked with --wrap. */
+/* Each allocation of an opening is refused in turn: no handle is open then, and nothing is kept. So is that of a list of entries,
+ * that of a pass that leaves its desk, and each of a desk for a writer. Linked with --wrap. */
 #include "cefrodil.h"
 #include <stdio.h>
 
@@ -157,6 +157,30 @@ static int leaves(const cefrodil_shape *shape, size_t words) {
     return left_it;
 }
 
+/* Each allocation of a desk for a writer is refused in turn: then the writer stays, and no pass is open. */
+static int makes_desk(const cefrodil_shape *shape, size_t words) {
+    cefrodil_handle passes[3] = {CEFRODIL_EMPTY, CEFRODIL_EMPTY, CEFRODIL_EMPTY};
+    cefrodil_reply reply;
+    int made = open_one(shape, words, WITH_ENTRIES) == CEFRODIL_OK;
+    long allowed = 0, before = kept;
+    uint32_t status = CEFRODIL_NO_MEMORY;
+    for (; made && allowed < 20 && status != CEFRODIL_OK; allowed++) {
+        left = allowed;
+        status = cefrodil_make_desk(&writer, passes, 3);
+        left = -1;
+        made = status == CEFRODIL_OK ? !writer.live_ && cefrodil_try_put(&passes[2], 1, entries, words, &reply) == CEFRODIL_OK
+                                     : status == CEFRODIL_NO_MEMORY && kept == before && !passes[0].live_ && !passes[1].live_ && !passes[2].live_ &&
+                                           cefrodil_put(&writer, 0, entries, words, &reply) == CEFRODIL_OK;
+    }
+    for (int i = 0; i < 3; i++) {
+        cefrodil_close(&passes[i]);
+    }
+    for (int i = 0; i < 4; i++) {
+        cefrodil_close(&handles[i]);
+    }
+    return made && status == CEFRODIL_OK && allowed > 5 && kept == 0;
+}
+
 int main(void) {
     cefrodil_shape shape;
     if (cefrodil_shape_for_items(100, &shape) != CEFRODIL_OK) {
@@ -171,6 +195,10 @@ int main(void) {
         }
         if (!all_list(&shape, words)) {
             printf("memory: a list of %zu words\n", words);
+            return 1;
+        }
+        if (!makes_desk(&shape, words)) {
+            printf("memory: a desk for a writer of %zu words\n", words);
             return 1;
         }
         if (!leaves(&shape, words)) {

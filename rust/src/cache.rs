@@ -38,7 +38,7 @@ pub struct Opened<const WORDS: usize> {
 
 impl<const WORDS: usize> Cache<WORDS> {
     /// Opens an empty cache of this shape, with its writer and this many readers, 1 to 1024. This takes all memory; of later
-    /// calls only [`Writer::entries`] and [`Writer::stamped_entries`] take any.
+    /// calls only [`Writer::entries`], [`Writer::stamped_entries`] and [`Writer::into_desk`] take any.
     ///
     /// # Errors
     ///

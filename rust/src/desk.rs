@@ -6,7 +6,8 @@ use crate::raw;
 use crate::reply::{self, Entry, Put, Removal, Replaced, Reply, Swapped, Take};
 use crate::shape::Shape;
 use crate::width::Value;
-use std::fmt::{self, Debug, Formatter};
+use std::error::Error;
+use std::fmt::{self, Debug, Display, Formatter};
 use std::sync::{Mutex, PoisonError};
 
 /// A cache for threads that write by turns: a try-lock around its writer. Threads share the desk, and each takes a [`Pass`].
@@ -133,6 +134,48 @@ impl<const WORDS: usize> Desk<WORDS> {
         Err(Desk { passes: Mutex::new(passes) })
     }
 }
+
+impl<const WORDS: usize> Writer<WORDS> {
+    /// Puts the writer on a desk, for this many passes at a time. So a cache that was opened with entries can have writers by turns. Its
+    /// readers go on beside the desk. A cache gives out 1,024 readers and passes in its life. This call takes memory.
+    ///
+    /// ```
+    /// use cefrodil::{Cache, Reply, Shape};
+    ///
+    /// let mut opened = Cache::<1>::open_with(&Shape::for_items(100)?, 1, &[(7, [70])])?;
+    /// let desk = opened.writer.into_desk(2)?;
+    /// let _ = desk.pass().expect("there are two passes").try_put(8, &[80])?;
+    /// assert_eq!(opened.readers[0].get(8), Reply::Found { value: [80], at: 2, since: 2 });
+    /// # Ok::<(), Box<dyn std::error::Error>>(())
+    /// ```
+    ///
+    /// # Errors
+    ///
+    /// [`NoDesk`], with the writer.
+    pub fn into_desk(mut self, passes: usize) -> Result<Desk<WORDS>, NoDesk<WORDS>> {
+        match self.0.make_desk(passes) {
+            Ok(handles) => Ok(Desk { passes: Mutex::new(handles) }),
+            Err(status) => Err(NoDesk { writer: self, why: OpenError::of(status) }),
+        }
+    }
+}
+
+/// A writer that did not go on a desk, and why.
+#[derive(Debug)]
+pub struct NoDesk<const WORDS: usize> {
+    /// The writer, as it was.
+    pub writer: Writer<WORDS>,
+    /// [`OpenError::Readers`]: no passes, or more than the cache has left to give. [`OpenError::NoMemory`].
+    pub why: OpenError,
+}
+
+impl<const WORDS: usize> Display for NoDesk<WORDS> {
+    fn fmt(&self, text: &mut Formatter) -> fmt::Result {
+        Display::fmt(&self.why, text)
+    }
+}
+
+impl<const WORDS: usize> Error for NoDesk<WORDS> {}
 
 impl<const WORDS: usize> Debug for Desk<WORDS> {
     fn fmt(&self, text: &mut Formatter) -> fmt::Result {

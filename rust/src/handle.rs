@@ -97,6 +97,18 @@ impl Handle {
         }
     }
 
+    /// The writer goes on a desk: its passes, or the status. Then the handle is closed; with another status it is the writer's still.
+    pub fn make_desk(&mut self, passes: usize) -> Result<Vec<Handle>, u32> {
+        let mut all = Handle::many(passes);
+        // SAFETY: as in `open`.
+        let status = unsafe { raw::cefrodil_make_desk(&mut self.0, all.as_mut_ptr().cast(), all.len()) };
+        if status == raw::OK {
+            Ok(all)
+        } else {
+            Err(status)
+        }
+    }
+
     /// Opens shards: their passes, or the status.
     pub fn open_shards(shape: &RawShape, shards: u32, words: usize, passes: usize) -> Result<Vec<Handle>, u32> {
         let mut all = Handle::many(passes);

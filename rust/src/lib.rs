@@ -17,7 +17,7 @@ mod shards;
 mod width;
 
 pub use cache::{Cache, Opened, Reader, Writer};
-pub use desk::{Desk, Pass};
+pub use desk::{Desk, NoDesk, Pass};
 pub use error::{OpenError, PutError, PutIfAbsentError, PutIfError, Spent, TurnError, Why};
 pub use handle::version;
 pub use pool::{Lent, Pool};

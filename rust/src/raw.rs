@@ -87,6 +87,7 @@ unsafe extern "C" {
         reader_count: usize,
     ) -> u32;
     pub fn cefrodil_open_desk(shape: *const RawShape, words: usize, passes: *mut RawHandle, pass_count: usize) -> u32;
+    pub fn cefrodil_make_desk(writer: *mut RawHandle, passes: *mut RawHandle, pass_count: usize) -> u32;
     pub fn cefrodil_open_shards(
         shape: *const RawShape,
         shards: u32,

@@ -205,6 +205,32 @@ fn threads_take_turns() -> Result<(), Box<dyn Error>> {
 }
 
 #[test]
+fn an_opened_cache_gets_a_desk() -> Result<(), Box<dyn Error>> {
+    let mut opened = Cache::<2>::open_with(&Shape::for_items(100)?, 2, &[(7, [70, 71])])?;
+    let refused = opened.writer.into_desk(1023).err().ok_or("there are 1,022 passes")?;
+    assert_eq!(refused.why, OpenError::Readers);
+    let refused = refused.writer.into_desk(0).err().ok_or("there is no pass")?;
+    assert_eq!(refused.to_string(), "readers must be from 1 to 1024");
+    let desk = refused.writer.into_desk(2)?;
+    {
+        let (mut one, mut two) = (desk.pass().ok_or("no pass")?, desk.pass().ok_or("no pass")?);
+        assert_eq!(one.get(7), Reply::Found { value: [70, 71], at: 1, since: 1 });
+        assert_eq!(one.try_put(8, &[80, 81])?, Put::Stored { at: 2, moves: 0, evicted: None });
+        assert_eq!(two.try_len(), Some(2));
+    }
+    assert_eq!(opened.readers[1].get(8), Reply::Found { value: [80, 81], at: 2, since: 2 });
+    // The writer comes back, and makes a desk once more.
+    let (mut writer, readers) = desk.end().map_err(|_| "no memory")?;
+    assert_eq!((writer.len(), readers.len()), (2, 2));
+    assert!(matches!(writer.put(9, &[90, 91])?, Put::Stored { at: 3, .. }));
+    let desk = writer.into_desk(1020)?;
+    assert_eq!(desk.pass().ok_or("no pass")?.get(9), Reply::Found { value: [90, 91], at: 3, since: 3 });
+    let (writer, _readers) = desk.end().map_err(|_| "no memory")?;
+    assert_eq!(writer.into_desk(1).err().map(|refused| refused.why), Some(OpenError::Readers));
+    Ok(())
+}
+
+#[test]
 fn each_call_by_shards_answers() -> Result<(), Box<dyn Error>> {
     let mut passes = Shards::<2>::open(&Shape::for_shards(500, 8)?, 8, 2)?;
     let (one, others) = passes.split_first_mut().ok_or("no pass")?;

@@ -21,7 +21,7 @@ use Rattle.mc_door.specs.declared.held.Held.{Held}
 use Rattle.mc_door.specs.declared.rest.Rest.{Rest}
 use Rattle.cefrodil.specs.Loading.{AreEntries, AreLoaded, entry_status, left_status}
 use Rattle.cefrodil.specs.Open.{kept}
-use Rattle.cefrodil.specs.Openings.{IsNewAt}
+use Rattle.cefrodil.specs.Openings.{IsNewAt, KeepsSpares}
 use Rattle.cefrodil.specs.RawShapes.{IsShapeOf}
 use Rattle.cefrodil.specs.declared.shape.RawShape.{RawShape}
 use Rattle.cefrodil.specs.declared.slot.Slot.{Slot}
@@ -67,15 +67,16 @@ named_within V count o words left Idle loaded = absurd loaded
 pub are_loaded : (raw : RawShape) (words count : ℕ) (entries statuses : List ℕ) (writer : Slot) (readers : List Slot) (sh : Shape) (first : Rest) (held : Held) (left : List (ℕ × Why))
     → IsShapeOf raw sh → (opening_in first).layout ≡ layout_of words sh → width_in first ≡ words → has_desk_in first ≡ false → length statuses ≡ count → AreEntries words (length entries) count
     → kept writer ≡ some held → width_of held ≡ words → IsLoadedWriter words (opening_in first) (entries_in words count entries) left (role_in held)
-    → All (IsNewAt (opening_in first) (has_desk_in first) (width_in first)) readers → EachIndex statuses (λ i. slice_index statuses i ≡ entry_status left i)
-    → AreLoaded raw words entries statuses writer readers
-are_loaded raw words count entries statuses writer readers sh first held left of layout wide none many fit is width loaded all told = record {
+    → KeepsSpares (length readers) writer → All (IsNewAt (opening_in first) (has_desk_in first) (width_in first)) readers
+    → EachIndex statuses (λ i. slice_index statuses i ≡ entry_status left i) → AreLoaded raw words entries statuses writer readers
+are_loaded raw words count entries statuses writer readers sh first held left of layout wide none many fit is width loaded spares all told = record {
   opening = opening_in first;
   left = left;
   shape = (sh, of, layout);
   fits = subst (λ (n : ℕ). AreEntries words (length entries) n) (sym many) fit;
   has_writer = keeps (λ h. (width_of h ≡ words) × IsLoadedWriter words (opening_in first) (entries_in words (length statuses) entries) left (role_in h)) (kept writer) held is
       (width, subst (λ (n : ℕ). IsLoadedWriter words (opening_in first) (entries_in words n entries) left (role_in held)) (sym many) loaded);
+  has_spares = spares;
   has_readers = all_at first false words readers none wide all;
   told = told;
 }

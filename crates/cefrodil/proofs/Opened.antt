@@ -1,21 +1,22 @@
 -- Handles are all open, or none is.
-use Rattle.std.proofs.Common.{ℕ, ◌≡◌, ◌↔◌, List, All, refl, subst, inr}
+use Rattle.std.proofs.Common.{ℕ, ◌≡◌, ◌+◌, ◌↔◌, ◌∙◌, List, All, length, refl, sym, subst, inr}
 use mathlib.Core.Bool.{Bool, true, false}
 use mathlib.Core.Option.{some}
 use Rattle.mc_cache.specs.Openings.{RefusesOpening}
 use Rattle.mc_cache.specs.declared.opening.OpenError.{OpenError}
 use Rattle.mc_cache.specs.declared.opening.OpenError.TheVariants as error
 use Rattle.mc_words.specs.Places.{IsWidth}
-use Rattle.mc_words.specs.Readers.{HasReaders}
+use Rattle.mc_words.specs.Readers.{HasReaders, most_readers}
 use Rattle.mc_words.specs.Shapes.{IsShape}
 use Rattle.mc_words.specs.declared.shape.Shape.{Shape}
 use Rattle.mc_shared.specs.Views.{layout_of}
 use Rattle.mc_door.specs.Held.{role_in, width_of}
 use Rattle.mc_door.specs.NewSides.{IsNewWriter, has_desk_in, opening_in, width_in}
+use Rattle.mc_door.specs.Spares.{spares_in}
 use Rattle.mc_door.specs.declared.held.Held.{Held}
 use Rattle.mc_door.specs.declared.rest.Rest.{Rest}
 use Rattle.cefrodil.specs.Open.{kept}
-use Rattle.cefrodil.specs.Openings.{AreOpened, ArePasses, IsNewAt, RefusesOpen}
+use Rattle.cefrodil.specs.Openings.{AreOpened, ArePasses, IsNewAt, KeepsSpares, RefusesOpen}
 use Rattle.cefrodil.specs.RawShapes.{HasMix, IsShapeOf}
 use Rattle.cefrodil.specs.declared.shape.RawShape.{RawShape}
 use Rattle.cefrodil.specs.declared.slot.Slot.{Slot}
@@ -28,14 +29,22 @@ pub all_at : (first : Rest) (desk : Bool) (words : ℕ) (slots : List Slot) → 
 all_at first desk words slots is wide new =
     subst (λ (d : Bool). All (IsNewAt (opening_in first) d words) slots) is (subst (λ (w : ℕ). All (IsNewAt (opening_in first) (has_desk_in first) w) slots) wide new)
 
+-- as many readers as handles were given out, so the writer keeps the others
+pub keeps_spares : (cut asked handles : ℕ) (writer : Slot) (held : Held) → HasReaders cut → (HasReaders cut ↔ HasReaders asked) → (HasReaders asked → cut ≡ asked) → handles ≡ asked
+    → kept writer ≡ some held → spares_in held + cut ≡ most_readers → KeepsSpares handles writer
+keeps_spares cut asked handles writer held has same full many is left =
+    let exact : cut ≡ handles = full (same.0 has) ∙ sym many in
+    keeps (λ h. spares_in h + handles ≡ most_readers) (kept writer) held is (subst (λ (n : ℕ). spares_in held + n ≡ most_readers) exact left)
+
 pub are_opened : (raw : RawShape) (words : ℕ) (writer : Slot) (readers : List Slot) (sh : Shape) (first : Rest) (held : Held) → IsShapeOf raw sh
     → (opening_in first).layout ≡ layout_of words sh → width_in first ≡ words → has_desk_in first ≡ false
     → kept writer ≡ some held → width_of held ≡ words → IsNewWriter (opening_in first) (role_in held)
-    → All (IsNewAt (opening_in first) (has_desk_in first) (width_in first)) readers → AreOpened raw words writer readers
-are_opened raw words writer readers sh first held of layout wide none is width new all = record {
+    → KeepsSpares (length readers) writer → All (IsNewAt (opening_in first) (has_desk_in first) (width_in first)) readers → AreOpened raw words writer readers
+are_opened raw words writer readers sh first held of layout wide none is width new spares all = record {
   opening = opening_in first;
   shape = (sh, of, layout);
   has_writer = keeps (λ h. (width_of h ≡ words) × IsNewWriter (opening_in first) (role_in h)) (kept writer) held is (width, new);
+  has_spares = spares;
   has_readers = all_at first false words readers none wide all;
 }
 

@@ -6,6 +6,7 @@ pub mod Listing
 pub mod Loading
 pub mod Many
 pub mod Open
+pub mod OntoDesk
 pub mod Openings
 pub mod RawShapes
 pub mod ShardOpenings

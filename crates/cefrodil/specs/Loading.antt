@@ -7,7 +7,7 @@ use Rattle.mc_shared.specs.Records.{Opening}
 use Rattle.mc_door.specs.Held.{role_in, width_of}
 use Rattle.mc_door.specs.Loading.{IsLoadedWriter, entries_in}
 use Rattle.cefrodil.specs.Open.{kept}
-use Rattle.cefrodil.specs.Openings.{IsNewAt, IsOfShape, Keeps}
+use Rattle.cefrodil.specs.Openings.{IsNewAt, IsOfShape, Keeps, KeepsSpares}
 use Rattle.cefrodil.specs.declared.shape.RawShape.{RawShape}
 use Rattle.cefrodil.specs.declared.slot.Slot.{Slot}
 use Rattle.cefrodil.specs.declared.status.TheConstants.{OK, COUNT, NO_ITEM, NO_PATH, SPENT}
@@ -37,6 +37,7 @@ pub record AreLoaded (raw : RawShape) (words : ℕ) (entries statuses : List ℕ
   pub shape : IsOfShape raw words opening
   pub fits : AreEntries words (length entries) (length statuses)
   pub has_writer : IsLoadedAt opening words (entries_in words (length statuses) entries) left writer
+  pub has_spares : KeepsSpares (length readers) writer
   pub has_readers : All (IsNewAt opening false words) readers
   pub told : EachIndex statuses (λ i. slice_index statuses i ≡ entry_status left i)
 

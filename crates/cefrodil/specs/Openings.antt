@@ -1,16 +1,18 @@
 -- Handles that were opened just now.
-use Rattle.std.specs.Prelude.{ℕ, ◌≡◌, ◌⊎◌, All, Bool, List, true, false}
+use Rattle.std.specs.Prelude.{ℕ, ◌≡◌, ◌+◌, ◌⊎◌, All, Bool, List, length, true, false}
 use mathlib.Core.Option.{Option, none, some}
 use Rattle.mc_cache.specs.Openings.{RefusesOpening}
 use Rattle.mc_cache.specs.declared.opening.OpenError.{OpenError}
 use Rattle.mc_cache.specs.declared.opening.OpenError.TheVariants as error
 use Rattle.mc_words.specs.Places.{IsWidth}
+use Rattle.mc_words.specs.Readers.{most_readers}
 use Rattle.mc_words.specs.declared.shape.Shape.{Shape}
 use Rattle.mc_words.specs.declared.shape.ShapeError.TheVariants as fault
 use Rattle.mc_shared.specs.Records.{Opening}
 use Rattle.mc_shared.specs.Views.{layout_of}
 use Rattle.mc_door.specs.Held.{role_in, width_of}
 use Rattle.mc_door.specs.NewSides.{IsNewSide, IsNewWriter}
+use Rattle.mc_door.specs.Spares.{spares_in}
 use Rattle.mc_door.specs.declared.held.Held.{Held}
 use Rattle.cefrodil.specs.Open.{kept}
 use Rattle.cefrodil.specs.RawShapes.{HasMix, IsShapeOf}
@@ -47,11 +49,16 @@ open_status error.NoMemory = NO_MEMORY
 abbrev pub IsOfShape : RawShape → ℕ → Opening → Type 0
 IsOfShape raw words o = (sh : Shape) × IsShapeOf raw sh × (o.layout ≡ layout_of words sh)
 
+-- the writer keeps those of the most readers that were not asked for
+abbrev pub KeepsSpares : ℕ → Slot → Type 0
+KeepsSpares asked s = Keeps (λ h. spares_in h + asked ≡ most_readers) (kept s)
+
 -- the writer and the readers of a new cache
 pub record AreOpened (raw : RawShape) (words : ℕ) (writer : Slot) (readers : List Slot) : Type 0 where
   pub opening : Opening
   pub shape : IsOfShape raw words opening
   pub has_writer : IsNewWriterAt opening words writer
+  pub has_spares : KeepsSpares (length readers) writer
   pub has_readers : All (IsNewAt opening false words) readers
 
 -- the passes of a new cache

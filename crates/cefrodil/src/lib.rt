@@ -12,6 +12,7 @@ mod listing;
 mod loading;
 mod lookups;
 mod many;
+mod onto_desk;
 mod opening;
 mod shape;
 mod sharding;

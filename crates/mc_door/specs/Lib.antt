@@ -5,6 +5,8 @@ pub mod AtShards
 pub mod Means
 pub mod Held
 pub mod NewSides
+pub mod OntoDesk
+pub mod Spares
 pub mod NewPasses
 pub mod Leaving
 pub mod Counting

@@ -27,7 +27,7 @@ impl<const V: usize> PassSide<V> {
         ensures begins { Begins (seen V self.old.pass) (seen V self.new.pass) }
         ensures plain { IfSome result (λ many. many ≡ key_count (seen V self.new.pass)) }
     {
-        self.desk.try_len(&self.cache, &mut self.pass)
+        self.desk.desk().try_len(&self.cache, &mut self.pass)
     }
 }
 

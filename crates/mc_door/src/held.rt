@@ -1,15 +1,21 @@
 //! A side of a cache whose values have one of eight widths.
-ghost use Rattle.std.specs.Prelude.{◌≡◌, ◌↔◌, IsTrue, IfErr, IfOk, IfSome, MatchOption, MatchResult, length};
+ghost use Rattle.std.specs.Prelude.{◌≡◌, ◌↔◌, IsTrue, true, IfErr, IfOk, IfSome, MatchOption, MatchResult, length};
 ghost use Rattle.mc_door.specs.Held.{role_in, width_of};
 ghost use Rattle.mc_door.specs.Leaving.{BecomesReader, IsPass, IsWriterBack, RefusesToLeave};
 ghost use Rattle.mc_door.specs.Listing.{HasListed, RefusesList, SeesMore};
 ghost use Rattle.mc_door.specs.Means.{CanWrite, CapacityIs, HasCache, LenIs, MomentIs};
+ghost use Rattle.mc_door.specs.NewSides.{count_in, has_desk_in, opening_in, width_in};
+ghost use Rattle.mc_door.specs.OntoDesk.{HasPasses, RefusesDesk, WritesTo};
 ghost use Rattle.mc_door.specs.Roles.{Idle};
+ghost use Rattle.mc_door.specs.Spares.{spares_in};
 
 use crate::leaving::LeaveError;
 use crate::listed::ListError;
+use crate::onto_desk::MakeDeskError;
+use crate::rest::Rest;
 use crate::side::Side;
 use crate::widths::with_sides;
+use mc_words::NoMemory;
 use std::alloc::Global;
 
 /// What a handle keeps: a side of a cache, whose values have as many words as the variant says.
@@ -93,6 +99,29 @@ impl Held {
         ensures { IsTrue result ↔ IsPass (role_in self.now) }
     {
         with_side!(self, side => side.is_pass())
+    }
+
+    /// The first reason against a desk for so many passes, if there is one but memory.
+    pub fn check_desk(&self, passes: usize) -> Result<(), MakeDeskError>
+        ensures { MatchResult result (λ _. CanWrite (role_in self.now) × HasPasses (spares_in self.now) passes)
+            (λ why. RefusesDesk (role_in self.now) (spares_in self.now) passes why) }
+    {
+        with_side!(self, side => side.check_desk(passes))
+    }
+
+    /// The writer goes on a desk, and leaves no side behind. The passes, so many, are given by `Rest::next`. `Err` only where there is
+    /// no memory: nothing is changed then. Condition: `check_desk` finds no reason against it.
+    pub fn make_desk(&mut self, alloc: Global, passes: usize) -> Result<Rest, NoMemory>
+        requires { CanWrite (role_in self.old) × HasPasses (spares_in self.old) passes }
+        ensures made { IfOk result (λ rest. WritesTo (opening_in rest) (role_in self.old) × (has_desk_in rest ≡ true) × (count_in rest ≡ passes) × (width_in rest ≡ width_of self.old)) }
+        ensures refused { IfErr result (λ _. self.new ≡ self.old) }
+    {
+        macro_rules! made {
+            ($side:ident, $variant:ident) => {
+                Ok(Rest::$variant($side.make_desk(alloc, passes)?))
+            };
+        }
+        with_sides!(Held, self, made)
     }
 
     /// A pass leaves its desk, and is a reader then. The last one that leaves gets the writer.

@@ -44,12 +44,16 @@ impl<const V: usize> Side<V> {
             cache,
             reader: pass,
         });
-        match Arc::into_inner(desk) {
-            Some(desk) => match desk.end() {
-                Some(writer) => Ok(Some(Side::Writer(WriterSide { cache: own, writer }))),
-                None => Ok(None),
-            },
-            None => Ok(None),
-        }
+        let Some(at_desk) = Arc::into_inner(desk) else {
+            return Ok(None);
+        };
+        let Some((writer, spares)) = at_desk.end() else {
+            return Ok(None);
+        };
+        Ok(Some(Side::Writer(WriterSide {
+            cache: own,
+            writer,
+            spares,
+        })))
     }
 }

@@ -4,6 +4,7 @@
 //! know of: a call that the side can't make, or a value of another width, is a `Misuse`.
 #![tactic(auto)]
 
+mod at_desk;
 mod counting;
 mod entries;
 mod held;
@@ -12,12 +13,14 @@ mod listed;
 mod looked;
 mod new_passes;
 mod new_sides;
+mod onto_desk;
 mod pass_side;
 mod reader_side;
 mod rest;
 mod shard_rest;
 mod shard_side;
 mod side;
+mod spares;
 mod stamped;
 mod taking;
 mod widths;
@@ -36,6 +39,7 @@ pub use mc_cache::{
 pub use mc_shards::{OpenShardsError, shard_shape};
 pub use new_passes::NewPasses;
 pub use new_sides::NewSides;
+pub use onto_desk::MakeDeskError;
 pub use rest::{Rest, open, open_desk, open_with};
 pub use shard_rest::{ShardRest, open_shards};
 pub use side::{Misuse, Side};

@@ -1,22 +1,25 @@
 //! A cache is opened, and its sides are given out.
 ghost use Rattle.std.specs.Option.{ForSome};
-ghost use Rattle.std.specs.Prelude.{◌≡◌, ◌+◌, ◌*◌, All, IfOk, MatchOption, MatchResult, false, length, true};
+ghost use Rattle.std.specs.Prelude.{◌≡◌, ◌+◌, ◌*◌, ◌≤◌, All, IfErr, IfOk, MatchOption, MatchResult, Some, false, length, true};
 ghost use Rattle.mc_cache.specs.Openings.{RefusesOpening};
 ghost use Rattle.mc_shared.specs.Records.{IsNewReader};
 ghost use Rattle.mc_shared.specs.Views.{layout_of};
 ghost use Rattle.mc_words.specs.Places.{IsWidth};
-ghost use Rattle.mc_words.specs.Readers.{HasReaders};
+ghost use Rattle.mc_words.specs.Readers.{HasReaders, most_readers};
 ghost use Rattle.mc_words.specs.Shapes.{IsShape};
 ghost use Rattle.mc_door.specs.Loading.{IsLoadedWriter, entries_in};
 ghost use Rattle.mc_door.specs.Roles.{Writes, role_of};
+ghost use Rattle.mc_door.specs.Spares.{spares_of};
 
+use crate::at_desk::AtDesk;
 use crate::entries::{check, entries_of};
 use crate::pass_side::PassSide;
 use crate::reader_side::ReaderSide;
 use crate::side::Side;
+use crate::spares::move_readers;
 use crate::writer_side::WriterSide;
 use mc_cache::{Cache, Desk, OpenError, Opened, Reader, Shape, Why, Writer, open_with};
-use mc_words::NoMemory;
+use mc_words::{MOST_READERS, NoMemory};
 use std::alloc::Global;
 use std::sync::Arc;
 
@@ -24,10 +27,10 @@ use std::sync::Arc;
 #[derive(Drop)]
 pub struct NewSides<const V: usize> {
     pub cache: Arc<Cache<V>, Global>,
-    pub desk: Option<Arc<Desk<V>, Global>>,
+    pub desk: Option<Arc<AtDesk<V>, Global>>,
     pub readers: Vec<Reader<V>>,
     ghost fresh: { All (IsNewReader cache.value) readers.items },
-    ghost belongs: { ForSome desk (λ d. d.value ≡ cache.value) },
+    ghost belongs: { ForSome desk (λ d. d.value.desk ≡ Some cache.value) },
 }
 
 impl<const V: usize> NewSides<V> {
@@ -36,50 +39,81 @@ impl<const V: usize> NewSides<V> {
     /// One of them, if any is left.
     pub(crate) fn next(&mut self) -> Result<Option<Side<V>>, NoMemory>
         ensures same { (opening_of self.new ≡ opening_of self.old) × (has_desk self.new ≡ has_desk self.old) }
+        ensures refused { IfErr result (λ _. count_of self.new ≡ count_of self.old) }
         ensures given { IfOk result (λ given. MatchOption given (count_of self.old ≡ 0)
             (λ side. IsNewSide (opening_of self.old) (has_desk self.old) (role_of side) × (count_of self.old ≡ count_of self.new + 1))) }
     {
-        let Some(reader) = self.readers.pop() else {
-            return Ok(None);
-        };
         let Ok(cache) = Arc::try_clone(&self.cache) else {
             return Err(NoMemory);
         };
-        let side = match &self.desk {
-            None => Side::Reader(ReaderSide { cache, reader }),
+        match &self.desk {
+            None => {
+                let Some(reader) = self.readers.pop() else {
+                    return Ok(None);
+                };
+                Ok(Some(Side::Reader(ReaderSide { cache, reader })))
+            }
             Some(shared) => {
                 let Ok(desk) = Arc::try_clone(shared) else {
                     return Err(NoMemory);
                 };
-                Side::Pass(PassSide {
-                    cache,
-                    desk,
-                    pass: reader,
-                })
+                let Some(pass) = self.readers.pop() else {
+                    return Ok(None);
+                };
+                Ok(Some(Side::Pass(PassSide { cache, desk, pass })))
             }
-        };
-        Ok(Some(side))
+        }
     }
 
-    // The writer of a new cache in hand, and its readers.
+    /// One of the passes, which gets what is left of them: it needs no further share of the desk.
+    pub(crate) fn into_pass(self) -> Side<V>
+        requires { (has_desk self ≡ true) × (1 ≤ count_of self) }
+        ensures { IsNewSide (opening_of self.entry) true (role_of result) }
+    {
+        let NewSides {
+            cache,
+            desk,
+            mut readers,
+        } = self;
+        let Some(desk) = desk else {
+            unreachable!();
+        };
+        let Some(pass) = readers.pop() else {
+            unreachable!();
+        };
+        Side::Pass(PassSide { cache, desk, pass })
+    }
+
+    // The writer of a new cache in hand, and as many of its readers as were asked for. The others stay with the writer.
     fn of(
         alloc: Global,
         cache: Cache<V>,
         writer: Writer<V>,
-        readers: Vec<Reader<V>>,
+        mut spares: Vec<Reader<V>>,
+        asked: u32,
     ) -> Result<(Side<V>, NewSides<V>), NoMemory>
         requires of { writer.of ≡ cache }
-        requires fresh { All (IsNewReader cache) readers.items }
+        requires fresh { All (IsNewReader cache) spares.items }
+        requires many { asked ≤ length spares.items }
         ensures writer { IfOk result (λ r. role_of r.0 ≡ Writes writer.entry) }
-        ensures rest { IfOk result (λ r. (opening_of r.1 ≡ cache.entry) × (has_desk r.1 ≡ false) × (r.1.readers.items ≡ readers.entry.items)) }
+        ensures spares { IfOk result (λ r. spares_of r.0 + asked ≡ length spares.entry.items) }
+        ensures rest { IfOk result (λ r. (opening_of r.1 ≡ cache.entry) × (has_desk r.1 ≡ false) × (count_of r.1 ≡ asked)) }
     {
+        let Ok(mut readers) = Vec::with_capacity(alloc, asked as usize) else {
+            return Err(NoMemory);
+        };
+        move_readers(&cache, &mut spares, &mut readers, asked as usize);
         let Ok(cache) = Arc::new(alloc, cache) else {
             return Err(NoMemory);
         };
         let Ok(own) = Arc::try_clone(&cache) else {
             return Err(NoMemory);
         };
-        let side = Side::Writer(WriterSide { cache: own, writer });
+        let side = Side::Writer(WriterSide {
+            cache: own,
+            writer,
+            spares,
+        });
         let rest = NewSides {
             cache,
             desk: None,
@@ -89,7 +123,7 @@ impl<const V: usize> NewSides<V> {
     }
 
     /// A cache with its writer in hand, and as many readers as were asked for.
-    #[tactic(auto, using(crate::proofs::NewReaders::as_many))]
+    #[tactic(auto, using(crate::proofs::NewReaders::as_many, crate::proofs::NewReaders::refused_as_asked))]
     pub(crate) fn open(
         alloc: Global,
         shape: Shape,
@@ -98,10 +132,12 @@ impl<const V: usize> NewSides<V> {
         requires width { IsWidth V }
         ensures refused { MatchResult result (λ r. (opening_of r.1).layout ≡ layout_of V shape) (λ e. RefusesOpening shape readers e) }
         ensures writer { IfOk result (λ r. IsNewWriter (opening_of r.1) (role_of r.0)) }
+        ensures spares { IfOk result (λ r. spares_of r.0 + readers ≡ most_readers) }
         ensures readers { IfOk result (λ r. (has_desk r.1 ≡ false) × (count_of r.1 ≡ readers) × IsShape shape × HasReaders readers) }
     {
-        let (cache, writer, readers) = mc_cache::open::<V>(alloc, shape, readers)?;
-        match NewSides::of(alloc, cache, writer, readers) {
+        check(shape, readers)?;
+        let (cache, writer, spares) = mc_cache::open::<V>(alloc, shape, MOST_READERS)?;
+        match NewSides::of(alloc, cache, writer, spares, readers) {
             Ok(sides) => Ok(sides),
             Err(NoMemory) => Err(OpenError::NoMemory),
         }
@@ -109,7 +145,7 @@ impl<const V: usize> NewSides<V> {
 
     /// A cache with so many entries, which stand one after the other as words, its writer in hand, as many readers as were asked for, and
     /// the index of each entry that was left, with the reason.
-    #[tactic(auto, using(crate::proofs::NewReaders::as_many))]
+    #[tactic(auto, using(crate::proofs::NewReaders::as_many, crate::proofs::NewReaders::refused_as_asked))]
     pub(crate) fn open_with(
         alloc: Global,
         shape: Shape,
@@ -121,27 +157,28 @@ impl<const V: usize> NewSides<V> {
         requires entries { length entries.now ≡ count * (1 + V) }
         ensures refused { MatchResult result (λ r. (opening_of r.1).layout ≡ layout_of V shape) (λ e. RefusesOpening shape readers e) }
         ensures writer { IfOk result (λ r. IsLoadedWriter V (opening_of r.1) (entries_in V count entries.now) r.2.items (role_of r.0)) }
+        ensures spares { IfOk result (λ r. spares_of r.0 + readers ≡ most_readers) }
         ensures readers { IfOk result (λ r. (has_desk r.1 ≡ false) × (count_of r.1 ≡ readers) × IsShape shape × HasReaders readers) }
     {
         check(shape, readers)?;
         let Ok(entries) = entries_of::<V>(alloc, count, entries) else {
             return Err(OpenError::NoMemory);
         };
-        let opened = open_with::<V>(alloc, shape, readers, entries.as_slice())?;
+        let opened = open_with::<V>(alloc, shape, MOST_READERS, entries.as_slice())?;
         let Opened {
             cache,
             writer,
-            readers,
+            readers: spares,
             left,
         } = opened;
-        match NewSides::of(alloc, cache, writer, readers) {
+        match NewSides::of(alloc, cache, writer, spares, readers) {
             Ok((side, rest)) => Ok((side, rest, left)),
             Err(NoMemory) => Err(OpenError::NoMemory),
         }
     }
 
     /// A cache whose writer lies on a desk, and as many passes as were asked for.
-    #[tactic(auto, using(crate::proofs::NewReaders::as_many))]
+    #[tactic(auto, using(crate::proofs::NewReaders::as_many, crate::proofs::NewReaders::refused_as_asked))]
     pub(crate) fn open_desk(
         alloc: Global,
         shape: Shape,
@@ -151,11 +188,20 @@ impl<const V: usize> NewSides<V> {
         ensures refused { MatchResult result (λ r. (opening_of r).layout ≡ layout_of V shape) (λ e. RefusesOpening shape passes e) }
         ensures passes { IfOk result (λ r. (has_desk r ≡ true) × (count_of r ≡ passes) × IsShape shape × HasReaders passes) }
     {
-        let (cache, writer, readers) = mc_cache::open::<V>(alloc, shape, passes)?;
+        check(shape, passes)?;
+        let (cache, writer, mut spares) = mc_cache::open::<V>(alloc, shape, MOST_READERS)?;
+        let Ok(mut readers) = Vec::with_capacity(alloc, passes as usize) else {
+            return Err(OpenError::NoMemory);
+        };
+        move_readers(&cache, &mut spares, &mut readers, passes as usize);
         let Ok(desk) = Desk::new(alloc, writer) else {
             return Err(OpenError::NoMemory);
         };
-        let Ok(desk) = Arc::new(alloc, desk) else {
+        let at_desk = AtDesk {
+            desk: Some(desk),
+            spares,
+        };
+        let Ok(desk) = Arc::new(alloc, at_desk) else {
             return Err(OpenError::NoMemory);
         };
         let Ok(cache) = Arc::new(alloc, cache) else {

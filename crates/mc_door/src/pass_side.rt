@@ -1,14 +1,15 @@
 //! A pass at the desk of a cache, with the desk and the cache.
-ghost use Rattle.std.specs.Prelude.{◌≡◌, length, IfOk};
+ghost use Rattle.std.specs.Prelude.{◌≡◌, Some, length, IfOk};
 ghost use Rattle.mc_cache.specs.Plain.{HasAnswered, PutIfAbsentMeans, PutIfMeans, PutMeans, RemovalMeans, TurnMeans, seen, AreEntriesOf, Begins};
 ghost use Rattle.mc_cache.specs.Turns.{HasLookedOrMet, HasTried, HasTriedIfAbsent};
 ghost use Rattle.mc_plan.specs.WholeCalls.Call.{PutCall, PutIfCall, RemoveCall};
 ghost use Rattle.mc_plan.specs.declared.answer.Answer.TheVariants as answer;
 ghost use Rattle.mc_reader.specs.Records.{HasLooked};
 
+use crate::at_desk::AtDesk;
 use crate::words::array_of;
 use mc_cache::{
-    AbsentError, Cache, Desk, DeskError, IfError, Put, PutError, Reader, Remove, Reply, Spent,
+    AbsentError, Cache, DeskError, IfError, Put, PutError, Reader, Remove, Reply, Spent,
 };
 use mc_words::NoMemory;
 use std::alloc::Global;
@@ -18,9 +19,9 @@ use std::sync::Arc;
 #[derive(Drop)]
 pub struct PassSide<const V: usize> {
     pub cache: Arc<Cache<V>, Global>,
-    pub desk: Arc<Desk<V>, Global>,
+    pub desk: Arc<AtDesk<V>, Global>,
     pub pass: Reader<V>,
-    ghost belongs: { (pass.of ≡ cache.value) × (desk.value ≡ cache.value) },
+    ghost belongs: { (pass.of ≡ cache.value) × (desk.value.desk ≡ Some cache.value) },
 }
 
 impl<const V: usize> PassSide<V> {
@@ -39,7 +40,7 @@ impl<const V: usize> PassSide<V> {
         ensures looked { HasLookedOrMet V self.old.pass.of.layout.shape key self.old.pass self.new.pass result }
         ensures plain { HasAnswered V (seen V self.old.pass) (seen V self.new.pass) key result }
     {
-        self.pass.get_or_desk(&self.cache, &self.desk, key)
+        self.pass.get_or_desk(&self.cache, self.desk.desk(), key)
     }
 
     #[inline(always)]
@@ -50,6 +51,7 @@ impl<const V: usize> PassSide<V> {
         ensures plain { TurnMeans (λ h h' told. PutMeans V h h' key value.now told) (seen V self.old.pass) (seen V self.new.pass) result }
     {
         self.desk
+            .desk()
             .try_put(&self.cache, &mut self.pass, key, array_of::<V>(value))
     }
 
@@ -87,6 +89,7 @@ impl<const V: usize> PassSide<V> {
     {
         let value = array_of::<V>(value);
         self.desk
+            .desk()
             .try_put_if(&self.cache, &mut self.pass, key, since, value)
     }
 
@@ -103,6 +106,7 @@ impl<const V: usize> PassSide<V> {
     {
         let value = array_of::<V>(value);
         self.desk
+            .desk()
             .try_put_if_absent(&self.cache, &mut self.pass, key, value)
     }
 
@@ -112,7 +116,9 @@ impl<const V: usize> PassSide<V> {
         ensures turn { HasTried V self.old.pass.of.layout.shape (RemoveCall key) answer.Remove self.old.pass self.new.pass result }
         ensures plain { TurnMeans (λ h h' told. RemovalMeans V h h' key told) (seen V self.old.pass) (seen V self.new.pass) result }
     {
-        self.desk.try_remove(&self.cache, &mut self.pass, key)
+        self.desk
+            .desk()
+            .try_remove(&self.cache, &mut self.pass, key)
     }
 
     pub(crate) fn entries(
@@ -123,6 +129,8 @@ impl<const V: usize> PassSide<V> {
         ensures begins { Begins (seen V self.old.pass) (seen V self.new.pass) }
         ensures plain { IfOk result (λ es. AreEntriesOf V (seen V self.new.pass) es.items) }
     {
-        self.desk.try_entries(alloc, &self.cache, &mut self.pass)
+        self.desk
+            .desk()
+            .try_entries(alloc, &self.cache, &mut self.pass)
     }
 }

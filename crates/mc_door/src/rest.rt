@@ -1,13 +1,14 @@
 //! A cache is opened for values of one of eight widths.
-ghost use Rattle.std.specs.Prelude.{◌≡◌, ◌+◌, ◌*◌, IfOk, MatchOption, MatchResult, length, true, false};
+ghost use Rattle.std.specs.Prelude.{◌≡◌, ◌+◌, ◌*◌, ◌≤◌, IfErr, IfOk, MatchOption, MatchResult, length, true, false};
 ghost use Rattle.mc_cache.specs.Openings.{RefusesOpening};
 ghost use Rattle.mc_shared.specs.Views.{layout_of};
 ghost use Rattle.mc_words.specs.Places.{IsWidth};
-ghost use Rattle.mc_words.specs.Readers.{HasReaders};
+ghost use Rattle.mc_words.specs.Readers.{HasReaders, most_readers};
 ghost use Rattle.mc_words.specs.Shapes.{IsShape};
 ghost use Rattle.mc_door.specs.Held.{role_in, width_of};
 ghost use Rattle.mc_door.specs.Loading.{IsLoadedWriter, entries_in};
 ghost use Rattle.mc_door.specs.NewSides.{IsNewSide, IsNewWriter, count_in, has_desk_in, opening_in, width_in};
+ghost use Rattle.mc_door.specs.Spares.{spares_in};
 
 use crate::held::Held;
 use crate::new_sides::NewSides;
@@ -33,6 +34,7 @@ impl Rest {
     /// One of them, if any is left. `Err` only where there is no memory.
     pub fn next(&mut self) -> Result<Option<Held>, NoMemory>
         ensures same { (opening_in self.new ≡ opening_in self.old) × (has_desk_in self.new ≡ has_desk_in self.old) × (width_in self.new ≡ width_in self.old) }
+        ensures refused { IfErr result (λ _. count_in self.new ≡ count_in self.old) }
         ensures given { IfOk result (λ given. MatchOption given (count_in self.old ≡ 0)
             (λ held. (width_of held ≡ width_in self.old) × IsNewSide (opening_in self.old) (has_desk_in self.old) (role_in held) × (count_in self.old ≡ count_in self.new + 1))) }
     {
@@ -42,6 +44,19 @@ impl Rest {
             };
         }
         with_sides!(Rest, self, given)
+    }
+
+    /// One of the passes, which gets what is left of them. It takes no memory. Condition: they are passes, and one is left.
+    pub fn into_pass(self) -> Held
+        requires { (has_desk_in self ≡ true) × (1 ≤ count_in self) }
+        ensures { (width_of result ≡ width_in self) × IsNewSide (opening_in self) true (role_in result) }
+    {
+        macro_rules! pass {
+            ($sides:ident, $variant:ident) => {
+                Held::$variant($sides.into_pass())
+            };
+        }
+        with_sides!(Rest, self, pass)
     }
 }
 
@@ -55,6 +70,7 @@ pub fn open(
     requires width { IsWidth words }
     ensures refused { MatchResult result (λ r. (opening_in r.1).layout ≡ layout_of words shape) (λ e. RefusesOpening shape readers e) }
     ensures writer { IfOk result (λ r. (width_of r.0 ≡ words) × IsNewWriter (opening_in r.1) (role_in r.0)) }
+    ensures spares { IfOk result (λ r. spares_in r.0 + readers ≡ most_readers) }
     ensures rest { IfOk result (λ r. (width_in r.1 ≡ words) × (has_desk_in r.1 ≡ false) × (count_in r.1 ≡ readers) × IsShape shape × HasReaders readers) }
 {
     macro_rules! opened {
@@ -80,6 +96,7 @@ pub fn open_with(
     requires entries { length entries.now ≡ count * (1 + words) }
     ensures refused { MatchResult result (λ r. (opening_in r.1).layout ≡ layout_of words shape) (λ e. RefusesOpening shape readers e) }
     ensures writer { IfOk result (λ r. (width_of r.0 ≡ words) × IsLoadedWriter words (opening_in r.1) (entries_in words count entries.now) r.2.items (role_in r.0)) }
+    ensures spares { IfOk result (λ r. spares_in r.0 + readers ≡ most_readers) }
     ensures rest { IfOk result (λ r. (width_in r.1 ≡ words) × (has_desk_in r.1 ≡ false) × (count_in r.1 ≡ readers) × IsShape shape × HasReaders readers) }
 {
     macro_rules! opened {

@@ -65,6 +65,7 @@ impl<const V: usize> PassSide<V> {
         ensures plain { IfOk result (λ es. AreStampedEntriesOf V (seen V self.new.pass) es.items) }
     {
         self.desk
+            .desk()
             .try_stamped_entries(alloc, &self.cache, &mut self.pass)
     }
 }

@@ -70,7 +70,9 @@ impl<const V: usize> PassSide<V> {
         ensures plain { TurnMeans (λ h h' told. SwapOf V h h' key value.now told) (seen V self.old.pass) (seen V self.new.pass) result }
     {
         let value = array_of::<V>(value);
-        self.desk.try_swap(&self.cache, &mut self.pass, key, value)
+        self.desk
+            .desk()
+            .try_swap(&self.cache, &mut self.pass, key, value)
     }
 
     fn swap_if(
@@ -86,6 +88,7 @@ impl<const V: usize> PassSide<V> {
     {
         let value = array_of::<V>(value);
         self.desk
+            .desk()
             .try_swap_if(&self.cache, &mut self.pass, key, since, value)
     }
 
@@ -94,7 +97,7 @@ impl<const V: usize> PassSide<V> {
         ensures turn { HasTried V self.old.pass.of.layout.shape (RemoveCall key) take_answer self.old.pass self.new.pass result }
         ensures plain { TurnMeans (λ h h' told. TakeOf V h h' key told) (seen V self.old.pass) (seen V self.new.pass) result }
     {
-        self.desk.try_take(&self.cache, &mut self.pass, key)
+        self.desk.desk().try_take(&self.cache, &mut self.pass, key)
     }
 }
 

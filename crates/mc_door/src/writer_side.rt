@@ -1,5 +1,6 @@
 //! The writer of a cache, with the cache.
-ghost use Rattle.std.specs.Prelude.{◌≡◌, length, IfOk};
+ghost use Rattle.std.specs.Prelude.{◌≡◌, All, length, IfOk};
+ghost use Rattle.mc_shared.specs.Records.{IsNewReader};
 ghost use Rattle.mc_cache.specs.Plain.{PutIfAbsentMeans, PutIfMeans, PutMeans, RemovalMeans, history, AreEntriesOf, TellsNow};
 ghost use Rattle.mc_plan.specs.WholeCalls.Call.{PutCall, PutIfCall, RemoveCall};
 ghost use Rattle.mc_plan.specs.declared.answer.Answer.TheVariants as answer;
@@ -7,17 +8,19 @@ ghost use Rattle.mc_writer.specs.WriterCalls.{HasCalled, HasPutIfAbsent, HasGot}
 ghost use Rattle.mc_words.specs.History.{key_count};
 
 use crate::words::array_of;
-use mc_cache::{AbsentError, Cache, IfError, Put, PutError, Remove, Reply, Spent, Writer};
+use mc_cache::{AbsentError, Cache, IfError, Put, PutError, Reader, Remove, Reply, Spent, Writer};
 use mc_words::NoMemory;
 use std::alloc::Global;
 use std::sync::Arc;
 
-/// The writer of a cache.
+/// The writer of a cache, and the cache's spare readers: those that no handle has had.
 #[derive(Drop)]
 pub struct WriterSide<const V: usize> {
     pub cache: Arc<Cache<V>, Global>,
     pub writer: Writer<V>,
+    pub spares: Vec<Reader<V>>,
     ghost belongs: { writer.of ≡ cache.value },
+    ghost fresh: { All (IsNewReader cache.value) spares.items },
 }
 
 impl<const V: usize> WriterSide<V> {

@@ -1,5 +1,5 @@
 -- Handles are opened one after the other.
-use Rattle.std.specs.Prelude.{ℕ, ◌≡◌, ◌+◌, List, length}
+use Rattle.std.specs.Prelude.{ℕ, ◌≡◌, ◌+◌, List, length, true}
 use Rattle.std.specs.List.{AllWithin}
 use Rattle.mc_door.specs.NewPasses.{count_on, shards_on, width_on}
 use Rattle.mc_door.specs.NewSides.{count_in, has_desk_in, opening_in, width_in}
@@ -9,14 +9,17 @@ use Rattle.cefrodil.specs.Openings.{IsClosed, IsNewAt}
 use Rattle.cefrodil.specs.ShardOpenings.{IsNewPassAt}
 use Rattle.cefrodil.specs.declared.slot.Slot.{Slot}
 
--- so many handles have a side of the new cache, and of the sides as many are left as there are handles without one
-pub record IsFilledTo (first rest : Rest) (slots : List Slot) (n : ℕ) : Type 0 where
+abbrev pub IsOpen : Slot → Type 0
+IsOpen s = s.live ≡ true
+
+-- so many handles have a side of the new cache, the others wait for one, and as many sides are left
+pub record IsFilledTo (Waits : Slot → Type 0) (first rest : Rest) (slots : List Slot) (n : ℕ) : Type 0 where
   pub opening : opening_in rest ≡ opening_in first
   pub desk : has_desk_in rest ≡ has_desk_in first
   pub width : width_in rest ≡ width_in first
   pub left : count_in rest + n ≡ length slots
   pub filled : AllWithin (IsNewAt (opening_in first) (has_desk_in first) (width_in first)) slots 0 n
-  pub closed : AllWithin IsClosed slots n (length slots)
+  pub waiting : AllWithin Waits slots n (length slots)
 
 -- the same of passes of shards
 pub record HasPassesTo (first rest : ShardRest) (slots : List Slot) (n : ℕ) : Type 0 where
@@ -24,4 +27,9 @@ pub record HasPassesTo (first rest : ShardRest) (slots : List Slot) (n : ℕ) : 
   pub width : width_on rest ≡ width_on first
   pub left : count_on rest + n ≡ length slots
   pub filled : AllWithin (IsNewPassAt (shards_on first) (width_on first)) slots 0 n
+  pub closed : AllWithin IsClosed slots n (length slots)
+
+-- so many handles are open, the others closed
+pub record HasPlacesTo (slots : List Slot) (n : ℕ) : Type 0 where
+  pub places : AllWithin IsOpen slots 0 n
   pub closed : AllWithin IsClosed slots n (length slots)

@@ -7,7 +7,8 @@ use Rattle.mc_door.specs.NewSides.{opening_in}
 use Rattle.mc_door.specs.declared.held.Held.{Held}
 use Rattle.cefrodil.specs.Loading.{entry_status}
 use Rattle.cefrodil.proofs.Loaded.{are_loaded, named_within}
-use Rattle.cefrodil.proofs.Opened.{refused_memory}
+use Rattle.cefrodil.specs.Open.{kept}
+use Rattle.cefrodil.proofs.Opened.{keeps_spares, refused_memory}
 use Rattle.cefrodil.proofs.loading.open_all_with.Goals as goal
 
 pub tell_left-requires : goal.tell_left-requires
@@ -25,7 +26,10 @@ returns-in_default-clause-refused c =
 pub returns-clause-opened : goal.returns-clause-opened
 returns-clause-opened c =
     let opened = c.in-Ok-opened.opened in let made = c.in-Ok-opened.ensures in let given = c.in-Some.ensures.given in let statuses : List ℕ = c.tell_left.new.statuses in
+    let is : kept c.put.new.self ≡ some opened.0 = c.put.ensures.1 ∙ ap (λ (h : Held). some h) given.0 in
+    let spares = keeps_spares c.count_of.result (length c.args.readers.now) (length c.given_out.new.readers) c.put.new.self opened.0 made.rest.4 c.count_of.ensures.right c.count_of.ensures.same
+    c.given_out.auto.readers is made.spares in
     λ _. are_loaded c.args.shape.now c.args.words (length c.args.statuses.now) c.args.entries.now c.tell_left.new.statuses c.put.new.self c.given_out.new.readers c.in-Ok.shape opened.1 opened.0
     opened.2.items c.in-Ok.ensures.3 made.refused made.rest.0 made.rest.1 (c.tell_left.auto.statuses ∙ c.tell_done.auto.statuses) c.in-Ok.ensures.1
-    (c.put.ensures.1 ∙ ap (λ (h : Held). some h) given.0) made.writer.0 made.writer.1 given.1
+    is made.writer.0 made.writer.1 spares given.1
     (subst (λ (ls : List (ℕ × Why)). EachIndex statuses (λ i. slice_index statuses i ≡ entry_status ls i)) c.as_slice.ensures.value c.tell_left.ensures)

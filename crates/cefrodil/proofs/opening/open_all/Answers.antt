@@ -1,7 +1,8 @@
-use Rattle.std.proofs.Common.{◌∙◌, ap, length}
+use Rattle.std.proofs.Common.{◌≡◌, ◌∙◌, ap, length}
 use mathlib.Core.Option.{some}
 use Rattle.mc_door.specs.declared.held.Held.{Held}
-use Rattle.cefrodil.proofs.Opened.{are_opened, refused_memory}
+use Rattle.cefrodil.specs.Open.{kept}
+use Rattle.cefrodil.proofs.Opened.{are_opened, keeps_spares, refused_memory}
 use Rattle.cefrodil.proofs.opening.open_all.Goals as goal
 
 pub returns-in_default-clause-refused : goal.returns-in_default-clause-refused
@@ -11,6 +12,9 @@ returns-in_default-clause-refused c =
 
 pub returns-clause-opened : goal.returns-clause-opened
 returns-clause-opened c =
-    λ _. are_opened c.args.shape.now c.args.words c.put.new.self c.given_out.new.readers c.in-Ok.shape c.in-Ok-open.opened.1 c.in-Ok-open.opened.0 c.in-Ok.ensures.2
-    c.in-Ok-open.ensures.refused c.in-Ok-open.ensures.rest.0 c.in-Ok-open.ensures.rest.1 (c.put.ensures.1 ∙ ap (λ (h : Held). some h) c.in-Some.ensures.given.0)
-    c.in-Ok-open.ensures.writer.0 c.in-Ok-open.ensures.writer.1 c.in-Some.ensures.given.1
+    let made = c.in-Ok-open.ensures in let held : Held = c.in-Ok-open.opened.0 in
+    let is : kept c.put.new.self ≡ some held = c.put.ensures.1 ∙ ap (λ (h : Held). some h) c.in-Some.ensures.given.0 in
+    let spares = keeps_spares c.count_of.result (length c.args.readers.now) (length c.given_out.new.readers) c.put.new.self held made.rest.4 c.count_of.ensures.right c.count_of.ensures.same
+    c.given_out.auto.readers is made.spares in
+    λ _. are_opened c.args.shape.now c.args.words c.put.new.self c.given_out.new.readers c.in-Ok.shape c.in-Ok-open.opened.1 held c.in-Ok.ensures.2
+    made.refused made.rest.0 made.rest.1 is made.writer.0 made.writer.1 spares c.in-Some.ensures.given.1

@@ -1,0 +1,102 @@
+//! The writer of an open cache goes on a desk.
+ghost use Rattle.std.specs.Prelude.{◌≡◌, ◌≢◌, ◌≤◌, All, false, length, true};
+ghost use Rattle.mc_door.specs.NewSides.{count_in, has_desk_in, opening_in, width_in};
+ghost use Rattle.cefrodil.specs.Inside.DeskStatuses.{desk_status};
+ghost use Rattle.cefrodil.specs.Inside.Filling.{IsOpen};
+ghost use Rattle.cefrodil.specs.OntoDesk.{AreDeskPasses, DeskGives, RefusesDesk, StaysOrShares};
+ghost use Rattle.cefrodil.specs.Open.{kept};
+ghost use Rattle.cefrodil.specs.Openings.{IsClosed, IsNewAt};
+
+use crate::opening::{all_closed, boxed, close_all};
+use crate::slot::Slot;
+use crate::status::{CLOSED, IN_USE, KIND, NO_MEMORY, OK, READERS};
+use mc_door::{Held, MakeDeskError, Rest};
+use std::alloc::Global;
+
+fn status_of_desk(why: MakeDeskError) -> u32
+    ensures { result ≡ desk_status why }
+{
+    match why {
+        MakeDeskError::Kind => KIND,
+        MakeDeskError::Passes => READERS,
+    }
+}
+
+// Opens the handles, with nothing behind them yet. `false` where there is no memory.
+#[tactic(auto, using(crate::proofs::Filling::all_placed))]
+fn make_places(alloc: Global, slots: &mut [Slot]) -> bool
+    requires { All IsClosed slots.old }
+    ensures { result ≡ true → All IsOpen slots.new }
+{
+    for slot in slots.iter_mut() {
+        let Some(place) = boxed(alloc, Held::nothing()) else {
+            return false;
+        };
+        slot.put(place);
+    }
+    true
+}
+
+// A pass goes behind each of the open handles. `false` where it can't have a share of the desk: then one pass is left at least.
+#[tactic(auto, using(crate::proofs::Filling::all_filled))]
+fn give_passes(rest: &mut Rest, slots: &mut [Slot]) -> bool
+    requires { (count_in rest.old ≡ length slots.old) × All IsOpen slots.old }
+    ensures same { (opening_in rest.new ≡ opening_in rest.old) × (has_desk_in rest.new ≡ has_desk_in rest.old) × (width_in rest.new ≡ width_in rest.old) }
+    ensures given { result ≡ true → All (IsNewAt (opening_in rest.old) (has_desk_in rest.old) (width_in rest.old)) slots.new }
+    ensures left { result ≡ false → 1 ≤ count_in rest.new }
+{
+    for slot in slots.iter_mut() {
+        let Ok(given) = rest.next() else {
+            return false;
+        };
+        let Some(held) = given else {
+            unreachable!();
+        };
+        slot.replace(held);
+    }
+    true
+}
+
+// The passes' handles are closed. All memory is taken before the writer goes.
+fn make_desk(alloc: Global, held: &mut Held, passes: &mut [Slot]) -> u32
+    requires { All IsClosed passes.old }
+    ensures made { result ≡ OK → AreDeskPasses held.old passes.new }
+    ensures refused { result ≢ OK → RefusesDesk held.old (length passes.old) result × All IsClosed passes.new × StaysOrShares held.old held.new result }
+{
+    if let Err(why) = held.check_desk(passes.len()) {
+        return status_of_desk(why);
+    }
+    if !make_places(alloc, passes) {
+        close_all(alloc, passes);
+        return NO_MEMORY;
+    }
+    let Ok(mut rest) = held.make_desk(alloc, passes.len()) else {
+        close_all(alloc, passes);
+        return NO_MEMORY;
+    };
+    if !give_passes(&mut rest, passes) {
+        close_all(alloc, passes);
+        *held = rest.into_pass();
+        return NO_MEMORY;
+    }
+    OK
+}
+
+/// The writer goes on a desk, with a pass in each of the other handles. Its own handle is closed then.
+#[unsafe(no_mangle)]
+pub extern "C" fn cefrodil_make_desk(alloc: Global, writer: &mut Slot, passes: &mut [Slot]) -> u32
+    ensures in_use { ¬ All IsClosed passes.old → (result ≡ IN_USE) × (writer.new ≡ writer.old) × (passes.new ≡ passes.old) }
+    ensures made { All IsClosed passes.old → DeskGives (kept writer.old) (kept writer.new) passes.old passes.new result }
+{
+    if !all_closed(passes) {
+        return IN_USE;
+    }
+    if !writer.live {
+        return CLOSED;
+    }
+    let status = make_desk(alloc, writer.handle.held(), passes);
+    if status == OK {
+        drop(writer.take(alloc));
+    }
+    status
+}

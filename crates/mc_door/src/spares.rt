@@ -1,0 +1,29 @@
+//! Readers of a cache that no handle has had.
+ghost use Rattle.std.specs.Prelude.{◌≡◌, ◌+◌, ◌≤◌, [], All, length, vec_capacity};
+ghost use Rattle.mc_shared.specs.Records.{IsNewReader};
+
+use mc_cache::{Cache, Reader};
+
+/// Puts so many of the spare readers into the other list, which is empty and has room for them. So it takes no memory.
+pub(crate) fn move_readers<const V: usize>(
+    cache: &Cache<V>,
+    spares: &mut Vec<Reader<V>>,
+    readers: &mut Vec<Reader<V>>,
+    many: usize,
+)
+    requires fresh { All (IsNewReader cache.now) spares.old.items }
+    requires many { many ≤ length spares.old.items }
+    requires empty { readers.old.items ≡ [] }
+    requires room { many ≤ vec_capacity readers.old }
+    ensures fresh { All (IsNewReader cache.now) spares.new.items × All (IsNewReader cache.now) readers.new.items }
+    ensures many { (length readers.new.items ≡ many) × (length spares.new.items + many ≡ length spares.old.items) }
+{
+    let _cache = cache;
+    for n in 0..many {
+        let _n = n;
+        let Some(reader) = spares.pop() else {
+            unreachable!();
+        };
+        readers.push_reserved(reader);
+    }
+}
