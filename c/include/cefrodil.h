@@ -126,7 +126,7 @@ typedef enum cefrodil_status {
     CEFRODIL_BAD_DEPTH = 18,
     CEFRODIL_BAD_TRIES = 19,
     CEFRODIL_BAD_LIMIT = 20,
-    CEFRODIL_BAD_READERS = 21, /* there must be 1 to 1024 readers, or passes, and no more than are left */
+    CEFRODIL_BAD_READERS = 21, /* there must be 1 to 1024 readers, or passes; for a new desk, no more than the cache has to spare */
     CEFRODIL_BAD_COUNT = 22,   /* counts that belong together do not match */
     CEFRODIL_NO_ITEM = 23,     /* every item is in use */
     CEFRODIL_BAD_SHARDS = 24,  /* the number of shards must be a power of two, 1 to 256 */
@@ -166,9 +166,10 @@ CEFRODIL_CHECKED cefrodil_status cefrodil_open_desk(const cefrodil_shape *shape,
 
 /* Puts the writer of an open cache on a desk, so that threads can write by turns. It may be the writer of cefrodil_open or
  * cefrodil_open_with, or one that came back by cefrodil_leave_desk. Each of `pass_count` handles becomes a pass. Readers of the cache
- * go on beside the desk. A cache gives out 1,024 readers and passes in its life. This call takes memory.
+ * go on beside the desk. A cache is opened with 64 readers to spare, or as many as 1,024 in all allow, and a new pass takes one of them
+ * for good. This call takes memory.
  * OK: the passes are open, and `writer` is closed. IN_USE: one of the passes was open before. Otherwise returns the first that
- * applies: CLOSED, KIND, BAD_READERS (no passes, or more than the cache has left to give), NO_MEMORY. Unless OK, nothing was done. */
+ * applies: CLOSED, KIND, BAD_READERS (no passes, or more than readers to spare), NO_MEMORY. Unless OK, nothing was done. */
 CEFRODIL_CHECKED cefrodil_status cefrodil_make_desk(cefrodil_handle *writer, cefrodil_handle *passes, size_t pass_count);
 
 /* Fills in the shape of each of `shards` shards that hold `items` items together. A shard gets its mean share and five standard

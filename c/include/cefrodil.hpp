@@ -395,7 +395,7 @@ template <size_t Words> Status open_desk(const cefrodil_shape &shape, size_t cou
 }
 
 // Puts the writer of an open cache on a desk, for threads that write by turns: so many passes. ok: the writer is closed. Unless ok, `writer`
-// and `passes` are unchanged. bad_readers: no passes, or more than the cache has left to give.
+// and `passes` are unchanged. bad_readers: no passes, or more than the cache has readers to spare.
 template <size_t Words> Status make_desk(Writer<Words> &writer, size_t count, std::vector<Pass<Words>> &passes) {
     return inside::open_all(passes, count, [&](cefrodil_handle *raw, size_t many) {
         return cefrodil_make_desk(writer.raw(), raw, many);

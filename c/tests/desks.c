@@ -64,21 +64,27 @@ static void all_leave(int count) {
     }
 }
 
-/* A cache gives out 1,024 readers and passes. */
+/* A cache has 64 readers to spare for passes, or as many as 1,024 in all allow. */
 static void most(void) {
     MUST(cefrodil_open(&shape, 1, &writer, readers, 2) == CEFRODIL_OK);
-    MUST(cefrodil_make_desk(&writer, crowd, MOST - 1) == CEFRODIL_BAD_READERS && cefrodil_make_desk(&writer, crowd, 22) == CEFRODIL_OK);
+    MUST(cefrodil_make_desk(&writer, crowd, 65) == CEFRODIL_BAD_READERS && cefrodil_make_desk(&writer, crowd, 22) == CEFRODIL_OK);
     all_leave(22);
-    MUST(cefrodil_make_desk(&writer, crowd, 1001) == CEFRODIL_BAD_READERS && cefrodil_make_desk(&writer, crowd, 1000) == CEFRODIL_OK);
-    all_leave(1000);
+    MUST(cefrodil_make_desk(&writer, crowd, 43) == CEFRODIL_BAD_READERS && cefrodil_make_desk(&writer, crowd, 42) == CEFRODIL_OK);
+    all_leave(42);
     MUST(cefrodil_make_desk(&writer, crowd, 1) == CEFRODIL_BAD_READERS);
     MUST(cefrodil_put(&writer, 1, entries, 1, &reply) == CEFRODIL_OK && cefrodil_close(&writer) == CEFRODIL_OK);
     close_readers();
     MUST(cefrodil_open_desk(&shape, 1, crowd, 24) == CEFRODIL_OK);
     all_leave(24);
-    MUST(cefrodil_make_desk(&writer, crowd, 1001) == CEFRODIL_BAD_READERS && cefrodil_make_desk(&writer, crowd, 1000) == CEFRODIL_OK);
-    all_leave(1000);
-    MUST(cefrodil_close(&writer) == CEFRODIL_OK && cefrodil_open(&shape, 1, &writer, crowd, MOST) == CEFRODIL_OK);
+    MUST(cefrodil_make_desk(&writer, crowd, 65) == CEFRODIL_BAD_READERS && cefrodil_make_desk(&writer, crowd, 64) == CEFRODIL_OK);
+    all_leave(64);
+    MUST(cefrodil_close(&writer) == CEFRODIL_OK && cefrodil_open(&shape, 1, &writer, crowd, MOST - 1) == CEFRODIL_OK);
+    MUST(cefrodil_make_desk(&writer, passes, 2) == CEFRODIL_BAD_READERS && cefrodil_make_desk(&writer, passes, 1) == CEFRODIL_OK);
+    MUST(cefrodil_close(&passes[0]) == CEFRODIL_OK);
+    for (int i = 0; i < MOST - 1; i++) {
+        MUST(cefrodil_close(&crowd[i]) == CEFRODIL_OK);
+    }
+    MUST(cefrodil_open(&shape, 1, &writer, crowd, MOST) == CEFRODIL_OK);
     MUST(cefrodil_make_desk(&writer, passes, 1) == CEFRODIL_BAD_READERS && cefrodil_close(&writer) == CEFRODIL_OK);
     for (int i = 0; i < MOST; i++) {
         MUST(cefrodil_close(&crowd[i]) == CEFRODIL_OK);

@@ -137,7 +137,8 @@ impl<const WORDS: usize> Desk<WORDS> {
 
 impl<const WORDS: usize> Writer<WORDS> {
     /// Puts the writer on a desk, for this many passes at a time. So a cache that was opened with entries can have writers by turns. Its
-    /// readers go on beside the desk. A cache gives out 1,024 readers and passes in its life. This call takes memory.
+    /// readers go on beside the desk. A cache is opened with 64 readers to spare, or as many as 1,024 in all allow, and a new pass takes one
+    /// of them for good. This call takes memory.
     ///
     /// ```
     /// use cefrodil::{Cache, Reply, Shape};
@@ -165,7 +166,7 @@ impl<const WORDS: usize> Writer<WORDS> {
 pub struct NoDesk<const WORDS: usize> {
     /// The writer, as it was.
     pub writer: Writer<WORDS>,
-    /// [`OpenError::Readers`]: no passes, or more than the cache has left to give. [`OpenError::NoMemory`].
+    /// [`OpenError::Readers`]: no passes, or more than the cache has readers to spare. [`OpenError::NoMemory`].
     pub why: OpenError,
 }
 

@@ -21,7 +21,7 @@ pub enum OpenError {
     Tries,
     /// `limit` of the shape is out of range.
     Limit,
-    /// There must be 1 to 1024 readers, or passes, and no more than the cache has left to give.
+    /// There must be 1 to 1024 readers, or passes; for a new desk, no more than the cache has to spare.
     Readers,
     /// Out of memory.
     NoMemory,

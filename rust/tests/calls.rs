@@ -207,7 +207,7 @@ fn threads_take_turns() -> Result<(), Box<dyn Error>> {
 #[test]
 fn an_opened_cache_gets_a_desk() -> Result<(), Box<dyn Error>> {
     let mut opened = Cache::<2>::open_with(&Shape::for_items(100)?, 2, &[(7, [70, 71])])?;
-    let refused = opened.writer.into_desk(1023).err().ok_or("there are 1,022 passes")?;
+    let refused = opened.writer.into_desk(65).err().ok_or("there are 64 readers to spare")?;
     assert_eq!(refused.why, OpenError::Readers);
     let refused = refused.writer.into_desk(0).err().ok_or("there is no pass")?;
     assert_eq!(refused.to_string(), "readers must be from 1 to 1024");

@@ -6,13 +6,13 @@ use Rattle.mc_cache.specs.Openings.{RefusesOpening}
 use Rattle.mc_cache.specs.declared.opening.OpenError.{OpenError}
 use Rattle.mc_cache.specs.declared.opening.OpenError.TheVariants as error
 use Rattle.mc_words.specs.Places.{IsWidth}
-use Rattle.mc_words.specs.Readers.{HasReaders, most_readers}
+use Rattle.mc_words.specs.Readers.{HasReaders}
 use Rattle.mc_words.specs.Shapes.{IsShape}
 use Rattle.mc_words.specs.declared.shape.Shape.{Shape}
 use Rattle.mc_shared.specs.Views.{layout_of}
 use Rattle.mc_door.specs.Held.{role_in, width_of}
 use Rattle.mc_door.specs.NewSides.{IsNewWriter, has_desk_in, opening_in, width_in}
-use Rattle.mc_door.specs.Spares.{spares_in}
+use Rattle.mc_door.specs.Spares.{readers_for, spares_in}
 use Rattle.mc_door.specs.declared.held.Held.{Held}
 use Rattle.mc_door.specs.declared.rest.Rest.{Rest}
 use Rattle.cefrodil.specs.Open.{kept}
@@ -31,10 +31,10 @@ all_at first desk words slots is wide new =
 
 -- as many readers as handles were given out, so the writer keeps the others
 pub keeps_spares : (cut asked handles : ℕ) (writer : Slot) (held : Held) → HasReaders cut → (HasReaders cut ↔ HasReaders asked) → (HasReaders asked → cut ≡ asked) → handles ≡ asked
-    → kept writer ≡ some held → spares_in held + cut ≡ most_readers → KeepsSpares handles writer
+    → kept writer ≡ some held → spares_in held + cut ≡ readers_for cut → KeepsSpares handles writer
 keeps_spares cut asked handles writer held has same full many is left =
     let exact : cut ≡ handles = full (same.0 has) ∙ sym many in
-    keeps (λ h. spares_in h + handles ≡ most_readers) (kept writer) held is (subst (λ (n : ℕ). spares_in held + n ≡ most_readers) exact left)
+    keeps (λ h. spares_in h + handles ≡ readers_for handles) (kept writer) held is (subst (λ (n : ℕ). spares_in held + n ≡ readers_for n) exact left)
 
 pub are_opened : (raw : RawShape) (words : ℕ) (writer : Slot) (readers : List Slot) (sh : Shape) (first : Rest) (held : Held) → IsShapeOf raw sh
     → (opening_in first).layout ≡ layout_of words sh → width_in first ≡ words → has_desk_in first ≡ false

@@ -5,14 +5,13 @@ use Rattle.mc_cache.specs.Openings.{RefusesOpening}
 use Rattle.mc_cache.specs.declared.opening.OpenError.{OpenError}
 use Rattle.mc_cache.specs.declared.opening.OpenError.TheVariants as error
 use Rattle.mc_words.specs.Places.{IsWidth}
-use Rattle.mc_words.specs.Readers.{most_readers}
 use Rattle.mc_words.specs.declared.shape.Shape.{Shape}
 use Rattle.mc_words.specs.declared.shape.ShapeError.TheVariants as fault
 use Rattle.mc_shared.specs.Records.{Opening}
 use Rattle.mc_shared.specs.Views.{layout_of}
 use Rattle.mc_door.specs.Held.{role_in, width_of}
 use Rattle.mc_door.specs.NewSides.{IsNewSide, IsNewWriter}
-use Rattle.mc_door.specs.Spares.{spares_in}
+use Rattle.mc_door.specs.Spares.{readers_for, spares_in}
 use Rattle.mc_door.specs.declared.held.Held.{Held}
 use Rattle.cefrodil.specs.Open.{kept}
 use Rattle.cefrodil.specs.RawShapes.{HasMix, IsShapeOf}
@@ -49,9 +48,9 @@ open_status error.NoMemory = NO_MEMORY
 abbrev pub IsOfShape : RawShape → ℕ → Opening → Type 0
 IsOfShape raw words o = (sh : Shape) × IsShapeOf raw sh × (o.layout ≡ layout_of words sh)
 
--- the writer keeps those of the most readers that were not asked for
+-- the writer keeps the readers that were not asked for
 abbrev pub KeepsSpares : ℕ → Slot → Type 0
-KeepsSpares asked s = Keeps (λ h. spares_in h + asked ≡ most_readers) (kept s)
+KeepsSpares asked s = Keeps (λ h. spares_in h + asked ≡ readers_for asked) (kept s)
 
 -- the writer and the readers of a new cache
 pub record AreOpened (raw : RawShape) (words : ℕ) (writer : Slot) (readers : List Slot) : Type 0 where

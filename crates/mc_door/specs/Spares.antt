@@ -1,9 +1,14 @@
 -- How many readers of its cache a writer has that no handle has had.
-use Rattle.std.specs.Prelude.{ℕ, length}
+use Rattle.std.specs.Prelude.{ℕ, ◌+◌, length, min}
+use Rattle.mc_words.specs.Readers.{most_readers}
 use Rattle.mc_door.specs.declared.held.Held.{Held}
 use Rattle.mc_door.specs.declared.held.Held.TheVariants.{One, Two, Three, Four, Five, Six, Seven, Eight}
 use Rattle.mc_door.specs.declared.side.Side.{Side}
 use Rattle.mc_door.specs.declared.side.Side.TheVariants as side
+
+-- how many readers a cache is opened with, where so many are asked for: 64 more, or as many as there may be
+abbrev pub readers_for : ℕ → ℕ
+readers_for asked = min (asked + 64) most_readers
 
 abbrev pub spares_of : {V : ℕ} → Side V → ℕ
 spares_of (side.Writer s) = length s.spares.items

@@ -5,21 +5,21 @@ ghost use Rattle.mc_cache.specs.Openings.{RefusesOpening};
 ghost use Rattle.mc_shared.specs.Records.{IsNewReader};
 ghost use Rattle.mc_shared.specs.Views.{layout_of};
 ghost use Rattle.mc_words.specs.Places.{IsWidth};
-ghost use Rattle.mc_words.specs.Readers.{HasReaders, most_readers};
+ghost use Rattle.mc_words.specs.Readers.{HasReaders};
 ghost use Rattle.mc_words.specs.Shapes.{IsShape};
 ghost use Rattle.mc_door.specs.Loading.{IsLoadedWriter, entries_in};
 ghost use Rattle.mc_door.specs.Roles.{Writes, role_of};
-ghost use Rattle.mc_door.specs.Spares.{spares_of};
+ghost use Rattle.mc_door.specs.Spares.{readers_for, spares_of};
 
 use crate::at_desk::AtDesk;
 use crate::entries::{check, entries_of};
 use crate::pass_side::PassSide;
 use crate::reader_side::ReaderSide;
 use crate::side::Side;
-use crate::spares::move_readers;
+use crate::spares::{move_readers, readers_for};
 use crate::writer_side::WriterSide;
 use mc_cache::{Cache, Desk, OpenError, Opened, Reader, Shape, Why, Writer, open_with};
-use mc_words::{MOST_READERS, NoMemory};
+use mc_words::NoMemory;
 use std::alloc::Global;
 use std::sync::Arc;
 
@@ -132,11 +132,11 @@ impl<const V: usize> NewSides<V> {
         requires width { IsWidth V }
         ensures refused { MatchResult result (λ r. (opening_of r.1).layout ≡ layout_of V shape) (λ e. RefusesOpening shape readers e) }
         ensures writer { IfOk result (λ r. IsNewWriter (opening_of r.1) (role_of r.0)) }
-        ensures spares { IfOk result (λ r. spares_of r.0 + readers ≡ most_readers) }
+        ensures spares { IfOk result (λ r. spares_of r.0 + readers ≡ readers_for readers) }
         ensures readers { IfOk result (λ r. (has_desk r.1 ≡ false) × (count_of r.1 ≡ readers) × IsShape shape × HasReaders readers) }
     {
         check(shape, readers)?;
-        let (cache, writer, spares) = mc_cache::open::<V>(alloc, shape, MOST_READERS)?;
+        let (cache, writer, spares) = mc_cache::open::<V>(alloc, shape, readers_for(readers))?;
         match NewSides::of(alloc, cache, writer, spares, readers) {
             Ok(sides) => Ok(sides),
             Err(NoMemory) => Err(OpenError::NoMemory),
@@ -157,14 +157,14 @@ impl<const V: usize> NewSides<V> {
         requires entries { length entries.now ≡ count * (1 + V) }
         ensures refused { MatchResult result (λ r. (opening_of r.1).layout ≡ layout_of V shape) (λ e. RefusesOpening shape readers e) }
         ensures writer { IfOk result (λ r. IsLoadedWriter V (opening_of r.1) (entries_in V count entries.now) r.2.items (role_of r.0)) }
-        ensures spares { IfOk result (λ r. spares_of r.0 + readers ≡ most_readers) }
+        ensures spares { IfOk result (λ r. spares_of r.0 + readers ≡ readers_for readers) }
         ensures readers { IfOk result (λ r. (has_desk r.1 ≡ false) × (count_of r.1 ≡ readers) × IsShape shape × HasReaders readers) }
     {
         check(shape, readers)?;
         let Ok(entries) = entries_of::<V>(alloc, count, entries) else {
             return Err(OpenError::NoMemory);
         };
-        let opened = open_with::<V>(alloc, shape, MOST_READERS, entries.as_slice())?;
+        let opened = open_with::<V>(alloc, shape, readers_for(readers), entries.as_slice())?;
         let Opened {
             cache,
             writer,
@@ -189,7 +189,7 @@ impl<const V: usize> NewSides<V> {
         ensures passes { IfOk result (λ r. (has_desk r ≡ true) × (count_of r ≡ passes) × IsShape shape × HasReaders passes) }
     {
         check(shape, passes)?;
-        let (cache, writer, mut spares) = mc_cache::open::<V>(alloc, shape, MOST_READERS)?;
+        let (cache, writer, mut spares) = mc_cache::open::<V>(alloc, shape, readers_for(passes))?;
         let Ok(mut readers) = Vec::with_capacity(alloc, passes as usize) else {
             return Err(OpenError::NoMemory);
         };

@@ -3,12 +3,12 @@ ghost use Rattle.std.specs.Prelude.{◌≡◌, ◌+◌, ◌*◌, ◌≤◌, IfEr
 ghost use Rattle.mc_cache.specs.Openings.{RefusesOpening};
 ghost use Rattle.mc_shared.specs.Views.{layout_of};
 ghost use Rattle.mc_words.specs.Places.{IsWidth};
-ghost use Rattle.mc_words.specs.Readers.{HasReaders, most_readers};
+ghost use Rattle.mc_words.specs.Readers.{HasReaders};
 ghost use Rattle.mc_words.specs.Shapes.{IsShape};
 ghost use Rattle.mc_door.specs.Held.{role_in, width_of};
 ghost use Rattle.mc_door.specs.Loading.{IsLoadedWriter, entries_in};
 ghost use Rattle.mc_door.specs.NewSides.{IsNewSide, IsNewWriter, count_in, has_desk_in, opening_in, width_in};
-ghost use Rattle.mc_door.specs.Spares.{spares_in};
+ghost use Rattle.mc_door.specs.Spares.{readers_for, spares_in};
 
 use crate::held::Held;
 use crate::new_sides::NewSides;
@@ -70,7 +70,7 @@ pub fn open(
     requires width { IsWidth words }
     ensures refused { MatchResult result (λ r. (opening_in r.1).layout ≡ layout_of words shape) (λ e. RefusesOpening shape readers e) }
     ensures writer { IfOk result (λ r. (width_of r.0 ≡ words) × IsNewWriter (opening_in r.1) (role_in r.0)) }
-    ensures spares { IfOk result (λ r. spares_in r.0 + readers ≡ most_readers) }
+    ensures spares { IfOk result (λ r. spares_in r.0 + readers ≡ readers_for readers) }
     ensures rest { IfOk result (λ r. (width_in r.1 ≡ words) × (has_desk_in r.1 ≡ false) × (count_in r.1 ≡ readers) × IsShape shape × HasReaders readers) }
 {
     macro_rules! opened {
@@ -96,7 +96,7 @@ pub fn open_with(
     requires entries { length entries.now ≡ count * (1 + words) }
     ensures refused { MatchResult result (λ r. (opening_in r.1).layout ≡ layout_of words shape) (λ e. RefusesOpening shape readers e) }
     ensures writer { IfOk result (λ r. (width_of r.0 ≡ words) × IsLoadedWriter words (opening_in r.1) (entries_in words count entries.now) r.2.items (role_in r.0)) }
-    ensures spares { IfOk result (λ r. spares_in r.0 + readers ≡ most_readers) }
+    ensures spares { IfOk result (λ r. spares_in r.0 + readers ≡ readers_for readers) }
     ensures rest { IfOk result (λ r. (width_in r.1 ≡ words) × (has_desk_in r.1 ≡ false) × (count_in r.1 ≡ readers) × IsShape shape × HasReaders readers) }
 {
     macro_rules! opened {

@@ -1,8 +1,23 @@
 //! Readers of a cache that no handle has had.
 ghost use Rattle.std.specs.Prelude.{◌≡◌, ◌+◌, ◌≤◌, [], All, length, vec_capacity};
 ghost use Rattle.mc_shared.specs.Records.{IsNewReader};
+ghost use Rattle.mc_words.specs.Readers.{HasReaders};
+ghost use Rattle.mc_door.specs.Spares.{readers_for};
 
 use mc_cache::{Cache, Reader};
+use mc_words::MOST_READERS;
+
+// How many readers more than were asked for.
+const SPARES: u32 = 64;
+
+/// How many readers a cache is opened with, where so many are asked for.
+pub(crate) fn readers_for(asked: u32) -> u32
+    requires { HasReaders asked }
+    ensures is { result ≡ readers_for asked }
+    ensures enough { (asked ≤ result) × HasReaders result }
+{
+    (asked + SPARES).min(MOST_READERS)
+}
 
 /// Puts so many of the spare readers into the other list, which is empty and has room for them. So it takes no memory.
 pub(crate) fn move_readers<const V: usize>(
