@@ -189,7 +189,7 @@ int main(void) {
     for (size_t words = 1; words <= 8; words++) {
         long apart = allocations(&shape, words, APART), by_turns = allocations(&shape, words, BY_TURNS);
         long by_shards = allocations(&shape, words, BY_SHARDS), with_entries = allocations(&shape, words, WITH_ENTRIES);
-        if (apart < 5 || by_turns < 5 || by_shards < 4 * by_turns - 20 || with_entries != apart + 2) {
+        if (apart < 5 || by_turns < 5 || by_shards < 40 || with_entries != apart + 2) {
             printf("memory: %zu words: %ld, %ld, %ld, %ld\n", words, apart, by_turns, by_shards, with_entries);
             return 1;
         }
