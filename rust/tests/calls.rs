@@ -223,7 +223,7 @@ fn an_opened_cache_gets_a_desk() -> Result<(), Box<dyn Error>> {
     let (mut writer, readers) = desk.end().map_err(|_| "no memory")?;
     assert_eq!((writer.len(), readers.len()), (2, 2));
     assert!(matches!(writer.put(9, &[90, 91])?, Put::Stored { at: 3, .. }));
-    let desk = writer.into_desk(1020)?;
+    let desk = writer.into_desk(62)?;
     assert_eq!(desk.pass().ok_or("no pass")?.get(9), Reply::Found { value: [90, 91], at: 3, since: 3 });
     let (writer, _readers) = desk.end().map_err(|_| "no memory")?;
     assert_eq!(writer.into_desk(1).err().map(|refused| refused.why), Some(OpenError::Readers));
