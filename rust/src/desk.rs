@@ -172,7 +172,10 @@ pub struct NoDesk<const WORDS: usize> {
 
 impl<const WORDS: usize> Display for NoDesk<WORDS> {
     fn fmt(&self, text: &mut Formatter) -> fmt::Result {
-        Display::fmt(&self.why, text)
+        match self.why {
+            OpenError::Readers => text.write_str("there must be passes, and no more than the cache has readers to spare"),
+            why => Display::fmt(&why, text),
+        }
     }
 }
 

@@ -210,7 +210,7 @@ fn an_opened_cache_gets_a_desk() -> Result<(), Box<dyn Error>> {
     let refused = opened.writer.into_desk(65).err().ok_or("there are 64 readers to spare")?;
     assert_eq!(refused.why, OpenError::Readers);
     let refused = refused.writer.into_desk(0).err().ok_or("there is no pass")?;
-    assert_eq!(refused.to_string(), "readers must be from 1 to 1024");
+    assert_eq!(refused.to_string(), "there must be passes, and no more than the cache has readers to spare");
     let desk = refused.writer.into_desk(2)?;
     {
         let (mut one, mut two) = (desk.pass().ok_or("no pass")?, desk.pass().ok_or("no pass")?);
