@@ -20,7 +20,7 @@ use std::alloc::Global;
 /// The writer's bookkeeping beside the words: which items are free, where the hand stands, how many version changes were made.
 #[derive(Drop)]
 pub struct Books {
-    // What most puts write lies together, ahead of what they only read: turns take it from one processor to the other.
+    // Most puts write the fields that come first, and only read the others. So a turn on another processor fetches few lines.
     /// The version changes, with those of what was decided.
     version_steps: u64,
     /// The item at which the hand stands, but while a call sweeps: at which it stood when the call began.
@@ -166,6 +166,7 @@ impl Books {
     /// Decides a put on a condition: it renews the key where the key's stamp is `since`. No key can move for it, so two version
     /// changes are all that it asks of the limit.
     /// Condition: the books are those of the table whose words are looked at, between two calls, and the parts are the key's.
+    #[inline(always)]
     pub fn decide_if<const V: usize, P: Peek>(
         &mut self,
         peek: &mut P,
@@ -198,6 +199,7 @@ impl Books {
     }
 
     /// Decides a removal. Condition: the books are those of the table whose words are looked at, between two calls.
+    #[inline(always)]
     pub fn decide_removal<const V: usize, P: Peek>(&mut self, peek: &mut P, key: u64) -> Removal
         requires books { (s : State V) × AreBooksOf V self.old s × (P.words peek.old ≡ s.words) }
         ensures decided { (s : State V) → AreBooksOf V self.old s → P.words peek.old ≡ s.words → IsRemovalDecided V self.new key s result }
