@@ -1,18 +1,14 @@
 -- What lies behind a handle may go to another thread: each side of a cache does, as its parts do.
 use denote.RattleType.{RattleType}
-use denote.Param.Send.{IsSend, IsSync, part_keyless, sendable}
+use denote.Param.Send.{IsSend, IsSync, sendable}
 use Rattle.std.proofs.Crossing.{crosses}
-use Rattle.atomic_table.proofs.badge.Badge.TheSendSync.{the_send as badge_send}
-use Rattle.atomic_table.specs.contracts.badge.Badge as badge
-use Rattle.mc_shared.specs.contracts.seats.ReaderSeat as reader_seat
-use Rattle.mc_cache.proofs.Sent.{desk_sync}
+use Rattle.mc_cache.proofs.Sent.{desk_sync, reader_sync}
 use Rattle.mc_cache.proofs.cache.Cache.TheSendSync.{the_send as cache_send, the_sync as cache_sync}
 use Rattle.mc_cache.proofs.desk.Desk.TheSendSync.{the_send as desk_send}
 use Rattle.mc_cache.proofs.reader.Reader.TheSendSync.{the_send as reader_send}
 use Rattle.mc_cache.proofs.writer.Writer.TheSendSync.{the_send as writer_send}
 use Rattle.mc_shards.proofs.Sent.{pass_send as shard_pass_send, shards_sync}
 use Rattle.mc_shards.proofs.shards.Shards.TheSendSync.{the_send as shards_send}
-use Rattle.mc_cache.specs.contracts.reader.Reader as cache_reader
 use Rattle.mc_door.specs.contracts.at_desk.AtDesk as at_desk
 use Rattle.mc_door.specs.contracts.held.Held as held
 use Rattle.mc_door.specs.contracts.pass_side.PassSide as pass
@@ -22,16 +18,6 @@ use Rattle.mc_door.specs.contracts.side.Side as side
 use Rattle.mc_door.specs.contracts.writer_side.WriterSide as writer
 
 -- each at its field's row, since a `search` that goes down through all of them runs out of steps
--- what is lent of a reader is its place alone
-badge_sync : (V : RattleType) → IsSync (badge.the_row V)
-badge_sync V = record { shared = λ d b o ν q. part_keyless (badge.the_row V) (badge_send V) q d b o }
-
-reader_seat_sync : IsSync reader_seat.the_row
-reader_seat_sync = search (sendable, badge_sync) depth 20
-
-reader_sync : (V : RattleType) → IsSync (cache_reader.the_row V)
-reader_sync V = search (sendable, reader_seat_sync) depth 20
-
 at_desk_send : (V : RattleType) → IsSend (at_desk.the_field V).row
 at_desk_send V = search (sendable, crosses, desk_send, reader_send) depth 30
 

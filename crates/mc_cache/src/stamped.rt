@@ -21,7 +21,7 @@ use mc_words::{Checked, NoMemory};
 use mc_writer::{Entry, Pen};
 use std::alloc::{AllocError, Global};
 
-// The entry of the key that stands at an item.
+// The entry whose slot names this item.
 fn stamped_at<const V: usize, P: Peek>(
     checked: &Checked,
     peek: &mut P,

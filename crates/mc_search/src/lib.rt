@@ -33,7 +33,7 @@ pub use listed::entries;
 pub use mc_theory::Peek;
 pub use mc_words::NoMemory;
 pub use path::Path;
-pub use reading::{Held, read, read_at};
+pub use reading::{Held, held_at, read};
 pub use room::{OneMove, Room, find_hole, find_move};
 pub use sweep::Sweep;
 pub use word::{key_at, key_in, moment, slot_at, stamp_at, word_at};

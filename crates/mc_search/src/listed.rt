@@ -13,7 +13,7 @@ use mc_theory::Peek;
 use mc_words::{Checked, NoMemory};
 use std::alloc::{AllocError, Global};
 
-// The key that stands at an item, and its value.
+// The key whose slot names this item, and its value.
 fn entry_at<const V: usize, P: Peek>(
     checked: &Checked,
     peek: &mut P,

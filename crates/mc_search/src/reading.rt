@@ -39,7 +39,7 @@ pub struct Held<const V: usize> {
 
 /// What an item holds at which a key stands. Condition: the words agree with some history, and no deed runs.
 #[inline(always)]
-pub fn read_at<const V: usize, P: Peek>(checked: &Checked, peek: &mut P, item: u32) -> Held<V>
+pub fn held_at<const V: usize, P: Peek>(checked: &Checked, peek: &mut P, item: u32) -> Held<V>
     requires width { IsWidth V }
     requires agrees { (h : List (Change V)) × Agrees V (shape_of checked.now) (P.words peek.old) None h }
     requires stands { (k q : ℕ) × Stands V (shape_of checked.now) (P.words peek.old) k q item }
@@ -63,7 +63,7 @@ pub fn read<const V: usize, P: Peek>(checked: &Checked, peek: &mut P, key: u64) 
     ensures kept { peek.new ≡ peek.old }
 {
     match find::<V, P>(checked, peek, key) {
-        Some((_, item)) => Some(read_at::<V, P>(checked, peek, item)),
+        Some((_, item)) => Some(held_at::<V, P>(checked, peek, item)),
         None => None,
     }
 }

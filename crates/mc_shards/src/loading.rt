@@ -15,7 +15,7 @@ ghost use Rattle.mc_shards.specs.Openings.{RefusesShards};
 ghost use Rattle.mc_shards.specs.Plain.{seens};
 ghost use Rattle.mc_shards.specs.Sharded.{ArePassOf, ChangesAt};
 
-use crate::opening::{OpenShardsError, add, check, desks_of, open_all};
+use crate::opening::{OpenShardsError, check_opening, desks_of, open_all, push_to};
 use crate::pass::Pass;
 use crate::shards::Shards;
 use mc_cache::{Cache, OpenError, Put, Shape, Why, Writer};
@@ -72,7 +72,7 @@ fn load<const V: usize>(
     for index in 0..entries.len() {
         let entry = entries[index];
         if let Err(why) = put_one(shape, caches, writers, entry.0, entry.1) {
-            add(left, (index, why))?;
+            push_to(left, (index, why))?;
         }
     }
     Ok(())
@@ -132,7 +132,7 @@ pub fn open_shards_with<const V: usize>(
     ensures loaded { IfOk result (λ o. HaveLoaded V shape entries.now o.shards.tables o.passes.items o.left.items) }
     ensures plain { IfOk result (λ o. (hs : List (List (Change V))) × HoldEntries V shape entries.now hs o.left.items × All (λ pass. seens V pass ≡ hs) o.passes.items) }
 {
-    check(shape, shards, passes)?;
+    check_opening(shape, shards, passes)?;
     let (caches, mut writers, mut passes) = open_all::<V>(alloc, shape, shards, passes)?;
     let mut left = Vec::new(alloc);
     load(shape, &caches, &mut writers, entries, &mut left)?;

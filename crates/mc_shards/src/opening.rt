@@ -39,7 +39,7 @@ impl From<OpenError> for OpenShardsError {
 }
 
 // The first fault of the arguments, if there is one.
-pub(crate) fn check(shape: Shape, shards: u32, passes: u32) -> Result<(), OpenShardsError>
+pub(crate) fn check_opening(shape: Shape, shards: u32, passes: u32) -> Result<(), OpenShardsError>
     ensures { MatchResult result (λ _. HasShards shards × IsShape shape × HasReaders passes) (λ e. RefusesShards shape shards passes e) }
 {
     if !can_shard(shards) {
@@ -127,7 +127,7 @@ fn open_one<const V: usize>(
 }
 
 // Adds a value to a list.
-pub(crate) fn add<T: Drop>(list: &mut Vec<T>, value: T) -> Result<(), OpenError>
+pub(crate) fn push_to<T: Drop>(list: &mut Vec<T>, value: T) -> Result<(), OpenError>
     ensures ok { OnOk result (list.new.items ≡ list.old.items ++ value ∷ []) }
     ensures err { IfErr result (λ e. e ≡ NoMemory) }
 {
@@ -161,8 +161,8 @@ pub(crate) fn open_all<const V: usize>(
         let _shard = shard;
         let (cache, writer, dealt) = open_one::<V>(alloc, shape, passes, &caches, given)?;
         given = dealt;
-        add(&mut caches, cache)?;
-        add(&mut writers, writer)?;
+        push_to(&mut caches, cache)?;
+        push_to(&mut writers, writer)?;
     }
     Ok((caches, writers, given))
 }
@@ -181,7 +181,7 @@ pub(crate) fn desks_of<const V: usize>(
         let Ok(desk) = Desk::new(alloc, writer) else {
             return Err(OpenError::NoMemory);
         };
-        add(&mut desks, desk)?;
+        push_to(&mut desks, desk)?;
     }
     Ok(desks)
 }
@@ -202,7 +202,7 @@ pub fn open_shards<const V: usize>(
     ensures of { IfOk result (λ r. All (ArePassOf r.0) r.1.items) }
     ensures plain { IfOk result (λ r. All (HasSeenNothing V) r.1.items) }
 {
-    check(shape, shards, passes)?;
+    check_opening(shape, shards, passes)?;
     let (caches, writers, passes) = open_all::<V>(alloc, shape, shards, passes)?;
     let desks = desks_of::<V>(alloc, writers)?;
     let shards = Shards {

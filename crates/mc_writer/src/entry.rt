@@ -7,7 +7,7 @@ ghost use Rattle.mc_writer.specs.GivenWay.{Holds};
 
 use crate::pen::Pen;
 use mc_plan::Put;
-use mc_search::{read_at, slot_at};
+use mc_search::{held_at, slot_at};
 use mc_words::Place;
 
 /// An entry of the map.
@@ -52,7 +52,7 @@ impl<'a, const V: usize> Pen<'a, V> {
         ensures holds { (h : List (Change V)) → Agrees V self.old.cells.now.layout.shape (state_at V self.old).words None h → Holds h key (Some result) }
         ensures same { self.new ≡ self.old }
     {
-        let held = read_at::<V, Pen<V>>(self.cells.checked(), self, item);
+        let held = held_at::<V, Pen<V>>(self.cells.checked(), self, item);
         let value = held.value;
         let since = held.since;
         Entry { key, value, since }

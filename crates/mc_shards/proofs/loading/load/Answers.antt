@@ -14,7 +14,7 @@ use Rattle.mc_shards.specs.Loadings.{ShardsLoad}
 use Rattle.mc_shards.specs.Sharded.{ChangesAt}
 use Rattle.mc_shards.proofs.LoadedShards.{IsWide, shards_more}
 use Rattle.mc_shards.proofs.loading.load.Goals as goal
-use Rattle.mc_shards.proofs.loading.load.Goals.{in-Err+in_ok-add, in_default}
+use Rattle.mc_shards.proofs.loading.load.Goals.{in-Err+in_ok-push_to, in_default}
 
 pub loop-index-preserved : goal.loop-index-preserved
 loop-index-preserved g c =
@@ -38,9 +38,9 @@ loop-index-preserved g c =
     let so : ShardsLoad V sh start 0 (take i es ++ e ∷ []) after (left ++ left_by i told) = shards_more V sh start now after 0 i (take i es) e.0 e.1 left told was.loaded (omega (arith, index)) called in
     let all = subst (λ (xs : List (ℕ × List ℕ)). ShardsLoad V sh start 0 xs after (left ++ left_by i told)) (sym more) so in
     let at : ShardsLoad V sh start 0 (take (i + 1) es) after c.match-put_one.left.items = elim c.match-put_one.branch [
-      | in-Err+in_ok-add w ↦
+      | in-Err+in_ok-push_to w ↦
           subst (λ (xs : List (ℕ × Why)). ShardsLoad V sh start 0 (take (i + 1) es) after xs)
-          (ap (λ (r : Result Put Why). left ++ left_by i r) w.in-Err.is ∙ (sym w.in_ok-add.ensures.ok ∙ ap (λ (x : Vec (ℕ × Why) Global). x.items) (sym w.left-is))) all
+          (ap (λ (r : Result Put Why). left ++ left_by i r) w.in-Err.is ∙ (sym w.in_ok-push_to.ensures.ok ∙ ap (λ (x : Vec (ℕ × Why) Global). x.items) (sym w.left-is))) all
       | in_default w ↦
           subst (λ (xs : List (ℕ × Why)). ShardsLoad V sh start 0 (take (i + 1) es) after xs)
           (ap (λ (r : Result Put Why). left ++ left_by i r) w.in_default.is ∙ (append-nil left ∙ ap (λ (x : Vec (ℕ × Why) Global). x.items) (sym w.left-is))) all

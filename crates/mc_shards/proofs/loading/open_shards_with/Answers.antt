@@ -15,7 +15,7 @@ load-requires g c = (
     (
       omega arith,
       (
-        subst HasShards (sym c.in_ok-caches.ensures.refused) c.in_ok-check.ensures.0,
+        subst HasShards (sym c.in_ok-caches.ensures.refused) c.in_ok-check_opening.ensures.0,
         (
           c.in_ok-caches.ensures.shapes,
           (ap (map (λ (w : WriterRecord). w.of)) c.in_ok-caches.ensures.writers ∙ tables_of_new c.in_ok-caches.caches.items, c.new-left.ensures.items),

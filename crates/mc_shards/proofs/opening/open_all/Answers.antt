@@ -14,11 +14,11 @@ loop-shard-preserved g c =
     let cache : Opening = c.in_ok-cache.cache in
     let tables : List Opening = c.loop-shard.caches.items in
     let Shaped : Opening → Type 0 = λ o. o.layout ≡ layout_of g.row.V c.args.shape in
-    let grown : c.add.new.list.items ≡ tables ++ cache ∷ [] = c.in_ok-add.ensures.ok in
-    let writers : c.add-in-loop-shard.new.list.items ≡ c.loop-shard.writers.items ++ c.in_ok-cache.writer ∷ [] = c.in_ok-add-2.ensures.ok in
+    let grown : c.push_to.new.list.items ≡ tables ++ cache ∷ [] = c.in_ok-push_to.ensures.ok in
+    let writers : c.push_to-in-loop-shard.new.list.items ≡ c.loop-shard.writers.items ++ c.in_ok-cache.writer ∷ [] = c.in_ok-push_to-2.ensures.ok in
     record {
       count = omega (arith, was.count, ap length grown ∙ length_push tables cache);
-      shapes = All-same Shaped c.add.new.list.items (tables ++ cache ∷ []) grown (All-push Shaped tables cache was.shapes c.in_ok-cache.ensures.refused);
+      shapes = All-same Shaped c.push_to.new.list.items (tables ++ cache ∷ []) grown (All-push Shaped tables cache was.shapes c.in_ok-cache.ensures.refused);
       writers = writers ∙ (ap (λ (z : List WriterRecord). z ++ c.in_ok-cache.writer ∷ []) was.writers ∙ (ap (λ (w : WriterRecord). new_writers tables ++ w ∷ []) c.in_ok-cache.ensures.writer
           ∙ (sym (map-append (λ (o : Opening). writer_record o [] []) tables (cache ∷ [])) ∙ ap new_writers (sym grown))));
       many = c.in_ok-cache.ensures.many;

@@ -7,7 +7,7 @@ use Rattle.mc_shards.proofs.opening.open_shards.Goals as goal
 
 pub invariant_of-shards : goal.invariant_of-shards
 invariant_of-shards g c = record {
-  many = subst HasShards (sym c.in_ok-caches.ensures.refused) c.in_ok-check.ensures.0;
+  many = subst HasShards (sym c.in_ok-caches.ensures.refused) c.in_ok-check_opening.ensures.0;
   shapes = c.in_ok-caches.ensures.shapes;
   desks = c.in_ok-desks.ensures.desks ∙ (ap (map (λ (w : WriterRecord). w.of)) c.in_ok-caches.ensures.writers ∙ tables_of_new c.in_ok-caches.caches.items);
 }

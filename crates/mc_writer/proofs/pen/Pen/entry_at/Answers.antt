@@ -13,4 +13,4 @@ returns-clause-holds g c h agrees =
     let w = (state_at V pen).words in
     let shape : pen.cells.now.layout.shape ≡ shape_of c.checked.result.now = ap (λ (l : Layout). l.shape) c.checked.ensures.layout in
     let q = c.requires.stands.0 in
-    (refl, c.read_at-held.ensures.found h c.args.key q (subst (λ (x : Shape). Agrees V x w None h) shape agrees) (subst (λ (x : Shape). Stands V x w c.args.key q c.args.item) shape c.requires.stands.1))
+    (refl, c.held_at-held.ensures.found h c.args.key q (subst (λ (x : Shape). Agrees V x w None h) shape agrees) (subst (λ (x : Shape). Stands V x w c.args.key q c.args.item) shape c.requires.stands.1))

@@ -4,7 +4,7 @@ use Rattle.mc_words.specs.Checks.{shape_of}
 use Rattle.mc_words.specs.History.{map_value}
 use Rattle.mc_words.specs.Places.{item, payload}
 use Rattle.mc_search.proofs.KeySlots.{held_payload}
-use Rattle.mc_search.proofs.reading.read_at.Goals as goal
+use Rattle.mc_search.proofs.reading.held_at.Goals as goal
 
 pub returns-clause-found : goal.returns-clause-found
 returns-clause-found g c h k q agrees stands =
