@@ -155,10 +155,15 @@ template <class C> Tally work(C &map, const Options &options, uint64_t seed, boo
         tally.look_many(map, keys, values, many);
         map.tick();
     }
+    // A loop that only reads, and one that writes too, as in `mcbench`.
+    while (!puts && !over) {
+        for (uint64_t n = 0; n < 64; n++) tally.look(map, key_of(first + draw.below(numbers)));
+        map.tick();
+    }
     while (!over) {
         for (uint64_t n = 0; n < 64; n++) {
             uint64_t key = key_of(first + draw.below(numbers));
-            if (puts && --left == 0) {
+            if (--left == 0) {
                 left = options.write_every;
                 tally.put(map, key, n);
             } else {

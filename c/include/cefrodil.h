@@ -290,6 +290,25 @@ CEFRODIL_CHECKED cefrodil_status cefrodil_stamped_entries(cefrodil_handle *handl
  * OK, or CLOSED if it was not open, or null. The handle is closed afterwards. */
 cefrodil_status cefrodil_close(cefrodil_handle *handle);
 
+/* cefrodil_get and cefrodil_put for values of 1 to 8 words. An optimizing compiler calls these where `words` is a constant, because
+ * they take fewer instructions. A program has no need to name them: they return what cefrodil_get and cefrodil_put return. */
+CEFRODIL_CHECKED cefrodil_status cefrodil_get_1(cefrodil_handle *reader, uint64_t key, uint64_t *value, cefrodil_reply *reply);
+CEFRODIL_CHECKED cefrodil_status cefrodil_get_2(cefrodil_handle *reader, uint64_t key, uint64_t *value, cefrodil_reply *reply);
+CEFRODIL_CHECKED cefrodil_status cefrodil_get_3(cefrodil_handle *reader, uint64_t key, uint64_t *value, cefrodil_reply *reply);
+CEFRODIL_CHECKED cefrodil_status cefrodil_get_4(cefrodil_handle *reader, uint64_t key, uint64_t *value, cefrodil_reply *reply);
+CEFRODIL_CHECKED cefrodil_status cefrodil_get_5(cefrodil_handle *reader, uint64_t key, uint64_t *value, cefrodil_reply *reply);
+CEFRODIL_CHECKED cefrodil_status cefrodil_get_6(cefrodil_handle *reader, uint64_t key, uint64_t *value, cefrodil_reply *reply);
+CEFRODIL_CHECKED cefrodil_status cefrodil_get_7(cefrodil_handle *reader, uint64_t key, uint64_t *value, cefrodil_reply *reply);
+CEFRODIL_CHECKED cefrodil_status cefrodil_get_8(cefrodil_handle *reader, uint64_t key, uint64_t *value, cefrodil_reply *reply);
+cefrodil_status cefrodil_put_1(cefrodil_handle *writer, uint64_t key, const uint64_t *value, cefrodil_reply *reply);
+cefrodil_status cefrodil_put_2(cefrodil_handle *writer, uint64_t key, const uint64_t *value, cefrodil_reply *reply);
+cefrodil_status cefrodil_put_3(cefrodil_handle *writer, uint64_t key, const uint64_t *value, cefrodil_reply *reply);
+cefrodil_status cefrodil_put_4(cefrodil_handle *writer, uint64_t key, const uint64_t *value, cefrodil_reply *reply);
+cefrodil_status cefrodil_put_5(cefrodil_handle *writer, uint64_t key, const uint64_t *value, cefrodil_reply *reply);
+cefrodil_status cefrodil_put_6(cefrodil_handle *writer, uint64_t key, const uint64_t *value, cefrodil_reply *reply);
+cefrodil_status cefrodil_put_7(cefrodil_handle *writer, uint64_t key, const uint64_t *value, cefrodil_reply *reply);
+cefrodil_status cefrodil_put_8(cefrodil_handle *writer, uint64_t key, const uint64_t *value, cefrodil_reply *reply);
+
 /* A compiler that sees a null pointer in a call warns of it. */
 #if defined(__GNUC__)
 #define CEFRODIL_NO_NULL(call) extern __typeof__(call) call __attribute__((nonnull))
@@ -322,6 +341,22 @@ CEFRODIL_NO_NULL(cefrodil_swap);
 CEFRODIL_NO_NULL(cefrodil_swap_if);
 CEFRODIL_NO_NULL(cefrodil_take_out);
 CEFRODIL_NO_NULL(cefrodil_leave_desk);
+CEFRODIL_NO_NULL(cefrodil_get_1);
+CEFRODIL_NO_NULL(cefrodil_get_2);
+CEFRODIL_NO_NULL(cefrodil_get_3);
+CEFRODIL_NO_NULL(cefrodil_get_4);
+CEFRODIL_NO_NULL(cefrodil_get_5);
+CEFRODIL_NO_NULL(cefrodil_get_6);
+CEFRODIL_NO_NULL(cefrodil_get_7);
+CEFRODIL_NO_NULL(cefrodil_get_8);
+CEFRODIL_NO_NULL(cefrodil_put_1);
+CEFRODIL_NO_NULL(cefrodil_put_2);
+CEFRODIL_NO_NULL(cefrodil_put_3);
+CEFRODIL_NO_NULL(cefrodil_put_4);
+CEFRODIL_NO_NULL(cefrodil_put_5);
+CEFRODIL_NO_NULL(cefrodil_put_6);
+CEFRODIL_NO_NULL(cefrodil_put_7);
+CEFRODIL_NO_NULL(cefrodil_put_8);
 CEFRODIL_NO_NULL(cefrodil_close);
 #undef CEFRODIL_NO_NULL
 #endif
@@ -337,11 +372,47 @@ static inline cefrodil_handle cefrodil_take(cefrodil_handle *from) {
     return taken;
 }
 
-/* The exports take no null pointer. From here on these names mean what takes one where that is allowed. */
-CEFRODIL_CHECKED static inline cefrodil_status cefrodil_get_unless_null(cefrodil_handle *reader, uint64_t key, uint64_t *value,
-                                                                        size_t words, cefrodil_reply *reply) {
+/* CEFRODIL_KNOWN: whether the compiler knows this number here. CEFRODIL_INLINE: compiled into the caller, so that it can know it. */
+#if defined(__GNUC__)
+#define CEFRODIL_INLINE(pointers) static inline __attribute__((always_inline, pointers))
+#define CEFRODIL_KNOWN(number) __builtin_constant_p(number)
+#else
+#define CEFRODIL_INLINE(pointers) static inline
+#define CEFRODIL_KNOWN(number) 0
+#endif
+
+/* The exports take no null pointer. From here on these names mean what takes one where that is allowed, and what calls the export for
+ * the width of a value where that is a constant. */
+CEFRODIL_CHECKED CEFRODIL_INLINE(nonnull(1, 3)) cefrodil_status cefrodil_get_of_width(cefrodil_handle *reader, uint64_t key, uint64_t *value,
+                                                                                      size_t words, cefrodil_reply *reply) {
     cefrodil_reply unread;
-    return cefrodil_get(reader, key, value, words, reply != NULL ? reply : &unread);
+    cefrodil_reply *const told = reply != NULL ? reply : &unread;
+    switch (CEFRODIL_KNOWN(words) ? words : 0) {
+    case 1: return cefrodil_get_1(reader, key, value, told);
+    case 2: return cefrodil_get_2(reader, key, value, told);
+    case 3: return cefrodil_get_3(reader, key, value, told);
+    case 4: return cefrodil_get_4(reader, key, value, told);
+    case 5: return cefrodil_get_5(reader, key, value, told);
+    case 6: return cefrodil_get_6(reader, key, value, told);
+    case 7: return cefrodil_get_7(reader, key, value, told);
+    case 8: return cefrodil_get_8(reader, key, value, told);
+    default: return cefrodil_get(reader, key, value, words, told);
+    }
+}
+
+CEFRODIL_INLINE(nonnull) cefrodil_status cefrodil_put_of_width(cefrodil_handle *writer, uint64_t key, const uint64_t *value, size_t words,
+                                                               cefrodil_reply *reply) {
+    switch (CEFRODIL_KNOWN(words) ? words : 0) {
+    case 1: return cefrodil_put_1(writer, key, value, reply);
+    case 2: return cefrodil_put_2(writer, key, value, reply);
+    case 3: return cefrodil_put_3(writer, key, value, reply);
+    case 4: return cefrodil_put_4(writer, key, value, reply);
+    case 5: return cefrodil_put_5(writer, key, value, reply);
+    case 6: return cefrodil_put_6(writer, key, value, reply);
+    case 7: return cefrodil_put_7(writer, key, value, reply);
+    case 8: return cefrodil_put_8(writer, key, value, reply);
+    default: return cefrodil_put(writer, key, value, words, reply);
+    }
 }
 
 static inline cefrodil_status cefrodil_close_unless_null(cefrodil_handle *handle) {
@@ -379,7 +450,8 @@ CEFRODIL_CHECKED static inline cefrodil_status cefrodil_stamped_entries_or_none(
     return cefrodil_stamped_entries(handle, entry_words != 0 ? entries : &no_entry, entry_words, count);
 }
 
-#define cefrodil_get cefrodil_get_unless_null
+#define cefrodil_get cefrodil_get_of_width
+#define cefrodil_put cefrodil_put_of_width
 #define cefrodil_close cefrodil_close_unless_null
 #define cefrodil_open_with cefrodil_open_with_or_none
 #define cefrodil_get_many cefrodil_get_many_or_none
@@ -410,7 +482,7 @@ static inline const char *cefrodil_text(uint32_t status) {
     case CEFRODIL_BAD_DEPTH: return "depth must be from 0 to 8";
     case CEFRODIL_BAD_TRIES: return "tries must be from 1 to 64";
     case CEFRODIL_BAD_LIMIT: return "limit must be from 0 to 4611686018427387904";
-    case CEFRODIL_BAD_READERS: return "readers must be from 1 to 1024";
+    case CEFRODIL_BAD_READERS: return "readers or passes must be from 1 to 1024, and no more than there are to spare";
     case CEFRODIL_BAD_COUNT: return "counts that belong together do not fit";
     case CEFRODIL_NO_ITEM: return "no item";
     case CEFRODIL_BAD_SHARDS: return "shards must be a power of two from 1 to 256";

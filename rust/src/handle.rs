@@ -121,10 +121,23 @@ impl Handle {
         }
     }
 
-    pub fn get(&mut self, key: u64, value: &mut [u64]) -> (u32, RawReply) {
+    pub fn get<const WORDS: usize>(&mut self, key: u64, value: &mut [u64; WORDS]) -> (u32, RawReply) {
         let mut reply = RawReply::default();
-        // SAFETY: every pointer is a borrow that lasts for the call, and the length of `value` is passed with it.
-        let status = unsafe { raw::cefrodil_get(&mut self.0, key, value.as_mut_ptr(), value.len(), &mut reply) };
+        let (handle, words, told) = (&mut self.0, value.as_mut_ptr(), &mut reply);
+        // SAFETY: every pointer is a borrow that lasts for the call, and `value` has as many words as the export's name or the call says.
+        let status = unsafe {
+            match WORDS {
+                1 => raw::cefrodil_get_1(handle, key, words, told),
+                2 => raw::cefrodil_get_2(handle, key, words, told),
+                3 => raw::cefrodil_get_3(handle, key, words, told),
+                4 => raw::cefrodil_get_4(handle, key, words, told),
+                5 => raw::cefrodil_get_5(handle, key, words, told),
+                6 => raw::cefrodil_get_6(handle, key, words, told),
+                7 => raw::cefrodil_get_7(handle, key, words, told),
+                8 => raw::cefrodil_get_8(handle, key, words, told),
+                _ => raw::cefrodil_get(handle, key, words, WORDS, told),
+            }
+        };
         (status, reply)
     }
 
@@ -151,10 +164,23 @@ impl Handle {
         (status, reply)
     }
 
-    pub fn put(&mut self, key: u64, value: &[u64]) -> (u32, RawReply) {
+    pub fn put<const WORDS: usize>(&mut self, key: u64, value: &[u64; WORDS]) -> (u32, RawReply) {
         let mut reply = RawReply::default();
+        let (handle, words, told) = (&mut self.0, value.as_ptr(), &mut reply);
         // SAFETY: as in `get`.
-        let status = unsafe { raw::cefrodil_put(&mut self.0, key, value.as_ptr(), value.len(), &mut reply) };
+        let status = unsafe {
+            match WORDS {
+                1 => raw::cefrodil_put_1(handle, key, words, told),
+                2 => raw::cefrodil_put_2(handle, key, words, told),
+                3 => raw::cefrodil_put_3(handle, key, words, told),
+                4 => raw::cefrodil_put_4(handle, key, words, told),
+                5 => raw::cefrodil_put_5(handle, key, words, told),
+                6 => raw::cefrodil_put_6(handle, key, words, told),
+                7 => raw::cefrodil_put_7(handle, key, words, told),
+                8 => raw::cefrodil_put_8(handle, key, words, told),
+                _ => raw::cefrodil_put(handle, key, words, WORDS, told),
+            }
+        };
         (status, reply)
     }
 

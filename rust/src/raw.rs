@@ -96,6 +96,14 @@ unsafe extern "C" {
         pass_count: usize,
     ) -> u32;
     pub fn cefrodil_get(reader: *mut RawHandle, key: u64, value: *mut u64, words: usize, reply: *mut RawReply) -> u32;
+    pub fn cefrodil_get_1(reader: *mut RawHandle, key: u64, value: *mut u64, reply: *mut RawReply) -> u32;
+    pub fn cefrodil_get_2(reader: *mut RawHandle, key: u64, value: *mut u64, reply: *mut RawReply) -> u32;
+    pub fn cefrodil_get_3(reader: *mut RawHandle, key: u64, value: *mut u64, reply: *mut RawReply) -> u32;
+    pub fn cefrodil_get_4(reader: *mut RawHandle, key: u64, value: *mut u64, reply: *mut RawReply) -> u32;
+    pub fn cefrodil_get_5(reader: *mut RawHandle, key: u64, value: *mut u64, reply: *mut RawReply) -> u32;
+    pub fn cefrodil_get_6(reader: *mut RawHandle, key: u64, value: *mut u64, reply: *mut RawReply) -> u32;
+    pub fn cefrodil_get_7(reader: *mut RawHandle, key: u64, value: *mut u64, reply: *mut RawReply) -> u32;
+    pub fn cefrodil_get_8(reader: *mut RawHandle, key: u64, value: *mut u64, reply: *mut RawReply) -> u32;
     pub fn cefrodil_get_many(
         reader: *mut RawHandle,
         keys: *const u64,
@@ -107,6 +115,14 @@ unsafe extern "C" {
     ) -> u32;
     pub fn cefrodil_get_or_desk(pass: *mut RawHandle, key: u64, value: *mut u64, words: usize, reply: *mut RawReply) -> u32;
     pub fn cefrodil_put(writer: *mut RawHandle, key: u64, value: *const u64, words: usize, reply: *mut RawReply) -> u32;
+    pub fn cefrodil_put_1(writer: *mut RawHandle, key: u64, value: *const u64, reply: *mut RawReply) -> u32;
+    pub fn cefrodil_put_2(writer: *mut RawHandle, key: u64, value: *const u64, reply: *mut RawReply) -> u32;
+    pub fn cefrodil_put_3(writer: *mut RawHandle, key: u64, value: *const u64, reply: *mut RawReply) -> u32;
+    pub fn cefrodil_put_4(writer: *mut RawHandle, key: u64, value: *const u64, reply: *mut RawReply) -> u32;
+    pub fn cefrodil_put_5(writer: *mut RawHandle, key: u64, value: *const u64, reply: *mut RawReply) -> u32;
+    pub fn cefrodil_put_6(writer: *mut RawHandle, key: u64, value: *const u64, reply: *mut RawReply) -> u32;
+    pub fn cefrodil_put_7(writer: *mut RawHandle, key: u64, value: *const u64, reply: *mut RawReply) -> u32;
+    pub fn cefrodil_put_8(writer: *mut RawHandle, key: u64, value: *const u64, reply: *mut RawReply) -> u32;
     pub fn cefrodil_put_if(
         writer: *mut RawHandle,
         key: u64,

@@ -1,5 +1,5 @@
 use cefrodil::{
-    Cache, Desk, Entry, Mix, OpenError, Put, PutIfAbsentError, PutIfError, Removal, Reply, Shape, Shards, TurnError, Why,
+    Cache, Desk, Entry, Mix, OpenError, Put, PutIfAbsentError, PutIfError, Removal, Reply, Shape, Shards, TurnError, Value, Why,
 };
 use std::error::Error;
 use std::thread;
@@ -298,4 +298,30 @@ fn add_one(pass: &mut cefrodil::Pass<1>) {
         }
         thread::yield_now();
     }
+}
+
+// A value of so many different words is put and found.
+fn serves<const WORDS: usize>() -> Result<(), Box<dyn Error>>
+where
+    [u64; WORDS]: Value,
+{
+    let (mut writer, mut readers) = Cache::<WORDS>::open(&Shape::for_items(100)?, 1)?;
+    let value = std::array::from_fn(|n| n as u64 + 70);
+    assert_eq!(readers[0].get(7), Reply::Absent { at: 0 });
+    assert!(matches!(writer.put(7, &value)?, Put::Stored { at: 1, .. }));
+    assert_eq!(readers[0].get(7), Reply::Found { value, at: 1, since: 1 });
+    assert_eq!(writer.get(7), Reply::Found { value, at: 1, since: 1 });
+    Ok(())
+}
+
+#[test]
+fn values_of_each_width_are_found() -> Result<(), Box<dyn Error>> {
+    serves::<1>()?;
+    serves::<2>()?;
+    serves::<3>()?;
+    serves::<4>()?;
+    serves::<5>()?;
+    serves::<6>()?;
+    serves::<7>()?;
+    serves::<8>()
 }

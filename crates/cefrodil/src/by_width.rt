@@ -16,7 +16,18 @@ pub(crate) fn get(held: &mut Held, key: u64, value: &mut [u64], reply: &mut RawR
     ensures told { HasTold lookup_told (GetMeans (width_of held.old) (role_in held.old) (role_in held.new) key value.old value.new)
         (λ why. IsMisuse CanLook (width_of held.old) (role_in held.old) (length value.old) why × (held.new ≡ held.old) × (value.new ≡ value.old)) (record { status = result; reply = reply.new }) }
 {
-    with_side!(held, side => by_side::get(side, key, value, reply))
+    with_side!(held, side => by_side::get_words(side, key, value, reply))
+}
+
+/// The same out of line.
+#[cold]
+#[inline(never)]
+pub(crate) fn get_apart(held: &mut Held, key: u64, value: &mut [u64], reply: &mut RawReply) -> u32
+    ensures width { width_of held.new ≡ width_of held.old }
+    ensures told { HasTold lookup_told (GetMeans (width_of held.old) (role_in held.old) (role_in held.new) key value.old value.new)
+        (λ why. IsMisuse CanLook (width_of held.old) (role_in held.old) (length value.old) why × (held.new ≡ held.old) × (value.new ≡ value.old)) (record { status = result; reply = reply.new }) }
+{
+    get(held, key, value, reply)
 }
 
 /// Looks the key up, or tries for the turn where that is busy.
@@ -36,7 +47,18 @@ pub(crate) fn put(held: &mut Held, key: u64, value: &[u64], reply: &mut RawReply
     ensures told { HasTold put_told (PutMeans (width_of held.old) (role_in held.old) (role_in held.new) key value.now)
         (λ why. IsMisuse CanWrite (width_of held.old) (role_in held.old) (length value.now) why × (held.new ≡ held.old)) (record { status = result; reply = reply.new }) }
 {
-    with_side!(held, side => by_side::put(side, key, value, reply))
+    with_side!(held, side => by_side::put_words(side, key, value, reply))
+}
+
+/// The same out of line.
+#[cold]
+#[inline(never)]
+pub(crate) fn put_apart(held: &mut Held, key: u64, value: &[u64], reply: &mut RawReply) -> u32
+    ensures width { width_of held.new ≡ width_of held.old }
+    ensures told { HasTold put_told (PutMeans (width_of held.old) (role_in held.old) (role_in held.new) key value.now)
+        (λ why. IsMisuse CanWrite (width_of held.old) (role_in held.old) (length value.now) why × (held.new ≡ held.old)) (record { status = result; reply = reply.new }) }
+{
+    put(held, key, value, reply)
 }
 
 /// Puts the key anew on a condition.

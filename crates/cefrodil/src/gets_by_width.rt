@@ -1,0 +1,140 @@
+//! Lookups of values whose width the caller's text says: an export for each width. They count no words and look up no width.
+ghost use Rattle.std.specs.Prelude.{◌≡◌};
+ghost use Rattle.cefrodil.specs.Calls.{LookupGives};
+ghost use Rattle.mc_door.specs.Means.{CanLook, GetMeans};
+ghost use Rattle.cefrodil.specs.Open.{kept};
+
+use crate::slot::{Slot, told_of_handle};
+use crate::told::{RawReply, Told};
+use crate::{by_side, by_width};
+use mc_door::Held;
+
+// Looks up by a handle whose values have this width. By another one the words are counted.
+macro_rules! get_at {
+    ($width:ident, $reader:ident, $key:ident, $value:ident, $reply:ident) => {
+        told_of_handle!($reader, $reply, held => match held {
+            Held::$width(side) => by_side::get(side, $key, $value, $reply),
+            held => by_width::get_apart(held, $key, $value.as_mut_slice(), $reply),
+        })
+    };
+}
+
+/// `cefrodil_get` for values of one word.
+#[tactic(auto, using(crate::proofs::Gives::gives_open, crate::proofs::Gives::gives_closed))]
+#[unsafe(no_mangle)]
+pub extern "C" fn cefrodil_get_1(
+    reader: &mut Slot,
+    key: u64,
+    value: &mut [u64; 1],
+    reply: &mut RawReply,
+) -> u32
+    ensures open { reader.new.live ≡ reader.old.live }
+    ensures told { LookupGives CanLook GetMeans (kept reader.old) (kept reader.new) key value.old value.new (record { status = result; reply = reply.new }) }
+{
+    get_at!(One, reader, key, value, reply)
+}
+
+/// `cefrodil_get` for values of two words.
+#[tactic(auto, using(crate::proofs::Gives::gives_open, crate::proofs::Gives::gives_closed))]
+#[unsafe(no_mangle)]
+pub extern "C" fn cefrodil_get_2(
+    reader: &mut Slot,
+    key: u64,
+    value: &mut [u64; 2],
+    reply: &mut RawReply,
+) -> u32
+    ensures open { reader.new.live ≡ reader.old.live }
+    ensures told { LookupGives CanLook GetMeans (kept reader.old) (kept reader.new) key value.old value.new (record { status = result; reply = reply.new }) }
+{
+    get_at!(Two, reader, key, value, reply)
+}
+
+/// `cefrodil_get` for values of three words.
+#[tactic(auto, using(crate::proofs::Gives::gives_open, crate::proofs::Gives::gives_closed))]
+#[unsafe(no_mangle)]
+pub extern "C" fn cefrodil_get_3(
+    reader: &mut Slot,
+    key: u64,
+    value: &mut [u64; 3],
+    reply: &mut RawReply,
+) -> u32
+    ensures open { reader.new.live ≡ reader.old.live }
+    ensures told { LookupGives CanLook GetMeans (kept reader.old) (kept reader.new) key value.old value.new (record { status = result; reply = reply.new }) }
+{
+    get_at!(Three, reader, key, value, reply)
+}
+
+/// `cefrodil_get` for values of four words.
+#[tactic(auto, using(crate::proofs::Gives::gives_open, crate::proofs::Gives::gives_closed))]
+#[unsafe(no_mangle)]
+pub extern "C" fn cefrodil_get_4(
+    reader: &mut Slot,
+    key: u64,
+    value: &mut [u64; 4],
+    reply: &mut RawReply,
+) -> u32
+    ensures open { reader.new.live ≡ reader.old.live }
+    ensures told { LookupGives CanLook GetMeans (kept reader.old) (kept reader.new) key value.old value.new (record { status = result; reply = reply.new }) }
+{
+    get_at!(Four, reader, key, value, reply)
+}
+
+/// `cefrodil_get` for values of five words.
+#[tactic(auto, using(crate::proofs::Gives::gives_open, crate::proofs::Gives::gives_closed))]
+#[unsafe(no_mangle)]
+pub extern "C" fn cefrodil_get_5(
+    reader: &mut Slot,
+    key: u64,
+    value: &mut [u64; 5],
+    reply: &mut RawReply,
+) -> u32
+    ensures open { reader.new.live ≡ reader.old.live }
+    ensures told { LookupGives CanLook GetMeans (kept reader.old) (kept reader.new) key value.old value.new (record { status = result; reply = reply.new }) }
+{
+    get_at!(Five, reader, key, value, reply)
+}
+
+/// `cefrodil_get` for values of six words.
+#[tactic(auto, using(crate::proofs::Gives::gives_open, crate::proofs::Gives::gives_closed))]
+#[unsafe(no_mangle)]
+pub extern "C" fn cefrodil_get_6(
+    reader: &mut Slot,
+    key: u64,
+    value: &mut [u64; 6],
+    reply: &mut RawReply,
+) -> u32
+    ensures open { reader.new.live ≡ reader.old.live }
+    ensures told { LookupGives CanLook GetMeans (kept reader.old) (kept reader.new) key value.old value.new (record { status = result; reply = reply.new }) }
+{
+    get_at!(Six, reader, key, value, reply)
+}
+
+/// `cefrodil_get` for values of seven words.
+#[tactic(auto, using(crate::proofs::Gives::gives_open, crate::proofs::Gives::gives_closed))]
+#[unsafe(no_mangle)]
+pub extern "C" fn cefrodil_get_7(
+    reader: &mut Slot,
+    key: u64,
+    value: &mut [u64; 7],
+    reply: &mut RawReply,
+) -> u32
+    ensures open { reader.new.live ≡ reader.old.live }
+    ensures told { LookupGives CanLook GetMeans (kept reader.old) (kept reader.new) key value.old value.new (record { status = result; reply = reply.new }) }
+{
+    get_at!(Seven, reader, key, value, reply)
+}
+
+/// `cefrodil_get` for values of eight words.
+#[tactic(auto, using(crate::proofs::Gives::gives_open, crate::proofs::Gives::gives_closed))]
+#[unsafe(no_mangle)]
+pub extern "C" fn cefrodil_get_8(
+    reader: &mut Slot,
+    key: u64,
+    value: &mut [u64; 8],
+    reply: &mut RawReply,
+) -> u32
+    ensures open { reader.new.live ≡ reader.old.live }
+    ensures told { LookupGives CanLook GetMeans (kept reader.old) (kept reader.new) key value.old value.new (record { status = result; reply = reply.new }) }
+{
+    get_at!(Eight, reader, key, value, reply)
+}

@@ -1,0 +1,139 @@
+//! Puts of values whose width the caller's text says: an export for each width. They count no words and look up no width.
+ghost use Rattle.std.specs.Prelude.{◌≡◌};
+ghost use Rattle.cefrodil.specs.Calls.{PutGives};
+ghost use Rattle.cefrodil.specs.Open.{kept};
+
+use crate::slot::{Slot, told_of_handle};
+use crate::told::{RawReply, Told};
+use crate::{by_side, by_width};
+use mc_door::Held;
+
+// Puts by a handle whose values have this width. By another one the words are counted.
+macro_rules! put_at {
+    ($width:ident, $writer:ident, $key:ident, $value:ident, $reply:ident) => {
+        told_of_handle!($writer, $reply, held => match held {
+            Held::$width(side) => by_side::put(side, $key, $value, $reply),
+            held => by_width::put_apart(held, $key, $value.as_slice(), $reply),
+        })
+    };
+}
+
+/// `cefrodil_put` of a value of one word.
+#[tactic(auto, using(crate::proofs::Gives::gives_open, crate::proofs::Gives::gives_closed))]
+#[unsafe(no_mangle)]
+pub extern "C" fn cefrodil_put_1(
+    writer: &mut Slot,
+    key: u64,
+    value: &[u64; 1],
+    reply: &mut RawReply,
+) -> u32
+    ensures open { writer.new.live ≡ writer.old.live }
+    ensures told { PutGives (kept writer.old) (kept writer.new) key value.now (record { status = result; reply = reply.new }) }
+{
+    put_at!(One, writer, key, value, reply)
+}
+
+/// `cefrodil_put` of a value of two words.
+#[tactic(auto, using(crate::proofs::Gives::gives_open, crate::proofs::Gives::gives_closed))]
+#[unsafe(no_mangle)]
+pub extern "C" fn cefrodil_put_2(
+    writer: &mut Slot,
+    key: u64,
+    value: &[u64; 2],
+    reply: &mut RawReply,
+) -> u32
+    ensures open { writer.new.live ≡ writer.old.live }
+    ensures told { PutGives (kept writer.old) (kept writer.new) key value.now (record { status = result; reply = reply.new }) }
+{
+    put_at!(Two, writer, key, value, reply)
+}
+
+/// `cefrodil_put` of a value of three words.
+#[tactic(auto, using(crate::proofs::Gives::gives_open, crate::proofs::Gives::gives_closed))]
+#[unsafe(no_mangle)]
+pub extern "C" fn cefrodil_put_3(
+    writer: &mut Slot,
+    key: u64,
+    value: &[u64; 3],
+    reply: &mut RawReply,
+) -> u32
+    ensures open { writer.new.live ≡ writer.old.live }
+    ensures told { PutGives (kept writer.old) (kept writer.new) key value.now (record { status = result; reply = reply.new }) }
+{
+    put_at!(Three, writer, key, value, reply)
+}
+
+/// `cefrodil_put` of a value of four words.
+#[tactic(auto, using(crate::proofs::Gives::gives_open, crate::proofs::Gives::gives_closed))]
+#[unsafe(no_mangle)]
+pub extern "C" fn cefrodil_put_4(
+    writer: &mut Slot,
+    key: u64,
+    value: &[u64; 4],
+    reply: &mut RawReply,
+) -> u32
+    ensures open { writer.new.live ≡ writer.old.live }
+    ensures told { PutGives (kept writer.old) (kept writer.new) key value.now (record { status = result; reply = reply.new }) }
+{
+    put_at!(Four, writer, key, value, reply)
+}
+
+/// `cefrodil_put` of a value of five words.
+#[tactic(auto, using(crate::proofs::Gives::gives_open, crate::proofs::Gives::gives_closed))]
+#[unsafe(no_mangle)]
+pub extern "C" fn cefrodil_put_5(
+    writer: &mut Slot,
+    key: u64,
+    value: &[u64; 5],
+    reply: &mut RawReply,
+) -> u32
+    ensures open { writer.new.live ≡ writer.old.live }
+    ensures told { PutGives (kept writer.old) (kept writer.new) key value.now (record { status = result; reply = reply.new }) }
+{
+    put_at!(Five, writer, key, value, reply)
+}
+
+/// `cefrodil_put` of a value of six words.
+#[tactic(auto, using(crate::proofs::Gives::gives_open, crate::proofs::Gives::gives_closed))]
+#[unsafe(no_mangle)]
+pub extern "C" fn cefrodil_put_6(
+    writer: &mut Slot,
+    key: u64,
+    value: &[u64; 6],
+    reply: &mut RawReply,
+) -> u32
+    ensures open { writer.new.live ≡ writer.old.live }
+    ensures told { PutGives (kept writer.old) (kept writer.new) key value.now (record { status = result; reply = reply.new }) }
+{
+    put_at!(Six, writer, key, value, reply)
+}
+
+/// `cefrodil_put` of a value of seven words.
+#[tactic(auto, using(crate::proofs::Gives::gives_open, crate::proofs::Gives::gives_closed))]
+#[unsafe(no_mangle)]
+pub extern "C" fn cefrodil_put_7(
+    writer: &mut Slot,
+    key: u64,
+    value: &[u64; 7],
+    reply: &mut RawReply,
+) -> u32
+    ensures open { writer.new.live ≡ writer.old.live }
+    ensures told { PutGives (kept writer.old) (kept writer.new) key value.now (record { status = result; reply = reply.new }) }
+{
+    put_at!(Seven, writer, key, value, reply)
+}
+
+/// `cefrodil_put` of a value of eight words.
+#[tactic(auto, using(crate::proofs::Gives::gives_open, crate::proofs::Gives::gives_closed))]
+#[unsafe(no_mangle)]
+pub extern "C" fn cefrodil_put_8(
+    writer: &mut Slot,
+    key: u64,
+    value: &[u64; 8],
+    reply: &mut RawReply,
+) -> u32
+    ensures open { writer.new.live ≡ writer.old.live }
+    ensures told { PutGives (kept writer.old) (kept writer.new) key value.now (record { status = result; reply = reply.new }) }
+{
+    put_at!(Eight, writer, key, value, reply)
+}
