@@ -136,39 +136,74 @@ struct alignas(128) Tally {
         writes++;
         refused += !map.put(key, Value{word, word, word, word});
     }
+
+    void add(const Tally &other) {
+        lookups += other.lookups, hits += other.hits, torn += other.torn;
+        writes += other.writes, refused += other.refused;
+    }
 };
 
-// One thread's work: a reader's, or a writer's that puts once in so many calls.
+// The keys that a thread draws: those of `numbers` numbers from `first` on.
+struct Keys {
+    Draw draw;
+    uint64_t first, numbers;
+    uint64_t next() { return key_of(first + draw.below(numbers)); }
+};
+
+// A writer puts once in `every` calls, next after `left`.
+struct Turns {
+    uint64_t every, left = every;
+    bool is_next() {
+        if (--left != 0) return false;
+        left = every;
+        return true;
+    }
+};
+
+// 64 lookups. They are drawn and counted in registers, as in `mcbench`.
+template <class C> __attribute__((noinline)) void look_often(C &map, Keys &keys, Tally &tally) {
+    Keys drawn = keys;
+    Tally some;
+    for (uint64_t n = 0; n < 64; n++) some.look(map, drawn.next());
+    keys = drawn;
+    tally.add(some);
+}
+
+// 64 calls of a writer, whose keys are those of numbers from 0 on.
+template <class C> __attribute__((noinline)) void write_often(C &map, Keys &keys, Turns &turns, Tally &tally) {
+    Keys drawn = keys;
+    Turns taken = turns;
+    Tally some;
+    for (uint64_t n = 0; n < 64; n++) {
+        uint64_t key = key_of(drawn.draw.below(drawn.numbers));
+        if (taken.is_next()) some.put(map, key, n);
+        else some.look(map, key);
+    }
+    keys = drawn;
+    turns = taken;
+    tally.add(some);
+}
+
+// One thread's work: a reader's, or a writer's.
 template <class C> Tally work(C &map, const Options &options, uint64_t seed, bool puts, std::atomic<int> &waiting, std::atomic<bool> &over) {
-    uint64_t first = options.workload == "miss" ? 1ull << 40 : 0, left = options.write_every;
-    uint64_t numbers = options.workload == "half" ? 2 * options.keys : options.keys;
-    Draw draw(options.seed * 1000 + seed);
+    Keys keys = {Draw(options.seed * 1000 + seed), options.workload == "miss" ? 1ull << 40 : 0,
+                 options.workload == "half" ? 2 * options.keys : options.keys};
+    Turns turns = {options.write_every};
     Tally tally;
-    uint64_t keys[MOST], many = std::min<uint64_t>(options.many, MOST);
+    uint64_t together[MOST], many = std::min<uint64_t>(options.many, MOST);
     Value values[MOST] = {};
     map.enter();
     waiting--;
     while (waiting) __builtin_ia32_pause();
     double began = now(options.alone());
-    while (!puts && many > 1 && !over) {
-        for (uint64_t n = 0; n < many; n++) keys[n] = key_of(first + draw.below(numbers));
-        tally.look_many(map, keys, values, many);
-        map.tick();
-    }
-    // A loop that only reads, and one that writes too, as in `mcbench`.
-    while (!puts && !over) {
-        for (uint64_t n = 0; n < 64; n++) tally.look(map, key_of(first + draw.below(numbers)));
-        map.tick();
-    }
     while (!over) {
-        for (uint64_t n = 0; n < 64; n++) {
-            uint64_t key = key_of(first + draw.below(numbers));
-            if (--left == 0) {
-                left = options.write_every;
-                tally.put(map, key, n);
-            } else {
-                tally.look(map, key);
-            }
+        if (puts) {
+            write_often(map, keys, turns, tally);
+        } else if (many > 1) {
+            for (uint64_t n = 0; n < many; n++) together[n] = keys.next();
+            tally.look_many(map, together, values, many);
+        } else {
+            look_often(map, keys, tally);
         }
         map.tick();
     }
@@ -225,7 +260,7 @@ template <class C> void fill(const Options &options) {
     double spent = 0, bytes = 0;
     Tally tally;
     while (spent < options.seconds) {
-        double before = resident();
+        double before = bytes == 0 ? resident() : 0;
         auto map = std::make_unique<C>(options.capacity);
         map->enter();
         double began = now(true);

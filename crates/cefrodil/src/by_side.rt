@@ -1,4 +1,4 @@
-//! Calls by a side, told in the words that C sees. Each is one function for each width, so an answer stays in registers.
+//! Calls by a side, told in the words that C sees. Each is compiled for each width by itself, so an answer stays in registers.
 ghost use Rattle.std.specs.Prelude.{ℕ, ◌≡◌, ◌≢◌, length};
 ghost use Rattle.mc_words.specs.Places.{IsWidth};
 ghost use Rattle.mc_door.specs.Means.{CanWrite, HasTurns, IsMisuse, GetOrDeskMeans, PutIfAbsentMeans, PutIfMeans, PutMeans, RemovalMeans, TryPutIfAbsentMeans, TryPutIfMeans, TryPutMeans, TryRemovalMeans};
@@ -41,7 +41,7 @@ fn look_up_apart<const V: usize>(
 }
 
 /// Looks the key up. A reader's lookup shares no registers with those of other sides.
-#[inline(never)]
+#[inline(always)]
 pub(crate) fn get<const V: usize>(
     side: &mut Side<V>,
     key: u64,
@@ -58,7 +58,7 @@ pub(crate) fn get<const V: usize>(
 }
 
 /// Looks the key up, where the caller says how many words the value has.
-#[inline(always)]
+#[inline(never)]
 pub(crate) fn get_words<const V: usize>(
     side: &mut Side<V>,
     key: u64,
@@ -91,7 +91,7 @@ pub(crate) fn get_or_desk<const V: usize>(
 }
 
 /// Puts the key.
-#[inline(never)]
+#[inline(always)]
 pub(crate) fn put<const V: usize>(
     side: &mut Side<V>,
     key: u64,
@@ -116,7 +116,7 @@ fn refusal<const V: usize>(side: &Side<V>) -> Misuse
 }
 
 /// Puts the key, where the caller says how many words the value has.
-#[inline(always)]
+#[inline(never)]
 pub(crate) fn put_words<const V: usize>(
     side: &mut Side<V>,
     key: u64,

@@ -1,5 +1,6 @@
 //! The same calls by what a handle keeps, whatever the width of its values.
 ghost use Rattle.std.specs.Prelude.{◌≡◌, length};
+ghost use Rattle.mc_words.specs.Places.{IsWidth};
 ghost use Rattle.mc_door.specs.Held.{role_in, width_of};
 ghost use Rattle.mc_door.specs.Means.{CanLook, CanWrite, HasTurns, IsMisuse, GetMeans, GetOrDeskMeans, PutIfAbsentMeans, PutIfMeans, PutMeans, RemovalMeans, TryPutIfAbsentMeans, TryPutIfMeans, TryPutMeans, TryRemovalMeans};
 ghost use Rattle.cefrodil.specs.Calls.{HasTold};
@@ -19,15 +20,21 @@ pub(crate) fn get(held: &mut Held, key: u64, value: &mut [u64], reply: &mut RawR
     with_side!(held, side => by_side::get_words(side, key, value, reply))
 }
 
-/// The same out of line.
+/// The same for a value of so many words, out of line.
 #[cold]
 #[inline(never)]
-pub(crate) fn get_apart(held: &mut Held, key: u64, value: &mut [u64], reply: &mut RawReply) -> u32
+pub(crate) fn get_apart<const V: usize>(
+    held: &mut Held,
+    key: u64,
+    value: &mut [u64; V],
+    reply: &mut RawReply,
+) -> u32
+    requires { IsWidth V }
     ensures width { width_of held.new ≡ width_of held.old }
     ensures told { HasTold lookup_told (GetMeans (width_of held.old) (role_in held.old) (role_in held.new) key value.old value.new)
         (λ why. IsMisuse CanLook (width_of held.old) (role_in held.old) (length value.old) why × (held.new ≡ held.old) × (value.new ≡ value.old)) (record { status = result; reply = reply.new }) }
 {
-    get(held, key, value, reply)
+    get(held, key, value.as_mut_slice(), reply)
 }
 
 /// Looks the key up, or tries for the turn where that is busy.
@@ -50,15 +57,21 @@ pub(crate) fn put(held: &mut Held, key: u64, value: &[u64], reply: &mut RawReply
     with_side!(held, side => by_side::put_words(side, key, value, reply))
 }
 
-/// The same out of line.
+/// The same of a value of so many words, out of line.
 #[cold]
 #[inline(never)]
-pub(crate) fn put_apart(held: &mut Held, key: u64, value: &[u64], reply: &mut RawReply) -> u32
+pub(crate) fn put_apart<const V: usize>(
+    held: &mut Held,
+    key: u64,
+    value: &[u64; V],
+    reply: &mut RawReply,
+) -> u32
+    requires { IsWidth V }
     ensures width { width_of held.new ≡ width_of held.old }
     ensures told { HasTold put_told (PutMeans (width_of held.old) (role_in held.old) (role_in held.new) key value.now)
         (λ why. IsMisuse CanWrite (width_of held.old) (role_in held.old) (length value.now) why × (held.new ≡ held.old)) (record { status = result; reply = reply.new }) }
 {
-    put(held, key, value, reply)
+    put(held, key, value.as_slice(), reply)
 }
 
 /// Puts the key anew on a condition.

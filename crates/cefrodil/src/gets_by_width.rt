@@ -1,4 +1,4 @@
-//! Lookups of values whose width the caller's text says: an export for each width. They count no words and look up no width.
+//! `cefrodil_get` for each width of a value. The header calls these where the width is a constant.
 ghost use Rattle.std.specs.Prelude.{◌≡◌};
 ghost use Rattle.cefrodil.specs.Calls.{LookupGives};
 ghost use Rattle.mc_door.specs.Means.{CanLook, GetMeans};
@@ -9,12 +9,12 @@ use crate::told::{RawReply, Told};
 use crate::{by_side, by_width};
 use mc_door::Held;
 
-// Looks up by a handle whose values have this width. By another one the words are counted.
+// Looks up by a handle whose values have this width. Another handle goes the way of `cefrodil_get`, which refuses it.
 macro_rules! get_at {
     ($width:ident, $reader:ident, $key:ident, $value:ident, $reply:ident) => {
         told_of_handle!($reader, $reply, held => match held {
             Held::$width(side) => by_side::get(side, $key, $value, $reply),
-            held => by_width::get_apart(held, $key, $value.as_mut_slice(), $reply),
+            held => by_width::get_apart(held, $key, $value, $reply),
         })
     };
 }

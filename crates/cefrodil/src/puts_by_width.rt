@@ -1,4 +1,4 @@
-//! Puts of values whose width the caller's text says: an export for each width. They count no words and look up no width.
+//! `cefrodil_put` for each width of a value. The header calls these where the width is a constant.
 ghost use Rattle.std.specs.Prelude.{◌≡◌};
 ghost use Rattle.cefrodil.specs.Calls.{PutGives};
 ghost use Rattle.cefrodil.specs.Open.{kept};
@@ -8,12 +8,12 @@ use crate::told::{RawReply, Told};
 use crate::{by_side, by_width};
 use mc_door::Held;
 
-// Puts by a handle whose values have this width. By another one the words are counted.
+// Puts by a handle whose values have this width. Another handle goes the way of `cefrodil_put`, which refuses it.
 macro_rules! put_at {
     ($width:ident, $writer:ident, $key:ident, $value:ident, $reply:ident) => {
         told_of_handle!($writer, $reply, held => match held {
             Held::$width(side) => by_side::put(side, $key, $value, $reply),
-            held => by_width::put_apart(held, $key, $value.as_slice(), $reply),
+            held => by_width::put_apart(held, $key, $value, $reply),
         })
     };
 }
