@@ -372,7 +372,8 @@ static inline cefrodil_handle cefrodil_take(cefrodil_handle *from) {
     return taken;
 }
 
-/* CEFRODIL_KNOWN: whether the compiler knows this number here. CEFRODIL_INLINE: compiled into the caller, so that it can know it. */
+/* CEFRODIL_KNOWN: whether the compiler knows this number here. CEFRODIL_INLINE: compiled into the caller, where it may be known; these
+ * pointers are not null. */
 #if defined(__GNUC__)
 #define CEFRODIL_INLINE(pointers) static inline __attribute__((always_inline, pointers))
 #define CEFRODIL_KNOWN(number) __builtin_constant_p(number)
