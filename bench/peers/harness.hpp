@@ -150,10 +150,10 @@ struct Keys {
     uint64_t next() { return key_of(first + draw.below(numbers)); }
 };
 
-// A writer puts once in `every` calls, next after `left`.
-struct Turns {
+// When a writer puts: once in `every` calls, next after `left`.
+struct Puts {
     uint64_t every, left = every;
-    bool is_next() {
+    bool is_due() {
         if (--left != 0) return false;
         left = every;
         return true;
@@ -170,17 +170,17 @@ template <class C> __attribute__((noinline)) void look_often(C &map, Keys &keys,
 }
 
 // 64 calls of a writer, whose keys are those of numbers from 0 on.
-template <class C> __attribute__((noinline)) void write_often(C &map, Keys &keys, Turns &turns, Tally &tally) {
+template <class C> __attribute__((noinline)) void write_often(C &map, Keys &keys, Puts &puts, Tally &tally) {
     Keys drawn = keys;
-    Turns taken = turns;
+    Puts some_puts = puts;
     Tally some;
     for (uint64_t n = 0; n < 64; n++) {
         uint64_t key = key_of(drawn.draw.below(drawn.numbers));
-        if (taken.is_next()) some.put(map, key, n);
+        if (some_puts.is_due()) some.put(map, key, n);
         else some.look(map, key);
     }
     keys = drawn;
-    turns = taken;
+    puts = some_puts;
     tally.add(some);
 }
 
@@ -188,7 +188,7 @@ template <class C> __attribute__((noinline)) void write_often(C &map, Keys &keys
 template <class C> Tally work(C &map, const Options &options, uint64_t seed, bool puts, std::atomic<int> &waiting, std::atomic<bool> &over) {
     Keys keys = {Draw(options.seed * 1000 + seed), options.workload == "miss" ? 1ull << 40 : 0,
                  options.workload == "half" ? 2 * options.keys : options.keys};
-    Turns turns = {options.write_every};
+    Puts due = {options.write_every};
     Tally tally;
     uint64_t together[MOST], many = std::min<uint64_t>(options.many, MOST);
     Value values[MOST] = {};
@@ -198,7 +198,7 @@ template <class C> Tally work(C &map, const Options &options, uint64_t seed, boo
     double began = now(options.alone());
     while (!over) {
         if (puts) {
-            write_often(map, keys, turns, tally);
+            write_often(map, keys, due, tally);
         } else if (many > 1) {
             for (uint64_t n = 0; n < many; n++) together[n] = keys.next();
             tally.look_many(map, together, values, many);

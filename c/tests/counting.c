@@ -4,7 +4,6 @@
 #include "must.h"
 #include <pthread.h>
 #include <sched.h>
-#include <stdio.h>
 
 enum { THREADS = 4, KEYS = 2000 };
 
@@ -63,10 +62,5 @@ int main(void) {
     for (int i = 0; i < THREADS; i++) {
         MUST(cefrodil_close(&passes[i]) == CEFRODIL_OK);
     }
-    if (line_of_failure != 0) {
-        printf("counting: line %d fails\n", line_of_failure);
-        return 1;
-    }
-    puts("counting: ok");
-    return 0;
+    return outcome("counting");
 }

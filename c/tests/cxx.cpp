@@ -1,7 +1,6 @@
 // The C++ header: handles move and close themselves, and answers are as in C. Compiled as C++17 and as C++20.
 #include "cefrodil.hpp"
 #include "must.h"
-#include <cstdio>
 #include <cstdlib>
 #include <thread>
 #include <type_traits>
@@ -148,10 +147,5 @@ int main() {
     MUST(cefrodil::open_shards(*part, 4, 3, passes) == Status::ok);
     by_turns(std::move(passes));
     MUST(cefrodil::text(Status::bad_shards)[0] == 's');
-    if (line_of_failure != 0) {
-        std::printf("cxx: line %d fails\n", line_of_failure);
-        return 1;
-    }
-    std::puts("cxx: ok");
-    return 0;
+    return outcome("cxx");
 }

@@ -1,7 +1,6 @@
 /* The writer of an open cache goes on a desk, comes back, and goes on a desk once more. */
 #include "cefrodil.h"
 #include "must.h"
-#include <stdio.h>
 
 enum { MOST = 1024 };
 
@@ -98,10 +97,5 @@ int main(void) {
         again(words);
     }
     most();
-    if (line_of_failure != 0) {
-        printf("desks: line %d fails\n", line_of_failure);
-        return 1;
-    }
-    puts("desks: ok");
-    return 0;
+    return outcome("desks");
 }

@@ -1,7 +1,6 @@
 /* A cache is opened with entries: what becomes of each, and what is refused. Then they are listed. */
 #include "cefrodil.h"
 #include "must.h"
-#include <stdio.h>
 
 static cefrodil_handle writer, readers[2];
 static cefrodil_reply reply;
@@ -224,10 +223,5 @@ int main(void) {
     listed_by_turns();
     stamped();
     stamped_by_turns();
-    if (line_of_failure != 0) {
-        printf("entries: line %d fails\n", line_of_failure);
-        return 1;
-    }
-    puts("entries: ok");
-    return 0;
+    return outcome("entries");
 }

@@ -2,7 +2,6 @@
  * returned to be freed, and none twice. */
 #include "cefrodil.h"
 #include "must.h"
-#include <stdio.h>
 
 enum { OBJECTS = 1000, ITEMS = 100, KEYS = 300 };
 
@@ -100,10 +99,5 @@ int main(void) {
     replace();
     MUST(cefrodil_open_shards(&of_shard, 4, 1, &handle, 1) == CEFRODIL_OK);
     replace();
-    if (line_of_failure != 0) {
-        printf("objects: line %d fails\n", line_of_failure);
-        return 1;
-    }
-    puts("objects: ok");
-    return 0;
+    return outcome("objects");
 }

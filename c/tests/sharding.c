@@ -1,7 +1,6 @@
 /* Shards: the statuses of their opening, and each call by their passes. */
 #include "cefrodil.h"
 #include "must.h"
-#include <stdio.h>
 
 enum { SHARDS = 8, KEYS = 500 };
 
@@ -118,10 +117,5 @@ int main(void) {
         MUST(cefrodil_shape_for_shards(KEYS, 1, &shape) == CEFRODIL_OK);
         many_keys(1, words);
     }
-    if (line_of_failure != 0) {
-        printf("sharding: line %d fails\n", line_of_failure);
-        return 1;
-    }
-    puts("sharding: ok");
-    return 0;
+    return outcome("sharding");
 }

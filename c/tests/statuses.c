@@ -1,7 +1,6 @@
 /* Each status of each call, and what a call leaves alone. */
 #include "cefrodil.h"
 #include "must.h"
-#include <stdio.h>
 #include <stdlib.h>
 
 static cefrodil_handle writer, readers[2], passes[2], none;
@@ -250,25 +249,15 @@ static void last_close(void) {
 }
 
 /* Twice the same key, whose value is 1, 2, 3 and so on. */
-static void two_of_width(size_t words) {
-    uint64_t keys[2] = {words, words}, found[17] = {0};
-    MUST(cefrodil_get_many(&readers[0], keys, 2, found, 2 * words, answers, 2) == CEFRODIL_OK);
-    for (size_t i = 0; i < 17; i++) {
-        MUST(found[i] == (i < 2 * words ? i % words + 1 : 0));
-    }
-}
-
-static void widths(void) {
+static void two_of_each_width(void) {
     for (size_t words = 1; words <= 8; words++) {
-        uint64_t value[8] = {1, 2, 3, 4, 5, 6, 7, 8}, found[8] = {0};
+        uint64_t value[8] = {1, 2, 3, 4, 5, 6, 7, 8}, keys[2] = {words, words}, found[17] = {0};
         MUST(cefrodil_open(&shape, words, &writer, readers, 1) == CEFRODIL_OK);
         MUST(cefrodil_put(&writer, words, value, words, &reply) == CEFRODIL_OK);
-        MUST(cefrodil_get(&readers[0], words, found, words, &reply) == CEFRODIL_OK);
-        for (size_t i = 0; i < 8; i++) {
-            MUST(found[i] == (i < words ? value[i] : 0));
+        MUST(cefrodil_get_many(&readers[0], keys, 2, found, 2 * words, answers, 2) == CEFRODIL_OK);
+        for (size_t i = 0; i < 17; i++) {
+            MUST(found[i] == (i < 2 * words ? i % words + 1 : 0));
         }
-        MUST(cefrodil_get(&readers[0], words, found, words % 8 + 1, &reply) == CEFRODIL_WIDTH);
-        two_of_width(words);
         MUST(cefrodil_close(&writer) == CEFRODIL_OK && cefrodil_close(&readers[0]) == CEFRODIL_OK);
     }
 }
@@ -313,11 +302,6 @@ int main(void) {
     many_by_a_reader();
     many_by_a_pass();
     most_handles();
-    widths();
-    if (line_of_failure != 0) {
-        printf("statuses: line %d fails\n", line_of_failure);
-        return 1;
-    }
-    puts("statuses: ok");
-    return 0;
+    two_of_each_width();
+    return outcome("statuses");
 }

@@ -1,7 +1,6 @@
 /* cefrodil_get and cefrodil_put for values of each width: where the compiler knows `words`, and where it does not. */
 #include "cefrodil.h"
 #include "must.h"
-#include <stdio.h>
 
 static cefrodil_handle writer, reader, none;
 static cefrodil_reply reply;
@@ -64,10 +63,5 @@ int main(void) {
     MUST(cefrodil_get(&reader, 1, value, 9, &reply) == CEFRODIL_WIDTH && cefrodil_put(&writer, 1, value, 9, &reply) == CEFRODIL_WIDTH);
     MUST(cefrodil_get(&reader, 1, value, 0, &reply) == CEFRODIL_WIDTH && cefrodil_put(&writer, 1, value, 0, &reply) == CEFRODIL_WIDTH);
     MUST(cefrodil_close(&reader) == CEFRODIL_OK && cefrodil_close(&writer) == CEFRODIL_OK);
-    if (line_of_failure != 0) {
-        printf("widths: line %d fails\n", line_of_failure);
-        return 1;
-    }
-    puts("widths: ok");
-    return 0;
+    return outcome("widths");
 }

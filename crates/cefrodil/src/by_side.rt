@@ -1,5 +1,5 @@
 //! Calls by a side, told in the words that C sees. Each is compiled for each width by itself, so an answer stays in registers.
-ghost use Rattle.std.specs.Prelude.{ℕ, ◌≡◌, ◌≢◌, length};
+ghost use Rattle.std.specs.Prelude.{◌≡◌, length};
 ghost use Rattle.mc_words.specs.Places.{IsWidth};
 ghost use Rattle.mc_door.specs.Means.{CanWrite, HasTurns, IsMisuse, GetOrDeskMeans, PutIfAbsentMeans, PutIfMeans, PutMeans, RemovalMeans, TryPutIfAbsentMeans, TryPutIfMeans, TryPutMeans, TryRemovalMeans};
 ghost use Rattle.mc_door.specs.Roles.{role_of};
@@ -9,7 +9,7 @@ ghost use Rattle.cefrodil.specs.Tellings.{lookup_told, put_if_absent_told, put_i
 
 use crate::tell;
 use crate::told::{RawReply, Told};
-use mc_door::{Misuse, Side};
+use mc_door::Side;
 
 // Looks the key up.
 #[inline(always)]
@@ -31,35 +31,18 @@ fn look_up<const V: usize>(
 fn look_up_apart<const V: usize>(
     side: &mut Side<V>,
     key: u64,
-    value: &mut [u64; V],
+    value: &mut [u64],
     reply: &mut RawReply,
 ) -> u32
     requires { IsWidth V }
     ensures { TellsLookup V side.old side.new key value.old value.new (record { status = result; reply = reply.new }) }
 {
-    look_up(side, key, value.as_mut_slice(), reply)
+    look_up(side, key, value, reply)
 }
 
 /// Looks the key up. A reader's lookup shares no registers with those of other sides.
 #[inline(always)]
 pub(crate) fn get<const V: usize>(
-    side: &mut Side<V>,
-    key: u64,
-    value: &mut [u64; V],
-    reply: &mut RawReply,
-) -> u32
-    requires { IsWidth V }
-    ensures { TellsLookup V side.old side.new key value.old value.new (record { status = result; reply = reply.new }) }
-{
-    match side {
-        Side::Reader(_) => look_up(side, key, value.as_mut_slice(), reply),
-        _ => look_up_apart(side, key, value, reply),
-    }
-}
-
-/// Looks the key up, where the caller says how many words the value has.
-#[inline(never)]
-pub(crate) fn get_words<const V: usize>(
     side: &mut Side<V>,
     key: u64,
     value: &mut [u64],
@@ -68,10 +51,24 @@ pub(crate) fn get_words<const V: usize>(
     requires { IsWidth V }
     ensures { TellsLookup V side.old side.new key value.old value.new (record { status = result; reply = reply.new }) }
 {
-    match value.as_mut_array() {
-        Some(value) => get(side, key, value, reply),
-        None => Told::lookup(Err(Misuse::Width)).tell(reply),
+    match side {
+        Side::Reader(_) => look_up(side, key, value, reply),
+        _ => look_up_apart(side, key, value, reply),
     }
+}
+
+/// The same out of line.
+#[inline(never)]
+pub(crate) fn get_apart<const V: usize>(
+    side: &mut Side<V>,
+    key: u64,
+    value: &mut [u64],
+    reply: &mut RawReply,
+) -> u32
+    requires { IsWidth V }
+    ensures { TellsLookup V side.old side.new key value.old value.new (record { status = result; reply = reply.new }) }
+{
+    get(side, key, value, reply)
 }
 
 /// Looks the key up, or tries for the turn where that is busy.
@@ -95,42 +92,28 @@ pub(crate) fn get_or_desk<const V: usize>(
 pub(crate) fn put<const V: usize>(
     side: &mut Side<V>,
     key: u64,
-    value: &[u64; V],
+    value: &[u64],
     reply: &mut RawReply,
 ) -> u32
     ensures { HasTold put_told (PutMeans V (role_of side.old) (role_of side.new) key value.now)
         (λ why. IsMisuse CanWrite V (role_of side.old) (length value.now) why × (side.new ≡ side.old)) (record { status = result; reply = reply.new }) }
 {
-    let made = side.put(key, value.as_slice());
+    let made = side.put(key, value);
     tell::put(made, reply)
 }
 
-// Why a side does not put a value of another width.
-fn refusal<const V: usize>(side: &Side<V>) -> Misuse
-    ensures { (words : ℕ) → words ≢ V → IsMisuse CanWrite V (role_of side.now) words result }
-{
-    match side {
-        Side::Writer(_) => Misuse::Width,
-        Side::Reader(_) | Side::Pass(_) | Side::Shard(_) | Side::Nothing => Misuse::Kind,
-    }
-}
-
-/// Puts the key, where the caller says how many words the value has.
+/// The same out of line.
 #[inline(never)]
-pub(crate) fn put_words<const V: usize>(
+pub(crate) fn put_apart<const V: usize>(
     side: &mut Side<V>,
     key: u64,
     value: &[u64],
     reply: &mut RawReply,
 ) -> u32
-    requires { IsWidth V }
     ensures { HasTold put_told (PutMeans V (role_of side.old) (role_of side.new) key value.now)
         (λ why. IsMisuse CanWrite V (role_of side.old) (length value.now) why × (side.new ≡ side.old)) (record { status = result; reply = reply.new }) }
 {
-    match value.as_array() {
-        Some(value) => put(side, key, value, reply),
-        None => tell::put(Err(refusal(side)), reply),
-    }
+    put(side, key, value, reply)
 }
 
 /// Puts the key anew on a condition.

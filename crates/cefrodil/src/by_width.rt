@@ -17,7 +17,7 @@ pub(crate) fn get(held: &mut Held, key: u64, value: &mut [u64], reply: &mut RawR
     ensures told { HasTold lookup_told (GetMeans (width_of held.old) (role_in held.old) (role_in held.new) key value.old value.new)
         (λ why. IsMisuse CanLook (width_of held.old) (role_in held.old) (length value.old) why × (held.new ≡ held.old) × (value.new ≡ value.old)) (record { status = result; reply = reply.new }) }
 {
-    with_side!(held, side => by_side::get_words(side, key, value, reply))
+    with_side!(held, side => by_side::get_apart(side, key, value, reply))
 }
 
 /// The same for a value of so many words, out of line.
@@ -54,7 +54,7 @@ pub(crate) fn put(held: &mut Held, key: u64, value: &[u64], reply: &mut RawReply
     ensures told { HasTold put_told (PutMeans (width_of held.old) (role_in held.old) (role_in held.new) key value.now)
         (λ why. IsMisuse CanWrite (width_of held.old) (role_in held.old) (length value.now) why × (held.new ≡ held.old)) (record { status = result; reply = reply.new }) }
 {
-    with_side!(held, side => by_side::put_words(side, key, value, reply))
+    with_side!(held, side => by_side::put_apart(side, key, value, reply))
 }
 
 /// The same of a value of so many words, out of line.

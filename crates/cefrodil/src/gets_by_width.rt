@@ -13,7 +13,7 @@ use mc_door::Held;
 macro_rules! get_at {
     ($width:ident, $reader:ident, $key:ident, $value:ident, $reply:ident) => {
         told_of_handle!($reader, $reply, held => match held {
-            Held::$width(side) => by_side::get(side, $key, $value, $reply),
+            Held::$width(side) => by_side::get(side, $key, $value.as_mut_slice(), $reply),
             held => by_width::get_apart(held, $key, $value, $reply),
         })
     };

@@ -12,7 +12,7 @@ use mc_door::Held;
 macro_rules! put_at {
     ($width:ident, $writer:ident, $key:ident, $value:ident, $reply:ident) => {
         told_of_handle!($writer, $reply, held => match held {
-            Held::$width(side) => by_side::put(side, $key, $value, $reply),
+            Held::$width(side) => by_side::put(side, $key, $value.as_slice(), $reply),
             held => by_width::put_apart(held, $key, $value, $reply),
         })
     };
