@@ -9,4 +9,3 @@ pub mod LoadedEntries
 pub mod HistoryLaws
 pub mod Sent
 pub mod Turns
-pub mod LentWriters

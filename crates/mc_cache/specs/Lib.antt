@@ -1,7 +1,6 @@
 pub mod Beside
 pub mod Failing
 pub mod Openings
-pub mod Lending
 pub mod Orders
 pub mod Plain
 pub mod PlainLaws

@@ -7,13 +7,14 @@ use Rattle.mc_plan.specs.WholeCalls.{Call}
 use Rattle.mc_plan.specs.declared.answer.AbsentError.{AbsentError}
 use Rattle.mc_plan.specs.declared.answer.Answer.{Answer}
 use Rattle.mc_plan.specs.declared.answer.Put.{Put}
-use Rattle.mc_shared.specs.Records.{ReaderRecord, WriterRecord, reader_record}
+use Rattle.mc_shared.specs.Records.{Opening, ReaderRecord, WriterRecord, reader_record}
 use Rattle.mc_shared.specs.SeatFacts.{IsRun}
 use Rattle.mc_shared.specs.Views.{IsFrontOf}
 use Rattle.mc_reader.specs.Records.{HasLooked}
 use Rattle.mc_writer.specs.WriterCalls.{HasCalled, HasPutIfAbsent}
 use Rattle.mc_cache.specs.Beside.{HasLookedBeside}
 use Rattle.mc_cache.specs.Orders.{HasAnsweredInOrder}
+use Rattle.mc_cache.specs.Plain.{HasMet, TellsNow, history, seen}
 use Rattle.mc_cache.specs.Resting.{IsAtRest}
 use Rattle.mc_cache.specs.declared.desk.DeskError.{DeskError}
 use Rattle.mc_cache.specs.declared.desk.DeskError.TheVariants as desk
@@ -79,3 +80,12 @@ pub record HasFallenBack (V : ℕ) (sh : Shape) (k : ℕ) (old new : ReaderRecor
 -- a lookup; or one that was busy, and then one beside the writer
 abbrev pub HasLookedOrMet : (V : ℕ) → Shape → ℕ → ReaderRecord → ReaderRecord → Reply V → Type 0
 HasLookedOrMet V sh k old new reply = HasLooked V sh k old new reply ⊎ HasFallenBack V sh k old new reply
+
+-- the turn was got, and the key looked up beside the writer
+pub record HasLookedInTurn (V : ℕ) (o : Opening) (old new : ReaderRecord) (k : ℕ) (reply : Reply V) : Type 0 where
+  pub writer : WriterRecord
+  pub of : writer.of ≡ o
+  pub stands : IsLaidDown V writer
+  pub looked : HasLookedBeside V o.layout.shape k writer.acts old new reply
+  pub order : HasAnsweredInOrder V o.layout.shape writer old.number old.done
+  pub plain : HasMet V (seen V old) (seen V new) (history V writer) × TellsNow (history V writer) k reply

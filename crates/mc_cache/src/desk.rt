@@ -1,20 +1,19 @@
 //! The writer, shared by turns that are tried for once.
-ghost use Rattle.std.specs.Prelude.{◌≡◌, ◌∷◌, [], IfNone, IfOk, IfSome, MatchResult, length};
-ghost use Rattle.mc_cache.specs.Resting.{IsAtRest};
+ghost use Rattle.std.specs.Prelude.{◌≡◌, IfNone, IfOk, IfSome};
+ghost use Rattle.mc_cache.specs.Resting.{IsAtRest, IsFit};
 
 use crate::cache::Cache;
-use crate::lending::{FREE, LiesThere, WORDS, give, take};
 use crate::reader::Reader;
 use crate::turn::{
     count_in_turn, get_in_turn, list_in_turn, list_stamped_in_turn, put_if_absent_in_turn,
     put_if_in_turn, put_in_turn, remove_in_turn, swap_if_in_turn, swap_in_turn, take_in_turn,
 };
 use crate::writer::Writer;
-use atomic_table::{Refused, Table};
+use counted_slot::{Counted, Fits, TAKEN};
 use mc_plan::{AbsentError, IfError, Put, PutError, Remove, Spent};
 use mc_words::{NoMemory, Reply};
 use mc_writer::{Entry, Replaced, Swapped, Take};
-use std::alloc::{AllocFailed, Global};
+use std::alloc::Global;
 use std::marker::Model;
 use std::snapshot::Snapshot;
 
@@ -27,33 +26,71 @@ pub enum DeskError<E> {
     Call(E),
 }
 
-// The writer of a list that holds nothing else.
-fn only_one<const V: usize>(mut writers: Vec<Writer<V>>) -> Writer<V>
-    requires one { length writers.items ≡ 1 }
-    ensures { writers.entry.items ≡ result ∷ [] }
-{
-    let Some(writer) = writers.pop() else {
-        unreachable!();
-    };
-    writer
+// The words of the slot. The high half says whether the writer is there.
+const HOME: u64 = 0;
+
+const AWAY: u64 = 0x1_0000_0000;
+
+// The tag is the writer as it came.
+impl<const V: usize> Fits for Writer<V> {
+    type Tag = Snapshot<Writer<V>>;
+
+    ghost fits = { λ tag w. IsFit V tag.value.of w };
 }
 
 /// A try-lock around the writer of a cache, for threads that write by turns. Lend it to every thread, as the cache. In
 /// contracts it is the table that was opened.
 #[derive(Drop)]
 pub struct Desk<const V: usize> {
-    table: Table<Writer<V>, Snapshot<Writer<V>>, Snapshot<Writer<V>>, LiesThere, Global>,
+    slot: Counted<Option<Writer<V>>>,
 }
 
 impl<const V: usize> Model for Desk<V> {
-    ghost use Rattle.std.specs.Prelude.{◌≡◌};
     ghost use Rattle.mc_shared.specs.Records.{Opening};
 
     ghost Value = { Opening };
 
-    ghost view = { λ d. d.table.shared.key.value.of };
+    ghost view = { λ d. d.slot.value.of };
+}
 
-    ghost invariant = { λ d. (d.table.shared.table_id.words ≡ 16) × (d.table.shared.table_id.slots ≡ 1) };
+// The writer, while a turn has it. It is not `Drop`: a turn that forgets to give it back does not compile.
+struct Turn<const V: usize> {
+    writer: Writer<V>,
+}
+
+impl<const V: usize> Desk<V> {
+    // Takes the writer if it is there and the try wins. A word that says it is not there is left alone, so that a turn which gives it back
+    // is not in the way.
+    fn take(&self) -> Option<Turn<V>>
+        ensures { IfSome result (λ turn. IsFit V self.now turn.writer) }
+    {
+        if self.slot.load() != HOME {
+            return None;
+        }
+        let (found, claim) = self.slot.turn(HOME, TAKEN);
+        if found != HOME {
+            claim.done();
+            return None;
+        }
+        match claim.put(None, AWAY) {
+            Some(writer) => Some(Turn { writer }),
+            None => None,
+        }
+    }
+
+    // Tries once to give the writer back. If the try does not win, the writer is dropped.
+    fn give(&self, turn: Turn<V>)
+        requires { turn.writer.of ≡ self.now }
+    {
+        let Turn { writer } = turn;
+        writer.known();
+        let (found, claim) = self.slot.turn(AWAY, AWAY + TAKEN);
+        if found == AWAY {
+            let _ = claim.put(Some(writer), HOME);
+        } else {
+            claim.done();
+        }
+    }
 }
 
 impl<const V: usize> Desk<V> {
@@ -66,21 +103,14 @@ impl<const V: usize> Desk<V> {
     ghost use Rattle.mc_plan.specs.WholeCalls.{PutCall, PutIfCall, RemoveCall};
     ghost use Rattle.mc_plan.specs.declared.answer.Answer.TheVariants as answer;
 
-    /// Puts the writer on a new desk. `Err` gives the writer back, if there is no memory for it on the desk.
-    pub fn new(alloc: Global, writer: Writer<V>) -> Result<Desk<V>, AllocFailed<Writer<V>>>
-        ensures of { MatchResult result (λ desk. desk ≡ writer.entry.of) (λ failed. failed.value ≡ writer.entry) }
+    /// Puts the writer on a new desk.
+    pub fn new(writer: Writer<V>) -> Desk<V>
+        ensures of { result ≡ writer.entry.of }
     {
         writer.known();
-        let key = Snapshot::of(&writer);
-        let Ok(mut writers) = Vec::with_capacity(alloc, 1) else {
-            return Err(AllocFailed { value: writer });
-        };
-        writers.push(writer)?;
-        match Table::new(alloc, &[FREE; WORDS], writers, &key) {
-            Ok((table, _seat)) => Ok(Desk { table }),
-            Err(Refused { slots }) => Err(AllocFailed {
-                value: only_one(slots),
-            }),
+        let tag = Snapshot::of(&writer);
+        Desk {
+            slot: Counted::new(Some(writer), &tag),
         }
     }
 
@@ -100,12 +130,11 @@ impl<const V: usize> Desk<V> {
         ensures plain { TurnMeans (λ h h' told. PutMeans V h h' key value.entry told) (seen V pass.old) (seen V pass.new) result }
         ensures fails { TurnFails (PutFails cache.now.layout.shape (seen V pass.new) (versions_seen V pass.new) key) result }
     {
-        let shared = &self.table.shared;
-        let Some(mut seat) = take(shared) else {
+        let Some(mut turn) = self.take() else {
             return Err(DeskError::Held);
         };
-        let answer = put_in_turn(cache, pass, seat.slot_mut(shared, 0), key, value);
-        give(shared, seat);
+        let answer = put_in_turn(cache, pass, &mut turn.writer, key, value);
+        self.give(turn);
         answer
     }
 
@@ -125,12 +154,11 @@ impl<const V: usize> Desk<V> {
         ensures plain { TurnMeans (λ h h' told. PutIfMeans V h h' key since value.entry told) (seen V pass.old) (seen V pass.new) result }
         ensures fails { TurnFails (PutIfFails cache.now.layout.shape (seen V pass.new) (versions_seen V pass.new)) result }
     {
-        let shared = &self.table.shared;
-        let Some(mut seat) = take(shared) else {
+        let Some(mut turn) = self.take() else {
             return Err(DeskError::Held);
         };
-        let answer = put_if_in_turn(cache, pass, seat.slot_mut(shared, 0), key, since, value);
-        give(shared, seat);
+        let answer = put_if_in_turn(cache, pass, &mut turn.writer, key, since, value);
+        self.give(turn);
         answer
     }
 
@@ -149,12 +177,11 @@ impl<const V: usize> Desk<V> {
         ensures plain { TurnMeans (λ h h' told. PutIfAbsentMeans V h h' key value.entry told) (seen V pass.old) (seen V pass.new) result }
         ensures fails { TurnFails (PutIfAbsentFails cache.now.layout.shape (seen V pass.new) (versions_seen V pass.new) key) result }
     {
-        let shared = &self.table.shared;
-        let Some(mut seat) = take(shared) else {
+        let Some(mut turn) = self.take() else {
             return Err(DeskError::Held);
         };
-        let answer = put_if_absent_in_turn(cache, pass, seat.slot_mut(shared, 0), key, value);
-        give(shared, seat);
+        let answer = put_if_absent_in_turn(cache, pass, &mut turn.writer, key, value);
+        self.give(turn);
         answer
     }
 
@@ -172,12 +199,11 @@ impl<const V: usize> Desk<V> {
         ensures plain { TurnMeans (λ h h' told. RemovalMeans V h h' key told) (seen V pass.old) (seen V pass.new) result }
         ensures fails { TurnFails (RemovalFails cache.now.layout.shape (seen V pass.new) (versions_seen V pass.new)) result }
     {
-        let shared = &self.table.shared;
-        let Some(mut seat) = take(shared) else {
+        let Some(mut turn) = self.take() else {
             return Err(DeskError::Held);
         };
-        let answer = remove_in_turn(cache, pass, seat.slot_mut(shared, 0), key);
-        give(shared, seat);
+        let answer = remove_in_turn(cache, pass, &mut turn.writer, key);
+        self.give(turn);
         answer
     }
 
@@ -196,12 +222,11 @@ impl<const V: usize> Desk<V> {
         ensures plain { TurnMeans (λ h h' told. SwapMeans V h h' key value.entry told) (seen V pass.old) (seen V pass.new) result }
         ensures fails { TurnFails (SwapFails cache.now.layout.shape (seen V pass.new) (versions_seen V pass.new) key) result }
     {
-        let shared = &self.table.shared;
-        let Some(mut seat) = take(shared) else {
+        let Some(mut turn) = self.take() else {
             return Err(DeskError::Held);
         };
-        let answer = swap_in_turn(cache, pass, seat.slot_mut(shared, 0), key, value);
-        give(shared, seat);
+        let answer = swap_in_turn(cache, pass, &mut turn.writer, key, value);
+        self.give(turn);
         answer
     }
 
@@ -221,12 +246,11 @@ impl<const V: usize> Desk<V> {
         ensures plain { TurnMeans (λ h h' told. SwapIfMeans V h h' key since value.entry told) (seen V pass.old) (seen V pass.new) result }
         ensures fails { TurnFails (SwapIfFails cache.now.layout.shape (seen V pass.new) (versions_seen V pass.new)) result }
     {
-        let shared = &self.table.shared;
-        let Some(mut seat) = take(shared) else {
+        let Some(mut turn) = self.take() else {
             return Err(DeskError::Held);
         };
-        let answer = swap_if_in_turn(cache, pass, seat.slot_mut(shared, 0), key, since, value);
-        give(shared, seat);
+        let answer = swap_if_in_turn(cache, pass, &mut turn.writer, key, since, value);
+        self.give(turn);
         answer
     }
 
@@ -244,12 +268,11 @@ impl<const V: usize> Desk<V> {
         ensures plain { TurnMeans (λ h h' told. TakeMeans V h h' key told) (seen V pass.old) (seen V pass.new) result }
         ensures fails { TurnFails (TakeFails cache.now.layout.shape (seen V pass.new) (versions_seen V pass.new)) result }
     {
-        let shared = &self.table.shared;
-        let Some(mut seat) = take(shared) else {
+        let Some(mut turn) = self.take() else {
             return Err(DeskError::Held);
         };
-        let answer = take_in_turn(cache, pass, seat.slot_mut(shared, 0), key);
-        give(shared, seat);
+        let answer = take_in_turn(cache, pass, &mut turn.writer, key);
+        self.give(turn);
         answer
     }
 
@@ -267,12 +290,11 @@ impl<const V: usize> Desk<V> {
         ensures begins { Begins (seen V pass.old) (seen V pass.new) }
         ensures plain { IfOk result (λ es. AreEntriesOf V (seen V pass.new) es.items) }
     {
-        let shared = &self.table.shared;
-        let Some(mut seat) = take(shared) else {
+        let Some(mut turn) = self.take() else {
             return Err(DeskError::Held);
         };
-        let listed = list_in_turn(alloc, cache, pass, seat.slot_mut(shared, 0));
-        give(shared, seat);
+        let listed = list_in_turn(alloc, cache, pass, &mut turn.writer);
+        self.give(turn);
         listed
     }
 
@@ -289,12 +311,11 @@ impl<const V: usize> Desk<V> {
         ensures begins { Begins (seen V pass.old) (seen V pass.new) }
         ensures plain { IfOk result (λ es. AreStampedEntriesOf V (seen V pass.new) es.items) }
     {
-        let shared = &self.table.shared;
-        let Some(mut seat) = take(shared) else {
+        let Some(mut turn) = self.take() else {
             return Err(DeskError::Held);
         };
-        let listed = list_stamped_in_turn(alloc, cache, pass, seat.slot_mut(shared, 0));
-        give(shared, seat);
+        let listed = list_stamped_in_turn(alloc, cache, pass, &mut turn.writer);
+        self.give(turn);
         listed
     }
 
@@ -308,23 +329,17 @@ impl<const V: usize> Desk<V> {
         ensures begins { Begins (seen V pass.old) (seen V pass.new) }
         ensures plain { IfSome result (λ many. many ≡ key_count (seen V pass.new)) }
     {
-        let shared = &self.table.shared;
-        let mut seat = take(shared)?;
-        let many = count_in_turn(cache, pass, seat.slot_mut(shared, 0));
-        give(shared, seat);
+        let mut turn = self.take()?;
+        let many = count_in_turn(cache, pass, &mut turn.writer);
+        self.give(turn);
         Some(many)
     }
 
-    /// Takes the writer off the desk. `None` if a turn never gave it back.
+    /// Takes the writer off the desk. `None` if a turn could not give it back.
     pub fn end(self) -> Option<Writer<V>>
         ensures writer { IfSome result (λ w. (w.of ≡ self.entry) × IsAtRest V w) }
     {
-        let Desk { table } = self;
-        let mut closed = table.close();
-        let word = closed.word(0);
-        let writer = closed.take(0);
-        closed.free();
-        if word == FREE { Some(writer) } else { None }
+        self.slot.into_inner()
     }
 }
 
@@ -333,8 +348,7 @@ impl<const V: usize> Reader<V> {
     ghost use Rattle.mc_theory.specs.Plain.{IsBetween};
     ghost use Rattle.mc_words.specs.History.{IsTrueAnswer};
     ghost use Rattle.mc_cache.specs.Plain.{HasAnswered, seen};
-    ghost use Rattle.mc_cache.specs.Inside.Turned.{HasLookedInTurn};
-    ghost use Rattle.mc_cache.specs.Turns.{HasLookedOrMet};
+    ghost use Rattle.mc_cache.specs.Turns.{HasLookedInTurn, HasLookedOrMet};
 
     /// Looks the key up by `get`. If that is `Busy`, tries once for the turn, and with it looks the key up by `get_beside`.
     /// `Busy` if the try does not win either. Condition: reader and desk are of this cache.
@@ -363,10 +377,9 @@ impl<const V: usize> Reader<V> {
         ensures none { IfNone result (self.new ≡ self.old) }
         ensures met { IfSome result (λ reply. HasLookedInTurn V cache.now self.old self.new key reply) }
     {
-        let shared = &desk.table.shared;
-        let mut seat = take(shared)?;
-        let reply = get_in_turn(cache, self, seat.slot_mut(shared, 0), key);
-        give(shared, seat);
+        let mut turn = desk.take()?;
+        let reply = get_in_turn(cache, self, &mut turn.writer, key);
+        desk.give(turn);
         Some(reply)
     }
 }

@@ -2,7 +2,7 @@
 //!
 //! Lend the `Cache` to every thread. Its `Writer` and each `Reader` belong to one thread at a time. If several threads write
 //! now and then, put the writer on a `Desk`, and they take turns. Between `open` and `Cache::close` only
-//! `Desk::new` and calls that list entries allocate. No call waits.
+//! calls that list entries allocate. No call waits.
 //!
 //! The contracts of the writer's calls speak of its record, the list of its acts. Those of a reader's calls say that each
 //! answer is true of the history that the reader has seen. The clauses `plain` say both in histories alone.
@@ -25,14 +25,13 @@ mod cache;
 mod closing;
 mod desk;
 pub mod laws;
-mod lending;
 mod listing;
 mod loading;
 mod opening;
 mod reader;
 mod stamped;
 mod taking;
-mod turn;
+pub mod turn;
 mod writer;
 
 pub use cache::Cache;

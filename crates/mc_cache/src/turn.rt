@@ -2,13 +2,13 @@
 ghost use Rattle.std.specs.Prelude.{◌≡◌, IfOk};
 ghost use Rattle.mc_plan.specs.WholeCalls.{PutCall, PutIfCall, RemoveCall};
 ghost use Rattle.mc_plan.specs.declared.answer.Answer.TheVariants as answer;
-ghost use Rattle.mc_cache.specs.Inside.Turned.{HasBegunWith, HasEnded, HasLookedInTurn, turned};
+ghost use Rattle.mc_cache.specs.Inside.Turned.{HasBegunWith, HasEnded, turned};
 ghost use Rattle.mc_cache.specs.Failing.{PutFails, PutIfAbsentFails, PutIfFails, RemovalFails, SwapFails, SwapIfFails, TakeFails, TurnFails, versions_seen};
 ghost use Rattle.mc_cache.specs.Taking.{SwapIfMeans, SwapMeans, TakeMeans, swap_answer, swap_if_answer, take_answer};
 ghost use Rattle.mc_cache.specs.Plain.{AreEntriesOf, Begins, HasMet, PutIfAbsentMeans, PutIfMeans, PutMeans, RemovalMeans, TurnMeans, history, seen};
 ghost use Rattle.mc_cache.specs.Resting.{IsAtRest};
 ghost use Rattle.mc_cache.specs.Stamped.{AreStampedEntriesOf};
-ghost use Rattle.mc_cache.specs.Turns.{HasMetAtDesk, HasTried, HasTriedIfAbsent, HasTriedToList};
+ghost use Rattle.mc_cache.specs.Turns.{HasLookedInTurn, HasMetAtDesk, HasTried, HasTriedIfAbsent, HasTriedToList};
 ghost use Rattle.mc_words.specs.History.{key_count};
 
 use crate::cache::Cache;
@@ -58,7 +58,7 @@ fn turned<T, E>(answer: Result<T, E>) -> Result<T, DeskError<E>>
 
 /// A turn that puts.
 #[inline(always)]
-pub(crate) fn put_in_turn<const V: usize>(
+pub fn put_in_turn<const V: usize>(
     cache: &Cache<V>,
     pass: &mut Reader<V>,
     writer: &mut Writer<V>,
@@ -79,7 +79,7 @@ pub(crate) fn put_in_turn<const V: usize>(
 }
 
 /// A turn that puts on a condition.
-pub(crate) fn put_if_in_turn<const V: usize>(
+pub fn put_if_in_turn<const V: usize>(
     cache: &Cache<V>,
     pass: &mut Reader<V>,
     writer: &mut Writer<V>,
@@ -101,7 +101,7 @@ pub(crate) fn put_if_in_turn<const V: usize>(
 }
 
 /// A turn that puts a key only if it is absent.
-pub(crate) fn put_if_absent_in_turn<const V: usize>(
+pub fn put_if_absent_in_turn<const V: usize>(
     cache: &Cache<V>,
     pass: &mut Reader<V>,
     writer: &mut Writer<V>,
@@ -122,7 +122,7 @@ pub(crate) fn put_if_absent_in_turn<const V: usize>(
 }
 
 /// A turn that removes.
-pub(crate) fn remove_in_turn<const V: usize>(
+pub fn remove_in_turn<const V: usize>(
     cache: &Cache<V>,
     pass: &mut Reader<V>,
     writer: &mut Writer<V>,
@@ -142,7 +142,7 @@ pub(crate) fn remove_in_turn<const V: usize>(
 }
 
 /// A turn that puts a key and returns the entry that gives way.
-pub(crate) fn swap_in_turn<const V: usize>(
+pub fn swap_in_turn<const V: usize>(
     cache: &Cache<V>,
     pass: &mut Reader<V>,
     writer: &mut Writer<V>,
@@ -163,7 +163,7 @@ pub(crate) fn swap_in_turn<const V: usize>(
 }
 
 /// A turn that overwrites on a condition and returns the earlier entry.
-pub(crate) fn swap_if_in_turn<const V: usize>(
+pub fn swap_if_in_turn<const V: usize>(
     cache: &Cache<V>,
     pass: &mut Reader<V>,
     writer: &mut Writer<V>,
@@ -185,7 +185,7 @@ pub(crate) fn swap_if_in_turn<const V: usize>(
 }
 
 /// A turn that removes a key and returns its entry.
-pub(crate) fn take_in_turn<const V: usize>(
+pub fn take_in_turn<const V: usize>(
     cache: &Cache<V>,
     pass: &mut Reader<V>,
     writer: &mut Writer<V>,
@@ -205,7 +205,7 @@ pub(crate) fn take_in_turn<const V: usize>(
 }
 
 /// A turn that looks a key up beside the writer.
-pub(crate) fn get_in_turn<const V: usize>(
+pub fn get_in_turn<const V: usize>(
     cache: &Cache<V>,
     pass: &mut Reader<V>,
     writer: &mut Writer<V>,
@@ -220,7 +220,7 @@ pub(crate) fn get_in_turn<const V: usize>(
 }
 
 /// A turn that lists the entries.
-pub(crate) fn list_in_turn<const V: usize>(
+pub fn list_in_turn<const V: usize>(
     alloc: Global,
     cache: &Cache<V>,
     pass: &mut Reader<V>,
@@ -237,7 +237,7 @@ pub(crate) fn list_in_turn<const V: usize>(
 }
 
 /// A turn that lists the entries with their stamps.
-pub(crate) fn list_stamped_in_turn<const V: usize>(
+pub fn list_stamped_in_turn<const V: usize>(
     alloc: Global,
     cache: &Cache<V>,
     pass: &mut Reader<V>,
@@ -254,7 +254,7 @@ pub(crate) fn list_stamped_in_turn<const V: usize>(
 }
 
 /// A turn that counts the keys.
-pub(crate) fn count_in_turn<const V: usize>(
+pub fn count_in_turn<const V: usize>(
     cache: &Cache<V>,
     pass: &mut Reader<V>,
     writer: &mut Writer<V>,

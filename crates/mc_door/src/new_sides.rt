@@ -194,11 +194,8 @@ impl<const V: usize> NewSides<V> {
             return Err(OpenError::NoMemory);
         };
         move_readers(&cache, &mut spares, &mut readers, passes as usize);
-        let Ok(desk) = Desk::new(alloc, writer) else {
-            return Err(OpenError::NoMemory);
-        };
         let at_desk = AtDesk {
-            desk: Some(desk),
+            desk: Some(Desk::new(writer)),
             spares,
         };
         let Ok(desk) = Arc::new(alloc, at_desk) else {

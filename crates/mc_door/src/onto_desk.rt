@@ -51,19 +51,9 @@ impl<const V: usize> WriterSide<V> {
             writer,
             mut spares,
         } = self;
-        let desk = match Desk::new(alloc, writer) {
-            Ok(desk) => desk,
-            Err(failed) => {
-                return Err(WriterSide {
-                    cache,
-                    writer: failed.value,
-                    spares,
-                });
-            }
-        };
         move_readers(&cache, &mut spares, &mut readers, passes);
         *place = AtDesk {
-            desk: Some(desk),
+            desk: Some(Desk::new(writer)),
             spares,
         };
         Ok(NewSides {

@@ -27,7 +27,7 @@ pub record AreBooksOf (V : ℕ) (books : Books) (s : State V) : Type 0 where
   pub stands : s.hand < (shape_of books.checked).items
   pub version_steps : books.version_steps ≡ s.version_steps
   pub limit : s.version_steps ≤ (shape_of books.checked).limit
-  pub finder : books.finder ≡ shape_of books.checked
+  pub finder : books.far.value.finder ≡ shape_of books.checked
   pub kept : IsConsistent books.free
   pub items : books.free.items ≡ (shape_of books.checked).items
   pub free : (i : ℕ) → IsFreeIn books.free i → IsFree (shape_of books.checked) s.words i
@@ -52,7 +52,7 @@ pub record IsLackingKey (V : ℕ) (books : Books) (k : ℕ) (v : List ℕ) (s : 
 -- and it finds this room, by a least path
 pub record HasRoom (V : ℕ) (books : Books) (k : ℕ) (v : List ℕ) (s : State V) (at : ℕ) (room : Room) : Type 0 where
   pub lacks : IsLackingKey V books k v s at
-  pub least : IsLeastPath (shape_of books.checked) s.words k (path_of_room books.path room)
+  pub least : IsLeastPath (shape_of books.checked) s.words k (path_of_room books.far.value.path room)
 
 -- the put of such a key has this room, and no item is free
 pub record Waits (V : ℕ) (books : Books) (k : ℕ) (v : List ℕ) (s : State V) (room : Room) : Type 0 where
@@ -61,7 +61,7 @@ pub record Waits (V : ℕ) (books : Books) (k : ℕ) (v : List ℕ) (s : State V
   pub value : IsValue V v
   pub unspent : PutIsSpent (shape_of books.checked) (quiet_of s) → ⊥
   pub absent : IsAbsent V (shape_of books.checked) s.words k
-  pub least : IsLeastPath (shape_of books.checked) s.words k (path_of_room books.path room)
+  pub least : IsLeastPath (shape_of books.checked) s.words k (path_of_room books.far.value.path room)
   pub none : (i : ℕ) → IsFreeIn books.free i → ⊥
 
 -- the hand looks for an item for a put that began in state s, and has read these bits

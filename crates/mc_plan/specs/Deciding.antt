@@ -59,15 +59,15 @@ IsIfDecided V books k since v s (Err why) = IsPlanned V books [] (PutIfCall k si
 -- the put of a new key that finds this room in state s is decided: the acts of its plan and its answer, or it waits
 abbrev pub IsInserted : (V : ℕ) → Books → ℕ → List ℕ → State V → Room → Option Storing → Type 0
 IsInserted V books k v s room (Some storing) =
-    (storing.item < (shape_of books.checked).items) × IsPlanned V books (storing_acts books.moves.items (shape_of books.checked) k v storing) (PutCall k v) s s (answer.Put (Ok (storing_told books.moves.items storing None)))
+    (storing.item < (shape_of books.checked).items) × IsPlanned V books (storing_acts books.far.value.moves.items (shape_of books.checked) k v storing) (PutCall k v) s s (answer.Put (Ok (storing_told books.far.value.moves.items storing None)))
 IsInserted V books k v s room None = Waits V books k v s room
 
 -- the sweep of a put has these readings, the item that it found is taken from the victim, and the put's key is stored there
 pub record IsReplaced (V : ℕ) (books : Books) (waiting : Waiting V) (call : Call) (s : State V) (rs : List Swept) (r : Replacement) : Type 0 where
   pub in_items : r.storing.item < (shape_of books.checked).items
   pub parts : HasParts (shape_of books.checked) r.victim.key r.victim.parts
-  pub planned : IsPlanned V books (replacement_acts books.moves.items (shape_of books.checked) waiting.key waiting.value r) call s (state_after_sweep V (shape_of books.checked) s rs) (answer.Put (Ok (storing_told books.moves.items r.storing (Some r.victim.key))))
-  pub sweeps : IsSweepOf V (shape_of books.checked) s rs (answer.Put (Ok (storing_told books.moves.items r.storing (Some r.victim.key))))
+  pub planned : IsPlanned V books (replacement_acts books.far.value.moves.items (shape_of books.checked) waiting.key waiting.value r) call s (state_after_sweep V (shape_of books.checked) s rs) (answer.Put (Ok (storing_told books.far.value.moves.items r.storing (Some r.victim.key))))
+  pub sweeps : IsSweepOf V (shape_of books.checked) s rs (answer.Put (Ok (storing_told books.far.value.moves.items r.storing (Some r.victim.key))))
 
 -- after these readings the put is refused, and changes nothing of the map
 abbrev pub IsRefusedAfter : (V : ℕ) → Books → Call → State V → List Swept → PutError → Type 0

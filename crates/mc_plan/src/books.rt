@@ -9,29 +9,25 @@ ghost use Rattle.mc_theory.specs.States.{State, opening};
 mod inserting;
 
 use crate::answer::{IfError, PutError, Spent};
-use crate::decision::{Decision, Move, Removal, Renewal, Vacancy};
+use crate::decision::{Decision, Removal, Renewal, Vacancy};
+use crate::far::Far;
 use crate::value::have_words;
-use arrayvec::ArrayVec;
-use mc_search::{Finder, FreeItems, Path, Sweep, find, find_by, moment, stamp_at};
+use mc_search::{FreeItems, Sweep, find, find_by, moment, stamp_at};
 use mc_theory::Peek;
-use mc_words::{Checked, KeyParts, NoMemory, Place};
+use mc_words::{Checked, KeyParts, NoMemory};
 use std::alloc::Global;
 
 /// The writer's bookkeeping beside the words: which items are free, where the hand stands, how many version changes were made.
 #[derive(Drop)]
 pub struct Books {
-    // Most puts write the fields that come first, and only read the others. So a turn on another processor fetches few lines.
     /// The version changes, with those of what was decided.
     version_steps: u64,
     /// The item at which the hand stands, but while a call sweeps: at which it stood when the call began.
     hand: u32,
     free: FreeItems,
     pub(crate) checked: Checked,
-    finder: Finder,
-    /// The path of the last put that needed more than one move.
-    path: Path,
-    /// The moves of the last path.
-    moves: ArrayVec<Move, 8>,
+    // Few puts need it, and it is large. A turn moves the writer, so it lies elsewhere.
+    far: Box<Far>,
 }
 
 impl Books {
@@ -44,16 +40,17 @@ impl Books {
         ensures books { IfOk result (λ books. (V : ℕ) → IsWidth V → AreBooksOf V books (opening V (shape_of checked.now))) }
         ensures shape { IfOk result (λ books. books.checked ≡ checked.now) }
     {
-        let finder = Finder::new(alloc, checked)?;
+        let far = Far::new(alloc, checked)?;
+        let Ok(far) = Box::new(alloc, far) else {
+            return Err(NoMemory);
+        };
         let free = FreeItems::new(alloc, checked.shape().items)?;
         Ok(Books {
             version_steps: 0,
             hand: 0,
             free,
             checked: *checked,
-            finder,
-            path: Path::direct(Place::default()),
-            moves: ArrayVec::new(),
+            far,
         })
     }
 

@@ -21,6 +21,7 @@ mod answer;
 mod books;
 mod clerk;
 mod decision;
+mod far;
 mod fill;
 pub mod laws;
 mod listing;

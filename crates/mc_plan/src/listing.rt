@@ -38,7 +38,7 @@ fn add_renewal<const V: usize>(acts: &mut Plan, key: u64, value: &[u64; V], at: 
 /// Adds the acts of the moves. Of more than one the books keep the list.
 fn add_moves_of(books: &Books, acts: &mut Plan, moves: Moves)
     requires room { array_vec_len acts.old ≤ 4 }
-    ensures items { acts.new.items ≡ acts.old.items ++ acts_of_moves (moves_of books.now.moves.items moves) }
+    ensures items { acts.new.items ≡ acts.old.items ++ acts_of_moves (moves_of books.now.far.value.moves.items moves) }
     ensures few { array_vec_len acts.new ≤ array_vec_len acts.old + 32 }
 {
     match moves {
@@ -59,7 +59,7 @@ fn add_storing<const V: usize>(
     requires width { IsWidth V }
     requires room { array_vec_len acts.old ≤ 4 }
     requires item { storing.item < (shape_of books.now.checked).items }
-    ensures items { acts.new.items ≡ acts.old.items ++ storing_acts books.now.moves.items (shape_of books.now.checked) key value.now storing }
+    ensures items { acts.new.items ≡ acts.old.items ++ storing_acts books.now.far.value.moves.items (shape_of books.now.checked) key value.now storing }
     ensures fits { array_vec_len acts.new ≤ 64 }
 {
     add_moves_of(books, acts, storing.moves);
@@ -86,7 +86,7 @@ fn add_replacement<const V: usize>(
     requires width { IsWidth V }
     requires none { acts.old.items ≡ [] }
     requires item { taken.storing.item < (shape_of books.now.checked).items }
-    ensures items { acts.new.items ≡ replacement_acts books.now.moves.items (shape_of books.now.checked) key value.now taken }
+    ensures items { acts.new.items ≡ replacement_acts books.now.far.value.moves.items (shape_of books.now.checked) key value.now taken }
     ensures fits { array_vec_len acts.new ≤ 64 }
 {
     add_evict(acts, taken.victim.key, taken.victim.place);

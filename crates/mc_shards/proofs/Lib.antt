@@ -6,3 +6,4 @@ pub mod ListedShards
 pub mod LoadedShards
 pub mod Spread
 pub mod Sent
+pub mod LentWriters

@@ -1,16 +1,16 @@
 -- Shards that are opened with entries: what they load, entry by entry, and what they hold of it.
-use Rattle.std.proofs.Common.{ℕ, zero, suc, ◌≡◌, ◌≢◌, ◌+◌, ◌<◌, ◌≤◌, ◌∙◌, Bool, true, false, cond, eqb, List, [], ◌∷◌, ◌++◌, length, map, reverse, Option, Some, None, Result, Ok, Err, All, ap, append-nil, append_assoc, arith, eq-eqb, get_or, inl, inr, ne_eqb, refl, subst, sym, take}
+use Rattle.std.proofs.Common.{ℕ, zero, suc, ◌≡◌, ◌+◌, ◌<◌, ◌≤◌, ◌∙◌, Bool, true, false, cond, eqb, List, [], ◌∷◌, ◌++◌, length, map, reverse, Some, Result, Ok, Err, All, ap, append-nil, append_assoc, arith, eq-eqb, get_or, inl, inr, ne_eqb, refl, subst, sym, take}
 use Rattle.std.specs.List.{filter}
 use Rattle.std.specs.Map.{lookup}
 use Rattle.std.specs.Option.{option_map}
-use Rattle.std.specs.Prelude.{EachIndex, slice_get, slice_set}
+use Rattle.std.specs.Prelude.{slice_get, slice_set}
 use Rattle.std.proofs.Math.Seq.{map-set_same, take-append_seam}
 use lib.Seq.{set-get_or}
 use Rattle.std.proofs.lemmas.Bool.{cases_eq}
 use Rattle.std.proofs.lemmas.List.{get_or-map, get_or-set_other, get_or-set_same, length-map, length-set, map-append, map-set, reverse-append, reverse-reverse}
 use Rattle.std.proofs.lemmas.List.Elements.{All-append, All-cons, All-filter, All-get_or, All-head, All-map, All-nil, All-set, All-tail, All-weaker, filter-append}
 use Rattle.std.proofs.lemmas.Option.{get_or_from_slice_get, none-some, same_Some, slice_get-map, slice_get_read, slice_get_within}
-use Rattle.mc_words.specs.History.{IsLegal, map_value, value_held, value_of}
+use Rattle.mc_words.specs.History.{IsLegal, value_held, value_of}
 use Rattle.mc_words.specs.Keys.{shard_of}
 use Rattle.mc_words.specs.declared.history.Change.{Change}
 use Rattle.mc_words.specs.declared.history.Change.TheVariants as change
@@ -32,7 +32,7 @@ use Rattle.mc_cache.proofs.LoadedEntries.{kept_history}
 use Rattle.mc_cache.proofs.PlainCalls.{seen_new}
 use Rattle.mc_shards.specs.Own.{own_of}
 use Rattle.mc_shards.specs.Loadings.{HaveMet, HoldEntries, ShardsLoad, new_writers, puts_of}
-use Rattle.mc_shards.specs.Plain.{history_of, seens}
+use Rattle.mc_shards.specs.Plain.{seens}
 use Rattle.mc_shards.specs.Sharded.{ChangesAt}
 use Rattle.mc_shards.proofs.Dealt.{changes}
 use Rattle.mc_shards.proofs.Entries.{Entry, own_lookup}

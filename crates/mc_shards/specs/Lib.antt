@@ -6,4 +6,5 @@ pub mod Loadings
 pub mod OneMap
 pub mod Spread
 pub mod Sizing
+pub mod Lending
 pub mod Inside

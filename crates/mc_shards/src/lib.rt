@@ -1,7 +1,7 @@
-//! A cache of shards: caches of one shape, each with a desk of its own, among which keys are divided.
+//! A cache of shards: caches of one shape, each with its writer, among which keys are divided.
 //!
 //! A part of the mixed key that no table uses says which shard a key belongs to. Lend the `Shards` to every thread. A `Pass` belongs to
-//! one thread at a time, and has a reader of each shard. A call for a key is the call of its shard's cache, by a turn at its desk if it
+//! one thread at a time, and has a reader of each shard. A call for a key is the call of its shard's cache, by a turn if it
 //! writes; the other shards stay as they are. Only opening, closing and listing allocate, and no call waits.
 //!
 //! ```text
@@ -19,6 +19,7 @@
 
 mod closing;
 pub mod laws;
+mod lending;
 mod listing;
 mod loading;
 mod opening;

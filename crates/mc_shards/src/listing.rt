@@ -47,9 +47,9 @@ impl<const V: usize> Pass<V> {
             (λ h h'. AddsShard V shards.now.shape.mix (length shards.now.tables) n h' all.old.items all.new.items)) }
     {
         let cache = shards.cache(n);
-        let desk = shards.desk(n);
+        let lender = shards.lender(n);
         let reader = &mut self.readers[n];
-        let entries = desk.try_entries(alloc, cache, reader)?;
+        let entries = lender.try_entries(alloc, cache, reader)?;
         let Ok(()) = list_own(shards.shape.mix, shards.count(), n as u32, entries, all) else {
             return Err(DeskError::Call(NoMemory));
         };

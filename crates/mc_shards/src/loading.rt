@@ -15,7 +15,7 @@ ghost use Rattle.mc_shards.specs.Openings.{RefusesShards};
 ghost use Rattle.mc_shards.specs.Plain.{seens};
 ghost use Rattle.mc_shards.specs.Sharded.{ArePassOf, ChangesAt};
 
-use crate::opening::{OpenShardsError, check_opening, desks_of, open_all, push_to};
+use crate::opening::{OpenShardsError, check_opening, lenders_of, open_all, push_to};
 use crate::pass::Pass;
 use crate::shards::Shards;
 use mc_cache::{Cache, OpenError, Put, Shape, Why, Writer};
@@ -137,11 +137,11 @@ pub fn open_shards_with<const V: usize>(
     let mut left = Vec::new(alloc);
     load(shape, &caches, &mut writers, entries, &mut left)?;
     meet_all(&caches, &mut writers, &mut passes);
-    let desks = desks_of::<V>(alloc, writers)?;
+    let lenders = lenders_of::<V>(alloc, writers)?;
     let shards = Shards {
         shape,
         caches,
-        desks,
+        lenders,
     };
     Ok(OpenedShards {
         shards,

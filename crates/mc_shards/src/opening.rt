@@ -14,9 +14,10 @@ ghost use Rattle.mc_shards.specs.Loadings.{new_writers};
 ghost use Rattle.mc_shards.specs.Inside.Dealt.{AreDealt};
 ghost use Rattle.mc_shards.specs.Sharded.{ArePassOf};
 
+use crate::lending::Lender;
 use crate::pass::Pass;
 use crate::shards::Shards;
-use mc_cache::{Cache, Desk, OpenError, Reader, Shape, Writer, open};
+use mc_cache::{Cache, OpenError, Reader, Shape, Writer, open};
 use mc_words::{MOST_READERS, can_shard};
 use std::alloc::{AllocError, Global};
 use thiserror::Error;
@@ -167,26 +168,26 @@ pub(crate) fn open_all<const V: usize>(
     Ok((caches, writers, given))
 }
 
-// A desk for each writer.
-pub(crate) fn desks_of<const V: usize>(
+// A place for each writer.
+pub(crate) fn lenders_of<const V: usize>(
     alloc: Global,
     writers: Vec<Writer<V>>,
-) -> Result<Vec<Desk<V>>, OpenError>
-    ensures desks { MatchResult result (λ desks. desks.items ≡ map (λ w. w.of) writers.entry.items) (λ e. e ≡ NoMemory) }
-    ensures legal { IfOk result (λ desks. All (λ w. IsLegal w.of.layout.shape.items (history V w)) writers.entry.items) }
+) -> Result<Vec<Lender<V>>, OpenError>
+    ensures lenders { MatchResult result (λ lenders. lenders.items ≡ map (λ w. w.of) writers.entry.items) (λ e. e ≡ NoMemory) }
+    ensures legal { IfOk result (λ lenders. All (λ w. IsLegal w.of.layout.shape.items (history V w)) writers.entry.items) }
 {
-    let mut desks = Vec::new(alloc);
+    let mut lenders = Vec::new(alloc);
     for writer in writers {
         writer.known();
-        let Ok(desk) = Desk::new(alloc, writer) else {
+        let Ok(lender) = Lender::new(alloc, writer) else {
             return Err(OpenError::NoMemory);
         };
-        push_to(&mut desks, desk)?;
+        push_to(&mut lenders, lender)?;
     }
-    Ok(desks)
+    Ok(lenders)
 }
 
-/// Opens that many shards, each an empty cache of this shape with its writer on a desk, and that many passes. Returns the first error
+/// Opens that many shards, each an empty cache of this shape, and that many passes. Returns the first error
 /// that applies: `Shards` if their number is no power of two from 1 to 256, then those of `mc_cache::open`. After an error nothing leaks.
 /// Condition: a value has from 1 to 8 words.
 pub fn open_shards<const V: usize>(
@@ -204,11 +205,11 @@ pub fn open_shards<const V: usize>(
 {
     check_opening(shape, shards, passes)?;
     let (caches, writers, passes) = open_all::<V>(alloc, shape, shards, passes)?;
-    let desks = desks_of::<V>(alloc, writers)?;
+    let lenders = lenders_of::<V>(alloc, writers)?;
     let shards = Shards {
         shape,
         caches,
-        desks,
+        lenders,
     };
     Ok((shards, passes))
 }

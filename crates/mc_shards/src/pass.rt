@@ -53,9 +53,9 @@ impl<const V: usize> Pass<V> {
     {
         let n = shards.shard_of(key);
         let cache = shards.cache(n);
-        let desk = shards.desk(n);
+        let lender = shards.lender(n);
         let reader = &mut self.readers[n];
-        reader.get_or_desk(cache, desk, key)
+        lender.get_or_lend(cache, reader, key)
     }
 
     /// Tries once for the turn of the key's shard, and with it puts the key, as `Desk::try_put` does. Condition: the pass is of these shards.
@@ -75,9 +75,9 @@ impl<const V: usize> Pass<V> {
     {
         let n = shards.shard_of(key);
         let cache = shards.cache(n);
-        let desk = shards.desk(n);
+        let lender = shards.lender(n);
         let reader = &mut self.readers[n];
-        desk.try_put(cache, reader, key, value)
+        lender.try_put(cache, reader, key, value)
     }
 
     /// Like `try_put`, with up to that many tries, one after the other without a pause. `Held` if none of them won.
@@ -122,9 +122,9 @@ impl<const V: usize> Pass<V> {
     {
         let n = shards.shard_of(key);
         let cache = shards.cache(n);
-        let desk = shards.desk(n);
+        let lender = shards.lender(n);
         let reader = &mut self.readers[n];
-        desk.try_put_if(cache, reader, key, since, value)
+        lender.try_put_if(cache, reader, key, since, value)
     }
 
     /// Like `try_put`, with `Desk::try_put_if_absent`.
@@ -144,9 +144,9 @@ impl<const V: usize> Pass<V> {
     {
         let n = shards.shard_of(key);
         let cache = shards.cache(n);
-        let desk = shards.desk(n);
+        let lender = shards.lender(n);
         let reader = &mut self.readers[n];
-        desk.try_put_if_absent(cache, reader, key, value)
+        lender.try_put_if_absent(cache, reader, key, value)
     }
 
     /// Like `try_put`, with `Desk::try_remove`.
@@ -161,9 +161,9 @@ impl<const V: usize> Pass<V> {
     {
         let n = shards.shard_of(key);
         let cache = shards.cache(n);
-        let desk = shards.desk(n);
+        let lender = shards.lender(n);
         let reader = &mut self.readers[n];
-        desk.try_remove(cache, reader, key)
+        lender.try_remove(cache, reader, key)
     }
 
     /// Looks the keys up. Equivalent to calling `get` for each key in order.

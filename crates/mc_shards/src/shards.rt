@@ -1,18 +1,19 @@
-//! The caches of the shards, with a desk each.
+//! The caches of the shards, and where their writers lie.
 ghost use Rattle.std.specs.Prelude.{◌≡◌, ◌<◌, ◌*◌, Some, length, slice_get};
 ghost use Rattle.mc_shards.specs.Sharded.{shard_in};
 
-use mc_cache::{Cache, Desk, Shape};
+use crate::lending::Lender;
+use mc_cache::{Cache, Shape};
 use std::marker::Model;
 
-/// A cache of shards: caches of one shape, each with its writer on a desk. Lend it to every thread. In contracts it is the tables that
+/// A cache of shards: caches of one shape, each with its writer, which is lent for a turn. Lend it to every thread. In contracts it is the tables that
 /// were opened, and the shape of each.
 #[derive(Drop)]
 pub struct Shards<const V: usize> {
     pub(crate) shape: Shape,
     // A lookup that isn't busy reads these alone.
     pub(crate) caches: Vec<Cache<V>>,
-    pub(crate) desks: Vec<Desk<V>>,
+    pub(crate) lenders: Vec<Lender<V>>,
 }
 
 impl<const V: usize> Model for Shards<V> {
@@ -23,7 +24,7 @@ impl<const V: usize> Model for Shards<V> {
 
     ghost view = { λ s. sharded s.shape s.caches.items };
 
-    ghost invariant = { λ s. AreShards V s.shape s.caches.items s.desks.items };
+    ghost invariant = { λ s. AreShards V s.shape s.caches.items s.lenders.items };
 }
 
 impl<const V: usize> Shards<V> {
@@ -64,12 +65,12 @@ impl<const V: usize> Shards<V> {
         &self.caches[n]
     }
 
-    // The desk of a shard.
+    // Where the writer of a shard lies.
     #[inline(always)]
-    pub(crate) fn desk(&self, n: usize) -> &Desk<V>
+    pub(crate) fn lender(&self, n: usize) -> &Lender<V>
         requires { n < length self.now.tables }
         ensures table { slice_get self.now.tables n ≡ Some result.now }
     {
-        &self.desks[n]
+        &self.lenders[n]
     }
 }

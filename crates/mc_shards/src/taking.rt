@@ -29,9 +29,9 @@ impl<const V: usize> Pass<V> {
     {
         let n = shards.shard_of(key);
         let cache = shards.cache(n);
-        let desk = shards.desk(n);
+        let lender = shards.lender(n);
         let reader = &mut self.readers[n];
-        desk.try_swap(cache, reader, key, value)
+        lender.try_swap(cache, reader, key, value)
     }
 
     /// Like `try_put`, with `Desk::try_swap_if`.
@@ -52,9 +52,9 @@ impl<const V: usize> Pass<V> {
     {
         let n = shards.shard_of(key);
         let cache = shards.cache(n);
-        let desk = shards.desk(n);
+        let lender = shards.lender(n);
         let reader = &mut self.readers[n];
-        desk.try_swap_if(cache, reader, key, since, value)
+        lender.try_swap_if(cache, reader, key, since, value)
     }
 
     /// Like `try_put`, with `Desk::try_take`.
@@ -69,8 +69,8 @@ impl<const V: usize> Pass<V> {
     {
         let n = shards.shard_of(key);
         let cache = shards.cache(n);
-        let desk = shards.desk(n);
+        let lender = shards.lender(n);
         let reader = &mut self.readers[n];
-        desk.try_take(cache, reader, key)
+        lender.try_take(cache, reader, key)
     }
 }

@@ -33,13 +33,13 @@ agrees_read V p q b rs layout known read =
 
 module _ (V : ℕ) (b : Books) (k : ℕ) (v : List ℕ) (p q : Pen V) (r : Replacement) (is : IsChosen V b k v p q r) where
   -- the acts of the replacement are due
-  pub chosen_due : IsDue V (replacement_acts b.moves.items q.cells.now.layout.shape k v r) q
-  chosen_due = due_now V p q b b (PutCall k v) (answer.Put (Ok (storing_told b.moves.items r.storing (Some r.victim.key)))) (λ sh. replacement_acts b.moves.items sh k v r) is.readings is.layout refl is.read is.planned
+  pub chosen_due : IsDue V (replacement_acts b.far.value.moves.items q.cells.now.layout.shape k v r) q
+  chosen_due = due_now V p q b b (PutCall k v) (answer.Put (Ok (storing_told b.far.value.moves.items r.storing (Some r.victim.key)))) (λ sh. replacement_acts b.far.value.moves.items sh k v r) is.readings is.layout refl is.read is.planned
 
   -- and once they are made, the put is over
-  pub chosen_made : (after : Pen V) → HasMade V (replacement_acts b.moves.items q.cells.now.layout.shape k v r) q after
-      → IsSamePen V p after × HasCalled V p.cells.now.layout.shape (PutCall k v) p.seat.now after.seat.now (answer.Put (Ok (storing_told b.moves.items r.storing (Some r.victim.key)))) × IsRested V b after.seat.now
-  chosen_made after m = made_now V p q b b (PutCall k v) (answer.Put (Ok (storing_told b.moves.items r.storing (Some r.victim.key)))) (λ sh. replacement_acts b.moves.items sh k v r) is.readings is.layout refl is.read is.planned after m is.sweeps
+  pub chosen_made : (after : Pen V) → HasMade V (replacement_acts b.far.value.moves.items q.cells.now.layout.shape k v r) q after
+      → IsSamePen V p after × HasCalled V p.cells.now.layout.shape (PutCall k v) p.seat.now after.seat.now (answer.Put (Ok (storing_told b.far.value.moves.items r.storing (Some r.victim.key)))) × IsRested V b after.seat.now
+  chosen_made after m = made_now V p q b b (PutCall k v) (answer.Put (Ok (storing_told b.far.value.moves.items r.storing (Some r.victim.key)))) (λ sh. replacement_acts b.far.value.moves.items sh k v r) is.readings is.layout refl is.read is.planned after m is.sweeps
 
 -- a put for which the hand did not go round evicts nothing: what gives way is the key itself, which the map did not hold
 pub unswept_old : (V : ℕ) (sh : Shape) (s : State V) (k : ℕ) (told : Put) → IsSweepOf V sh s [] (answer.Put (Ok told)) → map_value s.history k ≡ None → map_value s.history (giving_way k told) ≡ None

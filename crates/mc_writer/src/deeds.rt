@@ -171,8 +171,8 @@ impl<'a, const V: usize> Pen<'a, V> {
     // Makes the moves. Of more than one the books have the list.
     #[inline(always)]
     fn make_moves_of(&mut self, books: &Books, moves: Moves)
-        requires due { IsDue V (acts_of_moves (moves_of books.now.moves.items moves)) self.old }
-        ensures made { HasMade V (acts_of_moves (moves_of books.now.moves.items moves)) self.old self.new }
+        requires due { IsDue V (acts_of_moves (moves_of books.now.far.value.moves.items moves)) self.old }
+        ensures made { HasMade V (acts_of_moves (moves_of books.now.far.value.moves.items moves)) self.old self.new }
     {
         match moves {
             Moves::Unneeded => {}
@@ -193,9 +193,9 @@ impl<'a, const V: usize> Pen<'a, V> {
     )
         requires width { IsWidth V }
         requires item { storing.item < self.old.cells.now.layout.shape.items }
-        requires due { IsDue V (storing_acts books.now.moves.items self.old.cells.now.layout.shape key value.now storing) self.old }
+        requires due { IsDue V (storing_acts books.now.far.value.moves.items self.old.cells.now.layout.shape key value.now storing) self.old }
         requires parts { HasParts self.old.cells.now.layout.shape key parts }
-        ensures made { HasMade V (storing_acts books.now.moves.items self.old.cells.now.layout.shape key value.now storing) self.old self.new }
+        ensures made { HasMade V (storing_acts books.now.far.value.moves.items self.old.cells.now.layout.shape key value.now storing) self.old self.new }
     {
         self.make_moves_of(books, storing.moves);
         self.make_filling(key, parts, value, storing.at, storing.item, storing.place);
@@ -213,10 +213,10 @@ impl<'a, const V: usize> Pen<'a, V> {
     )
         requires width { IsWidth V }
         requires item { taken.storing.item < self.old.cells.now.layout.shape.items }
-        requires due { IsDue V (replacement_acts books.now.moves.items self.old.cells.now.layout.shape key value.now taken) self.old }
+        requires due { IsDue V (replacement_acts books.now.far.value.moves.items self.old.cells.now.layout.shape key value.now taken) self.old }
         requires parts { HasParts self.old.cells.now.layout.shape key parts }
         requires victim { HasParts self.old.cells.now.layout.shape taken.victim.key taken.victim.parts }
-        ensures made { HasMade V (replacement_acts books.now.moves.items self.old.cells.now.layout.shape key value.now taken) self.old self.new }
+        ensures made { HasMade V (replacement_acts books.now.far.value.moves.items self.old.cells.now.layout.shape key value.now taken) self.old self.new }
     {
         let victim = taken.victim;
         self.take_out(victim.key, victim.parts, Deed::Evict, victim.place);

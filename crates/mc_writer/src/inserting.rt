@@ -132,7 +132,7 @@ impl<'a, const V: usize> Pen<'a, V> {
         ensures called { (before : Pen V) → IsChosen V books.now key value.now before self.old taken →
             HasCalled V before.cells.now.layout.shape (PutCall key value.now) before.seat.now self.new.seat.now (answer.Put (Ok result)) }
         ensures rested { IsRested V books.now self.new.seat.now }
-        ensures told { result ≡ storing_told books.now.moves.items taken.storing (Some taken.victim.key) }
+        ensures told { result ≡ storing_told books.now.far.value.moves.items taken.storing (Some taken.victim.key) }
     {
         self.make_replacement(books, key, parts, value, taken);
         books.told(taken.storing, Some(taken.victim.key))

@@ -132,7 +132,7 @@ fn work_as_asked<R: Threads + Sync + Clock + CpuClock>(
     requires readers { All (λ r. r.of ≡ cache.now) readers.items }
 {
     if options.writers > 1 {
-        let desk = Desk::new(alloc, writer)?;
+        let desk = Desk::new(writer);
         work_by_turns(rt, alloc, cache, &desk, readers, options)
     } else {
         work(rt, alloc, cache, &mut writer, readers, options)

@@ -3,7 +3,6 @@
 #![tactic(auto)]
 
 mod closing;
-mod desk;
 mod loading;
 mod opening;
 mod seen;
@@ -28,7 +27,6 @@ fn see(alloc: Global, name: &str) -> Option<Seen> {
         "run" => Some(world::see_runs(alloc)),
         "moment" => Some(world::see_moments(alloc)),
         "close" => Some(closing::see_closing(alloc)),
-        "desk" => Some(desk::see_desk(alloc)),
         "load" => Some(loading::see_loading(alloc)),
         "shards" => Some(shards::see_shards(alloc)),
         "entries" => Some(loading::see_entries(alloc)),

@@ -50,7 +50,7 @@ fn is_alone_answered(cache: &Cache<1>, desk: &Desk<1>, pass: &mut Reader<1>) -> 
 #[test]
 fn one_thread_is_never_held(rt: HostRuntime) -> Result<(), Fail> {
     let (cache, writer, mut pass) = open_for_one(rt.alloc(), SMALL)?;
-    let desk = Desk::new(rt.alloc(), writer)?;
+    let desk = Desk::new(writer);
     let right = is_alone_answered(&cache, &desk, &mut pass);
     let moment = desk.end().map(|writer| writer.moment());
     assert!(rt; right && moment == Some(2));
@@ -76,7 +76,7 @@ fn goes_by_the_stamp(cache: &Cache<1>, desk: &Desk<1>, pass: &mut Reader<1>) -> 
 #[test]
 fn a_put_on_a_condition_is_told_why_not(rt: HostRuntime) -> Result<(), Fail> {
     let (cache, writer, mut pass) = open_for_one(rt.alloc(), SMALL)?;
-    let desk = Desk::new(rt.alloc(), writer)?;
+    let desk = Desk::new(writer);
     assert!(rt; goes_by_the_stamp(&cache, &desk, &mut pass));
     Ok(())
 }
@@ -133,7 +133,7 @@ fn callers_after<R: Threads + Sync>(
 ) -> Result<(Vec<Caller>, u64), Fail> {
     let (cache, writer, passes) = open::<1>(alloc, shape, writers.saturating_add(readers))?;
     let callers = callers_of(alloc, &cache, passes, writers as u64)?;
-    let desk = Desk::new(alloc, writer)?;
+    let desk = Desk::new(writer);
     let callers = call_in_threads(rt, &cache, &desk, callers)?;
     match desk.end() {
         Some(writer) => Ok((callers, writer.moment())),

@@ -26,7 +26,7 @@ fn a_list_has_stamps(rt: HostRuntime) -> Result<(), Fail> {
         return Err(Fail::new("no memory"));
     };
     assert!(rt; listed.as_slice() == LEFT.as_slice());
-    let desk = Desk::new(rt.alloc(), writer)?;
+    let desk = Desk::new(writer);
     let Ok(listed) = desk.try_stamped_entries(rt.alloc(), &cache, &mut pass) else {
         return Err(Fail::new("the try did not win, or no memory"));
     };

@@ -99,7 +99,7 @@ fn taken() -> Take<1> {
 #[test]
 fn a_turn_returns_the_entry_that_gives_way(rt: HostRuntime) -> Result<(), Fail> {
     let (cache, writer, mut pass) = open_for_one(rt.alloc(), small())?;
-    let desk = Desk::new(rt.alloc(), writer)?;
+    let desk = Desk::new(writer);
     assert!(rt; returns_entries(&cache, &desk, &mut pass));
     Ok(())
 }

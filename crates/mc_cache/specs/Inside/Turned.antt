@@ -5,9 +5,6 @@ use Rattle.mc_shared.specs.Records.{Opening, ReaderRecord, WriterRecord, reader_
 use Rattle.mc_shared.specs.Views.{IsFrontOf}
 use Rattle.mc_cache.specs.Orders.{HasAnsweredInOrder}
 use Rattle.mc_cache.specs.Turns.{IsLaidDown}
-use Rattle.mc_cache.specs.Beside.{HasLookedBeside}
-use Rattle.mc_cache.specs.Plain.{HasMet, TellsNow, history, seen}
-use Rattle.mc_words.specs.declared.history.Reply.{Reply}
 use Rattle.mc_cache.specs.declared.desk.DeskError.{DeskError}
 use Rattle.mc_cache.specs.declared.desk.DeskError.TheVariants.{Call}
 
@@ -33,12 +30,3 @@ pub record HasEnded (V : ℕ) (sh : Shape) (old new : ReaderRecord) (w : WriterR
 abbrev pub turned : {T E : Type 0} → Result T E → Result T (DeskError E)
 turned (Ok done) = Ok done
 turned (Err why) = Err (Call why)
-
--- the turn was got, and the key looked up beside the writer
-pub record HasLookedInTurn (V : ℕ) (o : Opening) (old new : ReaderRecord) (k : ℕ) (reply : Reply V) : Type 0 where
-  pub writer : WriterRecord
-  pub of : writer.of ≡ o
-  pub stands : IsLaidDown V writer
-  pub looked : HasLookedBeside V o.layout.shape k writer.acts old new reply
-  pub order : HasAnsweredInOrder V o.layout.shape writer old.number old.done
-  pub plain : HasMet V (seen V old) (seen V new) (history V writer) × TellsNow (history V writer) k reply

@@ -26,6 +26,7 @@ use Rattle.mc_plan.specs.declared.answer.Put.TheVariants as put
 use Rattle.mc_plan.specs.declared.answer.PutError.TheVariants as why
 use Rattle.mc_plan.specs.declared.answer.Remove.TheVariants as remove
 use Rattle.mc_plan.specs.declared.books.Books.{Books}
+use Rattle.mc_plan.specs.declared.far.Far.{Far}
 use Rattle.mc_search.specs.declared.free.FreeItems.{FreeItems}
 use Rattle.mc_search.specs.declared.path.Path.{Path}
 use Rattle.mc_plan.specs.WholeCalls.{Call, PutCall, RemoveCall, Means, Marks, MarksLast, AreOfDeeds, quiet_of}
@@ -260,24 +261,28 @@ stored_planned V b k v i at path free s shape key value old absent least keys in
 pub idle_planned : (V : ℕ) (b : Books) (call : Call) (s : State V) (told : Answer) → AreBooksOf V b s → Means (shape_of b.checked) call told s s → Marks V (shape_of b.checked) s.words call told [] → IsPlanned V b [] call s s told
 idle_planned V b call s told old means marks = record { allowed = tt; means = means; marks = marks; ends = old }
 
--- books that keep another path and list other moves
-books_listed : (V : ℕ) (b other : Books) (s : State V) → AreBooksOf V b s → AreBooksOf V (record b { path = other.path; moves = other.moves }) s
-books_listed V b other s old = record {
+-- the books with another path found, and other moves
+abbrev pub with_far : Books → Far → Books
+with_far b far = record b { far = record b.far { value = far } }
+
+-- they are those of the same state
+books_listed : (V : ℕ) (b : Books) (far : Far) (s : State V) → AreBooksOf V b s → far.finder ≡ b.far.value.finder → AreBooksOf V (with_far b far) s
+books_listed V b far s old same = record {
   width = old.width;
   quiet = old.quiet;
   hand = old.hand;
   stands = old.stands;
   version_steps = old.version_steps;
   limit = old.limit;
-  finder = old.finder;
+  finder = same ∙ old.finder;
   kept = old.kept;
   items = old.items;
   free = old.free;
   named = old.named;
 }
 
-pub listed_planned : (V : ℕ) (b other : Books) (plan : List Act) (call : Call) (s m : State V) (told : Answer) → IsPlanned V b plan call s m told → IsPlanned V (record b { path = other.path; moves = other.moves }) plan call s m told
-listed_planned V b other plan call s m told p = record { allowed = p.allowed; means = p.means; marks = p.marks; ends = books_listed V b other (state_after_acts V (shape_of b.checked) m plan) p.ends }
+pub listed_planned : (V : ℕ) (b : Books) (far : Far) (plan : List Act) (call : Call) (s m : State V) (told : Answer) → far.finder ≡ b.far.value.finder → IsPlanned V b plan call s m told → IsPlanned V (with_far b far) plan call s m told
+listed_planned V b far plan call s m told same p = record { allowed = p.allowed; means = p.means; marks = p.marks; ends = books_listed V b far (state_after_acts V (shape_of b.checked) m plan) p.ends same }
 
 -- books with another list of the same free items
 pub books_still : (V : ℕ) (b : Books) (s : State V) (free : FreeItems) → AreBooksOf V b s → IsConsistent free → free.items ≡ b.free.items → ((j : ℕ) → IsFreeIn b.free j → ⊥) → ((j : ℕ) → IsFreeIn free j → ⊥) → AreBooksOf V (record b { free = free }) s
@@ -331,18 +336,17 @@ module _ (V : ℕ) (b : Books) (s : State V) (w : List ℕ) (old : AreBooksOf V 
   pub placed_in : (k : ℕ) → IsPlaced V (shape_of b.checked) w k
   placed_in k = rw same (placed-quiet V (shape_of b.checked) s.words s.history k (agrees_quiet V (shape_of b.checked) s old.quiet))
 
-  pub none_in : (k : ℕ) → NoChain b.finder w k b.finder.depth → NoChain (shape_of b.checked) s.words k (shape_of b.checked).depth
-  none_in k none = subst (λ (sh : Shape). NoChain sh s.words k sh.depth) old.finder (subst (λ (x : List ℕ). NoChain b.finder x k b.finder.depth) same none)
+  -- what a finder says that is for tables of their shape
+  module _ (f : Shape) (for : f ≡ shape_of b.checked) where
+    pub none_in : (k : ℕ) → NoChain f w k f.depth → NoChain (shape_of b.checked) s.words k (shape_of b.checked).depth
+    none_in k none = subst (λ (sh : Shape). NoChain sh s.words k sh.depth) for (subst (λ (x : List ℕ). NoChain f x k f.depth) same none)
 
-  pub full_in : (k : ℕ) → NoChain b.finder w k 0 → NoChain (shape_of b.checked) s.words k 0
-  full_in k full = subst (λ (sh : Shape). NoChain sh s.words k 0) old.finder (subst (λ (x : List ℕ). NoChain b.finder x k 0) same full)
+    pub crowded_in : (k : ℕ) (parts : KeyParts) → HasParts (shape_of b.checked) k parts → NoChain (shape_of b.checked) s.words k 0 → IsCrowded f w k parts
+    crowded_in k parts has full =
+        subst (λ (sh : Shape). IsCrowded sh w k parts) (sym for) (record { has = has; full = subst (λ (x : List ℕ). NoChain (shape_of b.checked) x k 0) (sym same) full })
 
-  pub crowded_in : (k : ℕ) (parts : KeyParts) → HasParts (shape_of b.checked) k parts → NoChain (shape_of b.checked) s.words k 0 → IsCrowded b.finder w k parts
-  crowded_in k parts has full =
-      subst (λ (sh : Shape). IsCrowded sh w k parts) (sym old.finder) (record { has = has; full = subst (λ (x : List ℕ). NoChain (shape_of b.checked) x k 0) (sym same) full })
-
-  pub least_in : (k : ℕ) (path : Path) → IsLeastPath b.finder w k path → IsLeastPath (shape_of b.checked) s.words k path
-  least_in k path least = subst (λ (sh : Shape). IsLeastPath sh s.words k path) old.finder (subst (λ (x : List ℕ). IsLeastPath b.finder x k path) same least)
+    pub least_in : (k : ℕ) (path : Path) → IsLeastPath f w k path → IsLeastPath (shape_of b.checked) s.words k path
+    least_in k path least = subst (λ (sh : Shape). IsLeastPath sh s.words k path) for (subst (λ (x : List ℕ). IsLeastPath f x k path) same least)
 
   pub moment_in : (at : ℕ) → at ≡ moment w + 1 → at ≡ moment s.words + 1
   moment_in at is = is ∙ ap (λ (x : List ℕ). moment x + 1) same
@@ -371,7 +375,7 @@ opening_changes : (V : ℕ) (sh : Shape) → (opening V sh).version_steps ≡ 0
 unfolding opening
 opening_changes V sh = refl
 
-pub new_books : (V : ℕ) (b : Books) → IsWidth V → b.finder ≡ shape_of b.checked → b.hand ≡ 0 → b.version_steps ≡ 0 → IsConsistent b.free → b.free.items ≡ (shape_of b.checked).items → ((i : ℕ) → i < (shape_of b.checked).items → IsFreeIn b.free i) → AreBooksOf V b (opening V (shape_of b.checked))
+pub new_books : (V : ℕ) (b : Books) → IsWidth V → b.far.value.finder ≡ shape_of b.checked → b.hand ≡ 0 → b.version_steps ≡ 0 → IsConsistent b.free → b.free.items ≡ (shape_of b.checked).items → ((i : ℕ) → i < (shape_of b.checked).items → IsFreeIn b.free i) → AreBooksOf V b (opening V (shape_of b.checked))
 new_books V b width finder hand changes kept items all =
     let sh = shape_of b.checked in
     let none = opening_changes V sh in
@@ -389,21 +393,18 @@ new_books V b width finder hand changes kept items all =
       named = λ i l f. absurd (f (all i l));
     }
 
--- no path leads to a hole, and the finder is as it was: the put is refused
-pub no_path : (V : ℕ) (b other : Books) (s : State V) (w : List ℕ) (k at : ℕ) (v : List ℕ) → IsLackingKey V b k v s at → w ≡ s.words → other.finder ≡ b.finder → NoChain b.finder w k b.finder.depth
-    → IsWithoutPath V (record b { finder = other.finder; path = other.path }) k v s
-no_path V b other s w k at v lacks same kept none =
-    let refused = path_refused V (shape_of b.checked) s k lacks.known.quiet lacks.unspent lacks.absent (none_in V b s w lacks.known same k none) in
+-- no path leads to a hole: the put is refused
+pub no_path : (V : ℕ) (b : Books) (far : Far) (s : State V) (k at : ℕ) (v : List ℕ) → IsLackingKey V b k v s at → far.finder ≡ b.far.value.finder → NoChain (shape_of b.checked) s.words k (shape_of b.checked).depth
+    → IsWithoutPath V (with_far b far) k v s
+no_path V b far s k at v lacks kept none =
+    let refused = path_refused V (shape_of b.checked) s k lacks.known.quiet lacks.unspent lacks.absent none in
     let told = answer.Put (Err why.NoPath) in
-    let planned = listed_planned V b (record b { path = other.path }) [] (PutCall k v) s s told (idle_planned V b (PutCall k v) s told lacks.known refused tt) in
-    subst (λ (f : Shape). IsWithoutPath V (record b { finder = f; path = other.path }) k v s) (sym kept) planned
+    listed_planned V b far [] (PutCall k v) s s told kept (idle_planned V b (PutCall k v) s told lacks.known refused tt)
 
--- a path leads to a hole, which the books keep, and the finder is as it was
-pub refound : (V : ℕ) (b : Books) (s : State V) (k : ℕ) (v : List ℕ) (at : ℕ) (finder : Shape) (path : Path) → finder ≡ b.finder → IsLackingKey V b k v s at → IsLeastPath (shape_of b.checked) s.words k path
-    → HasRoom V (record b { finder = finder; path = path }) k v s at room.Path
-refound V b s k v at finder path kept lacks least =
-    let here : HasRoom V (record b { path = path }) k v s at room.Path = record {
-      lacks = record { known = books_listed V b (record b { path = path }) s lacks.known; key = lacks.key; value = lacks.value; unspent = lacks.unspent; absent = lacks.absent; next = lacks.next };
-      least = least;
-    } in
-    subst (λ (f : Shape). HasRoom V (record b { finder = f; path = path }) k v s at room.Path) (sym kept) here
+-- a path leads to a hole, and the books keep it
+pub refound : (V : ℕ) (b : Books) (far : Far) (s : State V) (k : ℕ) (v : List ℕ) (at : ℕ) → far.finder ≡ b.far.value.finder → IsLackingKey V b k v s at → IsLeastPath (shape_of b.checked) s.words k far.path
+    → HasRoom V (with_far b far) k v s at room.Path
+refound V b far s k v at kept lacks least = record {
+  lacks = record { known = books_listed V b far s lacks.known kept; key = lacks.key; value = lacks.value; unspent = lacks.unspent; absent = lacks.absent; next = lacks.next };
+  least = least;
+}

@@ -87,7 +87,7 @@ recent_planned V b waiting call s rs hand on over none is =
     let many = over_without sh.items rs over none in
     let home : m.hand ≡ s.hand = swept_hand V sh s s.hand rs refl on.has.sweeps on.has.start ∙ swept_home sh.items s.hand rs on.has.start many in
     let quiet = sweep_quiet V sh s rs waits.known.quiet b.checked.sound (hands_may V b waiting call s rs on) in
-    let needs = needs_item V b s waiting.key (path_of_room b.path waiting.room) waits.known waits.unspent waits.absent waits.least waits.none in
+    let needs = needs_item V b s waiting.key (path_of_room b.far.value.path waiting.room) waits.known waits.unspent waits.absent waits.least waits.none in
     let refuses : means.RefusesAll V sh (quiet_of s) (quiet_of m) waiting.key = record { needs = needs.0; unchanged = same_quiet V s m still.words home still.history still.version_steps } in
     let told = answer.Put (Err why.AllRecent) in
     let planned : IsPlanned V (record b { hand = hand }) [] (PutCall waiting.key waiting.value) s m told = record {
@@ -127,7 +127,7 @@ module _ (V : ℕ) (b : Books) (waiting : Waiting V) (call : Call) (s : State V)
 
   -- the path to the room that the put has found
   abbrev pub path : Path
-  path = path_of_room b.path waiting.room
+  path = path_of_room b.far.value.path waiting.room
 
   abbrev pub acts_for : ℕ → Place → List Place → Place → List Act
   acts_for e p kept end = replace_acts V sh mid.words waiting.key waiting.value at i e p kept end

@@ -45,5 +45,5 @@ kept_planned V b plan k v s told swept p = record {
 -- and one that would wait for an item is refused
 pub refused_item : (V : ℕ) (b : Books) (k : ℕ) (v : List ℕ) (s : State V) (room : Room) → Waits V b k v s room → IsPlanned V b [] (KeptCall k v) s s (answer.Kept (Err left.NoItem))
 refused_item V b k v s room waits =
-    let needs = needs_item V b s k (path_of_room b.path room) waits.known waits.unspent waits.absent waits.least waits.none in
+    let needs = needs_item V b s k (path_of_room b.far.value.path room) waits.known waits.unspent waits.absent waits.least waits.none in
     idle_planned V b (KeptCall k v) s (answer.Kept (Err left.NoItem)) waits.known (record { needs = needs.0; unchanged = refl }) tt

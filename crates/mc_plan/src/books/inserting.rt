@@ -117,7 +117,8 @@ impl Books {
         ensures shape { self.new.checked ≡ self.old.checked }
         ensures kept { peek.new ≡ peek.old }
     {
-        if self.finder.far(peek, parts, &mut self.path) {
+        let far = &mut *self.far;
+        if far.finder.far(peek, parts, &mut far.path) {
             Some(Room::Path)
         } else {
             None
@@ -153,22 +154,22 @@ impl Books {
 
     /// The moves of the last key for which a path made room.
     pub fn listed(&self) -> &[Move]
-        ensures moves { result.now ≡ self.now.moves.items }
+        ensures moves { result.now ≡ self.now.far.value.moves.items }
         ensures few { length result.now ≤ 8 }
     {
-        self.moves.as_slice()
+        self.far.moves.as_slice()
     }
 
     /// The answer of the put of a key that is stored so, with the key that was taken out for it.
     /// Condition: it is the last key that was inserted.
     #[inline(always)]
     pub fn told(&self, storing: Storing, evicted: Option<u64>) -> Put
-        ensures { result ≡ storing_told self.now.moves.items storing evicted }
+        ensures { result ≡ storing_told self.now.far.value.moves.items storing evicted }
     {
         let moves = match storing.moves {
             Moves::Unneeded => 0,
             Moves::One(_) => 1,
-            Moves::Listed => self.moves.len() as u8,
+            Moves::Listed => self.far.moves.len() as u8,
         };
         Put::Stored {
             at: storing.at,
@@ -189,18 +190,18 @@ impl Books {
         requires width { IsWidth V }
         requires words { word_count V (shape_of self.old.checked) ≤ length (P.words peek.old) }
         requires filled { IsFilled (shape_of self.old.checked) (P.words peek.old) }
-        requires taken { AreTaken (shape_of self.old.checked) (P.words peek.old) (path_of_room self.old.path room).places.items }
+        requires taken { AreTaken (shape_of self.old.checked) (P.words peek.old) (path_of_room self.old.far.value.path room).places.items }
         requires room { self.old.version_steps < 2 ^ 63 }
         ensures item { result.item ≡ item }
         ensures at { result.at ≡ at }
-        ensures place { result.place ≡ first_place (path_of_room self.old.path room).places.items (path_of_room self.old.path room).hole }
-        ensures moves { acts_of_moves (moves_of self.new.moves.items result.moves) ≡
-            moves_acts V (shape_of self.old.checked) (P.words peek.old) (path_of_room self.old.path room).places.items (path_of_room self.old.path room).hole }
-        ensures many { length (moves_of self.new.moves.items result.moves) ≡ length (path_of_room self.old.path room).places.items }
-        ensures keys { AreKeys V (shape_of self.old.checked) (P.words peek.old) (path_of_room self.old.path room).places.items }
+        ensures place { result.place ≡ first_place (path_of_room self.old.far.value.path room).places.items (path_of_room self.old.far.value.path room).hole }
+        ensures moves { acts_of_moves (moves_of self.new.far.value.moves.items result.moves) ≡
+            moves_acts V (shape_of self.old.checked) (P.words peek.old) (path_of_room self.old.far.value.path room).places.items (path_of_room self.old.far.value.path room).hole }
+        ensures many { length (moves_of self.new.far.value.moves.items result.moves) ≡ length (path_of_room self.old.far.value.path room).places.items }
+        ensures keys { AreKeys V (shape_of self.old.checked) (P.words peek.old) (path_of_room self.old.far.value.path room).places.items }
         ensures books { self.new ≡ record self.old {
-          version_steps = self.old.version_steps + (2 * length (path_of_room self.old.path room).places.items + 2);
-          moves = self.new.moves;
+          version_steps = self.old.version_steps + (2 * length (path_of_room self.old.far.value.path room).places.items + 2);
+          far = record self.old.far { value = record self.old.far.value { moves = self.new.far.value.moves } };
         } }
         ensures kept { peek.new ≡ peek.old }
     {
@@ -225,11 +226,12 @@ impl Books {
                 }
             }
             Room::Path => {
-                path_moves::<V, P>(&self.checked, peek, &self.path, &mut self.moves);
-                self.version_steps += 2 * self.moves.len() as u64 + 2;
+                let far = &mut *self.far;
+                path_moves::<V, P>(&self.checked, peek, &far.path, &mut far.moves);
+                self.version_steps += 2 * far.moves.len() as u64 + 2;
                 Storing {
                     item,
-                    place: self.path.first(),
+                    place: far.path.first(),
                     moves: Moves::Listed,
                     at,
                 }
@@ -301,7 +303,7 @@ impl Books {
     {
         let at = moment(&self.checked, peek) + 2;
         let victim = self.victim::<V, P>(peek, item);
-        let left = waiting.room.cut_at(victim.place, &mut self.path);
+        let left = waiting.room.cut_at(victim.place, &mut self.far.path);
         let storing = self.store::<V, P>(peek, left, item, at);
         self.version_steps += 2;
         Replacement { victim, storing }

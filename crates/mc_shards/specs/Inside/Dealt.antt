@@ -9,11 +9,11 @@ use Rattle.mc_shards.specs.Sharded.{Sharded}
 abbrev pub sharded : Shape → List Opening → Sharded
 sharded sh tables = record { shape = sh; tables = tables }
 
--- their number is allowed, each table has the shape, and the n-th desk is that of the n-th table
+-- their number is allowed, each table has the shape, and the n-th writer is that of the n-th table
 pub record AreShards (V : ℕ) (sh : Shape) (tables kept : List Opening) : Type 0 where
   pub many : HasShards (length tables)
   pub shapes : All (λ o. o.layout ≡ layout_of V sh) tables
-  pub desks : kept ≡ tables
+  pub lenders : kept ≡ tables
 
 -- one new reader of each of the tables
 pub record AreDealt (tables : List Opening) (rs : List ReaderRecord) : Type 0 where

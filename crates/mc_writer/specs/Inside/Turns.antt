@@ -40,5 +40,5 @@ pub record IsChosen (V : ℕ) (books : Books) (k : ℕ) (v : List ℕ) (before a
   pub read : HasRead V before after readings
   pub in_items : taken.storing.item < (shape_of books.checked).items
   pub parts : HasParts (shape_of books.checked) taken.victim.key taken.victim.parts
-  pub planned : IsPlanned V books (replacement_acts books.moves.items (shape_of books.checked) k v taken) (PutCall k v) (state_at V before) (state_after_sweep V (shape_of books.checked) (state_at V before) readings) (answer.Put (Ok (storing_told books.moves.items taken.storing (Some taken.victim.key))))
-  pub sweeps : IsSweepOf V (shape_of books.checked) (state_at V before) readings (answer.Put (Ok (storing_told books.moves.items taken.storing (Some taken.victim.key))))
+  pub planned : IsPlanned V books (replacement_acts books.far.value.moves.items (shape_of books.checked) k v taken) (PutCall k v) (state_at V before) (state_after_sweep V (shape_of books.checked) (state_at V before) readings) (answer.Put (Ok (storing_told books.far.value.moves.items taken.storing (Some taken.victim.key))))
+  pub sweeps : IsSweepOf V (shape_of books.checked) (state_at V before) readings (answer.Put (Ok (storing_told books.far.value.moves.items taken.storing (Some taken.victim.key))))

@@ -37,8 +37,8 @@ returns-clause-planned g c call s rs on over same =
     let sh = shape_of c.args.books.now.checked in
     let now = shape_of b.checked in
     let r = c.in_ok-taken.taken in
-    let list = replacement_acts b.moves.items now c.args.waiting.key c.args.waiting.value r in
-    let told = answer.Put (Ok (storing_told b.moves.items r.storing (Some r.victim.key))) in
+    let list = replacement_acts b.far.value.moves.items now c.args.waiting.key c.args.waiting.value r in
+    let told = answer.Put (Ok (storing_told b.far.value.moves.items r.storing (Some r.victim.key))) in
     let decided : IsReplaced V b c.args.waiting call s rs r = c.in_ok-taken.ensures.finished call s rs on over same in
     let was : IsPlanned V b list call s (state_after_sweep V sh s rs) told × IsSweepOf V sh s rs told =
     subst (λ (x : Shape). IsPlanned V b list call s (state_after_sweep V x s rs) told × IsSweepOf V x s rs told) (ap shape_of c.finish.ensures.shape) (decided.planned, decided.sweeps) in

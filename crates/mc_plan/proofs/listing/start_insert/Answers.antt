@@ -22,11 +22,11 @@ returns-in-Some-insert-clause-started g c s lacks same =
     let b = c.insert.new.self in
     let call = PutCall c.args.key c.args.value.now in
     let storing = c.in-Some-insert.storing in
-    let told = answer.Put (Ok (storing_told b.moves.items storing None)) in
+    let told = answer.Put (Ok (storing_told b.far.value.moves.items storing None)) in
     let inserted = c.in-Some-insert.ensures.inserted c.args.key c.args.value.now s (c.in-Some.ensures.room c.args.key c.args.at c.args.value.now s lacks c.requires.parts same) (ap g.P.Peek.words c.room.ensures.kept ∙ same) in
     let acts = plan_is _ _ _ c.add_storing.ensures.items c.requires.plan in (
       subst (λ (xs : List Act). IsPlanned V b xs call s s (answer.Put (Ok c.told.result))) (sym acts)
-          (subst (λ (x : Put). IsPlanned V b (storing_acts b.moves.items (shape_of b.checked) c.args.key c.args.value.now storing) call s s (answer.Put (Ok x))) (sym c.told.ensures) inserted.1),
+          (subst (λ (x : Put). IsPlanned V b (storing_acts b.far.value.moves.items (shape_of b.checked) c.args.key c.args.value.now storing) call s s (answer.Put (Ok x))) (sym c.told.ensures) inserted.1),
       subst (λ (x : Put). IsSweepOf V (shape_of b.checked) s [] (answer.Put (Ok x))) (sym c.told.ensures) refl,
     )
 

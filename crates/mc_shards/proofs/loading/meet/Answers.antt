@@ -1,6 +1,6 @@
 use Rattle.std.proofs.Common.{◌≡◌, ◌∙◌, ap, arith, get_or, length, sym}
 use Rattle.std.proofs.lemmas.List.{length-map}
-use Rattle.mc_shared.specs.Records.{Opening, ReaderRecord, WriterRecord}
+use Rattle.mc_shared.specs.Records.{ReaderRecord, WriterRecord}
 use Rattle.mc_shards.proofs.LoadedShards.{met_all, met_more, same_writers, still_readers}
 use Rattle.mc_shards.proofs.loading.meet.Goals as goal
 

@@ -1,4 +1,4 @@
-use Rattle.std.proofs.Common.{ℕ, ◌≡◌, ◌∙◌, List, All, ap, arith, map, subst, sym}
+use Rattle.std.proofs.Common.{◌≡◌, ◌∙◌, List, All, ap, arith, map, subst, sym}
 use Rattle.mc_words.specs.Shapes.{HasShards}
 use Rattle.mc_shared.specs.Records.{Opening, WriterRecord}
 use Rattle.mc_shared.specs.Views.{layout_of}
@@ -37,7 +37,7 @@ returns-clause-plain g c =
     let shapes : All (λ o. o.layout ≡ layout_of V sh) tables = c.in_ok-caches.ensures.shapes in
     let loaded : ShardsLoad V sh c.in_ok-caches.writers.items 0 es ws left = c.in_ok-load.ensures.loaded in
     let legal : All (λ w. IsLegal w.of.layout.shape.items (history V w)) ws =
-    subst (λ (xs : List WriterRecord). All (λ w. IsLegal w.of.layout.shape.items (history V w)) xs) c.meet_all.ensures.writers c.in_ok-desks.ensures.legal in (
+    subst (λ (xs : List WriterRecord). All (λ w. IsLegal w.of.layout.shape.items (history V w)) xs) c.meet_all.ensures.writers c.in_ok-lenders.ensures.legal in (
       map (history V) ws,
       held_all V sh tables es ws left (shaped_tables V sh tables shapes) (shaped_writers V sh ws (subst (λ (os : List Opening). All (λ o. o.layout ≡ layout_of V sh) os) (sym of) shapes)) c.in_ok-load.ensures.wide legal
           (subst (λ (xs : List WriterRecord). ShardsLoad V sh xs 0 es ws left) c.in_ok-caches.ensures.writers loaded),

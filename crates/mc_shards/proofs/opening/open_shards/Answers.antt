@@ -9,7 +9,7 @@ pub invariant_of-shards : goal.invariant_of-shards
 invariant_of-shards g c = record {
   many = subst HasShards (sym c.in_ok-caches.ensures.refused) c.in_ok-check_opening.ensures.0;
   shapes = c.in_ok-caches.ensures.shapes;
-  desks = c.in_ok-desks.ensures.desks ∙ (ap (map (λ (w : WriterRecord). w.of)) c.in_ok-caches.ensures.writers ∙ tables_of_new c.in_ok-caches.caches.items);
+  lenders = c.in_ok-lenders.ensures.lenders ∙ (ap (map (λ (w : WriterRecord). w.of)) c.in_ok-caches.ensures.writers ∙ tables_of_new c.in_ok-caches.caches.items);
 }
 
 pub returns-clause-plain : goal.returns-clause-plain

@@ -7,7 +7,7 @@ use Rattle.mc_plan.specs.Deciding.{IsInserted}
 use Rattle.mc_plan.specs.Moves.{AreTaken, AreKeys}
 use Rattle.mc_plan.specs.Plans.{moves_acts}
 use Rattle.mc_plan.specs.declared.books.Books.{Books}
-use Rattle.mc_plan.proofs.Calls.AfterPlan.{books_still, filled_in}
+use Rattle.mc_plan.proofs.Calls.AfterPlan.{books_still, filled_in, with_far}
 use Rattle.mc_plan.proofs.Calls.StoredKeys.{stored_by}
 use Rattle.mc_plan.proofs.Puts.PathSteps.{chain_taken}
 use Rattle.mc_plan.proofs.books.Books.insert.Goals as goal
@@ -38,7 +38,7 @@ pub store-requires-clause-taken : goal.store-requires-clause-taken
 store-requires-clause-taken g c =
     let b = c.args.self.now in
     let r = c.requires.room in
-    let path = path_of_room b.path c.args.room in
+    let path = path_of_room b.far.value.path c.args.room in
     subst (λ (x : List ℕ). AreTaken (shape_of b.checked) x path.places.items) (sym r.4) (chain_taken (shape_of b.checked) r.2.words r.0 path.places.items path.hole r.3.least.chain)
 
 pub returns-clause-inserted : goal.returns-clause-inserted
@@ -46,7 +46,7 @@ returns-clause-inserted g c k v s has same =
     let V = g.row.V in
     let b = c.args.self.now in
     let sh = shape_of b.checked in
-    let path = path_of_room b.path c.args.room in
+    let path = path_of_room b.far.value.path c.args.room in
     let ps = path.places.items in
     let free = c.take_least.new.self in
     let stored = c.store.ensures in
@@ -56,6 +56,6 @@ returns-clause-inserted g c k v s has same =
     let was = subst (λ (i : ℕ). IsFreeIn b.free i) here c.in-Some.ensures.free in
     let takes = subst (λ (i : ℕ). TakesFree b.free free i) here c.in-Some.ensures.takes in
     let moves = stored.moves ∙ ap (λ (x : List ℕ). moves_acts V sh x ps path.hole) same in
-    let other : Books = record b { free = free; moves = c.store.new.self.moves } in
+    let other : Books = with_far (record b { free = free }) (record b.far.value { moves = c.store.new.self.far.value.moves }) in
     let done = stored_by V b other k v c.args.at c.args.room s storing has keys stored.at was c.take_least.ensures.kept c.take_least.ensures.items takes moves stored.place stored.many in
     subst (λ (x : Books). IsInserted V x k v s c.args.room (Some storing)) (sym stored.books) done

@@ -7,9 +7,11 @@ use Rattle.mc_plan.specs.Deciding.{IsReplaced}
 use Rattle.mc_plan.specs.Inside.Clerks.{IsReplacing, IsVictim}
 use Rattle.mc_plan.specs.Moves.{AreKeys, AreTaken}
 use Rattle.mc_plan.specs.Plans.{moves_acts}
+use Rattle.mc_search.specs.Paths.{IsCut}
 use Rattle.mc_plan.specs.declared.books.Books.{Books}
+use Rattle.mc_plan.specs.declared.far.Far.{Far}
 use Rattle.mc_plan.specs.declared.decision.Replacement.{Replacement}
-use Rattle.mc_plan.proofs.Calls.AfterPlan.{filled_in}
+use Rattle.mc_plan.proofs.Calls.AfterPlan.{filled_in, with_far}
 use Rattle.mc_plan.proofs.Calls.StoredKeys.{replaced_by}
 use Rattle.mc_plan.proofs.Puts.PathSteps.{chain_taken, cut_taken}
 use Rattle.mc_plan.proofs.books.Books.replace.Goals as goal
@@ -25,11 +27,12 @@ pub store-storing-requires-clause-taken : goal.store-storing-requires-clause-tak
 store-storing-requires-clause-taken g c =
     let r = c.requires.books in
     let sh = shape_of c.args.self.now.checked in
-    let path = path_of_room c.args.self.now.path c.args.waiting.now.room in
+    let path = path_of_room c.args.self.now.far.value.path c.args.waiting.now.room in
     let left = path_of_room c.cut_at-left.new.path c.cut_at-left.result in
     let now = ap g.P.Peek.words (c.victim-victim.ensures.kept ∙ c.moment-at.ensures.kept) in
     let was = chain_taken sh r.1.words c.args.waiting.now.key path.places.items path.hole r.3.sweeping.waits.least.chain in
-    subst (λ (w : List ℕ). AreTaken sh w left.places.items) (sym (now ∙ r.4)) (cut_taken sh r.1.words c.victim-victim.result.place path.places.items path.hole left.places.items left.hole c.cut_at-left.ensures was)
+    let cut = subst (λ (f : Far). IsCut c.victim-victim.result.place (path_of_room f.path c.args.waiting.now.room).places.items (path_of_room f.path c.args.waiting.now.room).hole left.places.items left.hole) c.deref_mut.ensures.value c.cut_at-left.ensures in
+    subst (λ (w : List ℕ). AreTaken sh w left.places.items) (sym (now ∙ r.4)) (cut_taken sh r.1.words c.victim-victim.result.place path.places.items path.hole left.places.items left.hole cut was)
 
 pub returns-clause-replaced : goal.returns-clause-replaced
 returns-clause-replaced g c call s rs on same =
@@ -43,8 +46,12 @@ returns-clause-replaced g c call s rs on same =
     let storing = c.store-storing.result in
     let steps = c.store-storing.new.self.version_steps + 2 in
     let read = ap g.P.Peek.words (c.victim-victim.ensures.kept ∙ c.moment-at.ensures.kept) ∙ same in
-    let other : Books = record b { path = c.cut_at-left.new.path; moves = c.store-storing.new.self.moves } in
-    let same_books : record c.store-storing.new.self { version_steps = steps } ≡ record b { version_steps = steps; path = other.path; moves = other.moves } = ap (λ (x : Books). record x { version_steps = steps }) stored.books in
+    let far : Far = record c.deref_mut.result.now { path = c.cut_at-left.new.path; moves = c.store-storing.new.self.far.value.moves } in
+    let is = ap (λ (f : Far). f.finder) c.deref_mut.ensures.value in
+    let path = path_of_room b.far.value.path waiting.room in
+    let cut : IsCut c.victim-victim.result.place path.places.items path.hole kept left.hole =
+    subst (λ (f : Far). IsCut c.victim-victim.result.place (path_of_room f.path waiting.room).places.items (path_of_room f.path waiting.room).hole kept left.hole) c.deref_mut.ensures.value c.cut_at-left.ensures in
+    let same_books : record c.store-storing.new.self { version_steps = steps } ≡ with_far (record b { version_steps = steps }) far = ap (λ (x : Books). record x { version_steps = steps }) stored.books in
     let changes : steps ≡ b.version_steps + (2 * length kept + 4) = omega (arith, ap (λ (x : Books). x.version_steps) stored.books) in
     let next : c.moment-at.result + 2 ≡ moment s.words + 2 = ap (λ (n : ℕ). n + 2) c.moment-at.ensures.value ∙ ap (λ (w : List ℕ). moment w + 2) same in
     let here = sym stored.item in
@@ -52,5 +59,5 @@ returns-clause-replaced g c call s rs on same =
     let keys = subst (λ (w : List ℕ). AreKeys V sh w kept) read stored.keys in
     let moves = stored.moves ∙ ap (λ (w : List ℕ). moves_acts V sh w kept left.hole) read in
     let r : Replacement = record { victim = c.victim-victim.result; storing = storing } in
-    let done = replaced_by V b other waiting call s rs r kept left.hole steps (subst (λ (i : ℕ). IsReplacing V b waiting call s rs i) here on) victim c.cut_at-left.ensures keys (stored.at ∙ next) changes moves stored.place stored.many in
+    let done = replaced_by V b far is waiting call s rs r kept left.hole steps (subst (λ (i : ℕ). IsReplacing V b waiting call s rs i) here on) victim cut keys (stored.at ∙ next) changes moves stored.place stored.many in
     subst (λ (x : Books). IsReplaced V x waiting call s rs r) (sym same_books) done

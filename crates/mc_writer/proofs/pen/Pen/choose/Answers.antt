@@ -75,7 +75,7 @@ chosen g c (Ok taken) f =
       read = decided g c;
       in_items = f.in_items;
       parts = f.parts;
-      planned = subst (λ (y : ℕ × List ℕ). IsPlanned V b (replacement_acts b.moves.items (shape_of b.checked) y.0 y.1 taken) call s (state_after_sweep V (shape_of b.checked) s t.readings) (answer.Put (Ok (storing_told b.moves.items taken.storing (Some taken.victim.key))))) (sym (ap named t.sweeping.called)) f.planned;
+      planned = subst (λ (y : ℕ × List ℕ). IsPlanned V b (replacement_acts b.far.value.moves.items (shape_of b.checked) y.0 y.1 taken) call s (state_after_sweep V (shape_of b.checked) s t.readings) (answer.Put (Ok (storing_told b.far.value.moves.items taken.storing (Some taken.victim.key))))) (sym (ap named t.sweeping.called)) f.planned;
       sweeps = f.sweeps;
     }
 

@@ -10,7 +10,7 @@ pub make_moves_of-requires : goal.make_moves_of-requires
 make_moves_of-requires g c =
     let storing = c.args.storing in
     let sh = c.args.self.now.cells.now.layout.shape in
-    let due = first_due g.row.V (acts_of_moves (moves_of c.args.books.now.moves.items storing.moves)) (filling_acts sh c.args.key c.args.value.now storing.at storing.item storing.place) _ c.requires.due in
+    let due = first_due g.row.V (acts_of_moves (moves_of c.args.books.now.far.value.moves.items storing.moves)) (filling_acts sh c.args.key c.args.value.now storing.at storing.item storing.place) _ c.requires.due in
     (omega arith, due)
 
 pub make_filling-requires : goal.make_filling-requires

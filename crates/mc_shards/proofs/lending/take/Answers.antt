@@ -1,6 +1,6 @@
 use Rattle.std.proofs.Common.{arith}
-use Rattle.mc_cache.proofs.LentWriters.{takes_writer}
-use Rattle.mc_cache.proofs.lending.take.Goals as goal
+use Rattle.mc_shards.proofs.LentWriters.{takes_writer}
+use Rattle.mc_shards.proofs.lending.take.Goals as goal
 
 pub compare_exchange-requires : goal.compare_exchange-requires
 compare_exchange-requires g c =

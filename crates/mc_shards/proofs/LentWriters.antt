@@ -1,14 +1,15 @@
--- Each step on the word of a desk keeps its rule.
+-- Each step on the word of a shard's writer keeps its rule.
 use Rattle.std.proofs.Common.{◌≡◌, ℕ, ◌<◌, List, [], ◌∷◌, ap, arith, get_or, get_or-set_same, length, length-set, refl, set, subst, sym, ◌∙◌, eqb}
 use Rattle.std.specs.Prelude.{⊤}
-use mathlib.Core.Option.{Option, some, some-injective, some-ne-none}
+use mathlib.Core.Option.{Option, some}
 use lib.ListN.{get_elem?}
 use prog.Atomic.{either}
 use Rattle.atomic_table.proofs.Lists.{exchanged}
-use Rattle.atomic_table.specs.Table.{Act, Allows, Enters, Final, Me, State, Valid, carried_after, gives, keeps, opening, put_back, stepped, takes}
+use Rattle.atomic_table.specs.Table.{Act, Allows, Enters, Me, State, Valid, carried_after, gives, keeps, opening, put_back, stepped, takes}
 use Rattle.std.specs.declared.snapshot.Snapshot.{Snapshot}
 use Rattle.mc_shared.specs.Records.{Opening, WriterRecord}
-use Rattle.mc_cache.specs.Lending.{HasTaken, IsFit, IsKept}
+use Rattle.mc_cache.specs.Resting.{IsFit}
+use Rattle.mc_shards.specs.Lending.{HasTaken, IsKept}
 
 abbrev Key : Type 0
 Key = Snapshot WriterRecord
@@ -19,7 +20,7 @@ Words = State WriterRecord Key
 abbrev Holder : Type 0
 Holder = Me WriterRecord Key
 
--- a new desk
+-- a new place
 pub kept_new : (V : ℕ) (o : Opening) (n : ℕ) (ns : List ℕ) (w : WriterRecord) (key : Key) → IsFit V o w → IsKept V o (opening (n ∷ ns) (w ∷ []) key)
 kept_new V o n ns w key fits = record { wide = omega arith; there = λ z. (w, refl, fits) }
 
@@ -70,13 +71,3 @@ gives_back V n id key m one is out s k long me small =
       },
       tt,
     )
-
-first_word : (ws : List ℕ) (n : ℕ) → get_elem? ws 0 ≡ some n → get_or ws 0 0 ≡ n
-first_word [] n e = absurd (some-ne-none n (sym e))
-first_word (w ∷ ws) n e = some-injective w n e
-
--- the writer of a desk that is not shared any more
-pub ended : (V : ℕ) (key : Key) (ws : List ℕ) (xs : List WriterRecord) (word : ℕ) (writer : WriterRecord) → Final (IsKept V key.value.of) ws xs → get_elem? ws 0 ≡ some word → word ≡ 0 → get_elem? xs 0 ≡ some writer → IsFit V key.value.of writer
-ended V key ws xs word writer f first zero at =
-    let h = f.1.there (ap (λ (l : List ℕ). get_or l 0 0) f.2 ∙ (first_word ws word first ∙ zero)) in
-    subst (λ (w : WriterRecord). IsFit V key.value.of w) (some-injective h.0 writer (sym (f.4 0 h.0 h.1) ∙ at)) h.2

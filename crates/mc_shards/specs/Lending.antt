@@ -1,15 +1,11 @@
--- The rule of a desk's word, and what a seat has after it took the writer.
+-- The rule of the word of a shard's writer, and what a seat has after it took the writer.
 use Rattle.std.specs.Prelude.{ℕ, ◌≡◌, ◌<◌, [], ◌∷◌, length, slice_index}
 use mathlib.Core.Option.{some}
 use lib.ListN.{get_elem?}
 use Rattle.atomic_table.specs.Table.{Me, State}
 use Rattle.std.specs.declared.snapshot.Snapshot.{Snapshot}
 use Rattle.mc_shared.specs.Records.{Opening, WriterRecord}
-use Rattle.mc_cache.specs.Resting.{IsAtRest}
-
--- the writer is of this table, and rests
-abbrev pub IsFit : ℕ → Opening → WriterRecord → Type 0
-IsFit V o w = (w.of ≡ o) × IsAtRest V w
+use Rattle.mc_cache.specs.Resting.{IsFit}
 
 -- while the word is 0, the writer is there
 pub record IsKept (V : ℕ) (o : Opening) (s : State WriterRecord (Snapshot WriterRecord)) : Type 0 where

@@ -1,22 +1,30 @@
-//! The place of the writer at a desk. Whoever wins the desk's word borrows the writer in place, so no turn moves it.
+//! The place of a shard's writer. Whoever wins the place's word borrows the writer where it lies, so no turn moves it.
 ghost use Rattle.std.specs.Prelude.{◌≡◌, ⊤, IfSome};
-ghost use Rattle.mc_cache.specs.Lending.{HasTaken, IsKept};
+ghost use Rattle.mc_shards.specs.Lending.{HasTaken, IsKept};
 
-use crate::writer::Writer;
+mod lender;
+
 use atomic_table::{Play, Seat, Shared, TableRule};
+pub(crate) use lender::Lender;
+use mc_cache::Writer;
 use std::snapshot::Snapshot;
 
-/// The word while the writer is there.
-pub(crate) const FREE: u64 = 0;
+// The word while the writer is there.
+const FREE: u64 = 0;
 
 // The word while a turn has the writer.
 const LENT: u64 = 1;
 
-/// Only the first word is used. The others fill the rest of its cache line, so the words of two desks never share one.
-pub(crate) const WORDS: usize = 16;
+// Only the first word is used. The others fill the rest of its cache line, so the words of two shards never share one.
+const WORDS: usize = 16;
 
-/// The rule of the desk's word: while it is 0, the writer is there and at rest. It is the writer of the key's table.
+/// The rule of the word: while it is 0, the writer is there and at rest. It is the writer of the key's table.
 pub(crate) struct LiesThere;
+
+// The right to a lent writer. It is not `Drop`: a turn that forgets to give it back does not compile.
+struct Turn<const V: usize> {
+    seat: Seat<Writer<V>, Snapshot<Writer<V>>>,
+}
 
 impl<const V: usize> TableRule<Writer<V>, Snapshot<Writer<V>>, Snapshot<Writer<V>>> for LiesThere {
     ghost holds = { λ key s. IsKept V key.value.of s };
@@ -45,13 +53,13 @@ impl<const V: usize> Play<Writer<V>, Snapshot<Writer<V>>> for Gives {
     ghost then = { λ step before found after. ⊤ };
 }
 
-/// Takes the writer if it is there and the try wins. A word that says it is lent is not written.
+// Takes the writer if it is there and the try wins. A word that says it is lent is not written.
 #[inline(always)]
-pub(crate) fn take<const V: usize>(
+fn take<const V: usize>(
     shared: &Shared<Writer<V>, Snapshot<Writer<V>>, Snapshot<Writer<V>>, LiesThere>,
-) -> Option<Seat<Writer<V>, Snapshot<Writer<V>>>>
+) -> Option<Turn<V>>
     requires sized { (shared.now.table_id.words ≡ 16) × (shared.now.table_id.slots ≡ 1) }
-    ensures { IfSome result (λ seat. (seat.table_id ≡ shared.now.table_id) × (seat.me.0 ≡ shared.now.key) × HasTaken V seat.me) }
+    ensures { IfSome result (λ turn. (turn.seat.table_id ≡ shared.now.table_id) × (turn.seat.me.0 ≡ shared.now.key) × HasTaken V turn.seat.me) }
 {
     let (found, mut seat) = shared.load_new_seat::<Comes>(0);
     if found != FREE {
@@ -60,17 +68,18 @@ pub(crate) fn take<const V: usize>(
     if shared.compare_exchange::<Takes>(&mut seat, 0, FREE, LENT) != FREE {
         return None;
     }
-    Some(seat)
+    Some(Turn { seat })
 }
 
-/// Gives the writer back. Nobody else writes the word meanwhile, so this one store does it.
+// Gives the writer back. Nobody else writes the word meanwhile, so this one store does it.
 #[inline(always)]
-pub(crate) fn give<const V: usize>(
+fn give<const V: usize>(
     shared: &Shared<Writer<V>, Snapshot<Writer<V>>, Snapshot<Writer<V>>, LiesThere>,
-    mut seat: Seat<Writer<V>, Snapshot<Writer<V>>>,
+    turn: Turn<V>,
 )
     requires sized { (shared.now.table_id.words ≡ 16) × (shared.now.table_id.slots ≡ 1) }
-    requires seat { (seat.table_id ≡ shared.now.table_id) × (seat.me.0 ≡ shared.now.key) × HasTaken V seat.me }
+    requires turn { (turn.seat.table_id ≡ shared.now.table_id) × (turn.seat.me.0 ≡ shared.now.key) × HasTaken V turn.seat.me }
 {
+    let Turn { mut seat } = turn;
     shared.store::<Gives>(&mut seat, 0, FREE);
 }
