@@ -8,7 +8,7 @@ use mc_core::{
 use mc_plan::{Answer, Clerk, Finder, IfError, Path, Peek, Put, PutError, Remove, Spent, Sweep};
 use mc_shared::{Cells, ReaderSeat, Running, Words, WriterSeat};
 use mc_words::{Checked, NoMemory, Place, Shape, ShapeError};
-use std::alloc::{AllocFailed, Global};
+use std::alloc::Global;
 
 /// `mc_words`: a shape, and the parts and places that follow from it.
 pub fn calls_of_words() {
@@ -116,7 +116,7 @@ pub fn calls_of_cache() {
         Writer<1>,
         Vec<Reader<1>>,
     ) -> Result<Vec<(u64, [u64; 1])>, StillOpen<1>> = Cache::close;
-    const _: fn(Global, Writer<1>) -> Result<Desk<1>, AllocFailed<Writer<1>>> = Desk::new;
+    const _: fn(Writer<1>) -> Desk<1> = Desk::new;
     const _: fn(
         &Desk<1>,
         &Cache<1>,
