@@ -1,7 +1,7 @@
 //! Worlds that make drawn events, lawful or not: what a refused event leaves, and how far the versions come.
 use crate::drawing::{Writer, drawn_shape};
-use mc_core::World;
-use mc_words::Checked;
+use mc_core::{Unlawful, World};
+use mc_words::{Checked, Shape};
 use rand_core::Rng;
 use rand_pcg::Lcg64Xsh32;
 use std::alloc::Global;
@@ -10,8 +10,8 @@ use std::test::Fail;
 /// How many worlds are drawn for a seed.
 const WORLDS: u32 = 10;
 
-/// How many events a world is asked to make.
-const EVENTS: u32 = 500;
+/// How many limits there are: from 0 to 40.
+const LIMITS: usize = 41;
 
 /// The words of the world, the last ones are its bits, folded into one number, and the length of its history.
 fn seen_of(world: &World<1>) -> (u64, usize) {
@@ -44,6 +44,8 @@ struct Pair {
     writer: Writer,
     /// What is seen of the first world since the last event that it made.
     seen: (u64, usize),
+    /// Whether an event was refused because of the limit.
+    limited: bool,
 }
 
 impl Pair {
@@ -55,6 +57,7 @@ impl Pair {
             lawful: World::new(alloc, checked, 2)?,
             writer: Writer::new(checked),
             seen,
+            limited: false,
         })
     }
 
@@ -65,6 +68,9 @@ impl Pair {
         let now = seen_of(&self.world);
         if !is_within(&self.world) {
             return None;
+        }
+        if given == Err(Unlawful::Limit) {
+            self.limited = true;
         }
         if given.is_err() {
             return if now == self.seen { Some(false) } else { None };
@@ -86,9 +92,9 @@ impl Pair {
 }
 
 /// How many of a world's drawn events were lawful; nothing where one did what it may not.
-fn lawful_of(rng: &mut Lcg64Xsh32, pair: &mut Pair) -> Option<u32> {
+fn lawful_of(rng: &mut Lcg64Xsh32, pair: &mut Pair, events: u32) -> Option<u32> {
     let mut lawful: u32 = 0;
-    for _ in 0..EVENTS {
+    for _ in 0..events {
         if pair.step(rng)? {
             lawful = lawful.saturating_add(1);
         }
@@ -96,33 +102,52 @@ fn lawful_of(rng: &mut Lcg64Xsh32, pair: &mut Pair) -> Option<u32> {
     if pair.is_one() { Some(lawful) } else { None }
 }
 
-/// How many drawn events were lawful in the worlds of the seed; nothing where one changed what it must not.
-fn lawful_in_worlds(alloc: Global, seed: u64) -> Result<Option<u32>, Fail> {
+/// How many drawn events were lawful in the worlds of the seed, and how many were drawn; nothing where one changed what it must not. One
+/// world after the other has the next limit, and the more events the higher that is: on average 500. It is noted which limits refused one.
+fn lawful_in_worlds(
+    alloc: Global,
+    seed: u64,
+    reached: &mut [bool; LIMITS],
+) -> Result<Option<(u32, u32)>, Fail> {
     let mut rng = Lcg64Xsh32::new(seed, 0);
     let mut all: u32 = 0;
-    for _ in 0..WORLDS {
-        let checked = drawn_shape(&mut rng, seed).check()?;
-        let mut pair = Pair::new(alloc, &checked)?;
-        let Some(lawful) = lawful_of(&mut rng, &mut pair) else {
+    let mut drawn: u32 = 0;
+    for world in 0..WORLDS {
+        let limit = (seed
+            .wrapping_mul(u64::from(WORLDS))
+            .wrapping_add(u64::from(world))
+            % LIMITS as u64) as usize;
+        let shape = Shape {
+            limit: limit as u64,
+            ..drawn_shape(&mut rng, seed)
+        };
+        let mut pair = Pair::new(alloc, &shape.check()?)?;
+        let events = 100 + 20 * limit as u32;
+        let Some(lawful) = lawful_of(&mut rng, &mut pair, events) else {
             return Ok(None);
         };
         all = all.saturating_add(lawful);
+        drawn = drawn.saturating_add(events);
+        reached[limit] = reached[limit] || pair.limited;
     }
-    Ok(Some(all))
+    Ok(Some((all, drawn)))
 }
 
 #[test]
 fn refused_events_leave_the_world_as_it_was(rt: HostRuntime) -> Result<(), Fail> {
+    let mut reached = [false; LIMITS];
     for seed in 1..21 {
-        let Some(all) = lawful_in_worlds(rt.alloc(), seed)? else {
+        let Some((all, drawn)) = lawful_in_worlds(rt.alloc(), seed, &mut reached)? else {
             assert!(rt; false, "seed {seed}");
             return Ok(());
         };
-        let events = WORLDS * EVENTS;
         assert!(rt;
-            (events / 4 + 1..events / 10 * 9).contains(&all),
-            "seed {seed}: {all} of {events} events were lawful"
+            (drawn / 4 + 1..drawn / 10 * 9).contains(&all),
+            "seed {seed}: {all} of {drawn} events were lawful"
         );
+    }
+    for limit in 0..LIMITS {
+        assert!(rt; reached[limit], "limit {limit}");
     }
     Ok(())
 }

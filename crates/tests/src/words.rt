@@ -1,4 +1,7 @@
 //! Shapes and keys, beside values that come from elsewhere.
+ghost use Rattle.std.specs.Prelude.{◌≡◌};
+ghost use Rattle.mc_words.specs.Keys.{mixed_key};
+
 use crate::shapes::{checked, shape};
 use mc_words::{Checked, Mix, Shape, ShapeError};
 use std::alloc::{AllocError, Global};
@@ -19,9 +22,15 @@ fn parts(checked: &Checked, key: u64) -> (u8, u32, u32) {
     (tag, first, checked.alt(first, tag))
 }
 
+/// What key 1 is when it is mixed, 0xb456_bcfc_34c2_cb2c. Calls show only parts of it.
+#[tactic(auto, unfolding(mc_words::specs::Keys::mixed_key))]
+fn one_is_mixed()
+    ensures { mixed_key Mix.Fmix 1 ≡ 12994781566227106604 }
+{}
+
 #[test]
 fn a_key_has_these_parts(rt: HostRuntime) -> Result<(), ShapeError> {
-    // Mixed, key 1 is 0xb456_bcfc_34c2_cb2c.
+    one_is_mixed();
     let large = mixed(1 << 20)?;
     assert!(rt; (large.tag(0), large.first(0)) == (0, 0));
     assert!(rt; (large.tag(1), large.first(1)) == (0xb4, 0x2_cb2c));

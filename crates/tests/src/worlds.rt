@@ -78,6 +78,37 @@ fn a_list_of_events_is_run_up_to_the_first_refused(rt: HostRuntime) -> Result<()
     Ok(())
 }
 
+// The lookup makes an access before each refused event, and the others at the end. Its last number shows that only these were counted.
+#[test]
+fn a_refused_event_is_not_counted(rt: HostRuntime) -> Result<(), Fail> {
+    let shape = Shape {
+        limit: 1,
+        ..shape(4, 16, 2)
+    };
+    let mut world: World<1> = World::new(rt.alloc(), &shape.check()?, 1)?;
+    assert!(rt; gives(&mut world, Event::Begin(0, 0), Ok(Stepped::Nothing)));
+    for (event, why) in [
+        (Event::Write(Act::Close), Unlawful::NotLawful),
+        (Event::Read(1), Unlawful::NoReader),
+        (Event::Begin(0, 0), Unlawful::StillRunning),
+        (Event::Write(Act::Open(0, Deed::Fill)), Unlawful::Limit),
+    ] {
+        let events = [Event::Read(0), event, Event::Read(0)];
+        let made = run(rt.alloc(), &mut world, &events)?;
+        assert!(rt; stops_at(&made, 1, why), "{why}");
+    }
+    let made = run(rt.alloc(), &mut world, &[Event::Read(0); 7])?;
+    let done = Done {
+        reader: 0,
+        key: 0,
+        reply: Reply::Absent { at: 0 },
+        first: 1,
+        last: 11,
+    };
+    assert!(rt; ends_with(&made, done));
+    Ok(())
+}
+
 /// The acts of a fill of key 0 with 7 at this moment, and of its removal.
 fn changes(moment: u64) -> [Act; 11] {
     [
@@ -252,6 +283,7 @@ fn marked_fill(item: u32, value: u64) -> [Act; 8] {
 #[test]
 fn the_hand_clears_one_bit_of_its_word(rt: HostRuntime) -> Result<(), Fail> {
     let mut world = new_world(rt.alloc(), 4, 2, 1)?;
+    assert!(rt; world.checked().words::<1>() == 25);
     assert!(rt; makes_all(&mut world, &marked_fill(0, 10)));
     assert!(rt; makes_all(&mut world, &marked_fill(1, 11)));
     assert!(rt; word_at(&world, 24) == Some(3));
