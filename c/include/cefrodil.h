@@ -186,7 +186,8 @@ CEFRODIL_CHECKED cefrodil_status cefrodil_open_shards(const cefrodil_shape *shap
                                                       cefrodil_handle *passes, size_t pass_count);
 
 /* Looks a key up, by any handle. By the writer it is never busy.
- * OK: `value`, `at` and `since` are set. ABSENT: `at` is set. BUSY: ask again, or treat it as a miss.
+ * OK: `value`, `at` and `since` are set. ABSENT: `at` is set. BUSY: ask again, or treat it as a miss. If the writer
+ * stops in the middle of a change, lookups in that stripe are busy until it goes on.
  * CLOSED, WIDTH. `value` is written only with OK. `reply` may be null. */
 CEFRODIL_CHECKED cefrodil_status cefrodil_get(cefrodil_handle *reader, uint64_t key, uint64_t *value, size_t words,
                                               cefrodil_reply *reply);
