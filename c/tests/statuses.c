@@ -171,6 +171,19 @@ static void evictions(void) {
     MUST(evicted > 0);
 }
 
+/* A turn whose call is refused gives the writer back: no call after it is held. */
+static void refused_by(cefrodil_handle *pass) {
+    uint64_t value[2] = {7, 8}, former[2];
+    MUST(cefrodil_try_put(pass, 1, value, 2, &reply) == CEFRODIL_SPENT);
+    MUST(cefrodil_put_within(pass, 3, 1, value, 2, &reply) == CEFRODIL_SPENT);
+    MUST(cefrodil_try_put_if(pass, 1, 0, value, 2, &reply) == CEFRODIL_SPENT);
+    MUST(cefrodil_try_put_if_absent(pass, 1, value, 2, &reply) == CEFRODIL_SPENT);
+    MUST(cefrodil_try_remove(pass, 1, &reply) == CEFRODIL_SPENT);
+    MUST(cefrodil_swap(pass, 1, value, 2, former, 2, &reply) == CEFRODIL_SPENT);
+    MUST(cefrodil_swap_if(pass, 1, 0, value, 2, former, 2, &reply) == CEFRODIL_SPENT);
+    MUST(cefrodil_take_out(pass, 1, former, 2, &reply) == CEFRODIL_SPENT);
+}
+
 static void spent(void) {
     uint64_t value[2] = {7, 8};
     cefrodil_shape few = shape;
@@ -182,8 +195,13 @@ static void spent(void) {
     MUST(cefrodil_remove(&writer, 1, &reply) == CEFRODIL_SPENT);
     MUST(cefrodil_close(&writer) == CEFRODIL_OK && cefrodil_close(&readers[0]) == CEFRODIL_OK);
     MUST(cefrodil_open_desk(&few, 2, passes, 1) == CEFRODIL_OK);
+    refused_by(&passes[0]);
+    uint64_t len = 99;
+    MUST(cefrodil_try_len(&passes[0], &len) == CEFRODIL_OK && len == 0);
+    MUST(cefrodil_close(&passes[0]) == CEFRODIL_OK);
+    MUST(cefrodil_open_shards(&few, 2, 2, passes, 1) == CEFRODIL_OK);
+    refused_by(&passes[0]);
     MUST(cefrodil_try_put(&passes[0], 1, value, 2, &reply) == CEFRODIL_SPENT);
-    MUST(cefrodil_try_remove(&passes[0], 1, &reply) == CEFRODIL_SPENT);
     MUST(cefrodil_close(&passes[0]) == CEFRODIL_OK);
 }
 

@@ -1,6 +1,7 @@
 //! Every error with its text, and the parts of answers that `calls.rs` leaves open.
 use cefrodil::{
-    Cache, Desk, Mix, OpenError, Put, PutError, PutIfError, Removal, Reply, Shape, Shards, Spent, TurnError, Value, Why,
+    Cache, Desk, Mix, OpenError, Pass, Put, PutError, PutIfAbsentError, PutIfError, Removal, Reply, Shape, Shards, Spent, TurnError, Value,
+    Why,
 };
 use std::collections::HashSet;
 use std::error::Error;
@@ -92,6 +93,18 @@ fn a_put_reports_moves_evictions_and_refusals() -> Result<(), Box<dyn Error>> {
     Ok(())
 }
 
+// A turn whose call is refused gives the writer back: no call after it is held.
+fn refused_by(pass: &mut Pass<1>) {
+    assert_eq!(pass.try_put(0, &[7]), Err(TurnError::Call(PutError::Spent)));
+    assert_eq!(pass.put_within(3, 0, &[7]), Err(TurnError::Call(PutError::Spent)));
+    assert_eq!(pass.try_put_if(0, 1, &[7]), Err(TurnError::Call(PutIfError::Spent)));
+    assert_eq!(pass.try_put_if_absent(0, &[7]), Err(TurnError::Call(PutIfAbsentError::Put(PutError::Spent))));
+    assert_eq!(pass.try_remove(0), Err(TurnError::Call(Spent)));
+    assert_eq!(pass.try_swap(0, &[7]), Err(TurnError::Call(PutError::Spent)));
+    assert_eq!(pass.try_swap_if(0, 1, &[7]), Err(TurnError::Call(PutIfError::Spent)));
+    assert_eq!(pass.try_take(0), Err(TurnError::Call(Spent)));
+}
+
 #[test]
 fn a_spent_cache_refuses_writes() -> Result<(), Box<dyn Error>> {
     let none = Shape { limit: 0, ..SMALL };
@@ -101,8 +114,12 @@ fn a_spent_cache_refuses_writes() -> Result<(), Box<dyn Error>> {
     assert_eq!(writer.remove(0), Err(Spent));
     let desk = Desk::<1>::open(&none, 1)?;
     let mut pass = desk.pass().ok_or("no pass")?;
-    assert_eq!(pass.try_put(0, &[7]), Err(TurnError::Call(PutError::Spent)));
-    assert_eq!(pass.try_remove(0), Err(TurnError::Call(Spent)));
+    refused_by(&mut pass);
+    assert_eq!(pass.try_len(), Some(0));
+    for mut pass in Shards::<1>::open(&none, 2, 1)? {
+        refused_by(&mut pass);
+        assert_eq!(pass.try_put(0, &[7]), Err(TurnError::Call(PutError::Spent)));
+    }
     Ok(())
 }
 

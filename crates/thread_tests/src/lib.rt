@@ -45,6 +45,8 @@ mod openings;
 #[cfg(test)]
 mod put_read_back;
 #[cfg(test)]
+mod refused;
+#[cfg(test)]
 mod rows;
 #[cfg(test)]
 mod shard_calls;
