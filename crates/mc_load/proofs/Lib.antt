@@ -1,2 +1,13 @@
+pub mod Batches
+pub mod Each
+pub mod Histories
 pub mod LoadRuns
+pub mod OneShard
+pub mod Readers
+pub mod Refused
+pub mod Told
+pub mod Totals
+pub mod Tries
+pub mod Words
+pub mod Works
 pub mod WrittenLines

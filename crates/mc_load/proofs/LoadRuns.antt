@@ -8,7 +8,7 @@ use Rattle.mc_options.specs.declared.load_options.LoadOptions.{LoadOptions}
 use Rattle.mc_options.specs.Streams.{Stream, TellsFault}
 use Rattle.mc_load.specs.LoadPrograms.{Loads}
 use Rattle.mc_load.specs.LoadPrograms.Loads.{shows, faulty, out_of_memory}
-use Rattle.mc_workers.specs.Loads.{MayAskAtOnce}
+use Rattle.mc_load.specs.Loads.{MayAskAtOnce}
 
 pub load_fault : (words : List (List ℕ)) (k : ErrorKind) (output errors : Stream) (status : ℕ) → IsLoadUnread words k → TellsFault k output errors status → Loads words output errors status
 load_fault words k output errors status why (inl short) = out_of_memory short.1

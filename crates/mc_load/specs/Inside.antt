@@ -1,1 +1,12 @@
+pub mod Dates
+pub mod Drawn
+pub mod Handles
 pub mod Histograms
+pub mod Journals
+pub mod Parted
+pub mod Refusals
+pub mod Seats
+pub mod Sums
+pub mod Tries
+pub mod Workers
+pub mod Works

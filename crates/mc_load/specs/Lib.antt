@@ -1,3 +1,9 @@
-pub mod Told
-pub mod LoadPrograms
+pub mod Dates
+pub mod Drawn
+pub mod Draws
 pub mod Inside
+pub mod LoadPrograms
+pub mod Loads
+pub mod ShardLoads
+pub mod Told
+pub mod Turns

@@ -7,13 +7,13 @@ use Rattle.clap.specs.declared.error.kind.ErrorKind.TheVariants as kind
 use Rattle.mc_options.specs.LoadOptions.{GivesLoad, HasLoadFault, SaysNoLoad}
 use Rattle.mc_options.specs.declared.load_options.LoadOptions.{LoadOptions}
 use Rattle.mc_cache.specs.declared.opening.OpenError.TheVariants as opening
-use Rattle.mc_shard_load.specs.ShardLoads.{RefusesTurns, ReportsTurns}
-use Rattle.mc_workers.specs.Loads.{RefusesLoad, Reports}
-use Rattle.mc_workers.specs.declared.asked.Load.{Load}
-use Rattle.mc_workers.specs.declared.error.LoadError.{LoadError}
-use Rattle.mc_workers.specs.declared.error.LoadError.TheVariants as error
-use Rattle.mc_workers.specs.declared.report.Report.{Report}
-use Rattle.mc_shard_load.specs.declared.turns.TurnsReport.{TurnsReport}
+use Rattle.mc_load.specs.ShardLoads.{RefusesTurns, ReportsTurns}
+use Rattle.mc_load.specs.Loads.{RefusesLoad, Reports}
+use Rattle.mc_load.specs.declared.asked.Load.{Load}
+use Rattle.mc_load.specs.declared.error.LoadError.{LoadError}
+use Rattle.mc_load.specs.declared.error.LoadError.TheVariants as error
+use Rattle.mc_load.specs.declared.report.Report.{Report}
+use Rattle.mc_load.specs.declared.turns.DeskReport.{DeskReport}
 use Rattle.mc_options.specs.Statuses.{failed, refused}
 use Rattle.mc_options.specs.Streams.{IsShort, IsUntouched, Prints, Stream, Tells}
 use Rattle.mc_options.specs.ShapeTexts.{shape_text}
@@ -28,7 +28,7 @@ abbrev pub report_text : Report → List ℕ
 report_text r = lines_text r.lookups r.writes (r.found + r.absent + r.busy == r.lookups) r.wrong
 
 -- of the answers, and of the tries
-abbrev pub turns_text : TurnsReport → List ℕ
+abbrev pub turns_text : DeskReport → List ℕ
 turns_text r = lines_text r.lookups r.calls ((r.found + r.absent + r.busy == r.lookups) && (r.held + r.answered == r.calls)) r.wrong
 
 -- what is told of a load that is refused
@@ -68,7 +68,7 @@ WritesReport o output errors status = (r : Report) × Reports 4 (load_of o) r ×
 
 -- so was a load whose writers take turns
 abbrev pub WritesTurns : LoadOptions → Stream → Stream → ℕ → Type 0
-WritesTurns o output errors status = (r : TurnsReport) × ReportsTurns 4 (load_of o) o.shards o.writers r × WritesLines o.histogram output (turns_text r) status × IsUntouched errors
+WritesTurns o output errors status = (r : DeskReport) × ReportsTurns 4 (load_of o) o.shards o.writers r × WritesLines o.histogram output (turns_text r) status × IsUntouched errors
 
 -- one writer has one cache for itself
 abbrev pub IsAlone : LoadOptions → Type 0

@@ -1,6 +1,6 @@
 //! What `mcload` prints of how its workers fared.
-use mc_shard_load::Turns;
-use mc_workers::{Figures, Meter};
+use crate::meter::{Figures, Meter};
+use crate::turns::Turns;
 use std::alloc::Global;
 use std::fmt;
 use std::fmt::{Display, Write as _};

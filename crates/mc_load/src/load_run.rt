@@ -1,19 +1,26 @@
 //! The whole program `mcload`, over any streams.
-ghost use Rattle.std.specs.Prelude.{◌≡◌, ◌++◌, codes, false, map, true};
+ghost use Rattle.std.specs.Prelude.{◌≡◌, ◌++◌, IfSome, MatchResult, codes, false, map, true};
 ghost use Rattle.std.specs.Bool.{Decides};
 ghost use Rattle.mc_options.specs.Streams.{Tells, stream};
-ghost use Rattle.mc_workers.specs.Loads.{MayAskAtOnce};
+ghost use Rattle.mc_load.specs.Loads.{MayAskAtOnce};
 ghost use Rattle.mc_load.specs.LoadPrograms.{IsAlone, Loads, RunsLoad, WritesLines, load_of, load_status, load_text};
+ghost use Rattle.mc_load.specs.ShardLoads.{RefusesTurns, RunsTurns};
 ghost use Rattle.mc_load.specs.Inside.Histograms.{AppendsSome};
 ghost use Rattle.mc_load.specs.Told.{text_of};
 
+use crate::asked::Load;
+use crate::error::LoadError;
+use crate::gate::Gate;
 use crate::histogram::histogram;
 use crate::load_told::{Lines, LoadRefusal};
+use crate::meter::Meter;
+use crate::turns::{MOST_WRITERS, Turns, TurnsRun};
+use crate::turns_load::{run_desk, run_shards};
+use crate::work::load_many;
+use mc_cache::OpenError;
 use mc_options::{FAILED, LoadOptions, REFUSED, load_options_of, tell, tell_fault};
 use mc_script::send;
-use mc_shard_load::{MOST_WRITERS, Turns, load_shards, run_shards};
 use mc_words::MOST_READERS;
-use mc_workers::{Free, Load, LoadError, Meter, OpenError, load_many};
 use std::alloc::Global;
 use std::convert::AsStr;
 use std::fmt::{InlineText, Write as _};
@@ -53,22 +60,25 @@ fn write_histogram<W: Write, C>(
     if all { 0 } else { FAILED }
 }
 
-/// Writes the lines of a report, and then what the meter shows.
-fn write_measured<W: Write, C>(
+/// Writes the lines of a report, and then what the meter shows, if there is one.
+fn write_told<W: Write, C>(
     alloc: Global,
     output: &mut W,
     told: Lines,
-    meter: &Meter<'_, C>,
+    meter: &Option<Meter<'_, C>>,
     turns: &[Turns],
-    shards: u32,
+    options: LoadOptions,
 ) -> u8
-    ensures { WritesLines true (stream (W.contents output.old) (W.contents output.new)) (text_of told) result }
+    requires meter { IfSome meter.now (λ _. options.histogram ≡ true) }
+    ensures { WritesLines options.histogram (stream (W.contents output.old) (W.contents output.new)) (text_of told) result }
 {
     let status = write_report(output, told);
-    if status == 0 {
-        write_histogram(alloc, output, meter, turns, shards)
-    } else {
-        status
+    if status != 0 {
+        return status;
+    }
+    match meter {
+        Some(meter) => write_histogram(alloc, output, meter, turns, options.shards),
+        None => status,
     }
 }
 
@@ -126,110 +136,89 @@ fn is_alone(options: LoadOptions) -> bool
     options.writers == 1 && options.shards == 1
 }
 
-/// Runs a load with one writer and writes its report.
-fn run_plain<R: Threads + Sync, W: Write, E: Write>(
+/// The meter that the options ask for, if there is memory for it.
+fn meter_for<'c, R: Clock>(
+    alloc: Global,
+    clock: &'c R,
+    options: LoadOptions,
+) -> Option<Meter<'c, R>>
+    ensures { IfSome result (λ _. options.histogram ≡ true) }
+{
+    if !options.histogram {
+        return None;
+    }
+    let readers = options.readers.min(MOST_READERS);
+    let writers = options.writers.min(MOST_WRITERS as u32);
+    Meter::new(alloc, clock, readers, writers).ok()
+}
+
+/// Runs a load with one writer, and writes its report.
+fn run_alone<R: Threads + Sync + Clock, W: Write, E: Write>(
     rt: &R,
     alloc: Global,
     options: LoadOptions,
+    meter: &Option<Meter<'_, R>>,
     output: &mut W,
     errors: &mut E,
 ) -> u8
     requires alone { IsAlone options }
     requires many { MayAskAtOnce options.many }
+    requires meter { IfSome meter.now (λ _. options.histogram ≡ true) }
     ensures { RunsLoad options (stream (W.contents output.old) (W.contents output.new)) (stream (E.contents errors.old) (E.contents errors.new)) result }
 {
-    match load_many::<4, R, Free>(rt, alloc, load_for(options), &Free, options.many) {
-        Ok(report) => write_report(output, Lines::of(report)),
+    match load_many::<4, R, Option<Meter<'_, R>>>(
+        rt,
+        alloc,
+        load_for(options),
+        meter,
+        options.many,
+    ) {
+        Ok(report) => write_told(alloc, output, Lines::of(report), meter, &[], options),
         Err(why) => refuse(errors, why),
     }
 }
 
-/// The same with a meter for a gate, whose figures are written too.
-fn run_measured<R: Threads + Sync + Clock, W: Write, E: Write>(
+/// Runs a load whose writers take turns, at the desk of one cache or at those of shards.
+fn turns_for<R: Threads + Sync, G: Gate>(
     rt: &R,
     alloc: Global,
     options: LoadOptions,
-    meter: &Meter<'_, R>,
-    output: &mut W,
-    errors: &mut E,
-) -> u8
-    requires histogram { options.histogram ≡ true }
-    requires alone { IsAlone options }
-    requires many { MayAskAtOnce options.many }
-    ensures { RunsLoad options (stream (W.contents output.old) (W.contents output.new)) (stream (E.contents errors.old) (E.contents errors.new)) result }
+    gate: &G,
+) -> Result<TurnsRun, LoadError>
+    ensures { MatchResult result (RunsTurns 4 (load_of options) options.shards options.writers)
+        (RefusesTurns (G.may_refuse gate.now) (load_of options) options.shards options.writers) }
 {
-    match load_many::<4, R, Meter<'_, R>>(rt, alloc, load_for(options), meter, options.many) {
-        Ok(report) => write_measured(alloc, output, Lines::of(report), meter, &[], 1),
-        Err(why) => refuse(errors, why),
+    let LoadOptions {
+        shards,
+        writers,
+        ..
+    } = options;
+    if shards == 1 {
+        run_desk::<4, R, G>(rt, alloc, load_for(options), writers, gate)
+    } else {
+        run_shards::<4, R, G>(rt, alloc, load_for(options), shards, writers, gate)
     }
 }
 
 /// Runs a load whose writers take turns, and writes its report.
-fn run_turns<R: Threads + Sync, W: Write, E: Write>(
+fn run_turns<R: Threads + Sync + Clock, W: Write, E: Write>(
     rt: &R,
     alloc: Global,
     options: LoadOptions,
+    meter: &Option<Meter<'_, R>>,
     output: &mut W,
     errors: &mut E,
 ) -> u8
     requires several { ¬ IsAlone options }
+    requires meter { IfSome meter.now (λ _. options.histogram ≡ true) }
     ensures { RunsLoad options (stream (W.contents output.old) (W.contents output.new)) (stream (E.contents errors.old) (E.contents errors.new)) result }
 {
-    let LoadOptions {
-        shards,
-        writers,
-        ..
-    } = options;
-    match load_shards::<4, R, Free>(rt, alloc, load_for(options), shards, writers, &Free) {
-        Ok(report) => write_report(output, Lines::of_turns(report)),
-        Err(why) => refuse(errors, why),
-    }
-}
-
-/// The same with a meter for a gate, whose figures are written too.
-fn run_turns_measured<R: Threads + Sync + Clock, W: Write, E: Write>(
-    rt: &R,
-    alloc: Global,
-    options: LoadOptions,
-    meter: &Meter<'_, R>,
-    output: &mut W,
-    errors: &mut E,
-) -> u8
-    requires several { ¬ IsAlone options }
-    requires histogram { options.histogram ≡ true }
-    ensures { RunsLoad options (stream (W.contents output.old) (W.contents output.new)) (stream (E.contents errors.old) (E.contents errors.new)) result }
-{
-    let LoadOptions {
-        shards,
-        writers,
-        ..
-    } = options;
-    match run_shards::<4, R, Meter<'_, R>>(rt, alloc, load_for(options), shards, writers, meter) {
+    match turns_for(rt, alloc, options, meter) {
         Ok(run) => {
             let told = Lines::of_turns(run.report);
-            write_measured(alloc, output, told, meter, &run.turns, shards)
+            write_told(alloc, output, told, meter, &run.turns, options)
         }
         Err(why) => refuse(errors, why),
-    }
-}
-
-/// Runs what the options ask for, with a meter for a gate.
-fn run_with_meter<R: Threads + Sync + Clock, W: Write, E: Write>(
-    rt: &R,
-    alloc: Global,
-    options: LoadOptions,
-    meter: &Meter<'_, R>,
-    output: &mut W,
-    errors: &mut E,
-) -> u8
-    requires histogram { options.histogram ≡ true }
-    requires many { MayAskAtOnce options.many }
-    ensures { RunsLoad options (stream (W.contents output.old) (W.contents output.new)) (stream (E.contents errors.old) (E.contents errors.new)) result }
-{
-    if is_alone(options) {
-        run_measured(rt, alloc, options, meter, output, errors)
-    } else {
-        run_turns_measured(rt, alloc, options, meter, output, errors)
     }
 }
 
@@ -244,17 +233,11 @@ fn run_for<R: Threads + Sync + Clock, W: Write, E: Write>(
     requires many { MayAskAtOnce options.many }
     ensures { RunsLoad options (stream (W.contents output.old) (W.contents output.new)) (stream (E.contents errors.old) (E.contents errors.new)) result }
 {
-    if options.histogram {
-        let readers = options.readers.min(MOST_READERS);
-        let writers = options.writers.min(MOST_WRITERS as u32);
-        if let Ok(meter) = Meter::new(alloc, rt, readers, writers) {
-            return run_with_meter(rt, alloc, options, &meter, output, errors);
-        }
-    }
+    let meter = meter_for(alloc, rt, options);
     if is_alone(options) {
-        run_plain(rt, alloc, options, output, errors)
+        run_alone(rt, alloc, options, &meter, output, errors)
     } else {
-        run_turns(rt, alloc, options, output, errors)
+        run_turns(rt, alloc, options, &meter, output, errors)
     }
 }
 

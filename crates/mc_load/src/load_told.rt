@@ -3,9 +3,11 @@ ghost use Rattle.std.specs.Prelude.{◌≡◌, ◌+◌, ◌==◌, ◌++◌, Some
 ghost use Rattle.mc_load.specs.LoadPrograms.{load_text, report_text, turns_text};
 ghost use Rattle.mc_load.specs.Told.{text_of};
 
+use crate::error::LoadError;
+use crate::report::Report;
+use crate::turns::DeskReport;
+use mc_cache::OpenError;
 use mc_options::Refusal;
-use mc_shard_load::TurnsReport;
-use mc_workers::{LoadError, OpenError, Report};
 use std::fmt;
 use std::fmt::Display;
 
@@ -40,7 +42,7 @@ impl Lines {
     }
 
     /// Of a load whose writers take turns.
-    pub(crate) fn of_turns(report: TurnsReport) -> Lines
+    pub(crate) fn of_turns(report: DeskReport) -> Lines
         ensures { text_of result ≡ turns_text report }
     {
         let are_answers = adds_up(report.found, report.absent, report.busy, report.lookups);

@@ -1,11 +1,13 @@
 //! Loads in turns whose workers run one after the other: what comes of them is known beforehand.
 //!
 //! The expected numbers come from a reckoning of its own: the generator's words, and a plain map.
-use mc_load::{Gate, Load, LoadError, load_shards};
+use mc_load::{DeskReport, Gate, Load, LoadError, load_desk, load_shards};
 use mc_words::{Mix, Shape};
+use std::alloc::Global;
 use std::sync::atomic::{AtomicU64, Ordering};
 use std::test::Fail;
 use std::thread;
+use std::thread::Threads;
 
 /// How often a loop that waits turns at most.
 const TURNS: u32 = 1 << 26;
@@ -89,16 +91,32 @@ fn one_by_one(load: Load, writers: u32, refused: Option<(u32, u64)>) -> OneByOne
     }
 }
 
+/// A load at the desk of one cache, or at those of shards.
+fn load_at<R: Threads + Sync>(
+    rt: &R,
+    alloc: Global,
+    load: Load,
+    shards: Option<u32>,
+    writers: u32,
+    gate: &OneByOne,
+) -> Result<DeskReport, LoadError> {
+    match shards {
+        Some(many) => load_shards::<4, _, _>(rt, alloc, load, many, writers, gate),
+        None => load_desk::<4, _, _>(rt, alloc, load, writers, gate),
+    }
+}
+
 #[test]
 fn writers_make_the_calls_that_are_drawn(rt: HostRuntime) -> Result<(), Fail> {
     for (load, shards, writers, due) in [
-        (asked(1, 2, 500, 300, 64), 1, 2, [575, 872, 128]),
-        (asked(2, 2, 500, 300, 64), 256, 2, [571, 833, 167]),
-        (asked(3, 2, 500, 300, 64), 1, 8, [2354, 871, 129]),
-        (asked(1, 3, 2000, 500, 1000), 16, 8, [3822, 5079, 921]),
+        (asked(1, 2, 500, 300, 64), None, 2, [575, 872, 128]),
+        (asked(1, 2, 500, 300, 64), Some(1), 2, [575, 872, 128]),
+        (asked(2, 2, 500, 300, 64), Some(256), 2, [571, 833, 167]),
+        (asked(3, 2, 500, 300, 64), None, 8, [2354, 871, 129]),
+        (asked(1, 3, 2000, 500, 1000), Some(16), 8, [3822, 5079, 921]),
     ] {
         let gate = one_by_one(load, writers, None);
-        let report = load_shards::<4, _, _>(&rt, rt.alloc(), load, shards, writers, &gate)?;
+        let report = load_at(&rt, rt.alloc(), load, shards, writers, &gate)?;
         let calls = u64::from(writers) * u64::from(load.writes);
         let lookups = u64::from(load.readers) * u64::from(load.lookups);
         let told = [report.changes, report.found, report.absent];
@@ -106,7 +124,7 @@ fn writers_make_the_calls_that_are_drawn(rt: HostRuntime) -> Result<(), Fail> {
         let seed = load.seed;
         assert!(rt;
             told == due,
-            "seed {seed}, {shards} shards, {writers} writers"
+            "seed {seed}, {writers} writers"
         );
         assert_eq!(rt; counted, [lookups, calls, calls]);
         assert_eq!(rt; [report.busy, report.held, report.wrong], [0; 3]);
@@ -119,8 +137,10 @@ fn a_refused_call_of_a_writer_is_told(rt: HostRuntime) -> Result<(), Fail> {
     for (who, call) in [(1, 7), (3, 2), (4, 50)] {
         let load = asked(1, 2, 50, 50, 64);
         let gate = one_by_one(load, 3, Some((who, call)));
-        let told = load_shards::<4, _, _>(&rt, rt.alloc(), load, 4, 3, &gate);
-        assert!(rt; told == Err(LoadError::Gate { who, call }), "worker {who}");
+        for shards in [None, Some(4)] {
+            let told = load_at(&rt, rt.alloc(), load, shards, 3, &gate);
+            assert!(rt; told == Err(LoadError::Gate { who, call }), "worker {who}");
+        }
     }
     Ok(())
 }

@@ -1,7 +1,7 @@
-//! A load on one shard whose workers are held back: each waits for what another has answered, so they run at once.
+//! A load at a desk whose workers are held back: each waits for what another has answered, so they run at once.
 ghost use Rattle.std.specs.Prelude.{◌<◌};
 
-use mc_load::{Gate, Load, load_shards};
+use mc_load::{Gate, Load, load_desk};
 use mc_words::{Mix, Shape};
 use std::sync::atomic::{AtomicBool, AtomicU64, Ordering};
 use std::test::Fail;
@@ -198,7 +198,7 @@ fn writers_and_readers_run_at_once(rt: HostRuntime) -> Result<(), Fail> {
     for (seed, stripes) in [(1, 1), (1, 8192), (2, 64)] {
         let gate = Held::new();
         let load = held_load(seed, stripes);
-        let report = load_shards::<4, _, _>(&rt, rt.alloc(), load, 1, 2, &gate)?;
+        let report = load_desk::<4, _, _>(&rt, rt.alloc(), load, 2, &gate)?;
         let answers = report.found + report.absent + report.busy;
         let told = [report.lookups, answers, report.calls, report.wrong];
         let without = [report.busy, report.held];

@@ -61,11 +61,10 @@ fn keys_are_refused_before_readers(rt: HostRuntime) -> Result<(), Fail> {
 
 #[test]
 fn writers_take_turns(rt: HostRuntime) -> Result<(), Fail> {
-    for (shards, writers, writes) in [
-        ("1", "2", "4000"),
-        ("4", "1", "2000"),
-        ("256", "8", "16000"),
-    ] {
+    let words = ["mcload", "run", "--writers", "2"];
+    let lines = "lookups 6000\nwrites 4000\nsum ok\nwrong 0\n";
+    assert!(rt; tells(&rt, rt.alloc(), words.as_slice(), lines, "", 0));
+    for (shards, writers, writes) in [("4", "1", "2000"), ("256", "8", "16000")] {
         let words = ["mcload", "run", "--shards", shards, "--writers", writers];
         let lines = format!(in rt.alloc(); "lookups 6000\nwrites {writes}\nsum ok\nwrong 0\n")?;
         assert!(rt; tells(&rt, rt.alloc(), words.as_slice(), lines.as_str(), "", 0));
@@ -94,7 +93,8 @@ fn writers_are_refused_before_keys_shards_and_readers(rt: HostRuntime) -> Result
             "shards must be a power of two from 1 to 256",
         ),
         ("8", "0", "64", "1", "readers must be from 1 to 1024"),
-        ("8", "1016", "64", "1", "readers must be from 1 to 1024"),
+        ("8", "1017", "64", "1", "readers must be from 1 to 1024"),
+        ("1", "1024", "64", "2", "readers must be from 1 to 1024"),
     ] {
         let words = [
             "mcload",
@@ -110,6 +110,29 @@ fn writers_are_refused_before_keys_shards_and_readers(rt: HostRuntime) -> Result
         ];
         let told = format!(in rt.alloc(); "refused: {why}\n")?;
         assert!(rt; tells(&rt, rt.alloc(), words.as_slice(), "", told.as_str(), 2));
+    }
+    Ok(())
+}
+
+#[test]
+fn readers_and_writers_are_1024_together(rt: HostRuntime) -> Result<(), Fail> {
+    let lines = "lookups 0\nwrites 0\nsum ok\nwrong 0\n";
+    for shards in ["1", "2"] {
+        let words = [
+            "mcload",
+            "run",
+            "--shards",
+            shards,
+            "--writers",
+            "8",
+            "--readers",
+            "1016",
+            "--lookups",
+            "0",
+            "--writes",
+            "0",
+        ];
+        assert!(rt; tells(&rt, rt.alloc(), words.as_slice(), lines, "", 0));
     }
     Ok(())
 }

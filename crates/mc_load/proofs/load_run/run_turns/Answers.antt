@@ -1,8 +1,6 @@
-use Rattle.std.proofs.Common.{inl, inr, subst}
+use Rattle.std.proofs.Common.{ℕ, List, inl, inr, subst}
 use Rattle.std.proofs.KnownBytes.{Keeps-refl}
-use Rattle.mc_shard_load.specs.ShardLoads.{RefusesTurns, ReportsTurns}
-use Rattle.mc_workers.specs.declared.asked.Load.{Load}
-use Rattle.mc_load.proofs.WrittenLines.{lines_told_only}
+use Rattle.mc_load.specs.LoadPrograms.{WritesLines}
 use Rattle.mc_options.specs.Streams.{stream}
 use Rattle.mc_load.proofs.load_run.run_turns.Goals as goal
 
@@ -11,9 +9,9 @@ returns-in-Ok g c =
     inr (inl (
       c.requires.several,
       (
-        c.in-Ok.report,
-        subst (λ (l : Load). ReportsTurns 4 l c.args.options.shards c.args.options.writers c.in-Ok.report) c.load_for.ensures c.in-Ok.ensures,
-        lines_told_only (stream (g.W.Write.contents c.args.output.now) (g.W.Write.contents c.write_report.new.output)) _ _ c.write_report.result c.args.options.histogram c.of_turns.ensures c.write_report.ensures,
+        c.in-Ok.run'.report,
+        c.in-Ok.ensures.report,
+        subst (λ (t : List ℕ). WritesLines c.args.options.histogram (stream (g.W.Write.contents c.args.output.now) (g.W.Write.contents c.write_told.new.output)) t c.write_told.result) c.of_turns-told.ensures c.write_told.ensures,
         Keeps-refl (g.E.Write.contents c.args.errors.now),
       ),
     ))
@@ -22,7 +20,7 @@ pub returns-in-Err : goal.returns-in-Err
 returns-in-Err g c =
     inr (inr (
       c.in-Err.why,
-      inr (c.requires.several, subst (λ (l : Load). RefusesTurns (λ who call. ⊥) l c.args.options.shards c.args.options.writers c.in-Err.why) c.load_for.ensures c.in-Err.ensures),
+      inr (c.requires.several, c.in-Err.ensures),
       Keeps-refl (g.W.Write.contents c.args.output.now),
       c.refuse.ensures.told,
       c.refuse.ensures.status,

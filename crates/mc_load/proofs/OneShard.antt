@@ -1,0 +1,37 @@
+-- A cache as one shard, and whose readers are in a handle.
+use Rattle.std.proofs.Common.{ℕ, ◌≡◌, [], ◌∷◌, refl, subst, sym, arith}
+use Rattle.mc_words.specs.Keys.{shard_of}
+use Rattle.mc_words.specs.declared.mix.Mix.{Mix}
+use Rattle.mc_words.specs.declared.shape.Shape.{Shape}
+use Rattle.mc_shared.specs.Records.{ReaderRecord}
+use Rattle.mc_shards.specs.Sharded.{ArePassOf, ChangesAt, shard_in}
+use Rattle.mc_load.specs.Inside.Handles.{place_of, records_of}
+use Rattle.mc_load.specs.declared.handle.CacheReader.{CacheReader}
+use Rattle.mc_load.specs.declared.handle.DeskPass.{DeskPass}
+use Rattle.mc_load.specs.declared.handle.Handle.{Handle}
+use Rattle.mc_load.specs.declared.handle.Handle.TheVariants as handle
+
+first_of_one : (mix : Mix) (k : ℕ) → shard_of mix 1 k ≡ 0
+unfolding shard_of
+first_of_one mix k = omega arith
+
+-- where there is one shard, it is the one that changes
+one_changes : {A : Type 0} (mix : Mix) (k : ℕ) (x y : A) (Goes : A → A → Type 0) → Goes x y → ChangesAt (shard_of mix 1 k) (x ∷ []) (y ∷ []) Goes
+one_changes {A} mix k x y Goes goes = subst (λ (n : ℕ). ChangesAt n (x ∷ []) (y ∷ []) Goes) (sym (first_of_one mix k)) (record { before = x; after = y; was = refl; is = refl; goes = goes })
+
+-- a try at a desk
+pub desk_changes : {V : ℕ} (h : Handle V) (held : DeskPass V) (k : ℕ) (new : ReaderRecord) (Goes : Shape → ReaderRecord → ReaderRecord → Type 0) → h ≡ handle.Desk held → Goes held.cache.now.layout.shape held.pass new
+    → ChangesAt (shard_in (place_of h) k) (records_of h) (new ∷ []) (Goes (place_of h).shape)
+desk_changes {V} h held k new Goes is goes =
+    subst (λ (x : Handle V). ChangesAt (shard_in (place_of x) k) (records_of x) (new ∷ []) (Goes (place_of x).shape)) (sym is) (one_changes held.cache.now.layout.shape.mix k held.pass new (Goes held.cache.now.layout.shape) goes)
+
+-- where there is no desk, nothing changes
+pub nothing_changes : {V : ℕ} (h : Handle V) (held : CacheReader V) (k : ℕ) → h ≡ handle.Cache held → ChangesAt (shard_in (place_of h) k) (records_of h) (records_of h) (λ r r'. r' ≡ r)
+nothing_changes {V} h held k is =
+    subst (λ (x : Handle V). ChangesAt (shard_in (place_of x) k) (records_of x) (records_of x) (λ r r'. r' ≡ r)) (sym is) (one_changes held.cache.now.layout.shape.mix k held.reader held.reader (λ r r'. r' ≡ r) refl)
+
+-- the readers in a handle are those of its tables
+pub belongs : {V : ℕ} (h : Handle V) → ArePassOf (place_of h) (records_of h)
+belongs (handle.Cache held) = λ i. held.belongs i ∷ []
+belongs (handle.Desk held) = λ i. held.belongs.1 i ∷ []
+belongs (handle.Shards held) = held.belongs

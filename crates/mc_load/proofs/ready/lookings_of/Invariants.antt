@@ -1,0 +1,18 @@
+use Rattle.std.proofs.Common.{◌≡◌, ◌+◌, Some, length}
+use Rattle.std.specs.Prelude.{All}
+use Rattle.mc_shared.specs.Records.{Opening}
+use Rattle.mc_load.specs.Inside.Handles.{cache_of}
+use Rattle.mc_load.specs.Inside.Workers.{AreReadersOf, AreReady}
+use Rattle.mc_load.specs.declared.handle.Handle.{Handle}
+use Rattle.mc_load.proofs.ready.lookings_of.Given as goal
+
+abbrev pub invariant-loop-handle : goal.invariant-loop-handle
+invariant-loop-handle g l = record {
+  many : length l.lookings.items + length l.handles.items ≡ l.fn.load.readers;
+  ready : AreReady g.row.V l.fn.load l.lookings.items;
+  rest : (o : Opening) → All (λ (h : Handle g.row.V). cache_of h ≡ Some o) l.fn.handles.items → All (λ (h : Handle g.row.V). cache_of h ≡ Some o) l.handles.items;
+  of : (o : Opening) → All (λ (h : Handle g.row.V). cache_of h ≡ Some o) l.fn.handles.items → AreReadersOf o l.lookings.items;
+}
+
+abbrev pub decreases-loop-handle : goal.decreases-loop-handle
+decreases-loop-handle g l = length l.handles.items

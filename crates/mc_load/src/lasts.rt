@@ -1,0 +1,74 @@
+//! The last moment of each shard, looked up when all workers have ended.
+ghost use Rattle.std.specs.Prelude.{◌≡◌, vec_len};
+ghost use Rattle.mc_words.specs.Shapes.{HasShards};
+ghost use Rattle.mc_load.specs.Inside.Workers.{HaveAllNoted};
+
+use crate::asked::Load;
+use crate::dated::Dated;
+use crate::handle::Handle;
+use crate::looking::{Looking, moment_of};
+use crate::trying::Trying;
+use mc_cache::Mix;
+use mc_check::key_of;
+
+/// The most shards.
+const MOST_SHARDS: usize = 256;
+
+/// Looks up a key of each shard that these changes are in and that has no moment yet.
+fn note_lasts<const V: usize>(
+    handle: &mut Handle<'_, V>,
+    mix: Mix,
+    shards: u32,
+    journal: &[Dated<V>],
+    lasts: &mut [u64; MOST_SHARDS],
+)
+    requires { HasShards shards }
+{
+    for n in 0..journal.len() {
+        let key = key_of(&journal[n].change);
+        let shard = mix.shard(key, shards) as usize;
+        if lasts[shard] == 0 {
+            let reply = handle.get(key);
+            lasts[shard] = moment_of(&reply).unwrap_or(0);
+        }
+    }
+}
+
+/// The last moment of each shard, by the last reader's lookup of one of the keys that the writers changed. 0 where they changed none.
+pub(crate) fn last_moments<const V: usize>(
+    load: Load,
+    shards: u32,
+    tryings: &[Trying<'_, V>],
+    lookings: &mut Vec<Looking<'_, V>>,
+) -> [u64; MOST_SHARDS]
+    requires shards { HasShards shards }
+    requires noted { HaveAllNoted load lookings.old.items }
+    ensures len { vec_len lookings.new ≡ vec_len lookings.old }
+    ensures noted { HaveAllNoted load lookings.new.items }
+{
+    let mut lasts = [0; MOST_SHARDS];
+    let Some(looking) = lookings.pop() else {
+        return lasts;
+    };
+    let Looking {
+        mut handle,
+        number,
+        many,
+        draws,
+        records,
+        refused,
+    } = looking;
+    for n in 0..tryings.len() {
+        let journal = tryings[n].journal.as_slice();
+        note_lasts(&mut handle, load.shape.mix, shards, journal, &mut lasts);
+    }
+    lookings.push_reserved(Looking {
+        handle,
+        number,
+        many,
+        draws,
+        records,
+        refused,
+    });
+    lasts
+}

@@ -1,0 +1,143 @@
+//! Workers are made ready, each with room for all that it will write down.
+ghost use Rattle.std.specs.Prelude.{◌≡◌, ◌+◌, ◌*◌, ◌^◌, ◌<◌, ◌≤◌, [], All, IfOk, Some, vec_len, vec_capacity};
+ghost use Rattle.mc_words.specs.Places.{IsWidth};
+ghost use Rattle.mc_shared.specs.Records.{Opening};
+ghost use Rattle.mc_shards.specs.Sharded.{Sharded};
+ghost use Rattle.mc_load.specs.Loads.{MayAskAtOnce};
+ghost use Rattle.mc_load.specs.ShardLoads.{who_of};
+ghost use Rattle.mc_load.specs.Turns.{stream_of};
+ghost use Rattle.mc_load.specs.Inside.Handles.{cache_of, place_of};
+ghost use Rattle.mc_load.specs.Inside.Tries.{CanTry};
+ghost use Rattle.mc_load.specs.Inside.Workers.{AreReadersOf, AreReady, CanWrite, IsReady};
+
+use crate::asked::Load;
+use crate::draws::Draws;
+use crate::handle::Handle;
+use crate::looking::Looking;
+use crate::trying::Trying;
+use crate::turns::Turns;
+use crate::writing::Writing;
+use mc_cache::{Cache, Writer};
+use std::alloc::{AllocError, Global};
+
+/// A single writer, in a list of its own.
+pub(crate) fn writing_of<'p, const V: usize>(
+    alloc: Global,
+    load: Load,
+    cache: &'p Cache<V>,
+    writer: Writer<V>,
+) -> Result<Vec<Writing<'p, V>>, AllocError>
+    requires width { IsWidth V }
+    requires keys { 1 ≤ load.keys }
+    requires shape { cache.now.layout.shape ≡ load.shape }
+    requires of { writer.of ≡ cache.now }
+    requires fresh { writer.acts ≡ [] }
+    ensures one { IfOk result (λ ws. vec_len ws ≡ 1) }
+    ensures can { IfOk result (λ ws. All (CanWrite V load) ws.items) }
+    ensures of { IfOk result (λ ws. All (λ w. w.cache.now ≡ cache.now) ws.items) }
+{
+    let journal = Vec::with_capacity(alloc, 2 * load.writes as usize)?;
+    let draws = Draws::new(load, 0);
+    let mut writings = Vec::with_capacity(alloc, 1)?;
+    writings.push_reserved(Writing {
+        cache,
+        writer,
+        draws,
+        journal,
+        refused: None,
+    });
+    Ok(writings)
+}
+
+/// The worker that a writer is.
+fn who_of(readers: u32, writer: u32) -> u32
+    requires { readers + writer < 2 ^ 32 }
+    ensures { result ≡ who_of readers writer }
+{
+    if writer == 0 { 0 } else { readers + writer }
+}
+
+/// The stream of a writer's draws. The streams of the readers are below 2^32.
+fn stream_of(writer: u32) -> u64
+    ensures { result ≡ stream_of writer }
+{
+    if writer == 0 {
+        0
+    } else {
+        (1 << 32) + u64::from(writer)
+    }
+}
+
+/// One of the writers that take turns.
+pub(crate) fn trying_of<'p, const V: usize>(
+    alloc: Global,
+    load: Load,
+    handle: Handle<'p, V>,
+    number: u32,
+) -> Result<Trying<'p, V>, AllocError>
+    requires width { IsWidth V }
+    requires keys { 1 ≤ load.keys }
+    requires few { load.readers + number < 2 ^ 32 }
+    ensures { (s : Sharded) → place_of handle.entry ≡ s → IfOk result (λ t. CanTry V s load number t) }
+{
+    let journal = Vec::with_capacity(alloc, 2 * load.writes as usize)?;
+    Ok(Trying {
+        handle,
+        number,
+        who: who_of(load.readers, number),
+        draws: Draws::new(load, stream_of(number)),
+        turns: Turns::none(),
+        journal,
+        refused: None,
+    })
+}
+
+/// A reader.
+fn looking_of<'p, const V: usize>(
+    alloc: Global,
+    load: Load,
+    many: u32,
+    handle: Handle<'p, V>,
+    number: u32,
+) -> Result<Looking<'p, V>, AllocError>
+    requires width { IsWidth V }
+    requires keys { 1 ≤ load.keys }
+    requires many { MayAskAtOnce many }
+    requires few { number + 1 < 2 ^ 32 }
+    ensures ready { IfOk result (λ l. IsReady V load number l) }
+    ensures handle { IfOk result (λ l. l.handle ≡ handle.entry) }
+{
+    let draws = Draws::new(load, u64::from(number) + 1);
+    let records = Vec::with_capacity(alloc, load.lookups as usize)?;
+    Ok(Looking {
+        handle,
+        number,
+        many,
+        draws,
+        records,
+        refused: None,
+    })
+}
+
+/// The readers, each with one of these handles. Each asks for so many keys at once.
+pub(crate) fn lookings_of<'p, const V: usize>(
+    alloc: Global,
+    load: Load,
+    many: u32,
+    mut handles: Vec<Handle<'p, V>>,
+) -> Result<Vec<Looking<'p, V>>, AllocError>
+    requires width { IsWidth V }
+    requires keys { 1 ≤ load.keys }
+    requires many { MayAskAtOnce many }
+    requires handles { vec_len handles ≡ load.readers }
+    ensures len { IfOk result (λ ls. vec_len ls ≡ load.readers) }
+    ensures ready { IfOk result (λ ls. AreReady V load ls.items) }
+    ensures of { (o : Opening) → All (λ h. cache_of h ≡ Some o) handles.entry.items → IfOk result (λ ls. AreReadersOf o ls.items) }
+{
+    let mut lookings = Vec::new(alloc);
+    while let Some(handle) = handles.pop() {
+        let number = lookings.len() as u32;
+        lookings.push(looking_of(alloc, load, many, handle, number)?)?;
+    }
+    Ok(lookings)
+}

@@ -1,0 +1,112 @@
+//! The workers of a load in turns are made ready.
+ghost use Rattle.std.specs.Prelude.{◌≡◌, ◌+◌, ◌*◌, ◌≤◌, All, IfOk, vec_len, vec_capacity};
+ghost use Rattle.mc_words.specs.Places.{IsWidth};
+ghost use Rattle.mc_words.specs.Readers.{HasReaders};
+ghost use Rattle.mc_shards.specs.Sharded.{Sharded};
+ghost use Rattle.mc_load.specs.Loads.{HasKeys};
+ghost use Rattle.mc_load.specs.ShardLoads.{HasSeats, HasWriters, most_writers};
+ghost use Rattle.mc_load.specs.Inside.Handles.{place_of};
+ghost use Rattle.mc_load.specs.Inside.Seats.{AreSeated, CanAudit};
+ghost use Rattle.mc_load.specs.Inside.Tries.{CanAllTry, CanTry};
+
+use crate::asked::Load;
+use crate::dated::Dated;
+use crate::handle::Handle;
+use crate::looking::Looking;
+use crate::ready::{lookings_of, trying_of};
+use crate::trying::Trying;
+use mc_cache::Change;
+use mc_check::Record;
+use std::alloc::{AllocError, Global};
+
+/// With what one shard after the other is checked: room for all changes of all writers, twice, and for the answers of one reader.
+#[derive(Drop)]
+pub(crate) struct Audit<const V: usize> {
+    pub(crate) dated: Vec<Dated<V>>,
+    pub(crate) history: Vec<Change<V>>,
+    pub(crate) told: Vec<Record<V>>,
+}
+
+/// The writers and the readers, and with what they are checked.
+#[derive(Drop)]
+pub(crate) struct Seated<'p, const V: usize> {
+    pub(crate) tryings: Vec<Trying<'p, V>>,
+    pub(crate) lookings: Vec<Looking<'p, V>>,
+    pub(crate) audit: Audit<V>,
+}
+
+/// With how many readers a cache is opened for these readers and writers. None where there are no readers.
+pub(crate) fn seats_of(readers: u32, writers: u32) -> u32
+    requires writers { HasWriters writers }
+    ensures asked { HasReaders result → (1 ≤ readers) × (result ≡ readers + writers) }
+    ensures had { HasSeats readers writers → result ≡ readers + writers }
+{
+    if readers == 0 {
+        0
+    } else {
+        readers.saturating_add(writers)
+    }
+}
+
+/// The writers, each with one of the last handles.
+fn tryings_of<'p, const V: usize>(
+    alloc: Global,
+    load: Load,
+    writers: u32,
+    handles: &mut Vec<Handle<'p, V>>,
+) -> Result<Vec<Trying<'p, V>>, AllocError>
+    requires width { IsWidth V }
+    requires keys { 1 ≤ load.keys }
+    requires seats { HasSeats load.readers writers }
+    requires many { vec_len handles.old ≡ load.readers + writers }
+    ensures len { IfOk result (λ ts. vec_len ts ≡ writers) }
+    ensures ready { (s : Sharded) → All (λ h. place_of h ≡ s) handles.old.items → IfOk result (λ ts. CanAllTry V s load ts.items) }
+    ensures left { IfOk result (λ ts. vec_len handles.new ≡ load.readers) }
+{
+    let mut tryings = Vec::new(alloc);
+    for number in 0..writers {
+        let Some(handle) = handles.pop() else {
+            unreachable!();
+        };
+        tryings.push(trying_of(alloc, load, handle, number)?)?;
+    }
+    Ok(tryings)
+}
+
+/// With what so many writers and the readers are checked.
+fn audit_of<const V: usize>(alloc: Global, load: Load, writers: u32) -> Result<Audit<V>, AllocError>
+    requires width { IsWidth V }
+    requires writers { HasWriters writers }
+    ensures { IfOk result (CanAudit V load writers) }
+{
+    let most = 2 * load.writes as usize * writers as usize;
+    Ok(Audit {
+        dated: Vec::with_capacity(alloc, most)?,
+        history: Vec::with_capacity(alloc, most)?,
+        told: Vec::with_capacity(alloc, load.lookups as usize)?,
+    })
+}
+
+/// The workers, each with one of these handles, and with what they are checked.
+pub(crate) fn seat_workers<'p, const V: usize>(
+    alloc: Global,
+    load: Load,
+    writers: u32,
+    mut handles: Vec<Handle<'p, V>>,
+) -> Result<Seated<'p, V>, AllocError>
+    requires width { IsWidth V }
+    requires keys { HasKeys load.keys }
+    requires writers { HasWriters writers }
+    requires seats { HasSeats load.readers writers }
+    requires many { vec_len handles ≡ load.readers + writers }
+    ensures { (s : Sharded) → All (λ h. place_of h ≡ s) handles.entry.items → IfOk result (AreSeated V s load writers) }
+{
+    let audit = audit_of(alloc, load, writers)?;
+    let tryings = tryings_of(alloc, load, writers, &mut handles)?;
+    let lookings = lookings_of(alloc, load, 1, handles)?;
+    Ok(Seated {
+        tryings,
+        lookings,
+        audit,
+    })
+}

@@ -1,0 +1,126 @@
+//! What came of a load in turns is checked and added up.
+ghost use Rattle.std.specs.Prelude.{ℕ, ◌≡◌, ◌+◌, ◌*◌, ◌≤◌, ◌<◌, length, slice_index_or, sum_by, vec_len};
+ghost use Rattle.mc_words.specs.Places.{IsWidth};
+ghost use Rattle.mc_words.specs.Shapes.{HasShards};
+ghost use Rattle.mc_shards.specs.Sharded.{Sharded};
+ghost use Rattle.mc_load.specs.ShardLoads.{IsRightIn, RunsTurns, most_writers};
+ghost use Rattle.mc_load.specs.Inside.Seats.{CanAudit};
+ghost use Rattle.mc_load.specs.Inside.Sums.{HasRun, all_tries};
+ghost use Rattle.mc_load.specs.Inside.Tries.{HaveTriedWhole};
+ghost use Rattle.mc_load.specs.Inside.Workers.{HaveAllNoted, answers_of};
+
+use crate::asked::Load;
+use crate::checking::check_shard;
+use crate::lasts::last_moments;
+use crate::looking::Looking;
+use crate::merging::Share;
+use crate::summing::answers_of;
+use crate::trying::Trying;
+use crate::turns::{DeskReport, MOST_WRITERS, Turns, TurnsRun};
+use crate::turns_ready::{Audit, Seated};
+use std::alloc::Global;
+
+/// What came of the tries of all writers, and how many changes their answers report.
+fn tries_of<const V: usize>(load: Load, tryings: &[Trying<'_, V>]) -> (Turns, u64)
+    requires few { length tryings.now ≤ most_writers }
+    requires tried { HaveTriedWhole load tryings.now }
+    ensures sum { result.0.held + result.0.answered ≡ length tryings.now * load.writes }
+    ensures few { result.1 ≤ 2 * result.0.answered }
+    ensures held { result.0.held ≡ sum_by (λ t. t.turns.held) (all_tries tryings.now) }
+    ensures answered { result.0.answered ≡ sum_by (λ t. t.turns.answered) (all_tries tryings.now) }
+    ensures changes { result.1 ≡ sum_by (λ t. length t.journal) (all_tries tryings.now) }
+{
+    let _load = load;
+    let mut turns = Turns::none();
+    let mut changes = 0;
+    for n in 0..tryings.len() {
+        turns.add(tryings[n].turns);
+        changes += tryings[n].journal.len() as u64;
+    }
+    (turns, changes)
+}
+
+/// What came of each writer's tries.
+fn turns_of<const V: usize>(load: Load, tryings: &[Trying<'_, V>]) -> [Turns; MOST_WRITERS]
+    requires few { length tryings.now ≤ most_writers }
+    requires tried { HaveTriedWhole load tryings.now }
+    ensures { (n : ℕ) (d : Turns) → n < length tryings.now → (slice_index_or result n d).held + (slice_index_or result n d).answered ≡ load.writes }
+{
+    let mut turns = [Turns::none(); MOST_WRITERS];
+    for n in 0..tryings.len() {
+        turns[n] = tryings[n].turns;
+    }
+    turns
+}
+
+/// Checks one shard after the other, whose last moments are these: how much is wrong in all.
+fn check_all<const V: usize>(
+    alloc: Global,
+    load: Load,
+    shards: u32,
+    lasts: &[u64],
+    tryings: &[Trying<'_, V>],
+    lookings: &[Looking<'_, V>],
+    audit: &mut Audit<V>,
+) -> u64
+    requires width { IsWidth V }
+    requires shards { HasShards shards × (length lasts.now ≡ 256) }
+    requires few { length tryings.now ≤ most_writers }
+    requires tried { HaveTriedWhole load tryings.now }
+    requires noted { HaveAllNoted load lookings.now }
+    requires can { CanAudit V load (length tryings.now) audit.old }
+    ensures right { result ≡ 0 → (n : ℕ) → n < shards →
+        IsRightIn load.shape.mix shards (all_tries tryings.now) (answers_of lookings.now) n }
+{
+    let mut wrong: u64 = 0;
+    for shard in 0..shards {
+        let share = Share {
+            mix: load.shape.mix,
+            shards,
+            shard,
+        };
+        let last = lasts[shard as usize];
+        let found = check_shard(alloc, load, share, last, tryings, lookings, audit);
+        wrong = wrong.saturating_add(found);
+    }
+    wrong
+}
+
+/// Checks the answers of all workers, shard by shard, and adds them up.
+pub(crate) fn run_of<const V: usize>(
+    alloc: Global,
+    load: Load,
+    shards: u32,
+    seated: Seated<'_, V>,
+) -> TurnsRun
+    requires width { IsWidth V }
+    requires run { (s : Sharded) × HasRun s load shards (vec_len seated.tryings) seated }
+    ensures { RunsTurns V load shards (vec_len seated.entry.tryings) result }
+{
+    let Seated {
+        tryings,
+        mut lookings,
+        mut audit,
+    } = seated;
+    let tryings = tryings.as_slice();
+    let lasts = last_moments(load, shards, tryings, &mut lookings);
+    let lookings = lookings.as_slice();
+    let wrong = check_all(alloc, load, shards, &lasts, tryings, lookings, &mut audit);
+    let answers = answers_of(load, lookings);
+    let (turns, changes) = tries_of(load, tryings);
+    let report = DeskReport {
+        lookups: answers.lookups,
+        found: answers.found,
+        absent: answers.absent,
+        busy: answers.busy,
+        calls: turns.held + turns.answered,
+        held: turns.held,
+        answered: turns.answered,
+        changes,
+        wrong,
+    };
+    TurnsRun {
+        report,
+        turns: turns_of(load, tryings),
+    }
+}

@@ -1,4 +1,0 @@
-pub mod Refused
-pub mod Told
-pub mod Totals
-pub mod Tries

@@ -1,4 +1,0 @@
-pub mod Dates
-pub mod Inside
-pub mod ShardLoads
-pub mod Turns

@@ -1,6 +1,0 @@
-use Rattle.std.proofs.Common.{◌∙◌, refl}
-use Rattle.mc_workers.proofs.Words.{generator_new}
-use Rattle.mc_workers.proofs.draws.Draws.new.Goals as goal
-
-pub returns : goal.returns
-returns c = record { generator = c.new.ensures ∙ generator_new c.args.load c.args.stream; keys = refl }

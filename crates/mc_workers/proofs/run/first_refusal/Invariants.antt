@@ -1,6 +1,0 @@
-use Rattle.std.proofs.Common.{ℕ, ◌≡◌, ◌<◌, None, slice_index_or}
-use Rattle.mc_workers.specs.declared.looking.Looking.{Looking}
-use Rattle.mc_workers.proofs.run.first_refusal.Given as goal
-
-abbrev pub invariant-loop-n : goal.invariant-loop-n
-invariant-loop-n g l = (k : ℕ) (d : Looking g.row.V) → k < l.n → (slice_index_or l.fn.lookings k d).refused ≡ None

@@ -1,4 +1,0 @@
-pub mod Drawn
-pub mod Draws
-pub mod Inside
-pub mod Loads
