@@ -4,6 +4,7 @@
 #![tactic(auto)]
 
 mod calls;
+mod loads;
 mod types;
 
 fn main() {}
