@@ -1,5 +1,5 @@
 //! A script, line by line, and what its lines ask for.
-use crate::plain::Asked;
+use crate::plain::{Asked, number_behind};
 use mc_replay::{ReplayError, replay};
 use mc_words::Checked;
 use rand_core::Rng;
@@ -14,9 +14,7 @@ const ACTS_AFTER_SWEEP: u64 = 12;
 /// The stamp in the last of these lines, or 0.
 fn stamp_in(told: &str) -> u64 {
     let last = told.lines().last().unwrap_or("");
-    last.split_once(" since ")
-        .and_then(|parts| parts.1.parse::<u64>().ok())
-        .unwrap_or(0)
+    number_behind(last, " since ").unwrap_or(0)
 }
 
 /// A script, and what its lines ask for.

@@ -99,7 +99,13 @@ fn all_recent(alloc: Global, seed: u64, draws: &Draws) -> Result<Option<usize>, 
     if plain.first_wrong(script.asked.as_slice(), text)?.is_some() {
         return Ok(None);
     }
-    Ok(Some(text.lines().filter(|line| *line == ALL_RECENT).count()))
+    let mut refused: usize = 0;
+    for line in text.lines() {
+        if line == ALL_RECENT {
+            refused = refused.saturating_add(1);
+        }
+    }
+    Ok(Some(refused))
 }
 
 /// How many puts of the seeds' scripts are refused since every bit was set, or the first seed whose script is not

@@ -20,6 +20,8 @@ mod drawn_scripts;
 #[cfg(test)]
 mod driver;
 #[cfg(test)]
+mod due;
+#[cfg(test)]
 mod finding;
 #[cfg(test)]
 mod paths;

@@ -1,4 +1,5 @@
 //! A plain map beside a replay, and the order in which a put goes.
+use crate::due::{Due, rest_behind};
 use mc_words::Shape;
 use std::alloc::{AllocError, Global};
 
@@ -62,19 +63,10 @@ pub(crate) struct Plain {
     look_ups: [Option<LookUp>; 2],
 }
 
-/// The number of moves in the line of a put.
-fn moves_in(told: &str) -> Option<u64> {
-    told.split(' ').nth(4)?.parse::<u64>().ok()
-}
-
-/// The number of entries that were left, in the line of another world.
-fn left_in(told: &str) -> Option<usize> {
-    told.split(' ').nth(4)?.parse::<usize>().ok()
-}
-
-/// The moment in the line of a lookup.
-fn moment_in(told: &str) -> Option<usize> {
-    told.split_once(" at ")?.1.parse::<usize>().ok()
+/// The number behind these words of a line.
+pub(crate) fn number_behind(told: &str, words: &str) -> Option<u64> {
+    let rest = told.split_once(words)?.1;
+    rest.split(' ').next()?.parse::<u64>().ok()
 }
 
 impl Plain {
@@ -94,8 +86,12 @@ impl Plain {
     /// What the key had after so many changes.
     pub(crate) fn entry(&self, key: u64, changes: usize) -> Entry {
         let made = self.changes.as_slice().get(..changes)?;
-        let last = made.iter().rev().find(|change| change.0 == key)?;
-        last.1
+        for change in made.iter().rev() {
+            if change.0 == key {
+                return change.1;
+            }
+        }
+        None
     }
 
     fn change(&mut self, key: u64, entry: Entry) -> Result<(), AllocError> {
@@ -111,11 +107,11 @@ impl Plain {
         Ok(since)
     }
 
-    /// The same of a key that stands there. The line that tells it.
-    fn renew(&mut self, key: u64, value: u64, item: usize) -> Result<String, AllocError> {
+    /// The same of a key that stands there. What that answers.
+    fn renew(&mut self, key: u64, value: u64, item: usize) -> Result<Due, AllocError> {
         let at = self.hold(key, value, item)?;
         self.mark(item);
-        format!(in self.alloc; "renewed at {at}")
+        Ok(Due::Renewed(at))
     }
 
     /// Whether so many version changes more would pass the limit.
@@ -137,7 +133,12 @@ impl Plain {
 
     /// The first free item.
     pub(crate) fn free(&self) -> Option<usize> {
-        self.items.iter().position(|item| item.key.is_none())
+        for (n, item) in self.items.iter().enumerate() {
+            if item.key.is_none() {
+                return Some(n);
+            }
+        }
+        None
     }
 
     /// Reads the bit at the hand, which turns: the item and its key, where the bit is clear.
@@ -146,11 +147,11 @@ impl Plain {
         let next = item.saturating_add(1);
         self.hand = if next < self.items.len() { next } else { 0 };
         let place = self.items.get_mut(item)?;
-        if !place.marked {
-            return place.key.map(|key| (item, key));
+        if place.marked {
+            place.marked = false;
+            return None;
         }
-        place.marked = false;
-        None
+        Some((item, place.key?))
     }
 
     /// The item at which the hand ends, and its key.
@@ -171,7 +172,13 @@ impl Plain {
 
     /// How many keys the map has.
     pub(crate) fn held(&self) -> usize {
-        self.items.iter().filter(|item| item.key.is_some()).count()
+        let mut held: usize = 0;
+        for item in self.items.iter() {
+            if item.key.is_some() {
+                held = held.saturating_add(1);
+            }
+        }
+        held
     }
 
     /// How many keys the table can hold.
@@ -194,7 +201,7 @@ impl Plain {
                 None => return Ok(told == ALL_RECENT),
             },
         };
-        let Some(moves) = moves_in(told) else {
+        let Some(moves) = number_behind(told, " moves ") else {
             return Ok(false);
         };
         if let Some(old) = evicted {
@@ -203,11 +210,8 @@ impl Plain {
         let at = self.hold(key, value, item)?;
         self.versions = self.versions.saturating_add(moves.saturating_mul(2));
         self.set(item, Some(key), true);
-        let line = match evicted {
-            None => format!(in self.alloc; "stored at {at} moves {moves}")?,
-            Some(old) => format!(in self.alloc; "stored at {at} moves {moves} evicted {old}")?,
-        };
-        Ok(moves <= most && line.as_str() == told)
+        let due = Due::Stored(at, moves, evicted);
+        Ok(moves <= most && due.is(told))
     }
 
     fn put(&mut self, key: u64, value: u64, told: &str) -> Result<bool, AllocError> {
@@ -218,8 +222,7 @@ impl Plain {
             return Ok(told == "refused spent");
         }
         if let Some(held) = self.entry(key, self.changes.len()) {
-            let line = self.renew(key, value, held.item)?;
-            return Ok(line.as_str() == told);
+            return Ok(self.renew(key, value, held.item)?.is(told));
         }
         // Both buckets of the key have to be full, and no way leads to a hole where the whole table is.
         let held = self.held();
@@ -235,60 +238,53 @@ impl Plain {
             return Ok(told == "refused spent");
         }
         let at = self.changes.len();
-        let line = match self.entry(key, at) {
-            None => format!(in self.alloc; "not there at {at}")?,
-            Some(held) if held.since as u64 != since => {
-                format!(in self.alloc; "refused changed since {}", held.since)?
-            }
+        let due = match self.entry(key, at) {
+            None => Due::NotThere(at),
+            Some(held) if held.since as u64 != since => Due::Changed(held.since),
             Some(held) => self.renew(key, value, held.item)?,
         };
-        Ok(line.as_str() == told)
+        Ok(due.is(told))
     }
 
     fn remove(&mut self, key: u64, told: &str) -> Result<bool, AllocError> {
         if self.is_spent(2) {
             return Ok(told == "refused spent");
         }
-        let at = self.changes.len();
-        let line = match self.entry(key, at) {
-            None => format!(in self.alloc; "not there at {at}")?,
-            Some(held) => {
-                self.change(key, None)?;
-                if let Some(place) = self.items.get_mut(held.item) {
-                    place.key = None;
-                }
-                let at = self.changes.len();
-                format!(in self.alloc; "removed at {at}")?
-            }
+        let Some(held) = self.entry(key, self.changes.len()) else {
+            return Ok(Due::NotThere(self.changes.len()).is(told));
         };
-        Ok(line.as_str() == told)
+        self.change(key, None)?;
+        if let Some(place) = self.items.get_mut(held.item) {
+            place.key = None;
+        }
+        Ok(Due::Removed(self.changes.len()).is(told))
     }
 
-    /// Marks the item that the key had after so many changes; the line of the lookup that found it.
-    fn find(&mut self, key: u64, at: usize) -> Result<String, AllocError> {
+    /// Marks the item that the key had after so many changes. What the lookup that found it answers.
+    fn find(&mut self, key: u64, at: usize) -> Due {
         match self.entry(key, at) {
-            None => format!(in self.alloc; "absent at {at}"),
+            None => Due::Absent(at),
             Some(held) => {
                 self.mark(held.item);
-                format!(in self.alloc; "found {} at {at}", held.value)
+                Due::Found(held.value, at)
             }
         }
     }
 
-    fn get(&mut self, key: u64, told: &str) -> Result<bool, AllocError> {
+    fn get(&mut self, key: u64) -> Due {
         let at = self.changes.len();
-        let line = self.find(key, at)?;
-        Ok(line.as_str() == told)
+        self.find(key, at)
     }
 
-    fn stamp(&mut self, key: u64, told: &str) -> Result<bool, AllocError> {
+    fn stamp(&mut self, key: u64) -> Due {
         let at = self.changes.len();
-        let mut line = self.find(key, at)?;
-        if let Some(held) = self.entry(key, at) {
-            let since = format!(in self.alloc; " since {}", held.since)?;
-            line.push_str(since.as_str())?;
+        match self.entry(key, at) {
+            None => Due::Absent(at),
+            Some(held) => {
+                self.mark(held.item);
+                Due::Stamped(held.value, at, held.since)
+            }
         }
-        Ok(line.as_str() == told)
     }
 
     fn begin(&mut self, reader: usize, key: u64) -> bool {
@@ -306,25 +302,22 @@ impl Plain {
         }
     }
 
-    fn end(&mut self, reader: usize, told: &str) -> Result<bool, AllocError> {
-        let start = format!(in self.alloc; "reader {reader} ")?;
-        let Some(told) = told.strip_prefix(start.as_str()) else {
-            return Ok(false);
+    fn end(&mut self, reader: usize, told: &str) -> bool {
+        let Some(told) = rest_behind(Due::Reader(reader), told) else {
+            return false;
         };
         let Some(Some(look_up)) = self.look_ups.get(reader).copied() else {
-            return Ok(false);
+            return false;
         };
         if told == "busy" {
-            return Ok(self.versions > look_up.versions);
+            return self.versions > look_up.versions;
         }
-        match moment_in(told) {
-            None => Ok(false),
-            Some(at) => {
-                let line = self.find(look_up.key, at)?;
-                let held = look_up.changes <= at && at <= self.changes.len();
-                Ok(held && line.as_str() == told)
-            }
-        }
+        let Some(number) = number_behind(told, " at ") else {
+            return false;
+        };
+        let at = number as usize;
+        let held = look_up.changes <= at && at <= self.changes.len();
+        self.find(look_up.key, at).is(told) && held
     }
 
     /// The first line that is not answered as the map says.
@@ -341,7 +334,7 @@ impl Plain {
             };
             let mut left = Vec::new(self.alloc);
             if let Asked::Reopen(_, _) = *line {
-                for _ in 0..told.and_then(left_in).unwrap_or(0) {
+                for _ in 0..number_behind(told.unwrap_or(""), " left ").unwrap_or(0) {
                     left.push(lines.next().unwrap_or(""))?;
                 }
             }
@@ -371,9 +364,9 @@ impl Plain {
             (Asked::Reading, None) => Ok(self.reading()),
             (Asked::PutIf(key, since, value), Some(told)) => self.put_if(key, since, value, told),
             (Asked::Remove(key), Some(told)) => self.remove(key, told),
-            (Asked::Get(key), Some(told)) => self.get(key, told),
-            (Asked::Stamp(key), Some(told)) => self.stamp(key, told),
-            (Asked::End(reader), Some(told)) => self.end(reader, told),
+            (Asked::Get(key), Some(told)) => Ok(self.get(key).is(told)),
+            (Asked::Stamp(key), Some(told)) => Ok(self.stamp(key).is(told)),
+            (Asked::End(reader), Some(told)) => Ok(self.end(reader, told)),
             (Asked::Reopen(buckets, items), Some(told)) => self.reopen(buckets, items, told, left),
             _ => Ok(false),
         }

@@ -1,4 +1,5 @@
 //! A plain map in the place of another, whose entries were put into it.
+use crate::due::Due;
 use crate::plain::Plain;
 use mc_words::Shape;
 use std::alloc::AllocError;
@@ -15,9 +16,7 @@ impl Plain {
     ) -> Result<bool, AllocError> {
         let told = left.get(*next).copied().unwrap_or("");
         let held = self.held();
-        let no_path = format!(in self.alloc; "left {key} no path")?;
-        let no_item = format!(in self.alloc; "left {key} no item")?;
-        if told == no_path.as_str() {
+        if Due::NoPath(key).is(told) {
             *next = next.saturating_add(1);
             return Ok(held >= 8);
         }
@@ -26,7 +25,7 @@ impl Plain {
         }
         let Some(item) = self.free() else {
             *next = next.saturating_add(1);
-            return Ok(told == no_item.as_str());
+            return Ok(Due::NoItem(key).is(told));
         };
         self.hold(key, value, item)?;
         self.set(item, Some(key), true);
@@ -59,12 +58,8 @@ impl Plain {
                 return Ok(false);
             }
         }
-        let line = format!(in self.alloc;
-            "reopened at {} left {}",
-            other.changes.len(),
-            left.len()
-        )?;
+        let due = Due::Reopened(other.changes.len(), left.len());
         *self = other;
-        Ok(next == left.len() && line.as_str() == told)
+        Ok(next == left.len() && due.is(told))
     }
 }

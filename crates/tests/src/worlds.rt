@@ -18,6 +18,42 @@ fn gives(world: &mut World<1>, event: Event, given: Result<Stepped<1>, Unlawful>
     world.step(event) == given
 }
 
+/// What is due of a world.
+#[derive(Clone, Copy)]
+enum Row {
+    /// The event is made, and gives this.
+    Gives(Event, Result<Stepped<1>, Unlawful>),
+    /// The word of this number, if the world has so many.
+    Word(usize, Option<u64>),
+    /// The next words, up to the one of this number, are 0.
+    Zeros(usize, usize),
+}
+
+fn is_so(world: &mut World<1>, row: Row) -> bool {
+    match row {
+        Row::Gives(event, given) => gives(world, event, given),
+        Row::Word(n, word) => word_at(world, n) == word,
+        Row::Zeros(from, to) => {
+            for n in from..to {
+                if word_at(world, n) != Some(0) {
+                    return false;
+                }
+            }
+            true
+        }
+    }
+}
+
+/// The first row that is not so, if there is one.
+fn first_wrong(world: &mut World<1>, rows: &[Row]) -> Option<usize> {
+    for n in 0..rows.len() {
+        if !is_so(world, rows[n]) {
+            return Some(n);
+        }
+    }
+    None
+}
+
 /// Whether this lookup alone ended, and no event was refused.
 fn ends_with(made: &Run<1>, done: Done<1>) -> bool {
     made.done.as_slice() == [done].as_slice() && made.stopped == None
@@ -39,6 +75,13 @@ fn word_at(world: &World<1>, n: usize) -> Option<u64> {
 
 const FIRST: Place = Place { bucket: 0, slot: 0 };
 
+const PAST_THE_LIMIT: [Row; 4] = [
+    Row::Gives(Event::Write(Act::Item(0, 0, 0)), Err(Unlawful::NotLawful)),
+    Row::Gives(Event::Write(Act::Open(0, Deed::Fill)), Err(Unlawful::Limit)),
+    Row::Zeros(0, 67),
+    Row::Word(67, None),
+];
+
 #[test]
 fn a_new_world_refuses_a_write_and_an_open_past_the_limit(rt: HostRuntime) -> Result<(), Fail> {
     let shape = Shape {
@@ -46,15 +89,8 @@ fn a_new_world_refuses_a_write_and_an_open_past_the_limit(rt: HostRuntime) -> Re
         ..shape(4, 16, 2)
     };
     let mut world: World<1> = World::new(rt.alloc(), &shape.check()?, 2)?;
-    let write = Event::Write(Act::Item(0, 0, 0));
-    assert!(rt; gives(&mut world, write, Err(Unlawful::NotLawful)));
-    let open = Event::Write(Act::Open(0, Deed::Fill));
-    assert!(rt; gives(&mut world, open, Err(Unlawful::Limit)));
+    assert!(rt; first_wrong(&mut world, &PAST_THE_LIMIT) == None);
     assert!(rt; world.history().is_empty());
-    for n in 0..67 {
-        assert!(rt; word_at(&world, n) == Some(0), "word {n}");
-    }
-    assert!(rt; word_at(&world, 67) == None);
     Ok(())
 }
 
@@ -231,32 +267,36 @@ fn refuses_readers(alloc: Global, checked: &Checked, readers: u32) -> bool {
     matches!(&world, Err(WorldError::Readers))
 }
 
+const THE_LAST_READER: [Row; 4] = [
+    Row::Gives(Event::Begin(1023, 0), Ok(Stepped::Nothing)),
+    Row::Gives(Event::Begin(1024, 0), Err(Unlawful::NoReader)),
+    Row::Gives(Event::Read(1024), Err(Unlawful::NoReader)),
+    Row::Gives(Event::Read(0), Err(Unlawful::NotLawful)),
+];
+
 #[test]
 fn readers_are_from_1_to_1024(rt: HostRuntime) -> Result<(), Fail> {
     let checked = checked(4, 16, 2)?;
     assert!(rt; refuses_readers(rt.alloc(), &checked, 0));
     assert!(rt; refuses_readers(rt.alloc(), &checked, 1025));
     let mut world: World<1> = World::new(rt.alloc(), &checked, 1024)?;
-    assert!(rt; gives(&mut world, Event::Begin(1023, 0), Ok(Stepped::Nothing)));
-    assert!(rt; gives(&mut world, Event::Begin(1024, 0), Err(Unlawful::NoReader)));
-    assert!(rt; gives(&mut world, Event::Read(1024), Err(Unlawful::NoReader)));
-    assert!(rt; gives(&mut world, Event::Read(0), Err(Unlawful::NotLawful)));
+    assert!(rt; first_wrong(&mut world, &THE_LAST_READER) == None);
     Ok(())
 }
+
+const MARKS: [Row; 6] = [
+    Row::Gives(Event::Write(Act::Mark(63)), Ok(Stepped::Nothing)),
+    Row::Gives(Event::Write(Act::Mark(64)), Ok(Stepped::Nothing)),
+    Row::Gives(Event::Write(Act::Mark(0)), Ok(Stepped::Nothing)),
+    Row::Word(325, Some(9223372036854775809)),
+    Row::Word(326, Some(1)),
+    Row::Word(327, None),
+];
 
 #[test]
 fn sixty_four_items_share_a_word_of_bits(rt: HostRuntime) -> Result<(), Fail> {
     let mut world = new_world(rt.alloc(), 32, 65, 1)?;
-    for item in [63, 64, 0] {
-        let mark = Event::Write(Act::Mark(item));
-        assert!(rt;
-            gives(&mut world, mark, Ok(Stepped::Nothing)),
-            "item {item}"
-        );
-    }
-    assert!(rt; world.checked().words::<1>() == 327);
-    assert!(rt; word_at(&world, 325) == Some(9223372036854775809));
-    assert!(rt; word_at(&world, 326) == Some(1));
+    assert!(rt; first_wrong(&mut world, &MARKS) == None);
     Ok(())
 }
 
@@ -280,17 +320,20 @@ fn marked_fill(item: u32, value: u64) -> [Act; 8] {
     ]
 }
 
+const THE_HAND: [Row; 4] = [
+    Row::Word(24, Some(3)),
+    Row::Gives(Event::Write(Act::Hand(0)), Ok(Stepped::Word(1))),
+    Row::Word(24, Some(2)),
+    Row::Gives(Event::Write(Act::Hand(0)), Err(Unlawful::NotLawful)),
+];
+
 #[test]
 fn the_hand_clears_one_bit_of_its_word(rt: HostRuntime) -> Result<(), Fail> {
     let mut world = new_world(rt.alloc(), 4, 2, 1)?;
     assert!(rt; world.checked().words::<1>() == 25);
-    assert!(rt; makes_all(&mut world, &marked_fill(0, 10)));
-    assert!(rt; makes_all(&mut world, &marked_fill(1, 11)));
-    assert!(rt; word_at(&world, 24) == Some(3));
-    let hand = Event::Write(Act::Hand(0));
-    assert!(rt; gives(&mut world, hand, Ok(Stepped::Word(1))));
-    assert!(rt; word_at(&world, 24) == Some(2));
-    assert!(rt; gives(&mut world, hand, Err(Unlawful::NotLawful)));
+    let filled = makes_all(&mut world, &marked_fill(0, 10))
+        && makes_all(&mut world, &marked_fill(1, 11));
+    assert!(rt; filled && first_wrong(&mut world, &THE_HAND) == None);
     Ok(())
 }
 
