@@ -22,19 +22,6 @@ returns-in-Err-open g c = (
   seats_refused c.args.load.shape c.args.load.readers c.args.writers c.seats_of-seats.result c.in-Err-open.why c.in_default.ensures.0 c.seats_of-seats.ensures.asked c.seats_of-seats.ensures.had c.in-Err-open.ensures.cache,
 )
 
-pub returns-in_default-new : goal.returns-in_default-new
-returns-in_default-new g c =
-    let told = c.seats_of-seats.ensures.asked c.in-Ok.ensures.asked.1 in
-    let many = told.1 in
-    let most = c.in-Ok.ensures.asked.1.1 in
-    record {
-      some = c.in_default.ensures.0;
-      keys = c.in_default.ensures.1;
-      parts = one;
-      shape = c.in-Ok.ensures.asked.0;
-      seats = (told.0, omega (arith, many, most));
-    }
-
 pub run_workers-requires-after_bounds : goal.run_workers-requires-after_bounds
 run_workers-requires-after_bounds g c = λ κs lives.
     let o = c.in-Ok.opened.0 in

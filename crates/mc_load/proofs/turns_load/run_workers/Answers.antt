@@ -9,7 +9,19 @@ use Rattle.mc_load.specs.declared.trying.Trying.{Trying}
 use Rattle.mc_load.proofs.Readers.{all_noted}
 use Rattle.mc_load.proofs.Refused.{all_made, all_tried, refused_lookup_told, refused_try_told}
 use Rattle.mc_load.proofs.Works.{all_can_look, all_can_try, all_ended, all_have_tried, all_refused, all_tries_refused}
+use denote.Param.Send.{sendable}
+use Rattle.std.proofs.Crossing.{crosses}
+use Rattle.mc_cache.proofs.Sent.{desk_sync}
+use Rattle.mc_cache.proofs.cache.Cache.TheSendSync.{the_sync as cache_sync}
+use Rattle.mc_cache.proofs.reader.Reader.TheSendSync.{the_send as reader_send}
+use Rattle.mc_shards.proofs.Sent.{pass_send, shards_sync}
 use Rattle.mc_load.proofs.turns_load.run_workers.Goals as goal
+
+pub run_all-requires-send-A : goal.run_all-requires-send-A
+run_all-requires-send-A g c κs within = search (sendable, crosses, desk_sync, shards_sync, cache_sync, reader_send, pass_send) depth 40
+
+pub run_all-requires-send-B : goal.run_all-requires-send-B
+run_all-requires-send-B g c κs within = search (sendable, crosses, desk_sync, shards_sync, cache_sync, reader_send, pass_send) depth 40
 
 pub run_all-requires-clause-some : goal.run_all-requires-clause-some
 run_all-requires-clause-some g c κs within =

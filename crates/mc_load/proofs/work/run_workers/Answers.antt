@@ -5,7 +5,16 @@ use Rattle.mc_load.specs.Inside.Workers.{AreReadersOf, AreWhole, HasWritten}
 use Rattle.mc_load.specs.declared.looking.Looking.{Looking}
 use Rattle.mc_load.proofs.Readers.{all_noted}
 use Rattle.mc_load.proofs.Works.{all_ended, still_readers, writer_ended}
+use denote.Param.Send.{sendable}
+use Rattle.std.proofs.Crossing.{crosses}
+use Rattle.mc_cache.proofs.Sent.{desk_sync}
+use Rattle.mc_cache.proofs.cache.Cache.TheSendSync.{the_sync as cache_sync}
+use Rattle.mc_cache.proofs.reader.Reader.TheSendSync.{the_send as reader_send}
+use Rattle.mc_shards.proofs.Sent.{pass_send, shards_sync}
 use Rattle.mc_load.proofs.work.run_workers.Goals as goal
+
+pub run_all-requires-send-B : goal.run_all-requires-send-B
+run_all-requires-send-B g c κs within = search (sendable, crosses, desk_sync, shards_sync, cache_sync, reader_send, pass_send) depth 40
 
 pub returns-in-Some-refused : goal.returns-in-Some-refused
 returns-in-Some-refused g c =
