@@ -24,13 +24,8 @@ pub fn calls_of_load() {
     const _: fn(&Free, u32, u64) -> bool = <Free as Gate>::before;
     const _: fn(&Free, u32, u64, Option<u64>) = <Free as Gate>::after;
     const _: fn(&[Change<1>], &[Record<1>]) -> u64 = check::<1>;
-    const _: fn(
-        Global,
-        &[String],
-        &mut VecDeque<u8>,
-        &mut VecDeque<u8>,
-        &mut VecDeque<u8>,
-    ) -> u8 = run_step::<String, VecDeque<u8>, VecDeque<u8>, VecDeque<u8>>;
+    const _: fn(Global, &[String], &mut VecDeque<u8>, &mut VecDeque<u8>, &mut VecDeque<u8>) -> u8 =
+        run_step::<String, VecDeque<u8>, VecDeque<u8>, VecDeque<u8>>;
 }
 
 // Outside `main` no runtime is known to start threads, so these three are called, by functions of their signatures.

@@ -122,10 +122,7 @@ fn writers_make_the_calls_that_are_drawn(rt: HostRuntime) -> Result<(), Fail> {
         let told = [report.changes, report.found, report.absent];
         let counted = [report.lookups, report.calls, report.answered];
         let seed = load.seed;
-        assert!(rt;
-            told == due,
-            "seed {seed}, {writers} writers"
-        );
+        assert!(rt; told == due, "seed {seed}, {writers} writers");
         assert_eq!(rt; counted, [lookups, calls, calls]);
         assert_eq!(rt; [report.busy, report.held, report.wrong], [0; 3]);
     }

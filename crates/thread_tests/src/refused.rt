@@ -3,9 +3,7 @@ ghost use Rattle.std.specs.Prelude.{◌≡◌};
 ghost use Rattle.mc_shards.specs.Sharded.{ArePassOf};
 
 use crate::opened::open_for_one;
-use mc_cache::{
-    AbsentError, Cache, Desk, DeskError, IfError, Mix, PutError, Reader, Shape, Spent,
-};
+use mc_cache::{AbsentError, Cache, Desk, DeskError, IfError, Mix, PutError, Reader, Shape, Spent};
 use mc_shards::{Pass, Shards, open_shards};
 use std::test::Fail;
 
