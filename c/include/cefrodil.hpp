@@ -257,13 +257,13 @@ template <size_t Words> class Writer : public Handle {
     Status stamped_entries(std::vector<uint64_t> &words) { return inside::stamped_entries<Words>(raw(), words); }
 };
 
-// A reader of a cache.
-template <size_t Words> class Reader : public Handle {
+// What a Reader and a Pass have in common: lookups. A function that takes either takes a `Lookups<Words> &`. It can't be moved as such, so no
+// Pass becomes a Reader by chance: that is what Pass::leave is for.
+template <size_t Words> class Lookups : public Handle {
     static_assert(Words >= 1 && Words <= 8, "a value has 1 to 8 words");
 
   public:
     using Value = std::array<uint64_t, Words>;
-    Reader() noexcept {}
 
     [[nodiscard]] Answer<Words> get(uint64_t key) {
         cefrodil_reply reply;
@@ -278,10 +278,22 @@ template <size_t Words> class Reader : public Handle {
     }
     // The number of keys that the cache holds at most. By a pass of shards, that of all shards.
     Status capacity(uint64_t &number) { return static_cast<Status>(cefrodil_capacity(raw(), &number)); }
+
+  protected:
+    Lookups() noexcept {}
+    Lookups(Lookups &&) noexcept = default;
+    Lookups &operator=(Lookups &&) noexcept = default;
+    ~Lookups() = default;
+};
+
+// A reader of a cache.
+template <size_t Words> class Reader : public Lookups<Words> {
+  public:
+    Reader() noexcept {}
 };
 
 // A thread's access to a desk or to shards: it looks up like a reader, and tries for the turn to write.
-template <size_t Words> class Pass : public Reader<Words> {
+template <size_t Words> class Pass : public Lookups<Words> {
   public:
     using Value = std::array<uint64_t, Words>;
     Pass() noexcept {}

@@ -5,6 +5,7 @@
 #include <thread>
 #include <type_traits>
 
+using cefrodil::Lookups;
 using cefrodil::Pass;
 using cefrodil::Reader;
 using cefrodil::Status;
@@ -16,6 +17,12 @@ static_assert(!std::is_convertible_v<Status, bool>);
 // A handle is of one kind and one width.
 static_assert(!std::is_constructible_v<Writer<1>, Reader<1>> && !std::is_constructible_v<Writer<4>, Writer<1>>);
 static_assert(!std::is_constructible_v<Reader<1>, cefrodil::Handle> && !std::is_default_constructible_v<cefrodil::Handle>);
+// A pass becomes a reader only by leaving its desk. Both can be lent as what they have in common, which can't be moved.
+static_assert(!std::is_constructible_v<Reader<1>, Pass<1> &&> && !std::is_assignable_v<Reader<1> &, Pass<1> &&>);
+static_assert(!std::is_convertible_v<Pass<1> &, Reader<1> &> && !std::is_constructible_v<Pass<1>, Reader<1> &&>);
+static_assert(std::is_convertible_v<Pass<1> &, Lookups<1> &> && std::is_convertible_v<Reader<1> &, Lookups<1> &>);
+static_assert(!std::is_move_constructible_v<Lookups<1>> && !std::is_move_assignable_v<Lookups<1>> && !std::is_default_constructible_v<Lookups<1>>);
+static_assert(std::is_nothrow_move_constructible_v<Reader<1>> && std::is_nothrow_move_assignable_v<Pass<1>>);
 
 static void apart(const cefrodil_shape &shape) {
     Writer<2> writer;
