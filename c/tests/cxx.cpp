@@ -73,14 +73,39 @@ static void opened_with(const cefrodil_shape &shape) {
     MUST(cefrodil::open_with(shape, 2, {}, other, readers, statuses) == Status::ok && statuses.empty() && readers.size() == 2);
 }
 
+// Types of the program. The second has four bytes of padding behind its last member, and the third one byte between its members.
+struct Account {
+    double rate;
+    uint32_t owner;
+    char name[12];
+};
+struct Padded {
+    uint64_t owner;
+    uint32_t rate;
+};
+struct Gapped {
+    uint8_t kind;
+    uint16_t size;
+};
+struct Odd {
+    uint32_t first, second, third;
+};
+struct Rated {
+    float rate;
+    uint32_t owner;
+};
+template <> inline constexpr bool cefrodil::has_no_padding<Account> = true;
+
+static_assert(cefrodil::is_value<Account> && cefrodil::is_value<Odd> && cefrodil::is_value<uint16_t> && cefrodil::is_value<const char *>);
+static_assert(!cefrodil::is_value<Padded> && !cefrodil::is_value<Gapped> && !cefrodil::is_value<std::optional<uint32_t>>);
+// A float has no padding, but a struct that has one must say so.
+static_assert(cefrodil::is_value<float> && cefrodil::is_value<const double> && cefrodil::is_value<std::array<double, 8>> && cefrodil::is_value<float[3]>);
+static_assert(!cefrodil::is_value<Rated> && !cefrodil::is_value<long double> && !cefrodil::is_value<std::array<Padded, 2>>);
+static_assert(cefrodil::is_value<char[64]> && !cefrodil::is_value<char[65]> && !cefrodil::is_value<std::vector<int>>);
+static_assert(cefrodil::words_of<Account> == 3 && cefrodil::words_of<Odd> == 2 && cefrodil::words_of<char> == 1 && cefrodil::words_of<char[9]> == 2);
+
 // A type of the program goes in and comes out.
 static void typed(const cefrodil_shape &shape) {
-    struct Account {
-        double rate;
-        uint32_t owner;
-        char name[8];
-    };
-    static_assert(cefrodil::words_of<Account> == 3 && cefrodil::words_of<char> == 1 && cefrodil::words_of<char[9]> == 2);
     Writer<cefrodil::words_of<Account>> writer;
     std::vector<Reader<cefrodil::words_of<Account>>> readers;
     MUST(cefrodil::open(shape, 1, writer, readers) == Status::ok);
@@ -89,7 +114,11 @@ static void typed(const cefrodil_shape &shape) {
     MUST(found.value);
     const auto account = cefrodil::from_words<Account>(*found.value);
     MUST(account.rate == 0.5 && account.owner == 70 && account.name[6] == 'y' && account.name[7] == 0);
-    MUST(cefrodil::to_words(uint16_t(7))[0] == 7);
+    const auto words = cefrodil::to_words(Odd{1, 2, 3});
+    const auto odd = cefrodil::from_words<Odd>(words);
+    MUST(words[1] == 3 && odd.first == 1 && odd.second == 2 && odd.third == 3);
+    MUST(cefrodil::to_words(uint16_t(7))[0] == 7 && cefrodil::from_words<uint32_t>(cefrodil::to_words(uint32_t(70000))) == 70000);
+    MUST(cefrodil::from_words<float>(cefrodil::to_words(0.5f)) == 0.5f && cefrodil::to_words(0.0) != cefrodil::to_words(-0.0));
 }
 
 static void by_turns(std::vector<Pass<1>> passes) {
