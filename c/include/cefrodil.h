@@ -35,7 +35,7 @@
 #define CEFRODIL_VERSION_PATCH 0
 #define CEFRODIL_VERSION (10000 * CEFRODIL_VERSION_MAJOR + 100 * CEFRODIL_VERSION_MINOR + CEFRODIL_VERSION_PATCH)
 
-/* A call whose status must be looked at: without it, nothing is known of what the call wrote. */
+/* A call whose status must be looked at: without it, nothing is known of what the call wrote, or whether it did anything at all. */
 #if defined(__GNUC__)
 #define CEFRODIL_CHECKED __attribute__((warn_unused_result))
 #else
@@ -227,18 +227,19 @@ CEFRODIL_CHECKED cefrodil_status cefrodil_put_if_absent(cefrodil_handle *writer,
  * OK and ABSENT: `at` is set. SPENT, CLOSED, KIND. */
 cefrodil_status cefrodil_remove(cefrodil_handle *writer, uint64_t key, cefrodil_reply *reply);
 
-/* The same four calls by a pass, which tries once for the turn. HELD: the try did not win, and nothing was done. */
-cefrodil_status cefrodil_try_put(cefrodil_handle *pass, uint64_t key, const uint64_t *value, size_t words,
-                                 cefrodil_reply *reply);
+/* The same four calls by a pass, which tries once for the turn. HELD: the try did not win, and nothing was done, so a value that should
+ * go is still there. Try again, or note the key. */
+CEFRODIL_CHECKED cefrodil_status cefrodil_try_put(cefrodil_handle *pass, uint64_t key, const uint64_t *value, size_t words,
+                                                  cefrodil_reply *reply);
 CEFRODIL_CHECKED cefrodil_status cefrodil_try_put_if(cefrodil_handle *pass, uint64_t key, uint64_t since,
                                                      const uint64_t *value, size_t words, cefrodil_reply *reply);
 CEFRODIL_CHECKED cefrodil_status cefrodil_try_put_if_absent(cefrodil_handle *pass, uint64_t key, const uint64_t *value,
                                                             size_t words, cefrodil_reply *reply);
-cefrodil_status cefrodil_try_remove(cefrodil_handle *pass, uint64_t key, cefrodil_reply *reply);
+CEFRODIL_CHECKED cefrodil_status cefrodil_try_remove(cefrodil_handle *pass, uint64_t key, cefrodil_reply *reply);
 
 /* Like cefrodil_try_put, with up to `tries` tries, at least one, one after the other without a pause. HELD: none of them won. */
-cefrodil_status cefrodil_put_within(cefrodil_handle *pass, uint32_t tries, uint64_t key, const uint64_t *value,
-                                    size_t words, cefrodil_reply *reply);
+CEFRODIL_CHECKED cefrodil_status cefrodil_put_within(cefrodil_handle *pass, uint32_t tries, uint64_t key, const uint64_t *value,
+                                                     size_t words, cefrodil_reply *reply);
 
 /* Like cefrodil_put, cefrodil_put_if and cefrodil_remove, and they also return the entry that gives way: the key's earlier one, or that
  * of the key that was evicted. So a program that keeps objects behind the cache knows which to free. By the writer; or by a pass,
