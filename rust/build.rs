@@ -5,7 +5,8 @@ use std::path::{Path, PathBuf};
 use std::process::{exit, Command};
 
 const ARCHIVE: &str = "libcefrodil.a";
-const HOW: &str = "build it with `c/build FOLDER` and set CEFRODIL_LIB to FOLDER/lib, or PKG_CONFIG_PATH to FOLDER/lib/pkgconfig \
+const HOW: &str =
+    "build it with `c/build FOLDER` and set CEFRODIL_LIB to FOLDER/lib, or PKG_CONFIG_PATH to FOLDER/lib/pkgconfig \
     (if pkg-config looks there already, run `cargo clean -p cefrodil`)";
 // Before version 1.0 another minor version may differ in its calls.
 const SERIES: &str = concat!(env!("CARGO_PKG_VERSION_MAJOR"), ".", env!("CARGO_PKG_VERSION_MINOR"), ".");

@@ -7,6 +7,7 @@
 #include <array>
 #include <cstddef>
 #include <cstdint>
+#include <cstdio>
 #include <cstring>
 #include <optional>
 #include <type_traits>
@@ -15,7 +16,7 @@
 
 namespace cefrodil {
 
-// The statuses of cefrodil.h. `Status::ok` is 0, so a status is compared, never taken for a bool.
+// The statuses of cefrodil.h, and one more. `Status::ok` is 0, so a status is compared, never taken for a bool.
 enum class [[nodiscard]] Status : uint32_t {
     ok = CEFRODIL_OK,
     absent = CEFRODIL_ABSENT,
@@ -41,10 +42,33 @@ enum class [[nodiscard]] Status : uint32_t {
     no_item = CEFRODIL_NO_ITEM,
     bad_shards = CEFRODIL_BAD_SHARDS,
     present = CEFRODIL_PRESENT,
-    not_last = CEFRODIL_NOT_LAST
+    not_last = CEFRODIL_NOT_LAST,
+    // The program is linked with an archive of another version, whose structs and calls may differ. Nothing was done.
+    other_version = 1000
 };
 
-inline const char *text(Status status) noexcept { return cefrodil_text(static_cast<uint32_t>(status)); }
+namespace inside {
+
+// Before version 1.0 another minor version may differ in its calls, so the patch alone may be another.
+inline bool same_version() noexcept { return cefrodil_version() / 100 == CEFRODIL_VERSION / 100; }
+
+// Both versions. They stay in one place, as other texts do.
+inline const char *versions() noexcept {
+    static const std::array<char, 100> both = [] {
+        std::array<char, 100> text{};
+        const unsigned library = cefrodil_version();
+        std::snprintf(text.data(), text.size(), "the library has version %u.%u.%u, and the header %u.%u.%u", library / 10000, library / 100 % 100,
+                      library % 100, unsigned(CEFRODIL_VERSION_MAJOR), unsigned(CEFRODIL_VERSION_MINOR), unsigned(CEFRODIL_VERSION_PATCH));
+        return text;
+    }();
+    return both.data();
+}
+
+} // namespace inside
+
+inline const char *text(Status status) noexcept {
+    return status == Status::other_version ? inside::versions() : cefrodil_text(static_cast<uint32_t>(status));
+}
 
 // How many words a type takes as a value.
 template <class Type> inline constexpr size_t words_of = (sizeof(Type) + sizeof(uint64_t) - 1) / sizeof(uint64_t);
@@ -208,8 +232,11 @@ template <size_t Words> Status stamped_entries(cefrodil_handle *raw, std::vector
 }
 
 // Opens `count` handles by a call of C, which takes an array of them. If it succeeds, they take the place of `handles`. All memory is taken
-// before the call.
+// before the call. An archive of another version is not called.
 template <class Kind, class Open> Status open_all(std::vector<Kind> &handles, size_t count, Open open) {
+    if (!same_version()) {
+        return Status::other_version;
+    }
     count = count <= 1024 ? count : 0;
     std::vector<cefrodil_handle> raw(count != 0 ? count : 1);
     std::vector<Kind> opened(count);
@@ -371,19 +398,19 @@ template <size_t Words> class Pass : public Lookups<Words> {
     Status try_stamped_entries(std::vector<uint64_t> &words) { return inside::stamped_entries<Words>(this->raw(), words); }
 };
 
-// The shape for so many items, or none if that is out of range.
+// The shape for so many items, or none if that is out of range, or the archive is of another version (Status::other_version).
 [[nodiscard]] inline std::optional<cefrodil_shape> shape_for_items(uint32_t items) {
     cefrodil_shape shape{};
-    if (cefrodil_shape_for_items(items, &shape) != CEFRODIL_OK) {
+    if (!inside::same_version() || cefrodil_shape_for_items(items, &shape) != CEFRODIL_OK) {
         return std::nullopt;
     }
     return shape;
 }
 
-// The shape of each of so many shards that hold so many items together.
+// The shape of each of so many shards that hold so many items together, or none for the same reasons.
 [[nodiscard]] inline std::optional<cefrodil_shape> shape_for_shards(uint32_t items, uint32_t shards) {
     cefrodil_shape shape{};
-    if (cefrodil_shape_for_shards(items, shards, &shape) != CEFRODIL_OK) {
+    if (!inside::same_version() || cefrodil_shape_for_shards(items, shards, &shape) != CEFRODIL_OK) {
         return std::nullopt;
     }
     return shape;

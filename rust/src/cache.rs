@@ -75,7 +75,7 @@ impl<const WORDS: usize> Cache<WORDS> {
     where
         [u64; WORDS]: Value,
     {
-        let (writer, readers) = Handle::open(&shape.raw(), WORDS, readers).map_err(OpenError::of)?;
+        let (writer, readers) = Handle::open(&shape.raw(), WORDS, readers)?;
         Ok((Writer(writer), readers.into_iter().map(Reader).collect()))
     }
 
@@ -114,7 +114,7 @@ impl<const WORDS: usize> Cache<WORDS> {
             words.extend_from_slice(value);
         }
         let mut statuses = vec![raw::OK; entries.len()];
-        let (writer, readers) = Handle::open_with(&shape.raw(), WORDS, &words, &mut statuses, readers).map_err(OpenError::of)?;
+        let (writer, readers) = Handle::open_with(&shape.raw(), WORDS, &words, &mut statuses, readers)?;
         let left = statuses.iter().enumerate().filter_map(|(index, status)| Some((index, Why::of(*status)?)));
         Ok(Opened { writer: Writer(writer), readers: readers.into_iter().map(Reader).collect(), left: left.collect() })
     }

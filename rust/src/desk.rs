@@ -58,7 +58,7 @@ impl<const WORDS: usize> Desk<WORDS> {
     where
         [u64; WORDS]: Value,
     {
-        let handles = Handle::open_desk(&shape.raw(), WORDS, passes).map_err(OpenError::of)?;
+        let handles = Handle::open_desk(&shape.raw(), WORDS, passes)?;
         Ok(Desk { passes: Mutex::new(handles) })
     }
 
@@ -156,7 +156,7 @@ impl<const WORDS: usize> Writer<WORDS> {
     pub fn into_desk(mut self, passes: usize) -> Result<Desk<WORDS>, NoDesk<WORDS>> {
         match self.0.make_desk(passes) {
             Ok(handles) => Ok(Desk { passes: Mutex::new(handles) }),
-            Err(status) => Err(NoDesk { writer: self, why: OpenError::of(status) }),
+            Err(why) => Err(NoDesk { writer: self, why }),
         }
     }
 }

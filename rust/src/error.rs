@@ -7,6 +7,14 @@ use std::fmt::{self, Display, Formatter};
 #[derive(Clone, Copy, Debug, PartialEq, Eq, Hash)]
 #[non_exhaustive]
 pub enum OpenError {
+    /// The program is linked with an archive whose structs and calls may differ from those of this crate: before version 1.0, one of
+    /// another minor version. Both versions are 10,000 times the major version, 100 times the minor one, and the patch.
+    Version {
+        /// The version of the archive.
+        archive: u32,
+        /// The version of this crate.
+        crate_version: u32,
+    },
     /// The number of shards must be a power of two, 1 to 256.
     Shards,
     /// `buckets` of the shape is out of range.
@@ -125,9 +133,17 @@ impl Why {
     }
 }
 
+// A version as it is written: 100 is 0.1.0.
+fn dotted(version: u32) -> String {
+    format!("{}.{}.{}", version / 10_000, version / 100 % 100, version % 100)
+}
+
 impl Display for OpenError {
     fn fmt(&self, text: &mut Formatter) -> fmt::Result {
-        text.write_str(match self {
+        text.write_str(match *self {
+            OpenError::Version { archive, crate_version } => {
+                return write!(text, "libcefrodil.a has version {}, and the crate {}", dotted(archive), dotted(crate_version));
+            }
             OpenError::Shards => "shards must be a power of two from 1 to 256",
             OpenError::Buckets => "buckets must be a power of two from 2 to 1048576",
             OpenError::Items => "items must be from 1 to four times the buckets",

@@ -1,7 +1,7 @@
 //! Every error with its text, and the parts of answers that `calls.rs` leaves open.
 use cefrodil::{
-    Cache, Desk, Mix, OpenError, Pass, Put, PutError, PutIfAbsentError, PutIfError, Removal, Reply, Shape, Shards, Spent, TurnError, Value,
-    Why,
+    Cache, Desk, Mix, OpenError, Pass, Put, PutError, PutIfAbsentError, PutIfError, Removal, Reply, Shape, Shards, Spent,
+    TurnError, Value, Why,
 };
 use std::collections::HashSet;
 use std::error::Error;
@@ -37,6 +37,8 @@ fn each_fault_of_a_shape_has_its_error() {
     }
     assert_eq!(OpenError::Readers.to_string(), "readers must be from 1 to 1024");
     assert_eq!(OpenError::NoMemory.to_string(), "no memory");
+    let other = OpenError::Version { archive: 1_203, crate_version: 10_000 };
+    assert_eq!(other.to_string(), "libcefrodil.a has version 0.12.3, and the crate 1.0.0");
 }
 
 #[test]
