@@ -14,15 +14,26 @@ pub struct Cache<const WORDS: usize>(());
 
 /// The one writer of a cache.
 ///
-/// It may move to another thread, but two threads can't share it:
+/// It may move to another thread. Each call takes `&mut self`, so two threads that share it make none:
 ///
-/// ```compile_fail
-/// fn shared<T: Sync>() {}
-/// shared::<cefrodil::Writer<1>>();
+/// ```compile_fail,E0596
+/// fn two_threads_share(writer: &cefrodil::Writer<1>) {
+///     let _ = writer.put(7, &[70]);
+/// }
+/// ```
+/// ```compile_fail,E0596
+/// fn two_threads_share(reader: &cefrodil::Reader<1>) {
+///     let _ = reader.get(7);
+/// }
+/// ```
+/// ```compile_fail,E0596
+/// fn two_threads_share(pass: &cefrodil::Pass<1>) {
+///     let _ = pass.capacity();
+/// }
 /// ```
 pub struct Writer<const WORDS: usize>(pub(crate) Handle);
 
-/// A reader of a cache. It may move to another thread, but two threads can't share it.
+/// A reader of a cache. It may move to another thread. Each call takes `&mut self`, so one thread at a time looks up by it.
 pub struct Reader<const WORDS: usize>(pub(crate) Handle);
 
 /// A cache that was opened with entries, with its writer and readers.

@@ -34,8 +34,8 @@ pub struct Desk<const WORDS: usize> {
 }
 
 /// A thread's access to a [`Desk`] or to [`Shards`](crate::Shards): it looks up like a reader, and tries for the turn to write. It may
-/// move to another thread, but two threads can't share it. Dropping it returns it to its desk; a pass of shards, or of
-/// [`Desk::into_passes`], is closed when it is dropped.
+/// move to another thread. Each call takes `&mut self`, so one thread at a time uses it. Dropping it returns it to its desk; a pass of
+/// shards, or of [`Desk::into_passes`], is closed when it is dropped.
 #[must_use = "a pass that is dropped goes back to its desk, or is closed"]
 pub struct Pass<'a, const WORDS: usize> {
     desk: Option<&'a Desk<WORDS>>,

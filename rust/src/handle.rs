@@ -14,8 +14,14 @@ const MOST: usize = 1024;
 pub struct Handle(RawHandle);
 
 // SAFETY: it is proved that an archive's handle may move to another thread: what it owns may move, and what it shares may be
-// shared. Its pointer keeps it from being `Sync`.
+// shared.
 unsafe impl Send for Handle {}
+
+// SAFETY: through a `&Handle` nothing is read and no call is made, so it may be shared. Its one field is private to this module. Here
+// `empty`, `many` and the openings take no handle, and each other function takes `&mut self`, `drop` too. It is not `Clone`, nor does it
+// implement any trait with a method that takes `&self`. The types around it add none that reaches it: `Debug` of `Writer`, `Reader`,
+// `Pass` and `Desk` writes a name alone, and `Desk::pass` and `Pool::take` hand on whole handles under a lock.
+unsafe impl Sync for Handle {}
 
 /// The version of the archive: 10,000 times the major version, 100 times the minor one, and the patch.
 #[must_use]
