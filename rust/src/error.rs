@@ -94,6 +94,26 @@ pub enum Why {
 #[derive(Clone, Copy, Debug, PartialEq, Eq, Hash)]
 pub struct Spent;
 
+/// Why entries were not listed or counted.
+#[derive(Clone, Copy, Debug, PartialEq, Eq, Hash)]
+#[non_exhaustive]
+pub enum ListError {
+    /// Out of memory. The cache goes on; list later.
+    NoMemory,
+    /// A pass of shards has no such call: no call sees several shards at one moment. It is no use to wait.
+    OfShards,
+}
+
+/// Why a desk did not end.
+#[derive(Clone, Copy, Debug, PartialEq, Eq, Hash)]
+#[non_exhaustive]
+pub enum EndError {
+    /// Out of memory.
+    NoMemory,
+    /// No pass got the writer: one of the desk was forgotten ([`std::mem::forget`]), and still has a share of it.
+    NoWriter,
+}
+
 /// Why a try for the turn failed. There will be no third reason, so a `match` may list both.
 #[derive(Clone, Copy, Debug, PartialEq, Eq, Hash)]
 pub enum TurnError<E> {
@@ -202,6 +222,24 @@ impl Display for Spent {
     }
 }
 
+impl Display for ListError {
+    fn fmt(&self, text: &mut Formatter) -> fmt::Result {
+        text.write_str(match self {
+            ListError::NoMemory => "no memory",
+            ListError::OfShards => "a pass of shards has no such call",
+        })
+    }
+}
+
+impl Display for EndError {
+    fn fmt(&self, text: &mut Formatter) -> fmt::Result {
+        text.write_str(match self {
+            EndError::NoMemory => "no memory",
+            EndError::NoWriter => "no pass got the writer, since one was forgotten",
+        })
+    }
+}
+
 impl<E: Display> Display for TurnError<E> {
     fn fmt(&self, text: &mut Formatter) -> fmt::Result {
         match self {
@@ -217,4 +255,6 @@ impl Error for Why {}
 impl Error for PutIfError {}
 impl Error for PutIfAbsentError {}
 impl Error for Spent {}
+impl Error for ListError {}
+impl Error for EndError {}
 impl<E: Error> Error for TurnError<E> {}

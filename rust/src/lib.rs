@@ -17,8 +17,8 @@ mod shards;
 mod width;
 
 pub use cache::{Cache, Opened, Reader, Writer};
-pub use desk::{Desk, NoDesk, Pass};
-pub use error::{OpenError, PutError, PutIfAbsentError, PutIfError, Spent, TurnError, Why};
+pub use desk::{Desk, NoDesk, NotEnded, Pass};
+pub use error::{EndError, ListError, OpenError, PutError, PutIfAbsentError, PutIfError, Spent, TurnError, Why};
 pub use handle::version;
 pub use pool::{Lent, Pool};
 pub use reply::{Entry, Put, Removal, Replaced, Reply, Swapped, Take};

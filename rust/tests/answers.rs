@@ -117,7 +117,7 @@ fn a_spent_cache_refuses_writes() -> Result<(), Box<dyn Error>> {
     let desk = Desk::<1>::open(&none, 1)?;
     let mut pass = desk.pass().ok_or("no pass")?;
     refused_by(&mut pass);
-    assert_eq!(pass.try_len(), Some(0));
+    assert_eq!(pass.try_len(), Ok(0));
     for mut pass in Shards::<1>::open(&none, 2, 1)? {
         refused_by(&mut pass);
         assert_eq!(pass.try_put(0, &[7]), Err(TurnError::Call(PutError::Spent)));
