@@ -1,8 +1,9 @@
 use cefrodil::{
-    Cache, Desk, Entry, ListError, Mix, OpenError, Put, PutIfAbsentError, PutIfError, Removal, Reply, Shape, Shards, TurnError,
-    Value, Why,
+    Cache, Desk, EndError, Entry, ListError, Mix, NotEnded, OpenError, Put, PutIfAbsentError, PutIfError, Removal, Reply, Shape,
+    Shards, TurnError, Value, Why,
 };
 use std::error::Error;
+use std::mem;
 use std::thread;
 
 fn is_send<T: Send>(_: &T) {}
@@ -37,6 +38,7 @@ fn the_writer_looks_up_counts_and_lists() -> Result<(), Box<dyn Error>> {
     }
     writer.remove(7)?;
     assert_eq!((writer.len(), writer.moment()), (59, 61));
+    assert!(!writer.is_empty());
     assert_eq!(writer.get(7), Reply::Absent { at: 61 });
     assert_eq!(writer.get(8), Reply::Found { value: [8, 16], at: 61, since: 9 });
     let mut entries = writer.entries()?;
@@ -229,6 +231,17 @@ fn an_opened_cache_gets_a_desk() -> Result<(), Box<dyn Error>> {
     assert_eq!(desk.pass().ok_or("no pass")?.get(9), Reply::Found { value: [90, 91], at: 3, since: 3 });
     let (writer, _readers) = desk.end()?;
     assert_eq!(writer.into_desk(1).err().map(|refused| refused.why), Some(OpenError::Readers));
+    Ok(())
+}
+
+#[test]
+fn a_desk_does_not_end_without_a_pass_that_was_forgotten() -> Result<(), Box<dyn Error>> {
+    let desk = Desk::<1>::open(&Shape::for_items(100)?, 3)?;
+    mem::forget(desk.pass());
+    let NotEnded { desk, mut readers, why } = desk.end().err().ok_or("a pass was forgotten")?;
+    assert_eq!((why, readers.len()), (EndError::NoWriter, 2));
+    assert!(desk.pass().is_none());
+    assert_eq!(readers[0].get(1), Reply::Absent { at: 0 });
     Ok(())
 }
 

@@ -27,6 +27,18 @@ fn a_pool_lends_each_reader_once() -> Tested {
 }
 
 #[test]
+fn a_pool_lends_first_what_came_back_last() -> Tested {
+    let pool = Pool::new(vec![1, 2, 3]);
+    let (three, two) = (pool.take().ok_or("nothing")?, pool.take().ok_or("nothing")?);
+    assert_eq!((*three, *two), (3, 2));
+    drop(three);
+    assert_eq!(pool.take().map(|lent| *lent), Some(3));
+    drop(two);
+    assert_eq!(pool.take().map(|lent| *lent), Some(2));
+    Ok(())
+}
+
+#[test]
 fn a_reader_comes_back_from_a_thread_that_panics() -> Tested {
     let (_writer, readers) = Cache::<1>::open(&Shape::for_items(100)?, 1)?;
     let pool = Pool::new(readers);
