@@ -224,11 +224,11 @@ template <class List> Status listed(size_t each, std::vector<uint64_t> &words, L
     return static_cast<Status>(status);
 }
 template <size_t Words> Status entries(cefrodil_handle *raw, std::vector<uint64_t> &words) {
-    return listed(1 + Words, words, [&](uint64_t *list, size_t size, uint64_t *count) { return cefrodil_entries(raw, list, size, count); });
+    return listed(1 + Words, words, [&](uint64_t *list, size_t size, uint64_t *count) { return cefrodil_entries_or_none(raw, list, size, count); });
 }
 template <size_t Words> Status stamped_entries(cefrodil_handle *raw, std::vector<uint64_t> &words) {
     return listed(2 + Words, words,
-                  [&](uint64_t *list, size_t size, uint64_t *count) { return cefrodil_stamped_entries(raw, list, size, count); });
+                  [&](uint64_t *list, size_t size, uint64_t *count) { return cefrodil_stamped_entries_or_none(raw, list, size, count); });
 }
 
 // Opens `count` handles by a call of C, which takes an array of them. If it succeeds, they take the place of `handles`. All memory is taken
@@ -262,7 +262,7 @@ template <size_t Words> class Writer : public Handle {
 
     Written put(uint64_t key, const Value &value) {
         cefrodil_reply reply;
-        const cefrodil_status status = cefrodil_put(raw(), key, value.data(), Words, &reply);
+        const cefrodil_status status = cefrodil_put_of_width(raw(), key, value.data(), Words, &reply);
         return inside::written(status, reply);
     }
     [[nodiscard]] Written put_if(uint64_t key, uint64_t since, const Value &value) {
@@ -288,7 +288,7 @@ template <size_t Words> class Writer : public Handle {
     [[nodiscard]] Answer<Words> get(uint64_t key) {
         cefrodil_reply reply;
         Value value;
-        const cefrodil_status status = cefrodil_get(raw(), key, value.data(), Words, &reply);
+        const cefrodil_status status = cefrodil_get_of_width(raw(), key, value.data(), Words, &reply);
         return inside::answer<Words>(status, reply, value);
     }
     Status moment(uint64_t &number) { return static_cast<Status>(cefrodil_moment(raw(), &number)); }
@@ -311,13 +311,13 @@ template <size_t Words> class Lookups : public Handle {
     [[nodiscard]] Answer<Words> get(uint64_t key) {
         cefrodil_reply reply;
         Value value;
-        const cefrodil_status status = cefrodil_get(raw(), key, value.data(), Words, &reply);
+        const cefrodil_status status = cefrodil_get_of_width(raw(), key, value.data(), Words, &reply);
         return inside::answer<Words>(status, reply, value);
     }
     // Equivalent to get for each key in order. Each of the `count` values is written only if its answer's status is CEFRODIL_OK.
     Status get_many(const uint64_t *keys, size_t count, Value *values, cefrodil_answer *answers) {
         static_assert(sizeof(Value) == Words * sizeof(uint64_t), "values lie one after the other");
-        return static_cast<Status>(cefrodil_get_many(raw(), keys, count, count != 0 ? values->data() : nullptr, Words * count, answers, count));
+        return static_cast<Status>(cefrodil_get_many_or_none(raw(), keys, count, count != 0 ? values->data() : nullptr, Words * count, answers, count));
     }
     // The number of keys that the cache holds at most. By a pass of shards, that of all shards.
     Status capacity(uint64_t &number) { return static_cast<Status>(cefrodil_capacity(raw(), &number)); }
@@ -431,7 +431,7 @@ Status open_with(const cefrodil_shape &shape, size_t count, const std::vector<ui
     std::vector<uint32_t> raw_statuses(many);
     std::vector<Status> told(many, Status::ok);
     const Status status = inside::open_all(readers, count, [&](cefrodil_handle *raw, size_t readers_asked) {
-        return cefrodil_open_with(&shape, Words, entries.data(), entries.size(), raw_statuses.data(), many, writer.raw(), raw, readers_asked);
+        return cefrodil_open_with_or_none(&shape, Words, entries.data(), entries.size(), raw_statuses.data(), many, writer.raw(), raw, readers_asked);
     });
     if (status == Status::ok) {
         for (size_t i = 0; i < many; i++) {
