@@ -4,6 +4,7 @@
 #include <cstdlib>
 #include <thread>
 #include <type_traits>
+#include <utility>
 
 using cefrodil::Lookups;
 using cefrodil::Pass;
@@ -23,6 +24,24 @@ static_assert(!std::is_convertible_v<Pass<1> &, Reader<1> &> && !std::is_constru
 static_assert(std::is_convertible_v<Pass<1> &, Lookups<1> &> && std::is_convertible_v<Reader<1> &, Lookups<1> &>);
 static_assert(!std::is_move_constructible_v<Lookups<1>> && !std::is_move_assignable_v<Lookups<1>> && !std::is_default_constructible_v<Lookups<1>>);
 static_assert(std::is_nothrow_move_constructible_v<Reader<1>> && std::is_nothrow_move_assignable_v<Pass<1>>);
+
+// No call throws but those that take memory in C++: openings and lists.
+template <class Handle> constexpr bool looks_up_without_throwing() {
+    return noexcept(std::declval<Handle &>().get(1)) && noexcept(std::declval<Handle &>().get_many(nullptr, 0, nullptr, nullptr)) &&
+           noexcept(std::declval<Handle &>().capacity(std::declval<uint64_t &>())) && noexcept(std::declval<Handle &>().close());
+}
+static_assert(looks_up_without_throwing<Reader<1>>() && looks_up_without_throwing<Pass<1>>() && noexcept(std::declval<Writer<1> &>().get(1)));
+static_assert(noexcept(std::declval<Writer<1> &>().put(1, {1})) && noexcept(std::declval<Writer<1> &>().put_if(1, 1, {1})));
+static_assert(noexcept(std::declval<Writer<1> &>().put_if_absent(1, {1})) && noexcept(std::declval<Writer<1> &>().remove(1)));
+static_assert(noexcept(std::declval<Writer<1> &>().swap_if(1, 1, {1})) && noexcept(std::declval<Writer<1> &>().swap(1, {1})));
+static_assert(noexcept(std::declval<Writer<1> &>().take(1)) && noexcept(std::declval<Writer<1> &>().len(std::declval<uint64_t &>())));
+static_assert(noexcept(std::declval<Pass<1> &>().try_put(1, {1})) && noexcept(std::declval<Pass<1> &>().put_within(1, 1, {1})));
+static_assert(noexcept(std::declval<Pass<1> &>().try_put_if(1, 1, {1})) && noexcept(std::declval<Pass<1> &>().try_put_if_absent(1, {1})));
+static_assert(noexcept(std::declval<Pass<1> &>().try_remove(1)) && noexcept(std::declval<Pass<1> &>().try_swap(1, {1})));
+static_assert(noexcept(std::declval<Pass<1> &>().try_swap_if(1, 1, {1})) && noexcept(std::declval<Pass<1> &>().try_take(1)));
+static_assert(noexcept(std::declval<Pass<1> &>().get_or_desk(1)) && noexcept(cefrodil::shape_for_items(1)) && noexcept(cefrodil::shape_for_shards(1, 1)));
+static_assert(!noexcept(std::declval<Writer<1> &>().entries(std::declval<std::vector<uint64_t> &>())));
+static_assert(!noexcept(std::declval<Pass<1> &>().try_entries(std::declval<std::vector<uint64_t> &>())));
 
 static void apart(const cefrodil_shape &shape) {
     Writer<2> writer;
@@ -54,6 +73,9 @@ static void apart(const cefrodil_shape &shape) {
     MUST(moved.entries(list) == Status::ok && list.empty());
     MUST(cefrodil::open(shape, 1, moved, readers) == Status::in_use && readers.size() == 2 && readers[1].is_open());
     MUST(moved.close() == Status::ok && !moved.is_open() && moved.close() == Status::closed);
+    // Nobody need look at how a close ends.
+    readers[0].close();
+    MUST(!readers[0].is_open());
     MUST(readers[1].get(1).status == Status::absent);
     moved = {};
 }
