@@ -100,7 +100,7 @@ pub struct Spent;
 pub enum ListError {
     /// Out of memory. The cache goes on; list later.
     NoMemory,
-    /// A pass of shards has no such call: no call sees several shards at one moment. It is no use to wait.
+    /// A pass of shards has no such call: no call sees several shards at one moment. Waiting does not help.
     OfShards,
 }
 
