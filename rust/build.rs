@@ -1,11 +1,13 @@
 //! Links the archive, which `c/build` makes: from the folder that `CEFRODIL_LIB` names, else from the folder `native` here, else from
 //! the one that pkg-config knows.
 use std::env;
-use std::path::PathBuf;
+use std::path::{Path, PathBuf};
 use std::process::{exit, Command};
 
 const ARCHIVE: &str = "libcefrodil.a";
-const HOW: &str = "build it with `c/build FOLDER` and set CEFRODIL_LIB to FOLDER/lib, or PKG_CONFIG_PATH to FOLDER/lib/pkgconfig";
+const HOW: &str =
+    "build it with `c/build FOLDER` and set CEFRODIL_LIB to FOLDER/lib, or PKG_CONFIG_PATH to FOLDER/lib/pkgconfig \
+    (if pkg-config looks there already, run `cargo clean -p cefrodil`)";
 // Before version 1.0 another minor version may differ in its calls.
 const SERIES: &str = concat!(env!("CARGO_PKG_VERSION_MAJOR"), ".", env!("CARGO_PKG_VERSION_MINOR"), ".");
 
@@ -14,7 +16,8 @@ fn main() {
         println!("cargo::rerun-if-env-changed={name}");
     }
     let here = PathBuf::from(env::var_os("CARGO_MANIFEST_DIR").expect("cargo sets CARGO_MANIFEST_DIR")).join("native");
-    println!("cargo::rerun-if-changed={}", here.join(ARCHIVE).display());
+    // A path that is not there makes cargo build anew each time, so only what is there is watched.
+    watch(&here.join(ARCHIVE));
     let folder = if let Some(named) = env::var_os("CEFRODIL_LIB").map(PathBuf::from) {
         if !named.is_absolute() {
             fail(&format!("CEFRODIL_LIB must be an absolute path, and not {}", named.display()));
@@ -32,9 +35,16 @@ fn main() {
             here
         })
     };
-    println!("cargo::rerun-if-changed={}", folder.join(ARCHIVE).display());
+    watch(&folder.join(ARCHIVE));
     println!("cargo::rustc-link-search=native={}", folder.display());
     println!("cargo::rustc-link-lib=static=cefrodil");
+}
+
+/// Cargo runs this script again if the file changes.
+fn watch(file: &Path) {
+    if file.is_file() {
+        println!("cargo::rerun-if-changed={}", file.display());
+    }
 }
 
 /// Where pkg-config finds the archive of this version, if it does.

@@ -11,7 +11,7 @@ struct worker {
     pthread_t thread;
     cefrodil_handle *known;
     uint64_t sum;
-    uint64_t computed;
+    uint64_t computed, kept;
 };
 
 static uint64_t next(uint64_t number) {
@@ -28,7 +28,7 @@ static uint64_t steps(struct worker *worker, uint64_t number) {
     result = 1 + steps(worker, next(number));
     worker->computed++;
     /* A result that isn't kept is computed again. */
-    cefrodil_try_put(worker->known, number, &result, 1, &reply);
+    worker->kept += cefrodil_try_put(worker->known, number, &result, 1, &reply) == CEFRODIL_OK;
     return result;
 }
 
@@ -55,7 +55,7 @@ int main(void) {
     static cefrodil_handle passes[THREADS];
     static struct worker workers[THREADS];
     cefrodil_shape shape;
-    uint64_t expected = plain_sum(), computed = 0;
+    uint64_t expected = plain_sum(), computed = 0, kept = 0;
     bool right = true;
     if (cefrodil_shape_for_items(ITEMS, &shape) != CEFRODIL_OK || cefrodil_open_desk(&shape, 1, passes, THREADS) != CEFRODIL_OK) {
         return 1;
@@ -70,8 +70,10 @@ int main(void) {
         pthread_join(workers[i].thread, NULL);
         right = right && workers[i].sum == expected;
         computed += workers[i].computed;
+        kept += workers[i].kept;
         cefrodil_close(&passes[i]);
     }
-    printf("%llu of %llu steps were computed\n", (unsigned long long)computed, (unsigned long long)(THREADS * expected));
+    printf("%llu of %llu steps were computed, %llu of them kept\n", (unsigned long long)computed, (unsigned long long)(THREADS * expected),
+           (unsigned long long)kept);
     return !right || computed >= THREADS * expected;
 }

@@ -25,6 +25,10 @@
 #ifndef CEFRODIL_H
 #define CEFRODIL_H
 
+#if !defined(__x86_64__) || !defined(__linux__) || defined(__ILP32__)
+#error "Cefrodil runs on 64-bit Linux on x86-64 alone"
+#endif
+
 #include <stdbool.h>
 #include <stddef.h>
 #include <stdint.h>
@@ -35,18 +39,30 @@
 #define CEFRODIL_VERSION_PATCH 0
 #define CEFRODIL_VERSION (10000 * CEFRODIL_VERSION_MAJOR + 100 * CEFRODIL_VERSION_MINOR + CEFRODIL_VERSION_PATCH)
 
-/* A call whose status must be looked at: without it, nothing is known of what the call wrote. */
+/* A call whose status must be looked at: without it, nothing is known of what the call wrote, or whether it did anything at all. */
 #if defined(__GNUC__)
 #define CEFRODIL_CHECKED __attribute__((warn_unused_result))
 #else
 #define CEFRODIL_CHECKED
 #endif
 
+/* An export that takes no null pointer: a compiler that sees one in a call warns of it. */
+#if defined(__GNUC__)
+#define CEFRODIL_NO_NULL __attribute__((nonnull))
+#else
+#define CEFRODIL_NO_NULL
+#endif
+
 #ifdef __cplusplus
 #define CEFRODIL_SAME_SIZE(condition, text) static_assert(condition, text)
 extern "C" {
-#else
+#elif __STDC_VERSION__ >= 201112L
 #define CEFRODIL_SAME_SIZE(condition, text) _Static_assert(condition, text)
+#else
+/* C99 has no assertion for the compiler: an array of a negative size serves. */
+#define CEFRODIL_SAME_SIZE(condition, text) CEFRODIL_SIZE_AT(condition, __LINE__)
+#define CEFRODIL_SIZE_AT(condition, line) CEFRODIL_SIZE_ON(condition, line)
+#define CEFRODIL_SIZE_ON(condition, line) struct cefrodil_size_on_##line { char same[(condition) ? 1 : -1]; }
 #endif
 
 /* A handle, open or empty. Its members belong to the library. */
@@ -55,8 +71,13 @@ typedef struct cefrodil_handle {
     bool live_;
 } cefrodil_handle;
 
-/* The value of an empty handle, with which it is declared. Every handle must have this value before it is opened. */
-#define CEFRODIL_EMPTY {0, false}
+/* The value of an empty handle, with which it is declared. Every handle must have this value before it is opened. To assign it, write
+ * `handle = cefrodil_empty();`, but never to an open handle: that would lose it. */
+#ifdef __cplusplus
+#define CEFRODIL_EMPTY {nullptr, false}
+#else
+#define CEFRODIL_EMPTY {NULL, false}
+#endif
 
 /* The sizes of a table and the limits of its calls. cefrodil_shape_for_items fills one in. */
 typedef struct cefrodil_shape {
@@ -141,13 +162,13 @@ uint32_t cefrodil_version(void);
 
 /* Fills in a shape for this many items, 1 to 3,774,873.
  * OK, or BAD_ITEMS: the shape is unchanged. */
-CEFRODIL_CHECKED cefrodil_status cefrodil_shape_for_items(uint32_t items, cefrodil_shape *shape);
+CEFRODIL_CHECKED CEFRODIL_NO_NULL cefrodil_status cefrodil_shape_for_items(uint32_t items, cefrodil_shape *shape);
 
 /* Opens a cache for values of `words` words. Puts its writer into one handle, and a reader into each of `reader_count` others.
  * OK: all these handles are open. IN_USE: one of them was open before; nothing was done. Otherwise returns the first error
  * that applies, in this order: BAD_WORDS, BAD_MIX to BAD_LIMIT, BAD_READERS, NO_MEMORY. No handle is open, and nothing leaks. */
-CEFRODIL_CHECKED cefrodil_status cefrodil_open(const cefrodil_shape *shape, size_t words, cefrodil_handle *writer,
-                                               cefrodil_handle *readers, size_t reader_count);
+CEFRODIL_CHECKED CEFRODIL_NO_NULL cefrodil_status cefrodil_open(const cefrodil_shape *shape, size_t words, cefrodil_handle *writer,
+                                                                cefrodil_handle *readers, size_t reader_count);
 
 /* Opens a cache like cefrodil_open and puts `status_count` entries, in order. No entry evicts another. A key that is listed
  * twice is put twice. An entry is its key, then the words of its value, so `entry_words` must be `status_count` times
@@ -155,14 +176,15 @@ CEFRODIL_CHECKED cefrodil_status cefrodil_open(const cefrodil_shape *shape, size
  * OK: the handles are open. `statuses[i]` is OK if entry i was put; otherwise it says why not: NO_PATH, NO_ITEM or SPENT. These
  * puts are the first changes of the table. Other statuses are those of cefrodil_open, and BAD_COUNT, right after BAD_WORDS, if
  * `entry_words` does not match. Then `statuses` is unchanged. */
-CEFRODIL_CHECKED cefrodil_status cefrodil_open_with(const cefrodil_shape *shape, size_t words, const uint64_t *entries,
-                                                    size_t entry_words, uint32_t *statuses, size_t status_count,
-                                                    cefrodil_handle *writer, cefrodil_handle *readers, size_t reader_count);
+CEFRODIL_CHECKED CEFRODIL_NO_NULL cefrodil_status cefrodil_open_with(const cefrodil_shape *shape, size_t words, const uint64_t *entries,
+                                                                     size_t entry_words, uint32_t *statuses, size_t status_count,
+                                                                     cefrodil_handle *writer, cefrodil_handle *readers,
+                                                                     size_t reader_count);
 
 /* Opens a cache for threads that write by turns. Each of `pass_count` handles becomes a pass: it looks up like a reader, and
  * tries for the turn to write. Returns the statuses of cefrodil_open. */
-CEFRODIL_CHECKED cefrodil_status cefrodil_open_desk(const cefrodil_shape *shape, size_t words, cefrodil_handle *passes,
-                                                    size_t pass_count);
+CEFRODIL_CHECKED CEFRODIL_NO_NULL cefrodil_status cefrodil_open_desk(const cefrodil_shape *shape, size_t words, cefrodil_handle *passes,
+                                                                     size_t pass_count);
 
 /* Puts the writer of an open cache on a desk, so that threads can write by turns. It may be the writer of cefrodil_open or
  * cefrodil_open_with, or one that came back by cefrodil_leave_desk. Each of `pass_count` handles becomes a pass. Readers of the cache
@@ -170,75 +192,76 @@ CEFRODIL_CHECKED cefrodil_status cefrodil_open_desk(const cefrodil_shape *shape,
  * for good. This call takes memory.
  * OK: the passes are open, and `writer` is closed. IN_USE: one of the passes was open before. Otherwise returns the first that
  * applies: CLOSED, KIND, BAD_READERS (no passes, or more than readers to spare), NO_MEMORY. Unless OK, nothing was done. */
-CEFRODIL_CHECKED cefrodil_status cefrodil_make_desk(cefrodil_handle *writer, cefrodil_handle *passes, size_t pass_count);
+CEFRODIL_CHECKED CEFRODIL_NO_NULL cefrodil_status cefrodil_make_desk(cefrodil_handle *writer, cefrodil_handle *passes, size_t pass_count);
 
 /* Fills in the shape of each of `shards` shards that hold `items` items together. A shard gets its mean share and five standard
  * deviations more, because the hash gives some shards more keys than others.
  * OK, BAD_SHARDS, or BAD_ITEMS: no items, or too many for a shard. Unless OK, the shape is unchanged. */
-CEFRODIL_CHECKED cefrodil_status cefrodil_shape_for_shards(uint32_t items, uint32_t shards, cefrodil_shape *shape);
+CEFRODIL_CHECKED CEFRODIL_NO_NULL cefrodil_status cefrodil_shape_for_shards(uint32_t items, uint32_t shards, cefrodil_shape *shape);
 
 /* Opens a cache of `shards` shards, each a table of this shape with a turn of its own. The hash of a key says which shard holds
  * it, so threads that write different keys rarely want the same turn. Each of `pass_count` handles becomes a pass, which has the
  * same calls as a pass of cefrodil_open_desk. `at` and `since` count the changes of the key's shard, and each shard evicts for
  * itself.
  * Returns the statuses of cefrodil_open, and BAD_SHARDS, right after BAD_MIX. */
-CEFRODIL_CHECKED cefrodil_status cefrodil_open_shards(const cefrodil_shape *shape, uint32_t shards, size_t words,
-                                                      cefrodil_handle *passes, size_t pass_count);
+CEFRODIL_CHECKED CEFRODIL_NO_NULL cefrodil_status cefrodil_open_shards(const cefrodil_shape *shape, uint32_t shards, size_t words,
+                                                                       cefrodil_handle *passes, size_t pass_count);
 
 /* Looks a key up, by any handle. By the writer it is never busy.
  * OK: `value`, `at` and `since` are set. ABSENT: `at` is set. BUSY: ask again, or treat it as a miss. If the writer
  * stops in the middle of a change, lookups in that stripe are busy until it goes on.
  * CLOSED, WIDTH. `value` is written only with OK. `reply` may be null. */
-CEFRODIL_CHECKED cefrodil_status cefrodil_get(cefrodil_handle *reader, uint64_t key, uint64_t *value, size_t words,
-                                              cefrodil_reply *reply);
+CEFRODIL_CHECKED CEFRODIL_NO_NULL cefrodil_status cefrodil_get(cefrodil_handle *reader, uint64_t key, uint64_t *value, size_t words,
+                                                               cefrodil_reply *reply);
 
 /* Looks `key_count` keys up. Equivalent to calling cefrodil_get for each key in order. `values` has one value after the other,
  * so `value_words` must be `key_count` times the words of a value.
  * OK: answer i is that of key i; value i was written if its status is OK, and is unchanged otherwise.
  * CLOSED; BAD_COUNT: `answer_count` is not `key_count`; WIDTH: `value_words` does not match. With these nothing is written. */
-CEFRODIL_CHECKED cefrodil_status cefrodil_get_many(cefrodil_handle *reader, const uint64_t *keys, size_t key_count,
-                                                   uint64_t *values, size_t value_words, cefrodil_answer *answers,
-                                                   size_t answer_count);
+CEFRODIL_CHECKED CEFRODIL_NO_NULL cefrodil_status cefrodil_get_many(cefrodil_handle *reader, const uint64_t *keys, size_t key_count,
+                                                                    uint64_t *values, size_t value_words, cefrodil_answer *answers,
+                                                                    size_t answer_count);
 
 /* Like cefrodil_get, by a pass. If the lookup is busy, it tries once for the turn; with the turn, it looks up beside the writer
  * and is never busy. BUSY: that try did not win either. */
-CEFRODIL_CHECKED cefrodil_status cefrodil_get_or_desk(cefrodil_handle *pass, uint64_t key, uint64_t *value, size_t words,
-                                                      cefrodil_reply *reply);
+CEFRODIL_CHECKED CEFRODIL_NO_NULL cefrodil_status cefrodil_get_or_desk(cefrodil_handle *pass, uint64_t key, uint64_t *value, size_t words,
+                                                                       cefrodil_reply *reply);
 
 /* Puts a key with this value, by the writer. A new key evicts another one if the table is full: its `len` is its `capacity`.
  * OK: `at`, `put` and `moves` are set, and with PUT_EVICTED `evicted`. NO_PATH, ALL_RECENT or SPENT: the key was not put.
  * CLOSED, KIND, WIDTH. */
-cefrodil_status cefrodil_put(cefrodil_handle *writer, uint64_t key, const uint64_t *value, size_t words,
-                             cefrodil_reply *reply);
+CEFRODIL_NO_NULL cefrodil_status cefrodil_put(cefrodil_handle *writer, uint64_t key, const uint64_t *value, size_t words,
+                                              cefrodil_reply *reply);
 
 /* Overwrites the value of a key if its last put was at `since`, as a lookup of the key returned it. By the writer.
  * OK: `at` is set, and `put` is PUT_RENEWED. ABSENT: `at` is set. CHANGED: `since` is that of the key's last put.
  * SPENT, CLOSED, KIND, WIDTH. */
-CEFRODIL_CHECKED cefrodil_status cefrodil_put_if(cefrodil_handle *writer, uint64_t key, uint64_t since,
-                                                 const uint64_t *value, size_t words, cefrodil_reply *reply);
+CEFRODIL_CHECKED CEFRODIL_NO_NULL cefrodil_status cefrodil_put_if(cefrodil_handle *writer, uint64_t key, uint64_t since,
+                                                                  const uint64_t *value, size_t words, cefrodil_reply *reply);
 
 /* Puts a key only if it is absent, by the writer. Evicts as cefrodil_put does.
  * OK: as in cefrodil_put; `put` is never PUT_RENEWED. PRESENT: `since` is that of the key's last put, and the key counts as used.
  * NO_PATH, ALL_RECENT or SPENT: the key is absent, and was not put. CLOSED, KIND, WIDTH. */
-CEFRODIL_CHECKED cefrodil_status cefrodil_put_if_absent(cefrodil_handle *writer, uint64_t key, const uint64_t *value,
-                                                        size_t words, cefrodil_reply *reply);
+CEFRODIL_CHECKED CEFRODIL_NO_NULL cefrodil_status cefrodil_put_if_absent(cefrodil_handle *writer, uint64_t key, const uint64_t *value,
+                                                                         size_t words, cefrodil_reply *reply);
 
 /* Removes a key, by the writer.
  * OK and ABSENT: `at` is set. SPENT, CLOSED, KIND. */
-cefrodil_status cefrodil_remove(cefrodil_handle *writer, uint64_t key, cefrodil_reply *reply);
+CEFRODIL_NO_NULL cefrodil_status cefrodil_remove(cefrodil_handle *writer, uint64_t key, cefrodil_reply *reply);
 
-/* The same four calls by a pass, which tries once for the turn. HELD: the try did not win, and nothing was done. */
-cefrodil_status cefrodil_try_put(cefrodil_handle *pass, uint64_t key, const uint64_t *value, size_t words,
-                                 cefrodil_reply *reply);
-CEFRODIL_CHECKED cefrodil_status cefrodil_try_put_if(cefrodil_handle *pass, uint64_t key, uint64_t since,
-                                                     const uint64_t *value, size_t words, cefrodil_reply *reply);
-CEFRODIL_CHECKED cefrodil_status cefrodil_try_put_if_absent(cefrodil_handle *pass, uint64_t key, const uint64_t *value,
-                                                            size_t words, cefrodil_reply *reply);
-cefrodil_status cefrodil_try_remove(cefrodil_handle *pass, uint64_t key, cefrodil_reply *reply);
+/* The same four calls by a pass, which tries once for the turn. HELD: the try did not win, and nothing was done, so a value that should
+ * go is still there. Try again, or note the key. */
+CEFRODIL_CHECKED CEFRODIL_NO_NULL cefrodil_status cefrodil_try_put(cefrodil_handle *pass, uint64_t key, const uint64_t *value, size_t words,
+                                                                   cefrodil_reply *reply);
+CEFRODIL_CHECKED CEFRODIL_NO_NULL cefrodil_status cefrodil_try_put_if(cefrodil_handle *pass, uint64_t key, uint64_t since,
+                                                                      const uint64_t *value, size_t words, cefrodil_reply *reply);
+CEFRODIL_CHECKED CEFRODIL_NO_NULL cefrodil_status cefrodil_try_put_if_absent(cefrodil_handle *pass, uint64_t key, const uint64_t *value,
+                                                                             size_t words, cefrodil_reply *reply);
+CEFRODIL_CHECKED CEFRODIL_NO_NULL cefrodil_status cefrodil_try_remove(cefrodil_handle *pass, uint64_t key, cefrodil_reply *reply);
 
 /* Like cefrodil_try_put, with up to `tries` tries, at least one, one after the other without a pause. HELD: none of them won. */
-cefrodil_status cefrodil_put_within(cefrodil_handle *pass, uint32_t tries, uint64_t key, const uint64_t *value,
-                                    size_t words, cefrodil_reply *reply);
+CEFRODIL_CHECKED CEFRODIL_NO_NULL cefrodil_status cefrodil_put_within(cefrodil_handle *pass, uint32_t tries, uint64_t key,
+                                                                      const uint64_t *value, size_t words, cefrodil_reply *reply);
 
 /* Like cefrodil_put, cefrodil_put_if and cefrodil_remove, and they also return the entry that gives way: the key's earlier one, or that
  * of the key that was evicted. So a program that keeps objects behind the cache knows which to free. By the writer; or by a pass,
@@ -246,130 +269,94 @@ cefrodil_status cefrodil_put_within(cefrodil_handle *pass, uint32_t tries, uint6
  * OK: as without that. If an entry gave way, `former` is its value, and `since` the `at` of its last put. If a new key evicted none,
  * `former` is unchanged, and `since` is 0. HELD: the try of a pass did not win. WIDTH: `words` or `former_words` does not match.
  * Otherwise as without that. Unless OK, `former` is unchanged. */
-CEFRODIL_CHECKED cefrodil_status cefrodil_swap(cefrodil_handle *handle, uint64_t key, const uint64_t *value, size_t words,
-                                               uint64_t *former, size_t former_words, cefrodil_reply *reply);
-CEFRODIL_CHECKED cefrodil_status cefrodil_swap_if(cefrodil_handle *handle, uint64_t key, uint64_t since, const uint64_t *value,
-                                                  size_t words, uint64_t *former, size_t former_words, cefrodil_reply *reply);
-CEFRODIL_CHECKED cefrodil_status cefrodil_take_out(cefrodil_handle *handle, uint64_t key, uint64_t *former, size_t former_words,
-                                                   cefrodil_reply *reply);
+CEFRODIL_CHECKED CEFRODIL_NO_NULL cefrodil_status cefrodil_swap(cefrodil_handle *handle, uint64_t key, const uint64_t *value, size_t words,
+                                                                uint64_t *former, size_t former_words, cefrodil_reply *reply);
+CEFRODIL_CHECKED CEFRODIL_NO_NULL cefrodil_status cefrodil_swap_if(cefrodil_handle *handle, uint64_t key, uint64_t since,
+                                                                   const uint64_t *value, size_t words, uint64_t *former,
+                                                                   size_t former_words, cefrodil_reply *reply);
+CEFRODIL_CHECKED CEFRODIL_NO_NULL cefrodil_status cefrodil_take_out(cefrodil_handle *handle, uint64_t key, uint64_t *former,
+                                                                    size_t former_words, cefrodil_reply *reply);
 
 /* Ends a pass's turns: its handle becomes a reader's. The last pass of a desk gets the writer back, so a program can go on with one
  * writer. For that every pass of the desk leaves, in any order and in any thread, or is closed.
  * OK: this was the last pass, and `writer` is open. NOT_LAST: other passes are at the desk, and `writer` is empty.
  * Otherwise nothing was done: the first that applies of IN_USE (`writer` was open before), CLOSED, KIND (also by a pass of shards),
  * NO_MEMORY. */
-CEFRODIL_CHECKED cefrodil_status cefrodil_leave_desk(cefrodil_handle *pass, cefrodil_handle *writer);
+CEFRODIL_CHECKED CEFRODIL_NO_NULL cefrodil_status cefrodil_leave_desk(cefrodil_handle *pass, cefrodil_handle *writer);
 
 /* The number of changes to the table, which is the `at` of a lookup made now, and the number of keys in it. By the writer. Neither
  * looks through the table.
  * OK: the number is set. CLOSED, KIND: it is unchanged. */
-CEFRODIL_CHECKED cefrodil_status cefrodil_moment(cefrodil_handle *writer, uint64_t *moment);
-CEFRODIL_CHECKED cefrodil_status cefrodil_len(cefrodil_handle *writer, uint64_t *len);
+CEFRODIL_CHECKED CEFRODIL_NO_NULL cefrodil_status cefrodil_moment(cefrodil_handle *writer, uint64_t *moment);
+CEFRODIL_CHECKED CEFRODIL_NO_NULL cefrodil_status cefrodil_len(cefrodil_handle *writer, uint64_t *len);
 
 /* The number of keys that the cache holds at most: the `items` of its shape, times the shards if there are any. By any handle.
  * OK: the number is set. CLOSED: it is unchanged. */
-CEFRODIL_CHECKED cefrodil_status cefrodil_capacity(cefrodil_handle *handle, uint64_t *capacity);
+CEFRODIL_CHECKED CEFRODIL_NO_NULL cefrodil_status cefrodil_capacity(cefrodil_handle *handle, uint64_t *capacity);
 
 /* The number of keys in the table, by a pass of a desk, which tries once for the turn.
  * OK: `len` is set. HELD: the try did not win. CLOSED; KIND: also by a pass of shards. Unless OK, `len` is unchanged. */
-CEFRODIL_CHECKED cefrodil_status cefrodil_try_len(cefrodil_handle *pass, uint64_t *len);
+CEFRODIL_CHECKED CEFRODIL_NO_NULL cefrodil_status cefrodil_try_len(cefrodil_handle *pass, uint64_t *len);
 
 /* Lists each key with its value, by the writer or a pass. A pass tries once for the turn, and a pass of shards once for that of each
  * shard, so it lists each shard at a moment of its own. An entry is its key, then the words of its value, as cefrodil_open_with
  * takes it. Readers may go on meanwhile. This call takes memory for the whole list, and frees it.
  * OK: the first `count` entries of `entries` are written. BAD_COUNT: there are `count` entries, and `entry_words` is less than
  * `count` times (1 + the words of a value). HELD: a try did not win. CLOSED, KIND, NO_MEMORY. Unless OK, `entries` is unchanged. */
-CEFRODIL_CHECKED cefrodil_status cefrodil_entries(cefrodil_handle *handle, uint64_t *entries, size_t entry_words, uint64_t *count);
+CEFRODIL_CHECKED CEFRODIL_NO_NULL cefrodil_status cefrodil_entries(cefrodil_handle *handle, uint64_t *entries, size_t entry_words,
+                                                                   uint64_t *count);
 
 /* Lists each entry with its stamp, by the writer or a pass of a desk. An entry is its key, then the words of its value, then the moment
  * of the key's last put (`since`): 2 + the words of a value.
  * OK, BAD_COUNT, HELD, CLOSED, NO_MEMORY: as by cefrodil_entries. KIND: also by a pass of shards. */
-CEFRODIL_CHECKED cefrodil_status cefrodil_stamped_entries(cefrodil_handle *handle, uint64_t *entries, size_t entry_words,
-                                                          uint64_t *count);
+CEFRODIL_CHECKED CEFRODIL_NO_NULL cefrodil_status cefrodil_stamped_entries(cefrodil_handle *handle, uint64_t *entries, size_t entry_words,
+                                                                           uint64_t *count);
 
 /* Closes a handle, in any thread. Closing the last handle frees the cache.
  * OK, or CLOSED if it was not open, or null. The handle is closed afterwards. */
-cefrodil_status cefrodil_close(cefrodil_handle *handle);
+CEFRODIL_NO_NULL cefrodil_status cefrodil_close(cefrodil_handle *handle);
 
 /* cefrodil_get and cefrodil_put for values of 1 to 8 words. An optimizing compiler calls these where `words` is a constant, because
  * they take fewer instructions. A program has no need to name them: they return what cefrodil_get and cefrodil_put return. */
-CEFRODIL_CHECKED cefrodil_status cefrodil_get_1(cefrodil_handle *reader, uint64_t key, uint64_t *value, cefrodil_reply *reply);
-CEFRODIL_CHECKED cefrodil_status cefrodil_get_2(cefrodil_handle *reader, uint64_t key, uint64_t *value, cefrodil_reply *reply);
-CEFRODIL_CHECKED cefrodil_status cefrodil_get_3(cefrodil_handle *reader, uint64_t key, uint64_t *value, cefrodil_reply *reply);
-CEFRODIL_CHECKED cefrodil_status cefrodil_get_4(cefrodil_handle *reader, uint64_t key, uint64_t *value, cefrodil_reply *reply);
-CEFRODIL_CHECKED cefrodil_status cefrodil_get_5(cefrodil_handle *reader, uint64_t key, uint64_t *value, cefrodil_reply *reply);
-CEFRODIL_CHECKED cefrodil_status cefrodil_get_6(cefrodil_handle *reader, uint64_t key, uint64_t *value, cefrodil_reply *reply);
-CEFRODIL_CHECKED cefrodil_status cefrodil_get_7(cefrodil_handle *reader, uint64_t key, uint64_t *value, cefrodil_reply *reply);
-CEFRODIL_CHECKED cefrodil_status cefrodil_get_8(cefrodil_handle *reader, uint64_t key, uint64_t *value, cefrodil_reply *reply);
-cefrodil_status cefrodil_put_1(cefrodil_handle *writer, uint64_t key, const uint64_t *value, cefrodil_reply *reply);
-cefrodil_status cefrodil_put_2(cefrodil_handle *writer, uint64_t key, const uint64_t *value, cefrodil_reply *reply);
-cefrodil_status cefrodil_put_3(cefrodil_handle *writer, uint64_t key, const uint64_t *value, cefrodil_reply *reply);
-cefrodil_status cefrodil_put_4(cefrodil_handle *writer, uint64_t key, const uint64_t *value, cefrodil_reply *reply);
-cefrodil_status cefrodil_put_5(cefrodil_handle *writer, uint64_t key, const uint64_t *value, cefrodil_reply *reply);
-cefrodil_status cefrodil_put_6(cefrodil_handle *writer, uint64_t key, const uint64_t *value, cefrodil_reply *reply);
-cefrodil_status cefrodil_put_7(cefrodil_handle *writer, uint64_t key, const uint64_t *value, cefrodil_reply *reply);
-cefrodil_status cefrodil_put_8(cefrodil_handle *writer, uint64_t key, const uint64_t *value, cefrodil_reply *reply);
-
-/* A compiler that sees a null pointer in a call warns of it. */
-#if defined(__GNUC__)
-#define CEFRODIL_NO_NULL(call) extern __typeof__(call) call __attribute__((nonnull))
-CEFRODIL_NO_NULL(cefrodil_shape_for_items);
-CEFRODIL_NO_NULL(cefrodil_open);
-CEFRODIL_NO_NULL(cefrodil_open_with);
-CEFRODIL_NO_NULL(cefrodil_open_desk);
-CEFRODIL_NO_NULL(cefrodil_make_desk);
-CEFRODIL_NO_NULL(cefrodil_shape_for_shards);
-CEFRODIL_NO_NULL(cefrodil_open_shards);
-CEFRODIL_NO_NULL(cefrodil_get);
-CEFRODIL_NO_NULL(cefrodil_get_many);
-CEFRODIL_NO_NULL(cefrodil_get_or_desk);
-CEFRODIL_NO_NULL(cefrodil_moment);
-CEFRODIL_NO_NULL(cefrodil_len);
-CEFRODIL_NO_NULL(cefrodil_capacity);
-CEFRODIL_NO_NULL(cefrodil_try_len);
-CEFRODIL_NO_NULL(cefrodil_entries);
-CEFRODIL_NO_NULL(cefrodil_stamped_entries);
-CEFRODIL_NO_NULL(cefrodil_put);
-CEFRODIL_NO_NULL(cefrodil_put_if);
-CEFRODIL_NO_NULL(cefrodil_put_if_absent);
-CEFRODIL_NO_NULL(cefrodil_remove);
-CEFRODIL_NO_NULL(cefrodil_try_put);
-CEFRODIL_NO_NULL(cefrodil_put_within);
-CEFRODIL_NO_NULL(cefrodil_try_put_if);
-CEFRODIL_NO_NULL(cefrodil_try_put_if_absent);
-CEFRODIL_NO_NULL(cefrodil_try_remove);
-CEFRODIL_NO_NULL(cefrodil_swap);
-CEFRODIL_NO_NULL(cefrodil_swap_if);
-CEFRODIL_NO_NULL(cefrodil_take_out);
-CEFRODIL_NO_NULL(cefrodil_leave_desk);
-CEFRODIL_NO_NULL(cefrodil_get_1);
-CEFRODIL_NO_NULL(cefrodil_get_2);
-CEFRODIL_NO_NULL(cefrodil_get_3);
-CEFRODIL_NO_NULL(cefrodil_get_4);
-CEFRODIL_NO_NULL(cefrodil_get_5);
-CEFRODIL_NO_NULL(cefrodil_get_6);
-CEFRODIL_NO_NULL(cefrodil_get_7);
-CEFRODIL_NO_NULL(cefrodil_get_8);
-CEFRODIL_NO_NULL(cefrodil_put_1);
-CEFRODIL_NO_NULL(cefrodil_put_2);
-CEFRODIL_NO_NULL(cefrodil_put_3);
-CEFRODIL_NO_NULL(cefrodil_put_4);
-CEFRODIL_NO_NULL(cefrodil_put_5);
-CEFRODIL_NO_NULL(cefrodil_put_6);
-CEFRODIL_NO_NULL(cefrodil_put_7);
-CEFRODIL_NO_NULL(cefrodil_put_8);
-CEFRODIL_NO_NULL(cefrodil_close);
-#undef CEFRODIL_NO_NULL
-#endif
+CEFRODIL_CHECKED CEFRODIL_NO_NULL cefrodil_status cefrodil_get_1(cefrodil_handle *reader, uint64_t key, uint64_t *value,
+                                                                 cefrodil_reply *reply);
+CEFRODIL_CHECKED CEFRODIL_NO_NULL cefrodil_status cefrodil_get_2(cefrodil_handle *reader, uint64_t key, uint64_t *value,
+                                                                 cefrodil_reply *reply);
+CEFRODIL_CHECKED CEFRODIL_NO_NULL cefrodil_status cefrodil_get_3(cefrodil_handle *reader, uint64_t key, uint64_t *value,
+                                                                 cefrodil_reply *reply);
+CEFRODIL_CHECKED CEFRODIL_NO_NULL cefrodil_status cefrodil_get_4(cefrodil_handle *reader, uint64_t key, uint64_t *value,
+                                                                 cefrodil_reply *reply);
+CEFRODIL_CHECKED CEFRODIL_NO_NULL cefrodil_status cefrodil_get_5(cefrodil_handle *reader, uint64_t key, uint64_t *value,
+                                                                 cefrodil_reply *reply);
+CEFRODIL_CHECKED CEFRODIL_NO_NULL cefrodil_status cefrodil_get_6(cefrodil_handle *reader, uint64_t key, uint64_t *value,
+                                                                 cefrodil_reply *reply);
+CEFRODIL_CHECKED CEFRODIL_NO_NULL cefrodil_status cefrodil_get_7(cefrodil_handle *reader, uint64_t key, uint64_t *value,
+                                                                 cefrodil_reply *reply);
+CEFRODIL_CHECKED CEFRODIL_NO_NULL cefrodil_status cefrodil_get_8(cefrodil_handle *reader, uint64_t key, uint64_t *value,
+                                                                 cefrodil_reply *reply);
+CEFRODIL_NO_NULL cefrodil_status cefrodil_put_1(cefrodil_handle *writer, uint64_t key, const uint64_t *value, cefrodil_reply *reply);
+CEFRODIL_NO_NULL cefrodil_status cefrodil_put_2(cefrodil_handle *writer, uint64_t key, const uint64_t *value, cefrodil_reply *reply);
+CEFRODIL_NO_NULL cefrodil_status cefrodil_put_3(cefrodil_handle *writer, uint64_t key, const uint64_t *value, cefrodil_reply *reply);
+CEFRODIL_NO_NULL cefrodil_status cefrodil_put_4(cefrodil_handle *writer, uint64_t key, const uint64_t *value, cefrodil_reply *reply);
+CEFRODIL_NO_NULL cefrodil_status cefrodil_put_5(cefrodil_handle *writer, uint64_t key, const uint64_t *value, cefrodil_reply *reply);
+CEFRODIL_NO_NULL cefrodil_status cefrodil_put_6(cefrodil_handle *writer, uint64_t key, const uint64_t *value, cefrodil_reply *reply);
+CEFRODIL_NO_NULL cefrodil_status cefrodil_put_7(cefrodil_handle *writer, uint64_t key, const uint64_t *value, cefrodil_reply *reply);
+CEFRODIL_NO_NULL cefrodil_status cefrodil_put_8(cefrodil_handle *writer, uint64_t key, const uint64_t *value, cefrodil_reply *reply);
 
 #ifdef __cplusplus
 }
 #endif
 
+/* An empty handle, as CEFRODIL_EMPTY. */
+static inline cefrodil_handle cefrodil_empty(void) {
+    const cefrodil_handle empty = CEFRODIL_EMPTY;
+    return empty;
+}
+
 /* Moves a handle: returns it, and leaves the old place empty. */
 static inline cefrodil_handle cefrodil_take(cefrodil_handle *from) {
-    const cefrodil_handle empty = CEFRODIL_EMPTY, taken = *from;
-    *from = empty;
+    const cefrodil_handle taken = *from;
+    *from = cefrodil_empty();
     return taken;
 }
 
@@ -383,12 +370,13 @@ static inline cefrodil_handle cefrodil_take(cefrodil_handle *from) {
 #define CEFRODIL_KNOWN(number) 0
 #endif
 
-/* The exports take no null pointer. From here on these names mean what takes one where that is allowed, and what calls the export for
- * the width of a value where that is a constant. */
+/* The exports take no null pointer. The functions from here on take one where that is allowed, and two of them call the export for the
+ * width of a value where that is a constant. The macros behind them give them the names of the exports. A program that defines
+ * CEFRODIL_NO_MACROS goes without these: then no pointer may be null, and cefrodil_get_of_width and so on are called by their own names. */
 CEFRODIL_CHECKED CEFRODIL_INLINE(nonnull(1, 3)) cefrodil_status cefrodil_get_of_width(cefrodil_handle *reader, uint64_t key, uint64_t *value,
                                                                                       size_t words, cefrodil_reply *reply) {
     cefrodil_reply unread;
-    cefrodil_reply *const told = reply != NULL ? reply : &unread;
+    cefrodil_reply *const told = reply ? reply : &unread;
     switch (CEFRODIL_KNOWN(words) ? words : 0) {
     case 1: return cefrodil_get_1(reader, key, value, told);
     case 2: return cefrodil_get_2(reader, key, value, told);
@@ -418,7 +406,7 @@ CEFRODIL_INLINE(nonnull) cefrodil_status cefrodil_put_of_width(cefrodil_handle *
 }
 
 static inline cefrodil_status cefrodil_close_unless_null(cefrodil_handle *handle) {
-    return handle != NULL ? cefrodil_close(handle) : CEFRODIL_CLOSED;
+    return handle ? cefrodil_close(handle) : CEFRODIL_CLOSED;
 }
 
 CEFRODIL_CHECKED static inline cefrodil_status cefrodil_open_with_or_none(const cefrodil_shape *shape, size_t words, const uint64_t *entries,
@@ -452,6 +440,7 @@ CEFRODIL_CHECKED static inline cefrodil_status cefrodil_stamped_entries_or_none(
     return cefrodil_stamped_entries(handle, entry_words != 0 ? entries : &no_entry, entry_words, count);
 }
 
+#ifndef CEFRODIL_NO_MACROS
 #define cefrodil_get cefrodil_get_of_width
 #define cefrodil_put cefrodil_put_of_width
 #define cefrodil_close cefrodil_close_unless_null
@@ -459,6 +448,7 @@ CEFRODIL_CHECKED static inline cefrodil_status cefrodil_stamped_entries_or_none(
 #define cefrodil_get_many cefrodil_get_many_or_none
 #define cefrodil_entries cefrodil_entries_or_none
 #define cefrodil_stamped_entries cefrodil_stamped_entries_or_none
+#endif
 
 /* The text of a status. Both libraries have it as a call of this name, too. */
 static inline const char *cefrodil_text(uint32_t status) {

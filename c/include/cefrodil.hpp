@@ -7,6 +7,7 @@
 #include <array>
 #include <cstddef>
 #include <cstdint>
+#include <cstdio>
 #include <cstring>
 #include <optional>
 #include <type_traits>
@@ -15,8 +16,9 @@
 
 namespace cefrodil {
 
-// The statuses of cefrodil.h. `Status::ok` is 0, so a status is compared, never taken for a bool.
-enum class [[nodiscard]] Status : uint32_t {
+// The statuses of cefrodil.h, and one more. Whoever calls what returns one must look at it, but for `close`. `Status::ok` is 0, so a status is
+// compared, never taken for a bool.
+enum class Status : uint32_t {
     ok = CEFRODIL_OK,
     absent = CEFRODIL_ABSENT,
     busy = CEFRODIL_BUSY,
@@ -41,26 +43,65 @@ enum class [[nodiscard]] Status : uint32_t {
     no_item = CEFRODIL_NO_ITEM,
     bad_shards = CEFRODIL_BAD_SHARDS,
     present = CEFRODIL_PRESENT,
-    not_last = CEFRODIL_NOT_LAST
+    not_last = CEFRODIL_NOT_LAST,
+    // The program is linked with an archive of another version, whose structs and calls may differ. Nothing was done.
+    other_version = 1000
 };
 
-inline const char *text(Status status) noexcept { return cefrodil_text(static_cast<uint32_t>(status)); }
+namespace inside {
+
+// Before version 1.0 another minor version may differ in its calls, so the patch alone may be another.
+inline bool same_version() noexcept { return cefrodil_version() / 100 == CEFRODIL_VERSION / 100; }
+
+// Both versions. They stay in one place, as other texts do.
+inline const char *versions() noexcept {
+    static const std::array<char, 100> both = [] {
+        std::array<char, 100> text{};
+        const unsigned library = cefrodil_version();
+        std::snprintf(text.data(), text.size(), "the library has version %u.%u.%u, and the header %u.%u.%u", library / 10000, library / 100 % 100,
+                      library % 100, unsigned(CEFRODIL_VERSION_MAJOR), unsigned(CEFRODIL_VERSION_MINOR), unsigned(CEFRODIL_VERSION_PATCH));
+        return text;
+    }();
+    return both.data();
+}
+
+} // namespace inside
+
+inline const char *text(Status status) noexcept {
+    return status == Status::other_version ? inside::versions() : cefrodil_text(static_cast<uint32_t>(status));
+}
 
 // How many words a type takes as a value.
 template <class Type> inline constexpr size_t words_of = (sizeof(Type) + sizeof(uint64_t) - 1) / sizeof(uint64_t);
 
-// Whether a type can be a value: up to 64 bytes that can be copied as they are, into an object that needs no arguments.
+// Whether all bytes of a type are part of its value, so that no padding is copied: what padding holds is not known, and may be of another
+// object. A `float` and a `double` have none, nor do arrays of them. A compiler can't tell that of a struct with a float, so specialize this
+// for one that has no padding:
+//     template <> inline constexpr bool cefrodil::has_no_padding<Account> = true;
+// If a struct has padding, make it a member, and give it a value.
 template <class Type>
-inline constexpr bool is_value = std::is_trivially_copyable_v<Type> && std::is_default_constructible_v<Type> && words_of<Type> <= 8;
+inline constexpr bool has_no_padding =
+    std::has_unique_object_representations_v<Type> || std::is_same_v<std::remove_cv_t<Type>, float> || std::is_same_v<std::remove_cv_t<Type>, double>;
+template <class Type, size_t Count> inline constexpr bool has_no_padding<Type[Count]> = has_no_padding<Type>;
+template <class Type, size_t Count> inline constexpr bool has_no_padding<std::array<Type, Count>> = Count != 0 && has_no_padding<Type>;
 
-// The bytes of such a type as the words of a value, and back. Bytes behind the type are 0.
+// Whether a type can be a value: up to 64 bytes, all part of its value, that can be copied as they are, into an object that needs no
+// arguments.
+template <class Type>
+inline constexpr bool is_value =
+    std::is_trivially_copyable_v<Type> && std::is_default_constructible_v<Type> && words_of<Type> <= 8 && has_no_padding<Type>;
+
+// The bytes of such a type as the words of a value, and back. Bytes behind the type are 0. Floats are copied bit by bit: 0.0 and -0.0 are
+// different words.
 template <class Type> std::array<uint64_t, words_of<Type>> to_words(const Type &value) noexcept {
+    static_assert(has_no_padding<Type>, "a value has no padding; specialize has_no_padding for a struct with a float and no padding");
     static_assert(is_value<Type>, "a value is trivially copyable, default-constructible, and of up to 64 bytes");
     std::array<uint64_t, words_of<Type>> words{};
     std::memcpy(words.data(), &value, sizeof value);
     return words;
 }
 template <class Type> Type from_words(const std::array<uint64_t, words_of<Type>> &words) noexcept {
+    static_assert(has_no_padding<Type>, "a value has no padding; specialize has_no_padding for a struct with a float and no padding");
     static_assert(is_value<Type>, "a value is trivially copyable, default-constructible, and of up to 64 bytes");
     Type value;
     std::memcpy(&value, words.data(), sizeof value);
@@ -125,7 +166,7 @@ class Handle {
 
 namespace inside {
 
-inline Written written(cefrodil_status status, const cefrodil_reply &reply) {
+inline Written written(cefrodil_status status, const cefrodil_reply &reply) noexcept {
     std::optional<uint64_t> evicted;
     if (reply.put == CEFRODIL_PUT_EVICTED) {
         evicted = reply.evicted;
@@ -133,7 +174,7 @@ inline Written written(cefrodil_status status, const cefrodil_reply &reply) {
     return {static_cast<Status>(status), evicted, reply.at, reply.since, reply.put == CEFRODIL_PUT_RENEWED};
 }
 
-template <size_t Words> Answer<Words> answer(cefrodil_status status, const cefrodil_reply &reply, const std::array<uint64_t, Words> &value) {
+template <size_t Words> Answer<Words> answer(cefrodil_status status, const cefrodil_reply &reply, const std::array<uint64_t, Words> &value) noexcept {
     Answer<Words> told{static_cast<Status>(status), std::nullopt, reply.at, reply.since};
     if (status == CEFRODIL_OK) {
         told.value = value;
@@ -142,7 +183,8 @@ template <size_t Words> Answer<Words> answer(cefrodil_status status, const cefro
 }
 
 // `gone`: an entry gives way if the call is done.
-template <size_t Words> Swapped<Words> swapped(cefrodil_status status, const cefrodil_reply &reply, const std::array<uint64_t, Words> &old, bool gone) {
+template <size_t Words>
+Swapped<Words> swapped(cefrodil_status status, const cefrodil_reply &reply, const std::array<uint64_t, Words> &old, bool gone) noexcept {
     const Written write = written(status, reply);
     const bool done = status == CEFRODIL_OK && gone;
     Swapped<Words> told{write.status, write.evicted, std::nullopt, write.at, done ? write.since : 0, done ? 0 : write.since};
@@ -153,19 +195,19 @@ template <size_t Words> Swapped<Words> swapped(cefrodil_status status, const cef
 }
 
 // The calls by the writer or a pass that return the entry which gives way.
-template <size_t Words> Swapped<Words> swap(cefrodil_handle *raw, uint64_t key, const std::array<uint64_t, Words> &value) {
+template <size_t Words> Swapped<Words> swap(cefrodil_handle *raw, uint64_t key, const std::array<uint64_t, Words> &value) noexcept {
     cefrodil_reply reply;
     std::array<uint64_t, Words> old{};
     const cefrodil_status status = cefrodil_swap(raw, key, value.data(), Words, old.data(), Words, &reply);
     return swapped<Words>(status, reply, old, reply.put != CEFRODIL_PUT_STORED);
 }
-template <size_t Words> Swapped<Words> swap_if(cefrodil_handle *raw, uint64_t key, uint64_t since, const std::array<uint64_t, Words> &value) {
+template <size_t Words> Swapped<Words> swap_if(cefrodil_handle *raw, uint64_t key, uint64_t since, const std::array<uint64_t, Words> &value) noexcept {
     cefrodil_reply reply;
     std::array<uint64_t, Words> old{};
     const cefrodil_status status = cefrodil_swap_if(raw, key, since, value.data(), Words, old.data(), Words, &reply);
     return swapped<Words>(status, reply, old, true);
 }
-template <size_t Words> Swapped<Words> take(cefrodil_handle *raw, uint64_t key) {
+template <size_t Words> Swapped<Words> take(cefrodil_handle *raw, uint64_t key) noexcept {
     cefrodil_reply reply;
     std::array<uint64_t, Words> old{};
     const cefrodil_status status = cefrodil_take_out(raw, key, old.data(), Words, &reply);
@@ -173,7 +215,7 @@ template <size_t Words> Swapped<Words> take(cefrodil_handle *raw, uint64_t key) 
 }
 
 // Lists entries of `each` words by a call of C: how many they are, and then each, until they fit.
-template <class List> Status listed(size_t each, std::vector<uint64_t> &words, List list) {
+template <class List> [[nodiscard]] Status listed(size_t each, std::vector<uint64_t> &words, List list) {
     uint64_t count = 0;
     cefrodil_status status;
     do {
@@ -183,17 +225,20 @@ template <class List> Status listed(size_t each, std::vector<uint64_t> &words, L
     words.resize(status == CEFRODIL_OK ? count * each : 0);
     return static_cast<Status>(status);
 }
-template <size_t Words> Status entries(cefrodil_handle *raw, std::vector<uint64_t> &words) {
-    return listed(1 + Words, words, [&](uint64_t *list, size_t size, uint64_t *count) { return cefrodil_entries(raw, list, size, count); });
+template <size_t Words> [[nodiscard]] Status entries(cefrodil_handle *raw, std::vector<uint64_t> &words) {
+    return listed(1 + Words, words, [&](uint64_t *list, size_t size, uint64_t *count) { return cefrodil_entries_or_none(raw, list, size, count); });
 }
-template <size_t Words> Status stamped_entries(cefrodil_handle *raw, std::vector<uint64_t> &words) {
+template <size_t Words> [[nodiscard]] Status stamped_entries(cefrodil_handle *raw, std::vector<uint64_t> &words) {
     return listed(2 + Words, words,
-                  [&](uint64_t *list, size_t size, uint64_t *count) { return cefrodil_stamped_entries(raw, list, size, count); });
+                  [&](uint64_t *list, size_t size, uint64_t *count) { return cefrodil_stamped_entries_or_none(raw, list, size, count); });
 }
 
 // Opens `count` handles by a call of C, which takes an array of them. If it succeeds, they take the place of `handles`. All memory is taken
-// before the call.
-template <class Kind, class Open> Status open_all(std::vector<Kind> &handles, size_t count, Open open) {
+// before the call. An archive of another version is not called.
+template <class Kind, class Open> [[nodiscard]] Status open_all(std::vector<Kind> &handles, size_t count, Open open) {
+    if (!same_version()) {
+        return Status::other_version;
+    }
     count = count <= 1024 ? count : 0;
     std::vector<cefrodil_handle> raw(count != 0 ? count : 1);
     std::vector<Kind> opened(count);
@@ -217,112 +262,126 @@ template <size_t Words> class Writer : public Handle {
     using Value = std::array<uint64_t, Words>;
     Writer() noexcept {}
 
-    Written put(uint64_t key, const Value &value) {
+    Written put(uint64_t key, const Value &value) noexcept {
         cefrodil_reply reply;
-        const cefrodil_status status = cefrodil_put(raw(), key, value.data(), Words, &reply);
+        const cefrodil_status status = cefrodil_put_of_width(raw(), key, value.data(), Words, &reply);
         return inside::written(status, reply);
     }
-    [[nodiscard]] Written put_if(uint64_t key, uint64_t since, const Value &value) {
+    [[nodiscard]] Written put_if(uint64_t key, uint64_t since, const Value &value) noexcept {
         cefrodil_reply reply;
         const cefrodil_status status = cefrodil_put_if(raw(), key, since, value.data(), Words, &reply);
         return inside::written(status, reply);
     }
-    [[nodiscard]] Written put_if_absent(uint64_t key, const Value &value) {
+    [[nodiscard]] Written put_if_absent(uint64_t key, const Value &value) noexcept {
         cefrodil_reply reply;
         const cefrodil_status status = cefrodil_put_if_absent(raw(), key, value.data(), Words, &reply);
         return inside::written(status, reply);
     }
-    Written remove(uint64_t key) {
+    Written remove(uint64_t key) noexcept {
         cefrodil_reply reply;
         const cefrodil_status status = cefrodil_remove(raw(), key, &reply);
         return inside::written(status, reply);
     }
     // Like put, put_if and remove, and they also return the entry that gives way.
-    [[nodiscard]] Swapped<Words> swap(uint64_t key, const Value &value) { return inside::swap<Words>(raw(), key, value); }
-    [[nodiscard]] Swapped<Words> swap_if(uint64_t key, uint64_t since, const Value &value) { return inside::swap_if<Words>(raw(), key, since, value); }
-    [[nodiscard]] Swapped<Words> take(uint64_t key) { return inside::take<Words>(raw(), key); }
+    [[nodiscard]] Swapped<Words> swap(uint64_t key, const Value &value) noexcept { return inside::swap<Words>(raw(), key, value); }
+    [[nodiscard]] Swapped<Words> swap_if(uint64_t key, uint64_t since, const Value &value) noexcept {
+        return inside::swap_if<Words>(raw(), key, since, value);
+    }
+    [[nodiscard]] Swapped<Words> take(uint64_t key) noexcept { return inside::take<Words>(raw(), key); }
     // Never busy.
-    [[nodiscard]] Answer<Words> get(uint64_t key) {
+    [[nodiscard]] Answer<Words> get(uint64_t key) noexcept {
         cefrodil_reply reply;
         Value value;
-        const cefrodil_status status = cefrodil_get(raw(), key, value.data(), Words, &reply);
+        const cefrodil_status status = cefrodil_get_of_width(raw(), key, value.data(), Words, &reply);
         return inside::answer<Words>(status, reply, value);
     }
-    Status moment(uint64_t &number) { return static_cast<Status>(cefrodil_moment(raw(), &number)); }
-    Status len(uint64_t &number) { return static_cast<Status>(cefrodil_len(raw(), &number)); }
-    Status capacity(uint64_t &number) { return static_cast<Status>(cefrodil_capacity(raw(), &number)); }
+    [[nodiscard]] Status moment(uint64_t &number) noexcept { return static_cast<Status>(cefrodil_moment(raw(), &number)); }
+    [[nodiscard]] Status len(uint64_t &number) noexcept { return static_cast<Status>(cefrodil_len(raw(), &number)); }
+    [[nodiscard]] Status capacity(uint64_t &number) noexcept { return static_cast<Status>(cefrodil_capacity(raw(), &number)); }
     // Each key with its value, one entry after the other. Unless ok, `words` is empty.
-    Status entries(std::vector<uint64_t> &words) { return inside::entries<Words>(raw(), words); }
+    [[nodiscard]] Status entries(std::vector<uint64_t> &words) { return inside::entries<Words>(raw(), words); }
     // The same with stamps: each entry is its key, its value, and then the moment of the key's last put.
-    Status stamped_entries(std::vector<uint64_t> &words) { return inside::stamped_entries<Words>(raw(), words); }
+    [[nodiscard]] Status stamped_entries(std::vector<uint64_t> &words) { return inside::stamped_entries<Words>(raw(), words); }
 };
 
-// A reader of a cache.
-template <size_t Words> class Reader : public Handle {
+// What a Reader and a Pass have in common: lookups. A function that takes either takes a `Lookups<Words> &`. It can't be moved as such, so no
+// Pass becomes a Reader by chance: that is what Pass::leave is for.
+template <size_t Words> class Lookups : public Handle {
     static_assert(Words >= 1 && Words <= 8, "a value has 1 to 8 words");
 
   public:
     using Value = std::array<uint64_t, Words>;
-    Reader() noexcept {}
 
-    [[nodiscard]] Answer<Words> get(uint64_t key) {
+    [[nodiscard]] Answer<Words> get(uint64_t key) noexcept {
         cefrodil_reply reply;
         Value value;
-        const cefrodil_status status = cefrodil_get(raw(), key, value.data(), Words, &reply);
+        const cefrodil_status status = cefrodil_get_of_width(raw(), key, value.data(), Words, &reply);
         return inside::answer<Words>(status, reply, value);
     }
     // Equivalent to get for each key in order. Each of the `count` values is written only if its answer's status is CEFRODIL_OK.
-    Status get_many(const uint64_t *keys, size_t count, Value *values, cefrodil_answer *answers) {
+    [[nodiscard]] Status get_many(const uint64_t *keys, size_t count, Value *values, cefrodil_answer *answers) noexcept {
         static_assert(sizeof(Value) == Words * sizeof(uint64_t), "values lie one after the other");
-        return static_cast<Status>(cefrodil_get_many(raw(), keys, count, count != 0 ? values->data() : nullptr, Words * count, answers, count));
+        return static_cast<Status>(cefrodil_get_many_or_none(raw(), keys, count, count != 0 ? values->data() : nullptr, Words * count, answers, count));
     }
     // The number of keys that the cache holds at most. By a pass of shards, that of all shards.
-    Status capacity(uint64_t &number) { return static_cast<Status>(cefrodil_capacity(raw(), &number)); }
+    [[nodiscard]] Status capacity(uint64_t &number) noexcept { return static_cast<Status>(cefrodil_capacity(raw(), &number)); }
+
+  protected:
+    Lookups() noexcept {}
+    Lookups(Lookups &&) noexcept = default;
+    Lookups &operator=(Lookups &&) noexcept = default;
+    ~Lookups() = default;
+};
+
+// A reader of a cache.
+template <size_t Words> class Reader : public Lookups<Words> {
+  public:
+    Reader() noexcept {}
 };
 
 // A thread's access to a desk or to shards: it looks up like a reader, and tries for the turn to write.
-template <size_t Words> class Pass : public Reader<Words> {
+template <size_t Words> class Pass : public Lookups<Words> {
   public:
     using Value = std::array<uint64_t, Words>;
     Pass() noexcept {}
 
-    [[nodiscard]] Answer<Words> get_or_desk(uint64_t key) {
+    [[nodiscard]] Answer<Words> get_or_desk(uint64_t key) noexcept {
         cefrodil_reply reply;
         Value value;
         const cefrodil_status status = cefrodil_get_or_desk(this->raw(), key, value.data(), Words, &reply);
         return inside::answer<Words>(status, reply, value);
     }
-    [[nodiscard]] Written try_put(uint64_t key, const Value &value) {
+    [[nodiscard]] Written try_put(uint64_t key, const Value &value) noexcept {
         cefrodil_reply reply;
         const cefrodil_status status = cefrodil_try_put(this->raw(), key, value.data(), Words, &reply);
         return inside::written(status, reply);
     }
-    [[nodiscard]] Written put_within(uint32_t tries, uint64_t key, const Value &value) {
+    [[nodiscard]] Written put_within(uint32_t tries, uint64_t key, const Value &value) noexcept {
         cefrodil_reply reply;
         const cefrodil_status status = cefrodil_put_within(this->raw(), tries, key, value.data(), Words, &reply);
         return inside::written(status, reply);
     }
-    [[nodiscard]] Written try_put_if(uint64_t key, uint64_t since, const Value &value) {
+    [[nodiscard]] Written try_put_if(uint64_t key, uint64_t since, const Value &value) noexcept {
         cefrodil_reply reply;
         const cefrodil_status status = cefrodil_try_put_if(this->raw(), key, since, value.data(), Words, &reply);
         return inside::written(status, reply);
     }
-    [[nodiscard]] Written try_put_if_absent(uint64_t key, const Value &value) {
+    [[nodiscard]] Written try_put_if_absent(uint64_t key, const Value &value) noexcept {
         cefrodil_reply reply;
         const cefrodil_status status = cefrodil_try_put_if_absent(this->raw(), key, value.data(), Words, &reply);
         return inside::written(status, reply);
     }
-    [[nodiscard]] Written try_remove(uint64_t key) {
+    [[nodiscard]] Written try_remove(uint64_t key) noexcept {
         cefrodil_reply reply;
         const cefrodil_status status = cefrodil_try_remove(this->raw(), key, &reply);
         return inside::written(status, reply);
     }
     // Like try_put, try_put_if and try_remove, and they also return the entry that gives way.
-    [[nodiscard]] Swapped<Words> try_swap(uint64_t key, const Value &value) { return inside::swap<Words>(this->raw(), key, value); }
-    [[nodiscard]] Swapped<Words> try_swap_if(uint64_t key, uint64_t since, const Value &value) {
+    [[nodiscard]] Swapped<Words> try_swap(uint64_t key, const Value &value) noexcept { return inside::swap<Words>(this->raw(), key, value); }
+    [[nodiscard]] Swapped<Words> try_swap_if(uint64_t key, uint64_t since, const Value &value) noexcept {
         return inside::swap_if<Words>(this->raw(), key, since, value);
     }
-    [[nodiscard]] Swapped<Words> try_take(uint64_t key) { return inside::take<Words>(this->raw(), key); }
+    [[nodiscard]] Swapped<Words> try_take(uint64_t key) noexcept { return inside::take<Words>(this->raw(), key); }
     // Ends the pass's turns: it becomes `reader`. The last pass of a desk gets the writer back (ok); the others don't (not_last). With
     // another status nothing was done. in_use: `reader` or `writer` is open. kind: it is a pass of shards.
     [[nodiscard]] Status leave(Reader<Words> &reader, Writer<Words> &writer) noexcept {
@@ -336,33 +395,34 @@ template <size_t Words> class Pass : public Reader<Words> {
         return status;
     }
     // The number of keys, in a turn at a desk. It is held if the try does not win.
-    Status try_len(uint64_t &number) { return static_cast<Status>(cefrodil_try_len(this->raw(), &number)); }
+    [[nodiscard]] Status try_len(uint64_t &number) noexcept { return static_cast<Status>(cefrodil_try_len(this->raw(), &number)); }
     // Like Writer::entries. It is held if a try for the turn does not win.
-    Status try_entries(std::vector<uint64_t> &words) { return inside::entries<Words>(this->raw(), words); }
+    [[nodiscard]] Status try_entries(std::vector<uint64_t> &words) { return inside::entries<Words>(this->raw(), words); }
     // Like Writer::stamped_entries, at a desk. It is held if the try for the turn does not win.
-    Status try_stamped_entries(std::vector<uint64_t> &words) { return inside::stamped_entries<Words>(this->raw(), words); }
+    [[nodiscard]] Status try_stamped_entries(std::vector<uint64_t> &words) { return inside::stamped_entries<Words>(this->raw(), words); }
 };
 
-// The shape for so many items, or none if that is out of range.
-[[nodiscard]] inline std::optional<cefrodil_shape> shape_for_items(uint32_t items) {
+// The shape for so many items, or none if that is out of range, or the archive is of another version (Status::other_version).
+[[nodiscard]] inline std::optional<cefrodil_shape> shape_for_items(uint32_t items) noexcept {
     cefrodil_shape shape{};
-    if (cefrodil_shape_for_items(items, &shape) != CEFRODIL_OK) {
+    if (!inside::same_version() || cefrodil_shape_for_items(items, &shape) != CEFRODIL_OK) {
         return std::nullopt;
     }
     return shape;
 }
 
-// The shape of each of so many shards that hold so many items together.
-[[nodiscard]] inline std::optional<cefrodil_shape> shape_for_shards(uint32_t items, uint32_t shards) {
+// The shape of each of so many shards that hold so many items together, or none for the same reasons.
+[[nodiscard]] inline std::optional<cefrodil_shape> shape_for_shards(uint32_t items, uint32_t shards) noexcept {
     cefrodil_shape shape{};
-    if (cefrodil_shape_for_shards(items, shards, &shape) != CEFRODIL_OK) {
+    if (!inside::same_version() || cefrodil_shape_for_shards(items, shards, &shape) != CEFRODIL_OK) {
         return std::nullopt;
     }
     return shape;
 }
 
 // Opens a cache: its writer, and so many readers. Unless ok, `writer` and `readers` are unchanged. in_use: the writer is open.
-template <size_t Words> Status open(const cefrodil_shape &shape, size_t count, Writer<Words> &writer, std::vector<Reader<Words>> &readers) {
+template <size_t Words>
+[[nodiscard]] Status open(const cefrodil_shape &shape, size_t count, Writer<Words> &writer, std::vector<Reader<Words>> &readers) {
     return inside::open_all(readers, count, [&](cefrodil_handle *raw, size_t many) {
         return cefrodil_open(&shape, Words, writer.raw(), raw, many);
     });
@@ -370,13 +430,13 @@ template <size_t Words> Status open(const cefrodil_shape &shape, size_t count, W
 
 // The same with entries, each its key and then its value, as Writer::entries lists them. `statuses` says what became of each.
 template <size_t Words>
-Status open_with(const cefrodil_shape &shape, size_t count, const std::vector<uint64_t> &entries, Writer<Words> &writer,
+[[nodiscard]] Status open_with(const cefrodil_shape &shape, size_t count, const std::vector<uint64_t> &entries, Writer<Words> &writer,
                  std::vector<Reader<Words>> &readers, std::vector<Status> &statuses) {
     const size_t many = entries.size() / (1 + Words);
     std::vector<uint32_t> raw_statuses(many);
     std::vector<Status> told(many, Status::ok);
     const Status status = inside::open_all(readers, count, [&](cefrodil_handle *raw, size_t readers_asked) {
-        return cefrodil_open_with(&shape, Words, entries.data(), entries.size(), raw_statuses.data(), many, writer.raw(), raw, readers_asked);
+        return cefrodil_open_with_or_none(&shape, Words, entries.data(), entries.size(), raw_statuses.data(), many, writer.raw(), raw, readers_asked);
     });
     if (status == Status::ok) {
         for (size_t i = 0; i < many; i++) {
@@ -388,7 +448,7 @@ Status open_with(const cefrodil_shape &shape, size_t count, const std::vector<ui
 }
 
 // Opens a cache for threads that write by turns: so many passes. Unless ok, `passes` is unchanged.
-template <size_t Words> Status open_desk(const cefrodil_shape &shape, size_t count, std::vector<Pass<Words>> &passes) {
+template <size_t Words> [[nodiscard]] Status open_desk(const cefrodil_shape &shape, size_t count, std::vector<Pass<Words>> &passes) {
     return inside::open_all(passes, count, [&](cefrodil_handle *raw, size_t many) {
         return cefrodil_open_desk(&shape, Words, raw, many);
     });
@@ -396,14 +456,15 @@ template <size_t Words> Status open_desk(const cefrodil_shape &shape, size_t cou
 
 // Puts the writer of an open cache on a desk, for threads that write by turns: so many passes. ok: the writer is closed. Unless ok, `writer`
 // and `passes` are unchanged. bad_readers: no passes, or more than the cache has readers to spare.
-template <size_t Words> Status make_desk(Writer<Words> &writer, size_t count, std::vector<Pass<Words>> &passes) {
+template <size_t Words> [[nodiscard]] Status make_desk(Writer<Words> &writer, size_t count, std::vector<Pass<Words>> &passes) {
     return inside::open_all(passes, count, [&](cefrodil_handle *raw, size_t many) {
         return cefrodil_make_desk(writer.raw(), raw, many);
     });
 }
 
 // Opens a cache of so many shards: so many passes.
-template <size_t Words> Status open_shards(const cefrodil_shape &shape, uint32_t shards, size_t count, std::vector<Pass<Words>> &passes) {
+template <size_t Words>
+[[nodiscard]] Status open_shards(const cefrodil_shape &shape, uint32_t shards, size_t count, std::vector<Pass<Words>> &passes) {
     return inside::open_all(passes, count, [&](cefrodil_handle *raw, size_t many) {
         return cefrodil_open_shards(&shape, shards, Words, raw, many);
     });

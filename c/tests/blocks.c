@@ -139,7 +139,7 @@ static void refused(void) {
         }
         rattle_dealloc(full.at);
     }
-    struct block made = rattle_alloc(SIZE_MAX / 2, 8);
+    struct block made = rattle_alloc(SIZE_MAX / 4, 8);
     MUST(!made.there);
 }
 

@@ -4,7 +4,9 @@
 #include <cstdlib>
 #include <thread>
 #include <type_traits>
+#include <utility>
 
+using cefrodil::Lookups;
 using cefrodil::Pass;
 using cefrodil::Reader;
 using cefrodil::Status;
@@ -16,6 +18,30 @@ static_assert(!std::is_convertible_v<Status, bool>);
 // A handle is of one kind and one width.
 static_assert(!std::is_constructible_v<Writer<1>, Reader<1>> && !std::is_constructible_v<Writer<4>, Writer<1>>);
 static_assert(!std::is_constructible_v<Reader<1>, cefrodil::Handle> && !std::is_default_constructible_v<cefrodil::Handle>);
+// A pass becomes a reader only by leaving its desk. Both can be lent as what they have in common, which can't be moved.
+static_assert(!std::is_constructible_v<Reader<1>, Pass<1> &&> && !std::is_assignable_v<Reader<1> &, Pass<1> &&>);
+static_assert(!std::is_convertible_v<Pass<1> &, Reader<1> &> && !std::is_constructible_v<Pass<1>, Reader<1> &&>);
+static_assert(std::is_convertible_v<Pass<1> &, Lookups<1> &> && std::is_convertible_v<Reader<1> &, Lookups<1> &>);
+static_assert(!std::is_move_constructible_v<Lookups<1>> && !std::is_move_assignable_v<Lookups<1>> && !std::is_default_constructible_v<Lookups<1>>);
+static_assert(std::is_nothrow_move_constructible_v<Reader<1>> && std::is_nothrow_move_assignable_v<Pass<1>>);
+
+// No call throws but those that take memory in C++: openings and lists.
+template <class Handle> constexpr bool looks_up_without_throwing() {
+    return noexcept(std::declval<Handle &>().get(1)) && noexcept(std::declval<Handle &>().get_many(nullptr, 0, nullptr, nullptr)) &&
+           noexcept(std::declval<Handle &>().capacity(std::declval<uint64_t &>())) && noexcept(std::declval<Handle &>().close());
+}
+static_assert(looks_up_without_throwing<Reader<1>>() && looks_up_without_throwing<Pass<1>>() && noexcept(std::declval<Writer<1> &>().get(1)));
+static_assert(noexcept(std::declval<Writer<1> &>().put(1, {1})) && noexcept(std::declval<Writer<1> &>().put_if(1, 1, {1})));
+static_assert(noexcept(std::declval<Writer<1> &>().put_if_absent(1, {1})) && noexcept(std::declval<Writer<1> &>().remove(1)));
+static_assert(noexcept(std::declval<Writer<1> &>().swap_if(1, 1, {1})) && noexcept(std::declval<Writer<1> &>().swap(1, {1})));
+static_assert(noexcept(std::declval<Writer<1> &>().take(1)) && noexcept(std::declval<Writer<1> &>().len(std::declval<uint64_t &>())));
+static_assert(noexcept(std::declval<Pass<1> &>().try_put(1, {1})) && noexcept(std::declval<Pass<1> &>().put_within(1, 1, {1})));
+static_assert(noexcept(std::declval<Pass<1> &>().try_put_if(1, 1, {1})) && noexcept(std::declval<Pass<1> &>().try_put_if_absent(1, {1})));
+static_assert(noexcept(std::declval<Pass<1> &>().try_remove(1)) && noexcept(std::declval<Pass<1> &>().try_swap(1, {1})));
+static_assert(noexcept(std::declval<Pass<1> &>().try_swap_if(1, 1, {1})) && noexcept(std::declval<Pass<1> &>().try_take(1)));
+static_assert(noexcept(std::declval<Pass<1> &>().get_or_desk(1)) && noexcept(cefrodil::shape_for_items(1)) && noexcept(cefrodil::shape_for_shards(1, 1)));
+static_assert(!noexcept(std::declval<Writer<1> &>().entries(std::declval<std::vector<uint64_t> &>())));
+static_assert(!noexcept(std::declval<Pass<1> &>().try_entries(std::declval<std::vector<uint64_t> &>())));
 
 static void apart(const cefrodil_shape &shape) {
     Writer<2> writer;
@@ -47,6 +73,9 @@ static void apart(const cefrodil_shape &shape) {
     MUST(moved.entries(list) == Status::ok && list.empty());
     MUST(cefrodil::open(shape, 1, moved, readers) == Status::in_use && readers.size() == 2 && readers[1].is_open());
     MUST(moved.close() == Status::ok && !moved.is_open() && moved.close() == Status::closed);
+    // Nobody need look at how a close ends.
+    readers[0].close();
+    MUST(!readers[0].is_open());
     MUST(readers[1].get(1).status == Status::absent);
     moved = {};
 }
@@ -66,14 +95,39 @@ static void opened_with(const cefrodil_shape &shape) {
     MUST(cefrodil::open_with(shape, 2, {}, other, readers, statuses) == Status::ok && statuses.empty() && readers.size() == 2);
 }
 
+// Types of the program. The second has four bytes of padding behind its last member, and the third one byte between its members.
+struct Account {
+    double rate;
+    uint32_t owner;
+    char name[12];
+};
+struct Padded {
+    uint64_t owner;
+    uint32_t rate;
+};
+struct Gapped {
+    uint8_t kind;
+    uint16_t size;
+};
+struct Odd {
+    uint32_t first, second, third;
+};
+struct Rated {
+    float rate;
+    uint32_t owner;
+};
+template <> inline constexpr bool cefrodil::has_no_padding<Account> = true;
+
+static_assert(cefrodil::is_value<Account> && cefrodil::is_value<Odd> && cefrodil::is_value<uint16_t> && cefrodil::is_value<const char *>);
+static_assert(!cefrodil::is_value<Padded> && !cefrodil::is_value<Gapped> && !cefrodil::is_value<std::optional<uint32_t>>);
+// A float has no padding, but a struct that has one must say so.
+static_assert(cefrodil::is_value<float> && cefrodil::is_value<const double> && cefrodil::is_value<std::array<double, 8>> && cefrodil::is_value<float[3]>);
+static_assert(!cefrodil::is_value<Rated> && !cefrodil::is_value<long double> && !cefrodil::is_value<std::array<Padded, 2>>);
+static_assert(cefrodil::is_value<char[64]> && !cefrodil::is_value<char[65]> && !cefrodil::is_value<std::vector<int>>);
+static_assert(cefrodil::words_of<Account> == 3 && cefrodil::words_of<Odd> == 2 && cefrodil::words_of<char> == 1 && cefrodil::words_of<char[9]> == 2);
+
 // A type of the program goes in and comes out.
 static void typed(const cefrodil_shape &shape) {
-    struct Account {
-        double rate;
-        uint32_t owner;
-        char name[8];
-    };
-    static_assert(cefrodil::words_of<Account> == 3 && cefrodil::words_of<char> == 1 && cefrodil::words_of<char[9]> == 2);
     Writer<cefrodil::words_of<Account>> writer;
     std::vector<Reader<cefrodil::words_of<Account>>> readers;
     MUST(cefrodil::open(shape, 1, writer, readers) == Status::ok);
@@ -82,7 +136,11 @@ static void typed(const cefrodil_shape &shape) {
     MUST(found.value);
     const auto account = cefrodil::from_words<Account>(*found.value);
     MUST(account.rate == 0.5 && account.owner == 70 && account.name[6] == 'y' && account.name[7] == 0);
-    MUST(cefrodil::to_words(uint16_t(7))[0] == 7);
+    const auto words = cefrodil::to_words(Odd{1, 2, 3});
+    const auto odd = cefrodil::from_words<Odd>(words);
+    MUST(words[1] == 3 && odd.first == 1 && odd.second == 2 && odd.third == 3);
+    MUST(cefrodil::to_words(uint16_t(7))[0] == 7 && cefrodil::from_words<uint32_t>(cefrodil::to_words(uint32_t(70000))) == 70000);
+    MUST(cefrodil::from_words<float>(cefrodil::to_words(0.5f)) == 0.5f && cefrodil::to_words(0.0) != cefrodil::to_words(-0.0));
 }
 
 static void by_turns(std::vector<Pass<1>> passes) {

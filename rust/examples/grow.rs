@@ -36,7 +36,7 @@ impl Table {
 
     /// Moves all entries to a table of twice the size, or of four times, until each has a place there.
     fn grow(&mut self) -> Result<(), Box<dyn Error>> {
-        let entries = self.writer.entries();
+        let entries = self.writer.entries()?;
         let mut items = u32::try_from(self.writer.capacity())?;
         loop {
             items = items.checked_mul(2).ok_or("the table is too large")?;

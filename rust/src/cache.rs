@@ -1,5 +1,5 @@
 //! A cache with a writer and readers.
-use crate::error::{OpenError, PutError, PutIfAbsentError, PutIfError, Spent, Why};
+use crate::error::{ListError, OpenError, PutError, PutIfAbsentError, PutIfError, Spent, Why};
 use crate::handle::Handle;
 use crate::raw;
 use crate::reply::{self, Entry, Put, Removal, Replaced, Reply, Swapped, Take};
@@ -14,15 +14,26 @@ pub struct Cache<const WORDS: usize>(());
 
 /// The one writer of a cache.
 ///
-/// It may move to another thread, but two threads can't share it:
+/// It may move to another thread. Each call takes `&mut self`, so two threads that share it make none:
 ///
-/// ```compile_fail
-/// fn shared<T: Sync>() {}
-/// shared::<cefrodil::Writer<1>>();
+/// ```compile_fail,E0596
+/// fn two_threads_share(writer: &cefrodil::Writer<1>) {
+///     let _ = writer.put(7, &[70]);
+/// }
+/// ```
+/// ```compile_fail,E0596
+/// fn two_threads_share(reader: &cefrodil::Reader<1>) {
+///     let _ = reader.get(7);
+/// }
+/// ```
+/// ```compile_fail,E0596
+/// fn two_threads_share(pass: &cefrodil::Pass<1>) {
+///     let _ = pass.capacity();
+/// }
 /// ```
 pub struct Writer<const WORDS: usize>(pub(crate) Handle);
 
-/// A reader of a cache. It may move to another thread, but two threads can't share it.
+/// A reader of a cache. It may move to another thread. Each call takes `&mut self`, so one thread at a time looks up by it.
 pub struct Reader<const WORDS: usize>(pub(crate) Handle);
 
 /// A cache that was opened with entries, with its writer and readers.
@@ -75,7 +86,7 @@ impl<const WORDS: usize> Cache<WORDS> {
     where
         [u64; WORDS]: Value,
     {
-        let (writer, readers) = Handle::open(&shape.raw(), WORDS, readers).map_err(OpenError::of)?;
+        let (writer, readers) = Handle::open(&shape.raw(), WORDS, readers)?;
         Ok((Writer(writer), readers.into_iter().map(Reader).collect()))
     }
 
@@ -114,7 +125,7 @@ impl<const WORDS: usize> Cache<WORDS> {
             words.extend_from_slice(value);
         }
         let mut statuses = vec![raw::OK; entries.len()];
-        let (writer, readers) = Handle::open_with(&shape.raw(), WORDS, &words, &mut statuses, readers).map_err(OpenError::of)?;
+        let (writer, readers) = Handle::open_with(&shape.raw(), WORDS, &words, &mut statuses, readers)?;
         let left = statuses.iter().enumerate().filter_map(|(index, status)| Some((index, Why::of(*status)?)));
         Ok(Opened { writer: Writer(writer), readers: readers.into_iter().map(Reader).collect(), left: left.collect() })
     }
@@ -270,7 +281,11 @@ impl<const WORDS: usize> Writer<WORDS> {
     }
 
     /// Lists each key with its value, as [`Cache::open_with`] takes them. The cache goes on. The library takes memory for the
-    /// list, too. If there is none, this ends the program, as a `Vec` does.
+    /// list, too.
+    ///
+    /// # Errors
+    ///
+    /// [`ListError::NoMemory`]: nothing was listed.
     ///
     /// # Examples
     ///
@@ -282,18 +297,21 @@ impl<const WORDS: usize> Writer<WORDS> {
     /// let (mut small, _readers) = Cache::<1>::open(&Shape::for_items(100)?, 1)?;
     /// small.put(7, &[70])?;
     /// assert_eq!((small.len(), small.capacity(), small.moment()), (1, 100, 1));
-    /// let mut large = Cache::<1>::open_with(&Shape::for_items(1000)?, 1, &small.entries())?;
+    /// let mut large = Cache::<1>::open_with(&Shape::for_items(1000)?, 1, &small.entries()?)?;
     /// assert!(large.left.is_empty());
     /// assert_eq!(large.writer.get(7), Reply::Found { value: [70], at: 1, since: 1 });
     /// # Ok::<(), Box<dyn std::error::Error>>(())
     /// ```
-    #[must_use]
-    pub fn entries(&mut self) -> Vec<(u64, [u64; WORDS])> {
-        reply::entries(&mut self.0).expect("a writer has no turns")
+    pub fn entries(&mut self) -> Result<Vec<(u64, [u64; WORDS])>, ListError> {
+        reply::without_turn(reply::entries(&mut self.0))
     }
 
     /// Lists each entry with the moment of its key's last put. A lookup of the key would return the same `since`, so pass it to
     /// [`put_if`](Writer::put_if). The call takes memory as [`entries`](Writer::entries) does.
+    ///
+    /// # Errors
+    ///
+    /// [`ListError::NoMemory`]: nothing was listed.
     ///
     /// # Examples
     ///
@@ -306,17 +324,16 @@ impl<const WORDS: usize> Writer<WORDS> {
     /// writer.put(7, &[70])?;
     /// let moment = writer.moment();
     /// writer.put(8, &[80])?;
-    /// for entry in writer.stamped_entries() {
+    /// for entry in writer.stamped_entries()? {
     ///     if entry.since <= moment {
     ///         writer.remove(entry.key)?;
     ///     }
     /// }
-    /// assert_eq!(writer.stamped_entries(), [Entry { key: 8, value: [80], since: 2 }]);
+    /// assert_eq!(writer.stamped_entries()?, [Entry { key: 8, value: [80], since: 2 }]);
     /// # Ok::<(), Box<dyn std::error::Error>>(())
     /// ```
-    #[must_use]
-    pub fn stamped_entries(&mut self) -> Vec<Entry<WORDS>> {
-        reply::stamped_entries(&mut self.0).expect("a writer has no turns")
+    pub fn stamped_entries(&mut self) -> Result<Vec<Entry<WORDS>>, ListError> {
+        reply::without_turn(reply::stamped_entries(&mut self.0))
     }
 }
 

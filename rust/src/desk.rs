@@ -1,6 +1,6 @@
 //! A cache for threads that write by turns.
 use crate::cache::{Reader, Writer};
-use crate::error::{OpenError, PutError, PutIfAbsentError, PutIfError, Spent, TurnError};
+use crate::error::{EndError, ListError, OpenError, PutError, PutIfAbsentError, PutIfError, Spent, TurnError};
 use crate::handle::Handle;
 use crate::raw;
 use crate::reply::{self, Entry, Put, Removal, Replaced, Reply, Swapped, Take};
@@ -34,8 +34,8 @@ pub struct Desk<const WORDS: usize> {
 }
 
 /// A thread's access to a [`Desk`] or to [`Shards`](crate::Shards): it looks up like a reader, and tries for the turn to write. It may
-/// move to another thread, but two threads can't share it. Dropping it returns it to its desk; a pass of shards, or of
-/// [`Desk::into_passes`], is closed when it is dropped.
+/// move to another thread. Each call takes `&mut self`, so one thread at a time uses it. Dropping it returns it to its desk; a pass of
+/// shards, or of [`Desk::into_passes`], is closed when it is dropped.
 #[must_use = "a pass that is dropped goes back to its desk, or is closed"]
 pub struct Pass<'a, const WORDS: usize> {
     desk: Option<&'a Desk<WORDS>>,
@@ -58,7 +58,7 @@ impl<const WORDS: usize> Desk<WORDS> {
     where
         [u64; WORDS]: Value,
     {
-        let handles = Handle::open_desk(&shape.raw(), WORDS, passes).map_err(OpenError::of)?;
+        let handles = Handle::open_desk(&shape.raw(), WORDS, passes)?;
         Ok(Desk { passes: Mutex::new(handles) })
     }
 
@@ -107,31 +107,35 @@ impl<const WORDS: usize> Desk<WORDS> {
     ///
     /// let desk = Desk::<1>::open(&Shape::for_items(100)?, 2)?;
     /// let _ = desk.pass().expect("there are two passes").try_put(1, &[7])?;
-    /// let (mut writer, readers) = desk.end().expect("there is memory");
+    /// let (mut writer, readers) = desk.end()?;
     /// assert_eq!((writer.moment(), readers.len()), (1, 2));
     /// # Ok::<(), Box<dyn std::error::Error>>(())
     /// ```
     ///
     /// # Errors
     ///
-    /// The desk, if memory runs out, with the passes that had not left it yet. It is also returned if a pass of it was forgotten
-    /// ([`std::mem::forget`]): that pass still has a share of the writer.
-    pub fn end(self) -> Result<(Writer<WORDS>, Vec<Reader<WORDS>>), Desk<WORDS>> {
+    /// [`NotEnded`], with the desk and a reader for each pass that has left it. After [`EndError::NoMemory`], end that desk later.
+    pub fn end(self) -> Result<(Writer<WORDS>, Vec<Reader<WORDS>>), NotEnded<WORDS>> {
         let mut passes = self.passes.into_inner().unwrap_or_else(PoisonError::into_inner);
-        let mut readers = Vec::with_capacity(passes.len());
+        let mut readers = Vec::new();
+        let mut why = EndError::NoWriter;
+        if readers.try_reserve_exact(passes.len()).is_err() {
+            return Err(NotEnded { desk: Desk { passes: Mutex::new(passes) }, readers, why: EndError::NoMemory });
+        }
         while let Some(mut pass) = passes.pop() {
             let (status, writer) = pass.leave_desk();
             if status == raw::OK || status == raw::NOT_LAST {
                 readers.push(Reader(pass));
             } else {
                 passes.push(pass);
+                why = EndError::NoMemory;
                 break;
             }
             if status == raw::OK {
                 return Ok((Writer(writer), readers));
             }
         }
-        Err(Desk { passes: Mutex::new(passes) })
+        Err(NotEnded { desk: Desk { passes: Mutex::new(passes) }, readers, why })
     }
 }
 
@@ -156,7 +160,7 @@ impl<const WORDS: usize> Writer<WORDS> {
     pub fn into_desk(mut self, passes: usize) -> Result<Desk<WORDS>, NoDesk<WORDS>> {
         match self.0.make_desk(passes) {
             Ok(handles) => Ok(Desk { passes: Mutex::new(handles) }),
-            Err(status) => Err(NoDesk { writer: self, why: OpenError::of(status) }),
+            Err(why) => Err(NoDesk { writer: self, why }),
         }
     }
 }
@@ -180,6 +184,25 @@ impl<const WORDS: usize> Display for NoDesk<WORDS> {
 }
 
 impl<const WORDS: usize> Error for NoDesk<WORDS> {}
+
+/// A desk that did not end, and why. Its passes are all here: those that have not left it, and those that are readers now.
+#[derive(Debug)]
+pub struct NotEnded<const WORDS: usize> {
+    /// The desk, with the passes that have not left it. If they are all gone, [`Desk::pass`] returns `None`.
+    pub desk: Desk<WORDS>,
+    /// A reader for each pass that has left the desk.
+    pub readers: Vec<Reader<WORDS>>,
+    /// Why the desk did not end.
+    pub why: EndError,
+}
+
+impl<const WORDS: usize> Display for NotEnded<WORDS> {
+    fn fmt(&self, text: &mut Formatter) -> fmt::Result {
+        Display::fmt(&self.why, text)
+    }
+}
+
+impl<const WORDS: usize> Error for NotEnded<WORDS> {}
 
 impl<const WORDS: usize> Debug for Desk<WORDS> {
     fn fmt(&self, text: &mut Formatter) -> fmt::Result {
@@ -319,12 +342,27 @@ impl<const WORDS: usize> Pass<'_, WORDS> {
         reply::turn(told, |told| Take::of(key, old, told))
     }
 
-    /// The number of keys in the cache, in a turn. `None` if the try for the turn did not win, or if this is a pass of shards: no call
+    /// The number of keys in the cache, in a turn.
+    ///
+    /// # Errors
+    ///
+    /// [`TurnError::Held`]: the try for the turn did not win. `Call` with [`ListError::OfShards`]: this is a pass of shards, and no call
     /// sees several shards at one moment.
-    #[must_use]
-    pub fn try_len(&mut self) -> Option<usize> {
-        let (status, len) = self.handle().try_len();
-        (status == raw::OK).then_some(len as usize)
+    ///
+    /// ```
+    /// use cefrodil::{Desk, ListError, Shape, Shards, TurnError};
+    ///
+    /// let desk = Desk::<1>::open(&Shape::for_items(100)?, 1)?;
+    /// assert_eq!(desk.pass().expect("there is a pass").try_len()?, 0);
+    /// let mut shards = Shards::<1>::open(&Shape::for_shards(100, 4)?, 4, 1)?;
+    /// assert_eq!(shards[0].try_len(), Err(TurnError::Call(ListError::OfShards)));
+    /// # Ok::<(), Box<dyn std::error::Error>>(())
+    /// ```
+    pub fn try_len(&mut self) -> Result<usize, TurnError<ListError>> {
+        match self.handle().try_len() {
+            (raw::OK, len) => Ok(len as usize),
+            (status, _) => Err(reply::no_list(status)),
+        }
     }
 
     /// The number of keys that the cache holds at most: the `items` of its shape. By a pass of shards, that of all shards.
@@ -334,16 +372,23 @@ impl<const WORDS: usize> Pass<'_, WORDS> {
     }
 
     /// Lists each key with its value, in a turn, as [`Writer::entries`](crate::Writer::entries) does. A pass of shards takes a turn
-    /// at each shard, so it lists each at a moment of its own. `None` if a try for a turn did not win.
-    #[must_use]
-    pub fn try_entries(&mut self) -> Option<Vec<(u64, [u64; WORDS])>> {
+    /// at each shard, so it lists each at a moment of its own.
+    ///
+    /// # Errors
+    ///
+    /// [`TurnError::Held`]: a try for a turn did not win. `Call` with [`ListError::NoMemory`]. Nothing was listed.
+    pub fn try_entries(&mut self) -> Result<Vec<(u64, [u64; WORDS])>, TurnError<ListError>> {
         reply::entries(self.handle())
     }
 
     /// Lists each entry with the moment of its key's last put, in a turn, as [`Writer::stamped_entries`](crate::Writer::stamped_entries)
-    /// does. `None` if the try for the turn did not win, or if this is a pass of shards: each shard counts its own moments.
-    #[must_use]
-    pub fn try_stamped_entries(&mut self) -> Option<Vec<Entry<WORDS>>> {
+    /// does.
+    ///
+    /// # Errors
+    ///
+    /// [`TurnError::Held`]: the try for the turn did not win. `Call` with [`ListError::NoMemory`], or with [`ListError::OfShards`]: this
+    /// is a pass of shards, and each shard counts its own moments. Nothing was listed.
+    pub fn try_stamped_entries(&mut self) -> Result<Vec<Entry<WORDS>>, TurnError<ListError>> {
         reply::stamped_entries(self.handle())
     }
 }

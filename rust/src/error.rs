@@ -7,6 +7,14 @@ use std::fmt::{self, Display, Formatter};
 #[derive(Clone, Copy, Debug, PartialEq, Eq, Hash)]
 #[non_exhaustive]
 pub enum OpenError {
+    /// The program is linked with an archive whose structs and calls may differ from those of this crate: before version 1.0, one of
+    /// another minor version. Both versions are 10,000 times the major version, 100 times the minor one, and the patch.
+    Version {
+        /// The version of the archive.
+        archive: u32,
+        /// The version of this crate.
+        crate_version: u32,
+    },
     /// The number of shards must be a power of two, 1 to 256.
     Shards,
     /// `buckets` of the shape is out of range.
@@ -86,6 +94,26 @@ pub enum Why {
 #[derive(Clone, Copy, Debug, PartialEq, Eq, Hash)]
 pub struct Spent;
 
+/// Why entries were not listed or counted.
+#[derive(Clone, Copy, Debug, PartialEq, Eq, Hash)]
+#[non_exhaustive]
+pub enum ListError {
+    /// Out of memory. The cache goes on; list later.
+    NoMemory,
+    /// A pass of shards has no such call: no call sees several shards at one moment. Waiting does not help.
+    OfShards,
+}
+
+/// Why a desk did not end.
+#[derive(Clone, Copy, Debug, PartialEq, Eq, Hash)]
+#[non_exhaustive]
+pub enum EndError {
+    /// Out of memory.
+    NoMemory,
+    /// No pass got the writer: one of the desk was forgotten ([`std::mem::forget`]), and still has a share of it.
+    NoWriter,
+}
+
 /// Why a try for the turn failed. There will be no third reason, so a `match` may list both.
 #[derive(Clone, Copy, Debug, PartialEq, Eq, Hash)]
 pub enum TurnError<E> {
@@ -125,9 +153,17 @@ impl Why {
     }
 }
 
+// A version as it is written: 100 is 0.1.0.
+fn dotted(version: u32) -> String {
+    format!("{}.{}.{}", version / 10_000, version / 100 % 100, version % 100)
+}
+
 impl Display for OpenError {
     fn fmt(&self, text: &mut Formatter) -> fmt::Result {
-        text.write_str(match self {
+        text.write_str(match *self {
+            OpenError::Version { archive, crate_version } => {
+                return write!(text, "libcefrodil.a has version {}, and the crate {}", dotted(archive), dotted(crate_version));
+            }
             OpenError::Shards => "shards must be a power of two from 1 to 256",
             OpenError::Buckets => "buckets must be a power of two from 2 to 1048576",
             OpenError::Items => "items must be from 1 to four times the buckets",
@@ -186,6 +222,24 @@ impl Display for Spent {
     }
 }
 
+impl Display for ListError {
+    fn fmt(&self, text: &mut Formatter) -> fmt::Result {
+        text.write_str(match self {
+            ListError::NoMemory => "no memory",
+            ListError::OfShards => "a pass of shards has no such call",
+        })
+    }
+}
+
+impl Display for EndError {
+    fn fmt(&self, text: &mut Formatter) -> fmt::Result {
+        text.write_str(match self {
+            EndError::NoMemory => "no memory",
+            EndError::NoWriter => "no pass got the writer, since one was forgotten",
+        })
+    }
+}
+
 impl<E: Display> Display for TurnError<E> {
     fn fmt(&self, text: &mut Formatter) -> fmt::Result {
         match self {
@@ -201,4 +255,6 @@ impl Error for Why {}
 impl Error for PutIfError {}
 impl Error for PutIfAbsentError {}
 impl Error for Spent {}
+impl Error for ListError {}
+impl Error for EndError {}
 impl<E: Error> Error for TurnError<E> {}

@@ -3,6 +3,7 @@
 //! This module keeps what the header asks of a caller. A handle begins zeroed, and only the archive writes it. It is private and
 //! not `Clone`, and a call borrows it as `&mut`, so one call at a time uses it. The pointers of a call come from borrows, which
 //! last for the call and don't overlap.
+use crate::error::OpenError;
 use crate::raw::{self, RawAnswer, RawHandle, RawReply, RawShape};
 
 /// The most readers or passes of a cache.
@@ -13,14 +14,52 @@ const MOST: usize = 1024;
 pub struct Handle(RawHandle);
 
 // SAFETY: it is proved that an archive's handle may move to another thread: what it owns may move, and what it shares may be
-// shared. Its pointer keeps it from being `Sync`.
+// shared.
 unsafe impl Send for Handle {}
+
+// SAFETY: through a `&Handle` nothing is read and no call is made, so it may be shared. Its one field is private to this module. Here
+// `empty`, `many` and the openings take no handle, and each other function takes `&mut self`, `drop` too. It is not `Clone`, nor does it
+// implement any trait with a method that takes `&self`. The types around it add none that reaches it: `Debug` of `Writer`, `Reader`,
+// `Pass` and `Desk` writes a name alone, and `Desk::pass` and `Pool::take` hand on whole handles under a lock.
+unsafe impl Sync for Handle {}
 
 /// The version of the archive: 10,000 times the major version, 100 times the minor one, and the patch.
 #[must_use]
 pub fn version() -> u32 {
     // SAFETY: the call takes nothing and has no condition.
     unsafe { raw::cefrodil_version() }
+}
+
+/// The version of this crate, as an archive writes it.
+const VERSION: u32 = 10_000 * number(env!("CARGO_PKG_VERSION_MAJOR"))
+    + 100 * number(env!("CARGO_PKG_VERSION_MINOR"))
+    + number(env!("CARGO_PKG_VERSION_PATCH"));
+
+const fn number(digits: &str) -> u32 {
+    let (digits, mut number, mut n) = (digits.as_bytes(), 0, 0);
+    while n < digits.len() {
+        number = 10 * number + (digits[n] - b'0') as u32;
+        n += 1;
+    }
+    number
+}
+
+/// Refuses an archive whose structs and calls may be others, before any of them is used. Before version 1.0 another minor version may
+/// differ in them, so a patch alone may be another.
+pub fn same_version() -> Result<(), OpenError> {
+    match version() {
+        archive if archive / 100 == VERSION / 100 => Ok(()),
+        archive => Err(OpenError::Version { archive, crate_version: VERSION }),
+    }
+}
+
+// What a call opened, or why it opened nothing.
+fn opened<T>(status: u32, handles: T) -> Result<T, OpenError> {
+    if status == raw::OK {
+        Ok(handles)
+    } else {
+        Err(OpenError::of(status))
+    }
 }
 
 impl Drop for Handle {
@@ -41,17 +80,14 @@ impl Handle {
         (0..count).map(|_| Handle::empty()).collect()
     }
 
-    /// Opens a cache: its writer and readers, or the status.
-    pub fn open(shape: &RawShape, words: usize, readers: usize) -> Result<(Handle, Vec<Handle>), u32> {
+    /// Opens a cache: its writer and readers, or why not.
+    pub fn open(shape: &RawShape, words: usize, readers: usize) -> Result<(Handle, Vec<Handle>), OpenError> {
+        same_version()?;
         let mut writer = Handle::empty();
         let mut all = Handle::many(readers);
         // SAFETY: `Handle` has the layout of its one field, so `all` is an array of `readers` empty handles.
         let status = unsafe { raw::cefrodil_open(shape, words, &mut writer.0, all.as_mut_ptr().cast(), all.len()) };
-        if status == raw::OK {
-            Ok((writer, all))
-        } else {
-            Err(status)
-        }
+        opened(status, (writer, all))
     }
 
     /// Opens a cache with entries, each its key and then its value. `statuses` gets the status of each entry.
@@ -61,7 +97,8 @@ impl Handle {
         entries: &[u64],
         statuses: &mut [u32],
         readers: usize,
-    ) -> Result<(Handle, Vec<Handle>), u32> {
+    ) -> Result<(Handle, Vec<Handle>), OpenError> {
+        same_version()?;
         let mut writer = Handle::empty();
         let mut all = Handle::many(readers);
         // SAFETY: as in `open`; the lengths of the two arrays are passed with them.
@@ -78,47 +115,33 @@ impl Handle {
                 all.len(),
             )
         };
-        if status == raw::OK {
-            Ok((writer, all))
-        } else {
-            Err(status)
-        }
+        opened(status, (writer, all))
     }
 
-    /// Opens a cache for threads that write by turns: its passes, or the status.
-    pub fn open_desk(shape: &RawShape, words: usize, passes: usize) -> Result<Vec<Handle>, u32> {
+    /// Opens a cache for threads that write by turns: its passes, or why not.
+    pub fn open_desk(shape: &RawShape, words: usize, passes: usize) -> Result<Vec<Handle>, OpenError> {
+        same_version()?;
         let mut all = Handle::many(passes);
         // SAFETY: as in `open`.
         let status = unsafe { raw::cefrodil_open_desk(shape, words, all.as_mut_ptr().cast(), all.len()) };
-        if status == raw::OK {
-            Ok(all)
-        } else {
-            Err(status)
-        }
+        opened(status, all)
     }
 
-    /// The writer goes on a desk: its passes, or the status. Then the handle is closed; with another status it is the writer's still.
-    pub fn make_desk(&mut self, passes: usize) -> Result<Vec<Handle>, u32> {
+    /// The writer goes on a desk: its passes, or why not. Then the handle is closed; if not, it is the writer's still.
+    pub fn make_desk(&mut self, passes: usize) -> Result<Vec<Handle>, OpenError> {
         let mut all = Handle::many(passes);
         // SAFETY: as in `open`.
         let status = unsafe { raw::cefrodil_make_desk(&mut self.0, all.as_mut_ptr().cast(), all.len()) };
-        if status == raw::OK {
-            Ok(all)
-        } else {
-            Err(status)
-        }
+        opened(status, all)
     }
 
-    /// Opens shards: their passes, or the status.
-    pub fn open_shards(shape: &RawShape, shards: u32, words: usize, passes: usize) -> Result<Vec<Handle>, u32> {
+    /// Opens shards: their passes, or why not.
+    pub fn open_shards(shape: &RawShape, shards: u32, words: usize, passes: usize) -> Result<Vec<Handle>, OpenError> {
+        same_version()?;
         let mut all = Handle::many(passes);
         // SAFETY: as in `open`.
         let status = unsafe { raw::cefrodil_open_shards(shape, shards, words, all.as_mut_ptr().cast(), all.len()) };
-        if status == raw::OK {
-            Ok(all)
-        } else {
-            Err(status)
-        }
+        opened(status, all)
     }
 
     pub fn get<const WORDS: usize>(&mut self, key: u64, value: &mut [u64; WORDS]) -> (u32, RawReply) {

@@ -5,6 +5,9 @@
 //! `docs/USING.md` has sizing, patterns and what to do about each answer.
 #![deny(missing_docs, missing_debug_implementations, unsafe_op_in_unsafe_fn)]
 
+#[cfg(not(all(target_arch = "x86_64", target_os = "linux", target_pointer_width = "64")))]
+compile_error!("Cefrodil runs on 64-bit Linux on x86-64 alone");
+
 mod cache;
 mod desk;
 mod error;
@@ -17,8 +20,8 @@ mod shards;
 mod width;
 
 pub use cache::{Cache, Opened, Reader, Writer};
-pub use desk::{Desk, NoDesk, Pass};
-pub use error::{OpenError, PutError, PutIfAbsentError, PutIfError, Spent, TurnError, Why};
+pub use desk::{Desk, NoDesk, NotEnded, Pass};
+pub use error::{EndError, ListError, OpenError, PutError, PutIfAbsentError, PutIfError, Spent, TurnError, Why};
 pub use handle::version;
 pub use pool::{Lent, Pool};
 pub use reply::{Entry, Put, Removal, Replaced, Reply, Swapped, Take};

@@ -1,8 +1,7 @@
 //! Answers of calls.
-use crate::error::{PutError, PutIfAbsentError, PutIfError, Spent, TurnError};
+use crate::error::{ListError, PutError, PutIfAbsentError, PutIfError, Spent, TurnError};
 use crate::handle::Handle;
 use crate::raw::{self, RawAnswer, RawReply};
-use std::alloc::{handle_alloc_error, Layout};
 
 /// The answer of a lookup. `at` is its moment: the number of changes to the table when the answer was true. A count, not a time.
 #[derive(Clone, Copy, Debug, Default, PartialEq, Eq, Hash)]
@@ -108,7 +107,8 @@ pub enum Take<const WORDS: usize> {
 
 type Told = (u32, RawReply);
 
-// Other statuses mean a closed handle, a handle of another kind, or another width. The types of this crate exclude them.
+// Other statuses mean a closed handle, a handle of another kind, or another width. The types of this crate exclude them, except that a
+// pass of shards is of another kind for some calls (`no_list`).
 fn not_told(status: u32) -> ! {
     unreachable!("this call gives no status {status}")
 }
@@ -240,31 +240,60 @@ pub(crate) fn number((status, number): (u32, u64)) -> u64 {
     }
 }
 
-/// The entries of a cache, or none if a try for the turn did not win.
-pub(crate) fn entries<const WORDS: usize>(handle: &mut Handle) -> Option<Vec<(u64, [u64; WORDS])>> {
-    let words = listed(1 + WORDS, |words| handle.entries(words))?;
-    Some(words.chunks_exact(1 + WORDS).map(entry).collect())
+/// What a list of a pass is, or why there is none.
+pub(crate) type Listed<T> = Result<Vec<T>, TurnError<ListError>>;
+
+/// The entries of a cache.
+pub(crate) fn entries<const WORDS: usize>(handle: &mut Handle) -> Listed<(u64, [u64; WORDS])> {
+    listed(1 + WORDS, |words| handle.entries(words), entry)
 }
 
-/// The same with stamps. None also for a pass of shards, which has no such call.
-pub(crate) fn stamped_entries<const WORDS: usize>(handle: &mut Handle) -> Option<Vec<Entry<WORDS>>> {
-    let words = listed(2 + WORDS, |words| handle.stamped_entries(words))?;
-    Some(words.chunks_exact(2 + WORDS).map(stamped).collect())
+/// The same with stamps.
+pub(crate) fn stamped_entries<const WORDS: usize>(handle: &mut Handle) -> Listed<Entry<WORDS>> {
+    listed(2 + WORDS, |words| handle.stamped_entries(words), stamped)
 }
 
-// The words of a list whose entries have `each` words. The first call tells how many entries there are.
-fn listed(each: usize, mut list: impl FnMut(&mut [u64]) -> (u32, u64)) -> Option<Vec<u64>> {
+/// A list by a writer, which has no turns.
+pub(crate) fn without_turn<T>(list: Listed<T>) -> Result<Vec<T>, ListError> {
+    list.map_err(|why| match why {
+        TurnError::Call(why) => why,
+        TurnError::Held => not_told(raw::HELD),
+    })
+}
+
+// The list of entries of `each` words. The first call says how many there are.
+fn listed<T>(each: usize, mut list: impl FnMut(&mut [u64]) -> (u32, u64), entry: impl Fn(&[u64]) -> T) -> Listed<T> {
     let mut words = Vec::new();
     loop {
         let (status, count) = list(&mut words);
-        words.resize(count as usize * each, 0);
         match status {
-            raw::OK => return Some(words),
-            raw::BAD_COUNT => {}
-            raw::HELD | raw::KIND => return None,
-            raw::NO_MEMORY => handle_alloc_error(Layout::new::<u64>()),
-            other => not_told(other),
+            raw::OK => {
+                let mut entries = Vec::new();
+                reserve(&mut entries, count as usize)?;
+                entries.extend(words.chunks_exact(each).take(count as usize).map(entry));
+                return Ok(entries);
+            }
+            raw::BAD_COUNT => {
+                words.clear();
+                reserve(&mut words, count as usize * each)?;
+                words.resize(count as usize * each, 0);
+            }
+            other => return Err(no_list(other)),
         }
+    }
+}
+
+fn reserve<T>(list: &mut Vec<T>, count: usize) -> Result<(), TurnError<ListError>> {
+    list.try_reserve_exact(count).map_err(|_| TurnError::Call(ListError::NoMemory))
+}
+
+/// Why a pass or a writer did not list or count.
+pub(crate) fn no_list(status: u32) -> TurnError<ListError> {
+    match status {
+        raw::HELD => TurnError::Held,
+        raw::KIND => TurnError::Call(ListError::OfShards),
+        raw::NO_MEMORY => TurnError::Call(ListError::NoMemory),
+        other => not_told(other),
     }
 }
 

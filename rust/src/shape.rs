@@ -1,5 +1,6 @@
 //! The shape of a table.
 use crate::error::OpenError;
+use crate::handle::same_version;
 use crate::raw::{self, RawShape};
 
 /// Whether the library hashes keys, or takes them as they are.
@@ -36,7 +37,7 @@ impl Shape {
     ///
     /// # Errors
     ///
-    /// [`OpenError::Items`] if the number is out of range.
+    /// [`OpenError::Items`] if the number is out of range. [`OpenError::Version`] if the archive is of another version.
     ///
     /// # Examples
     ///
@@ -48,6 +49,7 @@ impl Shape {
     /// # Ok::<(), OpenError>(())
     /// ```
     pub fn for_items(items: u32) -> Result<Shape, OpenError> {
+        same_version()?;
         let mut shape = RawShape { limit: 0, buckets: 0, items: 0, stripes: 0, depth: 0, tries: 0, mix: 0 };
         // SAFETY: `shape` is a borrow that lasts for the call.
         let status = unsafe { raw::cefrodil_shape_for_items(items, &mut shape) };
@@ -63,7 +65,7 @@ impl Shape {
     /// # Errors
     ///
     /// [`OpenError::Shards`] if the number of shards is no power of two from 1 to 256. [`OpenError::Items`] if there are no
-    /// items, or too many for a shard.
+    /// items, or too many for a shard. [`OpenError::Version`] if the archive is of another version.
     ///
     /// # Examples
     ///
@@ -75,6 +77,7 @@ impl Shape {
     /// # Ok::<(), OpenError>(())
     /// ```
     pub fn for_shards(items: u32, shards: u32) -> Result<Shape, OpenError> {
+        same_version()?;
         let mut shape = RawShape { limit: 0, buckets: 0, items: 0, stripes: 0, depth: 0, tries: 0, mix: 0 };
         // SAFETY: `shape` is a borrow that lasts for the call.
         let status = unsafe { raw::cefrodil_shape_for_shards(items, shards, &mut shape) };

@@ -1,7 +1,9 @@
 use cefrodil::{
-    Cache, Desk, Entry, Mix, OpenError, Put, PutIfAbsentError, PutIfError, Removal, Reply, Shape, Shards, TurnError, Value, Why,
+    Cache, Desk, EndError, Entry, ListError, Mix, NotEnded, OpenError, Put, PutIfAbsentError, PutIfError, Removal, Reply, Shape,
+    Shards, TurnError, Value, Why,
 };
 use std::error::Error;
+use std::mem;
 use std::thread;
 
 fn is_send<T: Send>(_: &T) {}
@@ -30,15 +32,16 @@ fn each_call_answers() -> Result<(), Box<dyn Error>> {
 #[test]
 fn the_writer_looks_up_counts_and_lists() -> Result<(), Box<dyn Error>> {
     let (mut writer, mut readers) = Cache::<2>::open(&Shape::for_items(100)?, 1)?;
-    assert!(writer.is_empty() && writer.capacity() == 100 && writer.moment() == 0 && writer.entries().is_empty());
+    assert!(writer.is_empty() && writer.capacity() == 100 && writer.moment() == 0 && writer.entries()?.is_empty());
     for key in 0..60 {
         writer.put(key, &[key, 2 * key])?;
     }
     writer.remove(7)?;
     assert_eq!((writer.len(), writer.moment()), (59, 61));
+    assert!(!writer.is_empty());
     assert_eq!(writer.get(7), Reply::Absent { at: 61 });
     assert_eq!(writer.get(8), Reply::Found { value: [8, 16], at: 61, since: 9 });
-    let mut entries = writer.entries();
+    let mut entries = writer.entries()?;
     entries.sort_unstable();
     let expected: Vec<_> = (0..60).filter(|key| *key != 7).map(|key| (key, [key, 2 * key])).collect();
     assert_eq!(entries, expected);
@@ -50,11 +53,11 @@ fn the_writer_looks_up_counts_and_lists() -> Result<(), Box<dyn Error>> {
 #[test]
 fn a_list_has_stamps() -> Result<(), Box<dyn Error>> {
     let (mut writer, mut readers) = Cache::<2>::open(&Shape::for_items(100)?, 1)?;
-    assert!(writer.stamped_entries().is_empty());
+    assert!(writer.stamped_entries()?.is_empty());
     for n in 0..60 {
         writer.put(n % 40, &[n, 2 * n])?;
     }
-    let entries = writer.stamped_entries();
+    let entries = writer.stamped_entries()?;
     assert_eq!(entries.len(), 40);
     for Entry { key, value, since } in entries {
         assert_eq!(readers[0].get(key), Reply::Found { value, at: 60, since });
@@ -67,12 +70,13 @@ fn a_list_has_stamps() -> Result<(), Box<dyn Error>> {
 fn passes_list_stamps() -> Result<(), Box<dyn Error>> {
     let desk = Desk::<1>::open(&Shape::for_items(100)?, 1)?;
     let mut pass = desk.pass().ok_or("no pass")?;
-    assert_eq!(pass.try_stamped_entries(), Some(Vec::new()));
+    assert_eq!(pass.try_stamped_entries(), Ok(Vec::new()));
     pass.try_put(7, &[70])?;
     pass.try_put(7, &[71])?;
-    assert_eq!(pass.try_stamped_entries(), Some(vec![Entry { key: 7, value: [71], since: 2 }]));
+    assert_eq!(pass.try_stamped_entries(), Ok(vec![Entry { key: 7, value: [71], since: 2 }]));
     let mut shards = Shards::<1>::open(&Shape::for_shards(500, 8)?, 8, 1)?;
-    assert_eq!(shards[0].try_stamped_entries(), None);
+    assert_eq!(shards[0].try_stamped_entries(), Err(TurnError::Call(ListError::OfShards)));
+    assert_eq!(shards[0].try_len(), Err(TurnError::Call(ListError::OfShards)));
     Ok(())
 }
 
@@ -83,12 +87,12 @@ fn passes_list() -> Result<(), Box<dyn Error>> {
     let shard = Shape::for_shards(500, 8)?.items as usize;
     for (pass, most) in [(&mut desk.pass().ok_or("no pass")?, 100), (&mut shards[0], 8 * shard)] {
         assert_eq!(pass.capacity(), most);
-        assert_eq!(pass.try_entries(), Some(Vec::new()));
+        assert_eq!(pass.try_entries(), Ok(Vec::new()));
         let expected: Vec<_> = (0..50).map(|key| (key, [key, 3])).collect();
         for (key, value) in &expected {
             pass.try_put(*key, value)?;
         }
-        let mut entries = pass.try_entries().ok_or("the turn was held")?;
+        let mut entries = pass.try_entries()?;
         entries.sort_unstable();
         assert_eq!(entries, expected);
     }
@@ -216,17 +220,28 @@ fn an_opened_cache_gets_a_desk() -> Result<(), Box<dyn Error>> {
         let (mut one, mut two) = (desk.pass().ok_or("no pass")?, desk.pass().ok_or("no pass")?);
         assert_eq!(one.get(7), Reply::Found { value: [70, 71], at: 1, since: 1 });
         assert_eq!(one.try_put(8, &[80, 81])?, Put::Stored { at: 2, moves: 0, evicted: None });
-        assert_eq!(two.try_len(), Some(2));
+        assert_eq!(two.try_len(), Ok(2));
     }
     assert_eq!(opened.readers[1].get(8), Reply::Found { value: [80, 81], at: 2, since: 2 });
     // The writer comes back, and makes a desk once more.
-    let (mut writer, readers) = desk.end().map_err(|_| "no memory")?;
+    let (mut writer, readers) = desk.end()?;
     assert_eq!((writer.len(), readers.len()), (2, 2));
     assert!(matches!(writer.put(9, &[90, 91])?, Put::Stored { at: 3, .. }));
     let desk = writer.into_desk(62)?;
     assert_eq!(desk.pass().ok_or("no pass")?.get(9), Reply::Found { value: [90, 91], at: 3, since: 3 });
-    let (writer, _readers) = desk.end().map_err(|_| "no memory")?;
+    let (writer, _readers) = desk.end()?;
     assert_eq!(writer.into_desk(1).err().map(|refused| refused.why), Some(OpenError::Readers));
+    Ok(())
+}
+
+#[test]
+fn a_desk_does_not_end_without_a_pass_that_was_forgotten() -> Result<(), Box<dyn Error>> {
+    let desk = Desk::<1>::open(&Shape::for_items(100)?, 3)?;
+    mem::forget(desk.pass());
+    let NotEnded { desk, mut readers, why } = desk.end().err().ok_or("a pass was forgotten")?;
+    assert_eq!((why, readers.len()), (EndError::NoWriter, 2));
+    assert!(desk.pass().is_none());
+    assert_eq!(readers[0].get(1), Reply::Absent { at: 0 });
     Ok(())
 }
 

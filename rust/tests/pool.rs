@@ -2,6 +2,10 @@
 use cefrodil::{Cache, Desk, Lent, Opened, Pass, Pool, Reader, Reply, Shape, Shards, Writer};
 use std::error::Error;
 use std::fmt::Debug;
+use std::future::{self, Future};
+use std::pin::pin;
+use std::sync::Arc;
+use std::task::{Context, Poll, Wake, Waker};
 use std::thread;
 
 type Tested = Result<(), Box<dyn Error>>;
@@ -19,6 +23,18 @@ fn a_pool_lends_each_reader_once() -> Tested {
     assert_eq!(pool.take().ok_or("no reader came back")?.get(7).value(), Some([70]));
     drop(pool);
     assert_eq!(two.get(7).value(), Some([70]));
+    Ok(())
+}
+
+#[test]
+fn a_pool_lends_first_what_came_back_last() -> Tested {
+    let pool = Pool::new(vec![1, 2, 3]);
+    let (three, two) = (pool.take().ok_or("nothing")?, pool.take().ok_or("nothing")?);
+    assert_eq!((*three, *two), (3, 2));
+    drop(three);
+    assert_eq!(pool.take().map(|lent| *lent), Some(3));
+    drop(two);
+    assert_eq!(pool.take().map(|lent| *lent), Some(2));
     Ok(())
 }
 
@@ -97,6 +113,59 @@ fn handles_may_go_to_a_thread_that_is_not_scoped() {
     may_go::<Pass<'static, 1>>();
     may_go::<Lent<Pass<'static, 1>>>();
     may_go::<Pool<Reader<1>>>();
+}
+
+#[test]
+fn handles_may_be_shared_by_threads() {
+    fn may_be_shared<T: Sync>() {}
+    may_be_shared::<Writer<1>>();
+    may_be_shared::<Reader<1>>();
+    may_be_shared::<Opened<1>>();
+    may_be_shared::<Desk<1>>();
+    may_be_shared::<Pass<'static, 1>>();
+    may_be_shared::<Lent<Reader<1>>>();
+}
+
+// A service whose requests wait, each with the service borrowed.
+struct Service {
+    reader: Reader<1>,
+    requests: u64,
+}
+
+impl Service {
+    async fn serve(&self) -> u64 {
+        future::ready(()).await;
+        self.requests
+    }
+
+    async fn look_up(&mut self, key: u64) -> Reply<1> {
+        self.requests += self.serve().await + 1;
+        self.reader.get(key)
+    }
+}
+
+// Who need not be told that a future is ready.
+struct Nobody;
+
+impl Wake for Nobody {
+    fn wake(self: Arc<Nobody>) {}
+}
+
+#[test]
+fn a_service_with_a_reader_may_wait_in_another_thread() -> Tested {
+    fn may_go<T: Send>(future: T) -> T {
+        future
+    }
+    let (mut writer, mut readers) = Cache::<1>::open(&Shape::for_items(100)?, 1)?;
+    writer.put(7, &[70])?;
+    let mut service = Service { reader: readers.pop().ok_or("no reader")?, requests: 0 };
+    let waker = Waker::from(Arc::new(Nobody));
+    let mut looking = pin!(may_go(service.look_up(7)));
+    assert_eq!(
+        looking.as_mut().poll(&mut Context::from_waker(&waker)),
+        Poll::Ready(Reply::Found { value: [70], at: 1, since: 1 })
+    );
+    Ok(())
 }
 
 #[test]

@@ -1,0 +1,98 @@
+// What each write returns in C++: the key's token, what was evicted and what gave way. The writer and a pass make the same calls.
+#include "cefrodil.hpp"
+#include "must.h"
+
+using namespace cefrodil;
+
+// The calls of a writer, and those of a pass, by the same names.
+struct ByWriter {
+    Writer<1> &writer;
+    Written put(uint64_t key, uint64_t value) { return writer.put(key, {value}); }
+    Written put_if_absent(uint64_t key, uint64_t value) { return writer.put_if_absent(key, {value}); }
+    Written remove(uint64_t key) { return writer.remove(key); }
+    Swapped<1> swap(uint64_t key, uint64_t value) { return writer.swap(key, {value}); }
+    Swapped<1> swap_if(uint64_t key, uint64_t since, uint64_t value) { return writer.swap_if(key, since, {value}); }
+    Swapped<1> take(uint64_t key) { return writer.take(key); }
+};
+struct ByPass {
+    Pass<1> &pass;
+    Written put(uint64_t key, uint64_t value) { return pass.try_put(key, {value}); }
+    Written put_if_absent(uint64_t key, uint64_t value) { return pass.try_put_if_absent(key, {value}); }
+    Written remove(uint64_t key) { return pass.try_remove(key); }
+    Swapped<1> swap(uint64_t key, uint64_t value) { return pass.try_swap(key, {value}); }
+    Swapped<1> swap_if(uint64_t key, uint64_t since, uint64_t value) { return pass.try_swap_if(key, since, {value}); }
+    Swapped<1> take(uint64_t key) { return pass.try_take(key); }
+};
+
+// A key that is there has its token in `since`, and its earlier entry gives way to the next put.
+template <class Calls> static void a_key_that_is_there(Calls calls) {
+    MUST(calls.put(1, 10).status == Status::ok);
+    const Written there = calls.put_if_absent(1, 11);
+    MUST(there.status == Status::present && there.since == 1 && there.at == 0 && !there.renewed && !there.evicted);
+    const Swapped<1> renewed = calls.swap(1, 12);
+    MUST(renewed.status == Status::ok && renewed.old && (*renewed.old)[0] == 10 && renewed.old_since == 1);
+    MUST(renewed.since == 0 && renewed.at == 2 && !renewed.evicted);
+    const Swapped<1> changed = calls.swap_if(1, 1, 13);
+    MUST(changed.status == Status::changed && changed.since == 2 && changed.old_since == 0 && !changed.old);
+    const Swapped<1> replaced = calls.swap_if(1, 2, 13);
+    MUST(replaced.status == Status::ok && replaced.old && (*replaced.old)[0] == 12 && replaced.old_since == 2 && replaced.at == 3);
+}
+
+// What is taken is returned once. A key that is new and evicts none has nothing that gives way.
+template <class Calls> static void a_key_that_is_taken(Calls calls) {
+    MUST(calls.swap(2, 20).status == Status::ok);
+    const Swapped<1> taken = calls.take(2), absent = calls.take(2), stored = calls.swap(2, 21);
+    MUST(taken.status == Status::ok && taken.old && (*taken.old)[0] == 20 && taken.old_since == 4 && taken.at == 5);
+    MUST(absent.status == Status::absent && !absent.old && absent.at == 5);
+    MUST(stored.status == Status::ok && !stored.old && !stored.evicted && stored.old_since == 0 && stored.at == 6);
+}
+
+// The table has two keys and no room for a third. An eviction is a change of its own.
+template <class Calls> static void a_key_that_is_evicted(Calls calls) {
+    const Swapped<1> swapped = calls.swap(3, 30);
+    MUST(swapped.evicted && (*swapped.evicted == 1 || *swapped.evicted == 2));
+    const bool first = *swapped.evicted == 1;
+    MUST(swapped.old && (*swapped.old)[0] == (first ? 13 : 21) && swapped.old_since == (first ? 3 : 6) && swapped.at == 8);
+    const Written put = calls.put(4, 40);
+    MUST(put.status == Status::ok && put.evicted && !put.renewed && put.at == 10);
+    MUST(calls.remove(4).status == Status::ok && calls.remove(4).status == Status::absent);
+    const Written fresh = calls.put_if_absent(5, 50);
+    MUST(fresh.status == Status::ok && !fresh.renewed && !fresh.evicted && fresh.at == 12);
+}
+
+template <class Calls> static void writes(Calls calls) {
+    a_key_that_is_there(calls);
+    a_key_that_is_taken(calls);
+    a_key_that_is_evicted(calls);
+}
+
+// A handle that takes another's place closes its own cache. One that takes its own place stays open.
+static void moves(const cefrodil_shape &shape, Writer<1> &writer) {
+    Writer<1> other;
+    std::vector<Reader<1>> readers;
+    std::vector<Status> statuses;
+    MUST(open_with(shape, 1, {1, 1, 2, 2, 3, 3}, other, readers, statuses) == Status::ok);
+    MUST(statuses.size() == 3 && statuses[0] == Status::ok && statuses[1] == Status::ok && statuses[2] == Status::no_item);
+    uint64_t len = 9;
+    writer = std::move(other);
+    MUST(!other.is_open() && writer.len(len) == Status::ok && len == 2);
+    Writer<1> &same = writer;
+    writer = std::move(same);
+    MUST(writer.is_open() && writer.len(len) == Status::ok && len == 2);
+}
+
+int main() {
+    cefrodil_shape shape = *shape_for_items(100);
+    shape.items = 2;
+    Writer<1> writer;
+    std::vector<Reader<1>> readers;
+    std::vector<Pass<1>> passes;
+    MUST(open(shape, 1, writer, readers) == Status::ok && open_desk(shape, 1, passes) == Status::ok);
+    writes(ByWriter{writer});
+    writes(ByPass{passes[0]});
+    uint64_t len = 9;
+    MUST(passes[0].try_remove(5).status == Status::ok && passes[0].try_len(len) == Status::ok && len == 1);
+    moves(shape, writer);
+    MUST(!shape_for_shards(0, 4) && open_desk(shape, 1024, passes) == Status::ok && passes.size() == 1024);
+    return outcome("writes");
+}

@@ -1,0 +1,64 @@
+//! Each status that is an error in Rust has the text of the archive. Where one has another, the table says so.
+use cefrodil::{EndError, ListError, OpenError, PutError, PutIfAbsentError, PutIfError, Spent, TurnError, Why};
+use std::ffi::{c_char, CStr};
+
+extern "C" {
+    fn cefrodil_text(status: u32) -> *const c_char;
+}
+
+fn text_of_archive(status: u32) -> &'static str {
+    // SAFETY: the archive has this call for any number. It returns a text that stays, and ends with a zero.
+    unsafe { CStr::from_ptr(cefrodil_text(status)) }.to_str().expect("a text in ASCII")
+}
+
+// The errors of a status of this number. None: it is no error in Rust.
+fn errors_of(status: u32) -> Vec<String> {
+    match status {
+        3 => vec![PutError::NoPath.to_string(), Why::NoPath.to_string(), PutIfAbsentError::Put(PutError::NoPath).to_string()],
+        4 => vec![PutError::AllRecent.to_string()],
+        5 => vec![PutError::Spent.to_string(), PutIfError::Spent.to_string(), Spent.to_string(), Why::Spent.to_string()],
+        7 => vec![TurnError::<Spent>::Held.to_string()],
+        12 => vec![OpenError::NoMemory.to_string(), ListError::NoMemory.to_string(), EndError::NoMemory.to_string()],
+        15 => vec![OpenError::Buckets.to_string(), TurnError::Call(OpenError::Buckets).to_string()],
+        16 => vec![OpenError::Items.to_string()],
+        17 => vec![OpenError::Stripes.to_string()],
+        18 => vec![OpenError::Depth.to_string()],
+        19 => vec![OpenError::Tries.to_string()],
+        20 => vec![OpenError::Limit.to_string()],
+        23 => vec![Why::NoItem.to_string()],
+        24 => vec![OpenError::Shards.to_string()],
+        _ => Vec::new(),
+    }
+}
+
+#[test]
+fn errors_have_the_texts_of_the_archive() {
+    let errors: Vec<(u32, Vec<String>)> = (0..100).map(|status| (status, errors_of(status))).collect();
+    for (status, texts) in &errors {
+        for text in texts {
+            assert_eq!(text, text_of_archive(*status), "status {status}");
+        }
+    }
+    assert_eq!(errors.iter().filter(|(_, texts)| !texts.is_empty()).count(), 13);
+}
+
+#[test]
+fn errors_that_say_more_have_texts_of_their_own() {
+    for (status, text, error) in [
+        (1, "absent", PutIfError::NotThere { at: 7 }.to_string()),
+        (6, "changed", PutIfError::Changed { since: 7 }.to_string()),
+        (9, "a handle of this kind has no such call", ListError::OfShards.to_string()),
+        (21, "readers or passes must be from 1 to 1024, and no more than there are to spare", OpenError::Readers.to_string()),
+        (25, "present", PutIfAbsentError::Present { since: 7 }.to_string()),
+        (26, "other passes are at the desk", EndError::NoWriter.to_string()),
+    ] {
+        assert_eq!(text_of_archive(status), text);
+        assert_ne!(error, text);
+    }
+    assert_eq!(PutIfError::NotThere { at: 7 }.to_string(), "not there at 7");
+    assert_eq!(PutIfError::Changed { since: 7 }.to_string(), "changed since 7");
+    assert_eq!(ListError::OfShards.to_string(), "a pass of shards has no such call");
+    assert_eq!(OpenError::Readers.to_string(), "readers must be from 1 to 1024");
+    assert_eq!(PutIfAbsentError::Present { since: 7 }.to_string(), "present since 7");
+    assert_eq!(EndError::NoWriter.to_string(), "no pass got the writer, since one was forgotten");
+}
