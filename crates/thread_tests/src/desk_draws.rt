@@ -118,7 +118,7 @@ fn writers_make_the_calls_that_are_drawn(rt: HostRuntime) -> Result<(), Fail> {
         let gate = one_by_one(load, writers, None);
         let report = load_at(&rt, rt.alloc(), load, shards, writers, &gate)?;
         let calls = u64::from(writers).wrapping_mul(u64::from(load.writes));
-        let lookups = u64::from(load.readers) * u64::from(load.lookups);
+        let lookups = u64::from(load.readers).wrapping_mul(u64::from(load.lookups));
         let told = [report.changes, report.found, report.absent];
         let counted = [report.lookups, report.calls, report.answered];
         let seed = load.seed;
