@@ -31,9 +31,9 @@ begins_at : {V : ℕ} (l : Lookup V) (st : Stage) (rs : List Reading) (reply : R
 begins_at {V} l First rs reply slots words tries left =
     let e : l.tries ≡ suc (l.tries - 1) = omega arith in
     let one = first_reading V (shape_for {V = V} l) l.key (l.tries - 1) rs reply (subst (λ (t : ℕ). IsLookup V (shape_for {V = V} l) l.key t rs reply) e left) in
-    (one.0, one.1, one.2, one.3 ∙ ap (λ y. access.Version y) (sym l.stripe_is))
+    (one.0, one.1, one.2, one.3 ∙ ap (λ y. access.Version y) (sym l.parts_are.stripe))
 begins_at {V} l (Slot j) rs reply slots words tries left =
-    let here = slots_at (shape_for {V = V} l) l.key l.first l.second j l.first_is l.second_is slots in
+    let here = slots_at (shape_for {V = V} l) l.key l.parts.first l.parts.second j l.parts_are.first l.parts_are.second slots in
     let one = slot_reading V (shape_for {V = V} l) l.key l.tries l.version (lookup_place {V = V} l j) (drop (suc j) (slots_for (shape_for {V = V} l) l.key)) rs reply
     (subst (λ (ps : List Place). RemainderAtSlots V (shape_for {V = V} l) l.key l.tries l.version ps rs reply) here left) in
     (one.0, one.1, one.2, one.3)
@@ -46,7 +46,7 @@ begins_at {V} l (Value i c) rs reply slots words tries left =
     ]
 begins_at {V} l (Stamp i) rs reply slots words tries left = (left.0, left.1, left.2, left.3)
 begins_at {V} l (Moment hit) rs reply slots words tries left = (left.0, left.1, left.2, left.3)
-begins_at {V} l (Last hit at) rs reply slots words tries left = (left.0, left.1, left.2, left.3 ∙ ap (λ y. access.Version y) (sym l.stripe_is))
+begins_at {V} l (Last hit at) rs reply slots words tries left = (left.0, left.1, left.2, left.3 ∙ ap (λ y. access.Version y) (sym l.parts_are.stripe))
 begins_at {V} l (Mark i) rs reply slots words tries left = (left.0.0, [], left.0.1, left.0.2)
 begins_at {V} l Over rs reply slots words tries left = left
 
@@ -130,15 +130,15 @@ can_end V l =
 -- ---- it is one of the table
 -- at each stage
 pub next_at_in : {V : ℕ} (l : Lookup V) (st : Stage) → l.stage ≡ st → IfSome (next_at {V = V} l st) (IsAccess V (shape_for {V = V} l))
-next_at_in {V} l First e = rw l.stripe_is (stripe_of-lt (shape_for {V = V} l) l.key l.checked.sound)
-next_at_in {V} l (Slot j) e = place_in_table (shape_for {V = V} l) l.key l.first l.second j l.checked.sound l.first_is l.second_is (rw e at l.slot_in)
+next_at_in {V} l First e = rw l.parts_are.stripe (stripe_of-lt (shape_for {V = V} l) l.key l.checked.sound)
+next_at_in {V} l (Slot j) e = place_in_table (shape_for {V = V} l) l.key l.parts.first l.parts.second j l.checked.sound l.parts_are.first l.parts_are.second (rw e at l.slot_in)
 next_at_in {V} l (Key j i) e = rw e at l.item_in
 next_at_in {V} l (Value i c) e =
     let word = rw e at l.word_in in
     (rw e at l.item_in, omega arith, omega (arith, word))
 next_at_in {V} l (Stamp i) e = rw e at l.item_in
 next_at_in {V} l (Moment hit) e = tt
-next_at_in {V} l (Last hit at) e = rw l.stripe_is (stripe_of-lt (shape_for {V = V} l) l.key l.checked.sound)
+next_at_in {V} l (Last hit at) e = rw l.parts_are.stripe (stripe_of-lt (shape_for {V = V} l) l.key l.checked.sound)
 next_at_in {V} l (Mark i) e = rw e at l.item_in
 next_at_in {V} l Over e = tt
 

@@ -26,16 +26,16 @@ abbrev pub place_in : ℕ → ℕ → ℕ → Place
 place_in first second j = if nat_lt j 4 then record { bucket = first; slot = j } else record { bucket = second; slot = j - 4 }
 
 abbrev pub lookup_place : {V : ℕ} → Lookup V → ℕ → Place
-lookup_place l j = place_in l.first l.second j
+lookup_place l j = place_in l.parts.first l.parts.second j
 
 abbrev pub next_at : {V : ℕ} → Lookup V → Stage → Option Access
-next_at l First = Some (access.Version l.stripe)
+next_at l First = Some (access.Version l.parts.stripe)
 next_at l (Slot j) = Some (access.Slot (lookup_place l j))
 next_at l (Key j i) = Some (access.Key i)
 next_at l (Value i c) = Some (access.Value i (c + 1))
 next_at l (Stamp i) = Some (access.Stamp i)
 next_at l (Moment hit) = Some access.Moment
-next_at l (Last hit at) = Some (access.Version l.stripe)
+next_at l (Last hit at) = Some (access.Version l.parts.stripe)
 next_at l (Mark i) = Some (access.Mark i)
 next_at l Over = None
 

@@ -1,12 +1,13 @@
 //! The reader's machine: one access after the other.
 ghost use Rattle.std.specs.Prelude.{◌≡◌, ◌<◌, ◌≤◌, length};
 ghost use Rattle.mc_words.specs.Checks.{shape_of};
-ghost use Rattle.mc_words.specs.Keys.{tag_of, first_of, second_of, stripe_of, slot_word};
+ghost use Rattle.mc_words.specs.KeyParts.{HasParts};
+ghost use Rattle.mc_words.specs.Keys.{tag_of, stripe_of, slot_word};
 ghost use Rattle.mc_lookup.specs.Inside.Stages.{slot_at, item_at, word_at, tries_owed};
 
 use crate::stage::Stage;
 use mc_theory::Access;
-use mc_words::{Checked, Reply};
+use mc_words::{Checked, KeyParts, Reply};
 
 mod stages;
 
@@ -17,9 +18,7 @@ pub struct Lookup<const V: usize> {
     key: u64,
     /// The word of a slot that names item 0 under the key's tag.
     base: u64,
-    first: u32,
-    second: u32,
-    stripe: u32,
+    parts: KeyParts,
     /// How many tries are left, with the running one only at its start.
     tries: u8,
     version: u64,
@@ -31,9 +30,7 @@ pub struct Lookup<const V: usize> {
     ghost most_words: { V ≤ 8 },
     ghost whole: { length value ≡ V },
     ghost base_is: { base ≡ slot_word (tag_of (shape_of checked) key) 0 },
-    ghost first_is: { first ≡ first_of (shape_of checked) key },
-    ghost second_is: { second ≡ second_of (shape_of checked) key },
-    ghost stripe_is: { stripe ≡ stripe_of (shape_of checked) key },
+    ghost parts_are: { HasParts (shape_of checked) key parts },
     ghost slot_in: { slot_at stage < 8 },
     ghost item_in: { item_at stage < (shape_of checked).items },
     ghost word_in: { word_at stage < V },
@@ -61,15 +58,12 @@ impl<const V: usize> Lookup<V> {
         ensures running { IsSome (next_access {V = V} result) }
         ensures stage { stage_of {V = V} result ≡ Stage.First }
     {
-        let tag = checked.tag(key);
-        let first = checked.first(key);
+        let parts = checked.parts(key);
         Lookup {
             checked: *checked,
             key,
-            base: checked.slot_word(tag, 0),
-            first,
-            second: checked.alt(first, tag),
-            stripe: checked.stripe(key),
+            base: checked.slot_word(parts.tag, 0),
+            parts,
             tries: checked.shape().tries,
             version: 0,
             value: [0; V],
@@ -90,7 +84,7 @@ impl<const V: usize> Lookup<V> {
     pub fn stripe(&self) -> u32
         ensures { result ≡ stripe_of (shape_for {V = V} self.now) self.now.key }
     {
-        self.stripe
+        self.parts.stripe
     }
 
     /// Where the lookup stands.
@@ -106,7 +100,7 @@ impl<const V: usize> Lookup<V> {
         ensures range { IfSome result (λ (a : Access). IsAccess V (shape_for {V = V} self.now) a) }
     {
         match self.stage {
-            Stage::First | Stage::Last(_, _) => Some(Access::Version(self.stripe)),
+            Stage::First | Stage::Last(_, _) => Some(Access::Version(self.parts.stripe)),
             Stage::Slot(j) => Some(Access::Slot(self.place(j))),
             Stage::Key(_, i) => Some(Access::Key(i)),
             Stage::Value(i, count) => Some(Access::Value(i, count + 1)),

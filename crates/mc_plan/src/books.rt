@@ -12,7 +12,7 @@ use crate::answer::{IfError, PutError, Spent};
 use crate::decision::{Decision, Removal, Renewal, Vacancy};
 use crate::far::Far;
 use crate::value::have_words;
-use mc_search::{FreeItems, Sweep, find, find_by, moment, stamp_at};
+use mc_search::{FreeItems, Sweep, find_by, moment, stamp_at};
 use mc_theory::Peek;
 use mc_words::{Checked, KeyParts, NoMemory};
 use std::alloc::Global;
@@ -195,10 +195,17 @@ impl Books {
         Ok(Renewal { item, at: now + 1 })
     }
 
-    /// Decides a removal. Condition: the books are those of the table whose words are looked at, between two calls.
+    /// Decides a removal.
+    /// Condition: the books are those of the table whose words are looked at, between two calls, and the parts are the key's.
     #[inline(always)]
-    pub fn decide_removal<const V: usize, P: Peek>(&mut self, peek: &mut P, key: u64) -> Removal
+    pub fn decide_removal<const V: usize, P: Peek>(
+        &mut self,
+        peek: &mut P,
+        key: u64,
+        parts: KeyParts,
+    ) -> Removal
         requires books { (s : State V) × AreBooksOf V self.old s × (P.words peek.old ≡ s.words) }
+        requires parts { HasParts (shape_of self.old.checked) key parts }
         ensures decided { (s : State V) → AreBooksOf V self.old s → P.words peek.old ≡ s.words → IsRemovalDecided V self.new key s result }
         ensures shape { self.new.checked ≡ self.old.checked }
         ensures kept { peek.new ≡ peek.old }
@@ -207,7 +214,7 @@ impl Books {
             return Removal::Refuse(Spent);
         }
         let at = moment(&self.checked, peek);
-        match find::<V, P>(&self.checked, peek, key) {
+        match find_by::<V, P>(&self.checked, peek, key, parts) {
             Some((place, item)) => {
                 self.free.give(item);
                 self.version_steps += 2;

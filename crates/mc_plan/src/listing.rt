@@ -247,7 +247,8 @@ pub(crate) fn start_removal<const V: usize, P: Peek>(
     ensures shape { books.new.checked ≡ books.old.checked }
     ensures kept { peek.new ≡ peek.old }
 {
-    let removal = books.decide_removal::<V, P>(peek, key);
+    let parts = books.checked.parts(key);
+    let removal = books.decide_removal::<V, P>(peek, key, parts);
     add_removal(plan, key, &removal);
     removal.told()
 }

@@ -175,8 +175,8 @@ next_within V sh l a n shape next here =
 pub version_read : (V : ℕ) (sh : Shape) (l : Lookup V) (k s place : ℕ) → shape_for l ≡ sh → l.key ≡ k → s ≡ stripe_of (shape_for l) l.key → place ≡ version_place (stripe_of sh k) → place_read V sh (access.Version s) ≡ Some place
 version_read V sh l k s place shape key is here = ap (λ (t : ℕ). Some (version_place t)) (is ∙ λ i. stripe_of (shape i) (key i)) ∙ ap Some (sym here)
 
-pub version_next : (V : ℕ) (l : Lookup V) (s : ℕ) → s ≡ stripe_of (shape_for l) l.key → access.Version l.stripe ≡ access.Version s
-version_next V l s is = ap access.Version (l.stripe_is ∙ sym is)
+pub version_next : (V : ℕ) (l : Lookup V) (s : ℕ) → s ≡ stripe_of (shape_for l) l.key → access.Version l.parts.stripe ≡ access.Version s
+version_next V l s is = ap access.Version (l.parts_are.stripe ∙ sym is)
 
 -- slot j of four, in a row that begins at slot `from` of the eight
 row_next : (sh : Shape) (k from j : ℕ) → (from ≡ 0) ⊎ (from ≡ 4) → j < 4 → row_of sh k (from + j) ≡ row_of sh k from + j
@@ -193,7 +193,7 @@ row_next sh k from j which below = ⊎_elim
 
 pub slot_read : (V : ℕ) (sh : Shape) (l : Lookup V) (k from j row : ℕ) (p : Place) → shape_for l ≡ sh → l.key ≡ k → p ≡ lookup_place l (from + j) → (from ≡ 0) ⊎ (from ≡ 4) → j < 4 → row ≡ row_of sh k from → place_read V sh (access.Slot p) ≡ Some (row + j)
 slot_read V sh l k from j row p shape key is which below here =
-    let first : l.first ≡ first_of sh k = l.first_is ∙ λ i. first_of (shape i) (key i) in
-    let second : l.second ≡ second_of sh k = l.second_is ∙ λ i. second_of (shape i) (key i) in
+    let first : l.parts.first ≡ first_of sh k = l.parts_are.first ∙ λ i. first_of (shape i) (key i) in
+    let second : l.parts.second ≡ second_of sh k = l.parts_are.second ∙ λ i. second_of (shape i) (key i) in
     let place : p ≡ place_in (first_of sh k) (second_of sh k) (from + j) = is ∙ λ i. place_in (first i) (second i) (from + j) in
     ap (λ (q : Place). Some (slot_place sh (slot_number q))) place ∙ ap Some (row_next sh k from j which below ∙ ap (λ (r : ℕ). r + j) (sym here))

@@ -1,5 +1,5 @@
 -- Lookups one after the other: one more, what they leave, and that their replies are true.
-use Rattle.std.proofs.Common.{ℕ, ◌≡◌, ◌+◌, ◌^◌, ◌<◌, ◌≤◌, List, [], ◌∷◌, ◌++◌, length, refl, ap, sym, ◌∙◌, subst, arith, append_assoc}
+use Rattle.std.proofs.Common.{ℕ, ◌≡◌, ◌^◌, ◌<◌, ◌≤◌, List, [], ◌∷◌, ◌++◌, length, refl, ap, sym, ◌∙◌, subst, arith, append_assoc}
 use Rattle.std.specs.Prelude.{All}
 use Rattle.std.proofs.lemmas.List.{append-nil}
 use Rattle.std.proofs.lemmas.List.Elements.{All-head, All-tail}
@@ -7,7 +7,7 @@ use Rattle.mc_words.specs.Shapes.{IsShape}
 use Rattle.mc_words.specs.History.{IsTrueAnswer}
 use Rattle.mc_words.specs.declared.history.Reply.{Reply}
 use Rattle.mc_words.specs.declared.shape.Shape.{Shape}
-use Rattle.mc_theory.specs.Lists.{Made, front, state_of}
+use Rattle.mc_theory.specs.Lists.{state_of}
 use Rattle.mc_theory.specs.Plain.{IsBetween}
 use Rattle.mc_theory.specs.Readings.{Reading, AreRead, RiseTo}
 use Rattle.mc_theory.specs.States.{State}

@@ -68,7 +68,7 @@ joins_in l own log sums at j ne (Reads a front done) f = f
 joins_in l own log sums at j ne (Both acts tally a front done) f = absurd (ne f.1)
 
 -- a view with as many marks in the place of another
-same_marks : (i id : ℕ) (views : List View) (v w : View) → get_elem? views id ≡ some v → marks_in i (done_of w) ≡ marks_in i (done_of v) → marks_of i (set views id w) ≡ marks_of i views
+pub same_marks : (i id : ℕ) (views : List View) (v w : View) → get_elem? views id ≡ some v → marks_in i (done_of w) ≡ marks_in i (done_of v) → marks_of i (set views id w) ≡ marks_of i views
 same_marks i id views v w at e = let t = total_set (λ (u : View). marks_in i (done_of u)) views id v w at in omega arith
 
 -- and with the same reader

@@ -1,11 +1,11 @@
 -- What the rule says of each reading, that it is of the newest words, and what follows for a lookup.
-use Rattle.std.specs.Prelude.{◌≡◌, ℕ, ◌+◌, ◌-◌, ◌^◌, ◌<◌, ◌≤◌, ◌==◌, if◌then◌else◌, List, [], ◌∷◌, ◌++◌, length, slice_index, slice_set, Some}
+use Rattle.std.specs.Prelude.{◌≡◌, ◌≢◌, ℕ, ◌+◌, ◌-◌, ◌^◌, ◌<◌, ◌≤◌, ◌==◌, if◌then◌else◌, List, [], ◌∷◌, ◌++◌, length, slice_index, slice_set, Some}
 use Rattle.std.specs.Int.{bit_at}
 use mathlib.Core.Option.{some}
 use lib.ListN.{get_elem?}
 use Rattle.atomic_table.specs.Table as table
 use Rattle.mc_words.specs.History.{IsTrueAnswer}
-use Rattle.mc_words.specs.Places.{word_count}
+use Rattle.mc_words.specs.Places.{word_count, recency_place}
 use Rattle.mc_words.specs.Recency.{recency_bit}
 use Rattle.mc_words.specs.Shapes.{IsShape}
 use Rattle.mc_words.specs.declared.history.Reply.{Reply}
@@ -17,10 +17,11 @@ use Rattle.mc_theory.specs.Readings.{Reading, IsWordOf}
 use Rattle.mc_theory.specs.Writes.{place_read}
 use Rattle.mc_theory.specs.declared.access.Access.{Access}
 use Rattle.mc_theory.specs.declared.access.Access.TheVariants as access
+use Rattle.mc_theory.specs.declared.act.Act.TheVariants.{Hand}
 use Rattle.mc_shared.specs.ExactFronts.{steps_by, made_by, IsReading, StandsAt, IsExact, InOneOrder}
 use Rattle.mc_shared.specs.TableRule.{IsRecord, Ruled, bit_in}
-use Rattle.mc_shared.specs.Views.{Note, View, reader_view, front_of, layout_of, layout_state, IsFrontOf}
-use Rattle.mc_shared.specs.Steps.{reading, mark_at, ReadsWord, AddsMark, AddsMarkIfSet}
+use Rattle.mc_shared.specs.Views.{Note, Tally, View, reader_view, writer_view, with_bit, with_note, front_of, layout_of, layout_state, IsFrontOf}
+use Rattle.mc_shared.specs.Steps.{reading, mark_at, ReadsWord, AddsMark, AddsMarkIfSet, AddsAct, AddsActIfClear}
 use Rattle.mc_shared.specs.declared.layout.Layout.{Layout}
 
 -- two states of a table under its rule, one step of a reader apart: of the views only this reader's has changed, and its record
@@ -77,6 +78,44 @@ pub record MarksAreEntries : Type 0 where
       bit_at (slice_index s.words place) (recency_bit i) ≡ 1 →
       let next = allows s rule fits mine small in
       AddsEntry l s (table.stepped s place (slice_index s.words place) seat held next.0 next.1) rule.log (mark_at i old)
+
+-- two states of a table under its rule, one step of the writer apart: of the views only the writer's has changed, and its record has
+-- one act of the hand more, at this item, with this bit
+pub record AddsTurn (l : Layout) (s t : table.State (Unit {0}) View) (acts : List Made) (i bit : ℕ) : Type 0 where
+  pub before : Ruled l s
+  pub after : Ruled l t
+  pub seat : ℕ
+  pub tally : Tally
+  pub note : Note
+  pub knows : get_elem? s.views seat ≡ some (writer_view l acts tally)
+  pub step : t.views ≡ slice_set s.views seat (writer_view l (acts ++ with_bit (Hand i) bit ∷ []) (with_note tally note))
+
+-- whatever step turns the hand leaves the bits of all other items as they were. Of its own item, it records a clear bit as 0. If it
+-- leaves the bit clear, it records the bit that was there
+pub record HandsAreExact : Type 0 where
+  pub others : (l : Layout) (s t : table.State (Unit {0}) View) (acts : List Made) (i bit k : ℕ) → AddsTurn l s t acts i bit → k < l.shape.items → i ≢ k →
+      bit_in l t.words k ≡ bit_in l s.words k
+  pub clear : (l : Layout) (s t : table.State (Unit {0}) View) (acts : List Made) (i bit : ℕ) → AddsTurn l s t acts i bit → i < l.shape.items → bit_in l s.words i ≡ 0 →
+      (bit ≡ 0) × (bit_in l t.words i ≡ 0)
+  pub cleared : (l : Layout) (s t : table.State (Unit {0}) View) (acts : List Made) (i bit : ℕ) → AddsTurn l s t acts i bit → i < l.shape.items → bit_in l t.words i ≡ 0 →
+      bit ≡ bit_in l s.words i
+
+-- a running turn of the hand is such a step, and the bit that it records is the one that the item's recency word had at that instant:
+-- the `fetch_and`, whatever it leaves of the word, and the load that finds the bit clear
+pub record HandsAreEntries : Type 0 where
+  pub turned : (l : Layout) (s : table.State (Unit {0}) View) (seat slots : ℕ) (acts : List Made) (tally : Tally) (held : List (ℕ × Unit {0})) (i : ℕ) (st : table.Step (Unit {0})) (leaves : ℕ → ℕ) →
+      let place = recency_place l.width l.shape i in
+      (allows : table.Allows (Ruled l) slots seat (writer_view l acts tally, held) place leaves (AddsAct (Hand i) st (writer_view l acts tally, held))) →
+      (rule : Ruled l s) (fits : length s.homes ≡ slots) (mine : get_elem? s.views seat ≡ some (writer_view l acts tally)) (small : slice_index s.words place < 18446744073709551616) →
+      let next = allows s rule fits mine small in
+      AddsTurn l s (table.stepped s place (leaves (slice_index s.words place)) seat held next.0 next.1) acts i (bit_in l s.words i)
+  pub seen : (l : Layout) (s : table.State (Unit {0}) View) (seat slots : ℕ) (acts : List Made) (tally : Tally) (held : List (ℕ × Unit {0})) (i : ℕ) (st : table.Step (Unit {0})) →
+      let place = recency_place l.width l.shape i in
+      (allows : table.Allows (Ruled l) slots seat (writer_view l acts tally, held) place (λ found. found) (AddsActIfClear (Hand i) st (writer_view l acts tally, held))) →
+      (rule : Ruled l s) (fits : length s.homes ≡ slots) (mine : get_elem? s.views seat ≡ some (writer_view l acts tally)) (small : slice_index s.words place < 18446744073709551616) →
+      bit_in l s.words i ≡ 0 →
+      let next = allows s rule fits mine small in
+      AddsTurn l s (table.stepped s place (slice_index s.words place) seat held next.0 next.1) acts i (bit_in l s.words i)
 
 -- a lookup that a reader made, among all acts and its whole record: its reply is true, at a number of changes that is no lower than
 -- that of the changes made before the lookup's first step, and no higher than that of those made before its last

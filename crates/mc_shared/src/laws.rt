@@ -1,5 +1,5 @@
 //! The laws of the rule and of exact records, one function each. A body does nothing: what it ensures is the law.
-ghost use Rattle.mc_shared.specs.ExactLaws.{ReadingsAreNewest, ReadsAreEntries, MarksAreExact, MarksAreEntries, LookupsAreInTime, LookupsStandInOrder, MeetingsAgree, IdleActsAreNoted};
+ghost use Rattle.mc_shared.specs.ExactLaws.{ReadingsAreNewest, ReadsAreEntries, MarksAreExact, MarksAreEntries, HandsAreExact, HandsAreEntries, LookupsAreInTime, LookupsStandInOrder, MeetingsAgree, IdleActsAreNoted};
 
 /// Whatever step enters a reading in a reader's record, it is of the newest words: a reader that does not look breaks the rule.
 pub fn readings_are_newest()
@@ -19,6 +19,17 @@ pub fn marks_are_exact()
 /// A running mark is a step that enters it: the step that writes the bit, or the load that finds it set.
 pub fn marks_are_entries()
     ensures { MarksAreEntries }
+{}
+
+/// Whatever step turns the hand and leaves its item's bit clear records the bit that was there. A bit that was clear is recorded as 0.
+pub fn hands_are_exact()
+    ensures { HandsAreExact }
+{}
+
+/// A running turn of the hand is such a step, and records the bit that its item's recency word had: the step that clears the bit, or the
+/// load that finds it clear.
+pub fn hands_are_entries()
+    ensures { HandsAreEntries }
 {}
 
 /// A lookup among threads has a true reply, at a moment between the instant of its first step and that of its last.

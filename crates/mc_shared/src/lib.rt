@@ -3,7 +3,7 @@
 //! Each step on a seat is one act of the writer or one access of a reader, of the states that `mc_theory` speaks of. The
 //! rule says that between any two steps the words are those after the writer's acts, and each reader's record is one of
 //! a front of them. Every load, store, `fetch_and` and `fetch_or` on a seat is in `writer_steps`, `reader_steps` and
-//! `catch_up`; `touch` loads on none. No call waits, and none but `open` takes memory.
+//! `catch_up`; `touch` loads on none. No call takes a lock, and none but `open` takes memory.
 //!
 //! ```text
 //! let (cells, mut writer, mut readers) = open::<1>(alloc, &checked, 1)?;

@@ -20,10 +20,10 @@ impl<'a, const V: usize> Pen<'a, V> {
         ensures called { HasCalled V self.old.cells.now.layout.shape (RemoveCall key) self.old.seat.now self.new.seat.now (answer.Remove result) }
         ensures rested { IsRested V books.new self.new.seat.now }
     {
-        match books.decide_removal::<V, Pen<V>>(self, key) {
+        let parts = self.cells.parts(key);
+        match books.decide_removal::<V, Pen<V>>(self, key, parts) {
             Removal::Refuse(spent) => Err(spent),
             Removal::TakeOut { place, at } => {
-                let parts = self.cells.parts(key);
                 self.take_out(key, parts, Deed::Remove, place);
                 Ok(Remove::Removed { at })
             }

@@ -23,10 +23,10 @@ impl<'a, const V: usize> Pen<'a, V> {
         ensures old { IfOk result (HasTaken (state_at V self.old).history key) }
         ensures rested { IsRested V books.new self.new.seat.now }
     {
-        match books.decide_removal::<V, Pen<V>>(self, key) {
+        let parts = self.cells.parts(key);
+        match books.decide_removal::<V, Pen<V>>(self, key, parts) {
             Removal::Refuse(spent) => Err(spent),
             Removal::TakeOut { place, at } => {
-                let parts = self.cells.parts(key);
                 let old = self.entry_in(key, place);
                 self.take_out(key, parts, Deed::Remove, place);
                 Ok(Take::Taken { at, old })

@@ -18,12 +18,12 @@ impl<const V: usize> Lookup<V> {
     {
         if j < 4 {
             Place {
-                bucket: self.first,
+                bucket: self.parts.first,
                 slot: j,
             }
         } else {
             Place {
-                bucket: self.second,
+                bucket: self.parts.second,
                 slot: j - 4,
             }
         }
@@ -40,7 +40,7 @@ impl<const V: usize> Lookup<V> {
     /// Condition: the lookup is at its first stage.
     pub fn after_first(&mut self, word: u64) -> bool
         requires { stage_of {V = V} self.old ≡ Stage.First }
-        ensures takes { Consumes {V = V} self.old (Access.Version self.old.stripe) word self.new }
+        ensures takes { Consumes {V = V} self.old (Access.Version self.old.parts.stripe) word self.new }
         ensures goes { MatchBool result (stage_of {V = V} self.new ≡ Stage.Slot 0) (IsRestart (stage_of {V = V} self.new)) }
     {
         self.stage = Stage::Slot(0);
@@ -134,7 +134,7 @@ impl<const V: usize> Lookup<V> {
     /// Condition: the lookup is at its last version, with this hit or none and this moment.
     pub fn after_last(&mut self, hit: Option<u32>, at: u64, word: u64) -> bool
         requires { stage_of {V = V} self.old ≡ Stage.Last hit at }
-        ensures takes { Consumes {V = V} self.old (Access.Version self.old.stripe) word self.new }
+        ensures takes { Consumes {V = V} self.old (Access.Version self.old.parts.stripe) word self.new }
         ensures goes { MatchBool result (stage_of {V = V} self.new ≡ stage_after_try hit) (IsRestart (stage_of {V = V} self.new)) }
     {
         if word != self.version {

@@ -9,14 +9,14 @@ pub returns-then-word-eq0-clause-takes : goal.returns-then-word-eq0-clause-takes
 returns-then-word-eq0-clause-takes g c =
     let l = c.args.self.now in
     let some = rw c.requires at l.tried in
-    takes_at l _ stage.First (stage.Slot 0) (access.Version l.stripe) c.args.word c.requires refl refl refl
-    (λ f rs reply. left_first g.row.V (shape_for l) l.key l.tries (read (access.Version l.stripe) c.args.word f) rs reply some (ap (λ y. access.Version y) l.stripe_is) c.if-word-eq0.true)
+    takes_at l _ stage.First (stage.Slot 0) (access.Version l.parts.stripe) c.args.word c.requires refl refl refl
+    (λ f rs reply. left_first g.row.V (shape_for l) l.key l.tries (read (access.Version l.parts.stripe) c.args.word f) rs reply some (ap (λ y. access.Version y) l.parts_are.stripe) c.if-word-eq0.true)
     (omega (arith, some, steps_try g.row.V l.tries some))
 
 pub returns-else-word-eq0-clause-takes : goal.returns-else-word-eq0-clause-takes
 returns-else-word-eq0-clause-takes g c =
     let l = c.args.self.now in
     let some = rw c.requires at l.tried in
-    takes_restart l _ c.try_again.new.self stage.First (access.Version l.stripe) c.args.word c.try_again.ensures c.requires refl refl
-    (λ f rs reply. left_odd g.row.V (shape_for l) l.key l.tries (read (access.Version l.stripe) c.args.word f) rs reply some (ap (λ y. access.Version y) l.stripe_is) c.if-word-eq0.false)
+    takes_restart l _ c.try_again.new.self stage.First (access.Version l.parts.stripe) c.args.word c.try_again.ensures c.requires refl refl
+    (λ f rs reply. left_odd g.row.V (shape_for l) l.key l.tries (read (access.Version l.parts.stripe) c.args.word f) rs reply some (ap (λ y. access.Version y) l.parts_are.stripe) c.if-word-eq0.false)
     (omega (arith, some, steps_try g.row.V l.tries some))

@@ -7,7 +7,7 @@ use Rattle.mc_lookup.proofs.lookup.Lookup.next.Goals as goal
 pub returns-in-First-clause-range : goal.returns-in-First-clause-range
 returns-in-First-clause-range g c =
     let l = c.args.self.now in
-    rw l.stripe_is (stripe_of-lt (shape_for l) l.key l.checked.sound)
+    rw l.parts_are.stripe (stripe_of-lt (shape_for l) l.key l.checked.sound)
 
 pub returns-in-Slot-clause-range : goal.returns-in-Slot-clause-range
 returns-in-Slot-clause-range g c = rw c.place.ensures (next_at_in {V = g.row.V} c.args.self.now (Slot c.in-Slot.j) c.in-Slot.is)

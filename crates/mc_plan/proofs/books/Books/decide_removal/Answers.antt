@@ -18,8 +18,8 @@ use Rattle.mc_plan.proofs.books.Books.decide_removal.Given.{Over}
 unspent : (g : Over) (c : Else-is_spent g) (s : State g.row.V) → AreBooksOf g.row.V c.args.self.now s → RemoveIsSpent (shape_of c.args.self.now.checked) (quiet_of s) → ⊥
 unspent g c s old spent = false≢true (c.if-is_spent.ensures.1 (omega (arith, spent, old.version_steps)))
 
-pub find-requires-clause-placed : goal.find-requires-clause-placed
-find-requires-clause-placed g c =
+pub find_by-requires-clause-placed : goal.find_by-requires-clause-placed
+find_by-requires-clause-placed g c =
     placed_in g.row.V c.args.self.now c.requires.books.0 _ c.requires.books.1 (ap g.P.Peek.words c.moment-at.ensures.kept ∙ c.requires.books.2) c.args.key
 
 pub returns-in-Some-clause-decided : goal.returns-in-Some-clause-decided

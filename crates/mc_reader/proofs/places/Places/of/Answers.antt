@@ -14,9 +14,9 @@ version_place-requires g c =
 pub slot_place-requires : goal.slot_place-requires
 slot_place-requires g c =
     let l = c.args.lookup.now in
-    subst (λ (sh : Shape). IsPlace sh c.place.result) c.requires.shape (subst (IsPlace (shape_for l)) (sym c.place.ensures) (place_in_table (shape_for l) l.key l.first l.second 0 l.checked.sound l.first_is l.second_is (omega arith)))
+    subst (λ (sh : Shape). IsPlace sh c.place.result) c.requires.shape (subst (IsPlace (shape_for l)) (sym c.place.ensures) (place_in_table (shape_for l) l.key l.parts.first l.parts.second 0 l.checked.sound l.parts_are.first l.parts_are.second (omega arith)))
 
 pub slot_place-requires-2 : goal.slot_place-requires-2
 slot_place-requires-2 g c =
     let l = c.args.lookup.now in
-    subst (λ (sh : Shape). IsPlace sh c.place-2.result) c.requires.shape (subst (IsPlace (shape_for l)) (sym c.place-2.ensures) (place_in_table (shape_for l) l.key l.first l.second 4 l.checked.sound l.first_is l.second_is (omega arith)))
+    subst (λ (sh : Shape). IsPlace sh c.place-2.result) c.requires.shape (subst (IsPlace (shape_for l)) (sym c.place-2.ensures) (place_in_table (shape_for l) l.key l.parts.first l.parts.second 4 l.checked.sound l.parts_are.first l.parts_are.second (omega arith)))
