@@ -1,4 +1,4 @@
--- What the words of a command line ask of `mcstep` and `mcpicture`; the first of them is the program's own name.
+-- What the words of a command line ask of `mcstep` and `mctrace`; the first of them is the program's own name.
 -- The library `clap` defines how words are read: `fault_of` gives the kind of their first fault, and `matches_of` the
 -- text of each option, which is its default's where the option isn't given.
 use Rattle.std.specs.Prelude.{◌≡◌, ◌≢◌, ◌⊎◌, ◌&&◌, ℕ, true, pos, List, [], ◌∷◌, Option, Some, None, Result, map, length, codes, fold, nat_le, nat_lt, option_and_then, if◌then◌else◌, MatchResult}

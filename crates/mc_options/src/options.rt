@@ -1,4 +1,4 @@
-//! The options of `mcstep` and `mcpicture`.
+//! The options of `mcstep` and `mctrace`.
 ghost use Rattle.std.specs.Prelude.{◌≡◌, ◌⊎◌, false, IfOk, MatchResult, codes, map, option_and_then};
 ghost use Rattle.std.specs.Result.{result_ok};
 ghost use Rattle.clap.specs.Words.{app_of, first_of, found_of, kind_of, rows_of, rule_of};

@@ -60,12 +60,12 @@ impl Player {
     fn begin(&mut self, rt: &impl Print, line: &str) -> io::Result<()> {
         self.asked = self.line;
         let command = line.strip_prefix("$ ").unwrap_or("");
-        let is_drawn = match command.split(' ').next() {
+        let is_traced = match command.split(' ').next() {
             Some("mcstep") => false,
-            Some("mcpicture") => true,
+            Some("mctrace") => true,
             _ => return self.refuse(rt),
         };
-        self.current = Some(Transcript::new(self.alloc, command, is_drawn)?);
+        self.current = Some(Transcript::new(self.alloc, command, is_traced)?);
         Ok(())
     }
 

@@ -1,6 +1,6 @@
 //! A script with its answers.
 use crate::escape::add_line;
-use mc_picture::run_picture;
+use mc_trace::run_trace;
 use mc_step::run_step;
 use std::alloc::{AllocError, Global};
 use std::str;
@@ -18,8 +18,8 @@ pub(crate) struct Outcome {
 pub(crate) struct Transcript {
     alloc: Global,
     command: String,
-    /// Whether `mcpicture` draws the script.
-    is_drawn: bool,
+    /// Whether `mctrace` plays the script.
+    is_traced: bool,
     script: Vec<u8>,
     pub(crate) due: Outcome,
 }
@@ -28,12 +28,12 @@ impl Transcript {
     pub(crate) fn new(
         alloc: Global,
         command: &str,
-        is_drawn: bool,
+        is_traced: bool,
     ) -> Result<Transcript, AllocError> {
         Ok(Transcript {
             alloc,
             command: String::from_str(alloc, command)?,
-            is_drawn,
+            is_traced,
             script: Vec::new(alloc),
             due: Outcome {
                 output: Vec::new(alloc),
@@ -71,8 +71,8 @@ impl Transcript {
         let mut input = self.script.as_slice();
         let mut output = Vec::new(alloc);
         let mut errors = Vec::new(alloc);
-        let status = if self.is_drawn {
-            run_picture(alloc, words, &mut input, &mut output, &mut errors)
+        let status = if self.is_traced {
+            run_trace(alloc, words, &mut input, &mut output, &mut errors)
         } else {
             run_step(alloc, words, &mut input, &mut output, &mut errors)
         };

@@ -1,7 +1,7 @@
-//! Draws a script of cache calls from standard input.
+//! Writes each step of a script of cache calls from standard input.
 #![tactic(auto)]
 
-use mc_picture::run_picture;
+use mc_trace::run_trace;
 use std::io::BufReader;
 use std::process::ExitCode;
 use std::{env, io};
@@ -11,7 +11,7 @@ fn run(rt: &HostRuntime) -> io::Result<u8> {
     let alloc = rt.alloc();
     let words: Vec<String> = env::args(rt)?.collect(alloc)?;
     let mut input = BufReader::new(alloc, rt.reader())?;
-    Ok(run_picture(
+    Ok(run_trace(
         alloc,
         words.as_slice(),
         &mut input,
