@@ -4,10 +4,14 @@
  * A block of at least 4,096 bytes begins 56 bytes behind a cache line. A table's slots begin at its word 1 + stripes, and stripes are a power
  * of two. So from 8 stripes on they begin on a cache line, and no bucket of four slots crosses one.
  * A block of at least 2 MB begins 56 bytes behind a boundary of huge pages, and the huge pages that it fills are asked for.
+ * Blocks from 128 KB up to that are cut from regions of 32 MB, whose huge pages are asked for. So the tables of many shards are on huge pages
+ * too. The first huge page of the first region isn't: a program with little in its caches takes no more memory than it uses. A region is
+ * freed with its last block. Any thread may allocate and free.
  *
  * What the toolchain asks of them (its crate `libc`, src/heap.rt): `align` divides 16 and `size` is below 2^63. A block that is returned has
  * `size` bytes, aligned to `align`, which nothing else uses until it is given back. A block that grows or shrinks keeps its first `kept`
  * bytes. Without memory `there` is false, the pointer is not null, and a block that was to be resized is as it was. */
+#include <pthread.h>
 #include <stdbool.h>
 #include <stddef.h>
 #include <stdint.h>
@@ -24,19 +28,37 @@ struct block rattle_alloc(size_t size, size_t align);
 struct block rattle_realloc(void *at, size_t kept, size_t size, size_t align);
 void rattle_dealloc(void *at);
 
-enum { LINE = 64, BEHIND = 56, PLACED = 4096, HUGE_PAGE = 2 << 20 };
+enum { LINE = 64, BEHIND = 56, PLACED = 4096, CUT = 128 << 10, HUGE_PAGE = 2 << 20, REGION = 32 << 20 };
+
+/* It lies at the start of its region. */
+struct region {
+    /* The bytes that were cut, with these words; a multiple of a cache line. */
+    size_t used;
+    size_t blocks;
+    /* The block of malloc in which the region lies. */
+    void *around;
+};
+
+static pthread_mutex_t lock = PTHREAD_MUTEX_INITIALIZER;
+/* The region from which blocks are cut, if there is one, and how many regions there are. */
+static struct region *open_region;
+static size_t regions;
 
 static char nothing;
 
 static struct block told(void *at) { return (struct block){at != NULL, at != NULL ? at : &nothing}; }
 
-/* Each block of malloc is aligned to 16, since none is asked for that is smaller. A placed one never is, and the word before it is the
- * address of the block of malloc in which it lies. */
+/* Each block of malloc is aligned to 16, since none is asked for that is smaller. A placed one never is. The word before a placed block is
+ * the address of the block of malloc in which it lies. If it was cut from a region, it is the region's address plus 1, and the word before
+ * that is how many bytes were cut. */
 static bool is_placed(const void *at) { return (uintptr_t)at % 16 == 8; }
 
-static void *around(const void *at) { return ((void *const *)at)[-1]; }
+static char *aligned(char *block, size_t align) { return block + (align - (uintptr_t)block % align) % align; }
 
 static size_t whole(size_t size) { return size < 16 ? 16 : size; }
+
+/* Where the system has no huge pages, the pages stay as they are. */
+static void ask_for_huge_pages(char *first, size_t size) { (void)madvise(first, size / HUGE_PAGE * HUGE_PAGE, MADV_HUGEPAGE); }
 
 static void *placed(size_t size) {
     const size_t align = size < HUGE_PAGE ? LINE : HUGE_PAGE;
@@ -44,22 +66,86 @@ static void *placed(size_t size) {
     if (block == NULL) {
         return NULL;
     }
-    char *first = block + (align - (uintptr_t)block % align) % align, *at = first + BEHIND;
+    char *first = aligned(block, align), *at = first + BEHIND;
     ((void **)at)[-1] = block;
     if (align == HUGE_PAGE) {
-        /* Where the system has none, the pages stay as they are. */
-        (void)madvise(first, (BEHIND + size) / HUGE_PAGE * HUGE_PAGE, MADV_HUGEPAGE);
+        ask_for_huge_pages(first, BEHIND + size);
     }
     return at;
+}
+
+/* Opens a region, if there is memory. */
+static void begin_region(void) {
+    char *block = malloc(REGION + HUGE_PAGE);
+    if (block == NULL) {
+        return;
+    }
+    char *first = aligned(block, HUGE_PAGE), *advised = regions == 0 ? first + HUGE_PAGE : first;
+    ask_for_huge_pages(advised, (size_t)(first + REGION - advised));
+    open_region = (struct region *)first;
+    *open_region = (struct region){LINE, 0, block};
+    regions++;
+}
+
+/* A block of a region, or NULL without memory for one. */
+static void *cut(size_t size) {
+    const size_t bytes = (BEHIND + size + LINE - 1) / LINE * LINE;
+    char *at = NULL;
+    pthread_mutex_lock(&lock);
+    if (open_region == NULL || bytes > REGION - open_region->used) {
+        begin_region();
+    }
+    if (open_region != NULL && bytes <= REGION - open_region->used) {
+        at = (char *)open_region + open_region->used + BEHIND;
+        ((size_t *)at)[-2] = bytes;
+        ((uintptr_t *)at)[-1] = (uintptr_t)open_region + 1;
+        open_region->used += bytes;
+        open_region->blocks++;
+    }
+    pthread_mutex_unlock(&lock);
+    return at;
+}
+
+/* Gives a block back to its region. The one that was cut last leaves its bytes to the next. */
+static void give_back(struct region *region, const char *at) {
+    const size_t bytes = ((const size_t *)at)[-2];
+    void *ended = NULL;
+    pthread_mutex_lock(&lock);
+    if (at - BEHIND + bytes == (char *)region + region->used) {
+        region->used -= bytes;
+    }
+    if (--region->blocks == 0) {
+        ended = region->around;
+        open_region = open_region == region ? NULL : open_region;
+        regions--;
+    }
+    pthread_mutex_unlock(&lock);
+    free(ended);
+}
+
+static void *at_line(size_t size) {
+    void *at = size >= CUT && size < HUGE_PAGE ? cut(size) : NULL;
+    return at != NULL ? at : placed(size);
 }
 
 static bool is_to_be_placed(size_t size, size_t align) { return size >= PLACED && align <= 8; }
 
 struct block rattle_alloc(size_t size, size_t align) {
-    return told(is_to_be_placed(size, align) ? placed(size) : malloc(whole(size)));
+    return told(is_to_be_placed(size, align) ? at_line(size) : malloc(whole(size)));
 }
 
-void rattle_dealloc(void *at) { free(is_placed(at) ? around(at) : at); }
+void rattle_dealloc(void *at) {
+    if (!is_placed(at)) {
+        free(at);
+        return;
+    }
+    const uintptr_t around = ((const uintptr_t *)at)[-1];
+    if (around % 2 == 1) {
+        give_back((struct region *)(around - 1), at);
+    } else {
+        free((void *)around);
+    }
+}
 
 struct block rattle_realloc(void *at, size_t kept, size_t size, size_t align) {
     if (!is_placed(at) && !is_to_be_placed(size, align)) {

@@ -1,25 +1,38 @@
-/* The memory of the archive by itself: each block has room, lies where it should, and keeps its bytes while it grows and shrinks. What malloc
- * refuses is told, and changes nothing. */
+/* The memory of the archive by itself: each block has room, lies where it should, and keeps its bytes while it grows and shrinks. Threads may
+ * do so at once. What malloc refuses is reported, and changes nothing. All memory is given back. */
 #define _GNU_SOURCE
+#include <stdatomic.h>
 #include <stdlib.h>
 
 static long mallocs_left = -1;
+/* How many blocks of malloc are in use, and how many regions were allocated. */
+static atomic_long in_use, regions_made;
 
 static void *malloc_or_none(size_t size) {
     if (mallocs_left == 0) {
         return NULL;
     }
     mallocs_left -= mallocs_left > 0;
-    return malloc(size);
+    void *block = malloc(size);
+    in_use += block != NULL;
+    regions_made += block != NULL && size == (32 << 20) + (2 << 20);
+    return block;
+}
+
+static void free_counted(void *block) {
+    in_use -= block != NULL;
+    free(block);
 }
 
 static void *realloc_or_none(void *block, size_t size) { return mallocs_left == 0 ? NULL : realloc(block, size); }
 
 #define malloc malloc_or_none
 #define realloc realloc_or_none
+#define free free_counted
 #include "../memory.c"
 #undef malloc
 #undef realloc
+#undef free
 #include "must.h"
 
 enum { BLOCKS = 64 };
@@ -31,7 +44,7 @@ struct full {
     unsigned char byte;
 };
 
-static uint64_t drawn = 88172645463325252;
+static _Thread_local uint64_t drawn = 88172645463325252;
 
 static uint64_t draw(void) {
     drawn ^= drawn << 13, drawn ^= drawn >> 7, drawn ^= drawn << 17;
@@ -90,7 +103,7 @@ static void every_size(void) {
 }
 
 static void large_sizes(void) {
-    const size_t sizes[] = {(2 << 20) - 1, 2 << 20, (2 << 20) + 1, 4 << 20, 67108864 + 8};
+    const size_t sizes[] = {(128 << 10) - 1, 128 << 10, 1 << 20, (2 << 20) - 1, 2 << 20, (2 << 20) + 1, 4 << 20, 67108864 + 8};
     for (size_t n = 0; n < sizeof sizes / sizeof *sizes; n++) {
         struct full full;
         make(&full, sizes[n], 8);
@@ -105,7 +118,7 @@ static void many_at_once(void) {
     struct full fulls[BLOCKS] = {{NULL, 0, 0, 0}};
     for (int turn = 0; turn < 20000; turn++) {
         struct full *full = &fulls[draw() % BLOCKS];
-        size_t size = draw() % (draw() % 500 == 0 ? 3 << 20 : draw() % 3 ? 9000 : 300);
+        size_t size = draw() % (draw() % 50 == 0 ? 3 << 20 : draw() % 3 ? 9000 : 300);
         if (full->at == NULL) {
             make(full, size, (size_t)1 << draw() % 5);
         } else if (draw() % 2) {
@@ -124,12 +137,59 @@ static void many_at_once(void) {
     }
 }
 
+static void *many_in_a_thread(void *seed) {
+    drawn = *(uint64_t *)seed;
+    many_at_once();
+    return NULL;
+}
+
+static void threads_at_once(void) {
+    pthread_t threads[4];
+    uint64_t seeds[4] = {1, 22, 333, 4444};
+    for (int n = 0; n < 4; n++) {
+        MUST(pthread_create(&threads[n], NULL, many_in_a_thread, &seeds[n]) == 0);
+    }
+    for (int n = 0; n < 4; n++) {
+        MUST(pthread_join(threads[n], NULL) == 0);
+    }
+}
+
+/* 64 blocks of a megabyte fill two regions and a bit of a third, and each region goes with its last block. */
+static void regions_go_with_their_blocks(void) {
+    struct full fulls[64];
+    long before = in_use;
+    regions_made = 0;
+    for (int n = 0; n < 64; n++) {
+        make(&fulls[n], 1 << 20, 8);
+    }
+    MUST(regions_made == 3 && in_use == before + 3);
+    for (int n = 63; n >= 0; n--) {
+        MUST(holds(&fulls[n], fulls[n].size));
+        rattle_dealloc(fulls[n].at);
+        MUST(in_use == before + (n > 62) + (n > 31) + (n > 0));
+    }
+    /* A block that was cut last leaves its bytes to the next one. */
+    make(&fulls[0], 1 << 20, 8);
+    make(&fulls[1], 1 << 20, 8);
+    void *at = fulls[1].at;
+    rattle_dealloc(at);
+    make(&fulls[1], 200000, 8);
+    MUST(fulls[1].at == at);
+    rattle_dealloc(fulls[0].at);
+    rattle_dealloc(fulls[1].at);
+    MUST(in_use == before);
+}
+
 static void refused(void) {
-    const size_t sizes[] = {0, 8, 5000, 3 << 20};
-    for (size_t from = 0; from < 4; from++) {
+    const size_t sizes[] = {0, 8, 5000, 1 << 20, 3 << 20};
+    for (size_t from = 0; from < 5; from++) {
         struct full full;
         make(&full, sizes[from], 8);
-        for (size_t to = 0; to < 4; to++) {
+        for (size_t to = 0; to < 5; to++) {
+            /* A region that was begun has room for another block. */
+            if (sizes[from] == 1 << 20 && sizes[to] == 1 << 20) {
+                continue;
+            }
             mallocs_left = 0;
             struct block made = rattle_alloc(sizes[to], 8);
             MUST(!made.there && made.at != NULL);
@@ -147,6 +207,8 @@ int main(void) {
     every_size();
     large_sizes();
     many_at_once();
+    threads_at_once();
+    regions_go_with_their_blocks();
     refused();
     return outcome("blocks");
 }
