@@ -2,9 +2,8 @@
 """Runs contestants side by side, and prints tables of what they did.
 
 Each round runs each workload by each contestant, in a new order, each time in a process of its own. A workload of one thread is pinned
-to one core, and measured by the thread's processor time. In a table the first column has Cefrodil's own figures, and the others
-Cefrodil's speed divided by the contestant's in the same round: below 1 the other is faster. A row of bytes or of loads has each
-contestant's own figure. A cell is the median of the rounds. `~` marks one whose quartiles are further apart than a tenth of it.
+to one core, and measured by the thread's processor time. A cell is the median of the rounds, in the unit of its row. `~` marks one whose
+quartiles are further apart than a tenth of it. `-` is for a contestant that has no such call.
 
 usage: bench/contests.py run BENCH,.. BUILT FILE    BUILT: a folder of bench/build; FILE: gets a line of JSON for each run
        bench/contests.py table BENCH FILE           prints the table of what the file has
@@ -19,18 +18,20 @@ import subprocess
 import sys
 from typing import NamedTuple
 
-SHOWN = {'cefrodil': 'Cefrodil', 'many': 'Cefrodil', 'door': 'from C', 'libcuckoo': 'libcuckoo', 'tbb': 'TBB', 'urcu': 'urcu', 'dashmap': 'dashmap',
-         'locked': '`RwLock<HashMap>`', 'twin': 'unproved twin'}
-ALL = ('cefrodil', 'door', 'libcuckoo', 'tbb', 'urcu', 'dashmap', 'locked', 'twin')
-WRITERS = ('cefrodil', 'libcuckoo', 'tbb', 'dashmap', 'locked')
+SHOWN = {'door': 'Cefrodil from C', 'cefrodil': 'in Rattle', 'libcuckoo': 'libcuckoo', 'tbb': 'TBB', 'urcu': 'urcu', 'ck': '`ck_ht`',
+         'dashmap': 'dashmap', 'locked': '`RwLock<HashMap>`', 'lru': '`Mutex<LruCache>`', 'twin': 'unproved twin'}
+ALL = tuple(SHOWN)
+WRITERS = ('cefrodil', 'libcuckoo', 'tbb', 'dashmap', 'locked', 'lru')
 MANY = 32
 LARGEST = 3_774_873
 # Programs that have several contestants, or options of their own.
 PROGRAMS = {'cefrodil': ('mcbench',), 'many': ('mcbench', '--many', str(MANY)), 'shards16': ('mcbench', '--shards', '16'),
             'shards64': ('mcbench', '--shards', '64'), 'door_many': ('door', '--many', str(MANY)), 'twin': ('contest', 'twin'),
-            'dashmap': ('contest', 'dashmap'), 'locked': ('contest', 'locked')}
-# Figures of which each contestant has its own, and how they are shown.
-OWN = {'load_factor': '{:.3f}', 'bytes_key': '{:.0f}'}
+            'dashmap': ('contest', 'dashmap'), 'locked': ('contest', 'locked'), 'lru': ('contest', 'lru')}
+# The figures: their units, and how they are shown.
+UNITS = {'ns_lookup': ', ns', 'lookups_s': ', M/s', 'writes_s': ', M/s', 'load_factor': '', 'bytes_key': ''}
+SHOW = {'ns_lookup': '{:.0f}'.format, 'load_factor': '{:.3f}'.format, 'bytes_key': '{:.0f}'.format,
+        'lookups_s': lambda number: f'{number / 1e6:.1f}', 'writes_s': lambda number: f'{number / 1e6:.1f}'}
 
 
 class Row(NamedTuple):
@@ -38,8 +39,15 @@ class Row(NamedTuple):
     figure: str
     options: str
     names: tuple = ALL
-    ours: str = 'cefrodil'
+    # Programs that run for a contestant, where it isn't the one of its name.
+    by: tuple = ()
     huge: bool = False
+
+    def program(self, name):
+        return dict(self.by).get(name, name)
+
+    def title(self):
+        return self.label + UNITS[self.figure]
 
 
 def options(workload, keys, more=''):
@@ -49,9 +57,9 @@ def options(workload, keys, more=''):
 def lookups(workload, keys, huge=False, many=False):
     """The rows of one workload: key by key and, if asked, by calls for many."""
     label = {'half': 'half present'}.get(workload, workload)
-    rows = [Row(f'{label}, {keys:,} keys', 'ns_lookup', options(workload, keys), huge=huge)]
-    names = tuple('door_many' if name == 'door' else name for name in ALL)
-    return rows + [rows[0]._replace(label=f'the same, {MANY} keys per call', names=names, ours='many')] * many
+    row = Row(f'{label}, {keys:,} keys', 'ns_lookup', options(workload, keys), huge=huge)
+    batch = row._replace(label=f'{row.label}, {MANY} keys per call', names=('door', 'cefrodil'), by=(('door', 'door_many'), ('cefrodil', 'many')))
+    return [row] + [batch] * many
 
 
 def peers():
@@ -59,8 +67,8 @@ def peers():
     rows = [row for workload in ('hit', 'half', 'miss') for keys in (1000, 100_000) for row in lookups(workload, keys)]
     rows.append(Row('three readers, 64 keys', 'lookups_s', options('hit', 64, ' --readers 3')))
     rows.append(Row('three readers beside a writer, 100,000 keys: reads', 'lookups_s', beside))
-    rows.append(Row('the same: writes', 'writes_s', beside))
-    for label, workload, names in ('overwrite', 'mixed', ALL), ('fill', 'fill', ALL), ('evict', 'evict', ('cefrodil', 'door', 'twin')):
+    rows.append(Row('three readers beside a writer, 100,000 keys: writes', 'writes_s', beside))
+    for label, workload, names in ('overwrite', 'mixed', ALL), ('fill', 'fill', ALL), ('evict', 'evict', ('door', 'cefrodil', 'lru', 'twin')):
         rows += [Row(f'{label}, {keys:,} keys', 'writes_s', options(workload, keys, alone), names) for keys in (1000, 100_000)]
     rows.append(Row('load factor at the first refusal', 'load_factor', options('load', 100_000, alone), ('cefrodil', 'libcuckoo', 'twin')))
     rows.append(Row('bytes per key, 100,000 keys', 'bytes_key', options('fill', 100_000, alone)))
@@ -80,8 +88,10 @@ def turns():
             calls = f'{threads} threads, {keys:,} keys, one write in {every}'
             rows.append(Row(f'{calls}: writes by turns', 'writes_s', run, WRITERS))
             rows.append(Row('the same: lookups', 'lookups_s', run, WRITERS))
-            rows += [Row(f'the same: writes with {many} shards', 'writes_s', run, WRITERS, f'shards{many}') for many in (16, 64)]
-            rows.append(Row('the same: lookups with 64 shards', 'lookups_s', run, WRITERS, 'shards64'))
+            for many in 16, 64:
+                by = (('cefrodil', f'shards{many}'),)
+                rows.append(Row(f'the same: writes with {many} shards', 'writes_s', run, ('cefrodil',), by))
+            rows.append(Row('the same: lookups with 64 shards', 'lookups_s', run, ('cefrodil',), by))
     return rows
 
 
@@ -117,7 +127,7 @@ def run_rounds(names, built, path):
     core = os.environ.get('CORE', str(max(os.sched_getaffinity(0))))
     runs = {}
     for row in (row for name in names for row in BENCHES[name]):
-        runs.setdefault((row.options, row.huge), {}).update(dict.fromkeys((row.ours, *row.names)))
+        runs.setdefault((row.options, row.huge), {}).update(dict.fromkeys(map(row.program, row.names)))
     with open(path, 'w') as file:
         for number in range(1, rounds + 1):
             print(f'{"+".join(names)}: round {number} of {rounds}', file=sys.stderr, flush=True)
@@ -137,12 +147,8 @@ def read(path):
 
 
 def values(told, row, name):
-    """A contestant's figures in the rounds: its own, or Cefrodil's speed divided by its."""
-    ours, theirs = (told[row.options, row.huge, each] for each in (row.ours, name))
-    if name == row.ours or row.figure in OWN:
-        return [each[row.figure] for each in theirs.values()]
-    pairs = [(ours[number][row.figure], theirs[number][row.figure]) for number in theirs]
-    return [their / our if row.figure == 'ns_lookup' else our / max(their, 1) for our, their in pairs]
+    """A contestant's figures in the rounds."""
+    return [each[row.figure] for each in told[row.options, row.huge, row.program(name)].values()]
 
 
 def quartiles(numbers):
@@ -155,28 +161,15 @@ def marked(numbers, show):
     return ('~' if high - low > abs(middle) / 10 else '') + show(middle)
 
 
-def shown(number, figure, own):
-    if figure in OWN:
-        return OWN[figure].format(number)
-    if not own:
-        return f'{number:.2f}' if number < 10 else f'{number:.0f}'
-    return f'{number:.0f} ns' if figure == 'ns_lookup' else f'{number / 1e6:.1f} M/s'
-
-
 def cell(told, row, name):
-    if name == 'door' and row.ours == 'many':
-        name = 'door_many'
-    if name not in row.names:
-        return '-'
-    name = row.ours if name == 'cefrodil' else name
-    return marked(values(told, row, name), lambda number: shown(number, row.figure, name == row.ours))
+    return marked(values(told, row, name), SHOW[row.figure]) if name in row.names else '-'
 
 
 def table(bench, told):
     names = WRITERS if bench == 'turns' else ALL
     lines = ['| | ' + ' | '.join(SHOWN[name] for name in names) + ' |', '|---' * (len(names) + 1) + '|']
     for row in BENCHES[bench]:
-        lines.append(f'| {row.label} | ' + ' | '.join(cell(told, row, name) for name in names) + ' |')
+        lines.append(f'| {row.title()} | ' + ' | '.join(cell(told, row, name) for name in names) + ' |')
     return '\n'.join(lines)
 
 
