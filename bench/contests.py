@@ -24,6 +24,7 @@ ALL = tuple(SHOWN)
 WRITERS = ('cefrodil', 'libcuckoo', 'tbb', 'dashmap', 'locked', 'lru')
 MANY = 32
 LARGEST = 3_774_873
+SIZES = (64, 1000, 10_000, 100_000, 1_000_000, LARGEST)
 # Programs that have several contestants, or options of their own.
 PROGRAMS = {'cefrodil': ('mcbench',), 'many': ('mcbench', '--many', str(MANY)), 'shards16': ('mcbench', '--shards', '16'),
             'shards64': ('mcbench', '--shards', '64'), 'door_many': ('door', '--many', str(MANY)), 'twin': ('contest', 'twin'),
@@ -95,7 +96,19 @@ def turns():
     return rows
 
 
-BENCHES = {'peers': peers(), 'large': large(False), 'huge': large(True), 'turns': turns()}
+def threads():
+    """What the plots over threads show: lookups alone, lookups beside a writer, and several writers."""
+    rows = [Row(f'hit by {n} threads', 'lookups_s', options('hit', 1000, f' --readers {n}')) for n in range(1, 5)]
+    rows += [Row(f'{n} readers beside a writer', 'lookups_s', options('mixed', 100_000, f' --readers {n} --writers 1')) for n in range(1, 4)]
+    run = options('mixed', 100_000, ' --readers 0 --write-every 10')
+    return rows + [Row(f'{n} writers', 'writes_s', f'{run} --writers {n}', WRITERS) for n in range(1, 5)]
+
+
+def sizes():
+    return [lookups('hit', keys)[0] for keys in SIZES]
+
+
+BENCHES = {'peers': peers(), 'large': large(False), 'huge': large(True), 'turns': turns(), 'threads': threads(), 'sizes': sizes()}
 
 
 def alone(run):

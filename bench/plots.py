@@ -1,0 +1,152 @@
+#!/usr/bin/env python3
+"""Draws the plots of the documents from results of bench/contests.py, as SVG: for light and dark pages, and readable in grey.
+
+usage: bench/plots.py FILE FOLDER     FILE: the lines of JSON of bench/contests.py; FOLDER: gets the plots for which there are results
+"""
+import math
+import os
+import sys
+from typing import NamedTuple
+
+import contests
+
+WIDTH, HEIGHT, LEFT, RIGHT, TOP, BOTTOM = 640, 360, 58, 132, 34, 44
+# Each contestant has its own dashes and mark, so no plot needs colours. Cefrodil's line is thick.
+DASHES = ('', '6 3', '2 3', '8 3 2 3', '12 4', '1 4', '4 2', '10 2 2 2 2 2')
+MARKS = ('circle', 'square', 'diamond', 'up', 'down', 'cross', 'plus', 'bar', 'ring', 'frame')
+STYLE = """\
+<style>
+svg{background:#fff;color:#111}
+@media(prefers-color-scheme:dark){svg{background:#0d1117;color:#e6edf3}}
+text{fill:currentColor;font:11px Helvetica,Arial,sans-serif}
+.title{font-weight:bold;font-size:13px}
+.grid{stroke:currentColor;stroke-opacity:.15}
+.axis{stroke:currentColor;stroke-opacity:.6}
+.line{fill:none;stroke:currentColor;stroke-width:1.2}
+.ours{stroke-width:3}
+.mark{fill:currentColor;stroke:currentColor}
+.middle{text-anchor:middle}
+.end{text-anchor:end}
+</style>
+"""
+
+
+class Plot(NamedTuple):
+    name: str
+    title: str
+    across: str
+    up: str
+    figure: str
+    # What the rows are, from left to right: the place across, and the row.
+    rows: tuple
+    is_wide: bool = False
+
+
+class Scale:
+    """Where numbers are on an axis, evenly or by their logarithms."""
+
+    def __init__(self, numbers, first, last, by_logarithm):
+        self.of = math.log10 if by_logarithm else float
+        self.least = self.of(min(numbers)) if by_logarithm else 0.0
+        self.most = self.of(max(numbers))
+        self.first, self.last = first, last
+
+    def at(self, number):
+        share = (self.of(number) - self.least) / ((self.most - self.least) or 1)
+        return round(self.first + share * (self.last - self.first), 1)
+
+
+def round_steps(most):
+    """Five or so round numbers from 0 up to this one."""
+    step = 10 ** math.floor(math.log10(most / 4))
+    step *= next(factor for factor in (1, 2, 5, 10) if most / (factor * step) <= 6)
+    return [step * n for n in range(int(most / step) + 1)]
+
+
+def mark(kind, x, y):
+    shapes = {'circle': '<circle class="mark" r="3"/>', 'square': '<path class="mark" d="M-3 -3H3V3H-3Z"/>', 'diamond': '<path class="mark" d="M-4 0L0 -4L4 0L0 4Z"/>',
+              'up': '<path class="mark" d="M-4 3H4L0 -4Z"/>', 'down': '<path class="mark" d="M-4 -3H4L0 4Z"/>', 'cross': '<path class="line" d="M-3 -3L3 3M-3 3L3 -3"/>',
+              'plus': '<path class="line" d="M-4 0H4M0 -4V4"/>', 'bar': '<path class="line" d="M0 -4V4"/>', 'ring': '<circle class="line" r="3.5"/>', 'frame': '<path class="line" d="M-3 -3H3V3H-3Z"/>'}
+    return f'<g transform="translate({x} {y})">{shapes[kind]}</g>'
+
+
+def apart(places, room):
+    """The places of labels, moved so that none is nearer to the next than this."""
+    moved = {}
+    last = -math.inf
+    for name, place in sorted(places.items(), key=lambda pair: pair[1]):
+        last = max(place, last + room)
+        moved[name] = last
+    return moved
+
+
+def short(number):
+    for size, unit in ((1_000_000, 'M'), (1000, 'k')):
+        if number >= size:
+            return f'{number / size:.3g}{unit}'
+    return f'{number:g}'
+
+
+def label_of(name):
+    label = 'Cefrodil in Rattle' if name == 'cefrodil' else contests.SHOWN[name].strip('`')
+    return label.replace('<', '&lt;').replace('>', '&gt;')
+
+
+def draw(plot, lines):
+    """The plot of these lines: by contestant, the place across and the figure of each point."""
+    points = [point for line in lines.values() for point in line]
+    across = Scale([x for x, _ in points], LEFT, WIDTH - RIGHT, plot.is_wide)
+    up = Scale([y for _, y in points], HEIGHT - BOTTOM, TOP, False)
+    made = [f'<svg xmlns="http://www.w3.org/2000/svg" width="{WIDTH}" height="{HEIGHT}" viewBox="0 0 {WIDTH} {HEIGHT}" role="img">',
+            f'<title>{plot.title}</title>\n{STYLE}<text class="title" x="{LEFT}" y="18">{plot.title}</text>']
+    for number in round_steps(up.most):
+        y = up.at(number)
+        made.append(f'<path class="grid" d="M{LEFT} {y}H{WIDTH - RIGHT}"/><text class="end" x="{LEFT - 6}" y="{y + 4}">{short(number)}</text>')
+    for number in sorted({x for x, _ in points}):
+        x = across.at(number)
+        made.append(f'<path class="axis" d="M{x} {HEIGHT - BOTTOM}v4"/><text class="middle" x="{x}" y="{HEIGHT - BOTTOM + 16}">{short(number)}</text>')
+    made.append(f'<path class="axis" d="M{LEFT} {HEIGHT - BOTTOM}H{WIDTH - RIGHT}"/>')
+    made.append(f'<text class="middle" x="{(LEFT + WIDTH - RIGHT) / 2}" y="{HEIGHT - 8}">{plot.across}</text>')
+    made.append(f'<text class="middle" transform="translate(14 {(TOP + HEIGHT - BOTTOM) / 2}) rotate(-90)">{plot.up}</text>')
+    ends = apart({name: up.at(line[-1][1]) for name, line in lines.items()}, 13)
+    for number, (name, line) in enumerate(lines.items()):
+        places = [(across.at(x), up.at(y)) for x, y in line]
+        dashes = DASHES[number % len(DASHES)]
+        css = 'line ours' if name in ('door', 'cefrodil') else 'line'
+        made.append(f'<path class="{css}" stroke-dasharray="{dashes or "none"}" d="M{"L".join(f"{x} {y}" for x, y in places)}"/>')
+        made += [mark(MARKS[number % len(MARKS)], x, y) for x, y in places]
+        x, label = places[-1][0], label_of(name)
+        made.append(f'<path class="grid" d="M{x + 5} {places[-1][1]}L{x + 12} {ends[name]}"/><text x="{x + 14}" y="{ends[name] + 4}">{label}</text>')
+    return '\n'.join([*made, '</svg>', ''])
+
+
+def lines_of(plot, told):
+    """The points of each contestant: the medians of its rounds."""
+    names = [name for name in contests.ALL if any(name in row.names for _, row in plot.rows)]
+    show = {'ns_lookup': 1, 'lookups_s': 1e6, 'writes_s': 1e6}[plot.figure]
+    return {name: [(place, contests.quartiles(contests.values(told, row, name))[1] / show) for place, row in plot.rows if name in row.names] for name in names}
+
+
+def plots():
+    benches = contests.BENCHES
+    return (
+        Plot('threads', 'Lookups by threads that read (1,000 keys)', 'threads', 'M lookups/s', 'lookups_s', tuple(enumerate(benches['threads'][:4], 1))),
+        Plot('beside', 'Lookups beside a thread that writes all the time (100,000 keys)', 'threads that read', 'M lookups/s', 'lookups_s',
+             tuple(enumerate(benches['threads'][4:7], 1))),
+        Plot('writers', 'Writes by threads that write one call in ten (100,000 keys)', 'threads', 'M writes/s', 'writes_s',
+             tuple(enumerate(benches['threads'][7:], 1))),
+        Plot('sizes', 'A hit, by one thread', 'keys', 'ns', 'ns_lookup', tuple(zip(contests.SIZES, benches['sizes'])), True))
+
+
+def draw_all(path, folder):
+    told = contests.read(path)
+    for plot in plots():
+        if all((row.options, row.huge, row.program(name)) in told for _, row in plot.rows for name in row.names):
+            with open(os.path.join(folder, plot.name + '.svg'), 'w', encoding='utf-8') as file:
+                file.write(draw(plot, lines_of(plot, told)))
+
+
+if __name__ == '__main__':
+    if len(sys.argv) != 3:
+        sys.exit(__doc__)
+    draw_all(sys.argv[1], sys.argv[2])
