@@ -4,6 +4,7 @@
 #define CEFRODIL_HPP
 
 #include "cefrodil.h"
+#include "cefrodil_counts.hpp"
 #include <array>
 #include <cstddef>
 #include <cstdint>
@@ -45,7 +46,9 @@ enum class Status : uint32_t {
     present = CEFRODIL_PRESENT,
     not_last = CEFRODIL_NOT_LAST,
     // The program is linked with an archive of another version, whose structs and calls may differ. Nothing was done.
-    other_version = 1000
+    other_version = 1000,
+    // By Filler::fill alone (cefrodil_filler.hpp): the store may have changed since the value was read. Nothing was put.
+    stale = 1001
 };
 
 namespace inside {
@@ -68,7 +71,11 @@ inline const char *versions() noexcept {
 } // namespace inside
 
 inline const char *text(Status status) noexcept {
-    return status == Status::other_version ? inside::versions() : cefrodil_text(static_cast<uint32_t>(status));
+    switch (status) {
+    case Status::other_version: return inside::versions();
+    case Status::stale: return "the store may have changed since the value was read";
+    default: return cefrodil_text(static_cast<uint32_t>(status));
+    }
 }
 
 // How many words a type takes as a value.
@@ -137,33 +144,6 @@ template <size_t Words> struct Swapped {
     uint64_t since; // set by the status `changed`
 };
 
-// What a Writer, a Reader and a Pass have in common: a handle that moves, and closes itself.
-class Handle {
-  public:
-    bool is_open() const noexcept { return raw_.live_; }
-    // Closes the handle now. Closing the last handle frees the cache. Until then, the others go on.
-    Status close() noexcept { return static_cast<Status>(cefrodil_close(&raw_)); }
-    // The handle for calls of cefrodil.h.
-    cefrodil_handle *raw() noexcept { return &raw_; }
-
-  protected:
-    Handle() noexcept {}
-    Handle(Handle &&other) noexcept : raw_(std::exchange(other.raw_, cefrodil_handle{})) {}
-    Handle &operator=(Handle &&other) noexcept {
-        if (this != &other) {
-            cefrodil_close(&raw_);
-            raw_ = std::exchange(other.raw_, cefrodil_handle{});
-        }
-        return *this;
-    }
-    Handle(const Handle &) = delete;
-    Handle &operator=(const Handle &) = delete;
-    ~Handle() { cefrodil_close(&raw_); }
-
-  private:
-    cefrodil_handle raw_ = CEFRODIL_EMPTY;
-};
-
 namespace inside {
 
 inline Written written(cefrodil_status status, const cefrodil_reply &reply) noexcept {
@@ -174,19 +154,9 @@ inline Written written(cefrodil_status status, const cefrodil_reply &reply) noex
     return {static_cast<Status>(status), evicted, reply.at, reply.since, reply.put == CEFRODIL_PUT_RENEWED};
 }
 
-template <size_t Words> Answer<Words> answer(cefrodil_status status, const cefrodil_reply &reply, const std::array<uint64_t, Words> &value) noexcept {
-    Answer<Words> told{static_cast<Status>(status), std::nullopt, reply.at, reply.since};
-    if (status == CEFRODIL_OK) {
-        told.value = value;
-    }
-    return told;
-}
-
 // `gone`: an entry gives way if the call is done.
-template <size_t Words>
-Swapped<Words> swapped(cefrodil_status status, const cefrodil_reply &reply, const std::array<uint64_t, Words> &old, bool gone) noexcept {
-    const Written write = written(status, reply);
-    const bool done = status == CEFRODIL_OK && gone;
+template <size_t Words> Swapped<Words> swapped(const Written &write, const std::array<uint64_t, Words> &old, bool gone) noexcept {
+    const bool done = write.status == Status::ok && gone;
     Swapped<Words> told{write.status, write.evicted, std::nullopt, write.at, done ? write.since : 0, done ? 0 : write.since};
     if (done) {
         told.old = old;
@@ -194,58 +164,128 @@ Swapped<Words> swapped(cefrodil_status status, const cefrodil_reply &reply, cons
     return told;
 }
 
-// The calls by the writer or a pass that return the entry which gives way.
-template <size_t Words> Swapped<Words> swap(cefrodil_handle *raw, uint64_t key, const std::array<uint64_t, Words> &value) noexcept {
-    cefrodil_reply reply;
-    std::array<uint64_t, Words> old{};
-    const cefrodil_status status = cefrodil_swap(raw, key, value.data(), Words, old.data(), Words, &reply);
-    return swapped<Words>(status, reply, old, reply.put != CEFRODIL_PUT_STORED);
-}
-template <size_t Words> Swapped<Words> swap_if(cefrodil_handle *raw, uint64_t key, uint64_t since, const std::array<uint64_t, Words> &value) noexcept {
-    cefrodil_reply reply;
-    std::array<uint64_t, Words> old{};
-    const cefrodil_status status = cefrodil_swap_if(raw, key, since, value.data(), Words, old.data(), Words, &reply);
-    return swapped<Words>(status, reply, old, true);
-}
-template <size_t Words> Swapped<Words> take(cefrodil_handle *raw, uint64_t key) noexcept {
-    cefrodil_reply reply;
-    std::array<uint64_t, Words> old{};
-    const cefrodil_status status = cefrodil_take_out(raw, key, old.data(), Words, &reply);
-    return swapped<Words>(status, reply, old, true);
-}
+struct Counting;
 
-// Lists entries of `each` words by a call of C: how many they are, and then each, until they fit.
-template <class List> [[nodiscard]] Status listed(size_t each, std::vector<uint64_t> &words, List list) {
-    uint64_t count = 0;
-    cefrodil_status status;
-    do {
-        words.resize(count * each);
-        status = list(words.data(), words.size(), &count);
-    } while (status == CEFRODIL_BAD_COUNT);
-    words.resize(status == CEFRODIL_OK ? count * each : 0);
-    return static_cast<Status>(status);
-}
-template <size_t Words> [[nodiscard]] Status entries(cefrodil_handle *raw, std::vector<uint64_t> &words) {
-    return listed(1 + Words, words, [&](uint64_t *list, size_t size, uint64_t *count) { return cefrodil_entries_or_none(raw, list, size, count); });
-}
-template <size_t Words> [[nodiscard]] Status stamped_entries(cefrodil_handle *raw, std::vector<uint64_t> &words) {
-    return listed(2 + Words, words,
-                  [&](uint64_t *list, size_t size, uint64_t *count) { return cefrodil_stamped_entries_or_none(raw, list, size, count); });
-}
+} // namespace inside
+
+// What a Writer, a Reader and a Pass have in common: a handle that moves, and closes itself.
+class Handle {
+  public:
+    bool is_open() const noexcept { return raw_.live_; }
+    // Closes the handle now. Closing the last handle frees the cache. Until then, the others go on.
+    Status close() noexcept {
+        counter_ = inside::Counter();
+        return static_cast<Status>(cefrodil_close(&raw_));
+    }
+    // The handle for calls of cefrodil.h. These calls are not counted.
+    cefrodil_handle *raw() noexcept { return &raw_; }
+    // Reads what the calls by all handles of this cache came to. Take it before the handle is closed.
+    Meter meter() const noexcept { return Meter(counter_.lines()); }
+
+  protected:
+    friend struct inside::Counting;
+    Handle() noexcept {}
+    Handle(Handle &&other) noexcept : raw_(std::exchange(other.raw_, cefrodil_handle{})), counter_(std::move(other.counter_)) {}
+    Handle &operator=(Handle &&other) noexcept {
+        if (this != &other) {
+            cefrodil_close(&raw_);
+            raw_ = std::exchange(other.raw_, cefrodil_handle{});
+            counter_ = std::move(other.counter_);
+        }
+        return *this;
+    }
+    Handle(const Handle &) = delete;
+    Handle &operator=(const Handle &) = delete;
+    ~Handle() { cefrodil_close(&raw_); }
+
+    // Moves this handle to an empty one, of another kind.
+    void move_to(Handle &other) noexcept { other = std::move(*this); }
+
+    // A call's answer, which is counted.
+    template <size_t Words>
+    Answer<Words> looked(cefrodil_status status, const cefrodil_reply &reply, const std::array<uint64_t, Words> &value) noexcept {
+        counter_.looked(status);
+        Answer<Words> told{static_cast<Status>(status), std::nullopt, reply.at, reply.since};
+        if (status == CEFRODIL_OK) {
+            told.value = value;
+        }
+        return told;
+    }
+    Status looked_up(cefrodil_status status, const cefrodil_answer *answers, size_t count) noexcept {
+        counter_.looked(answers, status == CEFRODIL_OK ? count : 0);
+        return static_cast<Status>(status);
+    }
+    Written wrote(cefrodil_status status, const cefrodil_reply &reply) noexcept {
+        counter_.wrote(status, reply);
+        return inside::written(status, reply);
+    }
+    Status tried(cefrodil_status status) noexcept {
+        counter_.tried(status);
+        return static_cast<Status>(status);
+    }
+
+    // The calls by the writer or a pass that return the entry which gives way.
+    template <size_t Words> Swapped<Words> swap_words(uint64_t key, const std::array<uint64_t, Words> &value) noexcept {
+        cefrodil_reply reply;
+        std::array<uint64_t, Words> old{};
+        const cefrodil_status status = cefrodil_swap(&raw_, key, value.data(), Words, old.data(), Words, &reply);
+        return inside::swapped<Words>(wrote(status, reply), old, reply.put != CEFRODIL_PUT_STORED);
+    }
+    template <size_t Words> Swapped<Words> swap_words_if(uint64_t key, uint64_t since, const std::array<uint64_t, Words> &value) noexcept {
+        cefrodil_reply reply;
+        std::array<uint64_t, Words> old{};
+        const cefrodil_status status = cefrodil_swap_if(&raw_, key, since, value.data(), Words, old.data(), Words, &reply);
+        return inside::swapped<Words>(wrote(status, reply), old, true);
+    }
+    template <size_t Words> Swapped<Words> take_words(uint64_t key) noexcept {
+        cefrodil_reply reply;
+        std::array<uint64_t, Words> old{};
+        const cefrodil_status status = cefrodil_take_out(&raw_, key, old.data(), Words, &reply);
+        return inside::swapped<Words>(wrote(status, reply), old, true);
+    }
+
+    // Lists entries of `each` words by one call of C. `most`: gives how many there are at most, so that they all have room.
+    template <class Most, class List> [[nodiscard]] Status list(size_t each, std::vector<uint64_t> &words, Most most, List call) {
+        uint64_t count = 0;
+        Status status = static_cast<Status>(most(&raw_, &count));
+        if (status == Status::ok) {
+            words.resize(count * each);
+            status = tried(call(&raw_, words.data(), words.size(), &count));
+        }
+        words.resize(status == Status::ok ? count * each : 0);
+        return status;
+    }
+
+  private:
+    cefrodil_handle raw_ = CEFRODIL_EMPTY;
+    inside::Counter counter_;
+};
+
+namespace inside {
+
+// In which lines a handle counts.
+struct Counting {
+    static const std::shared_ptr<Lines> &lines(const Handle &handle) noexcept { return handle.counter_.lines(); }
+    static void in(Handle &handle, const std::shared_ptr<Lines> &lines) noexcept { handle.counter_ = Counter(lines); }
+};
+
+// A number of readers or passes that the archive may allow; it refuses 0 for the same reason as a larger one.
+inline size_t allowed(size_t count) noexcept { return count <= 1024 ? count : 0; }
 
 // Opens `count` handles by a call of C, which takes an array of them. If it succeeds, they take the place of `handles`. All memory is taken
-// before the call. An archive of another version is not called.
-template <class Kind, class Open> [[nodiscard]] Status open_all(std::vector<Kind> &handles, size_t count, Open open) {
+// before the call: `lines` has a line for each. An archive of another version is not called.
+template <class Kind, class Open>
+[[nodiscard]] Status open_all(std::vector<Kind> &handles, size_t count, const std::shared_ptr<Lines> &lines, Open open) {
     if (!same_version()) {
         return Status::other_version;
     }
-    count = count <= 1024 ? count : 0;
     std::vector<cefrodil_handle> raw(count != 0 ? count : 1);
     std::vector<Kind> opened(count);
     const auto status = static_cast<Status>(open(raw.data(), count));
     if (status == Status::ok) {
         for (size_t i = 0; i < count; i++) {
             *opened[i].raw() = raw[i];
+            Counting::in(opened[i], lines);
         }
         handles = std::move(opened);
     }
@@ -265,43 +305,45 @@ template <size_t Words> class Writer : public Handle {
     Written put(uint64_t key, const Value &value) noexcept {
         cefrodil_reply reply;
         const cefrodil_status status = cefrodil_put_of_width(raw(), key, value.data(), Words, &reply);
-        return inside::written(status, reply);
+        return wrote(status, reply);
     }
     [[nodiscard]] Written put_if(uint64_t key, uint64_t since, const Value &value) noexcept {
         cefrodil_reply reply;
         const cefrodil_status status = cefrodil_put_if(raw(), key, since, value.data(), Words, &reply);
-        return inside::written(status, reply);
+        return wrote(status, reply);
     }
     [[nodiscard]] Written put_if_absent(uint64_t key, const Value &value) noexcept {
         cefrodil_reply reply;
         const cefrodil_status status = cefrodil_put_if_absent(raw(), key, value.data(), Words, &reply);
-        return inside::written(status, reply);
+        return wrote(status, reply);
     }
     Written remove(uint64_t key) noexcept {
         cefrodil_reply reply;
         const cefrodil_status status = cefrodil_remove(raw(), key, &reply);
-        return inside::written(status, reply);
+        return wrote(status, reply);
     }
     // Like put, put_if and remove, and they also return the entry that gives way.
-    [[nodiscard]] Swapped<Words> swap(uint64_t key, const Value &value) noexcept { return inside::swap<Words>(raw(), key, value); }
+    [[nodiscard]] Swapped<Words> swap(uint64_t key, const Value &value) noexcept { return swap_words<Words>(key, value); }
     [[nodiscard]] Swapped<Words> swap_if(uint64_t key, uint64_t since, const Value &value) noexcept {
-        return inside::swap_if<Words>(raw(), key, since, value);
+        return swap_words_if<Words>(key, since, value);
     }
-    [[nodiscard]] Swapped<Words> take(uint64_t key) noexcept { return inside::take<Words>(raw(), key); }
+    [[nodiscard]] Swapped<Words> take(uint64_t key) noexcept { return take_words<Words>(key); }
     // Never busy.
     [[nodiscard]] Answer<Words> get(uint64_t key) noexcept {
         cefrodil_reply reply;
         Value value;
         const cefrodil_status status = cefrodil_get_of_width(raw(), key, value.data(), Words, &reply);
-        return inside::answer<Words>(status, reply, value);
+        return looked<Words>(status, reply, value);
     }
     [[nodiscard]] Status moment(uint64_t &number) noexcept { return static_cast<Status>(cefrodil_moment(raw(), &number)); }
     [[nodiscard]] Status len(uint64_t &number) noexcept { return static_cast<Status>(cefrodil_len(raw(), &number)); }
     [[nodiscard]] Status capacity(uint64_t &number) noexcept { return static_cast<Status>(cefrodil_capacity(raw(), &number)); }
     // Each key with its value, one entry after the other. Unless ok, `words` is empty.
-    [[nodiscard]] Status entries(std::vector<uint64_t> &words) { return inside::entries<Words>(raw(), words); }
+    [[nodiscard]] Status entries(std::vector<uint64_t> &words) { return list(1 + Words, words, cefrodil_len, cefrodil_entries_or_none); }
     // The same with stamps: each entry is its key, its value, and then the moment of the key's last put.
-    [[nodiscard]] Status stamped_entries(std::vector<uint64_t> &words) { return inside::stamped_entries<Words>(raw(), words); }
+    [[nodiscard]] Status stamped_entries(std::vector<uint64_t> &words) {
+        return list(2 + Words, words, cefrodil_len, cefrodil_stamped_entries_or_none);
+    }
 };
 
 // What a Reader and a Pass have in common: lookups. A function that takes either takes a `Lookups<Words> &`. It can't be moved as such, so no
@@ -316,12 +358,12 @@ template <size_t Words> class Lookups : public Handle {
         cefrodil_reply reply;
         Value value;
         const cefrodil_status status = cefrodil_get_of_width(raw(), key, value.data(), Words, &reply);
-        return inside::answer<Words>(status, reply, value);
+        return this->template looked<Words>(status, reply, value);
     }
     // Equivalent to get for each key in order. Each of the `count` values is written only if its answer's status is CEFRODIL_OK.
     [[nodiscard]] Status get_many(const uint64_t *keys, size_t count, Value *values, cefrodil_answer *answers) noexcept {
         static_assert(sizeof(Value) == Words * sizeof(uint64_t), "values lie one after the other");
-        return static_cast<Status>(cefrodil_get_many_or_none(raw(), keys, count, count != 0 ? values->data() : nullptr, Words * count, answers, count));
+        return looked_up(cefrodil_get_many_or_none(raw(), keys, count, count != 0 ? values->data() : nullptr, Words * count, answers, count), answers, count);
     }
     // The number of keys that the cache holds at most. By a pass of shards, that of all shards.
     [[nodiscard]] Status capacity(uint64_t &number) noexcept { return static_cast<Status>(cefrodil_capacity(raw(), &number)); }
@@ -349,39 +391,39 @@ template <size_t Words> class Pass : public Lookups<Words> {
         cefrodil_reply reply;
         Value value;
         const cefrodil_status status = cefrodil_get_or_desk(this->raw(), key, value.data(), Words, &reply);
-        return inside::answer<Words>(status, reply, value);
+        return this->template looked<Words>(status, reply, value);
     }
     [[nodiscard]] Written try_put(uint64_t key, const Value &value) noexcept {
         cefrodil_reply reply;
         const cefrodil_status status = cefrodil_try_put(this->raw(), key, value.data(), Words, &reply);
-        return inside::written(status, reply);
+        return this->wrote(status, reply);
     }
     [[nodiscard]] Written put_within(uint32_t tries, uint64_t key, const Value &value) noexcept {
         cefrodil_reply reply;
         const cefrodil_status status = cefrodil_put_within(this->raw(), tries, key, value.data(), Words, &reply);
-        return inside::written(status, reply);
+        return this->wrote(status, reply);
     }
     [[nodiscard]] Written try_put_if(uint64_t key, uint64_t since, const Value &value) noexcept {
         cefrodil_reply reply;
         const cefrodil_status status = cefrodil_try_put_if(this->raw(), key, since, value.data(), Words, &reply);
-        return inside::written(status, reply);
+        return this->wrote(status, reply);
     }
     [[nodiscard]] Written try_put_if_absent(uint64_t key, const Value &value) noexcept {
         cefrodil_reply reply;
         const cefrodil_status status = cefrodil_try_put_if_absent(this->raw(), key, value.data(), Words, &reply);
-        return inside::written(status, reply);
+        return this->wrote(status, reply);
     }
     [[nodiscard]] Written try_remove(uint64_t key) noexcept {
         cefrodil_reply reply;
         const cefrodil_status status = cefrodil_try_remove(this->raw(), key, &reply);
-        return inside::written(status, reply);
+        return this->wrote(status, reply);
     }
     // Like try_put, try_put_if and try_remove, and they also return the entry that gives way.
-    [[nodiscard]] Swapped<Words> try_swap(uint64_t key, const Value &value) noexcept { return inside::swap<Words>(this->raw(), key, value); }
+    [[nodiscard]] Swapped<Words> try_swap(uint64_t key, const Value &value) noexcept { return this->template swap_words<Words>(key, value); }
     [[nodiscard]] Swapped<Words> try_swap_if(uint64_t key, uint64_t since, const Value &value) noexcept {
-        return inside::swap_if<Words>(this->raw(), key, since, value);
+        return this->template swap_words_if<Words>(key, since, value);
     }
-    [[nodiscard]] Swapped<Words> try_take(uint64_t key) noexcept { return inside::take<Words>(this->raw(), key); }
+    [[nodiscard]] Swapped<Words> try_take(uint64_t key) noexcept { return this->template take_words<Words>(key); }
     // Ends the pass's turns: it becomes `reader`. The last pass of a desk gets the writer back (ok); the others don't (not_last). With
     // another status nothing was done. in_use: `reader` or `writer` is open. kind: it is a pass of shards.
     [[nodiscard]] Status leave(Reader<Words> &reader, Writer<Words> &writer) noexcept {
@@ -389,17 +431,24 @@ template <size_t Words> class Pass : public Lookups<Words> {
             return Status::in_use;
         }
         const auto status = static_cast<Status>(cefrodil_leave_desk(this->raw(), writer.raw()));
+        if (status == Status::ok) {
+            inside::Counting::in(writer, inside::Counting::lines(*this));
+        }
         if (status == Status::ok || status == Status::not_last) {
-            *reader.raw() = cefrodil_take(this->raw());
+            this->move_to(reader);
         }
         return status;
     }
     // The number of keys, in a turn at a desk. It is held if the try does not win.
-    [[nodiscard]] Status try_len(uint64_t &number) noexcept { return static_cast<Status>(cefrodil_try_len(this->raw(), &number)); }
+    [[nodiscard]] Status try_len(uint64_t &number) noexcept { return this->tried(cefrodil_try_len(this->raw(), &number)); }
     // Like Writer::entries. It is held if a try for the turn does not win.
-    [[nodiscard]] Status try_entries(std::vector<uint64_t> &words) { return inside::entries<Words>(this->raw(), words); }
+    [[nodiscard]] Status try_entries(std::vector<uint64_t> &words) {
+        return this->list(1 + Words, words, cefrodil_capacity, cefrodil_entries_or_none);
+    }
     // Like Writer::stamped_entries, at a desk. It is held if the try for the turn does not win.
-    [[nodiscard]] Status try_stamped_entries(std::vector<uint64_t> &words) { return inside::stamped_entries<Words>(this->raw(), words); }
+    [[nodiscard]] Status try_stamped_entries(std::vector<uint64_t> &words) {
+        return this->list(2 + Words, words, cefrodil_capacity, cefrodil_stamped_entries_or_none);
+    }
 };
 
 // The shape for so many items, or none if that is out of range, or the archive is of another version (Status::other_version).
@@ -423,9 +472,14 @@ template <size_t Words> class Pass : public Lookups<Words> {
 // Opens a cache: its writer, and so many readers. Unless ok, `writer` and `readers` are unchanged. in_use: the writer is open.
 template <size_t Words>
 [[nodiscard]] Status open(const cefrodil_shape &shape, size_t count, Writer<Words> &writer, std::vector<Reader<Words>> &readers) {
-    return inside::open_all(readers, count, [&](cefrodil_handle *raw, size_t many) {
+    const auto lines = inside::lines_for(inside::allowed(count));
+    const Status status = inside::open_all(readers, inside::allowed(count), lines, [&](cefrodil_handle *raw, size_t many) {
         return cefrodil_open(&shape, Words, writer.raw(), raw, many);
     });
+    if (status == Status::ok) {
+        inside::Counting::in(writer, lines);
+    }
+    return status;
 }
 
 // The same with entries, each its key and then its value, as Writer::entries lists them. `statuses` says what became of each.
@@ -433,12 +487,14 @@ template <size_t Words>
 [[nodiscard]] Status open_with(const cefrodil_shape &shape, size_t count, const std::vector<uint64_t> &entries, Writer<Words> &writer,
                  std::vector<Reader<Words>> &readers, std::vector<Status> &statuses) {
     const size_t many = entries.size() / (1 + Words);
+    const auto lines = inside::lines_for(inside::allowed(count));
     std::vector<uint32_t> raw_statuses(many);
     std::vector<Status> told(many, Status::ok);
-    const Status status = inside::open_all(readers, count, [&](cefrodil_handle *raw, size_t readers_asked) {
+    const Status status = inside::open_all(readers, inside::allowed(count), lines, [&](cefrodil_handle *raw, size_t readers_asked) {
         return cefrodil_open_with_or_none(&shape, Words, entries.data(), entries.size(), raw_statuses.data(), many, writer.raw(), raw, readers_asked);
     });
     if (status == Status::ok) {
+        inside::Counting::in(writer, lines);
         for (size_t i = 0; i < many; i++) {
             told[i] = static_cast<Status>(raw_statuses[i]);
         }
@@ -449,7 +505,8 @@ template <size_t Words>
 
 // Opens a cache for threads that write by turns: so many passes. Unless ok, `passes` is unchanged.
 template <size_t Words> [[nodiscard]] Status open_desk(const cefrodil_shape &shape, size_t count, std::vector<Pass<Words>> &passes) {
-    return inside::open_all(passes, count, [&](cefrodil_handle *raw, size_t many) {
+    count = inside::allowed(count);
+    return inside::open_all(passes, count, inside::lines_for(count), [&](cefrodil_handle *raw, size_t many) {
         return cefrodil_open_desk(&shape, Words, raw, many);
     });
 }
@@ -457,15 +514,25 @@ template <size_t Words> [[nodiscard]] Status open_desk(const cefrodil_shape &sha
 // Puts the writer of an open cache on a desk, for threads that write by turns: so many passes. ok: the writer is closed. Unless ok, `writer`
 // and `passes` are unchanged. bad_readers: no passes, or more than the cache has readers to spare.
 template <size_t Words> [[nodiscard]] Status make_desk(Writer<Words> &writer, size_t count, std::vector<Pass<Words>> &passes) {
-    return inside::open_all(passes, count, [&](cefrodil_handle *raw, size_t many) {
+    count = inside::allowed(count);
+    const auto lines = inside::Counting::lines(writer);
+    if (lines) {
+        lines->reserve(count);
+    }
+    const Status status = inside::open_all(passes, count, lines, [&](cefrodil_handle *raw, size_t many) {
         return cefrodil_make_desk(writer.raw(), raw, many);
     });
+    if (status == Status::ok) {
+        writer.close(); // The handle is closed already. Its line is for the writer that comes back.
+    }
+    return status;
 }
 
 // Opens a cache of so many shards: so many passes.
 template <size_t Words>
 [[nodiscard]] Status open_shards(const cefrodil_shape &shape, uint32_t shards, size_t count, std::vector<Pass<Words>> &passes) {
-    return inside::open_all(passes, count, [&](cefrodil_handle *raw, size_t many) {
+    count = inside::allowed(count);
+    return inside::open_all(passes, count, inside::lines_for(count), [&](cefrodil_handle *raw, size_t many) {
         return cefrodil_open_shards(&shape, shards, Words, raw, many);
     });
 }
