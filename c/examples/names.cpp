@@ -62,7 +62,7 @@ struct Server {
             hits++;
             return static_cast<uint32_t>((*found)[1]);
         }
-        // The key is absent, or another name has it, or the lookup was busy.
+        // The key is absent, or another name has it, or the lookup was busy. If addresses change, take a ticket first, as store.cpp does.
         const uint32_t address = resolve(name);
         queue.offer(key, {check, address});
         return address;

@@ -9,8 +9,10 @@
 compile_error!("Cefrodil runs on 64-bit Linux on x86-64 alone");
 
 mod cache;
+mod counts;
 mod desk;
 mod error;
+mod filler;
 mod handle;
 mod pool;
 mod raw;
@@ -20,8 +22,10 @@ mod shards;
 mod width;
 
 pub use cache::{Cache, Opened, Reader, Writer};
+pub use counts::{prometheus, Counts, Meter};
 pub use desk::{Desk, NoDesk, NotEnded, Pass};
 pub use error::{EndError, ListError, OpenError, PutError, PutIfAbsentError, PutIfError, Spent, TurnError, Why};
+pub use filler::{FillError, Filler, Ticket, Tickets};
 pub use handle::version;
 pub use pool::{Lent, Pool};
 pub use reply::{Entry, Put, Removal, Replaced, Reply, Swapped, Take};
