@@ -441,7 +441,7 @@ template <size_t Words> class Pass : public Lookups<Words> {
     }
     // The number of keys, in a turn at a desk. It is held if the try does not win.
     [[nodiscard]] Status try_len(uint64_t &number) noexcept { return this->tried(cefrodil_try_len(this->raw(), &number)); }
-    // Like Writer::entries. It is held if a try for the turn does not win.
+    // Like Writer::entries, but `words` takes room for `capacity` entries, so that one turn is enough. It is held if a try for a turn does not win.
     [[nodiscard]] Status try_entries(std::vector<uint64_t> &words) {
         return this->list(1 + Words, words, cefrodil_capacity, cefrodil_entries_or_none);
     }

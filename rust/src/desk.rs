@@ -395,7 +395,8 @@ impl<const WORDS: usize> Pass<'_, WORDS> {
     }
 
     /// Lists each key with its value, in a turn, as [`Writer::entries`](crate::Writer::entries) does. A pass of shards takes a turn
-    /// at each shard, so it lists each at a moment of its own.
+    /// at each shard, so it lists each at a moment of its own. The call takes room for [`capacity`](Pass::capacity) entries, so that one
+    /// turn is enough.
     ///
     /// # Errors
     ///
