@@ -8,6 +8,7 @@
 #[cfg(not(all(target_arch = "x86_64", target_os = "linux", target_pointer_width = "64")))]
 compile_error!("Cefrodil runs on 64-bit Linux on x86-64 alone");
 
+mod audit;
 mod cache;
 mod counts;
 mod desk;
@@ -21,6 +22,7 @@ mod shape;
 mod shards;
 mod width;
 
+pub use audit::AuditLog;
 pub use cache::{Cache, Opened, Reader, Writer};
 pub use counts::{prometheus, Counts, Meter};
 pub use desk::{Desk, NoDesk, NotEnded, Pass};
