@@ -6,14 +6,14 @@
 constexpr int threads = 3;
 constexpr uint64_t lookups = 10000, names = 500;
 
-void serve(cefrodil::Reader<1> &reader) {
+static void serve(cefrodil::Reader<1> &reader) {
     for (uint64_t key = 0; key < lookups; key++) {
         (void)reader.get(key % (2 * names));
     }
 }
 
 // What a scrape of the page returns. It needs no handle of the cache.
-std::string metrics(const cefrodil::Meter &meter) { return cefrodil::prometheus({{"names", meter.counts()}}); }
+static std::string metrics(const cefrodil::Meter &meter) { return cefrodil::prometheus({{"names", meter.counts()}}); }
 
 int main() {
     cefrodil::Writer<1> writer;

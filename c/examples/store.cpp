@@ -12,7 +12,7 @@ constexpr uint64_t keys = 50;
 constexpr int threads = 3, rounds = 5000;
 
 // Stands for a database.
-std::array<std::atomic<uint64_t>, keys> store;
+static std::array<std::atomic<uint64_t>, keys> store;
 
 // What a thread asks of the writer: to fill a key with what it read, or to remove a key that it changed.
 struct Request {
@@ -46,7 +46,7 @@ class Queue {
     int senders_ = threads;
 };
 
-void serve(cefrodil::Reader<1> &reader, const cefrodil::Tickets &tickets, Queue &queue) {
+static void serve(cefrodil::Reader<1> &reader, const cefrodil::Tickets &tickets, Queue &queue) {
     for (int round = 0; round < rounds; round++) {
         const uint64_t key = static_cast<uint64_t>(round) * 7 % keys;
         if (round % 9 == 0) {

@@ -71,11 +71,10 @@ inline const char *versions() noexcept {
 } // namespace inside
 
 inline const char *text(Status status) noexcept {
-    switch (status) {
-    case Status::other_version: return inside::versions();
-    case Status::stale: return "the store may have changed since the value was read";
-    default: return cefrodil_text(static_cast<uint32_t>(status));
+    if (status == Status::other_version) {
+        return inside::versions();
     }
+    return status == Status::stale ? "the store may have changed since the value was read" : cefrodil_text(static_cast<uint32_t>(status));
 }
 
 // How many words a type takes as a value.
@@ -258,7 +257,7 @@ class Handle {
 
   private:
     cefrodil_handle raw_ = CEFRODIL_EMPTY;
-    inside::Counter counter_;
+    inside::Counter counter_{};
 };
 
 namespace inside {

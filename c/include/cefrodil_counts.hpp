@@ -86,8 +86,8 @@ class Lines {
         line->next = std::exchange(free_, line);
         free_count_++;
     }
-    std::mutex lock_;
-    std::deque<Line> lines_;
+    std::mutex lock_{};
+    std::deque<Line> lines_{};
     Line *free_ = nullptr;
     size_t free_count_ = 0;
 };
@@ -150,7 +150,7 @@ class Counter {
     }
 
   private:
-    std::shared_ptr<Lines> lines_;
+    std::shared_ptr<Lines> lines_{};
     Line *line_ = nullptr;
 };
 

@@ -100,21 +100,31 @@ static void desks() {
     MUST(are(meter.counts(), {4, 42, 0, 0, 4, 0}));
     // The writer of a cache that was opened as a desk counts, too.
     MUST(open_desk(shape_of(2, most), 1, passes) == Status::ok);
-    left[0] = {}, back = {};
+    left[0] = {};
+    back = {};
     MUST(passes[0].leave(left[0], back) == Status::ok && back.get(9).status == Status::absent && are(left[0].meter().counts(), {0, 1, 0, 0, 0, 0}));
 }
 
 static void add(Counts &to, const Counts &more) {
-    to.hits += more.hits, to.misses += more.misses, to.busy += more.busy, to.held += more.held, to.evictions += more.evictions;
+    to.hits += more.hits;
+    to.misses += more.misses;
+    to.busy += more.busy;
+    to.held += more.held;
+    to.evictions += more.evictions;
 }
 
 // What a thread is told.
 struct Told {
-    Counts counts;
+    Counts counts{};
     template <size_t Words> void looked(const Answer<Words> &answer) {
-        counts.hits += answer.status == Status::ok, counts.misses += answer.status == Status::absent, counts.busy += answer.status == Status::busy;
+        counts.hits += answer.status == Status::ok;
+        counts.misses += answer.status == Status::absent;
+        counts.busy += answer.status == Status::busy;
     }
-    template <class Answer> void wrote(const Answer &answer) { counts.held += answer.status == Status::held, counts.evictions += answer.evicted.has_value(); }
+    template <class Answer> void wrote(const Answer &answer) {
+        counts.held += answer.status == Status::held;
+        counts.evictions += answer.evicted.has_value();
+    }
     void listed(Status status) { counts.held += status == Status::held; }
 };
 
