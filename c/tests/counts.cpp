@@ -74,6 +74,26 @@ static void no_path() {
     MUST(are(writer.meter().counts(), {0, 0, 0, 0, 0, 1}));
 }
 
+// One thread looks the two keys up, so that the one item stays recent, while another puts them by turns.
+static void all_recent() {
+    Writer<1> writer;
+    std::vector<Reader<1>> readers;
+    MUST(open(shape_of(1, most), 1, writer, readers) == Status::ok);
+    std::atomic<bool> done{false};
+    std::thread looking([&] {
+        for (uint64_t n = 0; !done; n++) {
+            (void)readers[0].get(n % 2);
+        }
+    });
+    uint64_t refused = 0;
+    for (uint64_t n = 0; n < 10000000 && refused < 3; n++) {
+        refused += writer.put(n % 2, {n}).status == Status::all_recent;
+    }
+    done = true;
+    looking.join();
+    MUST(refused != 0 && writer.meter().counts().refusals == refused);
+}
+
 // The cache of entries counts, and goes on counting on a desk, by the readers that its passes become, and by the writer that comes back.
 static void desks() {
     Writer<1> writer, back;
@@ -197,6 +217,7 @@ int main() {
     lookups();
     writes();
     no_path();
+    all_recent();
     desks();
     std::vector<Pass<1>> passes;
     MUST(open_desk(shape_of(8, most), 4, passes) == Status::ok);

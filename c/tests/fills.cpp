@@ -1,8 +1,15 @@
 // A fill whose value was read before its key was changed in the store is refused, and the cache does not go back to the old value.
 #include "cefrodil_filler.hpp"
 #include "must.h"
+#include <string>
 
 using namespace cefrodil;
+
+// A Filler takes memory when it is made, and never throws afterwards.
+static_assert(noexcept(std::declval<Filler<1> &>().fill(1, Ticket(1), {1})) && noexcept(std::declval<Filler<1> &>().remove(1)));
+static_assert(noexcept(std::declval<Filler<1> &>().put(1, {1})) && noexcept(std::declval<Filler<1> &>().writer()));
+static_assert(noexcept(std::declval<Filler<1> &>().tickets()) && noexcept(std::declval<const Tickets &>().take()));
+static_assert(std::is_nothrow_move_constructible_v<Filler<1>> && !std::is_copy_constructible_v<Filler<1>>);
 
 static Filler<1> filler_of(size_t changes, std::vector<Reader<1>> &readers) {
     Writer<1> writer;
@@ -69,6 +76,6 @@ int main() {
     known_changes(3, 3);
     known_changes(1, 1);
     known_changes(0, 1);
-    MUST(text(Status::stale)[0] == 't');
+    MUST(std::string(text(Status::stale)) == "the store may have changed since the value was read");
     return outcome("fills");
 }

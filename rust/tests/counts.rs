@@ -4,7 +4,7 @@ use cefrodil::{
     prometheus, Cache, Counts, Desk, Meter, Mix, Pass, Put, PutError, PutIfError, Reply, Shape, Shards, Spent, TurnError,
 };
 use std::error::Error;
-use std::sync::atomic::{AtomicUsize, Ordering};
+use std::sync::atomic::{AtomicBool, AtomicUsize, Ordering};
 use std::thread;
 
 type Tested = Result<(), Box<dyn Error>>;
@@ -67,6 +67,30 @@ fn evictions_and_refusals_are_counted() -> Tested {
     let (mut writer, _readers) = Cache::<1>::open(&crowded, 1)?;
     assert_eq!((0..9).filter(|key| writer.put(1024 * key, &[0]) == Err(PutError::NoPath)).count(), 1);
     counted(&writer.meter(), [0, 0, 0, 0, 0, 1]);
+    Ok(())
+}
+
+// One thread looks the two keys up, so that the one item stays recent, while another puts them by turns.
+#[test]
+fn a_put_that_finds_all_recent_is_counted() -> Tested {
+    let (mut writer, mut readers) = Cache::<1>::open(&Shape { items: 1, ..SMALL }, 1)?;
+    let (done, mut refused) = (AtomicBool::new(false), 0);
+    thread::scope(|threads| {
+        threads.spawn(|| {
+            while !done.load(Ordering::Relaxed) {
+                let _ = (readers[0].get(0), readers[0].get(1));
+            }
+        });
+        for n in 0..10_000_000 {
+            refused += u64::from(writer.put(n % 2, &[n]) == Err(PutError::AllRecent));
+            if refused == 3 {
+                break;
+            }
+        }
+        done.store(true, Ordering::Relaxed);
+    });
+    assert_ne!(refused, 0);
+    assert_eq!(writer.meter().counts().refusals, if cfg!(feature = "counts") { refused } else { 0 });
     Ok(())
 }
 
