@@ -150,7 +150,7 @@ struct Told {
 
 static void work(Pass<1> &pass, Told &told) {
     std::vector<uint64_t> list;
-    for (uint64_t n = 0; n < 3000; n++) {
+    for (uint64_t n = 0; n < 2000; n++) {
         const uint64_t key = n * 7 % 11;
         uint64_t number;
         told.looked(pass.get(key));

@@ -183,7 +183,7 @@ fn threads_work(passes: Vec<Pass<'static, 1>>) {
     thread::scope(|threads| {
         let working = &working;
         let run = |mut pass: Pass<'static, 1>| {
-            let told = work(&mut pass, 3000);
+            let told = work(&mut pass, 2000);
             working.fetch_sub(1, Ordering::Relaxed);
             told
         };
@@ -192,6 +192,7 @@ fn threads_work(passes: Vec<Pass<'static, 1>>) {
             let now = meter.counts().misses;
             assert!(misses <= now);
             misses = now;
+            thread::yield_now();
         }
         for thread in running {
             let told = thread.join().expect("a thread panicked");
