@@ -4,7 +4,7 @@ use cefrodil::{
     prometheus, Cache, Counts, Desk, Meter, Mix, Pass, Put, PutError, PutIfError, Reply, Shape, Shards, Spent, TurnError,
 };
 use std::error::Error;
-use std::sync::atomic::{AtomicBool, AtomicUsize, Ordering};
+use std::sync::atomic::{AtomicBool, Ordering};
 use std::thread;
 
 type Tested = Result<(), Box<dyn Error>>;
@@ -179,16 +179,10 @@ fn work(pass: &mut Pass<1>, rounds: u64) -> Told {
 // Threads work by passes, and one reads the counts meanwhile. In the end they are what the threads were told.
 fn threads_work(passes: Vec<Pass<'static, 1>>) {
     let meter = passes[0].meter();
-    let (mut all, mut misses, working) = ([0; 6], 0, AtomicUsize::new(passes.len()));
+    let (mut all, mut misses) = ([0; 6], 0);
     thread::scope(|threads| {
-        let working = &working;
-        let run = |mut pass: Pass<'static, 1>| {
-            let told = work(&mut pass, 2000);
-            working.fetch_sub(1, Ordering::Relaxed);
-            told
-        };
-        let running: Vec<_> = passes.into_iter().map(|pass| threads.spawn(move || run(pass))).collect();
-        while working.load(Ordering::Relaxed) != 0 {
+        let running: Vec<_> = passes.into_iter().map(|mut pass| threads.spawn(move || work(&mut pass, 2000))).collect();
+        while running.iter().any(|thread| !thread.is_finished()) {
             let now = meter.counts().misses;
             assert!(misses <= now);
             misses = now;
