@@ -148,9 +148,10 @@ struct Told {
     void listed(Status status) { counts.held += status == Status::held; }
 };
 
-static void work(Pass<1> &pass, Told &told) {
+// Works until some thread was held, and a while in any case.
+static void work(Pass<1> &pass, Told &told, std::atomic<bool> &is_held) {
     std::vector<uint64_t> list;
-    for (uint64_t n = 0; n < 2000; n++) {
+    for (uint64_t n = 0; n < 1000 || (n < 1000000 && !is_held); n++) {
         const uint64_t key = n * 7 % 11;
         uint64_t number;
         told.looked(pass.get(key));
@@ -169,16 +170,20 @@ static void work(Pass<1> &pass, Told &told) {
         if (len != Status::kind) {
             told.listed(pass.try_stamped_entries(list));
         }
+        if (told.counts.held != 0) {
+            is_held = true;
+        }
     }
 }
 
 // Threads work by passes, and one reads the counts meanwhile. In the end they are what the threads were told.
-static void threads(std::vector<Pass<1>> passes, bool are_held) {
+static void threads(std::vector<Pass<1>> passes) {
     const Meter meter = passes[0].meter();
+    std::atomic<bool> is_held{false};
     std::vector<Told> told(passes.size());
     std::vector<std::thread> running;
     for (size_t i = 0; i < passes.size(); i++) {
-        running.emplace_back([&passes, &told, i] { work(passes[i], told[i]); });
+        running.emplace_back([&passes, &told, &is_held, i] { work(passes[i], told[i], is_held); });
     }
     uint64_t before = 0;
     for (int n = 0; n < 1000; n++) {
@@ -192,7 +197,7 @@ static void threads(std::vector<Pass<1>> passes, bool are_held) {
         add(all, told[i].counts);
     }
     MUST(are(meter.counts(), {all.hits, all.misses, all.busy, all.held, all.evictions, 0}));
-    MUST(all.hits != 0 && all.misses != 0 && all.evictions != 0 && (all.held != 0) == are_held);
+    MUST(all.hits != 0 && all.misses != 0 && all.evictions != 0 && all.held != 0);
 }
 
 static void printed() {
@@ -221,11 +226,9 @@ int main() {
     desks();
     std::vector<Pass<1>> passes;
     MUST(open_desk(shape_of(8, most), 4, passes) == Status::ok);
-    threads(std::move(passes), true);
+    threads(std::move(passes));
     MUST(open_shards(shape_of(3, most), 2, 4, passes) == Status::ok);
-    threads(std::move(passes), true);
-    MUST(open_shards(shape_of(3, most), 2, 1, passes) == Status::ok);
-    threads(std::move(passes), false);
+    threads(std::move(passes));
     printed();
     return outcome("counts");
 }

@@ -152,10 +152,14 @@ impl Told {
     }
 }
 
-fn work(pass: &mut Pass<1>, rounds: u64) -> Told {
+// Works until some thread was held, and a while in any case.
+fn work(pass: &mut Pass<1>, is_held: &AtomicBool) -> Told {
     let mut told = Told::default();
     let mut replies = [Reply::Busy; 3];
-    for n in 0..rounds {
+    for n in 0..1_000_000 {
+        if n >= 1000 && is_held.load(Ordering::Relaxed) {
+            break;
+        }
         let key = n * 7 % 11;
         told.looked(pass.get(key));
         told.looked(pass.get_or_desk(key + 1));
@@ -172,6 +176,7 @@ fn work(pass: &mut Pass<1>, rounds: u64) -> Told {
         told.tried(pass.try_len());
         told.tried(pass.try_entries());
         told.tried(pass.try_stamped_entries());
+        is_held.fetch_or(told.0[3] != 0, Ordering::Relaxed);
     }
     told
 }
@@ -179,9 +184,9 @@ fn work(pass: &mut Pass<1>, rounds: u64) -> Told {
 // Threads work by passes, and one reads the counts meanwhile. In the end they are what the threads were told.
 fn threads_work(passes: Vec<Pass<'static, 1>>) {
     let meter = passes[0].meter();
-    let (mut all, mut misses) = ([0; 6], 0);
+    let (mut all, mut misses, is_held) = ([0; 6], 0, &AtomicBool::new(false));
     thread::scope(|threads| {
-        let running: Vec<_> = passes.into_iter().map(|mut pass| threads.spawn(move || work(&mut pass, 2000))).collect();
+        let running: Vec<_> = passes.into_iter().map(|mut pass| threads.spawn(move || work(&mut pass, is_held))).collect();
         while running.iter().any(|thread| !thread.is_finished()) {
             let now = meter.counts().misses;
             assert!(misses <= now);
