@@ -16,8 +16,6 @@ fn main() {
         println!("cargo::rerun-if-env-changed={name}");
     }
     let here = PathBuf::from(env::var_os("CARGO_MANIFEST_DIR").expect("cargo sets CARGO_MANIFEST_DIR")).join("native");
-    // A path that is not there makes cargo build anew each time, so only what is there is watched.
-    watch(&here.join(ARCHIVE));
     let folder = if let Some(named) = env::var_os("CEFRODIL_LIB").map(PathBuf::from) {
         if !named.is_absolute() {
             fail(&format!("CEFRODIL_LIB must be an absolute path, and not {}", named.display()));
@@ -40,7 +38,8 @@ fn main() {
     println!("cargo::rustc-link-lib=static=cefrodil");
 }
 
-/// Cargo runs this script again if the file changes.
+/// Cargo runs this script again if the file changes. A path that is not there would make it do so each time, so only what is there is
+/// watched.
 fn watch(file: &Path) {
     if file.is_file() {
         println!("cargo::rerun-if-changed={}", file.display());

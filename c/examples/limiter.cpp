@@ -55,7 +55,7 @@ class Limiter {
 };
 
 // How many requests all threads let through in this window. Each client sends `requests` requests to each thread.
-uint64_t serve_all(std::vector<Limiter> &limiters, uint64_t window) {
+static uint64_t serve_all(std::vector<Limiter> &limiters, uint64_t window) {
     std::atomic<uint64_t> allowed{0};
     std::vector<std::thread> running;
     for (Limiter &limiter : limiters) {

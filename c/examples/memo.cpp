@@ -38,7 +38,7 @@ struct Steps {
 };
 
 // The sum of all steps, without a memory.
-uint64_t plain_sum() {
+static uint64_t plain_sum() {
     uint64_t sum = 0;
     for (uint64_t first = 1; first <= numbers; first++) {
         for (uint64_t number = first; number != 1; number = next(number)) {
@@ -56,7 +56,7 @@ int main() {
     }
     std::array<uint64_t, threads> sums{}, computed{};
     std::vector<std::thread> running;
-    for (int i = 0; i < threads; i++) {
+    for (size_t i = 0; i < threads; i++) {
         running.emplace_back([i, &sums, &computed, steps = Memo<Steps>(std::move(passes[i]), Steps())]() mutable {
             for (uint64_t number = 1; number <= numbers; number++) {
                 sums[i] += steps(number);
@@ -66,7 +66,7 @@ int main() {
     }
     const uint64_t expected = plain_sum();
     uint64_t all = 0, wrong = 0;
-    for (int i = 0; i < threads; i++) {
+    for (size_t i = 0; i < threads; i++) {
         running[i].join();
         wrong += sums[i] != expected;
         all += computed[i];

@@ -65,7 +65,8 @@ static uint32_t look_up(cefrodil_handle *reader, const char *name, unsigned long
         ++*hits;
         return (uint32_t)answer.value[1];
     }
-    answer.value[0] = check; /* the key is absent, or another name has it, or the lookup was busy */
+    /* The key is absent, or another name has it, or the lookup was busy. If addresses change, let the thread that writes resolve the name. */
+    answer.value[0] = check;
     answer.value[1] = resolve(name);
     offer(&answer);
     return (uint32_t)answer.value[1];

@@ -21,7 +21,7 @@ constexpr uint64_t hash(std::string_view name, uint64_t basis) {
 }
 
 // The slow way: asks a name server.
-uint32_t resolve(const std::string &name) { return 0x0A000000u + static_cast<uint32_t>(std::stoul(name.substr(4))); }
+static uint32_t resolve(const std::string &name) { return 0x0A000000u + static_cast<uint32_t>(std::stoul(name.substr(4))); }
 
 // Answers on their way to the writer.
 class Queue {
@@ -62,7 +62,7 @@ struct Server {
             hits++;
             return static_cast<uint32_t>((*found)[1]);
         }
-        // The key is absent, or another name has it, or the lookup was busy.
+        // The key is absent, or another name has it, or the lookup was busy. If addresses change, take a ticket first, as store.cpp does.
         const uint32_t address = resolve(name);
         queue.offer(key, {check, address});
         return address;
@@ -104,7 +104,7 @@ int main() {
         }
     }
     long hits = 0, wrong = 0;
-    for (int i = 0; i < threads; i++) {
+    for (size_t i = 0; i < threads; i++) {
         running[i].join();
         hits += servers[i].hits;
         wrong += servers[i].wrong;

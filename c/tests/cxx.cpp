@@ -40,6 +40,14 @@ static_assert(noexcept(std::declval<Pass<1> &>().try_put_if(1, 1, {1})) && noexc
 static_assert(noexcept(std::declval<Pass<1> &>().try_remove(1)) && noexcept(std::declval<Pass<1> &>().try_swap(1, {1})));
 static_assert(noexcept(std::declval<Pass<1> &>().try_swap_if(1, 1, {1})) && noexcept(std::declval<Pass<1> &>().try_take(1)));
 static_assert(noexcept(std::declval<Pass<1> &>().get_or_desk(1)) && noexcept(cefrodil::shape_for_items(1)) && noexcept(cefrodil::shape_for_shards(1, 1)));
+static_assert(std::is_nothrow_default_constructible_v<Writer<1>> && std::is_nothrow_default_constructible_v<Reader<1>>);
+static_assert(std::is_nothrow_default_constructible_v<Pass<1>> && noexcept(std::declval<const Writer<1> &>().is_open()));
+static_assert(noexcept(std::declval<Writer<1> &>().put(1, {1})) && noexcept(std::declval<Writer<1> &>().moment(std::declval<uint64_t &>())));
+static_assert(noexcept(std::declval<Writer<1> &>().capacity(std::declval<uint64_t &>())) && noexcept(cefrodil::text(Status::ok)));
+static_assert(noexcept(std::declval<Pass<1> &>().try_len(std::declval<uint64_t &>())));
+static_assert(noexcept(std::declval<Pass<1> &>().leave(std::declval<Reader<1> &>(), std::declval<Writer<1> &>())));
+static_assert(noexcept(std::declval<const Pass<1> &>().meter()) && noexcept(std::declval<const cefrodil::Meter &>().counts()));
+static_assert(noexcept(std::declval<Writer<1> &>().raw()) && noexcept(cefrodil::to_words(1)) && noexcept(cefrodil::from_words<int>({1})));
 static_assert(!noexcept(std::declval<Writer<1> &>().entries(std::declval<std::vector<uint64_t> &>())));
 static_assert(!noexcept(std::declval<Pass<1> &>().try_entries(std::declval<std::vector<uint64_t> &>())));
 

@@ -43,7 +43,8 @@ impl Resolver {
         let (key, check) = (first.hash_one(name), second.hash_one(name));
         match reader.get(key).value() {
             Some([kept, address]) if kept == check => (Ipv4Addr::from_bits(address as u32), true),
-            // The key is absent, or another name has it, or the lookup was busy.
+            // The key is absent, or another name has it, or the lookup was busy. If addresses change, take a ticket first, as `store.rs`
+            // does.
             _ => {
                 let address = resolve(name);
                 let value = [check, u64::from(address.to_bits())];

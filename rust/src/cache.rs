@@ -1,4 +1,5 @@
 //! A cache with a writer and readers.
+use crate::counts::Meter;
 use crate::error::{ListError, OpenError, PutError, PutIfAbsentError, PutIfError, Spent, Why};
 use crate::handle::Handle;
 use crate::raw;
@@ -303,7 +304,8 @@ impl<const WORDS: usize> Writer<WORDS> {
     /// # Ok::<(), Box<dyn std::error::Error>>(())
     /// ```
     pub fn entries(&mut self) -> Result<Vec<(u64, [u64; WORDS])>, ListError> {
-        reply::without_turn(reply::entries(&mut self.0))
+        let most = self.len();
+        reply::without_turn(reply::entries(&mut self.0, most))
     }
 
     /// Lists each entry with the moment of its key's last put. A lookup of the key would return the same `since`, so pass it to
@@ -333,7 +335,14 @@ impl<const WORDS: usize> Writer<WORDS> {
     /// # Ok::<(), Box<dyn std::error::Error>>(())
     /// ```
     pub fn stamped_entries(&mut self) -> Result<Vec<Entry<WORDS>>, ListError> {
-        reply::without_turn(reply::stamped_entries(&mut self.0))
+        let most = self.len();
+        reply::without_turn(reply::stamped_entries(&mut self.0, most))
+    }
+
+    /// Reads what the calls by all handles of this cache came to.
+    #[must_use]
+    pub fn meter(&self) -> Meter {
+        self.0.meter()
     }
 }
 
@@ -366,6 +375,12 @@ impl<const WORDS: usize> Reader<WORDS> {
     /// ```
     pub fn get_many(&mut self, keys: &[u64], replies: &mut [Reply<WORDS>]) {
         reply::many(&mut self.0, keys, replies);
+    }
+
+    /// Reads what the calls by all handles of this cache came to.
+    #[must_use]
+    pub fn meter(&self) -> Meter {
+        self.0.meter()
     }
 
     /// The number of keys that the cache holds at most: the `items` of its shape.

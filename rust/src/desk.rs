@@ -1,5 +1,6 @@
 //! A cache for threads that write by turns.
 use crate::cache::{Reader, Writer};
+use crate::counts::Meter;
 use crate::error::{EndError, ListError, OpenError, PutError, PutIfAbsentError, PutIfError, Spent, TurnError};
 use crate::handle::Handle;
 use crate::raw;
@@ -31,6 +32,7 @@ use std::sync::{Mutex, PoisonError};
 /// ```
 pub struct Desk<const WORDS: usize> {
     passes: Mutex<Vec<Handle>>,
+    meter: Meter,
 }
 
 /// A thread's access to a [`Desk`] or to [`Shards`](crate::Shards): it looks up like a reader, and tries for the turn to write. It may
@@ -58,8 +60,18 @@ impl<const WORDS: usize> Desk<WORDS> {
     where
         [u64; WORDS]: Value,
     {
-        let handles = Handle::open_desk(&shape.raw(), WORDS, passes)?;
-        Ok(Desk { passes: Mutex::new(handles) })
+        Ok(Desk::of(Handle::open_desk(&shape.raw(), WORDS, passes)?))
+    }
+
+    // A desk has at least one pass.
+    fn of(passes: Vec<Handle>) -> Desk<WORDS> {
+        Desk { meter: passes[0].meter(), passes: Mutex::new(passes) }
+    }
+
+    /// Reads what the calls by all handles of this cache came to.
+    #[must_use]
+    pub fn meter(&self) -> Meter {
+        self.meter.clone()
     }
 
     /// Takes a pass, or returns `None` if all are taken. This locks a mutex, so take a pass once per thread, not per call.
@@ -116,11 +128,12 @@ impl<const WORDS: usize> Desk<WORDS> {
     ///
     /// [`NotEnded`], with the desk and a reader for each pass that has left it. After [`EndError::NoMemory`], end that desk later.
     pub fn end(self) -> Result<(Writer<WORDS>, Vec<Reader<WORDS>>), NotEnded<WORDS>> {
-        let mut passes = self.passes.into_inner().unwrap_or_else(PoisonError::into_inner);
+        let Desk { passes, meter } = self;
+        let mut passes = passes.into_inner().unwrap_or_else(PoisonError::into_inner);
         let mut readers = Vec::new();
         let mut why = EndError::NoWriter;
         if readers.try_reserve_exact(passes.len()).is_err() {
-            return Err(NotEnded { desk: Desk { passes: Mutex::new(passes) }, readers, why: EndError::NoMemory });
+            return Err(NotEnded { desk: Desk { passes: Mutex::new(passes), meter }, readers, why: EndError::NoMemory });
         }
         while let Some(mut pass) = passes.pop() {
             let (status, writer) = pass.leave_desk();
@@ -131,11 +144,11 @@ impl<const WORDS: usize> Desk<WORDS> {
                 why = EndError::NoMemory;
                 break;
             }
-            if status == raw::OK {
+            if let Some(writer) = writer {
                 return Ok((Writer(writer), readers));
             }
         }
-        Err(NotEnded { desk: Desk { passes: Mutex::new(passes) }, readers, why })
+        Err(NotEnded { desk: Desk { passes: Mutex::new(passes), meter }, readers, why })
     }
 }
 
@@ -159,7 +172,7 @@ impl<const WORDS: usize> Writer<WORDS> {
     /// [`NoDesk`], with the writer.
     pub fn into_desk(mut self, passes: usize) -> Result<Desk<WORDS>, NoDesk<WORDS>> {
         match self.0.make_desk(passes) {
-            Ok(handles) => Ok(Desk { passes: Mutex::new(handles) }),
+            Ok(handles) => Ok(Desk::of(handles)),
             Err(why) => Err(NoDesk { writer: self, why }),
         }
     }
@@ -234,7 +247,17 @@ impl<const WORDS: usize> Pass<'static, WORDS> {
 
 impl<const WORDS: usize> Pass<'_, WORDS> {
     fn handle(&mut self) -> &mut Handle {
-        self.handle.as_mut().expect("a pass has its handle until it is dropped")
+        self.handle.as_mut().expect(UNTIL_DROPPED)
+    }
+
+    fn seen(&self) -> &Handle {
+        self.handle.as_ref().expect(UNTIL_DROPPED)
+    }
+
+    /// Reads what the calls by all handles of this cache came to.
+    #[must_use]
+    pub fn meter(&self) -> Meter {
+        self.seen().meter()
     }
 
     /// Looks the key up. A hit marks the key as recently used.
@@ -372,13 +395,15 @@ impl<const WORDS: usize> Pass<'_, WORDS> {
     }
 
     /// Lists each key with its value, in a turn, as [`Writer::entries`](crate::Writer::entries) does. A pass of shards takes a turn
-    /// at each shard, so it lists each at a moment of its own.
+    /// at each shard, so it lists each at a moment of its own. The call takes room for [`capacity`](Pass::capacity) entries, so that one
+    /// turn is enough.
     ///
     /// # Errors
     ///
     /// [`TurnError::Held`]: a try for a turn did not win. `Call` with [`ListError::NoMemory`]. Nothing was listed.
     pub fn try_entries(&mut self) -> Result<Vec<(u64, [u64; WORDS])>, TurnError<ListError>> {
-        reply::entries(self.handle())
+        let most = self.capacity();
+        reply::entries(self.handle(), most)
     }
 
     /// Lists each entry with the moment of its key's last put, in a turn, as [`Writer::stamped_entries`](crate::Writer::stamped_entries)
@@ -389,6 +414,9 @@ impl<const WORDS: usize> Pass<'_, WORDS> {
     /// [`TurnError::Held`]: the try for the turn did not win. `Call` with [`ListError::NoMemory`], or with [`ListError::OfShards`]: this
     /// is a pass of shards, and each shard counts its own moments. Nothing was listed.
     pub fn try_stamped_entries(&mut self) -> Result<Vec<Entry<WORDS>>, TurnError<ListError>> {
-        reply::stamped_entries(self.handle())
+        let most = self.capacity();
+        reply::stamped_entries(self.handle(), most)
     }
 }
+
+const UNTIL_DROPPED: &str = "a pass has its handle until it is dropped";

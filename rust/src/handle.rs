@@ -3,24 +3,31 @@
 //! This module keeps what the header asks of a caller. A handle begins zeroed, and only the archive writes it. It is private and
 //! not `Clone`, and a call borrows it as `&mut`, so one call at a time uses it. The pointers of a call come from borrows, which
 //! last for the call and don't overlap.
+//!
+//! A call by an open handle is counted.
+use crate::counts::{Counter, Meter};
 use crate::error::OpenError;
 use crate::raw::{self, RawAnswer, RawHandle, RawReply, RawShape};
+use std::ptr;
 
 /// The most readers or passes of a cache.
 const MOST: usize = 1024;
 
-/// A handle, open or empty. Dropping it closes it.
-#[repr(transparent)]
-pub struct Handle(RawHandle);
+/// A handle, open or empty, and its counter. Dropping it closes it.
+pub struct Handle {
+    raw: RawHandle,
+    counter: Counter,
+}
 
 // SAFETY: it is proved that an archive's handle may move to another thread: what it owns may move, and what it shares may be
 // shared.
 unsafe impl Send for Handle {}
 
-// SAFETY: through a `&Handle` nothing is read and no call is made, so it may be shared. Its one field is private to this module. Here
-// `empty`, `many` and the openings take no handle, and each other function takes `&mut self`, `drop` too. It is not `Clone`, nor does it
-// implement any trait with a method that takes `&self`. The types around it add none that reaches it: `Debug` of `Writer`, `Reader`,
-// `Pass` and `Desk` writes a name alone, and `Desk::pass` and `Pool::take` hand on whole handles under a lock.
+// SAFETY: through a `&Handle` the archive's handle is not read and no call is made, so it may be shared. Its fields are private to this
+// module. Here `meter` alone takes `&self`, and it clones an `Arc` of the counter. The openings take no handle, and each other function
+// takes `&mut self`, `drop` too. It is not `Clone`, nor does it implement any trait with a method that takes `&self`. The types around it
+// add none that reaches it but for `meter`: `Debug` of `Writer`, `Reader`, `Pass` and `Desk` writes a name alone, and `Desk::pass` and
+// `Pool::take` hand on whole handles under a lock.
 unsafe impl Sync for Handle {}
 
 /// The version of the archive: 10,000 times the major version, 100 times the minor one, and the patch.
@@ -53,41 +60,50 @@ pub fn same_version() -> Result<(), OpenError> {
     }
 }
 
-// What a call opened, or why it opened nothing.
-fn opened<T>(status: u32, handles: T) -> Result<T, OpenError> {
-    if status == raw::OK {
-        Ok(handles)
-    } else {
-        Err(OpenError::of(status))
+const EMPTY: RawHandle = RawHandle { at: ptr::null_mut(), live: false };
+
+/// That many empty handles; none if the archive allows no such number. It refuses none for the same reason.
+fn empty(count: usize) -> Vec<RawHandle> {
+    let count = if count <= MOST { count } else { 0 };
+    (0..count).map(|_| EMPTY).collect()
+}
+
+// The handles that a call opened, with their counters, or why it opened none.
+fn opened(status: u32, handles: Vec<RawHandle>, counters: Vec<Counter>) -> Result<Vec<Handle>, OpenError> {
+    if status != raw::OK {
+        return Err(OpenError::of(status));
     }
+    Ok(handles.into_iter().zip(counters).map(|(raw, counter)| Handle { raw, counter }).collect())
+}
+
+// The same with the writer.
+fn opened_with_writer(
+    status: u32,
+    writer: RawHandle,
+    readers: Vec<RawHandle>,
+    mut counters: Vec<Counter>,
+) -> Result<(Handle, Vec<Handle>), OpenError> {
+    let counter = counters.pop().expect("there is one for the writer");
+    let readers = opened(status, readers, counters)?;
+    Ok((Handle { raw: writer, counter }, readers))
 }
 
 impl Drop for Handle {
     fn drop(&mut self) {
         // SAFETY: by `&mut`, no other call uses this handle. If it is not open, the call returns a status.
-        unsafe { raw::cefrodil_close(&mut self.0) };
+        unsafe { raw::cefrodil_close(&mut self.raw) };
     }
 }
 
 impl Handle {
-    fn empty() -> Handle {
-        Handle(RawHandle { at: std::ptr::null_mut(), live: false })
-    }
-
-    /// That many empty handles; none if the archive allows no such number. It refuses none for the same reason.
-    fn many(count: usize) -> Vec<Handle> {
-        let count = if count <= MOST { count } else { 0 };
-        (0..count).map(|_| Handle::empty()).collect()
-    }
-
     /// Opens a cache: its writer and readers, or why not.
     pub fn open(shape: &RawShape, words: usize, readers: usize) -> Result<(Handle, Vec<Handle>), OpenError> {
         same_version()?;
-        let mut writer = Handle::empty();
-        let mut all = Handle::many(readers);
-        // SAFETY: `Handle` has the layout of its one field, so `all` is an array of `readers` empty handles.
-        let status = unsafe { raw::cefrodil_open(shape, words, &mut writer.0, all.as_mut_ptr().cast(), all.len()) };
-        opened(status, (writer, all))
+        let (mut writer, mut all) = (EMPTY, empty(readers));
+        let counters = Counter::many(all.len() + 1);
+        // SAFETY: `all` is an array of as many empty handles as are passed with it.
+        let status = unsafe { raw::cefrodil_open(shape, words, &mut writer, all.as_mut_ptr(), all.len()) };
+        opened_with_writer(status, writer, all, counters)
     }
 
     /// Opens a cache with entries, each its key and then its value. `statuses` gets the status of each entry.
@@ -99,8 +115,8 @@ impl Handle {
         readers: usize,
     ) -> Result<(Handle, Vec<Handle>), OpenError> {
         same_version()?;
-        let mut writer = Handle::empty();
-        let mut all = Handle::many(readers);
+        let (mut writer, mut all) = (EMPTY, empty(readers));
+        let counters = Counter::many(all.len() + 1);
         // SAFETY: as in `open`; the lengths of the two arrays are passed with them.
         let status = unsafe {
             raw::cefrodil_open_with(
@@ -110,43 +126,52 @@ impl Handle {
                 entries.len(),
                 statuses.as_mut_ptr(),
                 statuses.len(),
-                &mut writer.0,
-                all.as_mut_ptr().cast(),
+                &mut writer,
+                all.as_mut_ptr(),
                 all.len(),
             )
         };
-        opened(status, (writer, all))
+        opened_with_writer(status, writer, all, counters)
     }
 
     /// Opens a cache for threads that write by turns: its passes, or why not.
     pub fn open_desk(shape: &RawShape, words: usize, passes: usize) -> Result<Vec<Handle>, OpenError> {
         same_version()?;
-        let mut all = Handle::many(passes);
+        let mut all = empty(passes);
+        // One more is for the writer that comes back.
+        let counters = Counter::many(all.len() + 1);
         // SAFETY: as in `open`.
-        let status = unsafe { raw::cefrodil_open_desk(shape, words, all.as_mut_ptr().cast(), all.len()) };
-        opened(status, all)
+        let status = unsafe { raw::cefrodil_open_desk(shape, words, all.as_mut_ptr(), all.len()) };
+        opened(status, all, counters)
     }
 
     /// The writer goes on a desk: its passes, or why not. Then the handle is closed; if not, it is the writer's still.
     pub fn make_desk(&mut self, passes: usize) -> Result<Vec<Handle>, OpenError> {
-        let mut all = Handle::many(passes);
+        let mut all = empty(passes);
+        let counters = self.counter.more(all.len());
         // SAFETY: as in `open`.
-        let status = unsafe { raw::cefrodil_make_desk(&mut self.0, all.as_mut_ptr().cast(), all.len()) };
-        opened(status, all)
+        let status = unsafe { raw::cefrodil_make_desk(&mut self.raw, all.as_mut_ptr(), all.len()) };
+        opened(status, all, counters)
     }
 
     /// Opens shards: their passes, or why not.
     pub fn open_shards(shape: &RawShape, shards: u32, words: usize, passes: usize) -> Result<Vec<Handle>, OpenError> {
         same_version()?;
-        let mut all = Handle::many(passes);
+        let mut all = empty(passes);
+        let counters = Counter::many(all.len());
         // SAFETY: as in `open`.
-        let status = unsafe { raw::cefrodil_open_shards(shape, shards, words, all.as_mut_ptr().cast(), all.len()) };
-        opened(status, all)
+        let status = unsafe { raw::cefrodil_open_shards(shape, shards, words, all.as_mut_ptr(), all.len()) };
+        opened(status, all, counters)
+    }
+
+    /// Reads what the calls by all handles of this cache came to.
+    pub fn meter(&self) -> Meter {
+        self.counter.meter()
     }
 
     pub fn get<const WORDS: usize>(&mut self, key: u64, value: &mut [u64; WORDS]) -> (u32, RawReply) {
         let mut reply = RawReply::default();
-        let (handle, words, told) = (&mut self.0, value.as_mut_ptr(), &mut reply);
+        let (handle, words, told) = (&mut self.raw, value.as_mut_ptr(), &mut reply);
         // SAFETY: every pointer is a borrow that lasts for the call, and `value` has as many words as the export's name or the call says.
         let status = unsafe {
             match WORDS {
@@ -161,15 +186,16 @@ impl Handle {
                 _ => raw::cefrodil_get(handle, key, words, WORDS, told),
             }
         };
+        self.counter.looked(status);
         (status, reply)
     }
 
     pub fn get_many(&mut self, keys: &[u64], values: &mut [u64], answers: &mut [RawAnswer]) -> u32 {
         let (value_words, answer_count) = (values.len(), answers.len());
         // SAFETY: as in `get`; the lengths of the three arrays are passed with them.
-        unsafe {
+        let status = unsafe {
             raw::cefrodil_get_many(
-                &mut self.0,
+                &mut self.raw,
                 keys.as_ptr(),
                 keys.len(),
                 values.as_mut_ptr(),
@@ -177,124 +203,114 @@ impl Handle {
                 answers.as_mut_ptr(),
                 answer_count,
             )
+        };
+        if status == raw::OK {
+            self.counter.looked_up(answers);
         }
+        status
     }
 
     pub fn get_or_desk(&mut self, key: u64, value: &mut [u64]) -> (u32, RawReply) {
         let mut reply = RawReply::default();
         // SAFETY: as in `get`.
-        let status = unsafe { raw::cefrodil_get_or_desk(&mut self.0, key, value.as_mut_ptr(), value.len(), &mut reply) };
+        let status = unsafe { raw::cefrodil_get_or_desk(&mut self.raw, key, value.as_mut_ptr(), value.len(), &mut reply) };
+        self.counter.looked(status);
+        (status, reply)
+    }
+
+    // A write by this call of the archive, which is counted.
+    fn write(&mut self, call: impl FnOnce(*mut RawHandle, *mut RawReply) -> u32) -> (u32, RawReply) {
+        let mut reply = RawReply::default();
+        let status = call(&mut self.raw, &mut reply);
+        self.counter.wrote(status, &reply);
         (status, reply)
     }
 
     pub fn put<const WORDS: usize>(&mut self, key: u64, value: &[u64; WORDS]) -> (u32, RawReply) {
-        let mut reply = RawReply::default();
-        let (handle, words, told) = (&mut self.0, value.as_ptr(), &mut reply);
+        let words = value.as_ptr();
         // SAFETY: as in `get`.
-        let status = unsafe {
+        self.write(|handle, reply| unsafe {
             match WORDS {
-                1 => raw::cefrodil_put_1(handle, key, words, told),
-                2 => raw::cefrodil_put_2(handle, key, words, told),
-                3 => raw::cefrodil_put_3(handle, key, words, told),
-                4 => raw::cefrodil_put_4(handle, key, words, told),
-                5 => raw::cefrodil_put_5(handle, key, words, told),
-                6 => raw::cefrodil_put_6(handle, key, words, told),
-                7 => raw::cefrodil_put_7(handle, key, words, told),
-                8 => raw::cefrodil_put_8(handle, key, words, told),
-                _ => raw::cefrodil_put(handle, key, words, WORDS, told),
+                1 => raw::cefrodil_put_1(handle, key, words, reply),
+                2 => raw::cefrodil_put_2(handle, key, words, reply),
+                3 => raw::cefrodil_put_3(handle, key, words, reply),
+                4 => raw::cefrodil_put_4(handle, key, words, reply),
+                5 => raw::cefrodil_put_5(handle, key, words, reply),
+                6 => raw::cefrodil_put_6(handle, key, words, reply),
+                7 => raw::cefrodil_put_7(handle, key, words, reply),
+                8 => raw::cefrodil_put_8(handle, key, words, reply),
+                _ => raw::cefrodil_put(handle, key, words, WORDS, reply),
             }
-        };
-        (status, reply)
+        })
     }
 
     pub fn put_if(&mut self, key: u64, since: u64, value: &[u64]) -> (u32, RawReply) {
-        let mut reply = RawReply::default();
         // SAFETY: as in `get`.
-        let status = unsafe { raw::cefrodil_put_if(&mut self.0, key, since, value.as_ptr(), value.len(), &mut reply) };
-        (status, reply)
+        self.write(|handle, reply| unsafe { raw::cefrodil_put_if(handle, key, since, value.as_ptr(), value.len(), reply) })
     }
 
     pub fn put_if_absent(&mut self, key: u64, value: &[u64]) -> (u32, RawReply) {
-        let mut reply = RawReply::default();
         // SAFETY: as in `get`.
-        let status = unsafe { raw::cefrodil_put_if_absent(&mut self.0, key, value.as_ptr(), value.len(), &mut reply) };
-        (status, reply)
+        self.write(|handle, reply| unsafe { raw::cefrodil_put_if_absent(handle, key, value.as_ptr(), value.len(), reply) })
     }
 
     pub fn remove(&mut self, key: u64) -> (u32, RawReply) {
-        let mut reply = RawReply::default();
         // SAFETY: as in `get`.
-        let status = unsafe { raw::cefrodil_remove(&mut self.0, key, &mut reply) };
-        (status, reply)
+        self.write(|handle, reply| unsafe { raw::cefrodil_remove(handle, key, reply) })
     }
 
     pub fn try_put(&mut self, key: u64, value: &[u64]) -> (u32, RawReply) {
-        let mut reply = RawReply::default();
         // SAFETY: as in `get`.
-        let status = unsafe { raw::cefrodil_try_put(&mut self.0, key, value.as_ptr(), value.len(), &mut reply) };
-        (status, reply)
+        self.write(|handle, reply| unsafe { raw::cefrodil_try_put(handle, key, value.as_ptr(), value.len(), reply) })
     }
 
     pub fn put_within(&mut self, tries: u32, key: u64, value: &[u64]) -> (u32, RawReply) {
-        let mut reply = RawReply::default();
         // SAFETY: as in `get`.
-        let status = unsafe { raw::cefrodil_put_within(&mut self.0, tries, key, value.as_ptr(), value.len(), &mut reply) };
-        (status, reply)
+        self.write(|handle, reply| unsafe { raw::cefrodil_put_within(handle, tries, key, value.as_ptr(), value.len(), reply) })
     }
 
     pub fn try_put_if(&mut self, key: u64, since: u64, value: &[u64]) -> (u32, RawReply) {
-        let mut reply = RawReply::default();
         // SAFETY: as in `get`.
-        let status = unsafe { raw::cefrodil_try_put_if(&mut self.0, key, since, value.as_ptr(), value.len(), &mut reply) };
-        (status, reply)
+        self.write(|handle, reply| unsafe { raw::cefrodil_try_put_if(handle, key, since, value.as_ptr(), value.len(), reply) })
     }
 
     pub fn try_put_if_absent(&mut self, key: u64, value: &[u64]) -> (u32, RawReply) {
-        let mut reply = RawReply::default();
         // SAFETY: as in `get`.
-        let status = unsafe { raw::cefrodil_try_put_if_absent(&mut self.0, key, value.as_ptr(), value.len(), &mut reply) };
-        (status, reply)
+        self.write(|handle, reply| unsafe { raw::cefrodil_try_put_if_absent(handle, key, value.as_ptr(), value.len(), reply) })
     }
 
     pub fn try_remove(&mut self, key: u64) -> (u32, RawReply) {
-        let mut reply = RawReply::default();
         // SAFETY: as in `get`.
-        let status = unsafe { raw::cefrodil_try_remove(&mut self.0, key, &mut reply) };
-        (status, reply)
+        self.write(|handle, reply| unsafe { raw::cefrodil_try_remove(handle, key, reply) })
     }
 
     pub fn swap(&mut self, key: u64, value: &[u64], old: &mut [u64]) -> (u32, RawReply) {
-        let mut reply = RawReply::default();
         let (value_words, old_words) = (value.len(), old.len());
         // SAFETY: as in `get`; the lengths of the two arrays are passed with them.
-        let status =
-            unsafe { raw::cefrodil_swap(&mut self.0, key, value.as_ptr(), value_words, old.as_mut_ptr(), old_words, &mut reply) };
-        (status, reply)
+        self.write(|handle, reply| unsafe {
+            raw::cefrodil_swap(handle, key, value.as_ptr(), value_words, old.as_mut_ptr(), old_words, reply)
+        })
     }
 
     pub fn swap_if(&mut self, key: u64, since: u64, value: &[u64], old: &mut [u64]) -> (u32, RawReply) {
-        let mut reply = RawReply::default();
         let (value_words, old_words) = (value.len(), old.len());
         // SAFETY: as in `swap`.
-        let status = unsafe {
-            raw::cefrodil_swap_if(&mut self.0, key, since, value.as_ptr(), value_words, old.as_mut_ptr(), old_words, &mut reply)
-        };
-        (status, reply)
+        self.write(|handle, reply| unsafe {
+            raw::cefrodil_swap_if(handle, key, since, value.as_ptr(), value_words, old.as_mut_ptr(), old_words, reply)
+        })
     }
 
     pub fn take_out(&mut self, key: u64, old: &mut [u64]) -> (u32, RawReply) {
-        let mut reply = RawReply::default();
         // SAFETY: as in `get`.
-        let status = unsafe { raw::cefrodil_take_out(&mut self.0, key, old.as_mut_ptr(), old.len(), &mut reply) };
-        (status, reply)
+        self.write(|handle, reply| unsafe { raw::cefrodil_take_out(handle, key, old.as_mut_ptr(), old.len(), reply) })
     }
 
     /// A pass leaves its desk, and is a reader then. The handle beside the status is the writer's, if it was the last pass.
-    pub fn leave_desk(&mut self) -> (u32, Handle) {
-        let mut writer = Handle::empty();
+    pub fn leave_desk(&mut self) -> (u32, Option<Handle>) {
+        let mut writer = EMPTY;
         // SAFETY: as in `get`.
-        let status = unsafe { raw::cefrodil_leave_desk(&mut self.0, &mut writer.0) };
-        (status, writer)
+        let status = unsafe { raw::cefrodil_leave_desk(&mut self.raw, &mut writer) };
+        (status, (status == raw::OK).then(|| Handle { raw: writer, counter: self.counter.spare() }))
     }
 
     pub fn moment(&mut self) -> (u32, u64) {
@@ -317,21 +333,24 @@ impl Handle {
     fn number(&mut self, call: unsafe extern "C" fn(*mut RawHandle, *mut u64) -> u32) -> (u32, u64) {
         let mut number = 0;
         // SAFETY: as in `get`.
-        let status = unsafe { call(&mut self.0, &mut number) };
+        let status = unsafe { call(&mut self.raw, &mut number) };
+        self.counter.tried(status);
         (status, number)
     }
 
     pub fn entries(&mut self, entries: &mut [u64]) -> (u32, u64) {
         let mut count = 0;
         // SAFETY: as in `get`.
-        let status = unsafe { raw::cefrodil_entries(&mut self.0, entries.as_mut_ptr(), entries.len(), &mut count) };
+        let status = unsafe { raw::cefrodil_entries(&mut self.raw, entries.as_mut_ptr(), entries.len(), &mut count) };
+        self.counter.tried(status);
         (status, count)
     }
 
     pub fn stamped_entries(&mut self, entries: &mut [u64]) -> (u32, u64) {
         let mut count = 0;
         // SAFETY: as in `get`.
-        let status = unsafe { raw::cefrodil_stamped_entries(&mut self.0, entries.as_mut_ptr(), entries.len(), &mut count) };
+        let status = unsafe { raw::cefrodil_stamped_entries(&mut self.raw, entries.as_mut_ptr(), entries.len(), &mut count) };
+        self.counter.tried(status);
         (status, count)
     }
 }

@@ -2,15 +2,19 @@
 //!
 //! A [`Writer`] and each [`Reader`] belong to one thread at a time. Move them between threads like any value, or lend them by a
 //! [`Pool`]. If several threads write now and then, they take turns at a [`Desk`]. If several write often, they use [`Shards`].
+//! A [`Filler`] is for a cache beside a store that changes, a [`Meter`] for metrics, an [`AuditLog`] for a check of what was answered.
 //! `docs/USING.md` has sizing, patterns and what to do about each answer.
 #![deny(missing_docs, missing_debug_implementations, unsafe_op_in_unsafe_fn)]
 
 #[cfg(not(all(target_arch = "x86_64", target_os = "linux", target_pointer_width = "64")))]
 compile_error!("Cefrodil runs on 64-bit Linux on x86-64 alone");
 
+mod audit;
 mod cache;
+mod counts;
 mod desk;
 mod error;
+mod filler;
 mod handle;
 mod pool;
 mod raw;
@@ -19,9 +23,12 @@ mod shape;
 mod shards;
 mod width;
 
+pub use audit::AuditLog;
 pub use cache::{Cache, Opened, Reader, Writer};
+pub use counts::{prometheus, Counts, Meter};
 pub use desk::{Desk, NoDesk, NotEnded, Pass};
 pub use error::{EndError, ListError, OpenError, PutError, PutIfAbsentError, PutIfError, Spent, TurnError, Why};
+pub use filler::{FillError, Filler, Ticket, Tickets};
 pub use handle::version;
 pub use pool::{Lent, Pool};
 pub use reply::{Entry, Put, Removal, Replaced, Reply, Swapped, Take};

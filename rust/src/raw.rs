@@ -55,7 +55,6 @@ pub const BAD_DEPTH: u32 = 18;
 pub const BAD_TRIES: u32 = 19;
 pub const BAD_LIMIT: u32 = 20;
 pub const BAD_READERS: u32 = 21;
-pub const BAD_COUNT: u32 = 22;
 pub const NO_ITEM: u32 = 23;
 pub const BAD_SHARDS: u32 = 24;
 pub const PRESENT: u32 = 25;

@@ -154,6 +154,14 @@ pub(crate) fn many<const WORDS: usize>(handle: &mut Handle, keys: &[u64], replie
 }
 
 impl Put {
+    /// The moment of the put, which is the key's token for the next `put_if`.
+    #[must_use]
+    pub fn at(self) -> u64 {
+        match self {
+            Put::Stored { at, .. } | Put::Renewed { at } => at,
+        }
+    }
+
     fn done(reply: RawReply) -> Put {
         let RawReply { at, moves, evicted, .. } = reply;
         match reply.put {
@@ -243,14 +251,14 @@ pub(crate) fn number((status, number): (u32, u64)) -> u64 {
 /// What a list of a pass is, or why there is none.
 pub(crate) type Listed<T> = Result<Vec<T>, TurnError<ListError>>;
 
-/// The entries of a cache.
-pub(crate) fn entries<const WORDS: usize>(handle: &mut Handle) -> Listed<(u64, [u64; WORDS])> {
-    listed(1 + WORDS, |words| handle.entries(words), entry)
+/// The entries of a cache, of which there are at most so many.
+pub(crate) fn entries<const WORDS: usize>(handle: &mut Handle, most: usize) -> Listed<(u64, [u64; WORDS])> {
+    listed(1 + WORDS, most, |words| handle.entries(words), entry)
 }
 
 /// The same with stamps.
-pub(crate) fn stamped_entries<const WORDS: usize>(handle: &mut Handle) -> Listed<Entry<WORDS>> {
-    listed(2 + WORDS, |words| handle.stamped_entries(words), stamped)
+pub(crate) fn stamped_entries<const WORDS: usize>(handle: &mut Handle, most: usize) -> Listed<Entry<WORDS>> {
+    listed(2 + WORDS, most, |words| handle.stamped_entries(words), stamped)
 }
 
 /// A list by a writer, which has no turns.
@@ -261,26 +269,20 @@ pub(crate) fn without_turn<T>(list: Listed<T>) -> Result<Vec<T>, ListError> {
     })
 }
 
-// The list of entries of `each` words. The first call says how many there are.
-fn listed<T>(each: usize, mut list: impl FnMut(&mut [u64]) -> (u32, u64), entry: impl Fn(&[u64]) -> T) -> Listed<T> {
+// The list of entries of `each` words, by one call with room for them all.
+fn listed<T>(each: usize, most: usize, list: impl FnOnce(&mut [u64]) -> (u32, u64), entry: impl Fn(&[u64]) -> T) -> Listed<T> {
+    let most = most * each;
     let mut words = Vec::new();
-    loop {
-        let (status, count) = list(&mut words);
-        match status {
-            raw::OK => {
-                let mut entries = Vec::new();
-                reserve(&mut entries, count as usize)?;
-                entries.extend(words.chunks_exact(each).take(count as usize).map(entry));
-                return Ok(entries);
-            }
-            raw::BAD_COUNT => {
-                words.clear();
-                reserve(&mut words, count as usize * each)?;
-                words.resize(count as usize * each, 0);
-            }
-            other => return Err(no_list(other)),
-        }
+    reserve(&mut words, most)?;
+    words.resize(most, 0);
+    let (status, count) = list(&mut words);
+    if status != raw::OK {
+        return Err(no_list(status));
     }
+    let mut entries = Vec::new();
+    reserve(&mut entries, count as usize)?;
+    entries.extend(words.chunks_exact(each).take(count as usize).map(entry));
+    Ok(entries)
 }
 
 fn reserve<T>(list: &mut Vec<T>, count: usize) -> Result<(), TurnError<ListError>> {

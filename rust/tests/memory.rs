@@ -86,6 +86,16 @@ fn a_list_without_memory_is_an_error() -> Tested {
 }
 
 #[test]
+fn to_close_takes_no_memory() -> Tested {
+    let (writer, readers) = Cache::<1>::open(&Shape::for_items(100)?, 1)?;
+    let desk = writer.into_desk(64)?;
+    with_allocations(0, || drop((desk, readers)));
+    let passes = Shards::<1>::open(&Shape::for_shards(100, 4)?, 4, 5)?;
+    with_allocations(0, || drop(passes));
+    Ok(())
+}
+
+#[test]
 fn a_desk_that_does_not_end_loses_no_pass() -> Tested {
     let mut most_readers = 0;
     for allowed in 0..20 {

@@ -60,5 +60,7 @@ fn errors_that_say_more_have_texts_of_their_own() {
     assert_eq!(ListError::OfShards.to_string(), "a pass of shards has no such call");
     assert_eq!(OpenError::Readers.to_string(), "readers must be from 1 to 1024");
     assert_eq!(PutIfAbsentError::Present { since: 7 }.to_string(), "present since 7");
+    let version = OpenError::Version { archive: 12_345, crate_version: 120_007 };
+    assert_eq!(version.to_string(), "libcefrodil.a has version 1.23.45, and the crate 12.0.7");
     assert_eq!(EndError::NoWriter.to_string(), "no pass got the writer, since one was forgotten");
 }

@@ -1,0 +1,222 @@
+// What the calls by the handles of cefrodil.hpp came to, counted by handle and added up. If a program defines CEFRODIL_COUNTS as 0, in all its
+// files, nothing is counted.
+#ifndef CEFRODIL_COUNTS_HPP
+#define CEFRODIL_COUNTS_HPP
+
+#include "cefrodil.h"
+#include <array>
+#include <atomic>
+#include <cstddef>
+#include <cstdint>
+#include <deque>
+#include <memory>
+#include <mutex>
+#include <string>
+#include <utility>
+#include <vector>
+
+#ifndef CEFRODIL_COUNTS
+#define CEFRODIL_COUNTS 1
+#endif
+
+namespace cefrodil {
+
+// How many calls by the handles of one cache came to what, since it was opened.
+struct Counts {
+    uint64_t hits = 0;      // lookups that found their key
+    uint64_t misses = 0;    // lookups of a key that was absent
+    uint64_t busy = 0;      // lookups that were busy
+    uint64_t held = 0;      // writes and lists by a pass whose try for the turn did not win
+    uint64_t evictions = 0; // puts that evicted another key
+    uint64_t refusals = 0;  // writes that were refused: no_path, all_recent or spent
+};
+
+namespace inside {
+
+// The numbers of a line. The first three are statuses of a lookup.
+enum Counted : size_t { hits = CEFRODIL_OK, misses = CEFRODIL_ABSENT, busy = CEFRODIL_BUSY, held, evictions, refusals, all_counted };
+
+// What a handle has counted, in a cache line of its own. One thread at a time adds, and any thread reads.
+struct alignas(64) Line {
+    std::array<std::atomic<uint64_t>, all_counted> numbers{};
+    Line *next = nullptr; // the next line that no handle has
+
+    void add(size_t which, uint64_t more) noexcept {
+        numbers[which].store(numbers[which].load(std::memory_order_relaxed) + more, std::memory_order_relaxed);
+    }
+};
+static_assert(sizeof(Line) == 64, "a cache line");
+
+// The lines of a cache's handles. The line of a handle that is closed keeps its numbers, and the next handle that takes it goes on from them.
+class Lines {
+  public:
+    // Makes lines until no handle has so many of them.
+    void reserve(size_t count) {
+        const std::lock_guard<std::mutex> guard(lock_);
+        while (free_count_ < count) {
+            push(&lines_.emplace_back());
+        }
+    }
+    // A line that no handle has, or null.
+    Line *take() noexcept {
+        const std::lock_guard<std::mutex> guard(lock_);
+        if (free_ == nullptr) {
+            return nullptr;
+        }
+        free_count_--;
+        return std::exchange(free_, free_->next);
+    }
+    void give(Line *line) noexcept {
+        const std::lock_guard<std::mutex> guard(lock_);
+        push(line);
+    }
+    Counts sum() noexcept {
+        const std::lock_guard<std::mutex> guard(lock_);
+        std::array<uint64_t, all_counted> all{};
+        for (const Line &line : lines_) {
+            for (size_t which = 0; which < all_counted; which++) {
+                all[which] += line.numbers[which].load(std::memory_order_relaxed);
+            }
+        }
+        return {all[hits], all[misses], all[busy], all[held], all[evictions], all[refusals]};
+    }
+
+  private:
+    void push(Line *line) noexcept {
+        line->next = std::exchange(free_, line);
+        free_count_++;
+    }
+    std::mutex lock_{};
+    std::deque<Line> lines_{};
+    Line *free_ = nullptr;
+    size_t free_count_ = 0;
+};
+
+// A handle's line. A handle that was opened by a call of C has none.
+class Counter {
+  public:
+    Counter() noexcept = default;
+    explicit Counter(std::shared_ptr<Lines> lines) noexcept : lines_(std::move(lines)), line_(lines_ ? lines_->take() : nullptr) {}
+    Counter(Counter &&other) noexcept : lines_(std::move(other.lines_)), line_(std::exchange(other.line_, nullptr)) {}
+    Counter &operator=(Counter &&other) noexcept {
+        Counter taken(std::move(other));
+        std::swap(lines_, taken.lines_);
+        std::swap(line_, taken.line_);
+        return *this;
+    }
+    Counter(const Counter &) = delete;
+    Counter &operator=(const Counter &) = delete;
+    ~Counter() {
+        if (line_ != nullptr) {
+            lines_->give(line_);
+        }
+    }
+
+    const std::shared_ptr<Lines> &lines() const noexcept { return lines_; }
+
+    void looked(cefrodil_status status) noexcept {
+        if (line_ != nullptr && status <= CEFRODIL_BUSY) {
+            line_->add(status, 1);
+        }
+    }
+    void looked(const cefrodil_answer *answers, size_t count) noexcept {
+        if (line_ != nullptr) {
+            std::array<uint64_t, busy + 1> found{};
+            for (size_t i = 0; i < count; i++) {
+                found[answers[i].status]++;
+            }
+            for (size_t which = 0; which < found.size(); which++) {
+                line_->add(which, found[which]);
+            }
+        }
+    }
+    // A call by a pass, or by the writer.
+    void tried(cefrodil_status status) noexcept {
+        if (line_ != nullptr && status == CEFRODIL_HELD) {
+            line_->add(held, 1);
+        }
+    }
+    void wrote(cefrodil_status status, const cefrodil_reply &reply) noexcept {
+        tried(status);
+        if (line_ == nullptr) {
+            return;
+        }
+        if (reply.put == CEFRODIL_PUT_EVICTED) {
+            line_->add(evictions, 1);
+        }
+        if (status == CEFRODIL_NO_PATH || status == CEFRODIL_ALL_RECENT || status == CEFRODIL_SPENT) {
+            line_->add(refusals, 1);
+        }
+    }
+
+  private:
+    std::shared_ptr<Lines> lines_{};
+    Line *line_ = nullptr;
+};
+
+// The lines of a cache that is to be opened with so many handles beside its writer.
+inline std::shared_ptr<Lines> lines_for(size_t count) {
+    if constexpr (CEFRODIL_COUNTS != 0) {
+        const auto lines = std::make_shared<Lines>();
+        lines->reserve(count + 1);
+        return lines;
+    } else {
+        return nullptr;
+    }
+}
+
+} // namespace inside
+
+// Reads the counts of a cache, in any thread, at any time: also when its handles are closed. A copy reads the same.
+class Meter {
+  public:
+    explicit Meter(std::shared_ptr<inside::Lines> lines) noexcept : lines_(std::move(lines)) {}
+    // The counts of all handles. What other threads count meanwhile is in it or not.
+    Counts counts() const noexcept { return lines_ ? lines_->sum() : Counts{}; }
+
+  private:
+    std::shared_ptr<inside::Lines> lines_;
+};
+
+namespace inside {
+
+// The value of a label, as Prometheus reads it.
+inline std::string label(const std::string &value) {
+    std::string text;
+    for (const char letter : value) {
+        if (letter == '"' || letter == '\\') {
+            text += '\\';
+        }
+        text += letter == '\n' ? "\\n" : std::string(1, letter);
+    }
+    return text;
+}
+
+} // namespace inside
+
+// The counts of some caches, each by its name, in the text format of Prometheus.
+inline std::string prometheus(const std::vector<std::pair<std::string, Counts>> &caches) {
+    struct Row {
+        const char *name, *help;
+        uint64_t Counts::*number;
+    };
+    const Row rows[] = {{"hits", "Lookups that found their key.", &Counts::hits},
+                        {"misses", "Lookups of an absent key.", &Counts::misses},
+                        {"busy", "Lookups that were busy.", &Counts::busy},
+                        {"held", "Calls whose try for the turn did not win.", &Counts::held},
+                        {"evictions", "Puts that evicted another key.", &Counts::evictions},
+                        {"refusals", "Writes that were refused.", &Counts::refusals}};
+    std::string text;
+    for (const Row &row : rows) {
+        const std::string name = std::string("cefrodil_") + row.name + "_total";
+        text += "# HELP " + name + ' ' + row.help + "\n# TYPE " + name + " counter\n";
+        for (const auto &[cache, counts] : caches) {
+            text += name + "{cache=\"" + inside::label(cache) + "\"} " + std::to_string(counts.*row.number) + '\n';
+        }
+    }
+    return text;
+}
+
+} // namespace cefrodil
+
+#endif

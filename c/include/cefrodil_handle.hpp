@@ -1,0 +1,259 @@
+// Statuses, answers, and what the handles of cefrodil.hpp have in common.
+#ifndef CEFRODIL_HANDLE_HPP
+#define CEFRODIL_HANDLE_HPP
+
+#include "cefrodil.h"
+#include "cefrodil_counts.hpp"
+#include <array>
+#include <cstddef>
+#include <cstdint>
+#include <cstdio>
+#include <memory>
+#include <optional>
+#include <utility>
+#include <vector>
+
+namespace cefrodil {
+
+// The statuses of cefrodil.h, and one more. Whoever calls what returns one must look at it, but for `close`. `Status::ok` is 0, so a status is
+// compared, never taken for a bool.
+enum class Status : uint32_t {
+    ok = CEFRODIL_OK,
+    absent = CEFRODIL_ABSENT,
+    busy = CEFRODIL_BUSY,
+    no_path = CEFRODIL_NO_PATH,
+    all_recent = CEFRODIL_ALL_RECENT,
+    spent = CEFRODIL_SPENT,
+    changed = CEFRODIL_CHANGED,
+    held = CEFRODIL_HELD,
+    closed = CEFRODIL_CLOSED,
+    kind = CEFRODIL_KIND,
+    in_use = CEFRODIL_IN_USE,
+    no_memory = CEFRODIL_NO_MEMORY,
+    bad_mix = CEFRODIL_BAD_MIX,
+    bad_buckets = CEFRODIL_BAD_BUCKETS,
+    bad_items = CEFRODIL_BAD_ITEMS,
+    bad_stripes = CEFRODIL_BAD_STRIPES,
+    bad_depth = CEFRODIL_BAD_DEPTH,
+    bad_tries = CEFRODIL_BAD_TRIES,
+    bad_limit = CEFRODIL_BAD_LIMIT,
+    bad_readers = CEFRODIL_BAD_READERS,
+    bad_count = CEFRODIL_BAD_COUNT,
+    no_item = CEFRODIL_NO_ITEM,
+    bad_shards = CEFRODIL_BAD_SHARDS,
+    present = CEFRODIL_PRESENT,
+    not_last = CEFRODIL_NOT_LAST,
+    // The program is linked with an archive of another version, whose structs and calls may differ. Nothing was done.
+    other_version = 1000,
+    // By Filler::fill alone (cefrodil_filler.hpp): the store may have changed since the value was read. Nothing was put.
+    stale = 1001
+};
+
+namespace inside {
+
+// Before version 1.0 another minor version may differ in its calls, so the patch alone may be another.
+inline bool same_version() noexcept { return cefrodil_version() / 100 == CEFRODIL_VERSION / 100; }
+
+// Both versions. They stay in one place, as other texts do.
+inline const char *versions() noexcept {
+    static const std::array<char, 100> both = [] {
+        std::array<char, 100> text{};
+        const unsigned library = cefrodil_version();
+        std::snprintf(text.data(), text.size(), "the library has version %u.%u.%u, and the header %u.%u.%u", library / 10000, library / 100 % 100,
+                      library % 100, unsigned(CEFRODIL_VERSION_MAJOR), unsigned(CEFRODIL_VERSION_MINOR), unsigned(CEFRODIL_VERSION_PATCH));
+        return text;
+    }();
+    return both.data();
+}
+
+} // namespace inside
+
+inline const char *text(Status status) noexcept {
+    if (status == Status::other_version) {
+        return inside::versions();
+    }
+    return status == Status::stale ? "the store may have changed since the value was read" : cefrodil_text(static_cast<uint32_t>(status));
+}
+
+// The answer of a lookup. `value` is there if the key was found.
+template <size_t Words> struct Answer {
+    Status status;
+    std::optional<std::array<uint64_t, Words>> value;
+    uint64_t at;
+    uint64_t since;
+};
+
+// The answer of a write. `evicted` is there if another key was evicted. After a put, `at` is the key's token for the next `put_if`. `since` is
+// set by the statuses `changed` and `present`.
+struct Written {
+    Status status;
+    std::optional<uint64_t> evicted;
+    uint64_t at;
+    uint64_t since;
+    bool renewed;
+};
+
+// The answer of a write that also returns the entry which gives way. `old` is there if one did: its value. `old_since` is the `at` of its last
+// put, and its key is `evicted` if that is there, or else the key that was written.
+template <size_t Words> struct Swapped {
+    Status status;
+    std::optional<uint64_t> evicted;
+    std::optional<std::array<uint64_t, Words>> old;
+    uint64_t at;
+    uint64_t old_since;
+    uint64_t since; // set by the status `changed`
+};
+
+namespace inside {
+
+inline Written written(cefrodil_status status, const cefrodil_reply &reply) noexcept {
+    std::optional<uint64_t> evicted;
+    if (reply.put == CEFRODIL_PUT_EVICTED) {
+        evicted = reply.evicted;
+    }
+    return {static_cast<Status>(status), evicted, reply.at, reply.since, reply.put == CEFRODIL_PUT_RENEWED};
+}
+
+// `gone`: an entry gives way if the call is done.
+template <size_t Words> Swapped<Words> swapped(const Written &write, const std::array<uint64_t, Words> &old, bool gone) noexcept {
+    const bool done = write.status == Status::ok && gone;
+    Swapped<Words> told{write.status, write.evicted, std::nullopt, write.at, done ? write.since : 0, done ? 0 : write.since};
+    if (done) {
+        told.old = old;
+    }
+    return told;
+}
+
+struct Counting;
+
+} // namespace inside
+
+// What a Writer, a Reader and a Pass have in common: a handle that moves, and closes itself.
+class Handle {
+  public:
+    bool is_open() const noexcept { return raw_.live_; }
+    // Closes the handle now. Closing the last handle frees the cache. Until then, the others go on.
+    Status close() noexcept {
+        counter_ = inside::Counter();
+        return static_cast<Status>(cefrodil_close(&raw_));
+    }
+    // The handle for calls of cefrodil.h. These calls are not counted.
+    cefrodil_handle *raw() noexcept { return &raw_; }
+    // Reads what the calls by all handles of this cache came to. Take it before the handle is closed.
+    Meter meter() const noexcept { return Meter(counter_.lines()); }
+
+  protected:
+    friend struct inside::Counting;
+    Handle() noexcept {}
+    Handle(Handle &&other) noexcept : raw_(std::exchange(other.raw_, cefrodil_handle{})), counter_(std::move(other.counter_)) {}
+    Handle &operator=(Handle &&other) noexcept {
+        if (this != &other) {
+            cefrodil_close(&raw_);
+            raw_ = std::exchange(other.raw_, cefrodil_handle{});
+            counter_ = std::move(other.counter_);
+        }
+        return *this;
+    }
+    Handle(const Handle &) = delete;
+    Handle &operator=(const Handle &) = delete;
+    ~Handle() { cefrodil_close(&raw_); }
+
+    // Moves this handle to an empty one, of another kind.
+    void move_to(Handle &other) noexcept { other = std::move(*this); }
+
+    // A call's answer, which is counted.
+    template <size_t Words>
+    Answer<Words> looked(cefrodil_status status, const cefrodil_reply &reply, const std::array<uint64_t, Words> &value) noexcept {
+        counter_.looked(status);
+        Answer<Words> told{static_cast<Status>(status), std::nullopt, reply.at, reply.since};
+        if (status == CEFRODIL_OK) {
+            told.value = value;
+        }
+        return told;
+    }
+    Status looked_up(cefrodil_status status, const cefrodil_answer *answers, size_t count) noexcept {
+        counter_.looked(answers, status == CEFRODIL_OK ? count : 0);
+        return static_cast<Status>(status);
+    }
+    Written wrote(cefrodil_status status, const cefrodil_reply &reply) noexcept {
+        counter_.wrote(status, reply);
+        return inside::written(status, reply);
+    }
+    Status tried(cefrodil_status status) noexcept {
+        counter_.tried(status);
+        return static_cast<Status>(status);
+    }
+
+    // The calls by the writer or a pass that return the entry which gives way.
+    template <size_t Words> Swapped<Words> swap_words(uint64_t key, const std::array<uint64_t, Words> &value) noexcept {
+        cefrodil_reply reply;
+        std::array<uint64_t, Words> old{};
+        const cefrodil_status status = cefrodil_swap(&raw_, key, value.data(), Words, old.data(), Words, &reply);
+        return inside::swapped<Words>(wrote(status, reply), old, reply.put != CEFRODIL_PUT_STORED);
+    }
+    template <size_t Words> Swapped<Words> swap_words_if(uint64_t key, uint64_t since, const std::array<uint64_t, Words> &value) noexcept {
+        cefrodil_reply reply;
+        std::array<uint64_t, Words> old{};
+        const cefrodil_status status = cefrodil_swap_if(&raw_, key, since, value.data(), Words, old.data(), Words, &reply);
+        return inside::swapped<Words>(wrote(status, reply), old, true);
+    }
+    template <size_t Words> Swapped<Words> take_words(uint64_t key) noexcept {
+        cefrodil_reply reply;
+        std::array<uint64_t, Words> old{};
+        const cefrodil_status status = cefrodil_take_out(&raw_, key, old.data(), Words, &reply);
+        return inside::swapped<Words>(wrote(status, reply), old, true);
+    }
+
+    // Lists entries of `each` words by one call of C. `most`: gives how many there are at most, so that they all have room.
+    template <class Most, class List> [[nodiscard]] Status list(size_t each, std::vector<uint64_t> &words, Most most, List call) {
+        uint64_t count = 0;
+        Status status = static_cast<Status>(most(&raw_, &count));
+        if (status == Status::ok) {
+            words.resize(count * each);
+            status = tried(call(&raw_, words.data(), words.size(), &count));
+        }
+        words.resize(status == Status::ok ? count * each : 0);
+        return status;
+    }
+
+  private:
+    cefrodil_handle raw_ = CEFRODIL_EMPTY;
+    inside::Counter counter_{};
+};
+
+namespace inside {
+
+// In which lines a handle counts.
+struct Counting {
+    static const std::shared_ptr<Lines> &lines(const Handle &handle) noexcept { return handle.counter_.lines(); }
+    static void in(Handle &handle, const std::shared_ptr<Lines> &lines) noexcept { handle.counter_ = Counter(lines); }
+};
+
+// A number of readers or passes that the archive may allow; it refuses 0 for the same reason as a larger one.
+inline size_t allowed(size_t count) noexcept { return count <= 1024 ? count : 0; }
+
+// Opens `count` handles by a call of C, which takes an array of them. If it succeeds, they take the place of `handles`. All memory is taken
+// before the call: `lines` has a line for each. An archive of another version is not called.
+template <class Kind, class Open>
+[[nodiscard]] Status open_all(std::vector<Kind> &handles, size_t count, const std::shared_ptr<Lines> &lines, Open open) {
+    if (!same_version()) {
+        return Status::other_version;
+    }
+    std::vector<cefrodil_handle> raw(count != 0 ? count : 1);
+    std::vector<Kind> opened(count);
+    const auto status = static_cast<Status>(open(raw.data(), count));
+    if (status == Status::ok) {
+        for (size_t i = 0; i < count; i++) {
+            *opened[i].raw() = raw[i];
+            Counting::in(opened[i], lines);
+        }
+        handles = std::move(opened);
+    }
+    return status;
+}
+
+} // namespace inside
+
+} // namespace cefrodil
+
+#endif

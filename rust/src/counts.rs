@@ -1,0 +1,219 @@
+//! What the calls by the handles of a cache came to: counted by handle, and added up.
+use crate::raw::{self, RawAnswer, RawReply};
+use std::fmt::{self, Debug, Formatter, Write};
+use std::sync::atomic::{AtomicU64, Ordering};
+use std::sync::{Arc, Mutex, MutexGuard, PoisonError};
+
+/// Whether anything is counted.
+const COUNTED: bool = cfg!(feature = "counts");
+
+/// How many calls by the handles of one cache came to what, since it was opened.
+#[derive(Clone, Copy, Debug, Default, PartialEq, Eq, Hash)]
+#[non_exhaustive]
+pub struct Counts {
+    /// Lookups that found their key.
+    pub hits: u64,
+    /// Lookups of a key that was absent.
+    pub misses: u64,
+    /// Lookups that were busy.
+    pub busy: u64,
+    /// Writes and lists by a pass whose try for the turn did not win.
+    pub held: u64,
+    /// Puts that evicted another key.
+    pub evictions: u64,
+    /// Writes that were refused: `NoPath`, `AllRecent` or `Spent`.
+    pub refusals: u64,
+}
+
+/// Reads the counts of a cache, in any thread, at any time: also when its handles are dropped. A clone reads the same.
+///
+/// Without the crate's feature `counts`, which is on by default, nothing is counted and each count is 0.
+///
+/// ```
+/// use cefrodil::{prometheus, Cache, Shape};
+///
+/// let (mut writer, mut readers) = Cache::<1>::open(&Shape::for_items(100)?, 1)?;
+/// let meter = writer.meter();
+/// writer.put(7, &[70])?;
+/// for key in 5..8 {
+///     let _ = readers[0].get(key);
+/// }
+/// # if cfg!(feature = "counts") {
+/// assert_eq!((meter.counts().hits, meter.counts().misses), (1, 2));
+/// assert!(prometheus(&[("names", meter.counts())]).contains("\ncefrodil_hits_total{cache=\"names\"} 1\n"));
+/// # }
+/// # Ok::<(), Box<dyn std::error::Error>>(())
+/// ```
+#[derive(Clone)]
+pub struct Meter(Option<Arc<Lines>>);
+
+impl Debug for Meter {
+    fn fmt(&self, text: &mut Formatter) -> fmt::Result {
+        text.debug_struct("Meter").finish_non_exhaustive()
+    }
+}
+
+impl Meter {
+    /// The counts of all handles of the cache. What other threads count meanwhile is in it or not.
+    #[must_use]
+    pub fn counts(&self) -> Counts {
+        let mut sums = [0; NUMBERS];
+        if let Some(lines) = &self.0 {
+            for line in &lines.kept().all {
+                sums.iter_mut().zip(&line.0).for_each(|(sum, number)| *sum += number.load(Ordering::Relaxed));
+            }
+        }
+        let [hits, misses, busy, held, evictions, refusals] = sums;
+        Counts { hits, misses, busy, held, evictions, refusals }
+    }
+}
+
+/// The counts of some caches, each by its name, in the text format of Prometheus.
+#[must_use]
+pub fn prometheus(caches: &[(&str, Counts)]) -> String {
+    type Number = fn(&Counts) -> u64;
+    let rows: [(&str, &str, Number); NUMBERS] = [
+        ("hits", "Lookups that found their key.", |counts| counts.hits),
+        ("misses", "Lookups of an absent key.", |counts| counts.misses),
+        ("busy", "Lookups that were busy.", |counts| counts.busy),
+        ("held", "Calls whose try for the turn did not win.", |counts| counts.held),
+        ("evictions", "Puts that evicted another key.", |counts| counts.evictions),
+        ("refusals", "Writes that were refused.", |counts| counts.refusals),
+    ];
+    let mut text = String::new();
+    for (name, help, number) in rows {
+        let _ = write!(text, "# HELP cefrodil_{name}_total {help}\n# TYPE cefrodil_{name}_total counter\n");
+        for (cache, counts) in caches {
+            let label = cache.replace('\\', "\\\\").replace('"', "\\\"").replace('\n', "\\n");
+            let _ = writeln!(text, "cefrodil_{name}_total{{cache=\"{label}\"}} {}", number(counts));
+        }
+    }
+    text
+}
+
+// The numbers of a line, in the order of `Counts`. The first three are the statuses of a lookup.
+const NUMBERS: usize = 6;
+const BUSY: usize = raw::BUSY as usize;
+const HELD: usize = BUSY + 1;
+const EVICTIONS: usize = BUSY + 2;
+const REFUSALS: usize = BUSY + 3;
+
+/// What a handle has counted, in a cache line of its own. One thread at a time adds, and any thread reads.
+#[derive(Default)]
+#[repr(align(64))]
+struct Line([AtomicU64; NUMBERS]);
+
+impl Line {
+    fn add(&self, number: usize, more: u64) {
+        self.0[number].store(self.0[number].load(Ordering::Relaxed) + more, Ordering::Relaxed);
+    }
+}
+
+/// The lines of a cache's handles. The line of a handle that is dropped keeps its numbers, and the next handle that takes it goes on from
+/// them.
+#[derive(Default)]
+pub(crate) struct Lines(Mutex<Kept>);
+
+#[derive(Default)]
+struct Kept {
+    all: Vec<Arc<Line>>,
+    // Those that no handle has, with room for all of them.
+    free: Vec<Arc<Line>>,
+}
+
+impl Lines {
+    fn kept(&self) -> MutexGuard<'_, Kept> {
+        self.0.lock().unwrap_or_else(PoisonError::into_inner)
+    }
+}
+
+/// A handle's line, and those of the other handles.
+pub(crate) struct Counter(Option<(Arc<Line>, Arc<Lines>)>);
+
+impl Counter {
+    /// The counters of a new cache: so many.
+    pub fn many(count: usize) -> Vec<Counter> {
+        Counter::of(COUNTED.then(Arc::default), count)
+    }
+
+    /// So many more of this counter's cache.
+    pub fn more(&self, count: usize) -> Vec<Counter> {
+        Counter::of(self.lines(), count)
+    }
+
+    /// One more of this counter's cache, which takes no memory: it counts if a line is free.
+    pub fn spare(&self) -> Counter {
+        Counter(self.lines().and_then(|lines| {
+            let line = lines.kept().free.pop();
+            Some((line?, lines))
+        }))
+    }
+
+    pub fn meter(&self) -> Meter {
+        Meter(self.lines())
+    }
+
+    fn lines(&self) -> Option<Arc<Lines>> {
+        self.0.as_ref().map(|(_, lines)| Arc::clone(lines))
+    }
+
+    fn of(lines: Option<Arc<Lines>>, count: usize) -> Vec<Counter> {
+        let Some(lines) = lines else {
+            return (0..count).map(|_| Counter(None)).collect();
+        };
+        let mut kept = lines.kept();
+        let Kept { all, free } = &mut *kept;
+        let missing = count.saturating_sub(free.len());
+        all.extend((0..missing).map(|_| Arc::default()));
+        free.extend_from_slice(&all[all.len() - missing..]);
+        free.reserve(all.len() - free.len());
+        let taken = free.len() - count;
+        free.drain(taken..).map(|line| Counter(Some((line, Arc::clone(&lines))))).collect()
+    }
+
+    /// Counts the answer of a lookup.
+    pub fn looked(&self, status: u32) {
+        if let (Some((line, _)), 0..=raw::BUSY) = (&self.0, status) {
+            line.add(status as usize, 1);
+        }
+    }
+
+    /// Counts the answers of a call for many keys.
+    pub fn looked_up(&self, answers: &[RawAnswer]) {
+        let Some((line, _)) = &self.0 else { return };
+        let mut found = [0; BUSY + 1];
+        for answer in answers {
+            found[answer.status as usize] += 1;
+        }
+        for (number, more) in found.into_iter().enumerate() {
+            line.add(number, more);
+        }
+    }
+
+    /// Counts a try for the turn.
+    pub fn tried(&self, status: u32) {
+        if let (Some((line, _)), raw::HELD) = (&self.0, status) {
+            line.add(HELD, 1);
+        }
+    }
+
+    /// Counts the answer of a write.
+    pub fn wrote(&self, status: u32, reply: &RawReply) {
+        self.tried(status);
+        let Some((line, _)) = &self.0 else { return };
+        if reply.put == raw::PUT_EVICTED {
+            line.add(EVICTIONS, 1);
+        }
+        if let raw::NO_PATH | raw::ALL_RECENT | raw::SPENT = status {
+            line.add(REFUSALS, 1);
+        }
+    }
+}
+
+impl Drop for Counter {
+    fn drop(&mut self) {
+        if let Some((line, lines)) = self.0.take() {
+            lines.kept().free.push(line);
+        }
+    }
+}

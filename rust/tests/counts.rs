@@ -1,0 +1,247 @@
+//! What the calls of a cache's handles came to is counted: by each kind of handle, also once it has left its desk or is dropped. In threads
+//! no count is lost. Without the feature `counts` each count is 0.
+use cefrodil::{
+    prometheus, Cache, Counts, Desk, Meter, Mix, Pass, Put, PutError, PutIfError, Reply, Shape, Shards, Spent, TurnError,
+};
+use std::error::Error;
+use std::sync::atomic::{AtomicBool, Ordering};
+use std::thread;
+
+type Tested = Result<(), Box<dyn Error>>;
+
+const SMALL: Shape = Shape { limit: 1 << 62, buckets: 64, items: 2, stripes: 1, depth: 5, tries: 1, mix: Mix::Full };
+
+fn numbers(counts: Counts) -> [u64; 6] {
+    [counts.hits, counts.misses, counts.busy, counts.held, counts.evictions, counts.refusals]
+}
+
+#[track_caller]
+fn counted(meter: &Meter, expected: [u64; 6]) {
+    assert_eq!(numbers(meter.counts()), if cfg!(feature = "counts") { expected } else { [0; 6] });
+}
+
+#[test]
+fn each_lookup_is_counted() -> Tested {
+    let (mut writer, mut readers) = Cache::<1>::open(&Shape::for_items(100)?, 2)?;
+    let meter = readers[1].meter();
+    counted(&meter, [0; 6]);
+    assert_eq!(readers[0].get(1), Reply::Absent { at: 0 });
+    counted(&meter, [0, 1, 0, 0, 0, 0]);
+    writer.put(1, &[10])?;
+    assert_eq!((readers[1].get(1).value(), writer.get(1).value(), writer.get(2).value()), (Some([10]), Some([10]), None));
+    counted(&meter, [2, 2, 0, 0, 0, 0]);
+    counted(&writer.meter(), [2, 2, 0, 0, 0, 0]);
+    let mut replies = [Reply::Busy; 40];
+    readers[0].get_many(&[1; 40], &mut replies);
+    readers[0].get_many(&[1, 2, 3], &mut replies[..3]);
+    readers[0].get_many(&[], &mut []);
+    counted(&meter, [43, 4, 0, 0, 0, 0]);
+    drop((writer, readers));
+    counted(&meter.clone(), [43, 4, 0, 0, 0, 0]);
+    Ok(())
+}
+
+#[test]
+fn evictions_and_refusals_are_counted() -> Tested {
+    let (mut writer, _readers) = Cache::<1>::open(&SMALL, 1)?;
+    let meter = writer.meter();
+    writer.put(1, &[1])?;
+    writer.put(2, &[2])?;
+    assert!(matches!(writer.put(1, &[3])?, Put::Renewed { .. }));
+    assert!(matches!(writer.put_if(1, 9, &[4]), Err(PutIfError::Changed { .. })));
+    assert!(writer.put_if(7, 9, &[4]).is_err() && writer.put_if_absent(1, &[4]).is_err() && writer.remove(7).is_ok());
+    assert!(writer.swap(2, &[5])?.old.is_some());
+    counted(&meter, [0; 6]);
+    writer.put(3, &[6])?;
+    counted(&meter, [0, 0, 0, 0, 1, 0]);
+    writer.put_if_absent(4, &[7])?;
+    writer.swap(5, &[8])?;
+    counted(&meter, [0, 0, 0, 0, 3, 0]);
+    let (mut spent, _readers) = Cache::<1>::open(&Shape { limit: 0, ..SMALL }, 1)?;
+    assert_eq!((spent.put(1, &[1]), spent.put_if(1, 1, &[1])), (Err(PutError::Spent), Err(PutIfError::Spent)));
+    assert!(spent.put_if_absent(1, &[1]).is_err() && spent.remove(1) == Err(Spent) && spent.swap(1, &[1]).is_err());
+    assert!(spent.swap_if(1, 1, &[1]).is_err() && spent.take(1).is_err());
+    counted(&spent.meter(), [0, 0, 0, 0, 0, 7]);
+    // Both buckets of nine keys are the same two, and no key may move.
+    let crowded = Shape { buckets: 1024, items: 16, depth: 0, mix: Mix::None, ..SMALL };
+    let (mut writer, _readers) = Cache::<1>::open(&crowded, 1)?;
+    assert_eq!((0..9).filter(|key| writer.put(1024 * key, &[0]) == Err(PutError::NoPath)).count(), 1);
+    counted(&writer.meter(), [0, 0, 0, 0, 0, 1]);
+    Ok(())
+}
+
+// One thread looks the two keys up, so that the one item stays recent, while another puts them by turns.
+#[test]
+fn a_put_that_finds_all_recent_is_counted() -> Tested {
+    let (mut writer, mut readers) = Cache::<1>::open(&Shape { items: 1, ..SMALL }, 1)?;
+    let (done, mut refused) = (AtomicBool::new(false), 0);
+    thread::scope(|threads| {
+        threads.spawn(|| {
+            while !done.load(Ordering::Relaxed) {
+                let _ = (readers[0].get(0), readers[0].get(1));
+            }
+        });
+        for n in 0..10_000_000 {
+            refused += u64::from(writer.put(n % 2, &[n]) == Err(PutError::AllRecent));
+            if refused == 3 {
+                break;
+            }
+        }
+        done.store(true, Ordering::Relaxed);
+    });
+    assert_ne!(refused, 0);
+    assert_eq!(writer.meter().counts().refusals, if cfg!(feature = "counts") { refused } else { 0 });
+    Ok(())
+}
+
+#[test]
+fn a_desk_counts_on() -> Tested {
+    let mut opened = Cache::<1>::open_with(&SMALL, 1, &[(1, [1]), (2, [2])])?;
+    let meter = opened.readers[0].meter();
+    opened.writer.put(3, &[3])?;
+    let refused = opened.writer.into_desk(65).err().ok_or("there are 64 readers to spare")?;
+    let desk = refused.writer.into_desk(2)?;
+    counted(&desk.meter(), [0, 0, 0, 0, 1, 0]);
+    {
+        let (mut one, mut two) = (desk.pass().ok_or("no pass")?, desk.pass().ok_or("no pass")?);
+        one.try_put(4, &[4])?;
+        two.put_within(2, 5, &[5])?;
+        assert_eq!((one.get_or_desk(5).value(), two.get(9).value()), (Some([5]), None));
+        counted(&two.meter(), [1, 1, 0, 0, 3, 0]);
+    }
+    let (mut writer, mut readers) = desk.end()?;
+    assert!(readers.iter_mut().all(|reader| reader.get(5).value() == Some([5])));
+    assert_eq!((writer.get(5).value(), opened.readers[0].get(9).value()), (Some([5]), None));
+    writer.put(6, &[6])?;
+    counted(&meter, [4, 2, 0, 0, 4, 0]);
+    drop(readers);
+    // Again and again.
+    for _ in 0..20 {
+        let (ended, mut readers) = writer.into_desk(1)?.end()?;
+        writer = ended;
+        assert_eq!((writer.get(9).value(), readers[0].get(9).value()), (None, None));
+    }
+    counted(&meter, [4, 42, 0, 0, 4, 0]);
+    // The writer of a cache that was opened as a desk counts, too.
+    let (mut writer, readers) = Desk::<1>::open(&SMALL, 1)?.end()?;
+    assert_eq!(writer.get(9).value(), None);
+    counted(&readers[0].meter(), [0, 1, 0, 0, 0, 0]);
+    Ok(())
+}
+
+// What a thread is told.
+#[derive(Default)]
+struct Told([u64; 6]);
+
+impl Told {
+    fn looked(&mut self, reply: Reply<1>) {
+        match reply {
+            Reply::Found { .. } => self.0[0] += 1,
+            Reply::Absent { .. } => self.0[1] += 1,
+            Reply::Busy => self.0[2] += 1,
+        }
+    }
+
+    fn put<E>(&mut self, put: Result<Put, TurnError<E>>) {
+        self.0[4] += u64::from(matches!(put, Ok(Put::Stored { evicted: Some(_), .. })));
+        self.tried(put);
+    }
+
+    fn tried<T, E>(&mut self, tried: Result<T, TurnError<E>>) {
+        self.0[3] += u64::from(matches!(tried, Err(TurnError::Held)));
+    }
+}
+
+// Works until some thread was held, and a while in any case.
+fn work(pass: &mut Pass<1>, is_held: &AtomicBool) -> Told {
+    let mut told = Told::default();
+    let mut replies = [Reply::Busy; 3];
+    for n in 0..1_000_000 {
+        if n >= 1000 && is_held.load(Ordering::Relaxed) {
+            break;
+        }
+        let key = n * 7 % 11;
+        told.looked(pass.get(key));
+        told.looked(pass.get_or_desk(key + 1));
+        pass.get_many(&[key, key + 1, key + 2], &mut replies);
+        replies.iter().for_each(|reply| told.looked(*reply));
+        told.put(pass.try_put(key, &[n]));
+        told.put(pass.put_within(2, key + 2, &[n]));
+        told.tried(pass.try_put_if(key, n, &[n]));
+        told.put(pass.try_put_if_absent(key + 4, &[n]));
+        told.put(pass.try_swap(key + 3, &[n]).map(|swapped| swapped.put));
+        told.tried(pass.try_swap_if(key, n, &[n]));
+        told.tried(pass.try_take(key));
+        told.tried(pass.try_remove(key + 5));
+        told.tried(pass.try_len());
+        told.tried(pass.try_entries());
+        told.tried(pass.try_stamped_entries());
+        is_held.fetch_or(told.0[3] != 0, Ordering::Relaxed);
+    }
+    told
+}
+
+// Threads work by passes, and one reads the counts meanwhile. In the end they are what the threads were told.
+fn threads_work(passes: Vec<Pass<'static, 1>>) {
+    let meter = passes[0].meter();
+    let (mut all, mut misses, is_held) = ([0; 6], 0, &AtomicBool::new(false));
+    thread::scope(|threads| {
+        let running: Vec<_> = passes.into_iter().map(|mut pass| threads.spawn(move || work(&mut pass, is_held))).collect();
+        while running.iter().any(|thread| !thread.is_finished()) {
+            let now = meter.counts().misses;
+            assert!(misses <= now);
+            misses = now;
+            thread::yield_now();
+        }
+        for thread in running {
+            let told = thread.join().expect("a thread panicked");
+            all.iter_mut().zip(told.0).for_each(|(all, told)| *all += told);
+        }
+    });
+    counted(&meter, all);
+    assert!(all[0] != 0 && all[1] != 0 && all[3] != 0 && all[4] != 0);
+}
+
+#[test]
+fn no_count_is_lost() -> Tested {
+    threads_work(Desk::<1>::open(&Shape { items: 8, ..SMALL }, 4)?.into_passes());
+    threads_work(Shards::<1>::open(&Shape { items: 3, ..SMALL }, 2, 4)?);
+    Ok(())
+}
+
+#[test]
+fn counts_are_printed() -> Tested {
+    let mut counts = Counts::default();
+    (counts.hits, counts.misses, counts.busy) = (1, 2, 3);
+    (counts.held, counts.evictions, counts.refusals) = (4, 5, u64::MAX);
+    let expected = r#"# HELP cefrodil_hits_total Lookups that found their key.
+# TYPE cefrodil_hits_total counter
+cefrodil_hits_total{cache="names"} 1
+cefrodil_hits_total{cache="a\"b\\c\nd"} 0
+# HELP cefrodil_misses_total Lookups of an absent key.
+# TYPE cefrodil_misses_total counter
+cefrodil_misses_total{cache="names"} 2
+cefrodil_misses_total{cache="a\"b\\c\nd"} 0
+# HELP cefrodil_busy_total Lookups that were busy.
+# TYPE cefrodil_busy_total counter
+cefrodil_busy_total{cache="names"} 3
+cefrodil_busy_total{cache="a\"b\\c\nd"} 0
+# HELP cefrodil_held_total Calls whose try for the turn did not win.
+# TYPE cefrodil_held_total counter
+cefrodil_held_total{cache="names"} 4
+cefrodil_held_total{cache="a\"b\\c\nd"} 0
+# HELP cefrodil_evictions_total Puts that evicted another key.
+# TYPE cefrodil_evictions_total counter
+cefrodil_evictions_total{cache="names"} 5
+cefrodil_evictions_total{cache="a\"b\\c\nd"} 0
+# HELP cefrodil_refusals_total Writes that were refused.
+# TYPE cefrodil_refusals_total counter
+cefrodil_refusals_total{cache="names"} 18446744073709551615
+cefrodil_refusals_total{cache="a\"b\\c\nd"} 0
+"#;
+    assert_eq!(prometheus(&[("names", counts), ("a\"b\\c\nd", Counts::default())]), expected);
+    assert_eq!(prometheus(&[]).lines().count(), 12);
+    let (writer, _readers) = Cache::<1>::open(&SMALL, 1)?;
+    assert_eq!(format!("{:?}", writer.meter()), "Meter { .. }");
+    Ok(())
+}

@@ -1,0 +1,120 @@
+//! A fill whose value was read before its key was changed in the store is refused, and the cache does not go back to the old value.
+use cefrodil::{
+    Cache, Desk, FillError, Filler, Mix, PutError, PutIfError, Reader, Removal, Reply, Shape, Spent, Ticket, Tickets, TurnError,
+    Writer,
+};
+use std::error::Error;
+
+type Tested = Result<(), Box<dyn Error>>;
+
+fn filler(changes: usize) -> Result<(Filler<1>, Tickets, Reader<1>), Box<dyn Error>> {
+    let (writer, mut readers) = Cache::<1>::open(&Shape::for_items(100)?, 1)?;
+    let filler = Filler::new(writer, changes);
+    let tickets = filler.tickets();
+    Ok((filler, tickets, readers.remove(0)))
+}
+
+#[test]
+fn a_lost_update_is_refused() -> Tested {
+    let (mut filler, tickets, mut reader) = filler(10)?;
+    let mut store = 10;
+    // One thread misses the key and reads the store. Another changes the store and removes the key.
+    assert_eq!(reader.get(1), Reply::Absent { at: 0 });
+    let (ticket, read) = (tickets.take(), store);
+    store += 1;
+    assert_eq!(filler.remove(1)?, Removal::NotThere { at: 0 });
+    assert_eq!(filler.fill(1, ticket, &[read]), Err(FillError::Stale));
+    assert_eq!(reader.get(1), Reply::Absent { at: 0 });
+    // Who reads the store now has its value put. Who read it as well does not put it again.
+    filler.fill(1, tickets.clone().take(), &[store])?;
+    assert_eq!(reader.get(1), Reply::Found { value: [11], at: 1, since: 1 });
+    assert_eq!(filler.fill(1, tickets.take(), &[store]), Err(FillError::Present { since: 1 }));
+    Ok(())
+}
+
+#[test]
+fn a_put_that_has_gone_again_is_a_change() -> Tested {
+    let (mut filler, tickets, mut reader) = filler(10)?;
+    let ticket = tickets.take();
+    filler.put(1, &[11])?;
+    assert_eq!(reader.get(1).value(), Some([11]));
+    filler.writer().remove(1)?;
+    assert_eq!(filler.fill(1, ticket, &[10]), Err(FillError::Stale));
+    filler.fill(2, ticket, &[20])?;
+    // What the writer does by itself is no change of the store.
+    filler.writer().remove(2)?;
+    filler.fill(2, ticket, &[20])?;
+    assert_eq!(reader.get(2).value(), Some([20]));
+    assert_eq!(filler.into_writer().len(), 1);
+    Ok(())
+}
+
+// So many changes are known. A fill that is older than all of them is refused, whatever its key is.
+fn knows(changes: usize, known: u64) -> Tested {
+    let (mut filler, tickets, _reader) = filler(changes)?;
+    let oldest = tickets.take();
+    for n in 0..known {
+        filler.remove(50 + n)?;
+        assert!((50..=50 + n).all(|changed| filler.fill(changed, oldest, &[1]) == Err(FillError::Stale)));
+        filler.fill(n, oldest, &[1])?;
+    }
+    let newer = tickets.take();
+    assert_ne!(newer, oldest);
+    filler.remove(7)?;
+    assert_eq!(filler.fill(30, oldest, &[1]), Err(FillError::Stale));
+    filler.fill(30, newer, &[1])?;
+    assert_eq!(filler.fill(7, newer, &[1]), Err(FillError::Stale));
+    filler.fill(7, tickets.take(), &[1])?;
+    Ok(())
+}
+
+#[test]
+fn so_many_changes_are_known() -> Tested {
+    knows(3, 3)?;
+    knows(1, 1)?;
+    knows(0, 1)
+}
+
+#[test]
+fn a_ticket_of_another_filler_is_stale() -> Tested {
+    let (mut one, tickets, _reader) = filler(10)?;
+    let (mut other, _, _) = filler(10)?;
+    one.remove(1)?;
+    let ticket: Ticket = tickets.take();
+    assert_eq!(other.fill(2, ticket, &[1]), Err(FillError::Stale));
+    Ok(())
+}
+
+#[test]
+fn a_fill_that_is_refused_says_why() -> Tested {
+    let shape = Shape { limit: 0, buckets: 4, items: 16, stripes: 1, depth: 2, tries: 2, mix: Mix::None };
+    let (writer, _readers): (Writer<1>, _) = Cache::open(&shape, 1)?;
+    let mut filler = Filler::new(writer, 1);
+    let ticket = filler.tickets().take();
+    assert_eq!(filler.fill(1, ticket, &[1]), Err(FillError::Put(PutError::Spent)));
+    assert_eq!((filler.put(1, &[1]), filler.remove(1)), (Err(PutError::Spent), Err(Spent)));
+    assert_eq!(FillError::Stale.to_string(), "the store may have changed since the value was read");
+    assert_eq!(FillError::Present { since: 2 }.to_string(), "present since 2");
+    assert_eq!(FillError::Put(PutError::NoPath).to_string(), "no path");
+    assert_eq!(format!("{filler:?}"), "Filler { .. }");
+    Ok(())
+}
+
+// At a desk a fill needs no filler: a thread that misses a key first puts a mark, and then its value in place of that mark alone.
+#[test]
+fn at_a_desk_a_mark_is_filled_once() -> Tested {
+    const MARK: [u64; 1] = [u64::MAX];
+    let mut passes = Desk::<1>::open(&Shape::for_items(100)?, 2)?.into_passes();
+    let (mut one, mut two) = (passes.remove(0), passes.remove(0));
+    let mut store = 10;
+    let mark = one.try_put_if_absent(1, &MARK)?.at();
+    let read = store;
+    store += 1;
+    two.try_remove(1)?;
+    assert!(matches!(one.try_put_if(1, mark, &[read]), Err(TurnError::Call(PutIfError::NotThere { .. }))));
+    let mark = two.try_put_if_absent(1, &MARK)?.at();
+    assert_eq!(one.get(1).value(), Some(MARK));
+    two.try_put_if(1, mark, &[store])?;
+    assert_eq!(one.get(1).value(), Some([11]));
+    Ok(())
+}
