@@ -1,3 +1,4 @@
+pub mod CallContracts
 pub mod KeptMoments
 pub mod StampedLists
 pub mod Turned

@@ -7,6 +7,7 @@ pub mod PlainLaws
 pub mod Resting
 pub mod Stamped
 pub mod Taking
+pub mod TurnCalls
 pub mod Turns
 pub mod Inside
 -- what callers name besides

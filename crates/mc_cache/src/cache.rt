@@ -20,6 +20,16 @@ impl<const V: usize> Model for Cache<V> {
 }
 
 impl<const V: usize> Cache<V> {
+    ghost use Rattle.mc_words.specs.Places.{IsWidth};
+
+    // What always holds of a cache, for proofs. Does nothing at run time.
+    #[inline(always)]
+    pub(crate) fn known(&self)
+        ensures { IsWidth V }
+    {
+        self.cells.checked();
+    }
+
     /// How many keys the cache holds at most: the items of its shape.
     pub fn capacity(&self) -> usize
         ensures { result ≡ self.now.layout.shape.items }

@@ -3,10 +3,10 @@ ghost use Rattle.std.specs.Prelude.{◌≡◌, IfNone, IfOk, IfSome};
 ghost use Rattle.mc_cache.specs.Resting.{IsAtRest, IsFit};
 
 use crate::cache::Cache;
+use crate::calls::{Putting, PuttingIf, PuttingIfAbsent, Removing, Swapping, SwappingIf, Taking};
 use crate::reader::Reader;
 use crate::turn::{
-    count_in_turn, get_in_turn, list_in_turn, list_stamped_in_turn, put_if_absent_in_turn,
-    put_if_in_turn, put_in_turn, remove_in_turn, swap_if_in_turn, swap_in_turn, take_in_turn,
+    TurnCall, count_in_turn, get_in_turn, list_in_turn, list_stamped_in_turn, make_in_turn,
 };
 use crate::writer::Writer;
 use counted_slot::{Counted, Fits, TAKEN};
@@ -94,6 +94,35 @@ impl<const V: usize> Desk<V> {
 }
 
 impl<const V: usize> Desk<V> {
+    ghost use Rattle.mc_cache.specs.Failing.{TurnFails, versions_seen};
+    ghost use Rattle.mc_cache.specs.Plain.{TurnMeans, seen};
+    ghost use Rattle.mc_cache.specs.Turns.{HasTriedTo};
+
+    /// Tries once for the turn, and with it makes the call. The caller's reader is its pass: with the turn, it catches up with the
+    /// writer before the call and after it. Condition: desk and pass are of this cache.
+    #[inline(always)]
+    pub fn try_call<T, E, C: TurnCall<V, T, E>>(
+        &self,
+        cache: &Cache<V>,
+        pass: &mut Reader<V>,
+        call: C,
+    ) -> Result<T, DeskError<E>>
+        requires of { (self.now ≡ cache.now) × (pass.old.of ≡ cache.now) }
+        ensures of { pass.new.of ≡ pass.old.of }
+        ensures turn { HasTriedTo V cache.now.layout.shape ((C.contract call).called cache.now.layout.shape) pass.old pass.new result }
+        ensures plain { TurnMeans ((C.contract call).means) (seen V pass.old) (seen V pass.new) result }
+        ensures fails { TurnFails ((C.contract call).fails cache.now.layout.shape (seen V pass.new) (versions_seen V pass.new)) result }
+    {
+        let Some(mut turn) = self.take() else {
+            return Err(DeskError::Held);
+        };
+        let answer = make_in_turn(cache, pass, &mut turn.writer, call);
+        self.give(turn);
+        answer
+    }
+}
+
+impl<const V: usize> Desk<V> {
     ghost use Rattle.mc_cache.specs.Failing.{PutFails, PutIfAbsentFails, PutIfFails, RemovalFails, SwapFails, SwapIfFails, TakeFails, TurnFails, versions_seen};
     ghost use Rattle.mc_cache.specs.Stamped.{AreStampedEntriesOf};
     ghost use Rattle.mc_cache.specs.Taking.{SwapIfMeans, SwapMeans, TakeMeans, swap_answer, swap_if_answer, take_answer};
@@ -130,12 +159,7 @@ impl<const V: usize> Desk<V> {
         ensures plain { TurnMeans (λ h h' told. PutMeans V h h' key value.entry told) (seen V pass.old) (seen V pass.new) result }
         ensures fails { TurnFails (PutFails cache.now.layout.shape (seen V pass.new) (versions_seen V pass.new) key) result }
     {
-        let Some(mut turn) = self.take() else {
-            return Err(DeskError::Held);
-        };
-        let answer = put_in_turn(cache, pass, &mut turn.writer, key, value);
-        self.give(turn);
-        answer
+        self.try_call(cache, pass, Putting(key, &value))
     }
 
     /// Like `try_put`, with `Writer::put_if`.
@@ -154,12 +178,7 @@ impl<const V: usize> Desk<V> {
         ensures plain { TurnMeans (λ h h' told. PutIfMeans V h h' key since value.entry told) (seen V pass.old) (seen V pass.new) result }
         ensures fails { TurnFails (PutIfFails cache.now.layout.shape (seen V pass.new) (versions_seen V pass.new)) result }
     {
-        let Some(mut turn) = self.take() else {
-            return Err(DeskError::Held);
-        };
-        let answer = put_if_in_turn(cache, pass, &mut turn.writer, key, since, value);
-        self.give(turn);
-        answer
+        self.try_call(cache, pass, PuttingIf(key, since, &value))
     }
 
     /// Like `try_put`, with `Writer::put_if_absent`.
@@ -177,12 +196,7 @@ impl<const V: usize> Desk<V> {
         ensures plain { TurnMeans (λ h h' told. PutIfAbsentMeans V h h' key value.entry told) (seen V pass.old) (seen V pass.new) result }
         ensures fails { TurnFails (PutIfAbsentFails cache.now.layout.shape (seen V pass.new) (versions_seen V pass.new) key) result }
     {
-        let Some(mut turn) = self.take() else {
-            return Err(DeskError::Held);
-        };
-        let answer = put_if_absent_in_turn(cache, pass, &mut turn.writer, key, value);
-        self.give(turn);
-        answer
+        self.try_call(cache, pass, PuttingIfAbsent(key, &value))
     }
 
     /// Like `try_put`, with `Writer::remove`.
@@ -199,12 +213,7 @@ impl<const V: usize> Desk<V> {
         ensures plain { TurnMeans (λ h h' told. RemovalMeans V h h' key told) (seen V pass.old) (seen V pass.new) result }
         ensures fails { TurnFails (RemovalFails cache.now.layout.shape (seen V pass.new) (versions_seen V pass.new)) result }
     {
-        let Some(mut turn) = self.take() else {
-            return Err(DeskError::Held);
-        };
-        let answer = remove_in_turn(cache, pass, &mut turn.writer, key);
-        self.give(turn);
-        answer
+        self.try_call(cache, pass, Removing(key))
     }
 
     /// Like `try_put`, with `Writer::swap`.
@@ -222,12 +231,7 @@ impl<const V: usize> Desk<V> {
         ensures plain { TurnMeans (λ h h' told. SwapMeans V h h' key value.entry told) (seen V pass.old) (seen V pass.new) result }
         ensures fails { TurnFails (SwapFails cache.now.layout.shape (seen V pass.new) (versions_seen V pass.new) key) result }
     {
-        let Some(mut turn) = self.take() else {
-            return Err(DeskError::Held);
-        };
-        let answer = swap_in_turn(cache, pass, &mut turn.writer, key, value);
-        self.give(turn);
-        answer
+        self.try_call(cache, pass, Swapping(key, &value))
     }
 
     /// Like `try_put`, with `Writer::swap_if`.
@@ -246,12 +250,7 @@ impl<const V: usize> Desk<V> {
         ensures plain { TurnMeans (λ h h' told. SwapIfMeans V h h' key since value.entry told) (seen V pass.old) (seen V pass.new) result }
         ensures fails { TurnFails (SwapIfFails cache.now.layout.shape (seen V pass.new) (versions_seen V pass.new)) result }
     {
-        let Some(mut turn) = self.take() else {
-            return Err(DeskError::Held);
-        };
-        let answer = swap_if_in_turn(cache, pass, &mut turn.writer, key, since, value);
-        self.give(turn);
-        answer
+        self.try_call(cache, pass, SwappingIf(key, since, &value))
     }
 
     /// Like `try_put`, with `Writer::take`.
@@ -268,12 +267,7 @@ impl<const V: usize> Desk<V> {
         ensures plain { TurnMeans (λ h h' told. TakeMeans V h h' key told) (seen V pass.old) (seen V pass.new) result }
         ensures fails { TurnFails (TakeFails cache.now.layout.shape (seen V pass.new) (versions_seen V pass.new)) result }
     {
-        let Some(mut turn) = self.take() else {
-            return Err(DeskError::Held);
-        };
-        let answer = take_in_turn(cache, pass, &mut turn.writer, key);
-        self.give(turn);
-        answer
+        self.try_call(cache, pass, Taking(key))
     }
 
     /// Tries once for the turn, and with it lists each key with its value, in the order of their items. The pass has then seen all

@@ -22,6 +22,7 @@
 #![tactic(auto)]
 
 mod cache;
+pub mod calls;
 mod closing;
 mod desk;
 pub mod laws;

@@ -1,24 +1,39 @@
 //! A turn with the writer in hand: the reader that is its pass meets the writer, the call is made, and they meet once more.
 ghost use Rattle.std.specs.Prelude.{◌≡◌, IfOk};
-ghost use Rattle.mc_plan.specs.WholeCalls.{PutCall, PutIfCall, RemoveCall};
-ghost use Rattle.mc_plan.specs.declared.answer.Answer.TheVariants as answer;
-ghost use Rattle.mc_cache.specs.Inside.Turned.{HasBegunWith, HasEnded, turned};
-ghost use Rattle.mc_cache.specs.Failing.{PutFails, PutIfAbsentFails, PutIfFails, RemovalFails, SwapFails, SwapIfFails, TakeFails, TurnFails, versions_seen};
-ghost use Rattle.mc_cache.specs.Taking.{SwapIfMeans, SwapMeans, TakeMeans, swap_answer, swap_if_answer, take_answer};
-ghost use Rattle.mc_cache.specs.Plain.{AreEntriesOf, Begins, HasMet, PutIfAbsentMeans, PutIfMeans, PutMeans, RemovalMeans, TurnMeans, history, seen};
-ghost use Rattle.mc_cache.specs.Resting.{IsAtRest};
 ghost use Rattle.mc_cache.specs.Stamped.{AreStampedEntriesOf};
-ghost use Rattle.mc_cache.specs.Turns.{HasLookedInTurn, HasMetAtDesk, HasTried, HasTriedIfAbsent, HasTriedToList};
+ghost use Rattle.mc_cache.specs.TurnCalls.{CanMake, HasMade};
+ghost use Rattle.mc_cache.specs.Failing.{TurnFails, versions_seen};
+ghost use Rattle.mc_cache.specs.Inside.Turned.{HasBegunWith, HasEnded, turned};
+ghost use Rattle.mc_cache.specs.Plain.{AreEntriesOf, Begins, HasMet, TurnMeans, history, seen};
+ghost use Rattle.mc_cache.specs.Resting.{IsAtRest};
+ghost use Rattle.mc_cache.specs.Turns.{HasLookedInTurn, HasMetAtDesk, HasTriedTo, HasTriedToList};
 ghost use Rattle.mc_words.specs.History.{key_count};
 
 use crate::cache::Cache;
 use crate::desk::DeskError;
 use crate::reader::Reader;
 use crate::writer::Writer;
-use mc_plan::{AbsentError, IfError, Put, PutError, Remove, Spent};
 use mc_words::{NoMemory, Reply};
 use mc_writer::{Entry, Replaced, Swapped, Take};
 use std::alloc::Global;
+use std::marker::PhantomData;
+
+/// The types of answers that have a const parameter. `TurnCall::make` names them, because the method of an `impl` could not return them
+/// otherwise. The value takes no place.
+pub type Answers<const V: usize> = PhantomData<(Swapped<V>, Replaced<V>, Take<V>)>;
+
+/// A call of the writer, with its arguments.
+pub trait TurnCall<const V: usize, T, E>: Drop {
+    ghost use Rattle.mc_cache.specs.TurnCalls.{Contract};
+
+    // What it does, means and fails with.
+    ghost contract: { Self → Contract V T E };
+
+    /// Makes the call. Condition: the writer is of this cache.
+    fn make(self, cache: &Cache<V>, writer: &mut Writer<V>, answers: Answers<V>) -> Result<T, E>
+        requires { CanMake V cache.now writer.old }
+        ensures { HasMade (contract self) cache.now result writer.old writer.new };
+}
 
 // The pass meets the writer before the call.
 #[inline(always)]
@@ -56,150 +71,24 @@ fn turned<T, E>(answer: Result<T, E>) -> Result<T, DeskError<E>>
     }
 }
 
-/// A turn that puts.
+/// A turn that makes a call.
 #[inline(always)]
-pub fn put_in_turn<const V: usize>(
+pub fn make_in_turn<const V: usize, T, E, C: TurnCall<V, T, E>>(
     cache: &Cache<V>,
     pass: &mut Reader<V>,
     writer: &mut Writer<V>,
-    key: u64,
-    value: [u64; V],
-) -> Result<Put, DeskError<PutError>>
+    call: C,
+) -> Result<T, DeskError<E>>
     requires of { (pass.old.of ≡ cache.now) × (writer.old.of ≡ cache.now) }
     ensures writer { (writer.new.of ≡ writer.old.of) × IsAtRest V writer.new }
     ensures of { pass.new.of ≡ pass.old.of }
-    ensures turn { HasTried V cache.now.layout.shape (PutCall key value.entry) answer.Put pass.old pass.new result }
-    ensures plain { TurnMeans (λ h h' told. PutMeans V h h' key value.entry told) (seen V pass.old) (seen V pass.new) result }
-    ensures fails { TurnFails (PutFails cache.now.layout.shape (seen V pass.new) (versions_seen V pass.new) key) result }
+    ensures turn { HasTriedTo V cache.now.layout.shape ((C.contract call).called cache.now.layout.shape) pass.old pass.new result }
+    ensures plain { TurnMeans ((C.contract call).means) (seen V pass.old) (seen V pass.new) result }
+    ensures fails { TurnFails ((C.contract call).fails cache.now.layout.shape (seen V pass.new) (versions_seen V pass.new)) result }
 {
     begin(cache, pass, writer);
-    let answer = writer.put(cache, key, value);
-    end(cache, pass, writer);
-    turned(answer)
-}
-
-/// A turn that puts on a condition.
-pub fn put_if_in_turn<const V: usize>(
-    cache: &Cache<V>,
-    pass: &mut Reader<V>,
-    writer: &mut Writer<V>,
-    key: u64,
-    since: u64,
-    value: [u64; V],
-) -> Result<u64, DeskError<IfError>>
-    requires of { (pass.old.of ≡ cache.now) × (writer.old.of ≡ cache.now) }
-    ensures writer { (writer.new.of ≡ writer.old.of) × IsAtRest V writer.new }
-    ensures of { pass.new.of ≡ pass.old.of }
-    ensures turn { HasTried V cache.now.layout.shape (PutIfCall key since value.entry) answer.PutIf pass.old pass.new result }
-    ensures plain { TurnMeans (λ h h' told. PutIfMeans V h h' key since value.entry told) (seen V pass.old) (seen V pass.new) result }
-    ensures fails { TurnFails (PutIfFails cache.now.layout.shape (seen V pass.new) (versions_seen V pass.new)) result }
-{
-    begin(cache, pass, writer);
-    let answer = writer.put_if(cache, key, since, value);
-    end(cache, pass, writer);
-    turned(answer)
-}
-
-/// A turn that puts a key only if it is absent.
-pub fn put_if_absent_in_turn<const V: usize>(
-    cache: &Cache<V>,
-    pass: &mut Reader<V>,
-    writer: &mut Writer<V>,
-    key: u64,
-    value: [u64; V],
-) -> Result<Put, DeskError<AbsentError>>
-    requires of { (pass.old.of ≡ cache.now) × (writer.old.of ≡ cache.now) }
-    ensures writer { (writer.new.of ≡ writer.old.of) × IsAtRest V writer.new }
-    ensures of { pass.new.of ≡ pass.old.of }
-    ensures turn { HasTriedIfAbsent V cache.now.layout.shape key value.entry pass.old pass.new result }
-    ensures plain { TurnMeans (λ h h' told. PutIfAbsentMeans V h h' key value.entry told) (seen V pass.old) (seen V pass.new) result }
-    ensures fails { TurnFails (PutIfAbsentFails cache.now.layout.shape (seen V pass.new) (versions_seen V pass.new) key) result }
-{
-    begin(cache, pass, writer);
-    let answer = writer.put_if_absent(cache, key, value);
-    end(cache, pass, writer);
-    turned(answer)
-}
-
-/// A turn that removes.
-pub fn remove_in_turn<const V: usize>(
-    cache: &Cache<V>,
-    pass: &mut Reader<V>,
-    writer: &mut Writer<V>,
-    key: u64,
-) -> Result<Remove, DeskError<Spent>>
-    requires of { (pass.old.of ≡ cache.now) × (writer.old.of ≡ cache.now) }
-    ensures writer { (writer.new.of ≡ writer.old.of) × IsAtRest V writer.new }
-    ensures of { pass.new.of ≡ pass.old.of }
-    ensures turn { HasTried V cache.now.layout.shape (RemoveCall key) answer.Remove pass.old pass.new result }
-    ensures plain { TurnMeans (λ h h' told. RemovalMeans V h h' key told) (seen V pass.old) (seen V pass.new) result }
-    ensures fails { TurnFails (RemovalFails cache.now.layout.shape (seen V pass.new) (versions_seen V pass.new)) result }
-{
-    begin(cache, pass, writer);
-    let answer = writer.remove(cache, key);
-    end(cache, pass, writer);
-    turned(answer)
-}
-
-/// A turn that puts a key and returns the entry that gives way.
-pub fn swap_in_turn<const V: usize>(
-    cache: &Cache<V>,
-    pass: &mut Reader<V>,
-    writer: &mut Writer<V>,
-    key: u64,
-    value: [u64; V],
-) -> Result<Swapped<V>, DeskError<PutError>>
-    requires of { (pass.old.of ≡ cache.now) × (writer.old.of ≡ cache.now) }
-    ensures writer { (writer.new.of ≡ writer.old.of) × IsAtRest V writer.new }
-    ensures of { pass.new.of ≡ pass.old.of }
-    ensures turn { HasTried V cache.now.layout.shape (PutCall key value.entry) swap_answer pass.old pass.new result }
-    ensures plain { TurnMeans (λ h h' told. SwapMeans V h h' key value.entry told) (seen V pass.old) (seen V pass.new) result }
-    ensures fails { TurnFails (SwapFails cache.now.layout.shape (seen V pass.new) (versions_seen V pass.new) key) result }
-{
-    begin(cache, pass, writer);
-    let answer = writer.swap(cache, key, value);
-    end(cache, pass, writer);
-    turned(answer)
-}
-
-/// A turn that overwrites on a condition and returns the earlier entry.
-pub fn swap_if_in_turn<const V: usize>(
-    cache: &Cache<V>,
-    pass: &mut Reader<V>,
-    writer: &mut Writer<V>,
-    key: u64,
-    since: u64,
-    value: [u64; V],
-) -> Result<Replaced<V>, DeskError<IfError>>
-    requires of { (pass.old.of ≡ cache.now) × (writer.old.of ≡ cache.now) }
-    ensures writer { (writer.new.of ≡ writer.old.of) × IsAtRest V writer.new }
-    ensures of { pass.new.of ≡ pass.old.of }
-    ensures turn { HasTried V cache.now.layout.shape (PutIfCall key since value.entry) swap_if_answer pass.old pass.new result }
-    ensures plain { TurnMeans (λ h h' told. SwapIfMeans V h h' key since value.entry told) (seen V pass.old) (seen V pass.new) result }
-    ensures fails { TurnFails (SwapIfFails cache.now.layout.shape (seen V pass.new) (versions_seen V pass.new)) result }
-{
-    begin(cache, pass, writer);
-    let answer = writer.swap_if(cache, key, since, value);
-    end(cache, pass, writer);
-    turned(answer)
-}
-
-/// A turn that removes a key and returns its entry.
-pub fn take_in_turn<const V: usize>(
-    cache: &Cache<V>,
-    pass: &mut Reader<V>,
-    writer: &mut Writer<V>,
-    key: u64,
-) -> Result<Take<V>, DeskError<Spent>>
-    requires of { (pass.old.of ≡ cache.now) × (writer.old.of ≡ cache.now) }
-    ensures writer { (writer.new.of ≡ writer.old.of) × IsAtRest V writer.new }
-    ensures of { pass.new.of ≡ pass.old.of }
-    ensures turn { HasTried V cache.now.layout.shape (RemoveCall key) take_answer pass.old pass.new result }
-    ensures plain { TurnMeans (λ h h' told. TakeMeans V h h' key told) (seen V pass.old) (seen V pass.new) result }
-    ensures fails { TurnFails (TakeFails cache.now.layout.shape (seen V pass.new) (versions_seen V pass.new)) result }
-{
-    begin(cache, pass, writer);
-    let answer = writer.take(cache, key);
+    cache.known();
+    let answer = call.make(cache, writer, PhantomData);
     end(cache, pass, writer);
     turned(answer)
 }

@@ -3,13 +3,15 @@ ghost use Rattle.std.specs.Prelude.{◌≡◌, length};
 ghost use Rattle.mc_plan.specs.WholeCalls.{PutCall, PutIfCall, RemoveCall};
 ghost use Rattle.mc_plan.specs.declared.answer.Answer.TheVariants as answer;
 ghost use Rattle.mc_reader.specs.Records.{HasLooked};
-ghost use Rattle.mc_cache.specs.Turns.{HasLookedOrMet, HasTried, HasTriedIfAbsent};
+ghost use Rattle.mc_cache.specs.Turns.{HasLookedOrMet, HasTried, HasTriedIfAbsent, HasTriedTo};
 ghost use Rattle.mc_cache.specs.Failing.{PutFails, PutIfAbsentFails, PutIfFails, RemovalFails, TurnFails, versions_seen};
 ghost use Rattle.mc_cache.specs.Plain.{seen};
 ghost use Rattle.mc_shards.specs.Plain.{AllAnswered, AllBegin, HasAnswered, PutIfAbsentMeans, PutIfMeans, PutMeans, RemovalMeans, TurnMeans, seens};
 ghost use Rattle.mc_shards.specs.Sharded.{ArePassOf, ChangesAt, shard_in};
 
 use crate::shards::Shards;
+use mc_cache::calls::{Putting, PuttingIf, PuttingIfAbsent, Removing};
+use mc_cache::turn::TurnCall;
 use mc_cache::{AbsentError, DeskError, IfError, Put, PutError, Reader, Remove, Reply, Spent};
 use std::marker::Model;
 
@@ -58,6 +60,28 @@ impl<const V: usize> Pass<V> {
         lender.get_or_lend(cache, reader, key)
     }
 
+    // Tries once for the turn of the key's shard, and with it makes the call.
+    #[inline(always)]
+    pub(crate) fn try_call<T, E, C: TurnCall<V, T, E>>(
+        &mut self,
+        shards: &Shards<V>,
+        key: u64,
+        call: C,
+    ) -> Result<T, DeskError<E>>
+        requires of { ArePassOf shards.now self.old }
+        ensures of { ArePassOf shards.now self.new }
+        ensures turn { ChangesAt (shard_in shards.now key) self.old self.new (λ r r'. HasTriedTo V shards.now.shape ((C.contract call).called shards.now.shape) r r' result) }
+        ensures plain { ChangesAt (shard_in shards.now key) (seens V self.old) (seens V self.new)
+            (λ h h'. TurnMeans ((C.contract call).means) h h' result) }
+        ensures fails { ChangesAt (shard_in shards.now key) self.old self.new (λ r r'. TurnFails ((C.contract call).fails shards.now.shape (seen V r') (versions_seen V r')) result) }
+    {
+        let n = shards.shard_of(key);
+        let cache = shards.cache(n);
+        let lender = shards.lender(n);
+        let reader = &mut self.readers[n];
+        lender.try_call(cache, reader, call)
+    }
+
     /// Tries once for the turn of the key's shard, and with it puts the key, as `Desk::try_put` does. Condition: the pass is of these shards.
     #[inline(always)]
     pub fn try_put(
@@ -73,11 +97,7 @@ impl<const V: usize> Pass<V> {
             (λ h h'. TurnMeans (λ a b told. PutMeans V a b key value.entry told) h h' result) }
         ensures fails { ChangesAt (shard_in shards.now key) self.old self.new (λ r r'. TurnFails (PutFails shards.now.shape (seen V r') (versions_seen V r') key) result) }
     {
-        let n = shards.shard_of(key);
-        let cache = shards.cache(n);
-        let lender = shards.lender(n);
-        let reader = &mut self.readers[n];
-        lender.try_put(cache, reader, key, value)
+        self.try_call(shards, key, Putting(key, &value))
     }
 
     /// Like `try_put`, with up to that many tries, one after the other without a pause. `Held` if none of them won.
@@ -120,11 +140,7 @@ impl<const V: usize> Pass<V> {
             (λ h h'. TurnMeans (λ a b told. PutIfMeans V a b key since value.entry told) h h' result) }
         ensures fails { ChangesAt (shard_in shards.now key) self.old self.new (λ r r'. TurnFails (PutIfFails shards.now.shape (seen V r') (versions_seen V r')) result) }
     {
-        let n = shards.shard_of(key);
-        let cache = shards.cache(n);
-        let lender = shards.lender(n);
-        let reader = &mut self.readers[n];
-        lender.try_put_if(cache, reader, key, since, value)
+        self.try_call(shards, key, PuttingIf(key, since, &value))
     }
 
     /// Like `try_put`, with `Desk::try_put_if_absent`.
@@ -142,11 +158,7 @@ impl<const V: usize> Pass<V> {
             (λ h h'. TurnMeans (λ a b told. PutIfAbsentMeans V a b key value.entry told) h h' result) }
         ensures fails { ChangesAt (shard_in shards.now key) self.old self.new (λ r r'. TurnFails (PutIfAbsentFails shards.now.shape (seen V r') (versions_seen V r') key) result) }
     {
-        let n = shards.shard_of(key);
-        let cache = shards.cache(n);
-        let lender = shards.lender(n);
-        let reader = &mut self.readers[n];
-        lender.try_put_if_absent(cache, reader, key, value)
+        self.try_call(shards, key, PuttingIfAbsent(key, &value))
     }
 
     /// Like `try_put`, with `Desk::try_remove`.
@@ -159,11 +171,7 @@ impl<const V: usize> Pass<V> {
             (λ h h'. TurnMeans (λ a b told. RemovalMeans V a b key told) h h' result) }
         ensures fails { ChangesAt (shard_in shards.now key) self.old self.new (λ r r'. TurnFails (RemovalFails shards.now.shape (seen V r') (versions_seen V r')) result) }
     {
-        let n = shards.shard_of(key);
-        let cache = shards.cache(n);
-        let lender = shards.lender(n);
-        let reader = &mut self.readers[n];
-        lender.try_remove(cache, reader, key)
+        self.try_call(shards, key, Removing(key))
     }
 
     /// Looks the keys up. Equivalent to calling `get` for each key in order.

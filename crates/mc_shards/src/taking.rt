@@ -9,6 +9,7 @@ ghost use Rattle.mc_shards.specs.Sharded.{ArePassOf, ChangesAt, shard_in};
 
 use crate::pass::Pass;
 use crate::shards::Shards;
+use mc_cache::calls::{Swapping, SwappingIf, Taking};
 use mc_cache::{DeskError, IfError, PutError, Replaced, Spent, Swapped, Take};
 
 impl<const V: usize> Pass<V> {
@@ -27,11 +28,7 @@ impl<const V: usize> Pass<V> {
             (λ h h'. TurnMeans (λ a b told. SwapMeans V a b key value.entry told) h h' result) }
         ensures fails { ChangesAt (shard_in shards.now key) self.old self.new (λ r r'. TurnFails (SwapFails shards.now.shape (seen V r') (versions_seen V r') key) result) }
     {
-        let n = shards.shard_of(key);
-        let cache = shards.cache(n);
-        let lender = shards.lender(n);
-        let reader = &mut self.readers[n];
-        lender.try_swap(cache, reader, key, value)
+        self.try_call(shards, key, Swapping(key, &value))
     }
 
     /// Like `try_put`, with `Desk::try_swap_if`.
@@ -50,11 +47,7 @@ impl<const V: usize> Pass<V> {
             (λ h h'. TurnMeans (λ a b told. SwapIfMeans V a b key since value.entry told) h h' result) }
         ensures fails { ChangesAt (shard_in shards.now key) self.old self.new (λ r r'. TurnFails (SwapIfFails shards.now.shape (seen V r') (versions_seen V r')) result) }
     {
-        let n = shards.shard_of(key);
-        let cache = shards.cache(n);
-        let lender = shards.lender(n);
-        let reader = &mut self.readers[n];
-        lender.try_swap_if(cache, reader, key, since, value)
+        self.try_call(shards, key, SwappingIf(key, since, &value))
     }
 
     /// Like `try_put`, with `Desk::try_take`.
@@ -67,10 +60,6 @@ impl<const V: usize> Pass<V> {
             (λ h h'. TurnMeans (λ a b told. TakeMeans V a b key told) h h' result) }
         ensures fails { ChangesAt (shard_in shards.now key) self.old self.new (λ r r'. TurnFails (TakeFails shards.now.shape (seen V r') (versions_seen V r')) result) }
     {
-        let n = shards.shard_of(key);
-        let cache = shards.cache(n);
-        let lender = shards.lender(n);
-        let reader = &mut self.readers[n];
-        lender.try_take(cache, reader, key)
+        self.try_call(shards, key, Taking(key))
     }
 }

@@ -1,5 +1,7 @@
 -- A turn in its parts.
-use Rattle.std.specs.Prelude.{ℕ, ◌≡◌, Option, Some, None, Result, Ok, Err}
+use Rattle.std.specs.Prelude.{ℕ, ◌≡◌, List, Result, Ok, Err, IfOk}
+use Rattle.mc_words.specs.declared.history.Change.{Change}
+use Rattle.mc_words.specs.declared.no_memory.NoMemory.{NoMemory}
 use Rattle.mc_words.specs.declared.shape.Shape.{Shape}
 use Rattle.mc_shared.specs.Records.{Opening, ReaderRecord, WriterRecord, reader_record}
 use Rattle.mc_shared.specs.Views.{IsFrontOf}
@@ -15,11 +17,6 @@ pub record HasBegunWith (V : ℕ) (o : Opening) (old new : ReaderRecord) (w : Wr
   pub seen : IsFrontOf old.front w.acts
   pub caught : new ≡ reader_record old.of old.number w.acts old.done
 
--- a turn was begun; or it was held, and the pass was left alone
-abbrev pub HasBegun : (V : ℕ) → Opening → ReaderRecord → ReaderRecord → Option WriterRecord → Type 0
-HasBegun V o old new (Some w) = HasBegunWith V o old new w
-HasBegun V o old new None = new ≡ old
-
 -- the pass was caught up with the writer once more
 pub record HasEnded (V : ℕ) (sh : Shape) (old new : ReaderRecord) (w : WriterRecord) : Type 0 where
   pub stands : IsLaidDown V w
@@ -30,3 +27,7 @@ pub record HasEnded (V : ℕ) (sh : Shape) (old new : ReaderRecord) (w : WriterR
 abbrev pub turned : {T E : Type 0} → Result T E → Result T (DeskError E)
 turned (Ok done) = Ok done
 turned (Err why) = Err (Call why)
+
+-- a list that changes nothing, of entries of which this holds
+abbrev pub Lists : {T : Type 0} {V : ℕ} → List (Change V) → List (Change V) → Result T NoMemory → (T → Type 0) → Type 0
+Lists h h' told Are = (h' ≡ h) × IfOk told Are

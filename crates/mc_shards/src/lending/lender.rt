@@ -3,14 +3,8 @@ ghost use Rattle.std.specs.Prelude.{◌≡◌, IfNone, IfOk, IfSome};
 
 use super::{FREE, LiesThere, WORDS, give, take};
 use atomic_table::Table;
-use mc_cache::turn::{
-    get_in_turn, list_in_turn, put_if_absent_in_turn, put_if_in_turn, put_in_turn, remove_in_turn,
-    swap_if_in_turn, swap_in_turn, take_in_turn,
-};
-use mc_cache::{
-    AbsentError, Cache, DeskError, IfError, NoMemory, Put, PutError, Reader, Remove, Replaced,
-    Reply, Spent, Swapped, Take, Writer,
-};
+use mc_cache::turn::{TurnCall, get_in_turn, list_in_turn, make_in_turn};
+use mc_cache::{Cache, DeskError, NoMemory, Reader, Reply, Writer};
 use std::alloc::{AllocError, Global};
 use std::marker::Model;
 use std::snapshot::Snapshot;
@@ -34,12 +28,9 @@ impl<const V: usize> Model for Lender<V> {
 }
 
 impl<const V: usize> Lender<V> {
-    ghost use Rattle.mc_cache.specs.Failing.{PutFails, PutIfAbsentFails, PutIfFails, RemovalFails, SwapFails, SwapIfFails, TakeFails, TurnFails, versions_seen};
-    ghost use Rattle.mc_cache.specs.Taking.{SwapIfMeans, SwapMeans, TakeMeans, swap_answer, swap_if_answer, take_answer};
-    ghost use Rattle.mc_cache.specs.Plain.{AreEntriesOf, Begins, HasAnswered, PutIfAbsentMeans, PutIfMeans, PutMeans, RemovalMeans, TurnMeans, seen};
-    ghost use Rattle.mc_cache.specs.Turns.{HasLookedInTurn, HasLookedOrMet, HasTried, HasTriedIfAbsent, HasTriedToList};
-    ghost use Rattle.mc_plan.specs.WholeCalls.{PutCall, PutIfCall, RemoveCall};
-    ghost use Rattle.mc_plan.specs.declared.answer.Answer.TheVariants as answer;
+    ghost use Rattle.mc_cache.specs.Failing.{TurnFails, versions_seen};
+    ghost use Rattle.mc_cache.specs.Plain.{AreEntriesOf, Begins, HasAnswered, TurnMeans, seen};
+    ghost use Rattle.mc_cache.specs.Turns.{HasLookedInTurn, HasLookedOrMet, HasTriedTo, HasTriedToList};
 
     /// A place for the writer.
     pub fn new(alloc: Global, writer: Writer<V>) -> Result<Lender<V>, AllocError>
@@ -55,185 +46,26 @@ impl<const V: usize> Lender<V> {
         }
     }
 
-    /// Tries once for the turn, and with it calls `Writer::put`. The caller's reader is its pass: with the turn, it catches
-    /// up with the writer before the call and after it. Condition: the pass is of this cache, and the cache is the writer's.
+    /// Tries once for the turn, and with it makes the call. The caller's reader is its pass: with the turn, it catches up with the
+    /// writer before the call and after it. Condition: the pass is of this cache, and the cache is the writer's.
     #[inline(always)]
-    pub fn try_put(
+    pub fn try_call<T, E, C: TurnCall<V, T, E>>(
         &self,
         cache: &Cache<V>,
         pass: &mut Reader<V>,
-        key: u64,
-        value: [u64; V],
-    ) -> Result<Put, DeskError<PutError>>
+        call: C,
+    ) -> Result<T, DeskError<E>>
         requires of { (self.now ≡ cache.now) × (pass.old.of ≡ cache.now) }
         ensures of { pass.new.of ≡ pass.old.of }
-        ensures turn { HasTried V cache.now.layout.shape (PutCall key value.entry) answer.Put pass.old pass.new result }
-        ensures plain { TurnMeans (λ h h' told. PutMeans V h h' key value.entry told) (seen V pass.old) (seen V pass.new) result }
-        ensures fails { TurnFails (PutFails cache.now.layout.shape (seen V pass.new) (versions_seen V pass.new) key) result }
+        ensures turn { HasTriedTo V cache.now.layout.shape ((C.contract call).called cache.now.layout.shape) pass.old pass.new result }
+        ensures plain { TurnMeans ((C.contract call).means) (seen V pass.old) (seen V pass.new) result }
+        ensures fails { TurnFails ((C.contract call).fails cache.now.layout.shape (seen V pass.new) (versions_seen V pass.new)) result }
     {
         let shared = &self.table.shared;
         let Some(mut turn) = take(shared) else {
             return Err(DeskError::Held);
         };
-        let answer = put_in_turn(cache, pass, turn.seat.slot_mut(shared, 0), key, value);
-        give(shared, turn);
-        answer
-    }
-
-    /// Like `try_put`, with `Writer::put_if`.
-    #[inline(always)]
-    pub fn try_put_if(
-        &self,
-        cache: &Cache<V>,
-        pass: &mut Reader<V>,
-        key: u64,
-        since: u64,
-        value: [u64; V],
-    ) -> Result<u64, DeskError<IfError>>
-        requires of { (self.now ≡ cache.now) × (pass.old.of ≡ cache.now) }
-        ensures of { pass.new.of ≡ pass.old.of }
-        ensures turn { HasTried V cache.now.layout.shape (PutIfCall key since value.entry) answer.PutIf pass.old pass.new result }
-        ensures plain { TurnMeans (λ h h' told. PutIfMeans V h h' key since value.entry told) (seen V pass.old) (seen V pass.new) result }
-        ensures fails { TurnFails (PutIfFails cache.now.layout.shape (seen V pass.new) (versions_seen V pass.new)) result }
-    {
-        let shared = &self.table.shared;
-        let Some(mut turn) = take(shared) else {
-            return Err(DeskError::Held);
-        };
-        let answer = put_if_in_turn(
-            cache,
-            pass,
-            turn.seat.slot_mut(shared, 0),
-            key,
-            since,
-            value,
-        );
-        give(shared, turn);
-        answer
-    }
-
-    /// Like `try_put`, with `Writer::put_if_absent`.
-    #[inline(always)]
-    pub fn try_put_if_absent(
-        &self,
-        cache: &Cache<V>,
-        pass: &mut Reader<V>,
-        key: u64,
-        value: [u64; V],
-    ) -> Result<Put, DeskError<AbsentError>>
-        requires of { (self.now ≡ cache.now) × (pass.old.of ≡ cache.now) }
-        ensures of { pass.new.of ≡ pass.old.of }
-        ensures turn { HasTriedIfAbsent V cache.now.layout.shape key value.entry pass.old pass.new result }
-        ensures plain { TurnMeans (λ h h' told. PutIfAbsentMeans V h h' key value.entry told) (seen V pass.old) (seen V pass.new) result }
-        ensures fails { TurnFails (PutIfAbsentFails cache.now.layout.shape (seen V pass.new) (versions_seen V pass.new) key) result }
-    {
-        let shared = &self.table.shared;
-        let Some(mut turn) = take(shared) else {
-            return Err(DeskError::Held);
-        };
-        let answer = put_if_absent_in_turn(cache, pass, turn.seat.slot_mut(shared, 0), key, value);
-        give(shared, turn);
-        answer
-    }
-
-    /// Like `try_put`, with `Writer::remove`.
-    #[inline(always)]
-    pub fn try_remove(
-        &self,
-        cache: &Cache<V>,
-        pass: &mut Reader<V>,
-        key: u64,
-    ) -> Result<Remove, DeskError<Spent>>
-        requires of { (self.now ≡ cache.now) × (pass.old.of ≡ cache.now) }
-        ensures of { pass.new.of ≡ pass.old.of }
-        ensures turn { HasTried V cache.now.layout.shape (RemoveCall key) answer.Remove pass.old pass.new result }
-        ensures plain { TurnMeans (λ h h' told. RemovalMeans V h h' key told) (seen V pass.old) (seen V pass.new) result }
-        ensures fails { TurnFails (RemovalFails cache.now.layout.shape (seen V pass.new) (versions_seen V pass.new)) result }
-    {
-        let shared = &self.table.shared;
-        let Some(mut turn) = take(shared) else {
-            return Err(DeskError::Held);
-        };
-        let answer = remove_in_turn(cache, pass, turn.seat.slot_mut(shared, 0), key);
-        give(shared, turn);
-        answer
-    }
-
-    /// Like `try_put`, with `Writer::swap`.
-    #[inline(always)]
-    pub fn try_swap(
-        &self,
-        cache: &Cache<V>,
-        pass: &mut Reader<V>,
-        key: u64,
-        value: [u64; V],
-    ) -> Result<Swapped<V>, DeskError<PutError>>
-        requires of { (self.now ≡ cache.now) × (pass.old.of ≡ cache.now) }
-        ensures of { pass.new.of ≡ pass.old.of }
-        ensures turn { HasTried V cache.now.layout.shape (PutCall key value.entry) swap_answer pass.old pass.new result }
-        ensures plain { TurnMeans (λ h h' told. SwapMeans V h h' key value.entry told) (seen V pass.old) (seen V pass.new) result }
-        ensures fails { TurnFails (SwapFails cache.now.layout.shape (seen V pass.new) (versions_seen V pass.new) key) result }
-    {
-        let shared = &self.table.shared;
-        let Some(mut turn) = take(shared) else {
-            return Err(DeskError::Held);
-        };
-        let answer = swap_in_turn(cache, pass, turn.seat.slot_mut(shared, 0), key, value);
-        give(shared, turn);
-        answer
-    }
-
-    /// Like `try_put`, with `Writer::swap_if`.
-    #[inline(always)]
-    pub fn try_swap_if(
-        &self,
-        cache: &Cache<V>,
-        pass: &mut Reader<V>,
-        key: u64,
-        since: u64,
-        value: [u64; V],
-    ) -> Result<Replaced<V>, DeskError<IfError>>
-        requires of { (self.now ≡ cache.now) × (pass.old.of ≡ cache.now) }
-        ensures of { pass.new.of ≡ pass.old.of }
-        ensures turn { HasTried V cache.now.layout.shape (PutIfCall key since value.entry) swap_if_answer pass.old pass.new result }
-        ensures plain { TurnMeans (λ h h' told. SwapIfMeans V h h' key since value.entry told) (seen V pass.old) (seen V pass.new) result }
-        ensures fails { TurnFails (SwapIfFails cache.now.layout.shape (seen V pass.new) (versions_seen V pass.new)) result }
-    {
-        let shared = &self.table.shared;
-        let Some(mut turn) = take(shared) else {
-            return Err(DeskError::Held);
-        };
-        let answer = swap_if_in_turn(
-            cache,
-            pass,
-            turn.seat.slot_mut(shared, 0),
-            key,
-            since,
-            value,
-        );
-        give(shared, turn);
-        answer
-    }
-
-    /// Like `try_put`, with `Writer::take`.
-    #[inline(always)]
-    pub fn try_take(
-        &self,
-        cache: &Cache<V>,
-        pass: &mut Reader<V>,
-        key: u64,
-    ) -> Result<Take<V>, DeskError<Spent>>
-        requires of { (self.now ≡ cache.now) × (pass.old.of ≡ cache.now) }
-        ensures of { pass.new.of ≡ pass.old.of }
-        ensures turn { HasTried V cache.now.layout.shape (RemoveCall key) take_answer pass.old pass.new result }
-        ensures plain { TurnMeans (λ h h' told. TakeMeans V h h' key told) (seen V pass.old) (seen V pass.new) result }
-        ensures fails { TurnFails (TakeFails cache.now.layout.shape (seen V pass.new) (versions_seen V pass.new)) result }
-    {
-        let shared = &self.table.shared;
-        let Some(mut turn) = take(shared) else {
-            return Err(DeskError::Held);
-        };
-        let answer = take_in_turn(cache, pass, turn.seat.slot_mut(shared, 0), key);
+        let answer = make_in_turn(cache, pass, turn.seat.slot_mut(shared, 0), call);
         give(shared, turn);
         answer
     }
