@@ -36,7 +36,7 @@ take_out-requires g c =
     let same = c.entry_in-old.ensures.same ∙ c.decide_removal.ensures.kept in
     let planned = c.in-TakeOut.ensures.decided (state_at V pen) (known_there V pen c.args.books.now c.requires.rested) refl in
     let due = due_now V pen q c.args.books.now c.decide_removal.new.self (RemoveCall c.args.key) (answer.Remove (Ok (remove.Removed c.in-TakeOut.at))) (λ _. remove_acts c.args.key c.in-TakeOut.place) [] (layout_rested V pen c.args.books.now c.requires.rested) c.decide_removal.ensures.shape (not_turned V pen q same) planned in
-    (omega arith, (due, subst (λ (x : Pen V). HasParts x.cells.now.layout.shape c.args.key c.parts-parts.result) (sym c.entry_in-old.ensures.same) c.parts-parts.ensures))
+    (omega arith, (due, subst (λ (x : Pen V). HasParts x.cells.now.layout.shape c.args.key c.parts-parts.result) (sym same) c.parts-parts.ensures))
 
 pub returns-in-TakeOut-clause-rested : goal.returns-in-TakeOut-clause-rested
 returns-in-TakeOut-clause-rested g c =
