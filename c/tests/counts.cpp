@@ -151,7 +151,7 @@ struct Told {
 // Works until some thread was held, and a while in any case.
 static void work(Pass<1> &pass, Told &told, std::atomic<bool> &is_held) {
     std::vector<uint64_t> list;
-    for (uint64_t n = 0; n < 1000 || (n < 1000000 && !is_held); n++) {
+    for (uint64_t n = 0; n < 1000 || (n < 100000 && !is_held); n++) {
         const uint64_t key = n * 7 % 11;
         uint64_t number;
         told.looked(pass.get(key));

@@ -1,14 +1,13 @@
 //! A cache for threads that write by turns.
 use crate::cache::{Reader, Writer};
 use crate::counts::Meter;
-use crate::error::{EndError, ListError, OpenError, PutError, PutIfAbsentError, PutIfError, Spent, TurnError};
+use crate::error::{EndError, ListError, NoDesk, NotEnded, OpenError, PutError, PutIfAbsentError, PutIfError, Spent, TurnError};
 use crate::handle::Handle;
 use crate::raw;
 use crate::reply::{self, Entry, Put, Removal, Replaced, Reply, Swapped, Take};
 use crate::shape::Shape;
 use crate::width::Value;
-use std::error::Error;
-use std::fmt::{self, Debug, Display, Formatter};
+use std::fmt::{self, Debug, Formatter};
 use std::sync::{Mutex, PoisonError};
 
 /// A cache for threads that write by turns: a try-lock around its writer. Threads share the desk, and each takes a [`Pass`].
@@ -177,45 +176,6 @@ impl<const WORDS: usize> Writer<WORDS> {
         }
     }
 }
-
-/// A writer that did not go on a desk, and why.
-#[derive(Debug)]
-pub struct NoDesk<const WORDS: usize> {
-    /// The writer, as it was.
-    pub writer: Writer<WORDS>,
-    /// [`OpenError::Readers`]: no passes, or more than the cache has readers to spare. [`OpenError::NoMemory`].
-    pub why: OpenError,
-}
-
-impl<const WORDS: usize> Display for NoDesk<WORDS> {
-    fn fmt(&self, text: &mut Formatter) -> fmt::Result {
-        match self.why {
-            OpenError::Readers => text.write_str("there must be passes, and no more than the cache has readers to spare"),
-            why => Display::fmt(&why, text),
-        }
-    }
-}
-
-impl<const WORDS: usize> Error for NoDesk<WORDS> {}
-
-/// A desk that did not end, and why. Its passes are all here: those that have not left it, and those that are readers now.
-#[derive(Debug)]
-pub struct NotEnded<const WORDS: usize> {
-    /// The desk, with the passes that have not left it. If they are all gone, [`Desk::pass`] returns `None`.
-    pub desk: Desk<WORDS>,
-    /// A reader for each pass that has left the desk.
-    pub readers: Vec<Reader<WORDS>>,
-    /// Why the desk did not end.
-    pub why: EndError,
-}
-
-impl<const WORDS: usize> Display for NotEnded<WORDS> {
-    fn fmt(&self, text: &mut Formatter) -> fmt::Result {
-        Display::fmt(&self.why, text)
-    }
-}
-
-impl<const WORDS: usize> Error for NotEnded<WORDS> {}
 
 impl<const WORDS: usize> Debug for Desk<WORDS> {
     fn fmt(&self, text: &mut Formatter) -> fmt::Result {

@@ -1,4 +1,6 @@
 //! Why a call failed.
+use crate::cache::{Reader, Writer};
+use crate::desk::Desk;
 use crate::raw;
 use std::error::Error;
 use std::fmt::{self, Display, Formatter};
@@ -112,6 +114,26 @@ pub enum EndError {
     NoMemory,
     /// No pass got the writer: one of the desk was forgotten ([`std::mem::forget`]), and still has a share of it.
     NoWriter,
+}
+
+/// A writer that did not go on a desk, and why.
+#[derive(Debug)]
+pub struct NoDesk<const WORDS: usize> {
+    /// The writer, as it was.
+    pub writer: Writer<WORDS>,
+    /// [`OpenError::Readers`]: no passes, or more than the cache has readers to spare. [`OpenError::NoMemory`].
+    pub why: OpenError,
+}
+
+/// A desk that did not end, and why. Its passes are all here: those that have not left it, and those that are readers now.
+#[derive(Debug)]
+pub struct NotEnded<const WORDS: usize> {
+    /// The desk, with the passes that have not left it. If they are all gone, [`Desk::pass`] returns `None`.
+    pub desk: Desk<WORDS>,
+    /// A reader for each pass that has left the desk.
+    pub readers: Vec<Reader<WORDS>>,
+    /// Why the desk did not end.
+    pub why: EndError,
 }
 
 /// Why a try for the turn failed. There will be no third reason, so a `match` may list both.
@@ -249,6 +271,21 @@ impl<E: Display> Display for TurnError<E> {
     }
 }
 
+impl<const WORDS: usize> Display for NoDesk<WORDS> {
+    fn fmt(&self, text: &mut Formatter) -> fmt::Result {
+        match self.why {
+            OpenError::Readers => text.write_str("there must be passes, and no more than the cache has readers to spare"),
+            why => Display::fmt(&why, text),
+        }
+    }
+}
+
+impl<const WORDS: usize> Display for NotEnded<WORDS> {
+    fn fmt(&self, text: &mut Formatter) -> fmt::Result {
+        Display::fmt(&self.why, text)
+    }
+}
+
 impl Error for OpenError {}
 impl Error for PutError {}
 impl Error for Why {}
@@ -258,3 +295,5 @@ impl Error for Spent {}
 impl Error for ListError {}
 impl Error for EndError {}
 impl<E: Error> Error for TurnError<E> {}
+impl<const WORDS: usize> Error for NoDesk<WORDS> {}
+impl<const WORDS: usize> Error for NotEnded<WORDS> {}

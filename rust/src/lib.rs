@@ -26,8 +26,10 @@ mod width;
 pub use audit::AuditLog;
 pub use cache::{Cache, Opened, Reader, Writer};
 pub use counts::{prometheus, Counts, Meter};
-pub use desk::{Desk, NoDesk, NotEnded, Pass};
-pub use error::{EndError, ListError, OpenError, PutError, PutIfAbsentError, PutIfError, Spent, TurnError, Why};
+pub use desk::{Desk, Pass};
+pub use error::{
+    EndError, ListError, NoDesk, NotEnded, OpenError, PutError, PutIfAbsentError, PutIfError, Spent, TurnError, Why,
+};
 pub use filler::{FillError, Filler, Ticket, Tickets};
 pub use handle::version;
 pub use pool::{Lent, Pool};

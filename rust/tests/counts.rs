@@ -156,7 +156,7 @@ impl Told {
 fn work(pass: &mut Pass<1>, is_held: &AtomicBool) -> Told {
     let mut told = Told::default();
     let mut replies = [Reply::Busy; 3];
-    for n in 0..1_000_000 {
+    for n in 0..100_000 {
         if n >= 1000 && is_held.load(Ordering::Relaxed) {
             break;
         }
