@@ -1,13 +1,18 @@
 -- Shards are listed one after the other, from the last one back.
-use Rattle.std.proofs.Common.{ℕ, zero, suc, ◌≡◌, ◌+◌, ◌<◌, ◌≤◌, ◌∙◌, List, [], ◌∷◌, length, drop, set, ap, arith, refl, subst, sym}
+use Rattle.std.specs.Prelude.{Err, slice_get, slice_set}
+use Rattle.std.proofs.Common.{ℕ, zero, suc, ◌≡◌, ◌+◌, ◌<◌, ◌≤◌, ◌∙◌, List, [], ◌∷◌, length, drop, set, Some, ap, arith, refl, subst, sym}
 use Rattle.std.proofs.lemmas.List.{length-map}
-use Rattle.std.proofs.lemmas.Option.{slice_get_within}
+use Rattle.std.proofs.lemmas.Option.{none-some, slice_get_within}
 use Rattle.mc_words.specs.Keys.{shard_of}
 use Rattle.mc_words.specs.Shapes.{HasShards}
 use Rattle.mc_words.specs.declared.history.Change.{Change}
 use Rattle.mc_words.specs.declared.mix.Mix.{Mix}
 use Rattle.mc_shared.specs.Records.{ReaderRecord}
+use Rattle.mc_words.specs.declared.no_memory.NoMemory.{NoMemory}
 use Rattle.mc_cache.specs.Plain.{Begins, seen}
+use Rattle.mc_cache.specs.Turns.{HasTriedToList}
+use Rattle.mc_cache.specs.declared.desk.DeskError.{DeskError}
+use Rattle.mc_cache.specs.declared.desk.DeskError.TheVariants as desk
 use Rattle.mc_shards.proofs.Dealt.{as_many}
 use Rattle.mc_shards.proofs.Entries.{entries_of_all}
 use Rattle.mc_shards.proofs.Many.{all_begin_then}
@@ -15,6 +20,7 @@ use Rattle.mc_shards.proofs.OneMap.{all_begin_set}
 use Rattle.mc_shards.specs.Inside.Listed.{AddsShard, AreListed}
 use Rattle.mc_shards.specs.Plain.{AllBegin, AreEntriesOfAll, seens}
 use Rattle.mc_shards.specs.Sharded.{ArePassOf, ChangesAt, Sharded}
+use Rattle.mc_shards.specs.Unlisted.{HasNotListed, HasStopped}
 
 -- ---- lists
 drop_all : {A : Type 0} (xs : List A) (n : ℕ) → n ≡ length xs → drop n xs ≡ []
@@ -58,3 +64,36 @@ listed_all V s rs n es shards are none l =
     let whole : AreListed V s.shape.mix (length s.tables) 0 (seens V rs) es = subst (λ (k : ℕ). AreListed V s.shape.mix (length s.tables) k (drop k (seens V rs)) es) none l in
     entries_of_all V s.shape.mix (seens V rs) es (λ k. shard_below s.shape.mix (length (seens V rs)) k (omega (arith, long, shards.0)))
     (subst (λ (m : ℕ). AreListed V s.shape.mix m 0 (seens V rs) es) (sym long) whole)
+
+-- ---- the shard that was not listed
+pub not_listed : (T : Type 0) (V : ℕ) (why : DeskError NoMemory) (r r' : ReaderRecord) → HasTriedToList {T = T} V r r' (Err why) → HasNotListed V why r r'
+not_listed T V desk.Held r r' t = t
+not_listed T V (desk.Call refused) r r' t = t
+
+pub changes_as : {A : Type 0} (n : ℕ) (xs ys : List A) (Goes Went : A → A → Type 0) → ((x y : A) → Goes x y → Went x y) → ChangesAt n xs ys Goes → ChangesAt n xs ys Went
+changes_as n xs ys Goes Went then c = record { before = c.before; after = c.after; was = c.was; is = c.is; goes = then c.before c.after c.goes }
+
+get_set_same : {A : Type 0} (xs : List A) (n : ℕ) (x y : A) → slice_get xs n ≡ Some x → slice_get (slice_set xs n y) n ≡ Some y
+get_set_same [] n x y was = absurd (none-some x was)
+get_set_same (x ∷ xs) zero x' y was = refl
+get_set_same (x ∷ xs) (suc n) x' y was = get_set_same xs n x' y was
+
+get_set_below : {A : Type 0} (xs : List A) (n m : ℕ) (y : A) → m < n → slice_get (slice_set xs n y) m ≡ slice_get xs m
+get_set_below [] n m y l = refl
+get_set_below (x ∷ xs) zero m y l = absurd (omega (arith, l))
+get_set_below (x ∷ xs) (suc n) zero y l = refl
+get_set_below (x ∷ xs) (suc n) (suc m) y l = get_set_below xs n m y (omega (arith, l))
+
+-- the readers of the shards below are as they were
+pub still_below : {A : Type 0} (n m k : ℕ) (first xs ys : List A) (Goes : A → A → Type 0) → m ≡ n + 1 → ((i : ℕ) → i < m → slice_get xs i ≡ slice_get first i) → ChangesAt n xs ys Goes → k < n → slice_get ys k ≡ slice_get first k
+still_below n m k first xs ys Goes next same c less = ap (λ zs. slice_get zs k) c.is ∙ (get_set_below xs n k c.after less ∙ same k (omega (arith, less, next)))
+
+pub stopped : (V n m : ℕ) (first rs rs' : List ReaderRecord) (why : DeskError NoMemory) → m ≡ n + 1 → ((i : ℕ) → i < m → slice_get rs i ≡ slice_get first i) → ChangesAt n rs rs' (λ r r'. HasNotListed V why r r') → HasStopped V first rs' why
+stopped V n m first rs rs' why next same c = record {
+  shard = n;
+  before = c.before;
+  after = c.after;
+  was = sym (same n (omega (arith, next))) ∙ c.was;
+  is = ap (λ zs. slice_get zs n) c.is ∙ get_set_same rs n c.before c.after c.was;
+  failed = c.goes;
+}

@@ -6,5 +6,6 @@ pub mod Loadings
 pub mod OneMap
 pub mod Spread
 pub mod Sizing
+pub mod Unlisted
 pub mod Lending
 pub mod Inside

@@ -1,8 +1,9 @@
 //! Closing shards.
-ghost use Rattle.std.specs.Prelude.{◌≡◌, List, MatchResult};
+ghost use Rattle.std.specs.Prelude.{◌≡◌, IfErr, List, MatchResult};
 ghost use Rattle.mc_cache.specs.Change.{Change};
 ghost use Rattle.mc_shards.specs.Plain.{AllBegin, AreEntriesOfAll, seens};
 ghost use Rattle.mc_shards.specs.Sharded.{ArePassOf};
+ghost use Rattle.mc_shards.specs.Unlisted.{HasStopped};
 
 use crate::pass::Pass;
 use crate::shards::Shards;
@@ -30,6 +31,7 @@ impl<const V: usize> Shards<V> {
         ensures entries { MatchResult result
             (λ es. (hs : List (List (Change V))) × AllBegin (seens V pass.entry) hs × AreEntriesOfAll V self.entry.shape.mix hs es.items)
             (λ still. (still.shards ≡ self.entry) × ArePassOf still.shards still.pass × AllBegin (seens V pass.entry) (seens V still.pass)) }
+        ensures why { IfErr result (λ still. HasStopped V pass.entry still.pass still.why) }
     {
         match pass.entries(alloc, &self) {
             Ok(entries) => Ok(entries),

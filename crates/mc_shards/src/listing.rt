@@ -1,10 +1,13 @@
 //! The entries of all shards.
-ghost use Rattle.std.specs.Prelude.{◌≡◌, ◌<◌, ◌++◌, IfOk, OnOk, length};
+ghost use Rattle.std.specs.Prelude.{◌≡◌, ◌<◌, ◌++◌, IfErr, IfOk, OnOk, length};
 ghost use Rattle.mc_words.specs.Shapes.{HasShards};
+ghost use Rattle.mc_cache.specs.Plain.{AreEntriesOf};
+ghost use Rattle.mc_cache.specs.Turns.{HasTriedToList};
 ghost use Rattle.mc_shards.specs.Inside.Listed.{AddsShard};
 ghost use Rattle.mc_shards.specs.Own.{own_of};
 ghost use Rattle.mc_shards.specs.Plain.{AllBegin, AreEntriesOfAll, Begins, seens};
 ghost use Rattle.mc_shards.specs.Sharded.{ArePassOf, ChangesAt};
+ghost use Rattle.mc_shards.specs.Unlisted.{HasNotListed, HasStopped};
 
 use crate::pass::Pass;
 use crate::shards::Shards;
@@ -31,7 +34,26 @@ fn list_own<const V: usize>(
 }
 
 impl<const V: usize> Pass<V> {
-    // Adds the entries of one shard, by one try for its turn.
+    // The entries of one shard's cache, by one try for its turn.
+    fn entries_at(
+        &mut self,
+        alloc: Global,
+        shards: &Shards<V>,
+        n: usize,
+    ) -> Result<Vec<(u64, [u64; V])>, DeskError<NoMemory>>
+        requires of { ArePassOf shards.now self.old }
+        requires range { n < length shards.now.tables }
+        ensures of { ArePassOf shards.now self.new }
+        ensures met { ChangesAt n self.old self.new (λ r r'. HasTriedToList V r r' result) }
+        ensures plain { ChangesAt n (seens V self.old) (seens V self.new) (λ h h'. Begins h h' × IfOk result (λ es. AreEntriesOf V h' es.items)) }
+    {
+        let cache = shards.cache(n);
+        let lender = shards.lender(n);
+        let reader = &mut self.readers[n];
+        lender.try_entries(alloc, cache, reader)
+    }
+
+    // Adds the entries of one shard.
     fn list_shard(
         &mut self,
         alloc: Global,
@@ -42,14 +64,15 @@ impl<const V: usize> Pass<V> {
         requires of { ArePassOf shards.now self.old }
         requires range { n < length shards.now.tables }
         ensures of { ArePassOf shards.now self.new }
+        ensures failed { ChangesAt n self.old self.new (λ r r'. IfErr result (λ why. HasNotListed V why r r')) }
         ensures begins { ChangesAt n (seens V self.old) (seens V self.new) (λ h h'. Begins h h') }
         ensures listed { OnOk result (ChangesAt n (seens V self.old) (seens V self.new)
             (λ h h'. AddsShard V shards.now.shape.mix (length shards.now.tables) n h' all.old.items all.new.items)) }
     {
-        let cache = shards.cache(n);
-        let lender = shards.lender(n);
-        let reader = &mut self.readers[n];
-        let entries = lender.try_entries(alloc, cache, reader)?;
+        let entries = match self.entries_at(alloc, shards, n) {
+            Ok(entries) => entries,
+            Err(why) => return Err(why),
+        };
         let Ok(()) = list_own(shards.shape.mix, shards.count(), n as u32, entries, all) else {
             return Err(DeskError::Call(NoMemory));
         };
@@ -66,13 +89,17 @@ impl<const V: usize> Pass<V> {
         requires of { ArePassOf shards.now self.old }
         ensures of { ArePassOf shards.now self.new }
         ensures begins { AllBegin (seens V self.old) (seens V self.new) }
+        ensures stopped { IfErr result (λ why. HasStopped V self.old self.new why) }
         ensures plain { IfOk result (λ es. AreEntriesOfAll V shards.now.shape.mix (seens V self.new) es.items) }
     {
         let mut all = Vec::new(alloc);
         let mut left = shards.count() as usize;
         while left > 0 {
             left -= 1;
-            self.list_shard(alloc, shards, left, &mut all)?;
+            match self.list_shard(alloc, shards, left, &mut all) {
+                Ok(()) => {}
+                Err(why) => return Err(why),
+            }
         }
         Ok(all)
     }

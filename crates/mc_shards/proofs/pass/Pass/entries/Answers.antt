@@ -1,6 +1,6 @@
-use Rattle.std.proofs.Common.{ℕ, ◌-◌, List, arith, drop, length, subst, sym}
+use Rattle.std.proofs.Common.{ℕ, ◌-◌, List, arith, drop, length, refl, subst, sym}
 use Rattle.mc_words.specs.Shapes.{HasShards}
-use Rattle.mc_shards.proofs.ListedShards.{begins_more, listed_all, listed_more, listed_none}
+use Rattle.mc_shards.proofs.ListedShards.{begins_more, listed_all, listed_more, listed_none, still_below, stopped}
 use Rattle.mc_shards.proofs.OneMap.{all_begin_same}
 use Rattle.mc_shards.specs.Inside.Listed.{AreListed}
 use Rattle.mc_shards.specs.Plain.{seens}
@@ -10,6 +10,7 @@ pub loop-left-init : goal.loop-left-init
 loop-left-init g c = record {
   of = c.requires.of;
   begins = all_begin_same (seens g.row.V c.args.self.now);
+  below = λ i less. refl;
   few = omega (arith, c.count-left.ensures.count);
   many = subst HasShards c.count-left.ensures.count c.count-left.ensures.power;
   listed = subst (λ (es : List (ℕ × List ℕ)). AreListed g.row.V c.args.shards.now.shape.mix (length c.args.shards.now.tables) c.count-left.result (drop c.count-left.result (seens g.row.V c.args.self.now)) es) (sym c.new-all.ensures.items)
@@ -24,15 +25,20 @@ loop-left-preserved g c =
     record {
       of = c.list_shard.ensures.of;
       begins = begins_more g.row.V (c.loop-left.left - 1) (seens g.row.V c.args.self.now) hs hs' was.begins c.list_shard.ensures.begins;
+      below = λ i less. still_below (c.loop-left.left - 1) c.loop-left.left i c.args.self.now c.loop-left.self c.list_shard.new.self _ (omega (arith, c.loop-left-test.true)) was.below c.list_shard.ensures.failed less;
       few = omega (arith, was.few);
       many = was.many;
       listed = listed_more g.row.V c.args.shards.now.shape.mix (length c.args.shards.now.tables) c.loop-left.left (c.loop-left.left - 1) hs hs' c.loop-left.all.items c.list_shard.new.all.items (omega (arith, c.loop-left-test.true)) was.listed
-          c.in_ok-list_shard.ensures.listed;
+          c.in-Ok.ensures.listed;
     }
 
-pub returns-in_err-list_shard-clause-begins : goal.returns-in_err-list_shard-clause-begins
-returns-in_err-list_shard-clause-begins g c =
+pub returns-in-Err-clause-begins : goal.returns-in-Err-clause-begins
+returns-in-Err-clause-begins g c =
     begins_more g.row.V (c.loop-left.left - 1) (seens g.row.V c.args.self.now) (seens g.row.V c.loop-left.self) (seens g.row.V c.list_shard.new.self) c.loop-left.invariant.begins c.list_shard.ensures.begins
+
+pub returns-in-Err-clause-stopped : goal.returns-in-Err-clause-stopped
+returns-in-Err-clause-stopped g c =
+    stopped g.row.V (c.loop-left.left - 1) c.loop-left.left c.args.self.now c.loop-left.self c.list_shard.new.self _ (omega (arith, c.loop-left-test.true)) c.loop-left.invariant.below c.in-Err.ensures.failed
 
 pub returns-clause-plain : goal.returns-clause-plain
 returns-clause-plain g c =
