@@ -316,8 +316,9 @@ CEFRODIL_CHECKED CEFRODIL_NO_NULL cefrodil_status cefrodil_stamped_entries(cefro
  * OK, or CLOSED if it was not open, or null. The handle is closed afterwards. */
 CEFRODIL_NO_NULL cefrodil_status cefrodil_close(cefrodil_handle *handle);
 
-/* cefrodil_get and cefrodil_put for values of 1 to 8 words. An optimizing compiler calls these where `words` is a constant, because
- * they take fewer instructions. A program has no need to name them: they return what cefrodil_get and cefrodil_put return. */
+/* cefrodil_get, cefrodil_put, cefrodil_get_or_desk and cefrodil_try_put for values of 1 to 8 words. An optimizing compiler calls these
+ * where `words` is a constant, because they take fewer instructions. A program has no need to name them: each returns what the call
+ * without a number returns. */
 CEFRODIL_CHECKED CEFRODIL_NO_NULL cefrodil_status cefrodil_get_1(cefrodil_handle *reader, uint64_t key, uint64_t *value,
                                                                  cefrodil_reply *reply);
 CEFRODIL_CHECKED CEFRODIL_NO_NULL cefrodil_status cefrodil_get_2(cefrodil_handle *reader, uint64_t key, uint64_t *value,
@@ -342,6 +343,38 @@ CEFRODIL_NO_NULL cefrodil_status cefrodil_put_5(cefrodil_handle *writer, uint64_
 CEFRODIL_NO_NULL cefrodil_status cefrodil_put_6(cefrodil_handle *writer, uint64_t key, const uint64_t *value, cefrodil_reply *reply);
 CEFRODIL_NO_NULL cefrodil_status cefrodil_put_7(cefrodil_handle *writer, uint64_t key, const uint64_t *value, cefrodil_reply *reply);
 CEFRODIL_NO_NULL cefrodil_status cefrodil_put_8(cefrodil_handle *writer, uint64_t key, const uint64_t *value, cefrodil_reply *reply);
+CEFRODIL_CHECKED CEFRODIL_NO_NULL cefrodil_status cefrodil_get_or_desk_1(cefrodil_handle *pass, uint64_t key, uint64_t *value,
+                                                                         cefrodil_reply *reply);
+CEFRODIL_CHECKED CEFRODIL_NO_NULL cefrodil_status cefrodil_get_or_desk_2(cefrodil_handle *pass, uint64_t key, uint64_t *value,
+                                                                         cefrodil_reply *reply);
+CEFRODIL_CHECKED CEFRODIL_NO_NULL cefrodil_status cefrodil_get_or_desk_3(cefrodil_handle *pass, uint64_t key, uint64_t *value,
+                                                                         cefrodil_reply *reply);
+CEFRODIL_CHECKED CEFRODIL_NO_NULL cefrodil_status cefrodil_get_or_desk_4(cefrodil_handle *pass, uint64_t key, uint64_t *value,
+                                                                         cefrodil_reply *reply);
+CEFRODIL_CHECKED CEFRODIL_NO_NULL cefrodil_status cefrodil_get_or_desk_5(cefrodil_handle *pass, uint64_t key, uint64_t *value,
+                                                                         cefrodil_reply *reply);
+CEFRODIL_CHECKED CEFRODIL_NO_NULL cefrodil_status cefrodil_get_or_desk_6(cefrodil_handle *pass, uint64_t key, uint64_t *value,
+                                                                         cefrodil_reply *reply);
+CEFRODIL_CHECKED CEFRODIL_NO_NULL cefrodil_status cefrodil_get_or_desk_7(cefrodil_handle *pass, uint64_t key, uint64_t *value,
+                                                                         cefrodil_reply *reply);
+CEFRODIL_CHECKED CEFRODIL_NO_NULL cefrodil_status cefrodil_get_or_desk_8(cefrodil_handle *pass, uint64_t key, uint64_t *value,
+                                                                         cefrodil_reply *reply);
+CEFRODIL_CHECKED CEFRODIL_NO_NULL cefrodil_status cefrodil_try_put_1(cefrodil_handle *pass, uint64_t key, const uint64_t *value,
+                                                                     cefrodil_reply *reply);
+CEFRODIL_CHECKED CEFRODIL_NO_NULL cefrodil_status cefrodil_try_put_2(cefrodil_handle *pass, uint64_t key, const uint64_t *value,
+                                                                     cefrodil_reply *reply);
+CEFRODIL_CHECKED CEFRODIL_NO_NULL cefrodil_status cefrodil_try_put_3(cefrodil_handle *pass, uint64_t key, const uint64_t *value,
+                                                                     cefrodil_reply *reply);
+CEFRODIL_CHECKED CEFRODIL_NO_NULL cefrodil_status cefrodil_try_put_4(cefrodil_handle *pass, uint64_t key, const uint64_t *value,
+                                                                     cefrodil_reply *reply);
+CEFRODIL_CHECKED CEFRODIL_NO_NULL cefrodil_status cefrodil_try_put_5(cefrodil_handle *pass, uint64_t key, const uint64_t *value,
+                                                                     cefrodil_reply *reply);
+CEFRODIL_CHECKED CEFRODIL_NO_NULL cefrodil_status cefrodil_try_put_6(cefrodil_handle *pass, uint64_t key, const uint64_t *value,
+                                                                     cefrodil_reply *reply);
+CEFRODIL_CHECKED CEFRODIL_NO_NULL cefrodil_status cefrodil_try_put_7(cefrodil_handle *pass, uint64_t key, const uint64_t *value,
+                                                                     cefrodil_reply *reply);
+CEFRODIL_CHECKED CEFRODIL_NO_NULL cefrodil_status cefrodil_try_put_8(cefrodil_handle *pass, uint64_t key, const uint64_t *value,
+                                                                     cefrodil_reply *reply);
 
 #ifdef __cplusplus
 }
@@ -370,8 +403,8 @@ static inline cefrodil_handle cefrodil_take(cefrodil_handle *from) {
 #define CEFRODIL_KNOWN(number) 0
 #endif
 
-/* The exports take no null pointer. The functions from here on take one where that is allowed, and two of them call the export for the
- * width of a value where that is a constant. The macros behind them give them the names of the exports. A program that defines
+/* The exports take no null pointer. The functions from here on take one where that is allowed, and four of them call the export for
+ * the width of a value where that is a constant. The macros behind them give them the names of the exports. A program that defines
  * CEFRODIL_NO_MACROS goes without these: then no pointer may be null, and cefrodil_get_of_width and so on are called by their own names. */
 CEFRODIL_CHECKED CEFRODIL_INLINE(nonnull(1, 3)) cefrodil_status cefrodil_get_of_width(cefrodil_handle *reader, uint64_t key, uint64_t *value,
                                                                                       size_t words, cefrodil_reply *reply) {
@@ -402,6 +435,37 @@ CEFRODIL_INLINE(nonnull) cefrodil_status cefrodil_put_of_width(cefrodil_handle *
     case 7: return cefrodil_put_7(writer, key, value, reply);
     case 8: return cefrodil_put_8(writer, key, value, reply);
     default: return cefrodil_put(writer, key, value, words, reply);
+    }
+}
+
+CEFRODIL_CHECKED CEFRODIL_INLINE(nonnull) cefrodil_status cefrodil_get_or_desk_of_width(cefrodil_handle *pass, uint64_t key, uint64_t *value,
+                                                                                        size_t words, cefrodil_reply *reply) {
+    switch (CEFRODIL_KNOWN(words) ? words : 0) {
+    case 1: return cefrodil_get_or_desk_1(pass, key, value, reply);
+    case 2: return cefrodil_get_or_desk_2(pass, key, value, reply);
+    case 3: return cefrodil_get_or_desk_3(pass, key, value, reply);
+    case 4: return cefrodil_get_or_desk_4(pass, key, value, reply);
+    case 5: return cefrodil_get_or_desk_5(pass, key, value, reply);
+    case 6: return cefrodil_get_or_desk_6(pass, key, value, reply);
+    case 7: return cefrodil_get_or_desk_7(pass, key, value, reply);
+    case 8: return cefrodil_get_or_desk_8(pass, key, value, reply);
+    default: return cefrodil_get_or_desk(pass, key, value, words, reply);
+    }
+}
+
+CEFRODIL_CHECKED CEFRODIL_INLINE(nonnull) cefrodil_status cefrodil_try_put_of_width(cefrodil_handle *pass, uint64_t key,
+                                                                                    const uint64_t *value, size_t words,
+                                                                                    cefrodil_reply *reply) {
+    switch (CEFRODIL_KNOWN(words) ? words : 0) {
+    case 1: return cefrodil_try_put_1(pass, key, value, reply);
+    case 2: return cefrodil_try_put_2(pass, key, value, reply);
+    case 3: return cefrodil_try_put_3(pass, key, value, reply);
+    case 4: return cefrodil_try_put_4(pass, key, value, reply);
+    case 5: return cefrodil_try_put_5(pass, key, value, reply);
+    case 6: return cefrodil_try_put_6(pass, key, value, reply);
+    case 7: return cefrodil_try_put_7(pass, key, value, reply);
+    case 8: return cefrodil_try_put_8(pass, key, value, reply);
+    default: return cefrodil_try_put(pass, key, value, words, reply);
     }
 }
 
@@ -443,6 +507,8 @@ CEFRODIL_CHECKED static inline cefrodil_status cefrodil_stamped_entries_or_none(
 #ifndef CEFRODIL_NO_MACROS
 #define cefrodil_get cefrodil_get_of_width
 #define cefrodil_put cefrodil_put_of_width
+#define cefrodil_get_or_desk cefrodil_get_or_desk_of_width
+#define cefrodil_try_put cefrodil_try_put_of_width
 #define cefrodil_close cefrodil_close_unless_null
 #define cefrodil_open_with cefrodil_open_with_or_none
 #define cefrodil_get_many cefrodil_get_many_or_none

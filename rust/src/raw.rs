@@ -113,6 +113,14 @@ unsafe extern "C" {
         answer_count: usize,
     ) -> u32;
     pub fn cefrodil_get_or_desk(pass: *mut RawHandle, key: u64, value: *mut u64, words: usize, reply: *mut RawReply) -> u32;
+    pub fn cefrodil_get_or_desk_1(pass: *mut RawHandle, key: u64, value: *mut u64, reply: *mut RawReply) -> u32;
+    pub fn cefrodil_get_or_desk_2(pass: *mut RawHandle, key: u64, value: *mut u64, reply: *mut RawReply) -> u32;
+    pub fn cefrodil_get_or_desk_3(pass: *mut RawHandle, key: u64, value: *mut u64, reply: *mut RawReply) -> u32;
+    pub fn cefrodil_get_or_desk_4(pass: *mut RawHandle, key: u64, value: *mut u64, reply: *mut RawReply) -> u32;
+    pub fn cefrodil_get_or_desk_5(pass: *mut RawHandle, key: u64, value: *mut u64, reply: *mut RawReply) -> u32;
+    pub fn cefrodil_get_or_desk_6(pass: *mut RawHandle, key: u64, value: *mut u64, reply: *mut RawReply) -> u32;
+    pub fn cefrodil_get_or_desk_7(pass: *mut RawHandle, key: u64, value: *mut u64, reply: *mut RawReply) -> u32;
+    pub fn cefrodil_get_or_desk_8(pass: *mut RawHandle, key: u64, value: *mut u64, reply: *mut RawReply) -> u32;
     pub fn cefrodil_put(writer: *mut RawHandle, key: u64, value: *const u64, words: usize, reply: *mut RawReply) -> u32;
     pub fn cefrodil_put_1(writer: *mut RawHandle, key: u64, value: *const u64, reply: *mut RawReply) -> u32;
     pub fn cefrodil_put_2(writer: *mut RawHandle, key: u64, value: *const u64, reply: *mut RawReply) -> u32;
@@ -134,6 +142,14 @@ unsafe extern "C" {
         -> u32;
     pub fn cefrodil_remove(writer: *mut RawHandle, key: u64, reply: *mut RawReply) -> u32;
     pub fn cefrodil_try_put(pass: *mut RawHandle, key: u64, value: *const u64, words: usize, reply: *mut RawReply) -> u32;
+    pub fn cefrodil_try_put_1(pass: *mut RawHandle, key: u64, value: *const u64, reply: *mut RawReply) -> u32;
+    pub fn cefrodil_try_put_2(pass: *mut RawHandle, key: u64, value: *const u64, reply: *mut RawReply) -> u32;
+    pub fn cefrodil_try_put_3(pass: *mut RawHandle, key: u64, value: *const u64, reply: *mut RawReply) -> u32;
+    pub fn cefrodil_try_put_4(pass: *mut RawHandle, key: u64, value: *const u64, reply: *mut RawReply) -> u32;
+    pub fn cefrodil_try_put_5(pass: *mut RawHandle, key: u64, value: *const u64, reply: *mut RawReply) -> u32;
+    pub fn cefrodil_try_put_6(pass: *mut RawHandle, key: u64, value: *const u64, reply: *mut RawReply) -> u32;
+    pub fn cefrodil_try_put_7(pass: *mut RawHandle, key: u64, value: *const u64, reply: *mut RawReply) -> u32;
+    pub fn cefrodil_try_put_8(pass: *mut RawHandle, key: u64, value: *const u64, reply: *mut RawReply) -> u32;
     pub fn cefrodil_put_within(
         pass: *mut RawHandle,
         tries: u32,

@@ -1,12 +1,21 @@
 -- Lookups of many keys: one more of them, and the last.
-use Rattle.std.proofs.Common.{ℕ, ◌≡◌, ◌+◌, ◌*◌, ◌<◌, List, [], ◌∷◌, ◌++◌, length, get_or, take, drop, set, refl, sym, subst, ◌∙◌, ap, arith, add-one, append_assoc, drop-cons, ◌≤◌}
+use Rattle.std.proofs.Common.{ℕ, ◌≡◌, ◌+◌, ◌*◌, ◌<◌, List, [], ◌∷◌, ◌++◌, length, get_or, take, drop, set, refl, sym, subst, ◌∙◌, ap, arith, add-one, append_assoc, drop-cons, ◌≤◌, inl, inr}
 use Rattle.std.proofs.lemmas.List.{take_at, drop_at, drop-drop, drop_all, take_more_set, take-append-drop}
 use Rattle.std.proofs.lemmas.Slice.{take-put_mid, drop-put_mid}
 use borrow.Rule.Slice.PartMut.{put_mid}
+use Rattle.mc_door.specs.Means.{GetTells}
 use Rattle.mc_door.specs.Roles.{Role}
+use Rattle.mc_door.specs.declared.told.Told.{Told}
 use Rattle.cefrodil.specs.Inside.Looking.{AreLookedUpTo}
-use Rattle.cefrodil.specs.Many.{HasLooked, HaveLooked}
+use Rattle.cefrodil.specs.Many.{HasLooked, HaveLooked, answer_of}
 use Rattle.cefrodil.specs.declared.many.RawAnswer.{RawAnswer}
+
+-- a lookup with a value of the right width is made
+pub looked_one : (V : ℕ) (role role' : Role) (Same : Type 0) (key : ℕ) (old new : List ℕ) (told : Told) → length old ≡ V
+    → GetTells V role role' Same key old new told → HasLooked V role role' key old new (answer_of told)
+looked_one V role role' Same key old new told long (inl told_so) = record { told = told_so.made; is = ap answer_of told_so.is; means = told_so.means }
+looked_one V role role' Same key old new told long (inr (inl kind)) = absurd (kind.1 tt)
+looked_one V role role' Same key old new told long (inr (inr width)) = absurd (width.2 long)
 
 -- the first key's lookup, and then the others
 looked_first : (words : ℕ) (h next h' : Role) (key : ℕ) (keys old v new : List ℕ) (answer : RawAnswer) (more : List RawAnswer)

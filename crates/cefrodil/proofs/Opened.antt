@@ -20,7 +20,7 @@ use Rattle.cefrodil.specs.Openings.{AreOpened, ArePasses, IsNewAt, KeepsSpares, 
 use Rattle.cefrodil.specs.RawShapes.{HasMix, IsShapeOf}
 use Rattle.cefrodil.specs.declared.shape.RawShape.{RawShape}
 use Rattle.cefrodil.specs.declared.slot.Slot.{Slot}
-use Rattle.cefrodil.specs.declared.status.TheConstants.{NO_MEMORY}
+use Rattle.mc_door.specs.declared.status.TheConstants.{NO_MEMORY}
 use Rattle.cefrodil.proofs.Filling.{keeps}
 
 -- the same, of what is known of the sides

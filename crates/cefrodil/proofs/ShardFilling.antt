@@ -22,7 +22,7 @@ use Rattle.cefrodil.specs.RawShapes.{HasMix, IsShapeOf}
 use Rattle.cefrodil.specs.ShardOpenings.{AreShardPasses, IsNewPassAt, RefusesOpenShards}
 use Rattle.cefrodil.specs.declared.shape.RawShape.{RawShape}
 use Rattle.cefrodil.specs.declared.slot.Slot.{Slot}
-use Rattle.cefrodil.specs.declared.status.TheConstants.{NO_MEMORY}
+use Rattle.mc_door.specs.declared.status.TheConstants.{NO_MEMORY}
 use Rattle.cefrodil.proofs.Filling.{keeps}
 use Rattle.cefrodil.proofs.Opened.{refused_so_many}
 

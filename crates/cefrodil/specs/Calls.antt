@@ -1,14 +1,17 @@
 -- What the calls by handles give. Before a call the first thing lies behind the handle, after it the second; nothing does where it is closed.
-use Rattle.std.specs.Prelude.{ℕ, ◌≡◌, List, length, MatchResult, Result}
+use Rattle.std.specs.Prelude.{ℕ, ◌≡◌, List}
 use mathlib.Core.Option.{Option, none, some}
 use Rattle.mc_door.specs.Held.{role_in, width_of}
-use Rattle.mc_door.specs.Means.{CanWrite, HasTurns, IsMisuse, PutIfAbsentMeans, PutIfMeans, PutMeans, RemovalMeans, TryPutIfAbsentMeans, TryPutIfMeans, TryPutMeans, TryRemovalMeans}
+use Rattle.mc_door.specs.Means.{GetOrDeskTells, GetTells}
 use Rattle.mc_door.specs.Roles.{Role}
+use Rattle.mc_door.specs.Swaps.{SwapTells}
+use Rattle.mc_door.specs.Tellings.{plain}
+use Rattle.mc_door.specs.Writes.{TryTells, WriteTells}
 use Rattle.mc_door.specs.declared.held.Held.{Held}
-use Rattle.mc_door.specs.declared.looked.Looked.{Looked}
-use Rattle.mc_door.specs.declared.side.Misuse.{Misuse}
-use Rattle.cefrodil.specs.Tellings.{closed_told, lookup_told, put_if_absent_told, put_if_told, put_told, removal_told, try_put_if_absent_told, try_put_if_told, told_of, try_put_told, try_removal_told}
-use Rattle.cefrodil.specs.declared.told.Told.{Told}
+use Rattle.mc_door.specs.declared.status.TheConstants.{CLOSED}
+use Rattle.mc_door.specs.declared.told.Told.{Told}
+use Rattle.mc_door.specs.declared.write.Swap.{Swap}
+use Rattle.mc_door.specs.declared.write.Write.{Write}
 
 -- before and after a call nothing lies behind the handle, and this holds; or something does, and that holds of the two
 abbrev pub Gives : Option Held → Option Held → Type 0 → (Held → Held → Type 0) → Type 0
@@ -16,58 +19,21 @@ Gives none none Closed Open = Closed
 Gives (some h) (some h') Closed Open = Open h h'
 Gives b b' Closed Open = ⊥
 
--- a call told this. An answer means that, and by a misuse all is as it was
-pub record HasTold {Answer : Type 0} (tells : Answer → Told) (Means : Answer → Type 0) (Misused : Misuse → Type 0) (told : Told) : Type 0 where
-  pub made : Result Answer Misuse
-  pub is : told ≡ told_of tells made
-  pub means : MatchResult made Means Misused
+-- what lies behind an open handle tells this, and a closed one its own status. Then `Left` holds
+abbrev pub TellsBy : Option Held → Option Held → Type 0 → (ℕ → Role → Role → Type 0 → Told → Type 0) → Told → Type 0
+TellsBy b b' Left Tells told = Gives b b' ((told ≡ plain CLOSED) × Left) (λ h h'. (width_of h' ≡ width_of h) × Tells (width_of h) (role_in h) (role_in h') (h' ≡ h) told)
 
--- the same by an open handle
-abbrev pub HasMade : {Answer : Type 0} → (Answer → Told) → (Answer → Type 0) → (Misuse → Type 0) → Held → Held → Told → Type 0
-HasMade tells Means Misused h h' told = (width_of h' ≡ width_of h) × HasTold tells Means Misused told
+abbrev pub GetGives : Option Held → Option Held → ℕ → List ℕ → List ℕ → Told → Type 0
+GetGives b b' key old new told = TellsBy b b' (new ≡ old) (λ V role role' Same told. GetTells V role role' Same key old new told) told
 
--- a lookup by a side that can look so
-abbrev pub LookupGives : (Role → Type 0) → (ℕ → Role → Role → ℕ → List ℕ → List ℕ → Looked → Type 0) → Option Held → Option Held → ℕ → List ℕ → List ℕ → Told → Type 0
-LookupGives Can Means b b' key old new told =
-    Gives b b' ((told ≡ closed_told) × (new ≡ old)) (λ h h'. HasMade lookup_told (Means (width_of h) (role_in h) (role_in h') key old new)
-    (λ why. IsMisuse Can (width_of h) (role_in h) (length old) why × (h' ≡ h) × (new ≡ old)) h h' told)
+abbrev pub GetOrDeskGives : Option Held → Option Held → ℕ → List ℕ → List ℕ → Told → Type 0
+GetOrDeskGives b b' key old new told = TellsBy b b' (new ≡ old) (λ V role role' Same told. GetOrDeskTells V role role' Same key old new told) told
 
-abbrev pub PutGives : Option Held → Option Held → ℕ → List ℕ → Told → Type 0
-PutGives b b' key v told =
-    Gives b b' (told ≡ closed_told) (λ h h'. HasMade put_told (PutMeans (width_of h) (role_in h) (role_in h') key v)
-    (λ why. IsMisuse CanWrite (width_of h) (role_in h) (length v) why × (h' ≡ h)) h h' told)
+abbrev pub WriteGives : Option Held → Option Held → ℕ → Write → List ℕ → Told → Type 0
+WriteGives b b' key call v told = TellsBy b b' (Unit {0}) (λ V role role' Same told. WriteTells V role role' Same key call v told) told
 
-abbrev pub PutIfGives : Option Held → Option Held → ℕ → ℕ → List ℕ → Told → Type 0
-PutIfGives b b' key since v told =
-    Gives b b' (told ≡ closed_told) (λ h h'. HasMade put_if_told (PutIfMeans (width_of h) (role_in h) (role_in h') key since v)
-    (λ why. IsMisuse CanWrite (width_of h) (role_in h) (length v) why × (h' ≡ h)) h h' told)
+abbrev pub TryGives : Option Held → Option Held → ℕ → Write → List ℕ → Told → Type 0
+TryGives b b' key call v told = TellsBy b b' (Unit {0}) (λ V role role' Same told. TryTells V role role' Same key call v told) told
 
-abbrev pub PutIfAbsentGives : Option Held → Option Held → ℕ → List ℕ → Told → Type 0
-PutIfAbsentGives b b' key v told =
-    Gives b b' (told ≡ closed_told) (λ h h'. HasMade put_if_absent_told (PutIfAbsentMeans (width_of h) (role_in h) (role_in h') key v)
-    (λ why. IsMisuse CanWrite (width_of h) (role_in h) (length v) why × (h' ≡ h)) h h' told)
-
-abbrev pub RemovalGives : Option Held → Option Held → ℕ → Told → Type 0
-RemovalGives b b' key told =
-    Gives b b' (told ≡ closed_told) (λ h h'. HasMade removal_told (RemovalMeans (width_of h) (role_in h) (role_in h') key)
-    (λ why. IsMisuse CanWrite (width_of h) (role_in h) (width_of h) why × (h' ≡ h)) h h' told)
-
-abbrev pub TryPutGives : Option Held → Option Held → ℕ → List ℕ → Told → Type 0
-TryPutGives b b' key v told =
-    Gives b b' (told ≡ closed_told) (λ h h'. HasMade try_put_told (TryPutMeans (width_of h) (role_in h) (role_in h') key v)
-    (λ why. IsMisuse HasTurns (width_of h) (role_in h) (length v) why × (h' ≡ h)) h h' told)
-
-abbrev pub TryPutIfGives : Option Held → Option Held → ℕ → ℕ → List ℕ → Told → Type 0
-TryPutIfGives b b' key since v told =
-    Gives b b' (told ≡ closed_told) (λ h h'. HasMade try_put_if_told (TryPutIfMeans (width_of h) (role_in h) (role_in h') key since v)
-    (λ why. IsMisuse HasTurns (width_of h) (role_in h) (length v) why × (h' ≡ h)) h h' told)
-
-abbrev pub TryPutIfAbsentGives : Option Held → Option Held → ℕ → List ℕ → Told → Type 0
-TryPutIfAbsentGives b b' key v told =
-    Gives b b' (told ≡ closed_told) (λ h h'. HasMade try_put_if_absent_told (TryPutIfAbsentMeans (width_of h) (role_in h) (role_in h') key v)
-    (λ why. IsMisuse HasTurns (width_of h) (role_in h) (length v) why × (h' ≡ h)) h h' told)
-
-abbrev pub TryRemovalGives : Option Held → Option Held → ℕ → Told → Type 0
-TryRemovalGives b b' key told =
-    Gives b b' (told ≡ closed_told) (λ h h'. HasMade try_removal_told (TryRemovalMeans (width_of h) (role_in h) (role_in h') key)
-    (λ why. IsMisuse HasTurns (width_of h) (role_in h) (width_of h) why × (h' ≡ h)) h h' told)
+abbrev pub SwapGives : Option Held → Option Held → ℕ → Swap → List ℕ → List ℕ → List ℕ → Told → Type 0
+SwapGives b b' key call v old new told = TellsBy b b' (new ≡ old) (λ V role role' Same told. SwapTells V role role' Same key call v old new told) told

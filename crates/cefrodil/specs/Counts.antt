@@ -8,7 +8,7 @@ use Rattle.mc_door.specs.declared.counting.CountError.{CountError}
 use Rattle.mc_door.specs.declared.counting.CountError.TheVariants as why
 use Rattle.mc_door.specs.declared.held.Held.{Held}
 use Rattle.cefrodil.specs.Calls.{Gives}
-use Rattle.cefrodil.specs.declared.status.TheConstants.{OK, CLOSED, HELD, KIND}
+use Rattle.mc_door.specs.declared.status.TheConstants.{OK, CLOSED, HELD, KIND}
 
 -- the number is written, by a handle that knows it; by another nothing is
 pub record HasCounted (Knows : Role → Type 0) (Is : ℕ → Role → ℕ → Type 0) (h : Held) (old new status : ℕ) : Type 0 where

@@ -6,7 +6,7 @@ use Rattle.mc_door.specs.Leaving.{BecomesReader, IsPass, IsWriterBack}
 use Rattle.mc_door.specs.declared.held.Held.{Held}
 use Rattle.cefrodil.specs.Calls.{Gives}
 use Rattle.cefrodil.specs.Openings.{Keeps}
-use Rattle.cefrodil.specs.declared.status.TheConstants.{OK, CLOSED, KIND, NO_MEMORY, NOT_LAST}
+use Rattle.mc_door.specs.declared.status.TheConstants.{OK, CLOSED, KIND, NO_MEMORY, NOT_LAST}
 
 -- the pass is a reader, and the writer's handle keeps the writer if the pass was the last one, and else nothing
 abbrev pub HasLeft : Held → Held → Option Held → ℕ → Type 0

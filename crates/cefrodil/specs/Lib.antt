@@ -10,6 +10,4 @@ pub mod OntoDesk
 pub mod Openings
 pub mod RawShapes
 pub mod ShardOpenings
-pub mod Taking
-pub mod Tellings
 pub mod Inside

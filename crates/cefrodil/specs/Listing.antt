@@ -8,7 +8,7 @@ use Rattle.mc_door.specs.declared.held.Held.{Held}
 use Rattle.mc_door.specs.declared.listed.ListError.{ListError}
 use Rattle.mc_door.specs.declared.listed.ListError.TheVariants as why
 use Rattle.cefrodil.specs.Calls.{Gives}
-use Rattle.cefrodil.specs.declared.status.TheConstants.{OK, CLOSED, COUNT, HELD, KIND, NO_MEMORY}
+use Rattle.mc_door.specs.declared.status.TheConstants.{OK, CLOSED, COUNT, HELD, KIND, NO_MEMORY}
 
 -- the status; and how many entries there are, where that is known
 abbrev pub TellsList : Result ℕ ListError → ℕ → ℕ → ℕ → Type 0

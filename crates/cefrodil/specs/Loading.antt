@@ -10,7 +10,7 @@ use Rattle.cefrodil.specs.Open.{kept}
 use Rattle.cefrodil.specs.Openings.{IsNewAt, IsOfShape, Keeps, KeepsSpares}
 use Rattle.cefrodil.specs.declared.shape.RawShape.{RawShape}
 use Rattle.cefrodil.specs.declared.slot.Slot.{Slot}
-use Rattle.cefrodil.specs.declared.status.TheConstants.{OK, COUNT, NO_ITEM, NO_PATH, SPENT}
+use Rattle.mc_door.specs.declared.status.TheConstants.{OK, COUNT, NO_ITEM, NO_PATH, SPENT}
 
 abbrev pub left_status : Why → ℕ
 left_status why.NoPath = NO_PATH

@@ -7,14 +7,19 @@ use Rattle.mc_door.specs.Roles.{Role}
 use Rattle.mc_door.specs.declared.held.Held.{Held}
 use Rattle.mc_door.specs.declared.looked.Looked.{Looked}
 use Rattle.cefrodil.specs.Calls.{Gives}
-use Rattle.cefrodil.specs.Tellings.{answer_of}
+use Rattle.mc_door.specs.Tellings.{lookup_told}
+use Rattle.mc_door.specs.declared.told.Told.{Told}
 use Rattle.cefrodil.specs.declared.many.RawAnswer.{RawAnswer}
-use Rattle.cefrodil.specs.declared.status.TheConstants.{OK, CLOSED, COUNT, WIDTH}
+use Rattle.mc_door.specs.declared.status.TheConstants.{OK, CLOSED, COUNT, WIDTH}
+
+-- what is told, as one answer of many
+abbrev pub answer_of : Told → RawAnswer
+answer_of told = record { at = told.reply.at; since = told.reply.since; status = told.status; unused = 0 }
 
 -- a lookup by a side for values of so many words: this was told
 pub record HasLooked (V : ℕ) (role role' : Role) (key : ℕ) (old new : List ℕ) (answer : RawAnswer) : Type 0 where
   pub told : Looked
-  pub is : answer ≡ answer_of told
+  pub is : answer ≡ answer_of (lookup_told told)
   pub means : GetMeans V role role' key old new told
 
 -- a lookup for each of the keys, one after the other in their order, each with its answer, and nothing else. The first so many words

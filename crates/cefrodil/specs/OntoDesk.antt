@@ -10,7 +10,7 @@ use Rattle.mc_door.specs.Spares.{spares_in}
 use Rattle.mc_door.specs.declared.held.Held.{Held}
 use Rattle.cefrodil.specs.Openings.{IsClosed, IsNewAt}
 use Rattle.cefrodil.specs.declared.slot.Slot.{Slot}
-use Rattle.cefrodil.specs.declared.status.TheConstants.{OK, CLOSED, KIND, NO_MEMORY, READERS}
+use Rattle.mc_door.specs.declared.status.TheConstants.{OK, CLOSED, KIND, NO_MEMORY, READERS}
 
 -- passes at the desk on which this writer was put
 pub record AreDeskPasses (h : Held) (passes : List Slot) : Type 0 where

@@ -17,7 +17,7 @@ use Rattle.cefrodil.specs.Open.{kept}
 use Rattle.cefrodil.specs.RawShapes.{HasMix, IsShapeOf}
 use Rattle.cefrodil.specs.declared.shape.RawShape.{RawShape}
 use Rattle.cefrodil.specs.declared.slot.Slot.{Slot}
-use Rattle.cefrodil.specs.declared.status.TheConstants.{IN_USE, WORDS, MIX, NO_MEMORY, BUCKETS, ITEMS, STRIPES, DEPTH, TRIES, LIMIT, READERS}
+use Rattle.mc_door.specs.declared.status.TheConstants.{IN_USE, WORDS, MIX, NO_MEMORY, BUCKETS, ITEMS, STRIPES, DEPTH, TRIES, LIMIT, READERS}
 
 abbrev pub IsClosed : Slot → Type 0
 IsClosed s = s.live ≡ false

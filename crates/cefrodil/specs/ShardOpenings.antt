@@ -13,7 +13,7 @@ use Rattle.cefrodil.specs.Openings.{Keeps, RefusesAsked, open_status}
 use Rattle.cefrodil.specs.RawShapes.{HasMix, IsShapeOf}
 use Rattle.cefrodil.specs.declared.shape.RawShape.{RawShape}
 use Rattle.cefrodil.specs.declared.slot.Slot.{Slot}
-use Rattle.cefrodil.specs.declared.status.TheConstants.{SHARDS}
+use Rattle.mc_door.specs.declared.status.TheConstants.{SHARDS}
 
 -- a new pass of these shards, for values of so many words
 abbrev pub IsNewPassAt : Sharded → ℕ → Slot → Type 0

@@ -2,7 +2,7 @@
 ghost use Rattle.std.specs.Prelude.{◌≡◌, false, true};
 
 use crate::slot::Slot;
-use crate::status::{CLOSED, OK};
+use mc_door::status::{CLOSED, OK};
 use std::alloc::Global;
 
 /// Closes a handle. With the last of its handles the cache goes.

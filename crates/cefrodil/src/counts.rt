@@ -5,8 +5,8 @@ ghost use Rattle.cefrodil.specs.Counts.{CountGives, CountInTurnGives, TellsCount
 ghost use Rattle.cefrodil.specs.Open.{kept};
 
 use crate::slot::Slot;
-use crate::status::{CLOSED, HELD, KIND, OK};
 use mc_door::CountError;
+use mc_door::status::{CLOSED, HELD, KIND, OK};
 
 // Writes the number, if there is one.
 fn tell(known: Option<u64>, number: &mut u64) -> u32

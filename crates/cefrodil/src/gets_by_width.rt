@@ -1,20 +1,17 @@
 //! `cefrodil_get` for each width of a value. The header calls these where the width is a constant.
 ghost use Rattle.std.specs.Prelude.{◌≡◌};
-ghost use Rattle.cefrodil.specs.Calls.{LookupGives};
-ghost use Rattle.mc_door.specs.Means.{CanLook, GetMeans};
+ghost use Rattle.cefrodil.specs.Calls.{GetGives};
 ghost use Rattle.cefrodil.specs.Open.{kept};
 
 use crate::slot::{Slot, told_of_handle};
-use crate::told::{RawReply, Told};
-use crate::{by_side, by_width};
-use mc_door::Held;
+use mc_door::{Held, RawReply};
 
 // Looks up by a handle whose values have this width. Another handle goes the way of `cefrodil_get`, which refuses it.
 macro_rules! get_at {
     ($width:ident, $reader:ident, $key:ident, $value:ident, $reply:ident) => {
         told_of_handle!($reader, $reply, held => match held {
-            Held::$width(side) => by_side::get(side, $key, $value.as_mut_slice(), $reply),
-            held => by_width::get_apart(held, $key, $value, $reply),
+            Held::$width(side) => side.get($key, $value.as_mut_slice(), $reply),
+            held => held.get($key, $value.as_mut_slice(), $reply),
         })
     };
 }
@@ -29,7 +26,7 @@ pub extern "C" fn cefrodil_get_1(
     reply: &mut RawReply,
 ) -> u32
     ensures open { reader.new.live ≡ reader.old.live }
-    ensures told { LookupGives CanLook GetMeans (kept reader.old) (kept reader.new) key value.old value.new (record { status = result; reply = reply.new }) }
+    ensures told { GetGives (kept reader.old) (kept reader.new) key value.old value.new (record { status = result; reply = reply.new }) }
 {
     get_at!(One, reader, key, value, reply)
 }
@@ -44,7 +41,7 @@ pub extern "C" fn cefrodil_get_2(
     reply: &mut RawReply,
 ) -> u32
     ensures open { reader.new.live ≡ reader.old.live }
-    ensures told { LookupGives CanLook GetMeans (kept reader.old) (kept reader.new) key value.old value.new (record { status = result; reply = reply.new }) }
+    ensures told { GetGives (kept reader.old) (kept reader.new) key value.old value.new (record { status = result; reply = reply.new }) }
 {
     get_at!(Two, reader, key, value, reply)
 }
@@ -59,7 +56,7 @@ pub extern "C" fn cefrodil_get_3(
     reply: &mut RawReply,
 ) -> u32
     ensures open { reader.new.live ≡ reader.old.live }
-    ensures told { LookupGives CanLook GetMeans (kept reader.old) (kept reader.new) key value.old value.new (record { status = result; reply = reply.new }) }
+    ensures told { GetGives (kept reader.old) (kept reader.new) key value.old value.new (record { status = result; reply = reply.new }) }
 {
     get_at!(Three, reader, key, value, reply)
 }
@@ -74,7 +71,7 @@ pub extern "C" fn cefrodil_get_4(
     reply: &mut RawReply,
 ) -> u32
     ensures open { reader.new.live ≡ reader.old.live }
-    ensures told { LookupGives CanLook GetMeans (kept reader.old) (kept reader.new) key value.old value.new (record { status = result; reply = reply.new }) }
+    ensures told { GetGives (kept reader.old) (kept reader.new) key value.old value.new (record { status = result; reply = reply.new }) }
 {
     get_at!(Four, reader, key, value, reply)
 }
@@ -89,7 +86,7 @@ pub extern "C" fn cefrodil_get_5(
     reply: &mut RawReply,
 ) -> u32
     ensures open { reader.new.live ≡ reader.old.live }
-    ensures told { LookupGives CanLook GetMeans (kept reader.old) (kept reader.new) key value.old value.new (record { status = result; reply = reply.new }) }
+    ensures told { GetGives (kept reader.old) (kept reader.new) key value.old value.new (record { status = result; reply = reply.new }) }
 {
     get_at!(Five, reader, key, value, reply)
 }
@@ -104,7 +101,7 @@ pub extern "C" fn cefrodil_get_6(
     reply: &mut RawReply,
 ) -> u32
     ensures open { reader.new.live ≡ reader.old.live }
-    ensures told { LookupGives CanLook GetMeans (kept reader.old) (kept reader.new) key value.old value.new (record { status = result; reply = reply.new }) }
+    ensures told { GetGives (kept reader.old) (kept reader.new) key value.old value.new (record { status = result; reply = reply.new }) }
 {
     get_at!(Six, reader, key, value, reply)
 }
@@ -119,7 +116,7 @@ pub extern "C" fn cefrodil_get_7(
     reply: &mut RawReply,
 ) -> u32
     ensures open { reader.new.live ≡ reader.old.live }
-    ensures told { LookupGives CanLook GetMeans (kept reader.old) (kept reader.new) key value.old value.new (record { status = result; reply = reply.new }) }
+    ensures told { GetGives (kept reader.old) (kept reader.new) key value.old value.new (record { status = result; reply = reply.new }) }
 {
     get_at!(Seven, reader, key, value, reply)
 }
@@ -134,7 +131,7 @@ pub extern "C" fn cefrodil_get_8(
     reply: &mut RawReply,
 ) -> u32
     ensures open { reader.new.live ≡ reader.old.live }
-    ensures told { LookupGives CanLook GetMeans (kept reader.old) (kept reader.new) key value.old value.new (record { status = result; reply = reply.new }) }
+    ensures told { GetGives (kept reader.old) (kept reader.new) key value.old value.new (record { status = result; reply = reply.new }) }
 {
     get_at!(Eight, reader, key, value, reply)
 }

@@ -5,7 +5,7 @@ ghost use Rattle.cefrodil.specs.Open.{kept};
 
 use crate::opening::boxed;
 use crate::slot::Slot;
-use crate::status::{CLOSED, IN_USE, KIND, NO_MEMORY, NOT_LAST, OK};
+use mc_door::status::{CLOSED, IN_USE, KIND, NO_MEMORY, NOT_LAST, OK};
 use mc_door::{Held, LeaveError};
 use std::alloc::Global;
 

@@ -2,10 +2,10 @@
 //! and what its caller promises.
 #![tactic(auto)]
 
-mod by_side;
-mod by_width;
 mod closing;
 mod counts;
+mod desk_gets_by_width;
+mod desk_puts_by_width;
 mod gets_by_width;
 pub mod handle;
 mod leaving;
@@ -19,11 +19,7 @@ mod puts_by_width;
 mod shape;
 mod sharding;
 pub mod slot;
-mod status;
-mod taking;
-mod tell;
-mod told;
-mod told_taken;
+mod swaps;
 mod unboxed;
 mod version;
 mod writes;

@@ -4,8 +4,8 @@ ghost use Rattle.cefrodil.specs.Listing.{ListGives, StampedListGives, TellsList}
 ghost use Rattle.cefrodil.specs.Open.{kept};
 
 use crate::slot::Slot;
-use crate::status::{CLOSED, COUNT, HELD, KIND, NO_MEMORY, OK};
 use mc_door::ListError;
+use mc_door::status::{CLOSED, COUNT, HELD, KIND, NO_MEMORY, OK};
 use std::alloc::Global;
 
 // Writes how many entries there are, where that is known.

@@ -8,7 +8,7 @@ ghost use Rattle.cefrodil.specs.RawShapes.{HasMix, IsShapeOf};
 use crate::opening::{MOST_WORDS, all_closed, asked, count_of, given_out, status_of};
 use crate::shape::RawShape;
 use crate::slot::Slot;
-use crate::status::{COUNT, IN_USE, NO_ITEM, NO_MEMORY, NO_PATH, OK, SPENT};
+use mc_door::status::{COUNT, IN_USE, NO_ITEM, NO_MEMORY, NO_PATH, OK, SPENT};
 use mc_door::{Shape, Why, open_with};
 use std::alloc::Global;
 

@@ -5,11 +5,10 @@ ghost use Rattle.mc_door.specs.Roles.{role_of};
 ghost use Rattle.mc_words.specs.Places.{IsWidth};
 ghost use Rattle.cefrodil.specs.Many.{HasLooked, HaveLooked, ManyGive, MeansMany};
 ghost use Rattle.cefrodil.specs.Open.{kept};
-ghost use Rattle.cefrodil.specs.Tellings.{answer_of};
 
 use crate::slot::Slot;
-use crate::status::{ABSENT, BUSY, CLOSED, COUNT, OK, WIDTH};
-use mc_door::{GROUP, Held, Looked, Side, with_side};
+use mc_door::status::{CLOSED, COUNT, OK, WIDTH};
+use mc_door::{GROUP, Held, Side, Told, with_side};
 
 /// One answer of many. What its status has no use for is 0.
 #[repr(C)]
@@ -24,25 +23,6 @@ pub struct RawAnswer {
     pub unused: u32,
 }
 
-impl RawAnswer {
-    #[inline(always)]
-    fn of(answer: Looked) -> RawAnswer
-        ensures { result ≡ answer_of answer }
-    {
-        let (status, at, since) = match answer {
-            Looked::Found { at, since } => (OK, at, since),
-            Looked::Absent { at } => (ABSENT, at, 0),
-            Looked::Busy => (BUSY, 0, 0),
-        };
-        RawAnswer {
-            at,
-            since,
-            status,
-            unused: 0,
-        }
-    }
-}
-
 // One lookup.
 #[inline(always)]
 fn look_up<const V: usize>(side: &mut Side<V>, key: u64, value: &mut [u64]) -> RawAnswer
@@ -50,9 +30,13 @@ fn look_up<const V: usize>(side: &mut Side<V>, key: u64, value: &mut [u64]) -> R
     requires value { length value.old ≡ V }
     ensures looked { HasLooked V (role_of side.old) (role_of side.new) key value.old value.new result }
 {
-    match side.get(key, value) {
-        Ok(answer) => RawAnswer::of(answer),
-        Err(_) => unreachable!(),
+    let mut reply = Told::plain(OK).reply;
+    let status = side.get(key, value, &mut reply);
+    RawAnswer {
+        at: reply.at,
+        since: reply.since,
+        status,
+        unused: 0,
     }
 }
 

@@ -9,7 +9,7 @@ ghost use Rattle.cefrodil.specs.Openings.{IsClosed, IsNewAt};
 
 use crate::opening::{all_closed, boxed, close_all};
 use crate::slot::Slot;
-use crate::status::{CLOSED, IN_USE, KIND, NO_MEMORY, OK, READERS};
+use mc_door::status::{CLOSED, IN_USE, KIND, NO_MEMORY, OK, READERS};
 use mc_door::{Held, MakeDeskError, Rest};
 use std::alloc::Global;
 

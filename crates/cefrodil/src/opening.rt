@@ -8,7 +8,7 @@ ghost use Rattle.cefrodil.specs.RawShapes.{HasMix, IsShapeOf};
 
 use crate::shape::RawShape;
 use crate::slot::Slot;
-use crate::status::{
+use mc_door::status::{
     BUCKETS, DEPTH, IN_USE, ITEMS, LIMIT, MIX, NO_MEMORY, OK, READERS, STRIPES, TRIES, WORDS,
 };
 use mc_door::{Held, OpenError, Rest, Shape, ShapeError, open, open_desk};

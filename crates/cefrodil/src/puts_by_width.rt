@@ -1,19 +1,17 @@
 //! `cefrodil_put` for each width of a value. The header calls these where the width is a constant.
 ghost use Rattle.std.specs.Prelude.{◌≡◌};
-ghost use Rattle.cefrodil.specs.Calls.{PutGives};
+ghost use Rattle.cefrodil.specs.Calls.{WriteGives};
 ghost use Rattle.cefrodil.specs.Open.{kept};
 
 use crate::slot::{Slot, told_of_handle};
-use crate::told::{RawReply, Told};
-use crate::{by_side, by_width};
-use mc_door::Held;
+use mc_door::{Held, RawReply, Write};
 
 // Puts by a handle whose values have this width. Another handle goes the way of `cefrodil_put`, which refuses it.
 macro_rules! put_at {
     ($width:ident, $writer:ident, $key:ident, $value:ident, $reply:ident) => {
         told_of_handle!($writer, $reply, held => match held {
-            Held::$width(side) => by_side::put(side, $key, $value.as_slice(), $reply),
-            held => by_width::put_apart(held, $key, $value, $reply),
+            Held::$width(side) => side.write($key, Write::Put, $value.as_slice(), $reply),
+            held => held.write($key, Write::Put, $value.as_slice(), $reply),
         })
     };
 }
@@ -28,7 +26,7 @@ pub extern "C" fn cefrodil_put_1(
     reply: &mut RawReply,
 ) -> u32
     ensures open { writer.new.live ≡ writer.old.live }
-    ensures told { PutGives (kept writer.old) (kept writer.new) key value.now (record { status = result; reply = reply.new }) }
+    ensures told { WriteGives (kept writer.old) (kept writer.new) key Write.Put value.now (record { status = result; reply = reply.new }) }
 {
     put_at!(One, writer, key, value, reply)
 }
@@ -43,7 +41,7 @@ pub extern "C" fn cefrodil_put_2(
     reply: &mut RawReply,
 ) -> u32
     ensures open { writer.new.live ≡ writer.old.live }
-    ensures told { PutGives (kept writer.old) (kept writer.new) key value.now (record { status = result; reply = reply.new }) }
+    ensures told { WriteGives (kept writer.old) (kept writer.new) key Write.Put value.now (record { status = result; reply = reply.new }) }
 {
     put_at!(Two, writer, key, value, reply)
 }
@@ -58,7 +56,7 @@ pub extern "C" fn cefrodil_put_3(
     reply: &mut RawReply,
 ) -> u32
     ensures open { writer.new.live ≡ writer.old.live }
-    ensures told { PutGives (kept writer.old) (kept writer.new) key value.now (record { status = result; reply = reply.new }) }
+    ensures told { WriteGives (kept writer.old) (kept writer.new) key Write.Put value.now (record { status = result; reply = reply.new }) }
 {
     put_at!(Three, writer, key, value, reply)
 }
@@ -73,7 +71,7 @@ pub extern "C" fn cefrodil_put_4(
     reply: &mut RawReply,
 ) -> u32
     ensures open { writer.new.live ≡ writer.old.live }
-    ensures told { PutGives (kept writer.old) (kept writer.new) key value.now (record { status = result; reply = reply.new }) }
+    ensures told { WriteGives (kept writer.old) (kept writer.new) key Write.Put value.now (record { status = result; reply = reply.new }) }
 {
     put_at!(Four, writer, key, value, reply)
 }
@@ -88,7 +86,7 @@ pub extern "C" fn cefrodil_put_5(
     reply: &mut RawReply,
 ) -> u32
     ensures open { writer.new.live ≡ writer.old.live }
-    ensures told { PutGives (kept writer.old) (kept writer.new) key value.now (record { status = result; reply = reply.new }) }
+    ensures told { WriteGives (kept writer.old) (kept writer.new) key Write.Put value.now (record { status = result; reply = reply.new }) }
 {
     put_at!(Five, writer, key, value, reply)
 }
@@ -103,7 +101,7 @@ pub extern "C" fn cefrodil_put_6(
     reply: &mut RawReply,
 ) -> u32
     ensures open { writer.new.live ≡ writer.old.live }
-    ensures told { PutGives (kept writer.old) (kept writer.new) key value.now (record { status = result; reply = reply.new }) }
+    ensures told { WriteGives (kept writer.old) (kept writer.new) key Write.Put value.now (record { status = result; reply = reply.new }) }
 {
     put_at!(Six, writer, key, value, reply)
 }
@@ -118,7 +116,7 @@ pub extern "C" fn cefrodil_put_7(
     reply: &mut RawReply,
 ) -> u32
     ensures open { writer.new.live ≡ writer.old.live }
-    ensures told { PutGives (kept writer.old) (kept writer.new) key value.now (record { status = result; reply = reply.new }) }
+    ensures told { WriteGives (kept writer.old) (kept writer.new) key Write.Put value.now (record { status = result; reply = reply.new }) }
 {
     put_at!(Seven, writer, key, value, reply)
 }
@@ -133,7 +131,7 @@ pub extern "C" fn cefrodil_put_8(
     reply: &mut RawReply,
 ) -> u32
     ensures open { writer.new.live ≡ writer.old.live }
-    ensures told { PutGives (kept writer.old) (kept writer.new) key value.now (record { status = result; reply = reply.new }) }
+    ensures told { WriteGives (kept writer.old) (kept writer.new) key Write.Put value.now (record { status = result; reply = reply.new }) }
 {
     put_at!(Eight, writer, key, value, reply)
 }

@@ -9,7 +9,7 @@ ghost use Rattle.cefrodil.specs.RawShapes.{HasMix, IsShapeOf};
 ghost use Rattle.cefrodil.specs.ShardOpenings.{shards_status};
 
 use crate::sharding::status_of_shards;
-use crate::status::{ITEMS, OK};
+use mc_door::status::{ITEMS, OK};
 use mc_door::{Shape, shard_shape};
 use mc_words::Mix;
 

@@ -7,7 +7,7 @@ ghost use Rattle.cefrodil.specs.ShardOpenings.{AreShardPasses, IsNewPassAt, Refu
 use crate::opening::{all_closed, asked, boxed, close_all, count_of, status_of};
 use crate::shape::RawShape;
 use crate::slot::Slot;
-use crate::status::{IN_USE, NO_MEMORY, OK, SHARDS};
+use mc_door::status::{IN_USE, NO_MEMORY, OK, SHARDS};
 use mc_door::{OpenShardsError, ShardRest, open_shards};
 use std::alloc::Global;
 

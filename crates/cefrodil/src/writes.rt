@@ -1,11 +1,10 @@
 //! Writes, as C makes them: by the writer, and by a pass in a turn.
-ghost use Rattle.std.specs.Prelude.{◌≡◌};
-ghost use Rattle.cefrodil.specs.Calls.{PutGives, PutIfAbsentGives, PutIfGives, RemovalGives, TryPutGives, TryPutIfAbsentGives, TryPutIfGives, TryRemovalGives};
+ghost use Rattle.std.specs.Prelude.{◌≡◌, []};
+ghost use Rattle.cefrodil.specs.Calls.{TryGives, WriteGives};
 ghost use Rattle.cefrodil.specs.Open.{kept};
 
-use crate::by_width;
 use crate::slot::{Slot, told_of_handle};
-use crate::told::{RawReply, Told};
+use mc_door::{RawReply, Write};
 
 /// Puts a key, by the writer's handle.
 #[tactic(auto, using(crate::proofs::Gives::gives_open, crate::proofs::Gives::gives_closed))]
@@ -17,9 +16,9 @@ pub extern "C" fn cefrodil_put(
     reply: &mut RawReply,
 ) -> u32
     ensures open { writer.new.live ≡ writer.old.live }
-    ensures told { PutGives (kept writer.old) (kept writer.new) key value.now (record { status = result; reply = reply.new }) }
+    ensures told { WriteGives (kept writer.old) (kept writer.new) key Write.Put value.now (record { status = result; reply = reply.new }) }
 {
-    told_of_handle!(writer, reply, held => by_width::put(held, key, value, reply))
+    told_of_handle!(writer, reply, held => held.write(key, Write::Put, value, reply))
 }
 
 /// Puts a key anew, if its last put was at the moment `since`, by the writer's handle.
@@ -33,9 +32,9 @@ pub extern "C" fn cefrodil_put_if(
     reply: &mut RawReply,
 ) -> u32
     ensures open { writer.new.live ≡ writer.old.live }
-    ensures told { PutIfGives (kept writer.old) (kept writer.new) key since value.now (record { status = result; reply = reply.new }) }
+    ensures told { WriteGives (kept writer.old) (kept writer.new) key (Write.PutIf since) value.now (record { status = result; reply = reply.new }) }
 {
-    told_of_handle!(writer, reply, held => by_width::put_if(held, key, since, value, reply))
+    told_of_handle!(writer, reply, held => held.write(key, Write::PutIf(since), value, reply))
 }
 
 /// Puts a key if it is absent, by the writer's handle.
@@ -48,9 +47,9 @@ pub extern "C" fn cefrodil_put_if_absent(
     reply: &mut RawReply,
 ) -> u32
     ensures open { writer.new.live ≡ writer.old.live }
-    ensures told { PutIfAbsentGives (kept writer.old) (kept writer.new) key value.now (record { status = result; reply = reply.new }) }
+    ensures told { WriteGives (kept writer.old) (kept writer.new) key Write.PutIfAbsent value.now (record { status = result; reply = reply.new }) }
 {
-    told_of_handle!(writer, reply, held => by_width::put_if_absent(held, key, value, reply))
+    told_of_handle!(writer, reply, held => held.write(key, Write::PutIfAbsent, value, reply))
 }
 
 /// Takes a key out, by the writer's handle.
@@ -58,9 +57,9 @@ pub extern "C" fn cefrodil_put_if_absent(
 #[unsafe(no_mangle)]
 pub extern "C" fn cefrodil_remove(writer: &mut Slot, key: u64, reply: &mut RawReply) -> u32
     ensures open { writer.new.live ≡ writer.old.live }
-    ensures told { RemovalGives (kept writer.old) (kept writer.new) key (record { status = result; reply = reply.new }) }
+    ensures told { WriteGives (kept writer.old) (kept writer.new) key Write.Remove [] (record { status = result; reply = reply.new }) }
 {
-    told_of_handle!(writer, reply, held => by_width::remove(held, key, reply))
+    told_of_handle!(writer, reply, held => held.write(key, Write::Remove, &[], reply))
 }
 
 /// Tries once for the turn, to put a key, by a pass.
@@ -73,9 +72,9 @@ pub extern "C" fn cefrodil_try_put(
     reply: &mut RawReply,
 ) -> u32
     ensures open { pass.new.live ≡ pass.old.live }
-    ensures told { TryPutGives (kept pass.old) (kept pass.new) key value.now (record { status = result; reply = reply.new }) }
+    ensures told { TryGives (kept pass.old) (kept pass.new) key Write.Put value.now (record { status = result; reply = reply.new }) }
 {
-    told_of_handle!(pass, reply, held => by_width::try_put(held, key, value, reply))
+    told_of_handle!(pass, reply, held => held.try_write(key, Write::Put, value, reply))
 }
 
 /// Tries up to so many times, at least once, for the turn, to put a key, by a pass.
@@ -89,9 +88,9 @@ pub extern "C" fn cefrodil_put_within(
     reply: &mut RawReply,
 ) -> u32
     ensures open { pass.new.live ≡ pass.old.live }
-    ensures told { TryPutGives (kept pass.old) (kept pass.new) key value.now (record { status = result; reply = reply.new }) }
+    ensures told { TryGives (kept pass.old) (kept pass.new) key (Write.PutWithin tries) value.now (record { status = result; reply = reply.new }) }
 {
-    told_of_handle!(pass, reply, held => by_width::put_within(held, tries, key, value, reply))
+    told_of_handle!(pass, reply, held => held.try_write(key, Write::PutWithin(tries), value, reply))
 }
 
 /// Tries once for the turn, to put a key anew on a condition, by a pass.
@@ -105,9 +104,9 @@ pub extern "C" fn cefrodil_try_put_if(
     reply: &mut RawReply,
 ) -> u32
     ensures open { pass.new.live ≡ pass.old.live }
-    ensures told { TryPutIfGives (kept pass.old) (kept pass.new) key since value.now (record { status = result; reply = reply.new }) }
+    ensures told { TryGives (kept pass.old) (kept pass.new) key (Write.PutIf since) value.now (record { status = result; reply = reply.new }) }
 {
-    told_of_handle!(pass, reply, held => by_width::try_put_if(held, key, since, value, reply))
+    told_of_handle!(pass, reply, held => held.try_write(key, Write::PutIf(since), value, reply))
 }
 
 /// Tries once for the turn, to put a key if it is absent, by a pass.
@@ -120,9 +119,9 @@ pub extern "C" fn cefrodil_try_put_if_absent(
     reply: &mut RawReply,
 ) -> u32
     ensures open { pass.new.live ≡ pass.old.live }
-    ensures told { TryPutIfAbsentGives (kept pass.old) (kept pass.new) key value.now (record { status = result; reply = reply.new }) }
+    ensures told { TryGives (kept pass.old) (kept pass.new) key Write.PutIfAbsent value.now (record { status = result; reply = reply.new }) }
 {
-    told_of_handle!(pass, reply, held => by_width::try_put_if_absent(held, key, value, reply))
+    told_of_handle!(pass, reply, held => held.try_write(key, Write::PutIfAbsent, value, reply))
 }
 
 /// Tries once for the turn, to take a key out, by a pass.
@@ -130,7 +129,7 @@ pub extern "C" fn cefrodil_try_put_if_absent(
 #[unsafe(no_mangle)]
 pub extern "C" fn cefrodil_try_remove(pass: &mut Slot, key: u64, reply: &mut RawReply) -> u32
     ensures open { pass.new.live ≡ pass.old.live }
-    ensures told { TryRemovalGives (kept pass.old) (kept pass.new) key (record { status = result; reply = reply.new }) }
+    ensures told { TryGives (kept pass.old) (kept pass.new) key Write.Remove [] (record { status = result; reply = reply.new }) }
 {
-    told_of_handle!(pass, reply, held => by_width::try_remove(held, key, reply))
+    told_of_handle!(pass, reply, held => held.try_write(key, Write::Remove, &[], reply))
 }

@@ -1,8 +1,11 @@
 pub mod Looks
 pub mod Roles
-pub mod Taking
+pub mod Tellings
+pub mod Tells
 pub mod AtShards
 pub mod Means
+pub mod Writes
+pub mod Swaps
 pub mod Held
 pub mod NewSides
 pub mod OntoDesk

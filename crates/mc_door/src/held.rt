@@ -3,18 +3,22 @@ ghost use Rattle.std.specs.Prelude.{◌≡◌, ◌↔◌, IsTrue, true, IfErr, I
 ghost use Rattle.mc_door.specs.Held.{role_in, width_of};
 ghost use Rattle.mc_door.specs.Leaving.{BecomesReader, IsPass, IsWriterBack, RefusesToLeave};
 ghost use Rattle.mc_door.specs.Listing.{HasListed, RefusesList, SeesMore};
-ghost use Rattle.mc_door.specs.Means.{CanWrite, CapacityIs, HasCache, LenIs, MomentIs};
+ghost use Rattle.mc_door.specs.Means.{CanWrite, CapacityIs, GetOrDeskTells, GetTells, HasCache, LenIs, MomentIs};
 ghost use Rattle.mc_door.specs.NewSides.{count_in, has_desk_in, opening_in, width_in};
 ghost use Rattle.mc_door.specs.OntoDesk.{HasPasses, RefusesDesk, WritesTo};
 ghost use Rattle.mc_door.specs.Roles.{Idle};
 ghost use Rattle.mc_door.specs.Spares.{spares_in};
+ghost use Rattle.mc_door.specs.Swaps.{SwapTells};
+ghost use Rattle.mc_door.specs.Writes.{TryTells, WriteTells};
 
 use crate::leaving::LeaveError;
 use crate::listed::ListError;
 use crate::onto_desk::MakeDeskError;
 use crate::rest::Rest;
 use crate::side::Side;
+use crate::told::RawReply;
 use crate::widths::with_sides;
+use crate::write::{Swap, Write};
 use mc_words::NoMemory;
 use std::alloc::Global;
 
@@ -62,7 +66,63 @@ impl Held {
     {
         with_side!(self, side => side.words())
     }
+}
 
+impl Held {
+    /// What the cache holds of the key: `Side::get`.
+    #[inline(never)]
+    pub fn get(&mut self, key: u64, value: &mut [u64], reply: &mut RawReply) -> u32
+        ensures width { width_of self.new ≡ width_of self.old }
+        ensures told { GetTells (width_of self.old) (role_in self.old) (role_in self.new) (self.new ≡ self.old) key value.old value.new (record { status = result; reply = reply.new }) }
+    {
+        with_side!(self, side => side.get_apart(key, value, reply))
+    }
+
+    /// What the cache holds of the key, by a pass: `Side::get_or_desk`.
+    #[inline(never)]
+    pub fn get_or_desk(&mut self, key: u64, value: &mut [u64], reply: &mut RawReply) -> u32
+        ensures width { width_of self.new ≡ width_of self.old }
+        ensures told { GetOrDeskTells (width_of self.old) (role_in self.old) (role_in self.new) (self.new ≡ self.old) key value.old value.new (record { status = result; reply = reply.new }) }
+    {
+        with_side!(self, side => side.get_or_desk_apart(key, value, reply))
+    }
+
+    /// A write by the writer.
+    #[inline(never)]
+    pub fn write(&mut self, key: u64, call: Write, value: &[u64], reply: &mut RawReply) -> u32
+        ensures width { width_of self.new ≡ width_of self.old }
+        ensures told { WriteTells (width_of self.old) (role_in self.old) (role_in self.new) (self.new ≡ self.old) key call value.now (record { status = result; reply = reply.new }) }
+    {
+        with_side!(self, side => side.write_apart(key, call, value, reply))
+    }
+
+    /// A write by a pass, which tries for the turn.
+    #[inline(never)]
+    pub fn try_write(&mut self, key: u64, call: Write, value: &[u64], reply: &mut RawReply) -> u32
+        ensures width { width_of self.new ≡ width_of self.old }
+        ensures told { TryTells (width_of self.old) (role_in self.old) (role_in self.new) (self.new ≡ self.old) key call value.now (record { status = result; reply = reply.new }) }
+    {
+        with_side!(self, side => side.try_write_apart(key, call, value, reply))
+    }
+
+    /// A write that also returns the entry which gives way, by the writer or a pass.
+    #[inline(never)]
+    pub fn swap(
+        &mut self,
+        key: u64,
+        call: Swap,
+        value: &[u64],
+        old: &mut [u64],
+        reply: &mut RawReply,
+    ) -> u32
+        ensures width { width_of self.new ≡ width_of self.old }
+        ensures told { SwapTells (width_of self.old) (role_in self.old) (role_in self.new) (self.new ≡ self.old) key call value.now old.old old.new (record { status = result; reply = reply.new }) }
+    {
+        with_side!(self, side => side.swap(key, call, value, old, reply))
+    }
+}
+
+impl Held {
     /// The number of changes made to the map, if it is a writer.
     pub fn moment(&self) -> Option<u64>
         ensures { MatchOption result (¬ CanWrite (role_in self.now)) (MomentIs (width_of self.now) (role_in self.now)) }

@@ -1,7 +1,7 @@
 //! What lies behind a handle that a program in C keeps: a side of a cache, for values of one of eight widths.
 //!
 //! A side keeps the cache with it, and that the two belong together. So a call of a side has no condition that its caller would have to
-//! know of: a call that the side can't make, or a value of another width, is a `Misuse`.
+//! know of: a call that the side can't make, or a value of another width, has a status of its own.
 #![tactic(auto)]
 
 mod at_desk;
@@ -22,9 +22,12 @@ mod shard_side;
 mod side;
 mod spares;
 mod stamped;
-mod taking;
+pub mod status;
+mod tell;
+mod told;
 mod widths;
 mod words;
+mod write;
 mod writer_side;
 
 pub use counting::CountError;
@@ -32,14 +35,13 @@ pub use held::Held;
 pub use leaving::LeaveError;
 pub use listed::ListError;
 pub use looked::Looked;
-pub use mc_cache::{
-    AbsentError, DeskError, Entry, GROUP, IfError, OpenError, Put, PutError, Remove, Replaced,
-    Shape, ShapeError, Spent, Swapped, Take, Why,
-};
+pub use mc_cache::{GROUP, OpenError, Shape, ShapeError, Why};
 pub use mc_shards::{OpenShardsError, shard_shape};
 pub use new_passes::NewPasses;
 pub use new_sides::NewSides;
 pub use onto_desk::MakeDeskError;
 pub use rest::{Rest, open, open_desk, open_with};
 pub use shard_rest::{ShardRest, open_shards};
-pub use side::{Misuse, Side};
+pub use side::Side;
+pub use told::{EVICTED, NOTHING, RENEWED, RawReply, STORED, Told};
+pub use write::{Swap, Write};

@@ -1,16 +1,18 @@
 //! A pass at the desk of a cache, with the desk and the cache.
 ghost use Rattle.std.specs.Prelude.{◌≡◌, Some, length, IfOk};
-ghost use Rattle.mc_cache.specs.Plain.{HasAnswered, PutIfAbsentMeans, PutIfMeans, PutMeans, RemovalMeans, TurnMeans, seen, AreEntriesOf, Begins};
-ghost use Rattle.mc_cache.specs.Turns.{HasLookedOrMet, HasTried, HasTriedIfAbsent};
-ghost use Rattle.mc_plan.specs.WholeCalls.Call.{PutCall, PutIfCall, RemoveCall};
+ghost use Rattle.mc_cache.specs.Plain.{PutMeans, TurnMeans, seen, AreEntriesOf, Begins};
+ghost use Rattle.mc_cache.specs.Turns.{HasTried};
+ghost use Rattle.mc_plan.specs.WholeCalls.Call.{PutCall};
 ghost use Rattle.mc_plan.specs.declared.answer.Answer.TheVariants as answer;
-ghost use Rattle.mc_reader.specs.Records.{HasLooked};
 
 use crate::at_desk::AtDesk;
+use crate::looked::Looked;
+use crate::tell;
+use crate::tell::in_turn;
+use crate::told::{RawReply, Told};
 use crate::words::array_of;
-use mc_cache::{
-    AbsentError, Cache, DeskError, IfError, Put, PutError, Reader, Remove, Reply, Spent,
-};
+use crate::write::{Swap, Write};
+use mc_cache::{Cache, DeskError, Put, PutError, Reader};
 use mc_words::NoMemory;
 use std::alloc::Global;
 use std::sync::Arc;
@@ -25,46 +27,57 @@ pub struct PassSide<const V: usize> {
 }
 
 impl<const V: usize> PassSide<V> {
-    #[inline(always)]
-    pub(crate) fn get(&mut self, key: u64) -> Reply<V>
-        ensures of { self.new.pass.of ≡ self.old.pass.of }
-        ensures looked { HasLooked V self.old.pass.of.layout.shape key self.old.pass self.new.pass result }
-        ensures plain { HasAnswered V (seen V self.old.pass) (seen V self.new.pass) key result }
+    ghost use Rattle.mc_words.specs.Places.{IsWidth};
+    ghost use Rattle.mc_door.specs.Means.{GetMeans, GetOrDeskMeans};
+    ghost use Rattle.mc_door.specs.Roles.{Passes};
+    ghost use Rattle.mc_door.specs.Swaps.{SwapMeans, swap_words};
+    ghost use Rattle.mc_door.specs.Tellings.{lookup_told};
+    ghost use Rattle.mc_door.specs.Tells.{HasTold};
+    ghost use Rattle.mc_door.specs.Writes.{TryMeans, words_in};
+
+    #[inline(never)]
+    pub(crate) fn get(&mut self, key: u64, value: &mut [u64], reply: &mut RawReply) -> u32
+        requires width { IsWidth V }
+        requires value { length value.old ≡ V }
+        ensures { HasTold lookup_told (GetMeans V (Passes self.old.pass) (Passes self.new.pass) key value.old value.new) (record { status = result; reply = reply.new }) }
     {
-        self.pass.get(&self.cache, key)
+        let answer = self.pass.get(&self.cache, key);
+        let looked = Looked::of(answer, value);
+        Told::looked(looked).tell(reply)
     }
 
     #[inline(always)]
-    pub(crate) fn get_or_desk(&mut self, key: u64) -> Reply<V>
-        ensures of { self.new.pass.of ≡ self.old.pass.of }
-        ensures looked { HasLookedOrMet V self.old.pass.of.layout.shape key self.old.pass self.new.pass result }
-        ensures plain { HasAnswered V (seen V self.old.pass) (seen V self.new.pass) key result }
+    pub(crate) fn get_or_desk(&mut self, key: u64, value: &mut [u64], reply: &mut RawReply) -> u32
+        requires width { IsWidth V }
+        requires value { length value.old ≡ V }
+        ensures { HasTold lookup_told (GetOrDeskMeans V (Passes self.old.pass) (Passes self.new.pass) key value.old value.new) (record { status = result; reply = reply.new }) }
     {
-        self.pass.get_or_desk(&self.cache, self.desk.desk(), key)
+        let answer = self.pass.get_or_desk(&self.cache, self.desk.desk(), key);
+        let looked = Looked::of(answer, value);
+        Told::looked(looked).tell(reply)
     }
 
     #[inline(always)]
-    pub(crate) fn try_put(&mut self, key: u64, value: &[u64]) -> Result<Put, DeskError<PutError>>
-        requires { length value.now ≡ V }
+    fn try_put(&mut self, key: u64, value: [u64; V]) -> Result<Put, DeskError<PutError>>
         ensures of { self.new.pass.of ≡ self.old.pass.of }
-        ensures turn { HasTried V self.old.pass.of.layout.shape (PutCall key value.now) answer.Put self.old.pass self.new.pass result }
-        ensures plain { TurnMeans (λ h h' told. PutMeans V h h' key value.now told) (seen V self.old.pass) (seen V self.new.pass) result }
+        ensures turn { HasTried V self.old.pass.of.layout.shape (PutCall key value.entry) answer.Put self.old.pass self.new.pass result }
+        ensures plain { TurnMeans (λ h h' told. PutMeans V h h' key value.entry told) (seen V self.old.pass) (seen V self.new.pass) result }
     {
         self.desk
             .desk()
-            .try_put(&self.cache, &mut self.pass, key, array_of::<V>(value))
+            .try_put(&self.cache, &mut self.pass, key, value)
     }
 
-    pub(crate) fn put_within(
+    // Tries up to so many times, at least once, for the turn, to put.
+    fn put_within(
         &mut self,
         tries: u32,
         key: u64,
-        value: &[u64],
+        value: [u64; V],
     ) -> Result<Put, DeskError<PutError>>
-        requires { length value.now ≡ V }
         ensures of { self.new.pass.of ≡ self.old.pass.of }
-        ensures turn { HasTried V self.old.pass.of.layout.shape (PutCall key value.now) answer.Put self.old.pass self.new.pass result }
-        ensures plain { TurnMeans (λ h h' told. PutMeans V h h' key value.now told) (seen V self.old.pass) (seen V self.new.pass) result }
+        ensures turn { HasTried V self.old.pass.of.layout.shape (PutCall key value.entry) answer.Put self.old.pass self.new.pass result }
+        ensures plain { TurnMeans (λ h h' told. PutMeans V h h' key value.entry told) (seen V self.old.pass) (seen V self.new.pass) result }
     {
         for _ in 1..tries {
             match self.try_put(key, value) {
@@ -76,49 +89,89 @@ impl<const V: usize> PassSide<V> {
     }
 
     #[inline(always)]
-    pub(crate) fn try_put_if(
+    pub(crate) fn write(
         &mut self,
         key: u64,
-        since: u64,
+        call: Write,
         value: &[u64],
-    ) -> Result<u64, DeskError<IfError>>
-        requires { length value.now ≡ V }
-        ensures of { self.new.pass.of ≡ self.old.pass.of }
-        ensures turn { HasTried V self.old.pass.of.layout.shape (PutIfCall key since value.now) answer.PutIf self.old.pass self.new.pass result }
-        ensures plain { TurnMeans (λ h h' told. PutIfMeans V h h' key since value.now told) (seen V self.old.pass) (seen V self.new.pass) result }
+        reply: &mut RawReply,
+    ) -> u32
+        requires { words_in V call value.now ≡ V }
+        ensures { TryMeans V (Passes self.old.pass) (Passes self.new.pass) key call value.now (record { status = result; reply = reply.new }) }
     {
-        let value = array_of::<V>(value);
-        self.desk
-            .desk()
-            .try_put_if(&self.cache, &mut self.pass, key, since, value)
+        match call {
+            Write::Put => {
+                let tried = self.try_put(key, array_of::<V>(value));
+                in_turn!(tried, reply, made => tell::put(made, reply))
+            }
+            Write::PutWithin(tries) => {
+                let tried = self.put_within(tries, key, array_of::<V>(value));
+                in_turn!(tried, reply, made => tell::put(made, reply))
+            }
+            Write::PutIf(since) => {
+                let tried = self.desk.desk().try_put_if(
+                    &self.cache,
+                    &mut self.pass,
+                    key,
+                    since,
+                    array_of::<V>(value),
+                );
+                in_turn!(tried, reply, made => tell::put_if(made, reply))
+            }
+            Write::PutIfAbsent => {
+                let tried = self
+                    .desk
+                    .desk()
+                    .try_put_if_absent(&self.cache, &mut self.pass, key, array_of::<V>(value));
+                in_turn!(tried, reply, made => tell::put_if_absent(made, reply))
+            }
+            Write::Remove => {
+                let tried = self
+                    .desk
+                    .desk()
+                    .try_remove(&self.cache, &mut self.pass, key);
+                in_turn!(tried, reply, made => tell::removal(made, reply))
+            }
+        }
     }
 
     #[inline(always)]
-    pub(crate) fn try_put_if_absent(
+    pub(crate) fn swap(
         &mut self,
         key: u64,
+        call: Swap,
         value: &[u64],
-    ) -> Result<Put, DeskError<AbsentError>>
-        requires { length value.now ≡ V }
-        ensures of { self.new.pass.of ≡ self.old.pass.of }
-        ensures turn { HasTriedIfAbsent V self.old.pass.of.layout.shape key value.now self.old.pass self.new.pass result }
-        ensures plain { TurnMeans (λ h h' told. PutIfAbsentMeans V h h' key value.now told) (seen V self.old.pass) (seen V self.new.pass) result }
+        old: &mut [u64],
+        reply: &mut RawReply,
+    ) -> u32
+        requires width { IsWidth V }
+        requires value { swap_words V call value.now ≡ V }
+        requires old { length old.old ≡ V }
+        ensures { SwapMeans V (Passes self.old.pass) (Passes self.new.pass) key call value.now old.old old.new (record { status = result; reply = reply.new }) }
     {
-        let value = array_of::<V>(value);
-        self.desk
-            .desk()
-            .try_put_if_absent(&self.cache, &mut self.pass, key, value)
-    }
-
-    #[inline(always)]
-    pub(crate) fn try_remove(&mut self, key: u64) -> Result<Remove, DeskError<Spent>>
-        ensures of { self.new.pass.of ≡ self.old.pass.of }
-        ensures turn { HasTried V self.old.pass.of.layout.shape (RemoveCall key) answer.Remove self.old.pass self.new.pass result }
-        ensures plain { TurnMeans (λ h h' told. RemovalMeans V h h' key told) (seen V self.old.pass) (seen V self.new.pass) result }
-    {
-        self.desk
-            .desk()
-            .try_remove(&self.cache, &mut self.pass, key)
+        match call {
+            Swap::Put => {
+                let tried = self
+                    .desk
+                    .desk()
+                    .try_swap(&self.cache, &mut self.pass, key, array_of::<V>(value));
+                in_turn!(tried, reply, made => tell::swap(made, old, reply))
+            }
+            Swap::PutIf(since) => {
+                let tried = self.desk.desk().try_swap_if(
+                    &self.cache,
+                    &mut self.pass,
+                    key,
+                    since,
+                    array_of::<V>(value),
+                );
+                in_turn!(tried, reply, made => tell::swap_if(made, old, reply))
+            }
+            Swap::Remove => {
+                let tried = self.desk.desk().try_take(&self.cache, &mut self.pass, key);
+                in_turn!(tried, reply, made => tell::take(made, old, reply))
+            }
+        }
     }
 
     pub(crate) fn entries(

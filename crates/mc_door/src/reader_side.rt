@@ -1,9 +1,9 @@
 //! A reader of a cache, with the cache.
-ghost use Rattle.std.specs.Prelude.{◌≡◌};
-ghost use Rattle.mc_cache.specs.Plain.{HasAnswered, seen};
-ghost use Rattle.mc_reader.specs.Records.{HasLooked};
+ghost use Rattle.std.specs.Prelude.{◌≡◌, length};
 
-use mc_cache::{Cache, Reader, Reply};
+use crate::looked::Looked;
+use crate::told::{RawReply, Told};
+use mc_cache::{Cache, Reader};
 use std::alloc::Global;
 use std::sync::Arc;
 
@@ -16,12 +16,20 @@ pub struct ReaderSide<const V: usize> {
 }
 
 impl<const V: usize> ReaderSide<V> {
+    ghost use Rattle.mc_words.specs.Places.{IsWidth};
+    ghost use Rattle.mc_door.specs.Means.{GetMeans};
+    ghost use Rattle.mc_door.specs.Roles.{Reads};
+    ghost use Rattle.mc_door.specs.Tellings.{lookup_told};
+    ghost use Rattle.mc_door.specs.Tells.{HasTold};
+
     #[inline(always)]
-    pub(crate) fn get(&mut self, key: u64) -> Reply<V>
-        ensures of { self.new.reader.of ≡ self.old.reader.of }
-        ensures looked { HasLooked V self.old.reader.of.layout.shape key self.old.reader self.new.reader result }
-        ensures plain { HasAnswered V (seen V self.old.reader) (seen V self.new.reader) key result }
+    pub(crate) fn get(&mut self, key: u64, value: &mut [u64], reply: &mut RawReply) -> u32
+        requires width { IsWidth V }
+        requires value { length value.old ≡ V }
+        ensures { HasTold lookup_told (GetMeans V (Reads self.old.reader) (Reads self.new.reader) key value.old value.new) (record { status = result; reply = reply.new }) }
     {
-        self.reader.get(&self.cache, key)
+        let answer = self.reader.get(&self.cache, key);
+        let looked = Looked::of(answer, value);
+        Told::looked(looked).tell(reply)
     }
 }

@@ -1,15 +1,15 @@
 //! A pass of a cache of shards, with the shards.
 ghost use Rattle.std.specs.Prelude.{◌≡◌, length, IfOk};
-ghost use Rattle.mc_cache.specs.Turns.{HasLookedOrMet, HasTried, HasTriedIfAbsent};
-ghost use Rattle.mc_plan.specs.WholeCalls.Call.{PutCall, PutIfCall, RemoveCall};
-ghost use Rattle.mc_plan.specs.declared.answer.Answer.TheVariants as answer;
-ghost use Rattle.mc_reader.specs.Records.{HasLooked};
-ghost use Rattle.mc_shards.specs.Plain.{HasAnswered, PutIfAbsentMeans, PutIfMeans, PutMeans, RemovalMeans, TurnMeans, AllBegin, AreEntriesOfAll, seens};
+ghost use Rattle.mc_shards.specs.Plain.{AllBegin, AreEntriesOfAll, seens};
 ghost use Rattle.mc_shards.specs.Sharded.{ArePassOf};
-ghost use Rattle.mc_door.specs.AtShards.{IsAtShard};
 
+use crate::looked::Looked;
+use crate::tell;
+use crate::tell::in_turn;
+use crate::told::{RawReply, Told};
 use crate::words::array_of;
-use mc_cache::{AbsentError, DeskError, IfError, Put, PutError, Remove, Reply, Spent};
+use crate::write::{Swap, Write};
+use mc_cache::DeskError;
 use mc_shards::{Pass, Shards};
 use mc_words::NoMemory;
 use std::alloc::Global;
@@ -24,92 +24,107 @@ pub struct ShardSide<const V: usize> {
 }
 
 impl<const V: usize> ShardSide<V> {
-    #[inline(always)]
-    pub(crate) fn get(&mut self, key: u64) -> Reply<V>
-        ensures of { self.new.shards.value ≡ self.old.shards.value }
-        ensures looked { IsAtShard V self.old.shards.value key self.old.pass self.new.pass
-            (λ r r'. HasLooked V self.old.shards.value.shape key r r' result) (λ h h'. HasAnswered V h h' key result) }
+    ghost use Rattle.mc_words.specs.Places.{IsWidth};
+    ghost use Rattle.mc_door.specs.Means.{GetMeans, GetOrDeskMeans};
+    ghost use Rattle.mc_door.specs.Roles.{Shares};
+    ghost use Rattle.mc_door.specs.Swaps.{SwapMeans, swap_words};
+    ghost use Rattle.mc_door.specs.Tellings.{lookup_told};
+    ghost use Rattle.mc_door.specs.Tells.{HasTold};
+    ghost use Rattle.mc_door.specs.Writes.{TryMeans, words_in};
+
+    #[inline(never)]
+    pub(crate) fn get(&mut self, key: u64, value: &mut [u64], reply: &mut RawReply) -> u32
+        requires width { IsWidth V }
+        requires value { length value.old ≡ V }
+        ensures { HasTold lookup_told (GetMeans V (Shares self.old.shards.value self.old.pass) (Shares self.new.shards.value self.new.pass) key value.old value.new) (record { status = result; reply = reply.new }) }
     {
-        self.pass.get(&self.shards, key)
+        let answer = self.pass.get(&self.shards, key);
+        let looked = Looked::of(answer, value);
+        Told::looked(looked).tell(reply)
     }
 
     #[inline(always)]
-    pub(crate) fn get_or_desk(&mut self, key: u64) -> Reply<V>
-        ensures of { self.new.shards.value ≡ self.old.shards.value }
-        ensures looked { IsAtShard V self.old.shards.value key self.old.pass self.new.pass
-            (λ r r'. HasLookedOrMet V self.old.shards.value.shape key r r' result) (λ h h'. HasAnswered V h h' key result) }
+    pub(crate) fn get_or_desk(&mut self, key: u64, value: &mut [u64], reply: &mut RawReply) -> u32
+        requires width { IsWidth V }
+        requires value { length value.old ≡ V }
+        ensures { HasTold lookup_told (GetOrDeskMeans V (Shares self.old.shards.value self.old.pass) (Shares self.new.shards.value self.new.pass) key value.old value.new) (record { status = result; reply = reply.new }) }
     {
-        self.pass.get_or_desk(&self.shards, key)
+        let answer = self.pass.get_or_desk(&self.shards, key);
+        let looked = Looked::of(answer, value);
+        Told::looked(looked).tell(reply)
     }
 
     #[inline(always)]
-    pub(crate) fn try_put(&mut self, key: u64, value: &[u64]) -> Result<Put, DeskError<PutError>>
-        requires { length value.now ≡ V }
-        ensures of { self.new.shards.value ≡ self.old.shards.value }
-        ensures turn { IsAtShard V self.old.shards.value key self.old.pass self.new.pass
-            (λ r r'. HasTried V self.old.shards.value.shape (PutCall key value.now) answer.Put r r' result)
-            (λ h h'. TurnMeans (λ a b told. PutMeans V a b key value.now told) h h' result) }
-    {
-        self.pass.try_put(&self.shards, key, array_of::<V>(value))
-    }
-
-    pub(crate) fn put_within(
-        &mut self,
-        tries: u32,
-        key: u64,
-        value: &[u64],
-    ) -> Result<Put, DeskError<PutError>>
-        requires { length value.now ≡ V }
-        ensures of { self.new.shards.value ≡ self.old.shards.value }
-        ensures turn { IsAtShard V self.old.shards.value key self.old.pass self.new.pass
-            (λ r r'. HasTried V self.old.shards.value.shape (PutCall key value.now) answer.Put r r' result)
-            (λ h h'. TurnMeans (λ a b told. PutMeans V a b key value.now told) h h' result) }
-    {
-        self.pass
-            .put_within(&self.shards, tries, key, array_of::<V>(value))
-    }
-
-    #[inline(always)]
-    pub(crate) fn try_put_if(
+    pub(crate) fn write(
         &mut self,
         key: u64,
-        since: u64,
+        call: Write,
         value: &[u64],
-    ) -> Result<u64, DeskError<IfError>>
-        requires { length value.now ≡ V }
-        ensures of { self.new.shards.value ≡ self.old.shards.value }
-        ensures turn { IsAtShard V self.old.shards.value key self.old.pass self.new.pass
-            (λ r r'. HasTried V self.old.shards.value.shape (PutIfCall key since value.now) answer.PutIf r r' result)
-            (λ h h'. TurnMeans (λ a b told. PutIfMeans V a b key since value.now told) h h' result) }
+        reply: &mut RawReply,
+    ) -> u32
+        requires { words_in V call value.now ≡ V }
+        ensures { TryMeans V (Shares self.old.shards.value self.old.pass) (Shares self.new.shards.value self.new.pass) key call value.now (record { status = result; reply = reply.new }) }
     {
-        self.pass
-            .try_put_if(&self.shards, key, since, array_of::<V>(value))
+        match call {
+            Write::Put => {
+                let tried = self.pass.try_put(&self.shards, key, array_of::<V>(value));
+                in_turn!(tried, reply, made => tell::put(made, reply))
+            }
+            Write::PutWithin(tries) => {
+                let tried = self
+                    .pass
+                    .put_within(&self.shards, tries, key, array_of::<V>(value));
+                in_turn!(tried, reply, made => tell::put(made, reply))
+            }
+            Write::PutIf(since) => {
+                let tried = self
+                    .pass
+                    .try_put_if(&self.shards, key, since, array_of::<V>(value));
+                in_turn!(tried, reply, made => tell::put_if(made, reply))
+            }
+            Write::PutIfAbsent => {
+                let tried = self
+                    .pass
+                    .try_put_if_absent(&self.shards, key, array_of::<V>(value));
+                in_turn!(tried, reply, made => tell::put_if_absent(made, reply))
+            }
+            Write::Remove => {
+                let tried = self.pass.try_remove(&self.shards, key);
+                in_turn!(tried, reply, made => tell::removal(made, reply))
+            }
+        }
     }
 
     #[inline(always)]
-    pub(crate) fn try_put_if_absent(
+    pub(crate) fn swap(
         &mut self,
         key: u64,
+        call: Swap,
         value: &[u64],
-    ) -> Result<Put, DeskError<AbsentError>>
-        requires { length value.now ≡ V }
-        ensures of { self.new.shards.value ≡ self.old.shards.value }
-        ensures turn { IsAtShard V self.old.shards.value key self.old.pass self.new.pass
-            (λ r r'. HasTriedIfAbsent V self.old.shards.value.shape key value.now r r' result)
-            (λ h h'. TurnMeans (λ a b told. PutIfAbsentMeans V a b key value.now told) h h' result) }
+        old: &mut [u64],
+        reply: &mut RawReply,
+    ) -> u32
+        requires width { IsWidth V }
+        requires value { swap_words V call value.now ≡ V }
+        requires old { length old.old ≡ V }
+        ensures { SwapMeans V (Shares self.old.shards.value self.old.pass) (Shares self.new.shards.value self.new.pass) key call value.now old.old old.new (record { status = result; reply = reply.new }) }
     {
-        self.pass
-            .try_put_if_absent(&self.shards, key, array_of::<V>(value))
-    }
-
-    #[inline(always)]
-    pub(crate) fn try_remove(&mut self, key: u64) -> Result<Remove, DeskError<Spent>>
-        ensures of { self.new.shards.value ≡ self.old.shards.value }
-        ensures turn { IsAtShard V self.old.shards.value key self.old.pass self.new.pass
-            (λ r r'. HasTried V self.old.shards.value.shape (RemoveCall key) answer.Remove r r' result)
-            (λ h h'. TurnMeans (λ a b told. RemovalMeans V a b key told) h h' result) }
-    {
-        self.pass.try_remove(&self.shards, key)
+        match call {
+            Swap::Put => {
+                let tried = self.pass.try_swap(&self.shards, key, array_of::<V>(value));
+                in_turn!(tried, reply, made => tell::swap(made, old, reply))
+            }
+            Swap::PutIf(since) => {
+                let tried = self
+                    .pass
+                    .try_swap_if(&self.shards, key, since, array_of::<V>(value));
+                in_turn!(tried, reply, made => tell::swap_if(made, old, reply))
+            }
+            Swap::Remove => {
+                let tried = self.pass.try_take(&self.shards, key);
+                in_turn!(tried, reply, made => tell::take(made, old, reply))
+            }
+        }
     }
 
     pub(crate) fn entries(

@@ -1,24 +1,19 @@
 //! A side of a cache, for values of so many words.
-ghost use Rattle.std.specs.Prelude.{◌≡◌, length, MatchOption, MatchResult};
+ghost use Rattle.std.specs.Prelude.{◌≡◌, MatchOption};
 ghost use Rattle.mc_words.specs.Places.{IsWidth};
+ghost use Rattle.mc_door.specs.Means.{CanWrite, CapacityIs, GetOrDeskTells, GetTells, HasCache, LenIs, MomentIs};
 ghost use Rattle.mc_door.specs.Roles.{role_of};
-ghost use Rattle.mc_door.specs.Means.{CanLook, CanWrite, GetMeans, GetOrDeskMeans, HasCache, HasTurns, IsMisuse, PutIfAbsentMeans, PutIfMeans, PutMeans, RemovalMeans, TryPutIfAbsentMeans, TryPutIfMeans, TryPutMeans, TryRemovalMeans, CapacityIs, LenIs, MomentIs};
+ghost use Rattle.mc_door.specs.Swaps.{SwapTells};
+ghost use Rattle.mc_door.specs.Writes.{TryTells, WriteTells};
 
-use crate::looked::Looked;
 use crate::pass_side::PassSide;
 use crate::reader_side::ReaderSide;
 use crate::shard_side::ShardSide;
+use crate::status::{BUSY, KIND, WIDTH};
+use crate::tell::refused;
+use crate::told::RawReply;
+use crate::write::{Swap, Write};
 use crate::writer_side::WriterSide;
-use mc_cache::{AbsentError, DeskError, IfError, Put, PutError, Remove, Spent};
-
-/// Why a call was not made. Nothing was changed.
-#[derive(Clone, Copy, Debug, PartialEq, Eq)]
-pub enum Misuse {
-    /// A side of this kind has no such call.
-    Kind,
-    /// The value has another number of words than those of the cache.
-    Width,
-}
 
 /// The side of a cache that a handle is for.
 #[derive(Drop)]
@@ -31,29 +26,6 @@ pub enum Side<const V: usize> {
     Nothing,
 }
 
-// A call by a pass, whose value has so many words.
-macro_rules! by_turn {
-    ($side:expr, $words:expr, $pass:ident => $call:expr) => {
-        match $side {
-            Side::Writer(_) | Side::Reader(_) | Side::Nothing => Err(Misuse::Kind),
-            _ if $words != V => Err(Misuse::Width),
-            Side::Pass($pass) => Ok($call),
-            Side::Shard($pass) => Ok($call),
-        }
-    };
-}
-
-// A call by the writer, whose value has so many words.
-macro_rules! by_writer {
-    ($side:expr, $words:expr, $writer:ident => $call:expr) => {
-        match $side {
-            Side::Writer(_) if $words != V => Err(Misuse::Width),
-            Side::Writer($writer) => Ok($call),
-            Side::Reader(_) | Side::Pass(_) | Side::Shard(_) | Side::Nothing => Err(Misuse::Kind),
-        }
-    };
-}
-
 impl<const V: usize> Side<V> {
     pub(crate) fn words(&self) -> usize
         ensures { result ≡ V }
@@ -61,83 +33,136 @@ impl<const V: usize> Side<V> {
         V
     }
 
-    /// Puts a key: `Writer::put`, by the writer.
+    /// What the cache holds of the key: `get` of the writer, a reader or a pass. The value is written only where it was found. A reader's
+    /// lookup shares no registers with those of other sides.
     #[inline(always)]
-    pub fn put(&mut self, key: u64, value: &[u64]) -> Result<Result<Put, PutError>, Misuse>
-        ensures { MatchResult result (λ told. PutMeans V (role_of self.old) (role_of self.new) key value.now told)
-            (λ why. IsMisuse CanWrite V (role_of self.old) (length value.now) why × (self.new ≡ self.old)) }
-    {
-        by_writer!(self, value.len(), side => side.put(key, value))
-    }
-
-    /// Puts a key anew, if its last put was at this moment: `Writer::put_if`, by the writer.
-    #[inline(always)]
-    pub fn put_if(
-        &mut self,
-        key: u64,
-        since: u64,
-        value: &[u64],
-    ) -> Result<Result<u64, IfError>, Misuse>
-        ensures { MatchResult result (λ told. PutIfMeans V (role_of self.old) (role_of self.new) key since value.now told)
-            (λ why. IsMisuse CanWrite V (role_of self.old) (length value.now) why × (self.new ≡ self.old)) }
-    {
-        by_writer!(self, value.len(), side => side.put_if(key, since, value))
-    }
-
-    /// Puts a key if it is absent: `Writer::put_if_absent`, by the writer.
-    #[inline(always)]
-    pub fn put_if_absent(
-        &mut self,
-        key: u64,
-        value: &[u64],
-    ) -> Result<Result<Put, AbsentError>, Misuse>
-        ensures { MatchResult result (λ told. PutIfAbsentMeans V (role_of self.old) (role_of self.new) key value.now told)
-            (λ why. IsMisuse CanWrite V (role_of self.old) (length value.now) why × (self.new ≡ self.old)) }
-    {
-        by_writer!(self, value.len(), side => side.put_if_absent(key, value))
-    }
-
-    /// Takes a key out: `Writer::remove`, by the writer.
-    #[inline(always)]
-    pub fn remove(&mut self, key: u64) -> Result<Result<Remove, Spent>, Misuse>
-        ensures { MatchResult result (λ told. RemovalMeans V (role_of self.old) (role_of self.new) key told)
-            (λ why. IsMisuse CanWrite V (role_of self.old) V why × (self.new ≡ self.old)) }
-    {
-        let Side::Writer(side) = self else {
-            return Err(Misuse::Kind);
-        };
-        Ok(side.remove(key))
-    }
-}
-
-impl<const V: usize> Side<V> {
-    /// What the cache holds of the key: `get` of the writer, a reader or a pass. The value is written only where it was found.
-    #[inline(always)]
-    pub fn get(&mut self, key: u64, value: &mut [u64]) -> Result<Looked, Misuse>
-        requires width { IsWidth V }
-        ensures { MatchResult result (λ told. GetMeans V (role_of self.old) (role_of self.new) key value.old value.new told)
-            (λ why. IsMisuse CanLook V (role_of self.old) (length value.old) why × (self.new ≡ self.old) × (value.new ≡ value.old)) }
+    pub fn get(&mut self, key: u64, value: &mut [u64], reply: &mut RawReply) -> u32
+        requires { IsWidth V }
+        ensures { GetTells V (role_of self.old) (role_of self.new) (self.new ≡ self.old) key value.old value.new (record { status = result; reply = reply.new }) }
     {
         if value.len() != V {
-            return Err(Misuse::Width);
+            return refused(WIDTH, reply);
         }
         match self {
-            Side::Reader(side) => Ok(Looked::of(side.get(key), value)),
-            Side::Pass(side) => Ok(Looked::of(side.get(key), value)),
-            Side::Shard(side) => Ok(Looked::of(side.get(key), value)),
-            Side::Writer(side) => Ok(Looked::of(side.get(key), value)),
-            Side::Nothing => Ok(Looked::Busy),
+            Side::Reader(side) => side.get(key, value, reply),
+            Side::Pass(side) => side.get(key, value, reply),
+            Side::Shard(side) => side.get(key, value, reply),
+            Side::Writer(side) => side.get(key, value, reply),
+            Side::Nothing => refused(BUSY, reply),
         }
     }
 
     /// What the cache holds of the key: `Reader::get_or_desk` or `Pass::get_or_desk`, by a pass.
     #[inline(always)]
-    pub fn get_or_desk(&mut self, key: u64, value: &mut [u64]) -> Result<Looked, Misuse>
-        requires width { IsWidth V }
-        ensures { MatchResult result (λ told. GetOrDeskMeans V (role_of self.old) (role_of self.new) key value.old value.new told)
-            (λ why. IsMisuse HasTurns V (role_of self.old) (length value.old) why × (self.new ≡ self.old) × (value.new ≡ value.old)) }
+    pub fn get_or_desk(&mut self, key: u64, value: &mut [u64], reply: &mut RawReply) -> u32
+        requires { IsWidth V }
+        ensures { GetOrDeskTells V (role_of self.old) (role_of self.new) (self.new ≡ self.old) key value.old value.new (record { status = result; reply = reply.new }) }
     {
-        by_turn!(self, value.len(), side => Looked::of(side.get_or_desk(key), value))
+        match self {
+            Side::Writer(_) | Side::Reader(_) | Side::Nothing => refused(KIND, reply),
+            _ if value.len() != V => refused(WIDTH, reply),
+            Side::Pass(side) => side.get_or_desk(key, value, reply),
+            Side::Shard(side) => side.get_or_desk(key, value, reply),
+        }
+    }
+
+    /// A write by the writer.
+    #[inline(always)]
+    pub fn write(&mut self, key: u64, call: Write, value: &[u64], reply: &mut RawReply) -> u32
+        ensures { WriteTells V (role_of self.old) (role_of self.new) (self.new ≡ self.old) key call value.now (record { status = result; reply = reply.new }) }
+    {
+        match self {
+            Side::Writer(_) if call.words(value, V) != V => refused(WIDTH, reply),
+            Side::Writer(side) => side.write(key, call, value, reply),
+            Side::Reader(_) | Side::Pass(_) | Side::Shard(_) | Side::Nothing => {
+                refused(KIND, reply)
+            }
+        }
+    }
+
+    /// A write by a pass, which tries for the turn.
+    #[inline(always)]
+    pub fn try_write(&mut self, key: u64, call: Write, value: &[u64], reply: &mut RawReply) -> u32
+        ensures { TryTells V (role_of self.old) (role_of self.new) (self.new ≡ self.old) key call value.now (record { status = result; reply = reply.new }) }
+    {
+        match self {
+            Side::Writer(_) | Side::Reader(_) | Side::Nothing => refused(KIND, reply),
+            _ if call.words(value, V) != V => refused(WIDTH, reply),
+            Side::Pass(side) => side.write(key, call, value, reply),
+            Side::Shard(side) => side.write(key, call, value, reply),
+        }
+    }
+
+    /// A write that also returns the entry which gives way, by the writer or a pass. The old value is written only where one does.
+    #[inline(never)]
+    pub(crate) fn swap(
+        &mut self,
+        key: u64,
+        call: Swap,
+        value: &[u64],
+        old: &mut [u64],
+        reply: &mut RawReply,
+    ) -> u32
+        requires { IsWidth V }
+        ensures { SwapTells V (role_of self.old) (role_of self.new) (self.new ≡ self.old) key call value.now old.old old.new (record { status = result; reply = reply.new }) }
+    {
+        match self {
+            Side::Reader(_) | Side::Nothing => refused(KIND, reply),
+            _ if call.words(value, V) != V || old.len() != V => refused(WIDTH, reply),
+            Side::Writer(side) => side.swap(key, call, value, old, reply),
+            Side::Pass(side) => side.swap(key, call, value, old, reply),
+            Side::Shard(side) => side.swap(key, call, value, old, reply),
+        }
+    }
+}
+
+// Out of line: for a width that is not known before.
+impl<const V: usize> Side<V> {
+    #[inline(never)]
+    pub(crate) fn get_apart(&mut self, key: u64, value: &mut [u64], reply: &mut RawReply) -> u32
+        requires { IsWidth V }
+        ensures { GetTells V (role_of self.old) (role_of self.new) (self.new ≡ self.old) key value.old value.new (record { status = result; reply = reply.new }) }
+    {
+        self.get(key, value, reply)
+    }
+
+    #[inline(never)]
+    pub(crate) fn get_or_desk_apart(
+        &mut self,
+        key: u64,
+        value: &mut [u64],
+        reply: &mut RawReply,
+    ) -> u32
+        requires { IsWidth V }
+        ensures { GetOrDeskTells V (role_of self.old) (role_of self.new) (self.new ≡ self.old) key value.old value.new (record { status = result; reply = reply.new }) }
+    {
+        self.get_or_desk(key, value, reply)
+    }
+
+    #[inline(never)]
+    pub(crate) fn write_apart(
+        &mut self,
+        key: u64,
+        call: Write,
+        value: &[u64],
+        reply: &mut RawReply,
+    ) -> u32
+        ensures { WriteTells V (role_of self.old) (role_of self.new) (self.new ≡ self.old) key call value.now (record { status = result; reply = reply.new }) }
+    {
+        self.write(key, call, value, reply)
+    }
+
+    #[inline(never)]
+    pub(crate) fn try_write_apart(
+        &mut self,
+        key: u64,
+        call: Write,
+        value: &[u64],
+        reply: &mut RawReply,
+    ) -> u32
+        ensures { TryTells V (role_of self.old) (role_of self.new) (self.new ≡ self.old) key call value.now (record { status = result; reply = reply.new }) }
+    {
+        self.try_write(key, call, value, reply)
     }
 }
 
@@ -153,71 +178,6 @@ impl<const V: usize> Side<V> {
         }
     }
 
-    /// Tries once for the turn, to put: `Desk::try_put` or `Pass::try_put`, by a pass.
-    #[inline(always)]
-    pub fn try_put(
-        &mut self,
-        key: u64,
-        value: &[u64],
-    ) -> Result<Result<Put, DeskError<PutError>>, Misuse>
-        ensures { MatchResult result (λ told. TryPutMeans V (role_of self.old) (role_of self.new) key value.now told)
-            (λ why. IsMisuse HasTurns V (role_of self.old) (length value.now) why × (self.new ≡ self.old)) }
-    {
-        by_turn!(self, value.len(), side => side.try_put(key, value))
-    }
-
-    /// Tries up to so many times, at least once, for the turn, to put, by a pass.
-    #[inline(always)]
-    pub fn put_within(
-        &mut self,
-        tries: u32,
-        key: u64,
-        value: &[u64],
-    ) -> Result<Result<Put, DeskError<PutError>>, Misuse>
-        ensures { MatchResult result (λ told. TryPutMeans V (role_of self.old) (role_of self.new) key value.now told)
-            (λ why. IsMisuse HasTurns V (role_of self.old) (length value.now) why × (self.new ≡ self.old)) }
-    {
-        by_turn!(self, value.len(), side => side.put_within(tries, key, value))
-    }
-
-    /// Tries once for the turn, to put on a condition: `Desk::try_put_if` or `Pass::try_put_if`, by a pass.
-    #[inline(always)]
-    pub fn try_put_if(
-        &mut self,
-        key: u64,
-        since: u64,
-        value: &[u64],
-    ) -> Result<Result<u64, DeskError<IfError>>, Misuse>
-        ensures { MatchResult result (λ told. TryPutIfMeans V (role_of self.old) (role_of self.new) key since value.now told)
-            (λ why. IsMisuse HasTurns V (role_of self.old) (length value.now) why × (self.new ≡ self.old)) }
-    {
-        by_turn!(self, value.len(), side => side.try_put_if(key, since, value))
-    }
-
-    /// Tries once for the turn, to put a key if it is absent: `Desk::try_put_if_absent` or `Pass::try_put_if_absent`, by a pass.
-    #[inline(always)]
-    pub fn try_put_if_absent(
-        &mut self,
-        key: u64,
-        value: &[u64],
-    ) -> Result<Result<Put, DeskError<AbsentError>>, Misuse>
-        ensures { MatchResult result (λ told. TryPutIfAbsentMeans V (role_of self.old) (role_of self.new) key value.now told)
-            (λ why. IsMisuse HasTurns V (role_of self.old) (length value.now) why × (self.new ≡ self.old)) }
-    {
-        by_turn!(self, value.len(), side => side.try_put_if_absent(key, value))
-    }
-
-    /// Tries once for the turn, to take a key out: `Desk::try_remove` or `Pass::try_remove`, by a pass.
-    #[inline(always)]
-    pub fn try_remove(&mut self, key: u64) -> Result<Result<Remove, DeskError<Spent>>, Misuse>
-        ensures { MatchResult result (λ told. TryRemovalMeans V (role_of self.old) (role_of self.new) key told)
-            (λ why. IsMisuse HasTurns V (role_of self.old) V why × (self.new ≡ self.old)) }
-    {
-        by_turn!(self, V, side => side.try_remove(key))
-    }
-}
-
-impl<const V: usize> Side<V> {
     /// The number of changes made to the map: `Writer::moment`. `None` by another side.
     pub fn moment(&self) -> Option<u64>
         ensures { MatchOption result (¬ CanWrite (role_of self.now)) (MomentIs V (role_of self.now)) }
@@ -225,7 +185,7 @@ impl<const V: usize> Side<V> {
         let Side::Writer(side) = self else {
             return None;
         };
-        Some(side.moment())
+        Some(side.writer.moment())
     }
 
     /// How many keys the cache holds: `Writer::len`. `None` by another side.
@@ -235,7 +195,7 @@ impl<const V: usize> Side<V> {
         let Side::Writer(side) = self else {
             return None;
         };
-        Some(side.len() as u64)
+        Some(side.writer.len() as u64)
     }
 
     /// How many keys the cache holds at most, shards all together: `Cache::capacity` or `Shards::capacity`. `None` by no side.

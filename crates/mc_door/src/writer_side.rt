@@ -1,14 +1,14 @@
 //! The writer of a cache, with the cache.
 ghost use Rattle.std.specs.Prelude.{◌≡◌, All, length, IfOk};
 ghost use Rattle.mc_shared.specs.Records.{IsNewReader};
-ghost use Rattle.mc_cache.specs.Plain.{PutIfAbsentMeans, PutIfMeans, PutMeans, RemovalMeans, history, AreEntriesOf, TellsNow};
-ghost use Rattle.mc_plan.specs.WholeCalls.Call.{PutCall, PutIfCall, RemoveCall};
-ghost use Rattle.mc_plan.specs.declared.answer.Answer.TheVariants as answer;
-ghost use Rattle.mc_writer.specs.WriterCalls.{HasCalled, HasPutIfAbsent, HasGot};
-ghost use Rattle.mc_words.specs.History.{key_count};
+ghost use Rattle.mc_cache.specs.Plain.{history, AreEntriesOf};
 
+use crate::looked::Looked;
+use crate::tell;
+use crate::told::{RawReply, Told};
 use crate::words::array_of;
-use mc_cache::{AbsentError, Cache, IfError, Put, PutError, Reader, Remove, Reply, Spent, Writer};
+use crate::write::{Swap, Write};
+use mc_cache::{Cache, Reader, Writer};
 use mc_words::NoMemory;
 use std::alloc::Global;
 use std::sync::Arc;
@@ -24,66 +24,87 @@ pub struct WriterSide<const V: usize> {
 }
 
 impl<const V: usize> WriterSide<V> {
-    #[inline(always)]
-    pub(crate) fn put(&mut self, key: u64, value: &[u64]) -> Result<Put, PutError>
-        requires { length value.now ≡ V }
-        ensures of { self.new.writer.of ≡ self.old.writer.of }
-        ensures called { HasCalled V self.old.writer.of.layout.shape (PutCall key value.now) self.old.writer self.new.writer (answer.Put result) }
-        ensures plain { PutMeans V (history V self.old.writer) (history V self.new.writer) key value.now result }
-    {
-        self.writer.put(&self.cache, key, array_of::<V>(value))
-    }
+    ghost use Rattle.mc_words.specs.Places.{IsWidth};
+    ghost use Rattle.mc_door.specs.Means.{GetMeans};
+    ghost use Rattle.mc_door.specs.Roles.{Writes};
+    ghost use Rattle.mc_door.specs.Swaps.{SwapMeans, swap_words};
+    ghost use Rattle.mc_door.specs.Tellings.{lookup_told};
+    ghost use Rattle.mc_door.specs.Tells.{HasTold};
+    ghost use Rattle.mc_door.specs.Writes.{WriteMeans, words_in};
 
     #[inline(always)]
-    pub(crate) fn put_if(&mut self, key: u64, since: u64, value: &[u64]) -> Result<u64, IfError>
-        requires { length value.now ≡ V }
-        ensures of { self.new.writer.of ≡ self.old.writer.of }
-        ensures called { HasCalled V self.old.writer.of.layout.shape (PutIfCall key since value.now) self.old.writer self.new.writer (answer.PutIf result) }
-        ensures plain { PutIfMeans V (history V self.old.writer) (history V self.new.writer) key since value.now result }
+    pub(crate) fn write(
+        &mut self,
+        key: u64,
+        call: Write,
+        value: &[u64],
+        reply: &mut RawReply,
+    ) -> u32
+        requires { words_in V call value.now ≡ V }
+        ensures { WriteMeans V (Writes self.old.writer) (Writes self.new.writer) key call value.now (record { status = result; reply = reply.new }) }
     {
-        self.writer
-            .put_if(&self.cache, key, since, array_of::<V>(value))
+        match call {
+            Write::Put | Write::PutWithin(_) => {
+                let made = self.writer.put(&self.cache, key, array_of::<V>(value));
+                tell::put(made, reply)
+            }
+            Write::PutIf(since) => {
+                let value = array_of::<V>(value);
+                let made = self.writer.put_if(&self.cache, key, since, value);
+                tell::put_if(made, reply)
+            }
+            Write::PutIfAbsent => {
+                let value = array_of::<V>(value);
+                let made = self.writer.put_if_absent(&self.cache, key, value);
+                tell::put_if_absent(made, reply)
+            }
+            Write::Remove => {
+                let made = self.writer.remove(&self.cache, key);
+                tell::removal(made, reply)
+            }
+        }
     }
 
     #[inline(always)]
-    pub(crate) fn put_if_absent(&mut self, key: u64, value: &[u64]) -> Result<Put, AbsentError>
-        requires { length value.now ≡ V }
-        ensures of { self.new.writer.of ≡ self.old.writer.of }
-        ensures called { HasPutIfAbsent V self.old.writer.of.layout.shape key value.now self.old.writer self.new.writer result }
-        ensures plain { PutIfAbsentMeans V (history V self.old.writer) (history V self.new.writer) key value.now result }
+    pub(crate) fn swap(
+        &mut self,
+        key: u64,
+        call: Swap,
+        value: &[u64],
+        old: &mut [u64],
+        reply: &mut RawReply,
+    ) -> u32
+        requires width { IsWidth V }
+        requires value { swap_words V call value.now ≡ V }
+        requires old { length old.old ≡ V }
+        ensures { SwapMeans V (Writes self.old.writer) (Writes self.new.writer) key call value.now old.old old.new (record { status = result; reply = reply.new }) }
     {
-        self.writer
-            .put_if_absent(&self.cache, key, array_of::<V>(value))
+        match call {
+            Swap::Put => {
+                let made = self.writer.swap(&self.cache, key, array_of::<V>(value));
+                tell::swap(made, old, reply)
+            }
+            Swap::PutIf(since) => {
+                let value = array_of::<V>(value);
+                let made = self.writer.swap_if(&self.cache, key, since, value);
+                tell::swap_if(made, old, reply)
+            }
+            Swap::Remove => {
+                let made = self.writer.take(&self.cache, key);
+                tell::take(made, old, reply)
+            }
+        }
     }
 
-    #[inline(always)]
-    pub(crate) fn remove(&mut self, key: u64) -> Result<Remove, Spent>
-        ensures of { self.new.writer.of ≡ self.old.writer.of }
-        ensures called { HasCalled V self.old.writer.of.layout.shape (RemoveCall key) self.old.writer self.new.writer (answer.Remove result) }
-        ensures plain { RemovalMeans V (history V self.old.writer) (history V self.new.writer) key result }
+    #[inline(never)]
+    pub(crate) fn get(&mut self, key: u64, value: &mut [u64], reply: &mut RawReply) -> u32
+        requires width { IsWidth V }
+        requires value { length value.old ≡ V }
+        ensures { HasTold lookup_told (GetMeans V (Writes self.old.writer) (Writes self.new.writer) key value.old value.new) (record { status = result; reply = reply.new }) }
     {
-        self.writer.remove(&self.cache, key)
-    }
-
-    #[inline(always)]
-    pub(crate) fn get(&mut self, key: u64) -> Reply<V>
-        ensures of { self.new.writer.of ≡ self.old.writer.of }
-        ensures got { HasGot V self.old.writer.of.layout.shape key self.old.writer self.new.writer result }
-        ensures plain { TellsNow (history V self.old.writer) key result × (history V self.new.writer ≡ history V self.old.writer) }
-    {
-        self.writer.get(&self.cache, key)
-    }
-
-    pub(crate) fn moment(&self) -> u64
-        ensures plain { result ≡ length (history V self.now.writer) }
-    {
-        self.writer.moment()
-    }
-
-    pub(crate) fn len(&self) -> usize
-        ensures plain { result ≡ key_count (history V self.now.writer) }
-    {
-        self.writer.len()
+        let answer = self.writer.get(&self.cache, key);
+        let looked = Looked::of(answer, value);
+        Told::looked(looked).tell(reply)
     }
 
     pub(crate) fn entries(&mut self, alloc: Global) -> Result<Vec<(u64, [u64; V])>, NoMemory>

@@ -2,7 +2,7 @@
 use Rattle.std.specs.Prelude.{ℕ}
 use Rattle.mc_door.specs.declared.onto_desk.MakeDeskError.{MakeDeskError}
 use Rattle.mc_door.specs.declared.onto_desk.MakeDeskError.TheVariants as why
-use Rattle.cefrodil.specs.declared.status.TheConstants.{KIND, READERS}
+use Rattle.mc_door.specs.declared.status.TheConstants.{KIND, READERS}
 
 abbrev pub desk_status : MakeDeskError → ℕ
 desk_status why.Kind = KIND

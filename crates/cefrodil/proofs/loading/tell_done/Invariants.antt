@@ -1,6 +1,6 @@
 use Rattle.std.specs.Prelude.{◌≡◌}
 use Rattle.std.specs.List.{AllWithin}
-use Rattle.cefrodil.specs.declared.status.TheConstants.{OK}
+use Rattle.mc_door.specs.declared.status.TheConstants.{OK}
 use Rattle.cefrodil.proofs.loading.tell_done.Given as goal
 
 abbrev pub invariant-loop-status : goal.invariant-loop-status

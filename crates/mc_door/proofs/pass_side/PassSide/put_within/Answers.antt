@@ -9,5 +9,5 @@ use Rattle.mc_door.proofs.pass_side.PassSide.put_within.Goals as goal
 pub loop-preserved : goal.loop-preserved
 loop-preserved g c =
     let r = c.loop.self.pass in
-    let held = subst (λ (why : DeskError PutError). HasTried g.row.V r.of.layout.shape (PutCall c.args.key c.args.value.now) (λ x. answer.Put x) r c.try_put.new.self.pass (Err why)) c.in-Err-Held.field-0-is c.in-Err-Held.ensures.turn in
+    let held = subst (λ (why : DeskError PutError). HasTried g.row.V r.of.layout.shape (PutCall c.args.key c.args.value) (λ x. answer.Put x) r c.try_put.new.self.pass (Err why)) c.in-Err-Held.field-0-is c.in-Err-Held.ensures.turn in
     record { same = held ∙ c.loop.invariant.same }

@@ -1,22 +1,23 @@
 //! What a call tells C: a status, and the numbers of a reply.
 ghost use Rattle.std.specs.Prelude.{◌≡◌, None, Some};
-ghost use Rattle.cefrodil.specs.Tellings.{closed_told, done_told, gone_told, lookup_told, misuse_told, not_absent_told, not_put_if_told, not_put_told, plain, told_at, told_of};
+ghost use Rattle.mc_door.specs.Tellings.{done_told, lookup_told, not_put_if_told, not_put_told, plain, told_at, told_since};
 ghost use Rattle.mc_plan.specs.declared.answer.Put.TheVariants.{Renewed, Stored};
 
+use crate::looked::Looked;
 use crate::status;
-use mc_door::{AbsentError, IfError, Looked, Misuse, Put, PutError, Remove};
+use mc_cache::{IfError, PutError};
 
 /// No change of a key is told.
-const NOTHING: u32 = 0;
+pub const NOTHING: u32 = 0;
 
 /// The key is new.
-const STORED: u32 = 1;
+pub const STORED: u32 = 1;
 
 /// The key is new, and another was taken out for it.
-const EVICTED: u32 = 2;
+pub const EVICTED: u32 = 2;
 
 /// The key was there.
-const RENEWED: u32 = 3;
+pub const RENEWED: u32 = 3;
 
 /// The numbers of a reply. What a status has no use for is 0.
 #[repr(C)]
@@ -36,14 +37,15 @@ pub struct RawReply {
 
 /// A status with its reply.
 #[derive(Clone, Copy)]
-pub(crate) struct Told {
-    pub(crate) status: u32,
-    pub(crate) reply: RawReply,
+pub struct Told {
+    pub status: u32,
+    pub reply: RawReply,
 }
 
 impl Told {
+    /// A status alone.
     #[inline(always)]
-    pub(crate) fn plain(status: u32) -> Told
+    pub fn plain(status: u32) -> Told
         ensures { result ≡ plain status }
     {
         Told {
@@ -57,27 +59,17 @@ impl Told {
             },
         }
     }
-}
 
-impl Told {
+    /// Writes the reply, and gives the status.
     #[inline(always)]
-    pub(crate) fn closed() -> Told
-        ensures { result ≡ closed_told }
+    pub fn tell(self, reply: &mut RawReply) -> u32
+        ensures { record { status = result; reply = reply.new } ≡ self }
     {
-        Told::plain(status::CLOSED)
+        *reply = self.reply;
+        self.status
     }
 
-    #[inline(always)]
-    pub(crate) fn misuse(why: Misuse) -> Told
-        ensures { result ≡ misuse_told why }
-    {
-        match why {
-            Misuse::Kind => Told::plain(status::KIND),
-            Misuse::Width => Told::plain(status::WIDTH),
-        }
-    }
-
-    // A status and a moment.
+    /// A status and a moment.
     #[inline(always)]
     pub(crate) fn at(status: u32, at: u64) -> Told
         ensures { result ≡ told_at status at }
@@ -87,8 +79,18 @@ impl Told {
         told
     }
 
+    /// A status and the moment of the put that stands.
     #[inline(always)]
-    fn looked_answer(answer: Looked) -> Told
+    pub(crate) fn since(status: u32, since: u64) -> Told
+        ensures { result ≡ told_since status since }
+    {
+        let mut told = Told::plain(status);
+        told.reply.since = since;
+        told
+    }
+
+    #[inline(always)]
+    pub(crate) fn looked(answer: Looked) -> Told
         ensures { result ≡ lookup_told answer }
     {
         match answer {
@@ -133,19 +135,6 @@ impl Told {
     }
 
     #[inline(always)]
-    pub(crate) fn done(put: Put) -> Told
-        ensures { result ≡ done_told put }
-    {
-        match put {
-            Put::Renewed { at } => Told::renewed(at),
-            Put::Stored { at, moves, evicted } => match evicted {
-                None => Told::stored(at, moves),
-                Some(key) => Told::evicted(at, moves, key),
-            },
-        }
-    }
-
-    #[inline(always)]
     pub(crate) fn not_put(why: PutError) -> Told
         ensures { result ≡ not_put_told why }
     {
@@ -163,54 +152,7 @@ impl Told {
         match why {
             IfError::Spent => Told::plain(status::SPENT),
             IfError::NotThere { at } => Told::at(status::ABSENT, at),
-            IfError::Changed { since } => {
-                let mut told = Told::plain(status::CHANGED);
-                told.reply.since = since;
-                told
-            }
-        }
-    }
-
-    #[inline(always)]
-    pub(crate) fn not_absent(why: AbsentError) -> Told
-        ensures { result ≡ not_absent_told why }
-    {
-        match why {
-            AbsentError::Present { since } => {
-                let mut told = Told::plain(status::PRESENT);
-                told.reply.since = since;
-                told
-            }
-            AbsentError::Put(why) => Told::not_put(why),
-        }
-    }
-
-    #[inline(always)]
-    pub(crate) fn gone(answer: Remove) -> Told
-        ensures { result ≡ gone_told answer }
-    {
-        match answer {
-            Remove::Removed { at } => Told::at(status::OK, at),
-            Remove::NotThere { at } => Told::at(status::ABSENT, at),
-        }
-    }
-
-    /// Writes the reply, and gives the status.
-    #[inline(always)]
-    pub(crate) fn tell(self, reply: &mut RawReply) -> u32
-        ensures { record { status = result; reply = reply.new } ≡ self }
-    {
-        *reply = self.reply;
-        self.status
-    }
-
-    #[inline(always)]
-    pub(crate) fn lookup(made: Result<Looked, Misuse>) -> Told
-        ensures { result ≡ told_of lookup_told made }
-    {
-        match made {
-            Ok(answer) => Told::looked_answer(answer),
-            Err(why) => Told::misuse(why),
+            IfError::Changed { since } => Told::since(status::CHANGED, since),
         }
     }
 }

@@ -1,0 +1,55 @@
+//! Writes that also return the entry which gives way, as C makes them: by the writer's handle, and by a pass in a turn.
+ghost use Rattle.std.specs.Prelude.{◌≡◌, []};
+ghost use Rattle.cefrodil.specs.Calls.{SwapGives};
+ghost use Rattle.cefrodil.specs.Open.{kept};
+
+use crate::slot::{Slot, told_of_handle};
+use mc_door::{RawReply, Swap};
+
+/// Puts a key, and returns the entry that gives way, by the writer's handle or a pass. Its value is written to `former`.
+#[tactic(auto, using(crate::proofs::Gives::gives_open, crate::proofs::Gives::gives_closed))]
+#[unsafe(no_mangle)]
+pub extern "C" fn cefrodil_swap(
+    handle: &mut Slot,
+    key: u64,
+    value: &[u64],
+    former: &mut [u64],
+    reply: &mut RawReply,
+) -> u32
+    ensures open { handle.new.live ≡ handle.old.live }
+    ensures told { SwapGives (kept handle.old) (kept handle.new) key Swap.Put value.now former.old former.new (record { status = result; reply = reply.new }) }
+{
+    told_of_handle!(handle, reply, held => held.swap(key, Swap::Put, value, former, reply))
+}
+
+/// Puts a key anew, if its last put was at the moment `since`, and returns the earlier entry, by the writer's handle or a pass.
+#[tactic(auto, using(crate::proofs::Gives::gives_open, crate::proofs::Gives::gives_closed))]
+#[unsafe(no_mangle)]
+pub extern "C" fn cefrodil_swap_if(
+    handle: &mut Slot,
+    key: u64,
+    since: u64,
+    value: &[u64],
+    former: &mut [u64],
+    reply: &mut RawReply,
+) -> u32
+    ensures open { handle.new.live ≡ handle.old.live }
+    ensures told { SwapGives (kept handle.old) (kept handle.new) key (Swap.PutIf since) value.now former.old former.new (record { status = result; reply = reply.new }) }
+{
+    told_of_handle!(handle, reply, held => held.swap(key, Swap::PutIf(since), value, former, reply))
+}
+
+/// Takes a key out, and returns its entry, by the writer's handle or a pass.
+#[tactic(auto, using(crate::proofs::Gives::gives_open, crate::proofs::Gives::gives_closed))]
+#[unsafe(no_mangle)]
+pub extern "C" fn cefrodil_take_out(
+    handle: &mut Slot,
+    key: u64,
+    former: &mut [u64],
+    reply: &mut RawReply,
+) -> u32
+    ensures open { handle.new.live ≡ handle.old.live }
+    ensures told { SwapGives (kept handle.old) (kept handle.new) key Swap.Remove [] former.old former.new (record { status = result; reply = reply.new }) }
+{
+    told_of_handle!(handle, reply, held => held.swap(key, Swap::Remove, &[], former, reply))
+}

@@ -1,0 +1,103 @@
+-- What each answer of a call is told as: a status, and the numbers of a reply.
+use Rattle.std.specs.Prelude.{ℕ, Option, Some, None, Result, Ok, Err}
+use Rattle.mc_cache.specs.declared.desk.DeskError.{DeskError}
+use Rattle.mc_cache.specs.declared.desk.DeskError.TheVariants as desk
+use Rattle.mc_plan.specs.declared.answer.AbsentError.{AbsentError}
+use Rattle.mc_plan.specs.declared.answer.AbsentError.TheVariants as absent
+use Rattle.mc_plan.specs.declared.answer.IfError.{IfError}
+use Rattle.mc_plan.specs.declared.answer.IfError.TheVariants as if_error
+use Rattle.mc_plan.specs.declared.answer.Put.{Put}
+use Rattle.mc_plan.specs.declared.answer.Put.TheVariants.{Stored, Renewed}
+use Rattle.mc_plan.specs.declared.answer.PutError.{PutError}
+use Rattle.mc_plan.specs.declared.answer.PutError.TheVariants as put_error
+use Rattle.mc_plan.specs.declared.answer.Remove.{Remove}
+use Rattle.mc_plan.specs.declared.answer.Remove.TheVariants as remove
+use Rattle.mc_plan.specs.declared.answer.Spent.{Spent}
+use Rattle.mc_writer.specs.declared.entry.Entry.{Entry}
+use Rattle.mc_writer.specs.declared.entry.Replaced.{Replaced}
+use Rattle.mc_writer.specs.declared.entry.Swapped.{Swapped}
+use Rattle.mc_writer.specs.declared.entry.Take.{Take}
+use Rattle.mc_writer.specs.declared.entry.Take.TheVariants.{Taken, NotThere}
+use Rattle.mc_door.specs.declared.looked.Looked.{Looked}
+use Rattle.mc_door.specs.declared.looked.Looked.TheVariants as looked
+use Rattle.mc_door.specs.declared.told.RawReply.{RawReply}
+use Rattle.mc_door.specs.declared.told.Told.{Told}
+use Rattle.mc_door.specs.declared.status.TheConstants.{OK, ABSENT, BUSY, NO_PATH, ALL_RECENT, SPENT, CHANGED, HELD, PRESENT}
+use Rattle.mc_door.specs.declared.told.TheConstants.{NOTHING, STORED, EVICTED, RENEWED}
+
+-- a status alone
+abbrev pub plain : ℕ → Told
+plain status = record { status = status; reply = record { at = 0; since = 0; evicted = 0; moves = 0; put = NOTHING } }
+
+-- a status and a moment
+abbrev pub told_at : ℕ → ℕ → Told
+told_at status at = record { status = status; reply = record { at = at; since = 0; evicted = 0; moves = 0; put = NOTHING } }
+
+-- a status and the moment of the put that stands
+abbrev pub told_since : ℕ → ℕ → Told
+told_since status since = record { status = status; reply = record { at = 0; since = since; evicted = 0; moves = 0; put = NOTHING } }
+
+abbrev pub lookup_told : Looked → Told
+lookup_told (looked.Found at since) = record { status = OK; reply = record { at = at; since = since; evicted = 0; moves = 0; put = NOTHING } }
+lookup_told (looked.Absent at) = told_at ABSENT at
+lookup_told looked.Busy = plain BUSY
+
+abbrev pub done_told : Put → Told
+done_told (Stored at moves None) = record { status = OK; reply = record { at = at; since = 0; evicted = 0; moves = moves; put = STORED } }
+done_told (Stored at moves (Some other)) = record { status = OK; reply = record { at = at; since = 0; evicted = other; moves = moves; put = EVICTED } }
+done_told (Renewed at) = record { status = OK; reply = record { at = at; since = 0; evicted = 0; moves = 0; put = RENEWED } }
+
+abbrev pub not_put_told : PutError → Told
+not_put_told put_error.NoPath = plain NO_PATH
+not_put_told put_error.AllRecent = plain ALL_RECENT
+not_put_told put_error.Spent = plain SPENT
+
+abbrev pub put_told : Result Put PutError → Told
+put_told (Ok done) = done_told done
+put_told (Err why) = not_put_told why
+
+abbrev pub not_put_if_told : IfError → Told
+not_put_if_told if_error.Spent = plain SPENT
+not_put_if_told (if_error.NotThere at) = told_at ABSENT at
+not_put_if_told (if_error.Changed stands) = told_since CHANGED stands
+
+abbrev pub put_if_told : Result ℕ IfError → Told
+put_if_told (Ok at) = done_told (Renewed at)
+put_if_told (Err why) = not_put_if_told why
+
+abbrev pub put_if_absent_told : Result Put AbsentError → Told
+put_if_absent_told (Ok done) = done_told done
+put_if_absent_told (Err (absent.Present since)) = told_since PRESENT since
+put_if_absent_told (Err (absent.Put why)) = not_put_told why
+
+abbrev pub removal_told : Result Remove Spent → Told
+removal_told (Ok (remove.Removed at)) = told_at OK at
+removal_told (Ok (remove.NotThere at)) = told_at ABSENT at
+removal_told (Err spent) = plain SPENT
+
+-- the same by a pass, where another thread may have the turn
+abbrev pub turn_told : {T E : Type 0} → (Result T E → Told) → Result T (DeskError E) → Told
+turn_told tells (Ok done) = tells (Ok done)
+turn_told tells (Err desk.Held) = plain HELD
+turn_told tells (Err (desk.Call why)) = tells (Err why)
+
+-- `since` is the stamp of the entry that gave way, if one did
+abbrev pub stamped : {V : ℕ} → Option (Entry V) → RawReply → RawReply
+stamped None reply = reply
+stamped (Some old) reply = record { at = reply.at; since = old.since; evicted = reply.evicted; moves = reply.moves; put = reply.put }
+
+abbrev pub with_stamp : {V : ℕ} → Option (Entry V) → Told → Told
+with_stamp old told = record { status = told.status; reply = stamped old told.reply }
+
+abbrev pub swap_told : {V : ℕ} → Result (Swapped V) PutError → Told
+swap_told (Ok swapped) = with_stamp swapped.old (done_told swapped.put)
+swap_told (Err why) = not_put_told why
+
+abbrev pub swap_if_told : {V : ℕ} → Result (Replaced V) IfError → Told
+swap_if_told (Ok replaced) = with_stamp (Some replaced.old) (done_told (Renewed replaced.at))
+swap_if_told (Err why) = not_put_if_told why
+
+abbrev pub take_told : {V : ℕ} → Result (Take V) Spent → Told
+take_told (Ok (Taken at old)) = with_stamp (Some old) (told_at OK at)
+take_told (Ok (NotThere at)) = told_at ABSENT at
+take_told (Err spent) = plain SPENT

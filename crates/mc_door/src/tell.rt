@@ -1,0 +1,169 @@
+//! Writes the answer of a write to C's reply, each form of it by itself. A refusal and a put that failed are out of line, which saves
+//! registers.
+ghost use Rattle.std.specs.Prelude.{◌≡◌, length};
+ghost use Rattle.mc_door.specs.Swaps.{left_by, old_of_swap, old_of_swap_if, old_of_take};
+ghost use Rattle.mc_door.specs.Tellings.{done_told, not_put_told, plain, put_if_absent_told, put_if_told, put_told, removal_told, swap_if_told, swap_told, stamped, take_told};
+
+use crate::status;
+use crate::told::{RawReply, Told};
+use mc_cache::{
+    AbsentError, Entry, IfError, Put, PutError, Remove, Replaced, Spent, Swapped, Take,
+};
+
+/// A status alone.
+#[cold]
+#[inline(never)]
+pub(crate) fn refused(status: u32, reply: &mut RawReply) -> u32
+    ensures { record { status = result; reply = reply.new } ≡ plain status }
+{
+    Told::plain(status).tell(reply)
+}
+
+#[cold]
+#[inline(never)]
+fn not_put(why: PutError, reply: &mut RawReply) -> u32
+    ensures { record { status = result; reply = reply.new } ≡ not_put_told why }
+{
+    Told::not_put(why).tell(reply)
+}
+
+#[inline(always)]
+fn done(put: Put, reply: &mut RawReply) -> u32
+    ensures { record { status = result; reply = reply.new } ≡ done_told put }
+{
+    match put {
+        Put::Renewed { at } => Told::renewed(at).tell(reply),
+        Put::Stored { at, moves, evicted } => match evicted {
+            None => Told::stored(at, moves).tell(reply),
+            Some(key) => Told::evicted(at, moves, key).tell(reply),
+        },
+    }
+}
+
+#[inline(always)]
+pub(crate) fn put(made: Result<Put, PutError>, reply: &mut RawReply) -> u32
+    ensures { record { status = result; reply = reply.new } ≡ put_told made }
+{
+    match made {
+        Ok(put) => done(put, reply),
+        Err(why) => not_put(why, reply),
+    }
+}
+
+#[inline(always)]
+pub(crate) fn put_if(made: Result<u64, IfError>, reply: &mut RawReply) -> u32
+    ensures { record { status = result; reply = reply.new } ≡ put_if_told made }
+{
+    match made {
+        Ok(at) => Told::renewed(at).tell(reply),
+        Err(why) => Told::not_put_if(why).tell(reply),
+    }
+}
+
+#[inline(always)]
+pub(crate) fn put_if_absent(made: Result<Put, AbsentError>, reply: &mut RawReply) -> u32
+    ensures { record { status = result; reply = reply.new } ≡ put_if_absent_told made }
+{
+    match made {
+        Ok(put) => done(put, reply),
+        Err(AbsentError::Present { since }) => Told::since(status::PRESENT, since).tell(reply),
+        Err(AbsentError::Put(why)) => not_put(why, reply),
+    }
+}
+
+#[inline(always)]
+pub(crate) fn removal(made: Result<Remove, Spent>, reply: &mut RawReply) -> u32
+    ensures { record { status = result; reply = reply.new } ≡ removal_told made }
+{
+    match made {
+        Ok(Remove::Removed { at }) => Told::at(status::OK, at).tell(reply),
+        Ok(Remove::NotThere { at }) => Told::at(status::ABSENT, at).tell(reply),
+        Err(Spent) => refused(status::SPENT, reply),
+    }
+}
+
+// Writes the entry that gave way, if one did: its value apart, its stamp to the reply.
+#[inline(always)]
+fn give<const V: usize>(entry: Option<Entry<V>>, old: &mut [u64], reply: &mut RawReply)
+    requires { length old.old ≡ V }
+    ensures value { old.new ≡ left_by entry.entry old.old }
+    ensures stamp { reply.new ≡ stamped entry.entry reply.old }
+{
+    if let Some(entry) = entry {
+        let value = entry.value;
+        old.copy_from_slice(&value);
+        reply.since = entry.since;
+    }
+}
+
+pub(crate) fn swap<const V: usize>(
+    made: Result<Swapped<V>, PutError>,
+    old: &mut [u64],
+    reply: &mut RawReply,
+) -> u32
+    requires { length old.old ≡ V }
+    ensures told { record { status = result; reply = reply.new } ≡ swap_told made.entry }
+    ensures old { old.new ≡ left_by (old_of_swap made.entry) old.old }
+{
+    match made {
+        Ok(swapped) => {
+            let status = done(swapped.put, reply);
+            give(swapped.old, old, reply);
+            status
+        }
+        Err(why) => not_put(why, reply),
+    }
+}
+
+pub(crate) fn swap_if<const V: usize>(
+    made: Result<Replaced<V>, IfError>,
+    old: &mut [u64],
+    reply: &mut RawReply,
+) -> u32
+    requires { length old.old ≡ V }
+    ensures told { record { status = result; reply = reply.new } ≡ swap_if_told made.entry }
+    ensures old { old.new ≡ left_by (old_of_swap_if made.entry) old.old }
+{
+    match made {
+        Ok(replaced) => {
+            let status = Told::renewed(replaced.at).tell(reply);
+            give(Some(replaced.old), old, reply);
+            status
+        }
+        Err(why) => Told::not_put_if(why).tell(reply),
+    }
+}
+
+pub(crate) fn take<const V: usize>(
+    made: Result<Take<V>, Spent>,
+    old: &mut [u64],
+    reply: &mut RawReply,
+) -> u32
+    requires { length old.old ≡ V }
+    ensures told { record { status = result; reply = reply.new } ≡ take_told made.entry }
+    ensures old { old.new ≡ left_by (old_of_take made.entry) old.old }
+{
+    match made {
+        Ok(Take::Taken { at, old: taken }) => {
+            let status = Told::at(status::OK, at).tell(reply);
+            give(Some(taken), old, reply);
+            status
+        }
+        Ok(Take::NotThere { at }) => Told::at(status::ABSENT, at).tell(reply),
+        Err(Spent) => refused(status::SPENT, reply),
+    }
+}
+
+// What a turn told: the answer of its call, or that the try for it did not win.
+macro_rules! in_turn {
+    ($tried:expr, $reply:ident, $made:ident => $told:expr) => {{
+        let $made = match $tried {
+            Ok(done) => Ok(done),
+            Err(DeskError::Call(why)) => Err(why),
+            Err(DeskError::Held) => return tell::refused(crate::status::HELD, $reply),
+        };
+        $told
+    }};
+}
+
+pub(crate) use in_turn;

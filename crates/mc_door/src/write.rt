@@ -1,0 +1,53 @@
+//! The writes of one key, as values.
+ghost use Rattle.std.specs.Prelude.{◌≡◌};
+ghost use Rattle.mc_door.specs.Swaps.{swap_words};
+ghost use Rattle.mc_door.specs.Writes.{words_in};
+
+/// A write of one key. Its value stands beside it.
+#[derive(Clone, Copy)]
+pub enum Write {
+    Put,
+    /// A put that tries up to so many times, at least once, for the turn. The writer needs none.
+    PutWithin(u32),
+    /// A put of a key whose last put was at this moment.
+    PutIf(u64),
+    PutIfAbsent,
+    /// A removal. It has no value.
+    Remove,
+}
+
+impl Write {
+    /// How many words its value has; as many as those of the cache where it has none.
+    #[inline(always)]
+    pub(crate) fn words(self, value: &[u64], words: usize) -> usize
+        ensures { result ≡ words_in words self value.now }
+    {
+        match self {
+            Write::Remove => words,
+            _ => value.len(),
+        }
+    }
+}
+
+/// A write of one key that also returns the entry which gives way. Its value stands beside it.
+#[derive(Clone, Copy)]
+pub enum Swap {
+    Put,
+    /// A put of a key whose last put was at this moment.
+    PutIf(u64),
+    /// A removal. It has no value.
+    Remove,
+}
+
+impl Swap {
+    /// How many words its value has; as many as those of the cache where it has none.
+    #[inline(always)]
+    pub(crate) fn words(self, value: &[u64], words: usize) -> usize
+        ensures { result ≡ swap_words words self value.now }
+    {
+        match self {
+            Swap::Remove => words,
+            _ => value.len(),
+        }
+    }
+}
