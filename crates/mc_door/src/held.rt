@@ -93,7 +93,7 @@ impl Held {
         ensures width { width_of self.new ≡ width_of self.old }
         ensures told { WriteTells (width_of self.old) (role_in self.old) (role_in self.new) (self.new ≡ self.old) key call value.now (record { status = result; reply = reply.new }) }
     {
-        with_side!(self, side => side.write_apart(key, call, value, reply))
+        with_side!(self, side => side.write(key, call, value, reply))
     }
 
     /// A write by a pass, which tries for the turn.
@@ -102,7 +102,7 @@ impl Held {
         ensures width { width_of self.new ≡ width_of self.old }
         ensures told { TryTells (width_of self.old) (role_in self.old) (role_in self.new) (self.new ≡ self.old) key call value.now (record { status = result; reply = reply.new }) }
     {
-        with_side!(self, side => side.try_write_apart(key, call, value, reply))
+        with_side!(self, side => side.try_write(key, call, value, reply))
     }
 
     /// A write that also returns the entry which gives way, by the writer or a pass.
