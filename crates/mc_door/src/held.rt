@@ -68,8 +68,10 @@ impl Held {
     }
 }
 
+// Lookups are cold here: where the width is known, they go past these.
 impl Held {
     /// What the cache holds of the key: `Side::get`.
+    #[cold]
     #[inline(never)]
     pub fn get(&mut self, key: u64, value: &mut [u64], reply: &mut RawReply) -> u32
         ensures width { width_of self.new ≡ width_of self.old }
@@ -79,6 +81,7 @@ impl Held {
     }
 
     /// What the cache holds of the key, by a pass: `Side::get_or_desk`.
+    #[cold]
     #[inline(never)]
     pub fn get_or_desk(&mut self, key: u64, value: &mut [u64], reply: &mut RawReply) -> u32
         ensures width { width_of self.new ≡ width_of self.old }
