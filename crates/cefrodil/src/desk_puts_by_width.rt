@@ -10,7 +10,7 @@ use mc_door::{Held, RawReply, Write};
 macro_rules! try_put_at {
     ($width:ident, $pass:ident, $key:ident, $value:ident, $reply:ident) => {
         told_of_handle!($pass, $reply, held => match held {
-            Held::$width(side) => side.try_write($key, Write::Put, $value.as_slice(), $reply),
+            Held::$width(side) => side.try_put($key, $value.as_slice(), $reply),
             held => held.try_write($key, Write::Put, $value.as_slice(), $reply),
         })
     };

@@ -10,7 +10,7 @@ use mc_door::{Held, RawReply, Write};
 macro_rules! put_at {
     ($width:ident, $writer:ident, $key:ident, $value:ident, $reply:ident) => {
         told_of_handle!($writer, $reply, held => match held {
-            Held::$width(side) => side.write($key, Write::Put, $value.as_slice(), $reply),
+            Held::$width(side) => side.put($key, $value.as_slice(), $reply),
             held => held.write($key, Write::Put, $value.as_slice(), $reply),
         })
     };

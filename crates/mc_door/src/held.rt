@@ -68,8 +68,10 @@ impl Held {
     }
 }
 
+// Lookups are cold here: where the width is known, they go past these.
 impl Held {
     /// What the cache holds of the key: `Side::get`.
+    #[cold]
     #[inline(never)]
     pub fn get(&mut self, key: u64, value: &mut [u64], reply: &mut RawReply) -> u32
         ensures width { width_of self.new ≡ width_of self.old }
@@ -79,6 +81,7 @@ impl Held {
     }
 
     /// What the cache holds of the key, by a pass: `Side::get_or_desk`.
+    #[cold]
     #[inline(never)]
     pub fn get_or_desk(&mut self, key: u64, value: &mut [u64], reply: &mut RawReply) -> u32
         ensures width { width_of self.new ≡ width_of self.old }
@@ -93,7 +96,7 @@ impl Held {
         ensures width { width_of self.new ≡ width_of self.old }
         ensures told { WriteTells (width_of self.old) (role_in self.old) (role_in self.new) (self.new ≡ self.old) key call value.now (record { status = result; reply = reply.new }) }
     {
-        with_side!(self, side => side.write_apart(key, call, value, reply))
+        with_side!(self, side => side.write(key, call, value, reply))
     }
 
     /// A write by a pass, which tries for the turn.
@@ -102,7 +105,7 @@ impl Held {
         ensures width { width_of self.new ≡ width_of self.old }
         ensures told { TryTells (width_of self.old) (role_in self.old) (role_in self.new) (self.new ≡ self.old) key call value.now (record { status = result; reply = reply.new }) }
     {
-        with_side!(self, side => side.try_write_apart(key, call, value, reply))
+        with_side!(self, side => side.try_write(key, call, value, reply))
     }
 
     /// A write that also returns the entry which gives way, by the writer or a pass.

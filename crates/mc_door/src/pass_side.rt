@@ -89,6 +89,15 @@ impl<const V: usize> PassSide<V> {
     }
 
     #[inline(always)]
+    pub(crate) fn put(&mut self, key: u64, value: &[u64], reply: &mut RawReply) -> u32
+        requires { length value.now ≡ V }
+        ensures { TryMeans V (Passes self.old.pass) (Passes self.new.pass) key Write.Put value.now (record { status = result; reply = reply.new }) }
+    {
+        let tried = self.try_put(key, array_of::<V>(value));
+        in_turn!(tried, reply, made => tell::put(made, reply))
+    }
+
+    #[inline(always)]
     pub(crate) fn write(
         &mut self,
         key: u64,
@@ -100,10 +109,7 @@ impl<const V: usize> PassSide<V> {
         ensures { TryMeans V (Passes self.old.pass) (Passes self.new.pass) key call value.now (record { status = result; reply = reply.new }) }
     {
         match call {
-            Write::Put => {
-                let tried = self.try_put(key, array_of::<V>(value));
-                in_turn!(tried, reply, made => tell::put(made, reply))
-            }
+            Write::Put => self.put(key, value, reply),
             Write::PutWithin(tries) => {
                 let tried = self.put_within(tries, key, array_of::<V>(value));
                 in_turn!(tried, reply, made => tell::put(made, reply))

@@ -54,6 +54,16 @@ impl<const V: usize> ShardSide<V> {
         Told::looked(looked).tell(reply)
     }
 
+    // Out of line, so that its parts are compiled into one place.
+    #[inline(never)]
+    pub(crate) fn put(&mut self, key: u64, value: &[u64], reply: &mut RawReply) -> u32
+        requires { length value.now ≡ V }
+        ensures { TryMeans V (Shares self.old.shards.value self.old.pass) (Shares self.new.shards.value self.new.pass) key Write.Put value.now (record { status = result; reply = reply.new }) }
+    {
+        let tried = self.pass.try_put(&self.shards, key, array_of::<V>(value));
+        in_turn!(tried, reply, made => tell::put(made, reply))
+    }
+
     #[inline(always)]
     pub(crate) fn write(
         &mut self,
@@ -66,10 +76,7 @@ impl<const V: usize> ShardSide<V> {
         ensures { TryMeans V (Shares self.old.shards.value self.old.pass) (Shares self.new.shards.value self.new.pass) key call value.now (record { status = result; reply = reply.new }) }
     {
         match call {
-            Write::Put => {
-                let tried = self.pass.try_put(&self.shards, key, array_of::<V>(value));
-                in_turn!(tried, reply, made => tell::put(made, reply))
-            }
+            Write::Put => self.put(key, value, reply),
             Write::PutWithin(tries) => {
                 let tried = self
                     .pass

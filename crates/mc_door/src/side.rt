@@ -1,5 +1,5 @@
 //! A side of a cache, for values of so many words.
-ghost use Rattle.std.specs.Prelude.{◌≡◌, MatchOption};
+ghost use Rattle.std.specs.Prelude.{◌≡◌, MatchOption, length};
 ghost use Rattle.mc_words.specs.Places.{IsWidth};
 ghost use Rattle.mc_door.specs.Means.{CanWrite, CapacityIs, GetOrDeskTells, GetTells, HasCache, LenIs, MomentIs};
 ghost use Rattle.mc_door.specs.Roles.{role_of};
@@ -45,6 +45,18 @@ impl<const V: usize> Side<V> {
         }
         match self {
             Side::Reader(side) => side.get(key, value, reply),
+            _ => self.get_of_any(key, value, reply),
+        }
+    }
+
+    #[inline(never)]
+    fn get_of_any(&mut self, key: u64, value: &mut [u64], reply: &mut RawReply) -> u32
+        requires width { IsWidth V }
+        requires value { length value.old ≡ V }
+        ensures { GetTells V (role_of self.old) (role_of self.new) (self.new ≡ self.old) key value.old value.new (record { status = result; reply = reply.new }) }
+    {
+        match self {
+            Side::Reader(side) => side.get(key, value, reply),
             Side::Pass(side) => side.get(key, value, reply),
             Side::Shard(side) => side.get(key, value, reply),
             Side::Writer(side) => side.get(key, value, reply),
@@ -66,9 +78,42 @@ impl<const V: usize> Side<V> {
         }
     }
 
-    /// A write by the writer.
+    /// `write` of a put, compiled into its caller.
     #[inline(always)]
-    pub fn write(&mut self, key: u64, call: Write, value: &[u64], reply: &mut RawReply) -> u32
+    pub fn put(&mut self, key: u64, value: &[u64], reply: &mut RawReply) -> u32
+        ensures { WriteTells V (role_of self.old) (role_of self.new) (self.new ≡ self.old) key Write.Put value.now (record { status = result; reply = reply.new }) }
+    {
+        match self {
+            Side::Writer(_) if value.len() != V => refused(WIDTH, reply),
+            Side::Writer(side) => side.put(key, value, reply),
+            Side::Reader(_) | Side::Pass(_) | Side::Shard(_) | Side::Nothing => {
+                refused(KIND, reply)
+            }
+        }
+    }
+
+    /// `try_write` of a put, compiled into its caller.
+    #[inline(always)]
+    pub fn try_put(&mut self, key: u64, value: &[u64], reply: &mut RawReply) -> u32
+        ensures { TryTells V (role_of self.old) (role_of self.new) (self.new ≡ self.old) key Write.Put value.now (record { status = result; reply = reply.new }) }
+    {
+        match self {
+            Side::Writer(_) | Side::Reader(_) | Side::Nothing => refused(KIND, reply),
+            _ if value.len() != V => refused(WIDTH, reply),
+            Side::Pass(side) => side.put(key, value, reply),
+            Side::Shard(side) => side.put(key, value, reply),
+        }
+    }
+
+    /// A write by the writer.
+    #[inline(never)]
+    pub(crate) fn write(
+        &mut self,
+        key: u64,
+        call: Write,
+        value: &[u64],
+        reply: &mut RawReply,
+    ) -> u32
         ensures { WriteTells V (role_of self.old) (role_of self.new) (self.new ≡ self.old) key call value.now (record { status = result; reply = reply.new }) }
     {
         match self {
@@ -81,8 +126,14 @@ impl<const V: usize> Side<V> {
     }
 
     /// A write by a pass, which tries for the turn.
-    #[inline(always)]
-    pub fn try_write(&mut self, key: u64, call: Write, value: &[u64], reply: &mut RawReply) -> u32
+    #[inline(never)]
+    pub(crate) fn try_write(
+        &mut self,
+        key: u64,
+        call: Write,
+        value: &[u64],
+        reply: &mut RawReply,
+    ) -> u32
         ensures { TryTells V (role_of self.old) (role_of self.new) (self.new ≡ self.old) key call value.now (record { status = result; reply = reply.new }) }
     {
         match self {
@@ -137,32 +188,6 @@ impl<const V: usize> Side<V> {
         ensures { GetOrDeskTells V (role_of self.old) (role_of self.new) (self.new ≡ self.old) key value.old value.new (record { status = result; reply = reply.new }) }
     {
         self.get_or_desk(key, value, reply)
-    }
-
-    #[inline(never)]
-    pub(crate) fn write_apart(
-        &mut self,
-        key: u64,
-        call: Write,
-        value: &[u64],
-        reply: &mut RawReply,
-    ) -> u32
-        ensures { WriteTells V (role_of self.old) (role_of self.new) (self.new ≡ self.old) key call value.now (record { status = result; reply = reply.new }) }
-    {
-        self.write(key, call, value, reply)
-    }
-
-    #[inline(never)]
-    pub(crate) fn try_write_apart(
-        &mut self,
-        key: u64,
-        call: Write,
-        value: &[u64],
-        reply: &mut RawReply,
-    ) -> u32
-        ensures { TryTells V (role_of self.old) (role_of self.new) (self.new ≡ self.old) key call value.now (record { status = result; reply = reply.new }) }
-    {
-        self.try_write(key, call, value, reply)
     }
 }
 

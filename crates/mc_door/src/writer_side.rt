@@ -33,6 +33,15 @@ impl<const V: usize> WriterSide<V> {
     ghost use Rattle.mc_door.specs.Writes.{WriteMeans, words_in};
 
     #[inline(always)]
+    pub(crate) fn put(&mut self, key: u64, value: &[u64], reply: &mut RawReply) -> u32
+        requires { length value.now ≡ V }
+        ensures { WriteMeans V (Writes self.old.writer) (Writes self.new.writer) key Write.Put value.now (record { status = result; reply = reply.new }) }
+    {
+        let made = self.writer.put(&self.cache, key, array_of::<V>(value));
+        tell::put(made, reply)
+    }
+
+    #[inline(always)]
     pub(crate) fn write(
         &mut self,
         key: u64,
@@ -44,10 +53,7 @@ impl<const V: usize> WriterSide<V> {
         ensures { WriteMeans V (Writes self.old.writer) (Writes self.new.writer) key call value.now (record { status = result; reply = reply.new }) }
     {
         match call {
-            Write::Put | Write::PutWithin(_) => {
-                let made = self.writer.put(&self.cache, key, array_of::<V>(value));
-                tell::put(made, reply)
-            }
+            Write::Put | Write::PutWithin(_) => self.put(key, value, reply),
             Write::PutIf(since) => {
                 let value = array_of::<V>(value);
                 let made = self.writer.put_if(&self.cache, key, since, value);
