@@ -3,6 +3,7 @@
 #![tactic(auto)]
 
 mod closing;
+mod closing_shards;
 mod loading;
 mod opening;
 mod seen;
@@ -29,6 +30,7 @@ fn see(alloc: Global, name: &str) -> Option<Seen> {
         "close" => Some(closing::see_closing(alloc)),
         "load" => Some(loading::see_loading(alloc)),
         "shards" => Some(shards::see_shards(alloc)),
+        "close-shards" => Some(closing_shards::see_closing_shards(alloc)),
         "entries" => Some(loading::see_entries(alloc)),
         "stamped" => Some(stamped::see_stamped(alloc)),
         _ => None,
