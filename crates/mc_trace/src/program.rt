@@ -34,8 +34,14 @@ fn trace_script<const V: usize, R: BufRead, W: Write, E: Write>(
 {
     let mut trace = Trace::<V>::new(alloc, checked);
     let mut answers = io::sink();
-    let played =
-        play_watched::<V, R, _, _>(alloc, checked, readers, input, &mut answers, &mut trace);
+    let played = play_watched::<V, R, _, _>(
+        alloc,
+        checked,
+        readers,
+        input,
+        &mut answers,
+        &mut trace,
+    );
     if let Err(stop) = played {
         tell(errors, stop);
         return status_of(stop.fault);

@@ -41,10 +41,7 @@ fn name_of(deed: Deed) -> &'static str {
 fn aim_of(access: Access) -> (&'static str, u64) {
     match access {
         Access::Version(stripe) => ("version", u64::from(stripe)),
-        Access::Slot(place) => (
-            "slot",
-            4 * u64::from(place.bucket) + u64::from(place.slot),
-        ),
+        Access::Slot(place) => ("slot", 4 * u64::from(place.bucket) + u64::from(place.slot)),
         Access::Key(item) => ("key", u64::from(item)),
         Access::Value(item, _) => ("value", u64::from(item)),
         Access::Stamp(item) => ("stamp", u64::from(item)),

@@ -1,7 +1,7 @@
 //! A script with its answers.
 use crate::escape::add_line;
-use mc_trace::run_trace;
 use mc_step::run_step;
+use mc_trace::run_trace;
 use std::alloc::{AllocError, Global};
 use std::str;
 
