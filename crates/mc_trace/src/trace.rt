@@ -163,7 +163,7 @@ impl<const V: usize> Trace<V> {
 
     /// The words of the table that aren't 0, each with its number.
     fn write_table(&mut self, world: &World<V>) -> Result<(), AllocError> {
-        let many = self.checked.words::<V>();
+        let many = world.checked().words::<V>();
         for n in 0..many {
             let word = world.word(n);
             if word > 0 {
