@@ -13,6 +13,16 @@ use std::ptr;
 /// The most readers or passes of a cache.
 const MOST: usize = 1024;
 
+// A call for values of this width, by the export for it. Another width has none.
+macro_rules! of_width {
+    ($words:expr, ($handle:expr, $key:expr, $value:expr, $reply:expr), $any:path, { $($number:literal $one:ident),* }) => {
+        match $words {
+            $($number => raw::$one($handle, $key, $value, $reply),)*
+            _ => $any($handle, $key, $value, $words, $reply),
+        }
+    };
+}
+
 /// A handle, open or empty, and its counter. Dropping it closes it.
 pub struct Handle {
     raw: RawHandle,
@@ -174,17 +184,10 @@ impl Handle {
         let (handle, words, told) = (&mut self.raw, value.as_mut_ptr(), &mut reply);
         // SAFETY: every pointer is a borrow that lasts for the call, and `value` has as many words as the export's name or the call says.
         let status = unsafe {
-            match WORDS {
-                1 => raw::cefrodil_get_1(handle, key, words, told),
-                2 => raw::cefrodil_get_2(handle, key, words, told),
-                3 => raw::cefrodil_get_3(handle, key, words, told),
-                4 => raw::cefrodil_get_4(handle, key, words, told),
-                5 => raw::cefrodil_get_5(handle, key, words, told),
-                6 => raw::cefrodil_get_6(handle, key, words, told),
-                7 => raw::cefrodil_get_7(handle, key, words, told),
-                8 => raw::cefrodil_get_8(handle, key, words, told),
-                _ => raw::cefrodil_get(handle, key, words, WORDS, told),
-            }
+            of_width!(WORDS, (handle, key, words, told), raw::cefrodil_get, {
+                1 cefrodil_get_1, 2 cefrodil_get_2, 3 cefrodil_get_3, 4 cefrodil_get_4,
+                5 cefrodil_get_5, 6 cefrodil_get_6, 7 cefrodil_get_7, 8 cefrodil_get_8
+            })
         };
         self.counter.looked(status);
         (status, reply)
@@ -210,10 +213,16 @@ impl Handle {
         status
     }
 
-    pub fn get_or_desk(&mut self, key: u64, value: &mut [u64]) -> (u32, RawReply) {
+    pub fn get_or_desk<const WORDS: usize>(&mut self, key: u64, value: &mut [u64; WORDS]) -> (u32, RawReply) {
         let mut reply = RawReply::default();
+        let (handle, words, told) = (&mut self.raw, value.as_mut_ptr(), &mut reply);
         // SAFETY: as in `get`.
-        let status = unsafe { raw::cefrodil_get_or_desk(&mut self.raw, key, value.as_mut_ptr(), value.len(), &mut reply) };
+        let status = unsafe {
+            of_width!(WORDS, (handle, key, words, told), raw::cefrodil_get_or_desk, {
+                1 cefrodil_get_or_desk_1, 2 cefrodil_get_or_desk_2, 3 cefrodil_get_or_desk_3, 4 cefrodil_get_or_desk_4,
+                5 cefrodil_get_or_desk_5, 6 cefrodil_get_or_desk_6, 7 cefrodil_get_or_desk_7, 8 cefrodil_get_or_desk_8
+            })
+        };
         self.counter.looked(status);
         (status, reply)
     }
@@ -230,17 +239,10 @@ impl Handle {
         let words = value.as_ptr();
         // SAFETY: as in `get`.
         self.write(|handle, reply| unsafe {
-            match WORDS {
-                1 => raw::cefrodil_put_1(handle, key, words, reply),
-                2 => raw::cefrodil_put_2(handle, key, words, reply),
-                3 => raw::cefrodil_put_3(handle, key, words, reply),
-                4 => raw::cefrodil_put_4(handle, key, words, reply),
-                5 => raw::cefrodil_put_5(handle, key, words, reply),
-                6 => raw::cefrodil_put_6(handle, key, words, reply),
-                7 => raw::cefrodil_put_7(handle, key, words, reply),
-                8 => raw::cefrodil_put_8(handle, key, words, reply),
-                _ => raw::cefrodil_put(handle, key, words, WORDS, reply),
-            }
+            of_width!(WORDS, (handle, key, words, reply), raw::cefrodil_put, {
+                1 cefrodil_put_1, 2 cefrodil_put_2, 3 cefrodil_put_3, 4 cefrodil_put_4,
+                5 cefrodil_put_5, 6 cefrodil_put_6, 7 cefrodil_put_7, 8 cefrodil_put_8
+            })
         })
     }
 
@@ -259,9 +261,15 @@ impl Handle {
         self.write(|handle, reply| unsafe { raw::cefrodil_remove(handle, key, reply) })
     }
 
-    pub fn try_put(&mut self, key: u64, value: &[u64]) -> (u32, RawReply) {
+    pub fn try_put<const WORDS: usize>(&mut self, key: u64, value: &[u64; WORDS]) -> (u32, RawReply) {
+        let words = value.as_ptr();
         // SAFETY: as in `get`.
-        self.write(|handle, reply| unsafe { raw::cefrodil_try_put(handle, key, value.as_ptr(), value.len(), reply) })
+        self.write(|handle, reply| unsafe {
+            of_width!(WORDS, (handle, key, words, reply), raw::cefrodil_try_put, {
+                1 cefrodil_try_put_1, 2 cefrodil_try_put_2, 3 cefrodil_try_put_3, 4 cefrodil_try_put_4,
+                5 cefrodil_try_put_5, 6 cefrodil_try_put_6, 7 cefrodil_try_put_7, 8 cefrodil_try_put_8
+            })
+        })
     }
 
     pub fn put_within(&mut self, tries: u32, key: u64, value: &[u64]) -> (u32, RawReply) {
