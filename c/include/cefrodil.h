@@ -300,7 +300,8 @@ CEFRODIL_CHECKED CEFRODIL_NO_NULL cefrodil_status cefrodil_try_len(cefrodil_hand
 
 /* Lists each key with its value, by the writer or a pass. A pass tries once for the turn, and a pass of shards once for that of each
  * shard, so it lists each shard at a moment of its own. An entry is its key, then the words of its value, as cefrodil_open_with
- * takes it. Readers may go on meanwhile. This call takes memory for the whole list, and frees it.
+ * takes it. Readers may go on meanwhile. This call takes memory for the whole list, and frees it. If `entry_words` is 0, only a pass of
+ * shards makes the list.
  * OK: the first `count` entries of `entries` are written. BAD_COUNT: there are `count` entries, and `entry_words` is less than
  * `count` times (1 + the words of a value). HELD: a try did not win. CLOSED, KIND, NO_MEMORY. Unless OK, `entries` is unchanged. */
 CEFRODIL_CHECKED CEFRODIL_NO_NULL cefrodil_status cefrodil_entries(cefrodil_handle *handle, uint64_t *entries, size_t entry_words,
@@ -492,15 +493,36 @@ CEFRODIL_CHECKED static inline cefrodil_status cefrodil_get_many_or_none(cefrodi
                              answer_count != 0 ? answers : &no_answer, answer_count);
 }
 
+/* The answer of a list that has no room, by the writer or a pass of a desk: no list is made for it. KIND: by another handle. */
+CEFRODIL_CHECKED static inline cefrodil_status cefrodil_list_without_room(cefrodil_handle *handle, uint64_t *count) {
+    cefrodil_status status = cefrodil_len(handle, count);
+    if (status == CEFRODIL_KIND) {
+        status = cefrodil_try_len(handle, count);
+    }
+    return status == CEFRODIL_OK && *count != 0 ? CEFRODIL_BAD_COUNT : status;
+}
+
 CEFRODIL_CHECKED static inline cefrodil_status cefrodil_entries_or_none(cefrodil_handle *handle, uint64_t *entries, size_t entry_words,
                                                                         uint64_t *count) {
     uint64_t no_entry = 0;
+    if (entry_words == 0) {
+        cefrodil_status status = cefrodil_list_without_room(handle, count);
+        if (status != CEFRODIL_KIND) {
+            return status;
+        }
+    }
     return cefrodil_entries(handle, entry_words != 0 ? entries : &no_entry, entry_words, count);
 }
 
 CEFRODIL_CHECKED static inline cefrodil_status cefrodil_stamped_entries_or_none(cefrodil_handle *handle, uint64_t *entries,
                                                                                 size_t entry_words, uint64_t *count) {
     uint64_t no_entry = 0;
+    if (entry_words == 0) {
+        cefrodil_status status = cefrodil_list_without_room(handle, count);
+        if (status != CEFRODIL_KIND) {
+            return status;
+        }
+    }
     return cefrodil_stamped_entries(handle, entry_words != 0 ? entries : &no_entry, entry_words, count);
 }
 

@@ -1,5 +1,5 @@
 /* Each allocation of an opening is refused in turn: no handle is open then, and nothing is kept. So is that of a list of entries,
- * that of a pass that leaves its desk, and each of a desk for a writer. Linked with --wrap. */
+ * that of a pass that leaves its desk, and each of a desk for a writer. A list without room takes no memory. Linked with --wrap. */
 #include "cefrodil.h"
 #include <stdio.h>
 
@@ -107,10 +107,20 @@ static int lists(cefrodil_handle *lister, size_t words, bool stamped) {
     return 0;
 }
 
+/* A list without room makes none, so it takes no memory: by the writer and by a pass of a desk. A pass of shards has to list its shards. */
+static int counts(cefrodil_handle *lister, bool of_shards) {
+    uint64_t count = 98, stamped_count = 98;
+    left = 0;
+    uint32_t status = cefrodil_entries(lister, NULL, 0, &count), stamped = cefrodil_stamped_entries(lister, NULL, 0, &stamped_count);
+    left = -1;
+    return of_shards ? status == CEFRODIL_NO_MEMORY && stamped == CEFRODIL_KIND && count == 98 && stamped_count == 98
+                     : status == CEFRODIL_BAD_COUNT && stamped == CEFRODIL_BAD_COUNT && count == 1 && stamped_count == 1;
+}
+
 static int all_list(const cefrodil_shape *shape, size_t words) {
     cefrodil_reply reply;
     int listed = open_one(shape, words, WITH_ENTRIES) == CEFRODIL_OK && lists(&writer, words, false) &&
-                 lists(&writer, words, true);
+                 lists(&writer, words, true) && counts(&writer, false);
     for (enum how how = BY_TURNS; how <= BY_SHARDS; how++) {
         for (int i = 0; i < 4; i++) {
             cefrodil_close(&handles[i]);
@@ -118,7 +128,7 @@ static int all_list(const cefrodil_shape *shape, size_t words) {
         cefrodil_close(&writer);
         listed = listed && open_one(shape, words, how) == CEFRODIL_OK &&
                  cefrodil_try_put(&handles[0], 0, entries, words, &reply) == CEFRODIL_OK && lists(&handles[0], words, false) &&
-                 (how == BY_SHARDS || lists(&handles[0], words, true));
+                 (how == BY_SHARDS || lists(&handles[0], words, true)) && counts(&handles[0], how == BY_SHARDS);
     }
     for (int i = 0; i < 4; i++) {
         cefrodil_close(&handles[i]);
