@@ -173,8 +173,9 @@ CEFRODIL_CHECKED CEFRODIL_NO_NULL cefrodil_status cefrodil_open(const cefrodil_s
 /* Opens a cache like cefrodil_open and puts `status_count` entries, in order. No entry evicts another. A key that is listed
  * twice is put twice. An entry is its key, then the words of its value, so `entry_words` must be `status_count` times
  * (1 + `words`).
- * OK: the handles are open. `statuses[i]` is OK if entry i was put; otherwise it says why not: NO_PATH, NO_ITEM or SPENT. These
- * puts are the first changes of the table. Other statuses are those of cefrodil_open, and BAD_COUNT, right after BAD_WORDS, if
+ * OK: the handles are open. `statuses[i]` is OK if entry i was put; otherwise it is the first of these that applies: SPENT; NO_PATH, if no
+ * moves lead to an empty slot for its key; NO_ITEM, if every item is in use. So a full table gives NO_PATH or NO_ITEM. These puts are
+ * the first changes of the table. Other statuses are those of cefrodil_open, and BAD_COUNT, right after BAD_WORDS, if
  * `entry_words` does not match. Then `statuses` is unchanged. */
 CEFRODIL_CHECKED CEFRODIL_NO_NULL cefrodil_status cefrodil_open_with(const cefrodil_shape *shape, size_t words, const uint64_t *entries,
                                                                      size_t entry_words, uint32_t *statuses, size_t status_count,
