@@ -6,12 +6,14 @@
  * A block of at least 2 MB begins 56 bytes behind a boundary of huge pages, and the huge pages that it fills are asked for.
  * Blocks from 128 KB up to that are cut from regions of 32 MB, whose huge pages are asked for. So the tables of many shards are on huge pages
  * too. The first huge page of the first region isn't: a program with little in its caches takes no more memory than it uses. A region is
- * freed with its last block. Any thread may allocate and free.
+ * freed with its last block. Any thread may allocate and free, and so may another copy of these functions in the same program, since
+ * libraries that were built apart may pass a handle on.
  *
  * What the toolchain asks of them (its crate `libc`, src/heap.rt): `align` divides 16 and `size` is below 2^63. A block that is returned has
  * `size` bytes, aligned to `align`, which nothing else uses until it is given back. A block that grows or shrinks keeps its first `kept`
  * bytes. Without memory `there` is false, the pointer is not null, and a block that was to be resized is as it was. */
 #include <pthread.h>
+#include <stdatomic.h>
 #include <stdbool.h>
 #include <stddef.h>
 #include <stdint.h>
@@ -32,17 +34,17 @@ enum { LINE = 64, BEHIND = 56, PLACED = 4096, CUT = 128 << 10, HUGE_PAGE = 2 << 
 
 /* It lies at the start of its region. */
 struct region {
-    /* The bytes that were cut, with these words; a multiple of a cache line. */
+    /* The bytes that were cut, with these words; a multiple of a cache line. Only the copy of these functions that opened the region cuts. */
     size_t used;
-    size_t blocks;
+    /* How many blocks are in use, and one more while the region is open. Whoever takes the last one off frees the region. */
+    atomic_size_t users;
     /* The block of malloc in which the region lies. */
     void *around;
 };
 
-static pthread_mutex_t lock = PTHREAD_MUTEX_INITIALIZER;
-/* The region from which blocks are cut, if there is one, and how many regions there are. */
+/* The region from which this copy cuts blocks, if it has one. */
 static struct region *open_region;
-static size_t regions;
+static pthread_mutex_t lock = PTHREAD_MUTEX_INITIALIZER;
 
 static char nothing;
 
@@ -74,17 +76,25 @@ static void *placed(size_t size) {
     return at;
 }
 
-/* Opens a region, if there is memory. */
+static void leave(struct region *region) {
+    if (atomic_fetch_sub(&region->users, 1) == 1) {
+        free(region->around);
+    }
+}
+
+/* Opens a region in place of the one that is full, if there is memory. */
 static void begin_region(void) {
     char *block = malloc(REGION + HUGE_PAGE);
     if (block == NULL) {
         return;
     }
-    char *first = aligned(block, HUGE_PAGE), *advised = regions == 0 ? first + HUGE_PAGE : first;
+    char *first = aligned(block, HUGE_PAGE), *advised = open_region == NULL ? first + HUGE_PAGE : first;
     ask_for_huge_pages(advised, (size_t)(first + REGION - advised));
+    if (open_region != NULL) {
+        leave(open_region);
+    }
     open_region = (struct region *)first;
-    *open_region = (struct region){LINE, 0, block};
-    regions++;
+    *open_region = (struct region){LINE, 1, block};
 }
 
 /* A block of a region, or NULL without memory for one. */
@@ -92,6 +102,10 @@ static void *cut(size_t size) {
     const size_t bytes = (BEHIND + size + LINE - 1) / LINE * LINE;
     char *at = NULL;
     pthread_mutex_lock(&lock);
+    if (open_region != NULL && open_region->users == 1) {
+        /* Another copy gave back the last block. */
+        open_region->used = LINE;
+    }
     if (open_region == NULL || bytes > REGION - open_region->used) {
         begin_region();
     }
@@ -100,7 +114,7 @@ static void *cut(size_t size) {
         ((size_t *)at)[-2] = bytes;
         ((uintptr_t *)at)[-1] = (uintptr_t)open_region + 1;
         open_region->used += bytes;
-        open_region->blocks++;
+        open_region->users++;
     }
     pthread_mutex_unlock(&lock);
     return at;
@@ -109,18 +123,17 @@ static void *cut(size_t size) {
 /* Gives a block back to its region. The one that was cut last leaves its bytes to the next. */
 static void give_back(struct region *region, const char *at) {
     const size_t bytes = ((const size_t *)at)[-2];
-    void *ended = NULL;
     pthread_mutex_lock(&lock);
-    if (at - BEHIND + bytes == (char *)region + region->used) {
+    if (region == open_region && at - BEHIND + bytes == (char *)region + region->used) {
         region->used -= bytes;
     }
-    if (--region->blocks == 0) {
-        ended = region->around;
-        open_region = open_region == region ? NULL : open_region;
-        regions--;
+    if (region == open_region && region->users == 2) {
+        /* This is its last block. */
+        open_region = NULL;
+        leave(region);
     }
     pthread_mutex_unlock(&lock);
-    free(ended);
+    leave(region);
 }
 
 static void *at_line(size_t size) {

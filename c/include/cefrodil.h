@@ -20,7 +20,7 @@
  *   6. The program is linked with the archive that belongs to this header. The names below mean its functions only.
  *
  * What you need not promise: that a handle is open or of the right kind, that a value has the right width, that counts
- * match. A call that finds otherwise returns a status and does nothing.
+ * match. A call that finds otherwise returns a status and changes nothing but the reply.
  */
 #ifndef CEFRODIL_H
 #define CEFRODIL_H
@@ -93,7 +93,8 @@ typedef struct cefrodil_shape {
 /* Whether the library hashes keys, or takes them as they are. */
 enum { CEFRODIL_MIX_FULL = 0, CEFRODIL_MIX_NONE = 1 };
 
-/* The numbers of an answer. Every call sets every field; a field that does not apply to the status is 0. */
+/* The numbers of an answer. Every call sets every field, with HELD and CLOSED too; a field that does not apply to the status is 0. So keep a
+ * `since` that you need later in a variable of your own. */
 typedef struct cefrodil_reply {
     uint64_t at;      /* number of changes to the table when the answer was true; for a write, its own included, and an eviction
                        * before a put is a change of its own */
@@ -250,8 +251,8 @@ CEFRODIL_CHECKED CEFRODIL_NO_NULL cefrodil_status cefrodil_put_if_absent(cefrodi
  * OK and ABSENT: `at` is set. SPENT, CLOSED, KIND. */
 CEFRODIL_NO_NULL cefrodil_status cefrodil_remove(cefrodil_handle *writer, uint64_t key, cefrodil_reply *reply);
 
-/* The same four calls by a pass, which tries once for the turn. HELD: the try did not win, and nothing was done, so a value that should
- * go is still there. Try again, or note the key. */
+/* The same four calls by a pass, which tries once for the turn. HELD: the try did not win, and nothing was changed but the reply, so a value
+ * that should go is still there. Try again, or note the key. */
 CEFRODIL_CHECKED CEFRODIL_NO_NULL cefrodil_status cefrodil_try_put(cefrodil_handle *pass, uint64_t key, const uint64_t *value, size_t words,
                                                                    cefrodil_reply *reply);
 CEFRODIL_CHECKED CEFRODIL_NO_NULL cefrodil_status cefrodil_try_put_if(cefrodil_handle *pass, uint64_t key, uint64_t since,
@@ -267,9 +268,9 @@ CEFRODIL_CHECKED CEFRODIL_NO_NULL cefrodil_status cefrodil_put_within(cefrodil_h
 /* Like cefrodil_put, cefrodil_put_if and cefrodil_remove, and they also return the entry that gives way: the key's earlier one, or that
  * of the key that was evicted. So a program that keeps objects behind the cache knows which to free. By the writer; or by a pass,
  * which tries once for the turn. `former` has `former_words` words.
- * OK: as without that. If an entry gave way, `former` is its value, and `since` the `at` of its last put. If a new key evicted none,
+ * OK: as for cefrodil_put, cefrodil_put_if and cefrodil_remove. If an entry gave way, `former` is its value, and `since` the `at` of its last put. If a new key evicted none,
  * `former` is unchanged, and `since` is 0. HELD: the try of a pass did not win. WIDTH: `words` or `former_words` does not match.
- * Otherwise as without that. Unless OK, `former` is unchanged. */
+ * Other statuses are theirs. Unless OK, `former` is unchanged. */
 CEFRODIL_CHECKED CEFRODIL_NO_NULL cefrodil_status cefrodil_swap(cefrodil_handle *handle, uint64_t key, const uint64_t *value, size_t words,
                                                                 uint64_t *former, size_t former_words, cefrodil_reply *reply);
 CEFRODIL_CHECKED CEFRODIL_NO_NULL cefrodil_status cefrodil_swap_if(cefrodil_handle *handle, uint64_t key, uint64_t since,
@@ -279,7 +280,8 @@ CEFRODIL_CHECKED CEFRODIL_NO_NULL cefrodil_status cefrodil_take_out(cefrodil_han
                                                                     size_t former_words, cefrodil_reply *reply);
 
 /* Ends a pass's turns: its handle becomes a reader's. The last pass of a desk gets the writer back, so a program can go on with one
- * writer. For that every pass of the desk leaves, in any order and in any thread, or is closed.
+ * writer. For that every pass of the desk leaves, in any order and in any thread, or is closed. If the last one is closed, the writer is
+ * closed with it.
  * OK: this was the last pass, and `writer` is open. NOT_LAST: other passes are at the desk, and `writer` is empty.
  * Otherwise nothing was done: the first that applies of IN_USE (`writer` was open before), CLOSED, KIND (also by a pass of shards),
  * NO_MEMORY. */
@@ -301,10 +303,11 @@ CEFRODIL_CHECKED CEFRODIL_NO_NULL cefrodil_status cefrodil_try_len(cefrodil_hand
 
 /* Lists each key with its value, by the writer or a pass. A pass tries once for the turn, and a pass of shards once for that of each
  * shard, so it lists each shard at a moment of its own. An entry is its key, then the words of its value, as cefrodil_open_with
- * takes it. Readers may go on meanwhile. This call takes memory for the whole list, and frees it. If `entry_words` is 0, only a pass of
- * shards makes the list.
+ * takes it. Readers may go on meanwhile. This call takes memory for the whole list, and frees it. If `entry_words` is 0, this header makes
+ * a list only for a pass of shards; the export makes one.
  * OK: the first `count` entries of `entries` are written. BAD_COUNT: there are `count` entries, and `entry_words` is less than
- * `count` times (1 + the words of a value). HELD: a try did not win. CLOSED, KIND, NO_MEMORY. Unless OK, `entries` is unchanged. */
+ * `count` times (1 + the words of a value). HELD: a try did not win. CLOSED, KIND, NO_MEMORY. Unless OK, `entries` is unchanged. With
+ * other statuses than OK and BAD_COUNT, `count` is unchanged too. */
 CEFRODIL_CHECKED CEFRODIL_NO_NULL cefrodil_status cefrodil_entries(cefrodil_handle *handle, uint64_t *entries, size_t entry_words,
                                                                    uint64_t *count);
 
@@ -389,7 +392,7 @@ static inline cefrodil_handle cefrodil_empty(void) {
 }
 
 /* Moves a handle: returns it, and leaves the old place empty. */
-static inline cefrodil_handle cefrodil_take(cefrodil_handle *from) {
+CEFRODIL_CHECKED static inline cefrodil_handle cefrodil_take(cefrodil_handle *from) {
     const cefrodil_handle taken = *from;
     *from = cefrodil_empty();
     return taken;
@@ -494,7 +497,7 @@ CEFRODIL_CHECKED static inline cefrodil_status cefrodil_get_many_or_none(cefrodi
                              answer_count != 0 ? answers : &no_answer, answer_count);
 }
 
-/* The answer of a list that has no room, by the writer or a pass of a desk: no list is made for it. KIND: by another handle. */
+/* Counts the entries for a list that has no room, by the writer or a pass of a desk, and makes no list. KIND: by another handle. */
 CEFRODIL_CHECKED static inline cefrodil_status cefrodil_list_without_room(cefrodil_handle *handle, uint64_t *count) {
     cefrodil_status status = cefrodil_len(handle, count);
     if (status == CEFRODIL_KIND) {

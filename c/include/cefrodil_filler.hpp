@@ -32,8 +32,9 @@ template <size_t Words> class Filler {
 
     // `changes`: how many it knows, at least one. A fill is refused if more have come since its ticket, so take what may come while a thread
     // reads the store, and some more.
-    Filler(Writer<Words> writer, size_t changes)
-        : writer_(std::move(writer)), count_(std::make_shared<std::atomic<uint64_t>>(0)), keys_(changes != 0 ? changes : 1) {}
+    // It may throw std::bad_alloc, and then `writer` is as it was. A filler that was moved from must not be called.
+    Filler(Writer<Words> &&writer, size_t changes)
+        : count_(std::make_shared<std::atomic<uint64_t>>(0)), keys_(changes != 0 ? changes : 1), writer_(std::move(writer)) {}
 
     Tickets tickets() const noexcept { return Tickets(count_); }
 
@@ -42,13 +43,13 @@ template <size_t Words> class Filler {
     [[nodiscard]] Written fill(uint64_t key, Ticket ticket, const Value &value) noexcept {
         return is_stale(key, ticket) ? Written{Status::stale, std::nullopt, 0, 0, false} : writer_.put_if_absent(key, value);
     }
-    // Removes a key that was changed in the store before. If a removal is refused, call it again.
+    // Removes a key that was changed in the store before. spent: the key is still there, and no removal will succeed. Open a new cache.
     [[nodiscard]] Written remove(uint64_t key) noexcept {
         changed(key);
         return writer_.remove(key);
     }
     // Puts the key's new value, which is in the store. Only one thread may change the store then: of two, the later change's put could come
-    // first. So remove the key if several do.
+    // first. So remove the key if several do. If it fails, the key's old value may still be there: remove the key.
     [[nodiscard]] Written put(uint64_t key, const Value &value) noexcept {
         changed(key);
         return writer_.put(key, value);
@@ -75,9 +76,9 @@ template <size_t Words> class Filler {
         return false;
     }
 
-    Writer<Words> writer_;
     std::shared_ptr<std::atomic<uint64_t>> count_;
     std::vector<uint64_t> keys_; // of the last changes: change n at place n, modulo their number
+    Writer<Words> writer_;
 };
 
 } // namespace cefrodil

@@ -4,7 +4,7 @@
 #include <stdatomic.h>
 #include <stdlib.h>
 
-static long mallocs_left = -1;
+static _Thread_local long mallocs_left = -1;
 /* How many blocks of malloc are in use, and how many regions were allocated. */
 static atomic_long in_use, regions_made;
 

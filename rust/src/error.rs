@@ -112,7 +112,8 @@ pub enum ListError {
 pub enum EndError {
     /// Out of memory.
     NoMemory,
-    /// No pass got the writer: one of the desk was forgotten ([`std::mem::forget`]), and still has a share of it.
+    /// No pass got the writer: one of the desk was forgotten ([`std::mem::forget`]) and still has a share of it, or a turn could not give
+    /// the writer back.
     NoWriter,
 }
 

@@ -55,6 +55,10 @@ pub struct Filler<const WORDS: usize> {
 impl<const WORDS: usize> Filler<WORDS> {
     /// A filler that knows this many changes, at least one. A fill is refused if more have come since its ticket, so take what may
     /// come while a thread reads the store, and some more.
+    ///
+    /// # Panics
+    ///
+    /// If `changes` times 8 bytes are more than a `Vec` can have.
     #[must_use]
     pub fn new(writer: Writer<WORDS>, changes: usize) -> Filler<WORDS> {
         Filler { writer, count: Arc::default(), keys: vec![0; changes.max(1)] }
@@ -85,7 +89,7 @@ impl<const WORDS: usize> Filler<WORDS> {
     ///
     /// # Errors
     ///
-    /// [`Spent`]: the key is still there.
+    /// [`Spent`]: the key is still there, and no removal will succeed. Open a new cache.
     pub fn remove(&mut self, key: u64) -> Result<Removal, Spent> {
         self.changed(key);
         self.writer.remove(key)
