@@ -26,7 +26,19 @@ pub enum Reply<const WORDS: usize> {
 }
 
 /// What a put did. `at` is its moment: the number of changes to the table, its own included.
+///
+/// A minor version may add a variant, so a `match` has an arm for the rest:
+///
+/// ```compile_fail,E0004
+/// fn moves(put: cefrodil::Put) -> u32 {
+///     match put {
+///         cefrodil::Put::Stored { moves, .. } => moves,
+///         cefrodil::Put::Renewed { .. } => 0,
+///     }
+/// }
+/// ```
 #[derive(Clone, Copy, Debug, PartialEq, Eq, Hash)]
+#[non_exhaustive]
 pub enum Put {
     /// The key is new.
     Stored {

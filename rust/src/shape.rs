@@ -14,6 +14,7 @@ pub enum Mix {
 }
 
 /// The sizes of a table and the limits of its calls. [`Shape::for_items`] chooses one.
+/// A minor version may add a field: change one by `Shape { items: 2, ..Shape::for_items(100)? }`.
 #[derive(Clone, Copy, Debug, PartialEq, Eq, Hash)]
 pub struct Shape {
     /// Most version changes, 0 to 2^62.
