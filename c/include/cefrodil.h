@@ -14,8 +14,9 @@
  *      are never null, but for a handle of cefrodil_close, a reply of cefrodil_get, and an array of cefrodil_open_with,
  *      cefrodil_get_many, cefrodil_entries or cefrodil_stamped_entries whose count is 0.
  *      `value` has `words` words; an array has as many elements as its count says.
- *   4. No call comes from a signal handler, nor from the forked child of a process with threads. Every call returns: no
- *      longjmp, exception or asynchronous cancellation leaves it. A handle is used in the process that opened it.
+ *   4. No call comes from a signal handler. A handle is used in the process that opened it: no call comes from a forked
+ *      child, which ends by _exit or exec, since exit would run the destructors of C++ objects, and so close handles.
+ *      Every call returns: no longjmp, exception or asynchronous cancellation leaves it.
  *   5. malloc, realloc and free belong to one allocator, whose blocks are aligned to 16 bytes.
  *   6. The program is linked with the archive that belongs to this header. The names below mean its functions only.
  *

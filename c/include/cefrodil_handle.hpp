@@ -15,7 +15,7 @@
 
 namespace cefrodil {
 
-// The statuses of cefrodil.h, and one more. Whoever calls what returns one must look at it, but for `close`. `Status::ok` is 0, so a status is
+// The statuses of cefrodil.h, and two more. Whoever calls what returns one must look at it, but for `close`. `Status::ok` is 0, so a status is
 // compared, never taken for a bool.
 enum class Status : uint32_t {
     ok = CEFRODIL_OK,
@@ -28,8 +28,10 @@ enum class Status : uint32_t {
     held = CEFRODIL_HELD,
     closed = CEFRODIL_CLOSED,
     kind = CEFRODIL_KIND,
+    width = CEFRODIL_WIDTH,
     in_use = CEFRODIL_IN_USE,
     no_memory = CEFRODIL_NO_MEMORY,
+    bad_words = CEFRODIL_BAD_WORDS,
     bad_mix = CEFRODIL_BAD_MIX,
     bad_buckets = CEFRODIL_BAD_BUCKETS,
     bad_items = CEFRODIL_BAD_ITEMS,
