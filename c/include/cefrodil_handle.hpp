@@ -15,8 +15,8 @@
 
 namespace cefrodil {
 
-// The statuses of cefrodil.h, and two more. Whoever calls what returns one must look at it, but for `close`. `Status::ok` is 0, so a status is
-// compared, never taken for a bool.
+// The statuses of cefrodil.h, and two more. A compiler warns if nobody looks at the status of a call, except that of `close`. `Status::ok` is
+// 0, so compare a status, and never take it for a bool.
 enum class Status : uint32_t {
     ok = CEFRODIL_OK,
     absent = CEFRODIL_ABSENT,
