@@ -6,7 +6,7 @@ use Rattle.mc_door.specs.Means.{GetOrDeskTells, GetTells}
 use Rattle.mc_door.specs.Roles.{Role}
 use Rattle.mc_door.specs.Swaps.{SwapTells}
 use Rattle.mc_door.specs.Tellings.{plain}
-use Rattle.mc_door.specs.Writes.{TryTells, WriteTells}
+use Rattle.mc_door.specs.Writes.{WriteTells}
 use Rattle.mc_door.specs.declared.held.Held.{Held}
 use Rattle.mc_door.specs.declared.status.TheConstants.{CLOSED}
 use Rattle.mc_door.specs.declared.told.Told.{Told}
@@ -31,9 +31,6 @@ GetOrDeskGives b b' key old new told = TellsBy b b' (new ≡ old) (λ V role rol
 
 abbrev pub WriteGives : Option Held → Option Held → ℕ → Write → List ℕ → Told → Type 0
 WriteGives b b' key call v told = TellsBy b b' (Unit {0}) (λ V role role' Same told. WriteTells V role role' Same key call v told) told
-
-abbrev pub TryGives : Option Held → Option Held → ℕ → Write → List ℕ → Told → Type 0
-TryGives b b' key call v told = TellsBy b b' (Unit {0}) (λ V role role' Same told. TryTells V role role' Same key call v told) told
 
 abbrev pub SwapGives : Option Held → Option Held → ℕ → Swap → List ℕ → List ℕ → List ℕ → Told → Type 0
 SwapGives b b' key call v old new told = TellsBy b b' (new ≡ old) (λ V role role' Same told. SwapTells V role role' Same key call v old new told) told

@@ -1,7 +1,7 @@
--- Numbers that a handle knows at once; and the number of keys, as a pass counts them in a turn.
+-- Numbers that a handle knows at once; and the number of keys, as they are counted.
 use Rattle.std.specs.Prelude.{ℕ, ◌≡◌, MatchOption, MatchResult, Option as Known, Result, Ok, Err}
 use mathlib.Core.Option.{Option}
-use Rattle.mc_door.specs.Counting.{CountsInTurn, RefusesCount}
+use Rattle.mc_door.specs.Counting.{Counts, RefusesCount}
 use Rattle.mc_door.specs.Held.{role_in, width_of}
 use Rattle.mc_door.specs.Roles.{Role}
 use Rattle.mc_door.specs.declared.counting.CountError.{CountError}
@@ -25,11 +25,11 @@ TellsCount (Ok many) old new status = (status ≡ OK) × (new ≡ many)
 TellsCount (Err why.Kind) old new status = (status ≡ KIND) × (new ≡ old)
 TellsCount (Err why.Held) old new status = (status ≡ HELD) × (new ≡ old)
 
-pub record HasCountedInTurn (h h' : Held) (old new status : ℕ) : Type 0 where
+pub record HasCountedKeys (h h' : Held) (old new status : ℕ) : Type 0 where
   pub width : width_of h' ≡ width_of h
   pub made : Result ℕ CountError
-  pub is : MatchResult made (CountsInTurn (width_of h) (role_in h) (role_in h')) (RefusesCount (role_in h) (role_in h'))
+  pub is : MatchResult made (Counts (width_of h) (role_in h) (role_in h')) (RefusesCount (role_in h) (role_in h'))
   pub told : TellsCount made old new status
 
-abbrev pub CountInTurnGives : Option Held → Option Held → ℕ → ℕ → ℕ → Type 0
-CountInTurnGives b b' old new status = Gives b b' ((status ≡ CLOSED) × (new ≡ old)) (λ h h'. HasCountedInTurn h h' old new status)
+abbrev pub LenGives : Option Held → Option Held → ℕ → ℕ → ℕ → Type 0
+LenGives b b' old new status = Gives b b' ((status ≡ CLOSED) × (new ≡ old)) (λ h h'. HasCountedKeys h h' old new status)

@@ -1,7 +1,7 @@
-//! Numbers that a handle knows at once, as C asks for them; and the number of keys, by a pass.
+//! Numbers that a handle knows at once, as C asks for them; and the number of keys, by a handle.
 ghost use Rattle.std.specs.Prelude.{◌≡◌, MatchOption};
-ghost use Rattle.mc_door.specs.Means.{CanWrite, CapacityIs, HasCache, LenIs, MomentIs};
-ghost use Rattle.cefrodil.specs.Counts.{CountGives, CountInTurnGives, TellsCount};
+ghost use Rattle.mc_door.specs.Means.{CanWrite, CapacityIs, HasCache, MomentIs};
+ghost use Rattle.cefrodil.specs.Counts.{CountGives, LenGives, TellsCount};
 ghost use Rattle.cefrodil.specs.Open.{kept};
 
 use crate::slot::Slot;
@@ -35,20 +35,6 @@ pub extern "C" fn cefrodil_moment(writer: &mut Slot, moment: &mut u64) -> u32
     tell(held.moment(), moment)
 }
 
-/// How many keys the cache holds, by the writer's handle.
-#[tactic(auto, using(crate::proofs::Gives::gives_open, crate::proofs::Gives::gives_closed))]
-#[unsafe(no_mangle)]
-pub extern "C" fn cefrodil_len(writer: &mut Slot, len: &mut u64) -> u32
-    ensures open { writer.new.live ≡ writer.old.live }
-    ensures told { CountGives CanWrite LenIs (kept writer.old) (kept writer.new) len.old len.new result }
-{
-    if !writer.live {
-        return CLOSED;
-    }
-    let held = writer.handle.held();
-    tell(held.len(), len)
-}
-
 /// How many keys the cache holds at most, shards all together, by any handle.
 #[tactic(auto, using(crate::proofs::Gives::gives_open, crate::proofs::Gives::gives_closed))]
 #[unsafe(no_mangle)]
@@ -77,16 +63,16 @@ fn tell_count(counted: Result<u64, CountError>, number: &mut u64) -> u32
     }
 }
 
-/// How many keys the cache holds, by a pass at a desk, in a turn.
+/// How many keys the cache holds, by the writer's handle, or by a pass at a desk in a turn.
 #[tactic(auto, using(crate::proofs::Gives::gives_open, crate::proofs::Gives::gives_closed))]
 #[unsafe(no_mangle)]
-pub extern "C" fn cefrodil_try_len(pass: &mut Slot, len: &mut u64) -> u32
-    ensures open { pass.new.live ≡ pass.old.live }
-    ensures told { CountInTurnGives (kept pass.old) (kept pass.new) len.old len.new result }
+pub extern "C" fn cefrodil_len(handle: &mut Slot, len: &mut u64) -> u32
+    ensures open { handle.new.live ≡ handle.old.live }
+    ensures told { LenGives (kept handle.old) (kept handle.new) len.old len.new result }
 {
-    if !pass.live {
+    if !handle.live {
         return CLOSED;
     }
-    let counted = pass.handle.held().try_len();
+    let counted = handle.handle.held().len();
     tell_count(counted, len)
 }

@@ -5,7 +5,6 @@
 mod closing;
 mod counts;
 mod desk_gets_by_width;
-mod desk_puts_by_width;
 mod gets_by_width;
 pub mod handle;
 mod leaving;

@@ -4,14 +4,14 @@ ghost use Rattle.cefrodil.specs.Calls.{WriteGives};
 ghost use Rattle.cefrodil.specs.Open.{kept};
 
 use crate::slot::{Slot, told_of_handle};
-use mc_door::{Held, RawReply, Write};
+use mc_door::{Held, RawReply};
 
 // Puts by a handle whose values have this width. Another handle goes the way of `cefrodil_put`, which refuses it.
 macro_rules! put_at {
-    ($width:ident, $writer:ident, $key:ident, $value:ident, $reply:ident) => {
-        told_of_handle!($writer, $reply, held => match held {
+    ($width:ident, $handle:ident, $key:ident, $value:ident, $reply:ident) => {
+        told_of_handle!($handle, $reply, held => match held {
             Held::$width(side) => side.put($key, $value.as_slice(), $reply),
-            held => held.write($key, Write::Put, $value.as_slice(), $reply),
+            held => held.put($key, $value.as_slice(), $reply),
         })
     };
 }
@@ -20,118 +20,118 @@ macro_rules! put_at {
 #[tactic(auto, using(crate::proofs::Gives::gives_open, crate::proofs::Gives::gives_closed))]
 #[unsafe(no_mangle)]
 pub extern "C" fn cefrodil_put_1(
-    writer: &mut Slot,
+    handle: &mut Slot,
     key: u64,
     value: &[u64; 1],
     reply: &mut RawReply,
 ) -> u32
-    ensures open { writer.new.live ≡ writer.old.live }
-    ensures told { WriteGives (kept writer.old) (kept writer.new) key Write.Put value.now (record { status = result; reply = reply.new }) }
+    ensures open { handle.new.live ≡ handle.old.live }
+    ensures told { WriteGives (kept handle.old) (kept handle.new) key Write.Put value.now (record { status = result; reply = reply.new }) }
 {
-    put_at!(One, writer, key, value, reply)
+    put_at!(One, handle, key, value, reply)
 }
 
 /// `cefrodil_put` of a value of two words.
 #[tactic(auto, using(crate::proofs::Gives::gives_open, crate::proofs::Gives::gives_closed))]
 #[unsafe(no_mangle)]
 pub extern "C" fn cefrodil_put_2(
-    writer: &mut Slot,
+    handle: &mut Slot,
     key: u64,
     value: &[u64; 2],
     reply: &mut RawReply,
 ) -> u32
-    ensures open { writer.new.live ≡ writer.old.live }
-    ensures told { WriteGives (kept writer.old) (kept writer.new) key Write.Put value.now (record { status = result; reply = reply.new }) }
+    ensures open { handle.new.live ≡ handle.old.live }
+    ensures told { WriteGives (kept handle.old) (kept handle.new) key Write.Put value.now (record { status = result; reply = reply.new }) }
 {
-    put_at!(Two, writer, key, value, reply)
+    put_at!(Two, handle, key, value, reply)
 }
 
 /// `cefrodil_put` of a value of three words.
 #[tactic(auto, using(crate::proofs::Gives::gives_open, crate::proofs::Gives::gives_closed))]
 #[unsafe(no_mangle)]
 pub extern "C" fn cefrodil_put_3(
-    writer: &mut Slot,
+    handle: &mut Slot,
     key: u64,
     value: &[u64; 3],
     reply: &mut RawReply,
 ) -> u32
-    ensures open { writer.new.live ≡ writer.old.live }
-    ensures told { WriteGives (kept writer.old) (kept writer.new) key Write.Put value.now (record { status = result; reply = reply.new }) }
+    ensures open { handle.new.live ≡ handle.old.live }
+    ensures told { WriteGives (kept handle.old) (kept handle.new) key Write.Put value.now (record { status = result; reply = reply.new }) }
 {
-    put_at!(Three, writer, key, value, reply)
+    put_at!(Three, handle, key, value, reply)
 }
 
 /// `cefrodil_put` of a value of four words.
 #[tactic(auto, using(crate::proofs::Gives::gives_open, crate::proofs::Gives::gives_closed))]
 #[unsafe(no_mangle)]
 pub extern "C" fn cefrodil_put_4(
-    writer: &mut Slot,
+    handle: &mut Slot,
     key: u64,
     value: &[u64; 4],
     reply: &mut RawReply,
 ) -> u32
-    ensures open { writer.new.live ≡ writer.old.live }
-    ensures told { WriteGives (kept writer.old) (kept writer.new) key Write.Put value.now (record { status = result; reply = reply.new }) }
+    ensures open { handle.new.live ≡ handle.old.live }
+    ensures told { WriteGives (kept handle.old) (kept handle.new) key Write.Put value.now (record { status = result; reply = reply.new }) }
 {
-    put_at!(Four, writer, key, value, reply)
+    put_at!(Four, handle, key, value, reply)
 }
 
 /// `cefrodil_put` of a value of five words.
 #[tactic(auto, using(crate::proofs::Gives::gives_open, crate::proofs::Gives::gives_closed))]
 #[unsafe(no_mangle)]
 pub extern "C" fn cefrodil_put_5(
-    writer: &mut Slot,
+    handle: &mut Slot,
     key: u64,
     value: &[u64; 5],
     reply: &mut RawReply,
 ) -> u32
-    ensures open { writer.new.live ≡ writer.old.live }
-    ensures told { WriteGives (kept writer.old) (kept writer.new) key Write.Put value.now (record { status = result; reply = reply.new }) }
+    ensures open { handle.new.live ≡ handle.old.live }
+    ensures told { WriteGives (kept handle.old) (kept handle.new) key Write.Put value.now (record { status = result; reply = reply.new }) }
 {
-    put_at!(Five, writer, key, value, reply)
+    put_at!(Five, handle, key, value, reply)
 }
 
 /// `cefrodil_put` of a value of six words.
 #[tactic(auto, using(crate::proofs::Gives::gives_open, crate::proofs::Gives::gives_closed))]
 #[unsafe(no_mangle)]
 pub extern "C" fn cefrodil_put_6(
-    writer: &mut Slot,
+    handle: &mut Slot,
     key: u64,
     value: &[u64; 6],
     reply: &mut RawReply,
 ) -> u32
-    ensures open { writer.new.live ≡ writer.old.live }
-    ensures told { WriteGives (kept writer.old) (kept writer.new) key Write.Put value.now (record { status = result; reply = reply.new }) }
+    ensures open { handle.new.live ≡ handle.old.live }
+    ensures told { WriteGives (kept handle.old) (kept handle.new) key Write.Put value.now (record { status = result; reply = reply.new }) }
 {
-    put_at!(Six, writer, key, value, reply)
+    put_at!(Six, handle, key, value, reply)
 }
 
 /// `cefrodil_put` of a value of seven words.
 #[tactic(auto, using(crate::proofs::Gives::gives_open, crate::proofs::Gives::gives_closed))]
 #[unsafe(no_mangle)]
 pub extern "C" fn cefrodil_put_7(
-    writer: &mut Slot,
+    handle: &mut Slot,
     key: u64,
     value: &[u64; 7],
     reply: &mut RawReply,
 ) -> u32
-    ensures open { writer.new.live ≡ writer.old.live }
-    ensures told { WriteGives (kept writer.old) (kept writer.new) key Write.Put value.now (record { status = result; reply = reply.new }) }
+    ensures open { handle.new.live ≡ handle.old.live }
+    ensures told { WriteGives (kept handle.old) (kept handle.new) key Write.Put value.now (record { status = result; reply = reply.new }) }
 {
-    put_at!(Seven, writer, key, value, reply)
+    put_at!(Seven, handle, key, value, reply)
 }
 
 /// `cefrodil_put` of a value of eight words.
 #[tactic(auto, using(crate::proofs::Gives::gives_open, crate::proofs::Gives::gives_closed))]
 #[unsafe(no_mangle)]
 pub extern "C" fn cefrodil_put_8(
-    writer: &mut Slot,
+    handle: &mut Slot,
     key: u64,
     value: &[u64; 8],
     reply: &mut RawReply,
 ) -> u32
-    ensures open { writer.new.live ≡ writer.old.live }
-    ensures told { WriteGives (kept writer.old) (kept writer.new) key Write.Put value.now (record { status = result; reply = reply.new }) }
+    ensures open { handle.new.live ≡ handle.old.live }
+    ensures told { WriteGives (kept handle.old) (kept handle.new) key Write.Put value.now (record { status = result; reply = reply.new }) }
 {
-    put_at!(Eight, writer, key, value, reply)
+    put_at!(Eight, handle, key, value, reply)
 }

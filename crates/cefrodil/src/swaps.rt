@@ -42,7 +42,7 @@ pub extern "C" fn cefrodil_swap_if(
 /// Takes a key out, and returns its entry, by the writer's handle or a pass.
 #[tactic(auto, using(crate::proofs::Gives::gives_open, crate::proofs::Gives::gives_closed))]
 #[unsafe(no_mangle)]
-pub extern "C" fn cefrodil_take_out(
+pub extern "C" fn cefrodil_take(
     handle: &mut Slot,
     key: u64,
     former: &mut [u64],

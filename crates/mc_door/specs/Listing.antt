@@ -2,18 +2,10 @@
 use Rattle.std.specs.Prelude.{ℕ, ◌≡◌, ◌+◌, ◌*◌, ◌<◌, List, [], ◌∷◌, ◌++◌, drop, length}
 use Rattle.mc_cache.specs.Plain.{AreEntriesOf, Begins, history, seen}
 use Rattle.mc_shards.specs.Plain.{AllBegin, AreEntriesOfAll, seens}
-use Rattle.mc_door.specs.Means.{HasTurns}
+use Rattle.mc_door.specs.Means.{CanChange, HasTurns}
 use Rattle.mc_door.specs.Roles.{Role, Writes, Reads, Passes, Shares, Idle}
 use Rattle.mc_door.specs.declared.listed.ListError.{ListError}
 use Rattle.mc_door.specs.declared.listed.ListError.TheVariants as why
-
--- the writer lists, and a pass in a turn
-abbrev pub CanList : Role → Type 0
-CanList (Writes w) = Unit {0}
-CanList (Reads r) = ⊥
-CanList (Passes r) = Unit {0}
-CanList (Shares s rs) = Unit {0}
-CanList Idle = ⊥
 
 -- a pass has seen more of the histories at most. The others are as they were
 abbrev pub SeesMore : (V : ℕ) → Role → Role → Type 0
@@ -52,7 +44,7 @@ HasMore V role words count = (es : List (ℕ × List ℕ)) × AreEntries V role 
 
 -- the side does not list, its try for a turn was held, there are more entries than fit, or there is no memory
 abbrev pub RefusesList : (V : ℕ) → Role → Role → ℕ → ListError → Type 0
-RefusesList V role role' words why.Kind = ¬ CanList role
+RefusesList V role role' words why.Kind = ¬ CanChange role
 RefusesList V role role' words why.Held = HasTurns role
 RefusesList V role role' words (why.Count count) = HasMore V role' words count
-RefusesList V role role' words why.NoMemory = CanList role
+RefusesList V role role' words why.NoMemory = CanChange role

@@ -4,7 +4,6 @@ use Rattle.mc_cache.specs.Plain.{HasAnswered, history, seen, TellsNow}
 use Rattle.mc_cache.specs.Turns.{HasLookedOrMet}
 use Rattle.mc_reader.specs.Records.{HasLooked}
 use Rattle.mc_writer.specs.WriterCalls.{HasGot}
-use Rattle.mc_words.specs.History.{key_count}
 use Rattle.mc_words.specs.declared.history.Reply.{Reply}
 use Rattle.mc_words.specs.declared.history.Reply.TheVariants.{Busy}
 use Rattle.mc_door.specs.declared.looked.Looked.{Looked}
@@ -25,6 +24,20 @@ CanWrite (Reads r) = ⊥
 CanWrite (Passes r) = ⊥
 CanWrite (Shares s rs) = ⊥
 CanWrite Idle = ⊥
+
+-- the writer changes the map, and a pass in a turn
+abbrev pub CanChange : Role → Type 0
+CanChange (Writes w) = Unit {0}
+CanChange (Reads r) = ⊥
+CanChange (Passes r) = Unit {0}
+CanChange (Shares s rs) = Unit {0}
+CanChange Idle = ⊥
+
+-- the writer, and a pass at a desk in a turn
+abbrev pub ChangesOneTable : Role → Type 0
+ChangesOneTable (Writes w) = Unit {0}
+ChangesOneTable (Passes r) = Unit {0}
+ChangesOneTable _ = ⊥
 
 -- the side is one of a cache
 abbrev pub HasCache : Role → Type 0
@@ -71,14 +84,10 @@ GetTells V role role' Same key old new told = Tells CanLook V role (length old) 
 abbrev pub GetOrDeskTells : (V : ℕ) → Role → Role → Type 0 → ℕ → List ℕ → List ℕ → Told → Type 0
 GetOrDeskTells V role role' Same key old new told = Tells HasTurns V role (length old) (Same × (new ≡ old)) (HasTold lookup_told (GetOrDeskMeans V role role' key old new) told) told
 
--- what the writer knows: the number of changes and of keys
+-- what the writer knows: the number of changes
 abbrev pub MomentIs : (V : ℕ) → Role → ℕ → Type 0
 MomentIs V (Writes w) n = n ≡ length (history V w)
 MomentIs V role n = ⊥
-
-abbrev pub LenIs : (V : ℕ) → Role → ℕ → Type 0
-LenIs V (Writes w) n = n ≡ key_count (history V w)
-LenIs V role n = ⊥
 
 -- the number of items, of shards all together
 abbrev pub CapacityIs : (V : ℕ) → Role → ℕ → Type 0

@@ -5,15 +5,10 @@ use Rattle.mc_cache.specs.Stamped.{AreStampedEntriesOf}
 use Rattle.mc_writer.specs.declared.entry.Entry.{Entry}
 use Rattle.mc_door.specs.Leaving.{IsPass}
 use Rattle.mc_door.specs.Listing.{AreWritten, SeesMore}
+use Rattle.mc_door.specs.Means.{ChangesOneTable}
 use Rattle.mc_door.specs.Roles.{Role, Writes, Passes}
 use Rattle.mc_door.specs.declared.listed.ListError.{ListError}
 use Rattle.mc_door.specs.declared.listed.ListError.TheVariants as why
-
--- the writer lists, and a pass at a desk in a turn
-abbrev pub CanListStamped : Role → Type 0
-CanListStamped (Writes w) = Unit {0}
-CanListStamped (Passes r) = Unit {0}
-CanListStamped _ = ⊥
 
 -- all entries of the history that the side has made or seen, with their stamps
 abbrev pub AreStampedEntries : (V : ℕ) → Role → List (Entry V) → Type 0
@@ -36,7 +31,7 @@ HasMoreStamped V role words count = (es : List (Entry V)) × AreStampedEntries V
 
 -- the side does not list, its try for a turn was held, there are more entries than fit, or there is no memory
 abbrev pub RefusesStampedList : (V : ℕ) → Role → Role → ℕ → ListError → Type 0
-RefusesStampedList V role role' words why.Kind = (¬ CanListStamped role) × (role' ≡ role)
+RefusesStampedList V role role' words why.Kind = (¬ ChangesOneTable role) × (role' ≡ role)
 RefusesStampedList V role role' words why.Held = IsPass role × (role' ≡ role)
 RefusesStampedList V role role' words (why.Count count) = SeesMore V role role' × HasMoreStamped V role' words count
-RefusesStampedList V role role' words why.NoMemory = SeesMore V role role' × CanListStamped role
+RefusesStampedList V role role' words why.NoMemory = SeesMore V role role' × ChangesOneTable role

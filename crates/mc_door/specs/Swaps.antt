@@ -21,7 +21,7 @@ use Rattle.mc_writer.specs.WriterCalls.{HasCalled}
 use Rattle.mc_door.specs.AtShards.{IsAtShard}
 use Rattle.mc_door.specs.Roles.{Role, Writes, Passes, Shares}
 use Rattle.mc_door.specs.Tellings.{plain, swap_if_told, swap_told, take_told, turn_told}
-use Rattle.mc_door.specs.Listing.{CanList}
+use Rattle.mc_door.specs.Means.{CanChange}
 use Rattle.mc_door.specs.Tells.{HasTold}
 use Rattle.mc_door.specs.declared.status.TheConstants.{KIND, WIDTH}
 use Rattle.mc_door.specs.declared.told.Told.{Told}
@@ -89,5 +89,5 @@ SwapMeans V _ _ key call v old new told = ⊥
 abbrev pub SwapTells : (V : ℕ) → Role → Role → Type 0 → ℕ → Swap → List ℕ → List ℕ → List ℕ → Told → Type 0
 SwapTells V role role' Same key call v old new told =
     SwapMeans V role role' key call v old new told ⊎
-    (((told ≡ plain KIND) × (¬ CanList role) × Same × (new ≡ old)) ⊎
-    ((told ≡ plain WIDTH) × CanList role × ((swap_words V call v ≢ V) ⊎ (length old ≢ V)) × Same × (new ≡ old)))
+    (((told ≡ plain KIND) × (¬ CanChange role) × Same × (new ≡ old)) ⊎
+    ((told ≡ plain WIDTH) × CanChange role × ((swap_words V call v ≢ V) ⊎ (length old ≢ V)) × Same × (new ≡ old)))

@@ -11,7 +11,7 @@ use Rattle.mc_writer.specs.WriterCalls.{HasCalled, HasPutIfAbsent}
 use Rattle.mc_door.specs.AtShards.{IsAtShard}
 use Rattle.mc_door.specs.Roles.{Role, Writes, Passes, Shares}
 use Rattle.mc_door.specs.Tellings.{put_if_absent_told, put_if_told, put_told, removal_told, turn_told}
-use Rattle.mc_door.specs.Means.{CanWrite, HasTurns}
+use Rattle.mc_door.specs.Means.{CanChange}
 use Rattle.mc_door.specs.Tells.{HasTold, Tells}
 use Rattle.mc_door.specs.declared.told.Told.{Told}
 use Rattle.mc_door.specs.declared.write.Write.{Write}
@@ -51,22 +51,15 @@ WritesInTurn V sh Goes key call.PutIfAbsent v told =
 WritesInTurn V sh Goes key call.Remove v told =
     HasTold (turn_told removal_told) (λ a. Goes (λ r r'. HasTried V sh (RemoveCall key) answer.Remove r r' a) (λ h h'. TurnMeans (λ b b' answer. RemovalOf V b b' key answer) h h' a)) told
 
--- a write by the writer's side
+-- a write by the writer, or by a pass, which tries for the turn
 abbrev pub WriteMeans : (V : ℕ) → Role → Role → ℕ → Write → List ℕ → Told → Type 0
 WriteMeans V (Writes w) (Writes w') key call v told = (words_in V call v ≡ V) × (w'.of ≡ w.of) × WritesAtOnce V w w' key call v told
-WriteMeans V _ _ key call v told = ⊥
-
--- a write that tries for the turn, by a pass
-abbrev pub TryMeans : (V : ℕ) → Role → Role → ℕ → Write → List ℕ → Told → Type 0
-TryMeans V (Passes r) (Passes r') key call v told =
+WriteMeans V (Passes r) (Passes r') key call v told =
     (words_in V call v ≡ V) × (r'.of ≡ r.of) × WritesInTurn V r.of.layout.shape (λ Tried Seen. Tried r r' × Seen (seen V r) (seen V r')) key call v told
-TryMeans V (Shares s rs) (Shares s' rs') key call v told =
+WriteMeans V (Shares s rs) (Shares s' rs') key call v told =
     (words_in V call v ≡ V) × (s' ≡ s) × WritesInTurn V s.shape (λ Tried Seen. IsAtShard V s key rs rs' Tried Seen) key call v told
-TryMeans V _ _ key call v told = ⊥
+WriteMeans V _ _ key call v told = ⊥
 
 -- what writes tell. `Same`: the side is as it was
 abbrev pub WriteTells : (V : ℕ) → Role → Role → Type 0 → ℕ → Write → List ℕ → Told → Type 0
-WriteTells V role role' Same key call v told = Tells CanWrite V role (words_in V call v) Same (WriteMeans V role role' key call v told) told
-
-abbrev pub TryTells : (V : ℕ) → Role → Role → Type 0 → ℕ → Write → List ℕ → Told → Type 0
-TryTells V role role' Same key call v told = Tells HasTurns V role (words_in V call v) Same (TryMeans V role role' key call v told) told
+WriteTells V role role' Same key call v told = Tells CanChange V role (words_in V call v) Same (WriteMeans V role role' key call v told) told

@@ -1,8 +1,8 @@
-//! A pass counts the keys, in a turn.
+//! The keys are counted, by the writer, or by a pass at a desk in a turn.
 ghost use Rattle.std.specs.Prelude.{◌≡◌, IfNone, IfSome, MatchResult};
 ghost use Rattle.mc_words.specs.History.{key_count};
 ghost use Rattle.mc_cache.specs.Plain.{Begins, seen};
-ghost use Rattle.mc_door.specs.Counting.{CountsInTurn, RefusesCount};
+ghost use Rattle.mc_door.specs.Counting.{Counts, RefusesCount};
 ghost use Rattle.mc_door.specs.Held.{role_in, width_of};
 ghost use Rattle.mc_door.specs.Roles.{role_of};
 
@@ -14,7 +14,7 @@ use crate::with_side;
 /// Why the keys were not counted. Nothing was done.
 #[derive(Clone, Copy, Debug, PartialEq, Eq)]
 pub enum CountError {
-    /// A side of this kind is at no desk.
+    /// A side of this kind counts none.
     Kind,
     /// The try for the turn did not win.
     Held,
@@ -32,13 +32,15 @@ impl<const V: usize> PassSide<V> {
 }
 
 impl<const V: usize> Side<V> {
-    fn try_len(&mut self) -> Result<u64, CountError>
-        ensures { MatchResult result (CountsInTurn V (role_of self.old) (role_of self.new)) (RefusesCount (role_of self.old) (role_of self.new)) }
+    fn len(&mut self) -> Result<u64, CountError>
+        ensures { MatchResult result (Counts V (role_of self.old) (role_of self.new)) (RefusesCount (role_of self.old) (role_of self.new)) }
     {
-        let Side::Pass(side) = self else {
-            return Err(CountError::Kind);
+        let counted = match self {
+            Side::Writer(side) => Some(side.writer.len()),
+            Side::Pass(side) => side.try_len(),
+            _ => return Err(CountError::Kind),
         };
-        match side.try_len() {
+        match counted {
             Some(many) => Ok(many as u64),
             None => Err(CountError::Held),
         }
@@ -46,11 +48,11 @@ impl<const V: usize> Side<V> {
 }
 
 impl Held {
-    /// How many keys the cache holds: `Desk::try_len`, by a pass at a desk.
-    pub fn try_len(&mut self) -> Result<u64, CountError>
+    /// How many keys the cache holds: `Writer::len`, or `Desk::try_len` by a pass at a desk.
+    pub fn len(&mut self) -> Result<u64, CountError>
         ensures width { width_of self.new ≡ width_of self.old }
-        ensures counted { MatchResult result (CountsInTurn (width_of self.old) (role_in self.old) (role_in self.new)) (RefusesCount (role_in self.old) (role_in self.new)) }
+        ensures counted { MatchResult result (Counts (width_of self.old) (role_in self.old) (role_in self.new)) (RefusesCount (role_in self.old) (role_in self.new)) }
     {
-        with_side!(self, side => side.try_len())
+        with_side!(self, side => side.len())
     }
 }

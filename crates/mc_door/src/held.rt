@@ -3,13 +3,13 @@ ghost use Rattle.std.specs.Prelude.{◌≡◌, ◌↔◌, IsTrue, true, IfErr, I
 ghost use Rattle.mc_door.specs.Held.{role_in, width_of};
 ghost use Rattle.mc_door.specs.Leaving.{BecomesReader, IsPass, IsWriterBack, RefusesToLeave};
 ghost use Rattle.mc_door.specs.Listing.{HasListed, RefusesList, SeesMore};
-ghost use Rattle.mc_door.specs.Means.{CanWrite, CapacityIs, GetOrDeskTells, GetTells, HasCache, LenIs, MomentIs};
+ghost use Rattle.mc_door.specs.Means.{CanWrite, CapacityIs, GetOrDeskTells, GetTells, HasCache, MomentIs};
 ghost use Rattle.mc_door.specs.NewSides.{count_in, has_desk_in, opening_in, width_in};
 ghost use Rattle.mc_door.specs.OntoDesk.{HasPasses, RefusesDesk, WritesTo};
 ghost use Rattle.mc_door.specs.Roles.{Idle};
 ghost use Rattle.mc_door.specs.Spares.{spares_in};
 ghost use Rattle.mc_door.specs.Swaps.{SwapTells};
-ghost use Rattle.mc_door.specs.Writes.{TryTells, WriteTells};
+ghost use Rattle.mc_door.specs.Writes.{WriteTells};
 
 use crate::leaving::LeaveError;
 use crate::listed::ListError;
@@ -90,8 +90,18 @@ impl Held {
         with_side!(self, side => side.get_or_desk_apart(key, value, reply))
     }
 
-    /// A write by the writer.
+    /// A put, where its caller does not know the width: `Held::write`.
+    #[cold]
     #[inline(never)]
+    pub fn put(&mut self, key: u64, value: &[u64], reply: &mut RawReply) -> u32
+        ensures width { width_of self.new ≡ width_of self.old }
+        ensures told { WriteTells (width_of self.old) (role_in self.old) (role_in self.new) (self.new ≡ self.old) key Write.Put value.now (record { status = result; reply = reply.new }) }
+    {
+        self.write(key, Write::Put, value, reply)
+    }
+
+    /// A write by the writer, or by a pass, which tries for the turn.
+    #[inline(always)]
     pub fn write(&mut self, key: u64, call: Write, value: &[u64], reply: &mut RawReply) -> u32
         ensures width { width_of self.new ≡ width_of self.old }
         ensures told { WriteTells (width_of self.old) (role_in self.old) (role_in self.new) (self.new ≡ self.old) key call value.now (record { status = result; reply = reply.new }) }
@@ -99,17 +109,8 @@ impl Held {
         with_side!(self, side => side.write(key, call, value, reply))
     }
 
-    /// A write by a pass, which tries for the turn.
-    #[inline(never)]
-    pub fn try_write(&mut self, key: u64, call: Write, value: &[u64], reply: &mut RawReply) -> u32
-        ensures width { width_of self.new ≡ width_of self.old }
-        ensures told { TryTells (width_of self.old) (role_in self.old) (role_in self.new) (self.new ≡ self.old) key call value.now (record { status = result; reply = reply.new }) }
-    {
-        with_side!(self, side => side.try_write(key, call, value, reply))
-    }
-
     /// A write that also returns the entry which gives way, by the writer or a pass.
-    #[inline(never)]
+    #[inline(always)]
     pub fn swap(
         &mut self,
         key: u64,
@@ -131,13 +132,6 @@ impl Held {
         ensures { MatchOption result (¬ CanWrite (role_in self.now)) (MomentIs (width_of self.now) (role_in self.now)) }
     {
         with_side!(self, side => side.moment())
-    }
-
-    /// How many keys the cache holds, if it is a writer.
-    pub fn len(&self) -> Option<u64>
-        ensures { MatchOption result (¬ CanWrite (role_in self.now)) (LenIs (width_of self.now) (role_in self.now)) }
-    {
-        with_side!(self, side => side.len())
     }
 
     /// How many keys the cache holds at most, shards all together, if it is a side of one.

@@ -1,5 +1,5 @@
 //! A pass at the desk of a cache, with the desk and the cache.
-ghost use Rattle.std.specs.Prelude.{◌≡◌, Some, length, IfOk};
+ghost use Rattle.std.specs.Prelude.{◌≡◌, [], Some, length, IfOk};
 ghost use Rattle.mc_cache.specs.Plain.{PutMeans, TurnMeans, seen, AreEntriesOf, Begins};
 ghost use Rattle.mc_cache.specs.Turns.{HasTried};
 ghost use Rattle.mc_plan.specs.WholeCalls.Call.{PutCall};
@@ -33,7 +33,7 @@ impl<const V: usize> PassSide<V> {
     ghost use Rattle.mc_door.specs.Swaps.{SwapMeans, swap_words};
     ghost use Rattle.mc_door.specs.Tellings.{lookup_told};
     ghost use Rattle.mc_door.specs.Tells.{HasTold};
-    ghost use Rattle.mc_door.specs.Writes.{TryMeans, words_in};
+    ghost use Rattle.mc_door.specs.Writes.{WriteMeans, words_in};
 
     #[inline(never)]
     pub(crate) fn get(&mut self, key: u64, value: &mut [u64], reply: &mut RawReply) -> u32
@@ -69,7 +69,7 @@ impl<const V: usize> PassSide<V> {
     }
 
     // Tries up to so many times, at least once, for the turn, to put.
-    fn put_within(
+    fn try_within(
         &mut self,
         tries: u32,
         key: u64,
@@ -91,10 +91,65 @@ impl<const V: usize> PassSide<V> {
     #[inline(always)]
     pub(crate) fn put(&mut self, key: u64, value: &[u64], reply: &mut RawReply) -> u32
         requires { length value.now ≡ V }
-        ensures { TryMeans V (Passes self.old.pass) (Passes self.new.pass) key Write.Put value.now (record { status = result; reply = reply.new }) }
+        ensures { WriteMeans V (Passes self.old.pass) (Passes self.new.pass) key Write.Put value.now (record { status = result; reply = reply.new }) }
     {
         let tried = self.try_put(key, array_of::<V>(value));
         in_turn!(tried, reply, made => tell::put(made, reply))
+    }
+
+    #[inline(never)]
+    fn put_apart(&mut self, key: u64, value: &[u64], reply: &mut RawReply) -> u32
+        requires { length value.now ≡ V }
+        ensures { WriteMeans V (Passes self.old.pass) (Passes self.new.pass) key Write.Put value.now (record { status = result; reply = reply.new }) }
+    {
+        self.put(key, value, reply)
+    }
+
+    #[inline(never)]
+    fn put_within(&mut self, tries: u32, key: u64, value: &[u64], reply: &mut RawReply) -> u32
+        requires { length value.now ≡ V }
+        ensures { WriteMeans V (Passes self.old.pass) (Passes self.new.pass) key (Write.PutWithin tries) value.now (record { status = result; reply = reply.new }) }
+    {
+        let tried = self.try_within(tries, key, array_of::<V>(value));
+        in_turn!(tried, reply, made => tell::put(made, reply))
+    }
+
+    #[inline(never)]
+    fn put_if(&mut self, key: u64, since: u64, value: &[u64], reply: &mut RawReply) -> u32
+        requires { length value.now ≡ V }
+        ensures { WriteMeans V (Passes self.old.pass) (Passes self.new.pass) key (Write.PutIf since) value.now (record { status = result; reply = reply.new }) }
+    {
+        let tried = self.desk.desk().try_put_if(
+            &self.cache,
+            &mut self.pass,
+            key,
+            since,
+            array_of::<V>(value),
+        );
+        in_turn!(tried, reply, made => tell::put_if(made, reply))
+    }
+
+    #[inline(never)]
+    fn put_if_absent(&mut self, key: u64, value: &[u64], reply: &mut RawReply) -> u32
+        requires { length value.now ≡ V }
+        ensures { WriteMeans V (Passes self.old.pass) (Passes self.new.pass) key Write.PutIfAbsent value.now (record { status = result; reply = reply.new }) }
+    {
+        let tried = self
+            .desk
+            .desk()
+            .try_put_if_absent(&self.cache, &mut self.pass, key, array_of::<V>(value));
+        in_turn!(tried, reply, made => tell::put_if_absent(made, reply))
+    }
+
+    #[inline(never)]
+    fn remove(&mut self, key: u64, reply: &mut RawReply) -> u32
+        ensures { WriteMeans V (Passes self.old.pass) (Passes self.new.pass) key Write.Remove [] (record { status = result; reply = reply.new }) }
+    {
+        let tried = self
+            .desk
+            .desk()
+            .try_remove(&self.cache, &mut self.pass, key);
+        in_turn!(tried, reply, made => tell::removal(made, reply))
     }
 
     #[inline(always)]
@@ -106,39 +161,63 @@ impl<const V: usize> PassSide<V> {
         reply: &mut RawReply,
     ) -> u32
         requires { words_in V call value.now ≡ V }
-        ensures { TryMeans V (Passes self.old.pass) (Passes self.new.pass) key call value.now (record { status = result; reply = reply.new }) }
+        ensures { WriteMeans V (Passes self.old.pass) (Passes self.new.pass) key call value.now (record { status = result; reply = reply.new }) }
     {
         match call {
-            Write::Put => self.put(key, value, reply),
-            Write::PutWithin(tries) => {
-                let tried = self.put_within(tries, key, array_of::<V>(value));
-                in_turn!(tried, reply, made => tell::put(made, reply))
-            }
-            Write::PutIf(since) => {
-                let tried = self.desk.desk().try_put_if(
-                    &self.cache,
-                    &mut self.pass,
-                    key,
-                    since,
-                    array_of::<V>(value),
-                );
-                in_turn!(tried, reply, made => tell::put_if(made, reply))
-            }
-            Write::PutIfAbsent => {
-                let tried = self
-                    .desk
-                    .desk()
-                    .try_put_if_absent(&self.cache, &mut self.pass, key, array_of::<V>(value));
-                in_turn!(tried, reply, made => tell::put_if_absent(made, reply))
-            }
-            Write::Remove => {
-                let tried = self
-                    .desk
-                    .desk()
-                    .try_remove(&self.cache, &mut self.pass, key);
-                in_turn!(tried, reply, made => tell::removal(made, reply))
-            }
+            Write::Put => self.put_apart(key, value, reply),
+            Write::PutWithin(tries) => self.put_within(tries, key, value, reply),
+            Write::PutIf(since) => self.put_if(key, since, value, reply),
+            Write::PutIfAbsent => self.put_if_absent(key, value, reply),
+            Write::Remove => self.remove(key, reply),
         }
+    }
+
+    #[inline(never)]
+    fn swap_in(&mut self, key: u64, value: &[u64], old: &mut [u64], reply: &mut RawReply) -> u32
+        requires width { IsWidth V }
+        requires value { length value.now ≡ V }
+        requires old { length old.old ≡ V }
+        ensures { SwapMeans V (Passes self.old.pass) (Passes self.new.pass) key Swap.Put value.now old.old old.new (record { status = result; reply = reply.new }) }
+    {
+        let tried = self
+            .desk
+            .desk()
+            .try_swap(&self.cache, &mut self.pass, key, array_of::<V>(value));
+        in_turn!(tried, reply, made => tell::swap(made, old, reply))
+    }
+
+    #[inline(never)]
+    fn swap_if(
+        &mut self,
+        key: u64,
+        since: u64,
+        value: &[u64],
+        old: &mut [u64],
+        reply: &mut RawReply,
+    ) -> u32
+        requires width { IsWidth V }
+        requires value { length value.now ≡ V }
+        requires old { length old.old ≡ V }
+        ensures { SwapMeans V (Passes self.old.pass) (Passes self.new.pass) key (Swap.PutIf since) value.now old.old old.new (record { status = result; reply = reply.new }) }
+    {
+        let tried = self.desk.desk().try_swap_if(
+            &self.cache,
+            &mut self.pass,
+            key,
+            since,
+            array_of::<V>(value),
+        );
+        in_turn!(tried, reply, made => tell::swap_if(made, old, reply))
+    }
+
+    #[inline(never)]
+    fn take(&mut self, key: u64, old: &mut [u64], reply: &mut RawReply) -> u32
+        requires width { IsWidth V }
+        requires old { length old.old ≡ V }
+        ensures { SwapMeans V (Passes self.old.pass) (Passes self.new.pass) key Swap.Remove [] old.old old.new (record { status = result; reply = reply.new }) }
+    {
+        let tried = self.desk.desk().try_take(&self.cache, &mut self.pass, key);
+        in_turn!(tried, reply, made => tell::take(made, old, reply))
     }
 
     #[inline(always)]
@@ -156,27 +235,9 @@ impl<const V: usize> PassSide<V> {
         ensures { SwapMeans V (Passes self.old.pass) (Passes self.new.pass) key call value.now old.old old.new (record { status = result; reply = reply.new }) }
     {
         match call {
-            Swap::Put => {
-                let tried = self
-                    .desk
-                    .desk()
-                    .try_swap(&self.cache, &mut self.pass, key, array_of::<V>(value));
-                in_turn!(tried, reply, made => tell::swap(made, old, reply))
-            }
-            Swap::PutIf(since) => {
-                let tried = self.desk.desk().try_swap_if(
-                    &self.cache,
-                    &mut self.pass,
-                    key,
-                    since,
-                    array_of::<V>(value),
-                );
-                in_turn!(tried, reply, made => tell::swap_if(made, old, reply))
-            }
-            Swap::Remove => {
-                let tried = self.desk.desk().try_take(&self.cache, &mut self.pass, key);
-                in_turn!(tried, reply, made => tell::take(made, old, reply))
-            }
+            Swap::Put => self.swap_in(key, value, old, reply),
+            Swap::PutIf(since) => self.swap_if(key, since, value, old, reply),
+            Swap::Remove => self.take(key, old, reply),
         }
     }
 

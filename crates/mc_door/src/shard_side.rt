@@ -1,5 +1,5 @@
 //! A pass of a cache of shards, with the shards.
-ghost use Rattle.std.specs.Prelude.{◌≡◌, length, IfOk};
+ghost use Rattle.std.specs.Prelude.{◌≡◌, [], length, IfOk};
 ghost use Rattle.mc_shards.specs.Plain.{AllBegin, AreEntriesOfAll, seens};
 ghost use Rattle.mc_shards.specs.Sharded.{ArePassOf};
 
@@ -30,7 +30,7 @@ impl<const V: usize> ShardSide<V> {
     ghost use Rattle.mc_door.specs.Swaps.{SwapMeans, swap_words};
     ghost use Rattle.mc_door.specs.Tellings.{lookup_told};
     ghost use Rattle.mc_door.specs.Tells.{HasTold};
-    ghost use Rattle.mc_door.specs.Writes.{TryMeans, words_in};
+    ghost use Rattle.mc_door.specs.Writes.{WriteMeans, words_in};
 
     #[inline(never)]
     pub(crate) fn get(&mut self, key: u64, value: &mut [u64], reply: &mut RawReply) -> u32
@@ -54,14 +54,62 @@ impl<const V: usize> ShardSide<V> {
         Told::looked(looked).tell(reply)
     }
 
-    // Out of line, so that its parts are compiled into one place.
-    #[inline(never)]
+    #[inline(always)]
     pub(crate) fn put(&mut self, key: u64, value: &[u64], reply: &mut RawReply) -> u32
         requires { length value.now ≡ V }
-        ensures { TryMeans V (Shares self.old.shards.value self.old.pass) (Shares self.new.shards.value self.new.pass) key Write.Put value.now (record { status = result; reply = reply.new }) }
+        ensures { WriteMeans V (Shares self.old.shards.value self.old.pass) (Shares self.new.shards.value self.new.pass) key Write.Put value.now (record { status = result; reply = reply.new }) }
     {
         let tried = self.pass.try_put(&self.shards, key, array_of::<V>(value));
         in_turn!(tried, reply, made => tell::put(made, reply))
+    }
+
+    #[inline(never)]
+    fn put_apart(&mut self, key: u64, value: &[u64], reply: &mut RawReply) -> u32
+        requires { length value.now ≡ V }
+        ensures { WriteMeans V (Shares self.old.shards.value self.old.pass) (Shares self.new.shards.value self.new.pass) key Write.Put value.now (record { status = result; reply = reply.new }) }
+    {
+        self.put(key, value, reply)
+    }
+
+    #[inline(never)]
+    fn put_within(&mut self, tries: u32, key: u64, value: &[u64], reply: &mut RawReply) -> u32
+        requires { length value.now ≡ V }
+        ensures { WriteMeans V (Shares self.old.shards.value self.old.pass) (Shares self.new.shards.value self.new.pass) key (Write.PutWithin tries) value.now (record { status = result; reply = reply.new }) }
+    {
+        let tried = self
+            .pass
+            .put_within(&self.shards, tries, key, array_of::<V>(value));
+        in_turn!(tried, reply, made => tell::put(made, reply))
+    }
+
+    #[inline(never)]
+    fn put_if(&mut self, key: u64, since: u64, value: &[u64], reply: &mut RawReply) -> u32
+        requires { length value.now ≡ V }
+        ensures { WriteMeans V (Shares self.old.shards.value self.old.pass) (Shares self.new.shards.value self.new.pass) key (Write.PutIf since) value.now (record { status = result; reply = reply.new }) }
+    {
+        let tried = self
+            .pass
+            .try_put_if(&self.shards, key, since, array_of::<V>(value));
+        in_turn!(tried, reply, made => tell::put_if(made, reply))
+    }
+
+    #[inline(never)]
+    fn put_if_absent(&mut self, key: u64, value: &[u64], reply: &mut RawReply) -> u32
+        requires { length value.now ≡ V }
+        ensures { WriteMeans V (Shares self.old.shards.value self.old.pass) (Shares self.new.shards.value self.new.pass) key Write.PutIfAbsent value.now (record { status = result; reply = reply.new }) }
+    {
+        let tried = self
+            .pass
+            .try_put_if_absent(&self.shards, key, array_of::<V>(value));
+        in_turn!(tried, reply, made => tell::put_if_absent(made, reply))
+    }
+
+    #[inline(never)]
+    fn remove(&mut self, key: u64, reply: &mut RawReply) -> u32
+        ensures { WriteMeans V (Shares self.old.shards.value self.old.pass) (Shares self.new.shards.value self.new.pass) key Write.Remove [] (record { status = result; reply = reply.new }) }
+    {
+        let tried = self.pass.try_remove(&self.shards, key);
+        in_turn!(tried, reply, made => tell::removal(made, reply))
     }
 
     #[inline(always)]
@@ -73,33 +121,56 @@ impl<const V: usize> ShardSide<V> {
         reply: &mut RawReply,
     ) -> u32
         requires { words_in V call value.now ≡ V }
-        ensures { TryMeans V (Shares self.old.shards.value self.old.pass) (Shares self.new.shards.value self.new.pass) key call value.now (record { status = result; reply = reply.new }) }
+        ensures { WriteMeans V (Shares self.old.shards.value self.old.pass) (Shares self.new.shards.value self.new.pass) key call value.now (record { status = result; reply = reply.new }) }
     {
         match call {
-            Write::Put => self.put(key, value, reply),
-            Write::PutWithin(tries) => {
-                let tried = self
-                    .pass
-                    .put_within(&self.shards, tries, key, array_of::<V>(value));
-                in_turn!(tried, reply, made => tell::put(made, reply))
-            }
-            Write::PutIf(since) => {
-                let tried = self
-                    .pass
-                    .try_put_if(&self.shards, key, since, array_of::<V>(value));
-                in_turn!(tried, reply, made => tell::put_if(made, reply))
-            }
-            Write::PutIfAbsent => {
-                let tried = self
-                    .pass
-                    .try_put_if_absent(&self.shards, key, array_of::<V>(value));
-                in_turn!(tried, reply, made => tell::put_if_absent(made, reply))
-            }
-            Write::Remove => {
-                let tried = self.pass.try_remove(&self.shards, key);
-                in_turn!(tried, reply, made => tell::removal(made, reply))
-            }
+            Write::Put => self.put_apart(key, value, reply),
+            Write::PutWithin(tries) => self.put_within(tries, key, value, reply),
+            Write::PutIf(since) => self.put_if(key, since, value, reply),
+            Write::PutIfAbsent => self.put_if_absent(key, value, reply),
+            Write::Remove => self.remove(key, reply),
         }
+    }
+
+    #[inline(never)]
+    fn swap_in(&mut self, key: u64, value: &[u64], old: &mut [u64], reply: &mut RawReply) -> u32
+        requires width { IsWidth V }
+        requires value { length value.now ≡ V }
+        requires old { length old.old ≡ V }
+        ensures { SwapMeans V (Shares self.old.shards.value self.old.pass) (Shares self.new.shards.value self.new.pass) key Swap.Put value.now old.old old.new (record { status = result; reply = reply.new }) }
+    {
+        let tried = self.pass.try_swap(&self.shards, key, array_of::<V>(value));
+        in_turn!(tried, reply, made => tell::swap(made, old, reply))
+    }
+
+    #[inline(never)]
+    fn swap_if(
+        &mut self,
+        key: u64,
+        since: u64,
+        value: &[u64],
+        old: &mut [u64],
+        reply: &mut RawReply,
+    ) -> u32
+        requires width { IsWidth V }
+        requires value { length value.now ≡ V }
+        requires old { length old.old ≡ V }
+        ensures { SwapMeans V (Shares self.old.shards.value self.old.pass) (Shares self.new.shards.value self.new.pass) key (Swap.PutIf since) value.now old.old old.new (record { status = result; reply = reply.new }) }
+    {
+        let tried = self
+            .pass
+            .try_swap_if(&self.shards, key, since, array_of::<V>(value));
+        in_turn!(tried, reply, made => tell::swap_if(made, old, reply))
+    }
+
+    #[inline(never)]
+    fn take(&mut self, key: u64, old: &mut [u64], reply: &mut RawReply) -> u32
+        requires width { IsWidth V }
+        requires old { length old.old ≡ V }
+        ensures { SwapMeans V (Shares self.old.shards.value self.old.pass) (Shares self.new.shards.value self.new.pass) key Swap.Remove [] old.old old.new (record { status = result; reply = reply.new }) }
+    {
+        let tried = self.pass.try_take(&self.shards, key);
+        in_turn!(tried, reply, made => tell::take(made, old, reply))
     }
 
     #[inline(always)]
@@ -117,20 +188,9 @@ impl<const V: usize> ShardSide<V> {
         ensures { SwapMeans V (Shares self.old.shards.value self.old.pass) (Shares self.new.shards.value self.new.pass) key call value.now old.old old.new (record { status = result; reply = reply.new }) }
     {
         match call {
-            Swap::Put => {
-                let tried = self.pass.try_swap(&self.shards, key, array_of::<V>(value));
-                in_turn!(tried, reply, made => tell::swap(made, old, reply))
-            }
-            Swap::PutIf(since) => {
-                let tried = self
-                    .pass
-                    .try_swap_if(&self.shards, key, since, array_of::<V>(value));
-                in_turn!(tried, reply, made => tell::swap_if(made, old, reply))
-            }
-            Swap::Remove => {
-                let tried = self.pass.try_take(&self.shards, key);
-                in_turn!(tried, reply, made => tell::take(made, old, reply))
-            }
+            Swap::Put => self.swap_in(key, value, old, reply),
+            Swap::PutIf(since) => self.swap_if(key, since, value, old, reply),
+            Swap::Remove => self.take(key, old, reply),
         }
     }
 

@@ -1,10 +1,10 @@
 //! A side of a cache, for values of so many words.
 ghost use Rattle.std.specs.Prelude.{◌≡◌, MatchOption, length};
 ghost use Rattle.mc_words.specs.Places.{IsWidth};
-ghost use Rattle.mc_door.specs.Means.{CanWrite, CapacityIs, GetOrDeskTells, GetTells, HasCache, LenIs, MomentIs};
+ghost use Rattle.mc_door.specs.Means.{CanWrite, CapacityIs, GetOrDeskTells, GetTells, HasCache, MomentIs};
 ghost use Rattle.mc_door.specs.Roles.{role_of};
 ghost use Rattle.mc_door.specs.Swaps.{SwapTells};
-ghost use Rattle.mc_door.specs.Writes.{TryTells, WriteTells};
+ghost use Rattle.mc_door.specs.Writes.{WriteTells};
 
 use crate::pass_side::PassSide;
 use crate::reader_side::ReaderSide;
@@ -78,35 +78,36 @@ impl<const V: usize> Side<V> {
         }
     }
 
-    /// `write` of a put, compiled into its caller.
+    /// `write` of a put. That of the writer is compiled into its caller, and shares no registers with those of passes.
     #[inline(always)]
     pub fn put(&mut self, key: u64, value: &[u64], reply: &mut RawReply) -> u32
         ensures { WriteTells V (role_of self.old) (role_of self.new) (self.new ≡ self.old) key Write.Put value.now (record { status = result; reply = reply.new }) }
     {
         match self {
-            Side::Writer(_) if value.len() != V => refused(WIDTH, reply),
-            Side::Writer(side) => side.put(key, value, reply),
-            Side::Reader(_) | Side::Pass(_) | Side::Shard(_) | Side::Nothing => {
-                refused(KIND, reply)
-            }
+            Side::Writer(side) if value.len() == V => side.put(key, value, reply),
+            _ => self.put_of_pass(key, value, reply),
         }
     }
 
-    /// `try_write` of a put, compiled into its caller.
-    #[inline(always)]
-    pub fn try_put(&mut self, key: u64, value: &[u64], reply: &mut RawReply) -> u32
-        ensures { TryTells V (role_of self.old) (role_of self.new) (self.new ≡ self.old) key Write.Put value.now (record { status = result; reply = reply.new }) }
+    #[inline(never)]
+    fn put_of_pass(&mut self, key: u64, value: &[u64], reply: &mut RawReply) -> u32
+        ensures { WriteTells V (role_of self.old) (role_of self.new) (self.new ≡ self.old) key Write.Put value.now (record { status = result; reply = reply.new }) }
     {
         match self {
-            Side::Writer(_) | Side::Reader(_) | Side::Nothing => refused(KIND, reply),
-            _ if value.len() != V => refused(WIDTH, reply),
-            Side::Pass(side) => side.put(key, value, reply),
-            Side::Shard(side) => side.put(key, value, reply),
+            Side::Pass(side) if value.len() == V => side.put(key, value, reply),
+            _ => self.put_of_any(key, value, reply),
         }
     }
 
-    /// A write by the writer.
     #[inline(never)]
+    fn put_of_any(&mut self, key: u64, value: &[u64], reply: &mut RawReply) -> u32
+        ensures { WriteTells V (role_of self.old) (role_of self.new) (self.new ≡ self.old) key Write.Put value.now (record { status = result; reply = reply.new }) }
+    {
+        self.write(key, Write::Put, value, reply)
+    }
+
+    /// A write by the writer, or by a pass, which tries for the turn.
+    #[inline(always)]
     pub(crate) fn write(
         &mut self,
         key: u64,
@@ -117,35 +118,16 @@ impl<const V: usize> Side<V> {
         ensures { WriteTells V (role_of self.old) (role_of self.new) (self.new ≡ self.old) key call value.now (record { status = result; reply = reply.new }) }
     {
         match self {
-            Side::Writer(_) if call.words(value, V) != V => refused(WIDTH, reply),
-            Side::Writer(side) => side.write(key, call, value, reply),
-            Side::Reader(_) | Side::Pass(_) | Side::Shard(_) | Side::Nothing => {
-                refused(KIND, reply)
-            }
-        }
-    }
-
-    /// A write by a pass, which tries for the turn.
-    #[inline(never)]
-    pub(crate) fn try_write(
-        &mut self,
-        key: u64,
-        call: Write,
-        value: &[u64],
-        reply: &mut RawReply,
-    ) -> u32
-        ensures { TryTells V (role_of self.old) (role_of self.new) (self.new ≡ self.old) key call value.now (record { status = result; reply = reply.new }) }
-    {
-        match self {
-            Side::Writer(_) | Side::Reader(_) | Side::Nothing => refused(KIND, reply),
+            Side::Reader(_) | Side::Nothing => refused(KIND, reply),
             _ if call.words(value, V) != V => refused(WIDTH, reply),
+            Side::Writer(side) => side.write(key, call, value, reply),
             Side::Pass(side) => side.write(key, call, value, reply),
             Side::Shard(side) => side.write(key, call, value, reply),
         }
     }
 
     /// A write that also returns the entry which gives way, by the writer or a pass. The old value is written only where one does.
-    #[inline(never)]
+    #[inline(always)]
     pub(crate) fn swap(
         &mut self,
         key: u64,
@@ -211,16 +193,6 @@ impl<const V: usize> Side<V> {
             return None;
         };
         Some(side.writer.moment())
-    }
-
-    /// How many keys the cache holds: `Writer::len`. `None` by another side.
-    pub fn len(&self) -> Option<u64>
-        ensures { MatchOption result (¬ CanWrite (role_of self.now)) (LenIs V (role_of self.now)) }
-    {
-        let Side::Writer(side) = self else {
-            return None;
-        };
-        Some(side.writer.len() as u64)
     }
 
     /// How many keys the cache holds at most, shards all together: `Cache::capacity` or `Shards::capacity`. `None` by no side.

@@ -1,5 +1,5 @@
 //! The writer of a cache, with the cache.
-ghost use Rattle.std.specs.Prelude.{◌≡◌, All, length, IfOk};
+ghost use Rattle.std.specs.Prelude.{◌≡◌, [], All, length, IfOk};
 ghost use Rattle.mc_shared.specs.Records.{IsNewReader};
 ghost use Rattle.mc_cache.specs.Plain.{history, AreEntriesOf};
 
@@ -41,6 +41,44 @@ impl<const V: usize> WriterSide<V> {
         tell::put(made, reply)
     }
 
+    #[inline(never)]
+    fn put_apart(&mut self, key: u64, value: &[u64], reply: &mut RawReply) -> u32
+        requires { length value.now ≡ V }
+        ensures { WriteMeans V (Writes self.old.writer) (Writes self.new.writer) key Write.Put value.now (record { status = result; reply = reply.new }) }
+    {
+        self.put(key, value, reply)
+    }
+
+    #[inline(never)]
+    fn put_if(&mut self, key: u64, since: u64, value: &[u64], reply: &mut RawReply) -> u32
+        requires { length value.now ≡ V }
+        ensures { WriteMeans V (Writes self.old.writer) (Writes self.new.writer) key (Write.PutIf since) value.now (record { status = result; reply = reply.new }) }
+    {
+        let made = self
+            .writer
+            .put_if(&self.cache, key, since, array_of::<V>(value));
+        tell::put_if(made, reply)
+    }
+
+    #[inline(never)]
+    fn put_if_absent(&mut self, key: u64, value: &[u64], reply: &mut RawReply) -> u32
+        requires { length value.now ≡ V }
+        ensures { WriteMeans V (Writes self.old.writer) (Writes self.new.writer) key Write.PutIfAbsent value.now (record { status = result; reply = reply.new }) }
+    {
+        let made = self
+            .writer
+            .put_if_absent(&self.cache, key, array_of::<V>(value));
+        tell::put_if_absent(made, reply)
+    }
+
+    #[inline(never)]
+    fn remove(&mut self, key: u64, reply: &mut RawReply) -> u32
+        ensures { WriteMeans V (Writes self.old.writer) (Writes self.new.writer) key Write.Remove [] (record { status = result; reply = reply.new }) }
+    {
+        let made = self.writer.remove(&self.cache, key);
+        tell::removal(made, reply)
+    }
+
     #[inline(always)]
     pub(crate) fn write(
         &mut self,
@@ -53,22 +91,52 @@ impl<const V: usize> WriterSide<V> {
         ensures { WriteMeans V (Writes self.old.writer) (Writes self.new.writer) key call value.now (record { status = result; reply = reply.new }) }
     {
         match call {
-            Write::Put | Write::PutWithin(_) => self.put(key, value, reply),
-            Write::PutIf(since) => {
-                let value = array_of::<V>(value);
-                let made = self.writer.put_if(&self.cache, key, since, value);
-                tell::put_if(made, reply)
-            }
-            Write::PutIfAbsent => {
-                let value = array_of::<V>(value);
-                let made = self.writer.put_if_absent(&self.cache, key, value);
-                tell::put_if_absent(made, reply)
-            }
-            Write::Remove => {
-                let made = self.writer.remove(&self.cache, key);
-                tell::removal(made, reply)
-            }
+            Write::Put | Write::PutWithin(_) => self.put_apart(key, value, reply),
+            Write::PutIf(since) => self.put_if(key, since, value, reply),
+            Write::PutIfAbsent => self.put_if_absent(key, value, reply),
+            Write::Remove => self.remove(key, reply),
         }
+    }
+
+    #[inline(never)]
+    fn swap_in(&mut self, key: u64, value: &[u64], old: &mut [u64], reply: &mut RawReply) -> u32
+        requires width { IsWidth V }
+        requires value { length value.now ≡ V }
+        requires old { length old.old ≡ V }
+        ensures { SwapMeans V (Writes self.old.writer) (Writes self.new.writer) key Swap.Put value.now old.old old.new (record { status = result; reply = reply.new }) }
+    {
+        let made = self.writer.swap(&self.cache, key, array_of::<V>(value));
+        tell::swap(made, old, reply)
+    }
+
+    #[inline(never)]
+    fn swap_if(
+        &mut self,
+        key: u64,
+        since: u64,
+        value: &[u64],
+        old: &mut [u64],
+        reply: &mut RawReply,
+    ) -> u32
+        requires width { IsWidth V }
+        requires value { length value.now ≡ V }
+        requires old { length old.old ≡ V }
+        ensures { SwapMeans V (Writes self.old.writer) (Writes self.new.writer) key (Swap.PutIf since) value.now old.old old.new (record { status = result; reply = reply.new }) }
+    {
+        let made = self
+            .writer
+            .swap_if(&self.cache, key, since, array_of::<V>(value));
+        tell::swap_if(made, old, reply)
+    }
+
+    #[inline(never)]
+    fn take(&mut self, key: u64, old: &mut [u64], reply: &mut RawReply) -> u32
+        requires width { IsWidth V }
+        requires old { length old.old ≡ V }
+        ensures { SwapMeans V (Writes self.old.writer) (Writes self.new.writer) key Swap.Remove [] old.old old.new (record { status = result; reply = reply.new }) }
+    {
+        let made = self.writer.take(&self.cache, key);
+        tell::take(made, old, reply)
     }
 
     #[inline(always)]
@@ -86,19 +154,9 @@ impl<const V: usize> WriterSide<V> {
         ensures { SwapMeans V (Writes self.old.writer) (Writes self.new.writer) key call value.now old.old old.new (record { status = result; reply = reply.new }) }
     {
         match call {
-            Swap::Put => {
-                let made = self.writer.swap(&self.cache, key, array_of::<V>(value));
-                tell::swap(made, old, reply)
-            }
-            Swap::PutIf(since) => {
-                let value = array_of::<V>(value);
-                let made = self.writer.swap_if(&self.cache, key, since, value);
-                tell::swap_if(made, old, reply)
-            }
-            Swap::Remove => {
-                let made = self.writer.take(&self.cache, key);
-                tell::take(made, old, reply)
-            }
+            Swap::Put => self.swap_in(key, value, old, reply),
+            Swap::PutIf(since) => self.swap_if(key, since, value, old, reply),
+            Swap::Remove => self.take(key, old, reply),
         }
     }
 

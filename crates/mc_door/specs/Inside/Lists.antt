@@ -4,10 +4,9 @@ use Rattle.mc_words.specs.declared.no_memory.NoMemory.{NoMemory}
 use Rattle.mc_cache.specs.declared.desk.DeskError.{DeskError}
 use Rattle.mc_cache.specs.declared.desk.DeskError.TheVariants as desk
 use Rattle.mc_door.specs.Leaving.{IsPass}
-use Rattle.mc_door.specs.Listing.{CanList, SeesMore}
-use Rattle.mc_door.specs.Means.{HasTurns}
+use Rattle.mc_door.specs.Listing.{SeesMore}
+use Rattle.mc_door.specs.Means.{CanChange, ChangesOneTable, HasTurns}
 use Rattle.mc_door.specs.Roles.{Role}
-use Rattle.mc_door.specs.StampedListing.{CanListStamped}
 use Rattle.mc_door.specs.declared.listed.ListError.{ListError}
 use Rattle.mc_door.specs.declared.listed.ListError.TheVariants as why
 
@@ -19,14 +18,14 @@ of_turn (Err (desk.Call e)) = Err why.NoMemory
 
 -- nothing was listed
 abbrev pub RefusesOutright : Role → ListError → Type 0
-RefusesOutright role why.Kind = ¬ CanList role
+RefusesOutright role why.Kind = ¬ CanChange role
 RefusesOutright role why.Held = HasTurns role
 RefusesOutright role (why.Count count) = ⊥
-RefusesOutright role why.NoMemory = CanList role
+RefusesOutright role why.NoMemory = CanChange role
 
 -- and none with its stamp
 abbrev pub RefusesStampedOutright : (V : ℕ) → Role → Role → ListError → Type 0
-RefusesStampedOutright V role role' why.Kind = (¬ CanListStamped role) × (role' ≡ role)
+RefusesStampedOutright V role role' why.Kind = (¬ ChangesOneTable role) × (role' ≡ role)
 RefusesStampedOutright V role role' why.Held = IsPass role × (role' ≡ role)
 RefusesStampedOutright V role role' (why.Count count) = ⊥
-RefusesStampedOutright V role role' why.NoMemory = SeesMore V role role' × CanListStamped role
+RefusesStampedOutright V role role' why.NoMemory = SeesMore V role role' × ChangesOneTable role

@@ -4,7 +4,7 @@ use Rattle.mc_plan.specs.declared.answer.Answer.TheVariants as answer
 use Rattle.mc_plan.specs.declared.answer.PutError.{PutError}
 use Rattle.mc_cache.specs.Turns.{HasTried}
 use Rattle.mc_cache.specs.declared.desk.DeskError.{DeskError}
-use Rattle.mc_door.proofs.pass_side.PassSide.put_within.Goals as goal
+use Rattle.mc_door.proofs.pass_side.PassSide.try_within.Goals as goal
 
 pub loop-preserved : goal.loop-preserved
 loop-preserved g c =

@@ -1,5 +1,5 @@
 use Rattle.std.proofs.Common.{◌≡◌}
-use Rattle.mc_door.proofs.pass_side.PassSide.put_within.Given as goal
+use Rattle.mc_door.proofs.pass_side.PassSide.try_within.Given as goal
 
 abbrev pub invariant-loop : goal.invariant-loop
 invariant-loop g l = record {
