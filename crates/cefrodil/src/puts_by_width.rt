@@ -4,7 +4,7 @@ ghost use Rattle.cefrodil.specs.Calls.{WriteGives};
 ghost use Rattle.cefrodil.specs.Open.{kept};
 
 use crate::slot::{Slot, told_of_handle};
-use mc_door::{Held, RawReply};
+use mc_door::{Held, RawReply, Write};
 
 // Puts by a handle whose values have this width. Another handle goes the way of `cefrodil_put`, which refuses it.
 macro_rules! put_at {
