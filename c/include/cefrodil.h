@@ -386,34 +386,40 @@ CEFRODIL_CHECKED CEFRODIL_NO_NULL cefrodil_status cefrodil_try_put_8(cefrodil_ha
 }
 #endif
 
+/* CEFRODIL_INLINE: how this header defines a function. In C++ it is one function in all files of a program, so inline functions of other headers
+ * may call it. CEFRODIL_INLINED: the same, compiled into the caller; these pointers are not null. CEFRODIL_KNOWN: whether the compiler knows
+ * this number there. */
+#ifdef __cplusplus
+#define CEFRODIL_INLINE inline
+#else
+#define CEFRODIL_INLINE static inline
+#endif
+#if defined(__GNUC__)
+#define CEFRODIL_INLINED(pointers) CEFRODIL_INLINE __attribute__((always_inline, pointers))
+#define CEFRODIL_KNOWN(number) __builtin_constant_p(number)
+#else
+#define CEFRODIL_INLINED(pointers) CEFRODIL_INLINE
+#define CEFRODIL_KNOWN(number) 0
+#endif
+
 /* An empty handle, as CEFRODIL_EMPTY. */
-static inline cefrodil_handle cefrodil_empty(void) {
+CEFRODIL_INLINE cefrodil_handle cefrodil_empty(void) {
     const cefrodil_handle empty = CEFRODIL_EMPTY;
     return empty;
 }
 
 /* Moves a handle: returns it, and leaves the old place empty. */
-CEFRODIL_CHECKED static inline cefrodil_handle cefrodil_take(cefrodil_handle *from) {
+CEFRODIL_CHECKED CEFRODIL_INLINE cefrodil_handle cefrodil_take(cefrodil_handle *from) {
     const cefrodil_handle taken = *from;
     *from = cefrodil_empty();
     return taken;
 }
 
-/* CEFRODIL_KNOWN: whether the compiler knows this number here. CEFRODIL_INLINE: compiled into the caller, where it may be known; these
- * pointers are not null. */
-#if defined(__GNUC__)
-#define CEFRODIL_INLINE(pointers) static inline __attribute__((always_inline, pointers))
-#define CEFRODIL_KNOWN(number) __builtin_constant_p(number)
-#else
-#define CEFRODIL_INLINE(pointers) static inline
-#define CEFRODIL_KNOWN(number) 0
-#endif
-
 /* The exports take no null pointer. The functions from here on take one where that is allowed, and four of them call the export for
  * the width of a value where that is a constant. The macros behind them give them the names of the exports. A program that defines
  * CEFRODIL_NO_MACROS goes without these: then no pointer may be null, and cefrodil_get_of_width and so on are called by their own names. */
-CEFRODIL_CHECKED CEFRODIL_INLINE(nonnull(1, 3)) cefrodil_status cefrodil_get_of_width(cefrodil_handle *reader, uint64_t key, uint64_t *value,
-                                                                                      size_t words, cefrodil_reply *reply) {
+CEFRODIL_CHECKED CEFRODIL_INLINED(nonnull(1, 3)) cefrodil_status cefrodil_get_of_width(cefrodil_handle *reader, uint64_t key, uint64_t *value,
+                                                                                       size_t words, cefrodil_reply *reply) {
     cefrodil_reply unread;
     cefrodil_reply *const told = reply ? reply : &unread;
     switch (CEFRODIL_KNOWN(words) ? words : 0) {
@@ -429,8 +435,8 @@ CEFRODIL_CHECKED CEFRODIL_INLINE(nonnull(1, 3)) cefrodil_status cefrodil_get_of_
     }
 }
 
-CEFRODIL_INLINE(nonnull) cefrodil_status cefrodil_put_of_width(cefrodil_handle *writer, uint64_t key, const uint64_t *value, size_t words,
-                                                               cefrodil_reply *reply) {
+CEFRODIL_INLINED(nonnull) cefrodil_status cefrodil_put_of_width(cefrodil_handle *writer, uint64_t key, const uint64_t *value, size_t words,
+                                                                cefrodil_reply *reply) {
     switch (CEFRODIL_KNOWN(words) ? words : 0) {
     case 1: return cefrodil_put_1(writer, key, value, reply);
     case 2: return cefrodil_put_2(writer, key, value, reply);
@@ -444,8 +450,8 @@ CEFRODIL_INLINE(nonnull) cefrodil_status cefrodil_put_of_width(cefrodil_handle *
     }
 }
 
-CEFRODIL_CHECKED CEFRODIL_INLINE(nonnull) cefrodil_status cefrodil_get_or_desk_of_width(cefrodil_handle *pass, uint64_t key, uint64_t *value,
-                                                                                        size_t words, cefrodil_reply *reply) {
+CEFRODIL_CHECKED CEFRODIL_INLINED(nonnull) cefrodil_status cefrodil_get_or_desk_of_width(cefrodil_handle *pass, uint64_t key, uint64_t *value,
+                                                                                         size_t words, cefrodil_reply *reply) {
     switch (CEFRODIL_KNOWN(words) ? words : 0) {
     case 1: return cefrodil_get_or_desk_1(pass, key, value, reply);
     case 2: return cefrodil_get_or_desk_2(pass, key, value, reply);
@@ -459,9 +465,9 @@ CEFRODIL_CHECKED CEFRODIL_INLINE(nonnull) cefrodil_status cefrodil_get_or_desk_o
     }
 }
 
-CEFRODIL_CHECKED CEFRODIL_INLINE(nonnull) cefrodil_status cefrodil_try_put_of_width(cefrodil_handle *pass, uint64_t key,
-                                                                                    const uint64_t *value, size_t words,
-                                                                                    cefrodil_reply *reply) {
+CEFRODIL_CHECKED CEFRODIL_INLINED(nonnull) cefrodil_status cefrodil_try_put_of_width(cefrodil_handle *pass, uint64_t key,
+                                                                                     const uint64_t *value, size_t words,
+                                                                                     cefrodil_reply *reply) {
     switch (CEFRODIL_KNOWN(words) ? words : 0) {
     case 1: return cefrodil_try_put_1(pass, key, value, reply);
     case 2: return cefrodil_try_put_2(pass, key, value, reply);
@@ -475,23 +481,23 @@ CEFRODIL_CHECKED CEFRODIL_INLINE(nonnull) cefrodil_status cefrodil_try_put_of_wi
     }
 }
 
-static inline cefrodil_status cefrodil_close_unless_null(cefrodil_handle *handle) {
+CEFRODIL_INLINE cefrodil_status cefrodil_close_unless_null(cefrodil_handle *handle) {
     return handle ? cefrodil_close(handle) : CEFRODIL_CLOSED;
 }
 
-CEFRODIL_CHECKED static inline cefrodil_status cefrodil_open_with_or_none(const cefrodil_shape *shape, size_t words, const uint64_t *entries,
-                                                                          size_t entry_words, uint32_t *statuses, size_t status_count,
-                                                                          cefrodil_handle *writer, cefrodil_handle *readers,
-                                                                          size_t reader_count) {
+CEFRODIL_CHECKED CEFRODIL_INLINE cefrodil_status cefrodil_open_with_or_none(const cefrodil_shape *shape, size_t words, const uint64_t *entries,
+                                                                            size_t entry_words, uint32_t *statuses, size_t status_count,
+                                                                            cefrodil_handle *writer, cefrodil_handle *readers,
+                                                                            size_t reader_count) {
     uint64_t no_entry = 0;
     uint32_t no_status = 0;
     return cefrodil_open_with(shape, words, entry_words != 0 ? entries : &no_entry, entry_words, status_count != 0 ? statuses : &no_status,
                               status_count, writer, readers, reader_count);
 }
 
-CEFRODIL_CHECKED static inline cefrodil_status cefrodil_get_many_or_none(cefrodil_handle *reader, const uint64_t *keys, size_t key_count,
-                                                                         uint64_t *values, size_t value_words, cefrodil_answer *answers,
-                                                                         size_t answer_count) {
+CEFRODIL_CHECKED CEFRODIL_INLINE cefrodil_status cefrodil_get_many_or_none(cefrodil_handle *reader, const uint64_t *keys, size_t key_count,
+                                                                           uint64_t *values, size_t value_words, cefrodil_answer *answers,
+                                                                           size_t answer_count) {
     uint64_t no_key = 0, no_value = 0;
     cefrodil_answer no_answer;
     return cefrodil_get_many(reader, key_count != 0 ? keys : &no_key, key_count, value_words != 0 ? values : &no_value, value_words,
@@ -499,7 +505,7 @@ CEFRODIL_CHECKED static inline cefrodil_status cefrodil_get_many_or_none(cefrodi
 }
 
 /* Counts the entries for a list that has no room, by the writer or a pass of a desk, and makes no list. KIND: by another handle. */
-CEFRODIL_CHECKED static inline cefrodil_status cefrodil_list_without_room(cefrodil_handle *handle, uint64_t *count) {
+CEFRODIL_CHECKED CEFRODIL_INLINE cefrodil_status cefrodil_list_without_room(cefrodil_handle *handle, uint64_t *count) {
     cefrodil_status status = cefrodil_len(handle, count);
     if (status == CEFRODIL_KIND) {
         status = cefrodil_try_len(handle, count);
@@ -507,8 +513,8 @@ CEFRODIL_CHECKED static inline cefrodil_status cefrodil_list_without_room(cefrod
     return status == CEFRODIL_OK && *count != 0 ? CEFRODIL_BAD_COUNT : status;
 }
 
-CEFRODIL_CHECKED static inline cefrodil_status cefrodil_entries_or_none(cefrodil_handle *handle, uint64_t *entries, size_t entry_words,
-                                                                        uint64_t *count) {
+CEFRODIL_CHECKED CEFRODIL_INLINE cefrodil_status cefrodil_entries_or_none(cefrodil_handle *handle, uint64_t *entries, size_t entry_words,
+                                                                          uint64_t *count) {
     uint64_t no_entry = 0;
     if (entry_words == 0) {
         cefrodil_status status = cefrodil_list_without_room(handle, count);
@@ -519,8 +525,8 @@ CEFRODIL_CHECKED static inline cefrodil_status cefrodil_entries_or_none(cefrodil
     return cefrodil_entries(handle, entry_words != 0 ? entries : &no_entry, entry_words, count);
 }
 
-CEFRODIL_CHECKED static inline cefrodil_status cefrodil_stamped_entries_or_none(cefrodil_handle *handle, uint64_t *entries,
-                                                                                size_t entry_words, uint64_t *count) {
+CEFRODIL_CHECKED CEFRODIL_INLINE cefrodil_status cefrodil_stamped_entries_or_none(cefrodil_handle *handle, uint64_t *entries,
+                                                                                  size_t entry_words, uint64_t *count) {
     uint64_t no_entry = 0;
     if (entry_words == 0) {
         cefrodil_status status = cefrodil_list_without_room(handle, count);
@@ -544,7 +550,7 @@ CEFRODIL_CHECKED static inline cefrodil_status cefrodil_stamped_entries_or_none(
 #endif
 
 /* The text of a status. Both libraries have it as a call of this name, too. */
-static inline const char *cefrodil_text(uint32_t status) {
+CEFRODIL_INLINE const char *cefrodil_text(uint32_t status) {
     switch (status) {
     case CEFRODIL_OK: return "ok";
     case CEFRODIL_ABSENT: return "absent";

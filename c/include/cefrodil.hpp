@@ -110,12 +110,12 @@ template <size_t Words> class Pass : public Lookups<Words> {
     [[nodiscard]] Answer<Words> get_or_desk(uint64_t key) noexcept {
         cefrodil_reply reply;
         Value value;
-        const cefrodil_status status = cefrodil_get_or_desk(this->raw(), key, value.data(), Words, &reply);
+        const cefrodil_status status = cefrodil_get_or_desk_of_width(this->raw(), key, value.data(), Words, &reply);
         return this->template looked<Words>(status, reply, value);
     }
     [[nodiscard]] Written try_put(uint64_t key, const Value &value) noexcept {
         cefrodil_reply reply;
-        const cefrodil_status status = cefrodil_try_put(this->raw(), key, value.data(), Words, &reply);
+        const cefrodil_status status = cefrodil_try_put_of_width(this->raw(), key, value.data(), Words, &reply);
         return this->wrote(status, reply);
     }
     [[nodiscard]] Written put_within(uint32_t tries, uint64_t key, const Value &value) noexcept {

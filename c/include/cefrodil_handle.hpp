@@ -137,7 +137,7 @@ class Handle {
     // Closes the handle now. Closing the last handle frees the cache. Until then, the others go on.
     Status close() noexcept {
         counter_ = inside::Counter();
-        return static_cast<Status>(cefrodil_close(&raw_));
+        return static_cast<Status>(cefrodil_close_unless_null(&raw_));
     }
     // The handle for calls of cefrodil.h. These calls are not counted.
     cefrodil_handle *raw() noexcept { return &raw_; }
@@ -150,7 +150,7 @@ class Handle {
     Handle(Handle &&other) noexcept : raw_(std::exchange(other.raw_, cefrodil_handle{})), counter_(std::move(other.counter_)) {}
     Handle &operator=(Handle &&other) noexcept {
         if (this != &other) {
-            cefrodil_close(&raw_);
+            cefrodil_close_unless_null(&raw_);
             raw_ = std::exchange(other.raw_, cefrodil_handle{});
             counter_ = std::move(other.counter_);
         }
@@ -158,7 +158,7 @@ class Handle {
     }
     Handle(const Handle &) = delete;
     Handle &operator=(const Handle &) = delete;
-    ~Handle() { cefrodil_close(&raw_); }
+    ~Handle() { cefrodil_close_unless_null(&raw_); }
 
     // Moves this handle to an empty one, of another kind.
     void move_to(Handle &other) noexcept { other = std::move(*this); }
