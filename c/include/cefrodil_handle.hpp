@@ -9,6 +9,7 @@
 #include <cstdint>
 #include <cstdio>
 #include <memory>
+#include <new>
 #include <optional>
 #include <utility>
 #include <vector>
@@ -66,6 +67,20 @@ inline const char *versions() noexcept {
         return text;
     }();
     return both.data();
+}
+
+// Whether there was memory for what `grow` takes. In a program without exceptions it ends the program if there was not.
+template <class Grow> [[nodiscard]] bool has_memory(Grow grow) noexcept {
+#ifdef __cpp_exceptions
+    try {
+        grow();
+    } catch (const std::bad_alloc &) {
+        return false;
+    }
+#else
+    grow();
+#endif
+    return true;
 }
 
 } // namespace inside
@@ -207,11 +222,13 @@ class Handle {
     }
 
     // Lists entries of `each` words by one call of C. `most`: gives how many there are at most, so that they all have room.
-    template <class Most, class List> [[nodiscard]] Status list(size_t each, std::vector<uint64_t> &words, Most most, List call) {
+    template <class Most, class List> [[nodiscard]] Status list(size_t each, std::vector<uint64_t> &words, Most most, List call) noexcept {
         uint64_t count = 0;
         Status status = static_cast<Status>(most(&raw_, &count));
+        if (status == Status::ok && !inside::has_memory([&] { words.resize(count * each); })) {
+            status = Status::no_memory;
+        }
         if (status == Status::ok) {
-            words.resize(count * each);
             status = tried(call(&raw_, words.data(), words.size(), &count));
         }
         words.resize(status == Status::ok ? count * each : 0);
@@ -235,14 +252,22 @@ struct Counting {
 inline size_t allowed(size_t count) noexcept { return count <= 1024 ? count : 0; }
 
 // Opens `count` handles by a call of C, which takes an array of them. If it succeeds, they take the place of `handles`. All memory is taken
-// before the call: `lines` has a line for each. An archive of another version is not called.
-template <class Kind, class Open>
-[[nodiscard]] Status open_all(std::vector<Kind> &handles, size_t count, const std::shared_ptr<Lines> &lines, Open open) {
+// before the call: what `grow` takes, too. After it `lines` has a line for each handle. An archive of another version is not called.
+template <class Kind, class Grow, class Open>
+[[nodiscard]] Status open_all(std::vector<Kind> &handles, size_t count, const std::shared_ptr<Lines> &lines, Grow grow, Open open) noexcept {
     if (!same_version()) {
         return Status::other_version;
     }
-    std::vector<cefrodil_handle> raw(count != 0 ? count : 1);
-    std::vector<Kind> opened(count);
+    std::vector<cefrodil_handle> raw;
+    std::vector<Kind> opened;
+    const auto take_all = [&] {
+        raw.resize(count != 0 ? count : 1);
+        opened.resize(count);
+        grow();
+    };
+    if (!has_memory(take_all)) {
+        return Status::no_memory;
+    }
     const auto status = static_cast<Status>(open(raw.data(), count));
     if (status == Status::ok) {
         for (size_t i = 0; i < count; i++) {
