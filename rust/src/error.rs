@@ -1,6 +1,7 @@
 //! Why a call failed.
 use crate::cache::{Reader, Writer};
 use crate::desk::Desk;
+use crate::memory::NoMemory;
 use crate::raw;
 use std::error::Error;
 use std::fmt::{self, Display, Formatter};
@@ -33,7 +34,7 @@ pub enum OpenError {
     Limit,
     /// There must be 1 to 1024 readers, or passes; for a new desk, no more than the cache has to spare.
     Readers,
-    /// Out of memory.
+    /// Out of memory. If the crate finds none for its own lists, only [`OpenError::Version`] comes before it.
     NoMemory,
 }
 
@@ -161,6 +162,18 @@ impl OpenError {
             // The width is from 1 to 8 by the type, the mix by its own, and the handles were empty.
             other => unreachable!("an opening gives no status {other}"),
         }
+    }
+}
+
+impl From<NoMemory> for OpenError {
+    fn from(_: NoMemory) -> OpenError {
+        OpenError::NoMemory
+    }
+}
+
+impl From<NoMemory> for TurnError<ListError> {
+    fn from(_: NoMemory) -> TurnError<ListError> {
+        TurnError::Call(ListError::NoMemory)
     }
 }
 
