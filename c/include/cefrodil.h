@@ -1,7 +1,8 @@
 /*
  * Cefrodil: a fixed-size in-memory cache from 64-bit keys to values of 1 to 8 64-bit words. One writer changes it. Many
  * readers look up without a lock. The library behind these calls is proved; docs/PROMISES.md of its repository says
- * exactly what. It runs on Linux on x86-64-v2.
+ * exactly what. It runs on Linux on x86-64-v2. On an older processor each opening, and each choice of a shape, returns
+ * CEFRODIL_PROCESSOR and does nothing.
  *
  * What you promise at every call, because no proof can check it:
  *
@@ -154,7 +155,8 @@ typedef enum cefrodil_status {
     CEFRODIL_NO_ITEM = 23,     /* every item is in use */
     CEFRODIL_BAD_SHARDS = 24,  /* the number of shards must be a power of two, 1 to 256 */
     CEFRODIL_PRESENT = 25,     /* the key is there; its last put was at `since` */
-    CEFRODIL_NOT_LAST = 26     /* other passes are at the desk */
+    CEFRODIL_NOT_LAST = 26,    /* other passes are at the desk */
+    CEFRODIL_PROCESSOR = 27    /* the processor is older than x86-64-v2: it can run no cache */
 } cefrodil_status;
 
 CEFRODIL_SAME_SIZE(sizeof(cefrodil_status) == 4, "as the library returns it: compile without -fshort-enums");
@@ -579,6 +581,7 @@ CEFRODIL_INLINE const char *cefrodil_text(uint32_t status) {
     case CEFRODIL_BAD_SHARDS: return "shards must be a power of two from 1 to 256";
     case CEFRODIL_PRESENT: return "present";
     case CEFRODIL_NOT_LAST: return "other passes are at the desk";
+    case CEFRODIL_PROCESSOR: return "the processor is older than x86-64-v2";
     default: return "no status";
     }
 }

@@ -174,7 +174,8 @@ template <size_t Words> class Pass : public Lookups<Words> {
     }
 };
 
-// The shape for so many items, or none if that is out of range, or the archive is of another version (Status::other_version).
+// The shape for so many items, or none if that is out of range. Where no cache can be opened there is none, either: over an archive of another
+// version (Status::other_version), and on a processor that is too old (Status::processor).
 [[nodiscard]] inline std::optional<cefrodil_shape> shape_for_items(uint32_t items) noexcept {
     cefrodil_shape shape{};
     if (!inside::same_version() || cefrodil_shape_for_items(items, &shape) != CEFRODIL_OK) {

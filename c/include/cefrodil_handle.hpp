@@ -46,6 +46,7 @@ enum class Status : uint32_t {
     bad_shards = CEFRODIL_BAD_SHARDS,
     present = CEFRODIL_PRESENT,
     not_last = CEFRODIL_NOT_LAST,
+    processor = CEFRODIL_PROCESSOR,
     // The program is linked with an archive of another version, whose structs and calls may differ. Nothing was done.
     other_version = 1000,
     // By Filler::fill alone (cefrodil_filler.hpp): the store may have changed since the value was read. Nothing was put.

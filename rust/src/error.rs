@@ -18,6 +18,8 @@ pub enum OpenError {
         /// The version of this crate.
         crate_version: u32,
     },
+    /// The processor is older than x86-64-v2: it can run no cache.
+    Processor,
     /// The number of shards must be a power of two, 1 to 256.
     Shards,
     /// `buckets` of the shape is out of range.
@@ -150,6 +152,7 @@ pub enum TurnError<E> {
 impl OpenError {
     pub(crate) fn of(status: u32) -> OpenError {
         match status {
+            raw::PROCESSOR => OpenError::Processor,
             raw::BAD_SHARDS => OpenError::Shards,
             raw::BAD_BUCKETS => OpenError::Buckets,
             raw::BAD_ITEMS => OpenError::Items,
@@ -200,6 +203,7 @@ impl Display for OpenError {
             OpenError::Version { archive, crate_version } => {
                 return write!(text, "libcefrodil.a has version {}, and the crate {}", dotted(archive), dotted(crate_version));
             }
+            OpenError::Processor => "the processor is older than x86-64-v2",
             OpenError::Shards => "shards must be a power of two from 1 to 256",
             OpenError::Buckets => "buckets must be a power of two from 2 to 1048576",
             OpenError::Items => "items must be from 1 to four times the buckets",

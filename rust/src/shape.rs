@@ -38,7 +38,7 @@ impl Shape {
     ///
     /// # Errors
     ///
-    /// [`OpenError::Items`] if the number is out of range. [`OpenError::Version`] if the archive is of another version.
+    /// [`OpenError::Items`] if the number is out of range. [`OpenError::Version`] or [`OpenError::Processor`] if no cache can be opened.
     ///
     /// # Examples
     ///
@@ -66,7 +66,7 @@ impl Shape {
     /// # Errors
     ///
     /// [`OpenError::Shards`] if the number of shards is no power of two from 1 to 256. [`OpenError::Items`] if there are no
-    /// items, or too many for a shard. [`OpenError::Version`] if the archive is of another version.
+    /// items, or too many for a shard. [`OpenError::Version`] or [`OpenError::Processor`] if no cache can be opened.
     ///
     /// # Examples
     ///
