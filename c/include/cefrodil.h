@@ -83,10 +83,10 @@ typedef struct cefrodil_handle {
 
 /* The sizes of a table and the limits of its calls. cefrodil_shape_for_items fills one in. */
 typedef struct cefrodil_shape {
-    uint64_t limit;   /* most version changes, 0 to 2^62 */
+    uint64_t limit;   /* most version changes in the table's life, 0 to 2^62; each write makes at least two */
     uint32_t buckets; /* a power of two, 2 to 2^20; each bucket has four slots */
     uint32_t items;   /* most keys, 1 to four times the buckets; keep it below nine tenths of that */
-    uint32_t stripes; /* number of version counters, a power of two, 1 to 2^16 */
+    uint32_t stripes; /* number of version counters, a power of two, 1 to 2^16; the keys that share one are a stripe */
     uint32_t depth;   /* most keys that one put may move, 0 to 8 */
     uint32_t tries;   /* most tries of one lookup, 1 to 64 */
     uint32_t mix;     /* CEFRODIL_MIX_FULL or CEFRODIL_MIX_NONE */
@@ -132,9 +132,10 @@ typedef enum cefrodil_status {
     CEFRODIL_OK = 0,          /* done: found, put, removed, opened or closed */
     CEFRODIL_ABSENT = 1,      /* the key is not there */
     CEFRODIL_BUSY = 2,        /* the writer spoiled every try of the lookup; says nothing about the table */
-    CEFRODIL_NO_PATH = 3,     /* no path of displacements leads to an empty slot */
-    CEFRODIL_ALL_RECENT = 4,  /* every item was used since it was last considered for eviction; recency bits changed */
-    CEFRODIL_SPENT = 5,       /* the limit on version changes could be exceeded */
+    CEFRODIL_NO_PATH = 3,     /* both buckets of the key are full, and no moves of up to `depth` keys free a slot; if frequent, take more buckets */
+    CEFRODIL_ALL_RECENT = 4,  /* the table is full, and a key to evict was not found: the put looked at each item twice, and lookups had used it
+                               * again. Put again, or leave the key uncached. Frequent only if the items are few; only recency bits changed */
+    CEFRODIL_SPENT = 5,       /* the write could exceed the `limit` of the shape: open a new cache. 2^62 takes centuries */
     CEFRODIL_CHANGED = 6,     /* the key's last put was another one, at `since` */
     CEFRODIL_HELD = 7,        /* the try for the turn did not win; nothing was done */
     CEFRODIL_CLOSED = 8,      /* the handle is not open */
@@ -187,7 +188,8 @@ CEFRODIL_CHECKED CEFRODIL_NO_NULL cefrodil_status cefrodil_open_with(const cefro
                                                                      size_t reader_count);
 
 /* Opens a cache for threads that write by turns. Each of `pass_count` handles becomes a pass: it looks up like a reader, and
- * tries for the turn to write. Returns the statuses of cefrodil_open. */
+ * tries for the turn to write: for the lock around the cache's writer, for one call. A try never waits. Returns the statuses of
+ * cefrodil_open. */
 CEFRODIL_CHECKED CEFRODIL_NO_NULL cefrodil_status cefrodil_open_desk(const cefrodil_shape *shape, size_t words, cefrodil_handle *passes,
                                                                      size_t pass_count);
 
@@ -214,7 +216,7 @@ CEFRODIL_CHECKED CEFRODIL_NO_NULL cefrodil_status cefrodil_open_shards(const cef
 
 /* Looks a key up, by any handle. By the writer it is never busy.
  * OK: `value`, `at` and `since` are set. ABSENT: `at` is set. BUSY: ask again, or treat it as a miss. If the writer
- * stops in the middle of a change, lookups in that stripe are busy until it goes on.
+ * stops in the middle of a change, lookups in the stripe that it changes are busy until it goes on.
  * CLOSED, WIDTH. `value` is written only with OK. `reply` may be null. */
 CEFRODIL_CHECKED CEFRODIL_NO_NULL cefrodil_status cefrodil_get(cefrodil_handle *reader, uint64_t key, uint64_t *value, size_t words,
                                                                cefrodil_reply *reply);
@@ -227,14 +229,14 @@ CEFRODIL_CHECKED CEFRODIL_NO_NULL cefrodil_status cefrodil_get_many(cefrodil_han
                                                                     uint64_t *values, size_t value_words, cefrodil_answer *answers,
                                                                     size_t answer_count);
 
-/* Like cefrodil_get, by a pass. If the lookup is busy, it tries once for the turn; with the turn, it looks up beside the writer
- * and is never busy. BUSY: that try did not win either. */
+/* Like cefrodil_get, by a pass. If the lookup is busy, it tries once for the turn. With the turn nothing disturbs the lookup, so it is
+ * not busy. BUSY: that try did not win. */
 CEFRODIL_CHECKED CEFRODIL_NO_NULL cefrodil_status cefrodil_get_or_desk(cefrodil_handle *pass, uint64_t key, uint64_t *value, size_t words,
                                                                        cefrodil_reply *reply);
 
 /* Puts a key with this value, by the writer. A new key evicts another one if the table is full: its `len` is its `capacity`.
- * OK: `at`, `put` and `moves` are set, and with PUT_EVICTED `evicted`. NO_PATH, ALL_RECENT or SPENT: the key was not put.
- * CLOSED, KIND, WIDTH. */
+ * OK: `at`, `put` and `moves` are set, and with PUT_EVICTED `evicted`. NO_PATH or ALL_RECENT: the key is absent, and was not put. SPENT: it
+ * was not put, and an earlier value stays. CLOSED, KIND, WIDTH. */
 CEFRODIL_NO_NULL cefrodil_status cefrodil_put(cefrodil_handle *writer, uint64_t key, const uint64_t *value, size_t words,
                                               cefrodil_reply *reply);
 
@@ -271,8 +273,9 @@ CEFRODIL_CHECKED CEFRODIL_NO_NULL cefrodil_status cefrodil_put_within(cefrodil_h
 /* Like cefrodil_put, cefrodil_put_if and cefrodil_remove, and they also return the entry that gives way: the key's earlier one, or that
  * of the key that was evicted. So a program that keeps objects behind the cache knows which to free. By the writer; or by a pass,
  * which tries once for the turn. `former` has `former_words` words.
- * OK: as for cefrodil_put, cefrodil_put_if and cefrodil_remove. If an entry gave way, `former` is its value, and `since` the `at` of its last put. If a new key evicted none,
- * `former` is unchanged, and `since` is 0. HELD: the try of a pass did not win. WIDTH: `words` or `former_words` does not match.
+ * OK: as for cefrodil_put, cefrodil_put_if and cefrodil_remove. If an entry gave way, `former` is its value, and `since` the `at` of its last
+ * put. If a new key evicted none, `former` is unchanged, and `since` is 0. HELD: the try of a pass did not win. WIDTH: `words` or
+ * `former_words` does not match.
  * Other statuses are theirs. Unless OK, `former` is unchanged. */
 CEFRODIL_CHECKED CEFRODIL_NO_NULL cefrodil_status cefrodil_swap(cefrodil_handle *handle, uint64_t key, const uint64_t *value, size_t words,
                                                                 uint64_t *former, size_t former_words, cefrodil_reply *reply);
@@ -306,8 +309,8 @@ CEFRODIL_CHECKED CEFRODIL_NO_NULL cefrodil_status cefrodil_try_len(cefrodil_hand
 
 /* Lists each key with its value, by the writer or a pass. A pass tries once for the turn, and a pass of shards once for that of each
  * shard, so it lists each shard at a moment of its own. An entry is its key, then the words of its value, as cefrodil_open_with
- * takes it. Readers may go on meanwhile. This call takes memory for the whole list, and frees it. If `entry_words` is 0, this header makes
- * a list only for a pass of shards; the export makes one.
+ * takes it. Readers may go on meanwhile. This call takes memory for the whole list, and frees it. To ask for the number of entries, pass 0
+ * as `entry_words`: that takes no memory by the writer or a pass of a desk.
  * OK: the first `count` entries of `entries` are written. BAD_COUNT: there are `count` entries, and `entry_words` is less than
  * `count` times (1 + the words of a value). HELD: a try did not win. CLOSED, KIND, NO_MEMORY. Unless OK, `entries` is unchanged. With
  * other statuses than OK and BAD_COUNT, `count` is unchanged too. */

@@ -44,11 +44,12 @@ pub enum OpenError {
 #[derive(Clone, Copy, Debug, PartialEq, Eq, Hash)]
 #[non_exhaustive]
 pub enum PutError {
-    /// No path of displacements leads to an empty slot.
+    /// Both buckets of the key are full, and no moves of up to `depth` keys free a slot. If it is frequent, take more buckets.
     NoPath,
-    /// Every item was used since it was last considered for eviction.
+    /// The cache is full, and a key to evict was not found: the put looked at each item twice, and lookups had used it again. Put again, or
+    /// leave the key uncached. It is frequent only if the items are few.
     AllRecent,
-    /// The limit on version changes could be exceeded.
+    /// The put could exceed the `limit` of the shape. An earlier value stays. Open a new cache: a limit of 2^62 takes centuries.
     Spent,
 }
 
@@ -87,7 +88,7 @@ pub enum PutIfAbsentError {
 #[derive(Clone, Copy, Debug, PartialEq, Eq, Hash)]
 #[non_exhaustive]
 pub enum Why {
-    /// No path of displacements leads to an empty slot.
+    /// Both buckets of the key are full, and no moves of up to `depth` keys free a slot.
     NoPath,
     /// Every item is in use.
     NoItem,
