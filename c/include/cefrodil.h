@@ -1,7 +1,8 @@
 /*
  * Cefrodil: a fixed-size in-memory cache from 64-bit keys to values of 1 to 8 64-bit words. One writer changes it. Many
  * readers look up without a lock. The library behind these calls is proved; docs/PROMISES.md of its repository says
- * exactly what. It runs on Linux on x86-64-v2.
+ * exactly what. It runs on Linux on x86-64-v2. On an older processor each opening, and each choice of a shape, returns
+ * CEFRODIL_PROCESSOR and does nothing.
  *
  * What you promise at every call, because no proof can check it:
  *
@@ -82,10 +83,10 @@ typedef struct cefrodil_handle {
 
 /* The sizes of a table and the limits of its calls. cefrodil_shape_for_items fills one in. */
 typedef struct cefrodil_shape {
-    uint64_t limit;   /* most version changes, 0 to 2^62 */
+    uint64_t limit;   /* most version changes in the table's life, 0 to 2^62; each write makes at least two */
     uint32_t buckets; /* a power of two, 2 to 2^20; each bucket has four slots */
     uint32_t items;   /* most keys, 1 to four times the buckets; keep it below nine tenths of that */
-    uint32_t stripes; /* number of version counters, a power of two, 1 to 2^16 */
+    uint32_t stripes; /* number of version counters, a power of two, 1 to 2^16; the keys that share one are a stripe */
     uint32_t depth;   /* most keys that one put may move, 0 to 8 */
     uint32_t tries;   /* most tries of one lookup, 1 to 64 */
     uint32_t mix;     /* CEFRODIL_MIX_FULL or CEFRODIL_MIX_NONE */
@@ -131,9 +132,10 @@ typedef enum cefrodil_status {
     CEFRODIL_OK = 0,          /* done: found, put, removed, opened or closed */
     CEFRODIL_ABSENT = 1,      /* the key is not there */
     CEFRODIL_BUSY = 2,        /* the writer spoiled every try of the lookup; says nothing about the table */
-    CEFRODIL_NO_PATH = 3,     /* no path of displacements leads to an empty slot */
-    CEFRODIL_ALL_RECENT = 4,  /* every item was used since it was last considered for eviction; recency bits changed */
-    CEFRODIL_SPENT = 5,       /* the limit on version changes could be exceeded */
+    CEFRODIL_NO_PATH = 3,     /* both buckets of the key are full, and no moves of up to `depth` keys free a slot; if frequent, take more buckets */
+    CEFRODIL_ALL_RECENT = 4,  /* the table is full, and a key to evict was not found: the put looked at each item twice, and lookups had used it
+                               * again. Put again, or leave the key uncached. Frequent only if the items are few; only recency bits changed */
+    CEFRODIL_SPENT = 5,       /* the write could exceed the `limit` of the shape: open a new cache. 2^62 takes centuries */
     CEFRODIL_CHANGED = 6,     /* the key's last put was another one, at `since` */
     CEFRODIL_HELD = 7,        /* the try for the turn did not win; nothing was done */
     CEFRODIL_CLOSED = 8,      /* the handle is not open */
@@ -154,7 +156,8 @@ typedef enum cefrodil_status {
     CEFRODIL_NO_ITEM = 23,     /* every item is in use */
     CEFRODIL_BAD_SHARDS = 24,  /* the number of shards must be a power of two, 1 to 256 */
     CEFRODIL_PRESENT = 25,     /* the key is there; its last put was at `since` */
-    CEFRODIL_NOT_LAST = 26     /* other passes are at the desk */
+    CEFRODIL_NOT_LAST = 26,    /* other passes are at the desk */
+    CEFRODIL_PROCESSOR = 27    /* the processor is older than x86-64-v2: it can run no cache */
 } cefrodil_status;
 
 CEFRODIL_SAME_SIZE(sizeof(cefrodil_status) == 4, "as the library returns it: compile without -fshort-enums");
@@ -185,7 +188,8 @@ CEFRODIL_CHECKED CEFRODIL_NO_NULL cefrodil_status cefrodil_open_with(const cefro
                                                                      size_t reader_count);
 
 /* Opens a cache for threads that write by turns. Each of `pass_count` handles becomes a pass: it looks up like a reader, and
- * tries for the turn to write. Returns the statuses of cefrodil_open. */
+ * tries for the turn to write: for the lock around the cache's writer, for one call. A try never waits. Returns the statuses of
+ * cefrodil_open. */
 CEFRODIL_CHECKED CEFRODIL_NO_NULL cefrodil_status cefrodil_open_desk(const cefrodil_shape *shape, size_t words, cefrodil_handle *passes,
                                                                      size_t pass_count);
 
@@ -212,7 +216,7 @@ CEFRODIL_CHECKED CEFRODIL_NO_NULL cefrodil_status cefrodil_open_shards(const cef
 
 /* Looks a key up, by any handle. By the writer it is never busy.
  * OK: `value`, `at` and `since` are set. ABSENT: `at` is set. BUSY: ask again, or treat it as a miss. If the writer
- * stops in the middle of a change, lookups in that stripe are busy until it goes on.
+ * stops in the middle of a change, lookups in the stripe that it changes are busy until it goes on.
  * CLOSED, WIDTH. `value` is written only with OK. `reply` may be null. */
 CEFRODIL_CHECKED CEFRODIL_NO_NULL cefrodil_status cefrodil_get(cefrodil_handle *reader, uint64_t key, uint64_t *value, size_t words,
                                                                cefrodil_reply *reply);
@@ -225,14 +229,14 @@ CEFRODIL_CHECKED CEFRODIL_NO_NULL cefrodil_status cefrodil_get_many(cefrodil_han
                                                                     uint64_t *values, size_t value_words, cefrodil_answer *answers,
                                                                     size_t answer_count);
 
-/* Like cefrodil_get, by a pass. If the lookup is busy, it tries once for the turn; with the turn, it looks up beside the writer
- * and is never busy. BUSY: that try did not win either. */
+/* Like cefrodil_get, by a pass. If the lookup is busy, it tries once for the turn. With the turn nothing disturbs the lookup, so it is
+ * not busy. BUSY: that try did not win. */
 CEFRODIL_CHECKED CEFRODIL_NO_NULL cefrodil_status cefrodil_get_or_desk(cefrodil_handle *pass, uint64_t key, uint64_t *value, size_t words,
                                                                        cefrodil_reply *reply);
 
 /* Puts a key with this value, by the writer. A new key evicts another one if the table is full: its `len` is its `capacity`.
- * OK: `at`, `put` and `moves` are set, and with PUT_EVICTED `evicted`. NO_PATH, ALL_RECENT or SPENT: the key was not put.
- * CLOSED, KIND, WIDTH. */
+ * OK: `at`, `put` and `moves` are set, and with PUT_EVICTED `evicted`. NO_PATH or ALL_RECENT: the key is absent, and was not put. SPENT: it
+ * was not put, and an earlier value stays. CLOSED, KIND, WIDTH. */
 CEFRODIL_NO_NULL cefrodil_status cefrodil_put(cefrodil_handle *writer, uint64_t key, const uint64_t *value, size_t words,
                                               cefrodil_reply *reply);
 
@@ -269,8 +273,9 @@ CEFRODIL_CHECKED CEFRODIL_NO_NULL cefrodil_status cefrodil_put_within(cefrodil_h
 /* Like cefrodil_put, cefrodil_put_if and cefrodil_remove, and they also return the entry that gives way: the key's earlier one, or that
  * of the key that was evicted. So a program that keeps objects behind the cache knows which to free. By the writer; or by a pass,
  * which tries once for the turn. `former` has `former_words` words.
- * OK: as for cefrodil_put, cefrodil_put_if and cefrodil_remove. If an entry gave way, `former` is its value, and `since` the `at` of its last put. If a new key evicted none,
- * `former` is unchanged, and `since` is 0. HELD: the try of a pass did not win. WIDTH: `words` or `former_words` does not match.
+ * OK: as for cefrodil_put, cefrodil_put_if and cefrodil_remove. If an entry gave way, `former` is its value, and `since` the `at` of its last
+ * put. If a new key evicted none, `former` is unchanged, and `since` is 0. HELD: the try of a pass did not win. WIDTH: `words` or
+ * `former_words` does not match.
  * Other statuses are theirs. Unless OK, `former` is unchanged. */
 CEFRODIL_CHECKED CEFRODIL_NO_NULL cefrodil_status cefrodil_swap(cefrodil_handle *handle, uint64_t key, const uint64_t *value, size_t words,
                                                                 uint64_t *former, size_t former_words, cefrodil_reply *reply);
@@ -304,8 +309,8 @@ CEFRODIL_CHECKED CEFRODIL_NO_NULL cefrodil_status cefrodil_try_len(cefrodil_hand
 
 /* Lists each key with its value, by the writer or a pass. A pass tries once for the turn, and a pass of shards once for that of each
  * shard, so it lists each shard at a moment of its own. An entry is its key, then the words of its value, as cefrodil_open_with
- * takes it. Readers may go on meanwhile. This call takes memory for the whole list, and frees it. If `entry_words` is 0, this header makes
- * a list only for a pass of shards; the export makes one.
+ * takes it. Readers may go on meanwhile. This call takes memory for the whole list, and frees it. To ask for the number of entries, pass 0
+ * as `entry_words`: that takes no memory by the writer or a pass of a desk.
  * OK: the first `count` entries of `entries` are written. BAD_COUNT: there are `count` entries, and `entry_words` is less than
  * `count` times (1 + the words of a value). HELD: a try did not win. CLOSED, KIND, NO_MEMORY. Unless OK, `entries` is unchanged. With
  * other statuses than OK and BAD_COUNT, `count` is unchanged too. */
@@ -386,34 +391,40 @@ CEFRODIL_CHECKED CEFRODIL_NO_NULL cefrodil_status cefrodil_try_put_8(cefrodil_ha
 }
 #endif
 
+/* CEFRODIL_INLINE: how this header defines a function. In C++ it is one function in all files of a program, so inline functions of other headers
+ * may call it. CEFRODIL_INLINED: the same, compiled into the caller; these pointers are not null. CEFRODIL_KNOWN: whether the compiler knows
+ * this number there. */
+#ifdef __cplusplus
+#define CEFRODIL_INLINE inline
+#else
+#define CEFRODIL_INLINE static inline
+#endif
+#if defined(__GNUC__)
+#define CEFRODIL_INLINED(pointers) CEFRODIL_INLINE __attribute__((always_inline, pointers))
+#define CEFRODIL_KNOWN(number) __builtin_constant_p(number)
+#else
+#define CEFRODIL_INLINED(pointers) CEFRODIL_INLINE
+#define CEFRODIL_KNOWN(number) 0
+#endif
+
 /* An empty handle, as CEFRODIL_EMPTY. */
-static inline cefrodil_handle cefrodil_empty(void) {
+CEFRODIL_INLINE cefrodil_handle cefrodil_empty(void) {
     const cefrodil_handle empty = CEFRODIL_EMPTY;
     return empty;
 }
 
 /* Moves a handle: returns it, and leaves the old place empty. */
-CEFRODIL_CHECKED static inline cefrodil_handle cefrodil_take(cefrodil_handle *from) {
+CEFRODIL_CHECKED CEFRODIL_INLINE cefrodil_handle cefrodil_take(cefrodil_handle *from) {
     const cefrodil_handle taken = *from;
     *from = cefrodil_empty();
     return taken;
 }
 
-/* CEFRODIL_KNOWN: whether the compiler knows this number here. CEFRODIL_INLINE: compiled into the caller, where it may be known; these
- * pointers are not null. */
-#if defined(__GNUC__)
-#define CEFRODIL_INLINE(pointers) static inline __attribute__((always_inline, pointers))
-#define CEFRODIL_KNOWN(number) __builtin_constant_p(number)
-#else
-#define CEFRODIL_INLINE(pointers) static inline
-#define CEFRODIL_KNOWN(number) 0
-#endif
-
 /* The exports take no null pointer. The functions from here on take one where that is allowed, and four of them call the export for
  * the width of a value where that is a constant. The macros behind them give them the names of the exports. A program that defines
  * CEFRODIL_NO_MACROS goes without these: then no pointer may be null, and cefrodil_get_of_width and so on are called by their own names. */
-CEFRODIL_CHECKED CEFRODIL_INLINE(nonnull(1, 3)) cefrodil_status cefrodil_get_of_width(cefrodil_handle *reader, uint64_t key, uint64_t *value,
-                                                                                      size_t words, cefrodil_reply *reply) {
+CEFRODIL_CHECKED CEFRODIL_INLINED(nonnull(1, 3)) cefrodil_status cefrodil_get_of_width(cefrodil_handle *reader, uint64_t key, uint64_t *value,
+                                                                                       size_t words, cefrodil_reply *reply) {
     cefrodil_reply unread;
     cefrodil_reply *const told = reply ? reply : &unread;
     switch (CEFRODIL_KNOWN(words) ? words : 0) {
@@ -429,8 +440,8 @@ CEFRODIL_CHECKED CEFRODIL_INLINE(nonnull(1, 3)) cefrodil_status cefrodil_get_of_
     }
 }
 
-CEFRODIL_INLINE(nonnull) cefrodil_status cefrodil_put_of_width(cefrodil_handle *writer, uint64_t key, const uint64_t *value, size_t words,
-                                                               cefrodil_reply *reply) {
+CEFRODIL_INLINED(nonnull) cefrodil_status cefrodil_put_of_width(cefrodil_handle *writer, uint64_t key, const uint64_t *value, size_t words,
+                                                                cefrodil_reply *reply) {
     switch (CEFRODIL_KNOWN(words) ? words : 0) {
     case 1: return cefrodil_put_1(writer, key, value, reply);
     case 2: return cefrodil_put_2(writer, key, value, reply);
@@ -444,8 +455,8 @@ CEFRODIL_INLINE(nonnull) cefrodil_status cefrodil_put_of_width(cefrodil_handle *
     }
 }
 
-CEFRODIL_CHECKED CEFRODIL_INLINE(nonnull) cefrodil_status cefrodil_get_or_desk_of_width(cefrodil_handle *pass, uint64_t key, uint64_t *value,
-                                                                                        size_t words, cefrodil_reply *reply) {
+CEFRODIL_CHECKED CEFRODIL_INLINED(nonnull) cefrodil_status cefrodil_get_or_desk_of_width(cefrodil_handle *pass, uint64_t key, uint64_t *value,
+                                                                                         size_t words, cefrodil_reply *reply) {
     switch (CEFRODIL_KNOWN(words) ? words : 0) {
     case 1: return cefrodil_get_or_desk_1(pass, key, value, reply);
     case 2: return cefrodil_get_or_desk_2(pass, key, value, reply);
@@ -459,9 +470,9 @@ CEFRODIL_CHECKED CEFRODIL_INLINE(nonnull) cefrodil_status cefrodil_get_or_desk_o
     }
 }
 
-CEFRODIL_CHECKED CEFRODIL_INLINE(nonnull) cefrodil_status cefrodil_try_put_of_width(cefrodil_handle *pass, uint64_t key,
-                                                                                    const uint64_t *value, size_t words,
-                                                                                    cefrodil_reply *reply) {
+CEFRODIL_CHECKED CEFRODIL_INLINED(nonnull) cefrodil_status cefrodil_try_put_of_width(cefrodil_handle *pass, uint64_t key,
+                                                                                     const uint64_t *value, size_t words,
+                                                                                     cefrodil_reply *reply) {
     switch (CEFRODIL_KNOWN(words) ? words : 0) {
     case 1: return cefrodil_try_put_1(pass, key, value, reply);
     case 2: return cefrodil_try_put_2(pass, key, value, reply);
@@ -475,23 +486,23 @@ CEFRODIL_CHECKED CEFRODIL_INLINE(nonnull) cefrodil_status cefrodil_try_put_of_wi
     }
 }
 
-static inline cefrodil_status cefrodil_close_unless_null(cefrodil_handle *handle) {
+CEFRODIL_INLINE cefrodil_status cefrodil_close_unless_null(cefrodil_handle *handle) {
     return handle ? cefrodil_close(handle) : CEFRODIL_CLOSED;
 }
 
-CEFRODIL_CHECKED static inline cefrodil_status cefrodil_open_with_or_none(const cefrodil_shape *shape, size_t words, const uint64_t *entries,
-                                                                          size_t entry_words, uint32_t *statuses, size_t status_count,
-                                                                          cefrodil_handle *writer, cefrodil_handle *readers,
-                                                                          size_t reader_count) {
+CEFRODIL_CHECKED CEFRODIL_INLINE cefrodil_status cefrodil_open_with_or_none(const cefrodil_shape *shape, size_t words, const uint64_t *entries,
+                                                                            size_t entry_words, uint32_t *statuses, size_t status_count,
+                                                                            cefrodil_handle *writer, cefrodil_handle *readers,
+                                                                            size_t reader_count) {
     uint64_t no_entry = 0;
     uint32_t no_status = 0;
     return cefrodil_open_with(shape, words, entry_words != 0 ? entries : &no_entry, entry_words, status_count != 0 ? statuses : &no_status,
                               status_count, writer, readers, reader_count);
 }
 
-CEFRODIL_CHECKED static inline cefrodil_status cefrodil_get_many_or_none(cefrodil_handle *reader, const uint64_t *keys, size_t key_count,
-                                                                         uint64_t *values, size_t value_words, cefrodil_answer *answers,
-                                                                         size_t answer_count) {
+CEFRODIL_CHECKED CEFRODIL_INLINE cefrodil_status cefrodil_get_many_or_none(cefrodil_handle *reader, const uint64_t *keys, size_t key_count,
+                                                                           uint64_t *values, size_t value_words, cefrodil_answer *answers,
+                                                                           size_t answer_count) {
     uint64_t no_key = 0, no_value = 0;
     cefrodil_answer no_answer;
     return cefrodil_get_many(reader, key_count != 0 ? keys : &no_key, key_count, value_words != 0 ? values : &no_value, value_words,
@@ -499,7 +510,7 @@ CEFRODIL_CHECKED static inline cefrodil_status cefrodil_get_many_or_none(cefrodi
 }
 
 /* Counts the entries for a list that has no room, by the writer or a pass of a desk, and makes no list. KIND: by another handle. */
-CEFRODIL_CHECKED static inline cefrodil_status cefrodil_list_without_room(cefrodil_handle *handle, uint64_t *count) {
+CEFRODIL_CHECKED CEFRODIL_INLINE cefrodil_status cefrodil_list_without_room(cefrodil_handle *handle, uint64_t *count) {
     cefrodil_status status = cefrodil_len(handle, count);
     if (status == CEFRODIL_KIND) {
         status = cefrodil_try_len(handle, count);
@@ -507,8 +518,8 @@ CEFRODIL_CHECKED static inline cefrodil_status cefrodil_list_without_room(cefrod
     return status == CEFRODIL_OK && *count != 0 ? CEFRODIL_BAD_COUNT : status;
 }
 
-CEFRODIL_CHECKED static inline cefrodil_status cefrodil_entries_or_none(cefrodil_handle *handle, uint64_t *entries, size_t entry_words,
-                                                                        uint64_t *count) {
+CEFRODIL_CHECKED CEFRODIL_INLINE cefrodil_status cefrodil_entries_or_none(cefrodil_handle *handle, uint64_t *entries, size_t entry_words,
+                                                                          uint64_t *count) {
     uint64_t no_entry = 0;
     if (entry_words == 0) {
         cefrodil_status status = cefrodil_list_without_room(handle, count);
@@ -519,8 +530,8 @@ CEFRODIL_CHECKED static inline cefrodil_status cefrodil_entries_or_none(cefrodil
     return cefrodil_entries(handle, entry_words != 0 ? entries : &no_entry, entry_words, count);
 }
 
-CEFRODIL_CHECKED static inline cefrodil_status cefrodil_stamped_entries_or_none(cefrodil_handle *handle, uint64_t *entries,
-                                                                                size_t entry_words, uint64_t *count) {
+CEFRODIL_CHECKED CEFRODIL_INLINE cefrodil_status cefrodil_stamped_entries_or_none(cefrodil_handle *handle, uint64_t *entries,
+                                                                                  size_t entry_words, uint64_t *count) {
     uint64_t no_entry = 0;
     if (entry_words == 0) {
         cefrodil_status status = cefrodil_list_without_room(handle, count);
@@ -544,7 +555,7 @@ CEFRODIL_CHECKED static inline cefrodil_status cefrodil_stamped_entries_or_none(
 #endif
 
 /* The text of a status. Both libraries have it as a call of this name, too. */
-static inline const char *cefrodil_text(uint32_t status) {
+CEFRODIL_INLINE const char *cefrodil_text(uint32_t status) {
     switch (status) {
     case CEFRODIL_OK: return "ok";
     case CEFRODIL_ABSENT: return "absent";
@@ -573,6 +584,7 @@ static inline const char *cefrodil_text(uint32_t status) {
     case CEFRODIL_BAD_SHARDS: return "shards must be a power of two from 1 to 256";
     case CEFRODIL_PRESENT: return "present";
     case CEFRODIL_NOT_LAST: return "other passes are at the desk";
+    case CEFRODIL_PROCESSOR: return "the processor is older than x86-64-v2";
     default: return "no status";
     }
 }

@@ -1,5 +1,8 @@
 // Cefrodil for C++17: handles that move and close themselves, values as arrays, answers as types. It is a thin layer over cefrodil.h, which
 // says what each call does and what its caller promises. A Writer, a Reader and a Pass belong to one thread at a time.
+//
+// No call that returns a status throws. Status::no_memory: the library found no memory, or this header for its own vectors. Nothing was done.
+// The latter comes before other refusals. A program that is compiled without exceptions ends there, as it does at each std::vector.
 #ifndef CEFRODIL_HPP
 #define CEFRODIL_HPP
 
@@ -59,9 +62,9 @@ template <size_t Words> class Writer : public Handle {
     [[nodiscard]] Status len(uint64_t &number) noexcept { return static_cast<Status>(cefrodil_len(raw(), &number)); }
     [[nodiscard]] Status capacity(uint64_t &number) noexcept { return static_cast<Status>(cefrodil_capacity(raw(), &number)); }
     // Each key with its value, one entry after the other. Unless ok, `words` is empty.
-    [[nodiscard]] Status entries(std::vector<uint64_t> &words) { return list(1 + Words, words, cefrodil_len, cefrodil_entries_or_none); }
+    [[nodiscard]] Status entries(std::vector<uint64_t> &words) noexcept { return list(1 + Words, words, cefrodil_len, cefrodil_entries_or_none); }
     // The same with stamps: each entry is its key, its value, and then the moment of the key's last put.
-    [[nodiscard]] Status stamped_entries(std::vector<uint64_t> &words) {
+    [[nodiscard]] Status stamped_entries(std::vector<uint64_t> &words) noexcept {
         return list(2 + Words, words, cefrodil_len, cefrodil_stamped_entries_or_none);
     }
 };
@@ -110,12 +113,12 @@ template <size_t Words> class Pass : public Lookups<Words> {
     [[nodiscard]] Answer<Words> get_or_desk(uint64_t key) noexcept {
         cefrodil_reply reply;
         Value value;
-        const cefrodil_status status = cefrodil_get_or_desk(this->raw(), key, value.data(), Words, &reply);
+        const cefrodil_status status = cefrodil_get_or_desk_of_width(this->raw(), key, value.data(), Words, &reply);
         return this->template looked<Words>(status, reply, value);
     }
     [[nodiscard]] Written try_put(uint64_t key, const Value &value) noexcept {
         cefrodil_reply reply;
-        const cefrodil_status status = cefrodil_try_put(this->raw(), key, value.data(), Words, &reply);
+        const cefrodil_status status = cefrodil_try_put_of_width(this->raw(), key, value.data(), Words, &reply);
         return this->wrote(status, reply);
     }
     [[nodiscard]] Written put_within(uint32_t tries, uint64_t key, const Value &value) noexcept {
@@ -162,16 +165,17 @@ template <size_t Words> class Pass : public Lookups<Words> {
     // The number of keys, in a turn at a desk. It is held if the try does not win.
     [[nodiscard]] Status try_len(uint64_t &number) noexcept { return this->tried(cefrodil_try_len(this->raw(), &number)); }
     // Like Writer::entries, but `words` takes room for `capacity` entries, so that one turn is enough. It is held if a try for a turn does not win.
-    [[nodiscard]] Status try_entries(std::vector<uint64_t> &words) {
+    [[nodiscard]] Status try_entries(std::vector<uint64_t> &words) noexcept {
         return this->list(1 + Words, words, cefrodil_capacity, cefrodil_entries_or_none);
     }
     // Like Writer::stamped_entries, at a desk. It is held if the try for the turn does not win.
-    [[nodiscard]] Status try_stamped_entries(std::vector<uint64_t> &words) {
+    [[nodiscard]] Status try_stamped_entries(std::vector<uint64_t> &words) noexcept {
         return this->list(2 + Words, words, cefrodil_capacity, cefrodil_stamped_entries_or_none);
     }
 };
 
-// The shape for so many items, or none if that is out of range, or the archive is of another version (Status::other_version).
+// The shape for so many items, or none if that is out of range. Where no cache can be opened there is none, either: over an archive of another
+// version (Status::other_version), and on a processor that is too old (Status::processor).
 [[nodiscard]] inline std::optional<cefrodil_shape> shape_for_items(uint32_t items) noexcept {
     cefrodil_shape shape{};
     if (!inside::same_version() || cefrodil_shape_for_items(items, &shape) != CEFRODIL_OK) {
@@ -191,9 +195,11 @@ template <size_t Words> class Pass : public Lookups<Words> {
 
 // Opens a cache: its writer, and so many readers. Unless ok, `writer` and `readers` are unchanged. in_use: the writer is open.
 template <size_t Words>
-[[nodiscard]] Status open(const cefrodil_shape &shape, size_t count, Writer<Words> &writer, std::vector<Reader<Words>> &readers) {
-    const auto lines = inside::lines_for(inside::allowed(count));
-    const Status status = inside::open_all(readers, inside::allowed(count), lines, [&](cefrodil_handle *raw, size_t many) {
+[[nodiscard]] Status open(const cefrodil_shape &shape, size_t count, Writer<Words> &writer, std::vector<Reader<Words>> &readers) noexcept {
+    count = inside::allowed(count);
+    std::shared_ptr<inside::Lines> lines;
+    const auto grow = [&] { lines = inside::lines_for(count); };
+    const Status status = inside::open_all(readers, count, lines, grow, [&](cefrodil_handle *raw, size_t many) {
         return cefrodil_open(&shape, Words, writer.raw(), raw, many);
     });
     if (status == Status::ok) {
@@ -205,12 +211,18 @@ template <size_t Words>
 // The same with entries, each its key and then its value, as Writer::entries lists them. `statuses` says what became of each.
 template <size_t Words>
 [[nodiscard]] Status open_with(const cefrodil_shape &shape, size_t count, const std::vector<uint64_t> &entries, Writer<Words> &writer,
-                 std::vector<Reader<Words>> &readers, std::vector<Status> &statuses) {
+                 std::vector<Reader<Words>> &readers, std::vector<Status> &statuses) noexcept {
+    count = inside::allowed(count);
     const size_t many = entries.size() / (1 + Words);
-    const auto lines = inside::lines_for(inside::allowed(count));
-    std::vector<uint32_t> raw_statuses(many);
-    std::vector<Status> told(many, Status::ok);
-    const Status status = inside::open_all(readers, inside::allowed(count), lines, [&](cefrodil_handle *raw, size_t readers_asked) {
+    std::shared_ptr<inside::Lines> lines;
+    std::vector<uint32_t> raw_statuses;
+    std::vector<Status> told;
+    const auto grow = [&] {
+        lines = inside::lines_for(count);
+        raw_statuses.resize(many);
+        told.resize(many);
+    };
+    const Status status = inside::open_all(readers, count, lines, grow, [&](cefrodil_handle *raw, size_t readers_asked) {
         return cefrodil_open_with_or_none(&shape, Words, entries.data(), entries.size(), raw_statuses.data(), many, writer.raw(), raw, readers_asked);
     });
     if (status == Status::ok) {
@@ -224,22 +236,26 @@ template <size_t Words>
 }
 
 // Opens a cache for threads that write by turns: so many passes. Unless ok, `passes` is unchanged.
-template <size_t Words> [[nodiscard]] Status open_desk(const cefrodil_shape &shape, size_t count, std::vector<Pass<Words>> &passes) {
+template <size_t Words> [[nodiscard]] Status open_desk(const cefrodil_shape &shape, size_t count, std::vector<Pass<Words>> &passes) noexcept {
     count = inside::allowed(count);
-    return inside::open_all(passes, count, inside::lines_for(count), [&](cefrodil_handle *raw, size_t many) {
+    std::shared_ptr<inside::Lines> lines;
+    const auto grow = [&] { lines = inside::lines_for(count); };
+    return inside::open_all(passes, count, lines, grow, [&](cefrodil_handle *raw, size_t many) {
         return cefrodil_open_desk(&shape, Words, raw, many);
     });
 }
 
 // Puts the writer of an open cache on a desk, for threads that write by turns: so many passes. ok: the writer is closed. Unless ok, `writer`
 // and `passes` are unchanged. bad_readers: no passes, or more than the cache has readers to spare.
-template <size_t Words> [[nodiscard]] Status make_desk(Writer<Words> &writer, size_t count, std::vector<Pass<Words>> &passes) {
+template <size_t Words> [[nodiscard]] Status make_desk(Writer<Words> &writer, size_t count, std::vector<Pass<Words>> &passes) noexcept {
     count = inside::allowed(count);
     const auto lines = inside::Counting::lines(writer);
-    if (lines) {
-        lines->reserve(count);
-    }
-    const Status status = inside::open_all(passes, count, lines, [&](cefrodil_handle *raw, size_t many) {
+    const auto grow = [&] {
+        if (lines) {
+            lines->reserve(count);
+        }
+    };
+    const Status status = inside::open_all(passes, count, lines, grow, [&](cefrodil_handle *raw, size_t many) {
         return cefrodil_make_desk(writer.raw(), raw, many);
     });
     if (status == Status::ok) {
@@ -250,9 +266,11 @@ template <size_t Words> [[nodiscard]] Status make_desk(Writer<Words> &writer, si
 
 // Opens a cache of so many shards: so many passes.
 template <size_t Words>
-[[nodiscard]] Status open_shards(const cefrodil_shape &shape, uint32_t shards, size_t count, std::vector<Pass<Words>> &passes) {
+[[nodiscard]] Status open_shards(const cefrodil_shape &shape, uint32_t shards, size_t count, std::vector<Pass<Words>> &passes) noexcept {
     count = inside::allowed(count);
-    return inside::open_all(passes, count, inside::lines_for(count), [&](cefrodil_handle *raw, size_t many) {
+    std::shared_ptr<inside::Lines> lines;
+    const auto grow = [&] { lines = inside::lines_for(count); };
+    return inside::open_all(passes, count, lines, grow, [&](cefrodil_handle *raw, size_t many) {
         return cefrodil_open_shards(&shape, shards, Words, raw, many);
     });
 }

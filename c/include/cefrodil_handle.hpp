@@ -9,6 +9,7 @@
 #include <cstdint>
 #include <cstdio>
 #include <memory>
+#include <new>
 #include <optional>
 #include <utility>
 #include <vector>
@@ -45,6 +46,7 @@ enum class Status : uint32_t {
     bad_shards = CEFRODIL_BAD_SHARDS,
     present = CEFRODIL_PRESENT,
     not_last = CEFRODIL_NOT_LAST,
+    processor = CEFRODIL_PROCESSOR,
     // The program is linked with an archive of another version, whose structs and calls may differ. Nothing was done.
     other_version = 1000,
     // By Filler::fill alone (cefrodil_filler.hpp): the store may have changed since the value was read. Nothing was put.
@@ -66,6 +68,20 @@ inline const char *versions() noexcept {
         return text;
     }();
     return both.data();
+}
+
+// Whether there was memory for what `grow` takes. In a program without exceptions it ends the program if there was not.
+template <class Grow> [[nodiscard]] bool has_memory(Grow grow) noexcept {
+#ifdef __cpp_exceptions
+    try {
+        grow();
+    } catch (const std::bad_alloc &) {
+        return false;
+    }
+#else
+    grow();
+#endif
+    return true;
 }
 
 } // namespace inside
@@ -137,7 +153,7 @@ class Handle {
     // Closes the handle now. Closing the last handle frees the cache. Until then, the others go on.
     Status close() noexcept {
         counter_ = inside::Counter();
-        return static_cast<Status>(cefrodil_close(&raw_));
+        return static_cast<Status>(cefrodil_close_unless_null(&raw_));
     }
     // The handle for calls of cefrodil.h. These calls are not counted.
     cefrodil_handle *raw() noexcept { return &raw_; }
@@ -150,7 +166,7 @@ class Handle {
     Handle(Handle &&other) noexcept : raw_(std::exchange(other.raw_, cefrodil_handle{})), counter_(std::move(other.counter_)) {}
     Handle &operator=(Handle &&other) noexcept {
         if (this != &other) {
-            cefrodil_close(&raw_);
+            cefrodil_close_unless_null(&raw_);
             raw_ = std::exchange(other.raw_, cefrodil_handle{});
             counter_ = std::move(other.counter_);
         }
@@ -158,7 +174,7 @@ class Handle {
     }
     Handle(const Handle &) = delete;
     Handle &operator=(const Handle &) = delete;
-    ~Handle() { cefrodil_close(&raw_); }
+    ~Handle() { cefrodil_close_unless_null(&raw_); }
 
     // Moves this handle to an empty one, of another kind.
     void move_to(Handle &other) noexcept { other = std::move(*this); }
@@ -207,11 +223,13 @@ class Handle {
     }
 
     // Lists entries of `each` words by one call of C. `most`: gives how many there are at most, so that they all have room.
-    template <class Most, class List> [[nodiscard]] Status list(size_t each, std::vector<uint64_t> &words, Most most, List call) {
+    template <class Most, class List> [[nodiscard]] Status list(size_t each, std::vector<uint64_t> &words, Most most, List call) noexcept {
         uint64_t count = 0;
         Status status = static_cast<Status>(most(&raw_, &count));
+        if (status == Status::ok && !inside::has_memory([&] { words.resize(count * each); })) {
+            status = Status::no_memory;
+        }
         if (status == Status::ok) {
-            words.resize(count * each);
             status = tried(call(&raw_, words.data(), words.size(), &count));
         }
         words.resize(status == Status::ok ? count * each : 0);
@@ -235,14 +253,22 @@ struct Counting {
 inline size_t allowed(size_t count) noexcept { return count <= 1024 ? count : 0; }
 
 // Opens `count` handles by a call of C, which takes an array of them. If it succeeds, they take the place of `handles`. All memory is taken
-// before the call: `lines` has a line for each. An archive of another version is not called.
-template <class Kind, class Open>
-[[nodiscard]] Status open_all(std::vector<Kind> &handles, size_t count, const std::shared_ptr<Lines> &lines, Open open) {
+// before the call: what `grow` takes, too. After it `lines` has a line for each handle. An archive of another version is not called.
+template <class Kind, class Grow, class Open>
+[[nodiscard]] Status open_all(std::vector<Kind> &handles, size_t count, const std::shared_ptr<Lines> &lines, Grow grow, Open open) noexcept {
     if (!same_version()) {
         return Status::other_version;
     }
-    std::vector<cefrodil_handle> raw(count != 0 ? count : 1);
-    std::vector<Kind> opened(count);
+    std::vector<cefrodil_handle> raw;
+    std::vector<Kind> opened;
+    const auto take_all = [&] {
+        raw.resize(count != 0 ? count : 1);
+        opened.resize(count);
+        grow();
+    };
+    if (!has_memory(take_all)) {
+        return Status::no_memory;
+    }
     const auto status = static_cast<Status>(open(raw.data(), count));
     if (status == Status::ok) {
         for (size_t i = 0; i < count; i++) {

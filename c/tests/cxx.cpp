@@ -25,7 +25,7 @@ static_assert(std::is_convertible_v<Pass<1> &, Lookups<1> &> && std::is_converti
 static_assert(!std::is_move_constructible_v<Lookups<1>> && !std::is_move_assignable_v<Lookups<1>> && !std::is_default_constructible_v<Lookups<1>>);
 static_assert(std::is_nothrow_move_constructible_v<Reader<1>> && std::is_nothrow_move_assignable_v<Pass<1>>);
 
-// No call throws but those that take memory in C++: openings and lists.
+// No call throws.
 template <class Handle> constexpr bool looks_up_without_throwing() {
     return noexcept(std::declval<Handle &>().get(1)) && noexcept(std::declval<Handle &>().get_many(nullptr, 0, nullptr, nullptr)) &&
            noexcept(std::declval<Handle &>().capacity(std::declval<uint64_t &>())) && noexcept(std::declval<Handle &>().close());
@@ -48,8 +48,17 @@ static_assert(noexcept(std::declval<Pass<1> &>().try_len(std::declval<uint64_t &
 static_assert(noexcept(std::declval<Pass<1> &>().leave(std::declval<Reader<1> &>(), std::declval<Writer<1> &>())));
 static_assert(noexcept(std::declval<const Pass<1> &>().meter()) && noexcept(std::declval<const cefrodil::Meter &>().counts()));
 static_assert(noexcept(std::declval<Writer<1> &>().raw()) && noexcept(cefrodil::to_words(1)) && noexcept(cefrodil::from_words<int>({1})));
-static_assert(!noexcept(std::declval<Writer<1> &>().entries(std::declval<std::vector<uint64_t> &>())));
-static_assert(!noexcept(std::declval<Pass<1> &>().try_entries(std::declval<std::vector<uint64_t> &>())));
+// Openings and lists take memory, and don't throw either.
+template <class Any> Any &any() noexcept;
+using Words = std::vector<uint64_t>;
+static_assert(noexcept(cefrodil::open(any<cefrodil_shape>(), 1, any<Writer<1>>(), any<std::vector<Reader<1>>>())));
+static_assert(noexcept(cefrodil::open_with(any<cefrodil_shape>(), 1, any<Words>(), any<Writer<1>>(), any<std::vector<Reader<1>>>(),
+                                           any<std::vector<Status>>())));
+static_assert(noexcept(cefrodil::open_desk(any<cefrodil_shape>(), 1, any<std::vector<Pass<1>>>())));
+static_assert(noexcept(cefrodil::open_shards(any<cefrodil_shape>(), 4, 1, any<std::vector<Pass<1>>>())));
+static_assert(noexcept(cefrodil::make_desk(any<Writer<1>>(), 1, any<std::vector<Pass<1>>>())));
+static_assert(noexcept(any<Writer<1>>().entries(any<Words>())) && noexcept(any<Writer<1>>().stamped_entries(any<Words>())));
+static_assert(noexcept(any<Pass<1>>().try_entries(any<Words>())) && noexcept(any<Pass<1>>().try_stamped_entries(any<Words>())));
 
 static void apart(const cefrodil_shape &shape) {
     Writer<2> writer;

@@ -8,7 +8,7 @@
 const char *text_of_archive(uint32_t status) __asm__("cefrodil_text");
 
 int main(void) {
-    MUST(TEXTS == CEFRODIL_NOT_LAST + 1);
+    MUST(TEXTS == CEFRODIL_PROCESSOR + 1);
     for (uint32_t i = 0; i < TEXTS; i++) {
         MUST(texts[i].status == i && strcmp(cefrodil_text(i), texts[i].text) == 0 && strcmp(text_of_archive(i), texts[i].text) == 0);
     }

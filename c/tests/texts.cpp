@@ -11,7 +11,7 @@ static const Status statuses[] = {Status::ok,          Status::absent,      Stat
                                   Status::width,       Status::in_use,      Status::no_memory,   Status::bad_words, Status::bad_mix,
                                   Status::bad_buckets, Status::bad_items,   Status::bad_stripes, Status::bad_depth, Status::bad_tries,
                                   Status::bad_limit,   Status::bad_readers, Status::bad_count,   Status::no_item,   Status::bad_shards,
-                                  Status::present,     Status::not_last};
+                                  Status::present,     Status::not_last,    Status::processor};
 
 int main() {
     size_t next = 0;

@@ -35,6 +35,7 @@ static const struct {
     {CEFRODIL_BAD_SHARDS, "shards must be a power of two from 1 to 256"},
     {CEFRODIL_PRESENT, "present"},
     {CEFRODIL_NOT_LAST, "other passes are at the desk"},
+    {CEFRODIL_PROCESSOR, "the processor is older than x86-64-v2"},
 };
 
 /* The statuses are 0 to the last one, so the table has each once. */

@@ -1,7 +1,8 @@
 //! A cache with a writer and readers.
 use crate::counts::Meter;
 use crate::error::{ListError, OpenError, PutError, PutIfAbsentError, PutIfError, Spent, Why};
-use crate::handle::Handle;
+use crate::handle::{same_version, Handle};
+use crate::memory::room;
 use crate::raw;
 use crate::reply::{self, Entry, Put, Removal, Replaced, Reply, Swapped, Take};
 use crate::shape::Shape;
@@ -87,8 +88,8 @@ impl<const WORDS: usize> Cache<WORDS> {
     where
         [u64; WORDS]: Value,
     {
-        let (writer, readers) = Handle::open(&shape.raw(), WORDS, readers)?;
-        Ok((Writer(writer), readers.into_iter().map(Reader).collect()))
+        let (writer, readers) = Handle::open(&shape.raw(), WORDS, readers, Reader)?;
+        Ok((Writer(writer), readers))
     }
 
     /// Opens a cache like [`Cache::open`], and puts these entries, in order. No entry evicts another: one that can't be put so is
@@ -120,15 +121,18 @@ impl<const WORDS: usize> Cache<WORDS> {
     where
         [u64; WORDS]: Value,
     {
-        let mut words = Vec::with_capacity(entries.len() * (1 + WORDS));
+        same_version()?;
+        let mut words = room(entries.len() * (1 + WORDS))?;
         for (key, value) in entries {
             words.push(*key);
             words.extend_from_slice(value);
         }
-        let mut statuses = vec![raw::OK; entries.len()];
-        let (writer, readers) = Handle::open_with(&shape.raw(), WORDS, &words, &mut statuses, readers)?;
-        let left = statuses.iter().enumerate().filter_map(|(index, status)| Some((index, Why::of(*status)?)));
-        Ok(Opened { writer: Writer(writer), readers: readers.into_iter().map(Reader).collect(), left: left.collect() })
+        let mut statuses = room(entries.len())?;
+        statuses.resize(entries.len(), raw::OK);
+        let (writer, readers) = Handle::open_with(&shape.raw(), WORDS, &words, &mut statuses, readers, Reader)?;
+        let mut left = room(statuses.iter().filter(|status| **status != raw::OK).count())?;
+        left.extend(statuses.iter().enumerate().filter_map(|(index, status)| Some((index, Why::of(*status)?))));
+        Ok(Opened { writer: Writer(writer), readers, left })
     }
 }
 

@@ -1,8 +1,9 @@
 //! What the calls by the handles of a cache came to: counted by handle, and added up.
+use crate::memory::{room, NoMemory, Shared};
 use crate::raw::{self, RawAnswer, RawReply};
 use std::fmt::{self, Debug, Formatter, Write};
 use std::sync::atomic::{AtomicU64, Ordering};
-use std::sync::{Arc, Mutex, MutexGuard, PoisonError};
+use std::sync::{Mutex, MutexGuard, PoisonError};
 
 /// Whether anything is counted.
 const COUNTED: bool = cfg!(feature = "counts");
@@ -45,7 +46,7 @@ pub struct Counts {
 /// # Ok::<(), Box<dyn std::error::Error>>(())
 /// ```
 #[derive(Clone)]
-pub struct Meter(Option<Arc<Lines>>);
+pub struct Meter(Option<Shared<Lines>>);
 
 impl Debug for Meter {
     fn fmt(&self, text: &mut Formatter) -> fmt::Result {
@@ -116,9 +117,9 @@ pub(crate) struct Lines(Mutex<Kept>);
 
 #[derive(Default)]
 struct Kept {
-    all: Vec<Arc<Line>>,
+    all: Vec<Shared<Line>>,
     // Those that no handle has, with room for all of them.
-    free: Vec<Arc<Line>>,
+    free: Vec<Shared<Line>>,
 }
 
 impl Lines {
@@ -128,16 +129,16 @@ impl Lines {
 }
 
 /// A handle's line, and those of the other handles.
-pub(crate) struct Counter(Option<(Arc<Line>, Arc<Lines>)>);
+pub(crate) struct Counter(Option<(Shared<Line>, Shared<Lines>)>);
 
 impl Counter {
     /// The counters of a new cache: so many.
-    pub fn many(count: usize) -> Vec<Counter> {
-        Counter::of(COUNTED.then(Arc::default), count)
+    pub fn many(count: usize) -> Result<Vec<Counter>, NoMemory> {
+        Counter::of(COUNTED.then(|| Shared::new(Lines::default())).transpose()?, count)
     }
 
     /// So many more of this counter's cache.
-    pub fn more(&self, count: usize) -> Vec<Counter> {
+    pub fn more(&self, count: usize) -> Result<Vec<Counter>, NoMemory> {
         Counter::of(self.lines(), count)
     }
 
@@ -153,22 +154,30 @@ impl Counter {
         Meter(self.lines())
     }
 
-    fn lines(&self) -> Option<Arc<Lines>> {
-        self.0.as_ref().map(|(_, lines)| Arc::clone(lines))
+    fn lines(&self) -> Option<Shared<Lines>> {
+        self.0.as_ref().map(|(_, lines)| lines.clone())
     }
 
-    fn of(lines: Option<Arc<Lines>>, count: usize) -> Vec<Counter> {
+    // Lines that were made before there was no memory stay for the next handles.
+    fn of(lines: Option<Shared<Lines>>, count: usize) -> Result<Vec<Counter>, NoMemory> {
+        let mut counters = room(count)?;
         let Some(lines) = lines else {
-            return (0..count).map(|_| Counter(None)).collect();
+            counters.extend((0..count).map(|_| Counter(None)));
+            return Ok(counters);
         };
         let mut kept = lines.kept();
         let Kept { all, free } = &mut *kept;
         let missing = count.saturating_sub(free.len());
-        all.extend((0..missing).map(|_| Arc::default()));
-        free.extend_from_slice(&all[all.len() - missing..]);
-        free.reserve(all.len() - free.len());
+        all.try_reserve(missing).map_err(|_| NoMemory)?;
+        free.try_reserve(all.len() + missing - free.len()).map_err(|_| NoMemory)?;
+        for _ in 0..missing {
+            let line = Shared::new(Line::default())?;
+            all.push(line.clone());
+            free.push(line);
+        }
         let taken = free.len() - count;
-        free.drain(taken..).map(|line| Counter(Some((line, Arc::clone(&lines))))).collect()
+        counters.extend(free.drain(taken..).map(|line| Counter(Some((line, lines.clone())))));
+        Ok(counters)
     }
 
     /// Counts the answer of a lookup.

@@ -30,7 +30,7 @@ use std::sync::{Mutex, PoisonError};
 /// # Ok::<(), Box<dyn std::error::Error>>(())
 /// ```
 pub struct Desk<const WORDS: usize> {
-    passes: Mutex<Vec<Handle>>,
+    passes: Mutex<Vec<Pass<'static, WORDS>>>,
     meter: Meter,
 }
 
@@ -59,11 +59,11 @@ impl<const WORDS: usize> Desk<WORDS> {
     where
         [u64; WORDS]: Value,
     {
-        Ok(Desk::of(Handle::open_desk(&shape.raw(), WORDS, passes)?))
+        Ok(Desk::of(Handle::open_desk(&shape.raw(), WORDS, passes, Pass::owning)?))
     }
 
     // A desk has at least one pass.
-    fn of(passes: Vec<Handle>) -> Desk<WORDS> {
+    fn of(passes: Vec<Pass<'static, WORDS>>) -> Desk<WORDS> {
         Desk { meter: passes[0].meter(), passes: Mutex::new(passes) }
     }
 
@@ -76,8 +76,8 @@ impl<const WORDS: usize> Desk<WORDS> {
     /// Takes a pass, or returns `None` if all are taken. This locks a mutex, so take a pass once per thread, not per call.
     #[must_use]
     pub fn pass(&self) -> Option<Pass<'_, WORDS>> {
-        let handle = self.passes.lock().unwrap_or_else(PoisonError::into_inner).pop()?;
-        Some(Pass { desk: Some(self), handle: Some(handle) })
+        let mut pass = self.passes.lock().unwrap_or_else(PoisonError::into_inner).pop()?;
+        Some(Pass { desk: Some(self), handle: pass.handle.take() })
     }
 
     /// Ends the desk and returns its passes. They borrow nothing, so a thread that isn't scoped can own one. A pass that is dropped
@@ -105,8 +105,7 @@ impl<const WORDS: usize> Desk<WORDS> {
     /// ```
     #[must_use]
     pub fn into_passes(self) -> Vec<Pass<'static, WORDS>> {
-        let handles = self.passes.into_inner().unwrap_or_else(PoisonError::into_inner);
-        handles.into_iter().map(Pass::owning).collect()
+        self.passes.into_inner().unwrap_or_else(PoisonError::into_inner)
     }
 }
 
@@ -135,9 +134,9 @@ impl<const WORDS: usize> Desk<WORDS> {
             return Err(NotEnded { desk: Desk { passes: Mutex::new(passes), meter }, readers, why: EndError::NoMemory });
         }
         while let Some(mut pass) = passes.pop() {
-            let (status, writer) = pass.leave_desk();
+            let (status, writer) = pass.handle().leave_desk();
             if status == raw::OK || status == raw::NOT_LAST {
-                readers.push(Reader(pass));
+                readers.extend(pass.handle.take().map(Reader));
             } else {
                 passes.push(pass);
                 why = EndError::NoMemory;
@@ -170,8 +169,8 @@ impl<const WORDS: usize> Writer<WORDS> {
     ///
     /// [`NoDesk`], with the writer.
     pub fn into_desk(mut self, passes: usize) -> Result<Desk<WORDS>, NoDesk<WORDS>> {
-        match self.0.make_desk(passes) {
-            Ok(handles) => Ok(Desk::of(handles)),
+        match self.0.make_desk(passes, Pass::owning) {
+            Ok(passes) => Ok(Desk::of(passes)),
             Err(why) => Err(NoDesk { writer: self, why }),
         }
     }
@@ -193,7 +192,7 @@ impl<const WORDS: usize> Drop for Pass<'_, WORDS> {
     fn drop(&mut self) {
         if let Some(desk) = self.desk {
             let mut passes = desk.passes.lock().unwrap_or_else(PoisonError::into_inner);
-            passes.extend(self.handle.take());
+            passes.extend(self.handle.take().map(Pass::owning));
         }
     }
 }

@@ -1,6 +1,7 @@
 //! Why a call failed.
 use crate::cache::{Reader, Writer};
 use crate::desk::Desk;
+use crate::memory::NoMemory;
 use crate::raw;
 use std::error::Error;
 use std::fmt::{self, Display, Formatter};
@@ -17,6 +18,8 @@ pub enum OpenError {
         /// The version of this crate.
         crate_version: u32,
     },
+    /// The processor is older than x86-64-v2: it can run no cache.
+    Processor,
     /// The number of shards must be a power of two, 1 to 256.
     Shards,
     /// `buckets` of the shape is out of range.
@@ -33,7 +36,7 @@ pub enum OpenError {
     Limit,
     /// There must be 1 to 1024 readers, or passes; for a new desk, no more than the cache has to spare.
     Readers,
-    /// Out of memory.
+    /// Out of memory. If the crate finds none for its own lists, only [`OpenError::Version`] comes before it.
     NoMemory,
 }
 
@@ -41,11 +44,12 @@ pub enum OpenError {
 #[derive(Clone, Copy, Debug, PartialEq, Eq, Hash)]
 #[non_exhaustive]
 pub enum PutError {
-    /// No path of displacements leads to an empty slot.
+    /// Both buckets of the key are full, and no moves of up to `depth` keys free a slot. If it is frequent, take more buckets.
     NoPath,
-    /// Every item was used since it was last considered for eviction.
+    /// The cache is full, and a key to evict was not found: the put looked at each item twice, and lookups had used it again. Put again, or
+    /// leave the key uncached. It is frequent only if the items are few.
     AllRecent,
-    /// The limit on version changes could be exceeded.
+    /// The put could exceed the `limit` of the shape. An earlier value stays. Open a new cache: a limit of 2^62 takes centuries.
     Spent,
 }
 
@@ -84,7 +88,7 @@ pub enum PutIfAbsentError {
 #[derive(Clone, Copy, Debug, PartialEq, Eq, Hash)]
 #[non_exhaustive]
 pub enum Why {
-    /// No path of displacements leads to an empty slot.
+    /// Both buckets of the key are full, and no moves of up to `depth` keys free a slot.
     NoPath,
     /// Every item is in use.
     NoItem,
@@ -149,6 +153,7 @@ pub enum TurnError<E> {
 impl OpenError {
     pub(crate) fn of(status: u32) -> OpenError {
         match status {
+            raw::PROCESSOR => OpenError::Processor,
             raw::BAD_SHARDS => OpenError::Shards,
             raw::BAD_BUCKETS => OpenError::Buckets,
             raw::BAD_ITEMS => OpenError::Items,
@@ -161,6 +166,18 @@ impl OpenError {
             // The width is from 1 to 8 by the type, the mix by its own, and the handles were empty.
             other => unreachable!("an opening gives no status {other}"),
         }
+    }
+}
+
+impl From<NoMemory> for OpenError {
+    fn from(_: NoMemory) -> OpenError {
+        OpenError::NoMemory
+    }
+}
+
+impl From<NoMemory> for TurnError<ListError> {
+    fn from(_: NoMemory) -> TurnError<ListError> {
+        TurnError::Call(ListError::NoMemory)
     }
 }
 
@@ -187,6 +204,7 @@ impl Display for OpenError {
             OpenError::Version { archive, crate_version } => {
                 return write!(text, "libcefrodil.a has version {}, and the crate {}", dotted(archive), dotted(crate_version));
             }
+            OpenError::Processor => "the processor is older than x86-64-v2",
             OpenError::Shards => "shards must be a power of two from 1 to 256",
             OpenError::Buckets => "buckets must be a power of two from 2 to 1048576",
             OpenError::Items => "items must be from 1 to four times the buckets",

@@ -1,4 +1,5 @@
-//! A handle of the archive, with its calls. All `unsafe` of this crate is here, except the calls of `Shape::for_items` and `for_shards`.
+//! A handle of the archive, with its calls. All `unsafe` of this crate is here, except the calls of `Shape::for_items` and `for_shards`, and
+//! that of `memory::Shared`.
 //!
 //! This module keeps what the header asks of a caller. A handle begins zeroed, and only the archive writes it. It is private and
 //! not `Clone`, and a call borrows it as `&mut`, so one call at a time uses it. The pointers of a call come from borrows, which
@@ -7,6 +8,7 @@
 //! A call by an open handle is counted.
 use crate::counts::{Counter, Meter};
 use crate::error::OpenError;
+use crate::memory::{room, NoMemory};
 use crate::raw::{self, RawAnswer, RawHandle, RawReply, RawShape};
 use std::ptr;
 
@@ -34,7 +36,7 @@ pub struct Handle {
 unsafe impl Send for Handle {}
 
 // SAFETY: through a `&Handle` the archive's handle is not read and no call is made, so it may be shared. Its fields are private to this
-// module. Here `meter` alone takes `&self`, and it clones an `Arc` of the counter. The openings take no handle, and each other function
+// module. Here `meter` alone takes `&self`, and it clones a `Shared` of the counter. The openings take no handle, and each other function
 // takes `&mut self`, `drop` too. It is not `Clone`, nor does it implement any trait with a method that takes `&self`. The types around it
 // add none that reaches it but for `meter`: `Debug` of `Writer`, `Reader`, `Pass` and `Desk` writes a name alone, and `Desk::pass` and
 // `Pool::take` hand on whole handles under a lock.
@@ -72,30 +74,49 @@ pub fn same_version() -> Result<(), OpenError> {
 
 const EMPTY: RawHandle = RawHandle { at: ptr::null_mut(), live: false };
 
-/// That many empty handles; none if the archive allows no such number. It refuses none for the same reason.
-fn empty(count: usize) -> Vec<RawHandle> {
-    let count = if count <= MOST { count } else { 0 };
-    (0..count).map(|_| EMPTY).collect()
+// What an opening takes memory for before it calls the archive: empty handles, their counters, and room for what they become.
+struct Opening<T> {
+    raw: Vec<RawHandle>,
+    counters: Vec<Counter>,
+    opened: Vec<T>,
 }
 
-// The handles that a call opened, with their counters, or why it opened none.
-fn opened(status: u32, handles: Vec<RawHandle>, counters: Vec<Counter>) -> Result<Vec<Handle>, OpenError> {
-    if status != raw::OK {
-        return Err(OpenError::of(status));
+impl<T> Opening<T> {
+    // For that many handles; for none if the archive allows no such number. It refuses none for the same reason.
+    fn of(count: usize, counters: impl FnOnce(usize) -> Result<Vec<Counter>, NoMemory>) -> Result<Opening<T>, OpenError> {
+        same_version()?;
+        let count = if count <= MOST { count } else { 0 };
+        let (mut raw, opened) = (room(count)?, room(count)?);
+        raw.extend((0..count).map(|_| EMPTY));
+        Ok(Opening { raw, counters: counters(count)?, opened })
     }
-    Ok(handles.into_iter().zip(counters).map(|(raw, counter)| Handle { raw, counter }).collect())
-}
 
-// The same with the writer.
-fn opened_with_writer(
-    status: u32,
-    writer: RawHandle,
-    readers: Vec<RawHandle>,
-    mut counters: Vec<Counter>,
-) -> Result<(Handle, Vec<Handle>), OpenError> {
-    let counter = counters.pop().expect("there is one for the writer");
-    let readers = opened(status, readers, counters)?;
-    Ok((Handle { raw: writer, counter }, readers))
+    // One more counter is for the writer.
+    fn with_writer(count: usize) -> Result<Opening<T>, OpenError> {
+        Opening::of(count, |count| Counter::many(count + 1))
+    }
+
+    // What the handles became that a call opened, or why it opened none.
+    fn opened(self, status: u32, kind: impl Fn(Handle) -> T) -> Result<Vec<T>, OpenError> {
+        let Opening { raw, counters, mut opened } = self;
+        if status != raw::OK {
+            return Err(OpenError::of(status));
+        }
+        opened.extend(raw.into_iter().zip(counters).map(|(raw, counter)| kind(Handle { raw, counter })));
+        Ok(opened)
+    }
+
+    // The same with the writer.
+    fn opened_beside(
+        mut self,
+        status: u32,
+        writer: RawHandle,
+        kind: impl Fn(Handle) -> T,
+    ) -> Result<(Handle, Vec<T>), OpenError> {
+        let counter = self.counters.pop().expect("there is one for the writer");
+        let readers = self.opened(status, kind)?;
+        Ok((Handle { raw: writer, counter }, readers))
+    }
 }
 
 impl Drop for Handle {
@@ -106,27 +127,26 @@ impl Drop for Handle {
 }
 
 impl Handle {
-    /// Opens a cache: its writer and readers, or why not.
-    pub fn open(shape: &RawShape, words: usize, readers: usize) -> Result<(Handle, Vec<Handle>), OpenError> {
-        same_version()?;
-        let (mut writer, mut all) = (EMPTY, empty(readers));
-        let counters = Counter::many(all.len() + 1);
-        // SAFETY: `all` is an array of as many empty handles as are passed with it.
-        let status = unsafe { raw::cefrodil_open(shape, words, &mut writer, all.as_mut_ptr(), all.len()) };
-        opened_with_writer(status, writer, all, counters)
+    /// Opens a cache: its writer, and its readers as this kind, or why not.
+    pub fn open<T>(shape: &RawShape, words: usize, readers: usize, kind: fn(Handle) -> T) -> Result<(Handle, Vec<T>), OpenError> {
+        let mut all = Opening::with_writer(readers)?;
+        let mut writer = EMPTY;
+        // SAFETY: `all.raw` is an array of as many empty handles as are passed with it.
+        let status = unsafe { raw::cefrodil_open(shape, words, &mut writer, all.raw.as_mut_ptr(), all.raw.len()) };
+        all.opened_beside(status, writer, kind)
     }
 
     /// Opens a cache with entries, each its key and then its value. `statuses` gets the status of each entry.
-    pub fn open_with(
+    pub fn open_with<T>(
         shape: &RawShape,
         words: usize,
         entries: &[u64],
         statuses: &mut [u32],
         readers: usize,
-    ) -> Result<(Handle, Vec<Handle>), OpenError> {
-        same_version()?;
-        let (mut writer, mut all) = (EMPTY, empty(readers));
-        let counters = Counter::many(all.len() + 1);
+        kind: fn(Handle) -> T,
+    ) -> Result<(Handle, Vec<T>), OpenError> {
+        let mut all = Opening::with_writer(readers)?;
+        let mut writer = EMPTY;
         // SAFETY: as in `open`; the lengths of the two arrays are passed with them.
         let status = unsafe {
             raw::cefrodil_open_with(
@@ -137,41 +157,41 @@ impl Handle {
                 statuses.as_mut_ptr(),
                 statuses.len(),
                 &mut writer,
-                all.as_mut_ptr(),
-                all.len(),
+                all.raw.as_mut_ptr(),
+                all.raw.len(),
             )
         };
-        opened_with_writer(status, writer, all, counters)
+        all.opened_beside(status, writer, kind)
     }
 
     /// Opens a cache for threads that write by turns: its passes, or why not.
-    pub fn open_desk(shape: &RawShape, words: usize, passes: usize) -> Result<Vec<Handle>, OpenError> {
-        same_version()?;
-        let mut all = empty(passes);
-        // One more is for the writer that comes back.
-        let counters = Counter::many(all.len() + 1);
+    pub fn open_desk<T>(shape: &RawShape, words: usize, passes: usize, kind: fn(Handle) -> T) -> Result<Vec<T>, OpenError> {
+        let mut all = Opening::with_writer(passes)?;
         // SAFETY: as in `open`.
-        let status = unsafe { raw::cefrodil_open_desk(shape, words, all.as_mut_ptr(), all.len()) };
-        opened(status, all, counters)
+        let status = unsafe { raw::cefrodil_open_desk(shape, words, all.raw.as_mut_ptr(), all.raw.len()) };
+        all.opened(status, kind)
     }
 
     /// The writer goes on a desk: its passes, or why not. Then the handle is closed; if not, it is the writer's still.
-    pub fn make_desk(&mut self, passes: usize) -> Result<Vec<Handle>, OpenError> {
-        let mut all = empty(passes);
-        let counters = self.counter.more(all.len());
+    pub fn make_desk<T>(&mut self, passes: usize, kind: fn(Handle) -> T) -> Result<Vec<T>, OpenError> {
+        let mut all = Opening::of(passes, |count| self.counter.more(count))?;
         // SAFETY: as in `open`.
-        let status = unsafe { raw::cefrodil_make_desk(&mut self.raw, all.as_mut_ptr(), all.len()) };
-        opened(status, all, counters)
+        let status = unsafe { raw::cefrodil_make_desk(&mut self.raw, all.raw.as_mut_ptr(), all.raw.len()) };
+        all.opened(status, kind)
     }
 
     /// Opens shards: their passes, or why not.
-    pub fn open_shards(shape: &RawShape, shards: u32, words: usize, passes: usize) -> Result<Vec<Handle>, OpenError> {
-        same_version()?;
-        let mut all = empty(passes);
-        let counters = Counter::many(all.len());
+    pub fn open_shards<T>(
+        shape: &RawShape,
+        shards: u32,
+        words: usize,
+        passes: usize,
+        kind: fn(Handle) -> T,
+    ) -> Result<Vec<T>, OpenError> {
+        let mut all = Opening::of(passes, Counter::many)?;
         // SAFETY: as in `open`.
-        let status = unsafe { raw::cefrodil_open_shards(shape, shards, words, all.as_mut_ptr(), all.len()) };
-        opened(status, all, counters)
+        let status = unsafe { raw::cefrodil_open_shards(shape, shards, words, all.raw.as_mut_ptr(), all.raw.len()) };
+        all.opened(status, kind)
     }
 
     /// Reads what the calls by all handles of this cache came to.

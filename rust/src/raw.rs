@@ -59,6 +59,7 @@ pub const NO_ITEM: u32 = 23;
 pub const BAD_SHARDS: u32 = 24;
 pub const PRESENT: u32 = 25;
 pub const NOT_LAST: u32 = 26;
+pub const PROCESSOR: u32 = 27;
 
 pub const PUT_EVICTED: u32 = 2;
 pub const PUT_RENEWED: u32 = 3;

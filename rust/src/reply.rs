@@ -1,6 +1,7 @@
 //! Answers of calls.
 use crate::error::{ListError, PutError, PutIfAbsentError, PutIfError, Spent, TurnError};
 use crate::handle::Handle;
+use crate::memory::room;
 use crate::raw::{self, RawAnswer, RawReply};
 
 /// The answer of a lookup. `at` is its moment: the number of changes to the table when the answer was true. A count, not a time.
@@ -284,21 +285,15 @@ pub(crate) fn without_turn<T>(list: Listed<T>) -> Result<Vec<T>, ListError> {
 // The list of entries of `each` words, by one call with room for them all.
 fn listed<T>(each: usize, most: usize, list: impl FnOnce(&mut [u64]) -> (u32, u64), entry: impl Fn(&[u64]) -> T) -> Listed<T> {
     let most = most * each;
-    let mut words = Vec::new();
-    reserve(&mut words, most)?;
+    let mut words = room(most)?;
     words.resize(most, 0);
     let (status, count) = list(&mut words);
     if status != raw::OK {
         return Err(no_list(status));
     }
-    let mut entries = Vec::new();
-    reserve(&mut entries, count as usize)?;
+    let mut entries = room(count as usize)?;
     entries.extend(words.chunks_exact(each).take(count as usize).map(entry));
     Ok(entries)
-}
-
-fn reserve<T>(list: &mut Vec<T>, count: usize) -> Result<(), TurnError<ListError>> {
-    list.try_reserve_exact(count).map_err(|_| TurnError::Call(ListError::NoMemory))
 }
 
 /// Why a pass or a writer did not list or count.

@@ -17,13 +17,13 @@ pub enum Mix {
 /// A minor version may add a field: change one by `Shape { items: 2, ..Shape::for_items(100)? }`.
 #[derive(Clone, Copy, Debug, PartialEq, Eq, Hash)]
 pub struct Shape {
-    /// Most version changes, 0 to 2^62.
+    /// Most version changes in the table's life, 0 to 2^62. Each write makes at least two.
     pub limit: u64,
     /// A power of two, 2 to 2^20. Each bucket has four slots.
     pub buckets: u32,
     /// Most keys, 1 to four times the buckets. Keep it below nine tenths of that.
     pub items: u32,
-    /// Number of version counters, a power of two, 1 to 2^16.
+    /// Number of version counters, a power of two, 1 to 2^16. The keys that share one are a stripe.
     pub stripes: u32,
     /// Most keys that one put may move, 0 to 8.
     pub depth: u32,
@@ -38,7 +38,7 @@ impl Shape {
     ///
     /// # Errors
     ///
-    /// [`OpenError::Items`] if the number is out of range. [`OpenError::Version`] if the archive is of another version.
+    /// [`OpenError::Items`] if the number is out of range. [`OpenError::Version`] or [`OpenError::Processor`] if no cache can be opened.
     ///
     /// # Examples
     ///
@@ -66,7 +66,7 @@ impl Shape {
     /// # Errors
     ///
     /// [`OpenError::Shards`] if the number of shards is no power of two from 1 to 256. [`OpenError::Items`] if there are no
-    /// items, or too many for a shard. [`OpenError::Version`] if the archive is of another version.
+    /// items, or too many for a shard. [`OpenError::Version`] or [`OpenError::Processor`] if no cache can be opened.
     ///
     /// # Examples
     ///

@@ -57,7 +57,6 @@ impl<const WORDS: usize> Shards<WORDS> {
     where
         [u64; WORDS]: Value,
     {
-        let handles = Handle::open_shards(&shape.raw(), shards, WORDS, passes)?;
-        Ok(handles.into_iter().map(Pass::owning).collect())
+        Handle::open_shards(&shape.raw(), shards, WORDS, passes, Pass::owning)
     }
 }

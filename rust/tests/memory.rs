@@ -1,50 +1,74 @@
-//! Without memory a list is an error, and a desk that does not end loses no pass. Each allocation is refused in turn: the archive and the
-//! crate allocate by this program's own `malloc` and `realloc`.
-use cefrodil::{Cache, Desk, EndError, Entry, ListError, NotEnded, Shape, Shards, TurnError};
+//! Without memory an opening and a list are errors, which keep nothing, and a desk that does not end loses no pass. Each allocation is refused
+//! in turn: the archive and the crate allocate by this program's own functions.
+use cefrodil::{Cache, Desk, EndError, Entry, ListError, NoDesk, NotEnded, OpenError, Shape, Shards, TurnError, Why, Writer};
 use std::cell::Cell;
 use std::error::Error;
-use std::ffi::c_void;
+use std::ffi::{c_int, c_void};
 use std::fmt::Debug;
 use std::ptr;
 
 type Tested = Result<(), Box<dyn Error>>;
 
 const ALL: u32 = u32::MAX;
+const OUT_OF_MEMORY: c_int = 12;
 
 thread_local! {
     // How many allocations of this thread are left before one is refused.
     static LEFT: Cell<u32> = const { Cell::new(ALL) };
+    // How many blocks this thread has taken and not given back.
+    static KEPT: Cell<i64> = const { Cell::new(0) };
 }
 
 extern "C" {
     fn __libc_malloc(size: usize) -> *mut c_void;
+    fn __libc_calloc(count: usize, size: usize) -> *mut c_void;
     fn __libc_realloc(block: *mut c_void, size: usize) -> *mut c_void;
+    fn __libc_free(block: *mut c_void);
+    fn memalign(align: usize, size: usize) -> *mut c_void;
 }
 
-fn is_refused() -> bool {
+// The block that this call takes, unless it is refused.
+fn taken(take: impl FnOnce() -> *mut c_void) -> *mut c_void {
     let left = LEFT.get();
     LEFT.set(if left == ALL { ALL } else { left.saturating_sub(1) });
-    left == 0
+    let block = if left == 0 { ptr::null_mut() } else { take() };
+    KEPT.set(KEPT.get() + i64::from(!block.is_null()));
+    block
+}
+
+// SAFETY, of these five: they are the allocator that the C library has for these calls. A block of theirs is one of the C library's.
+#[no_mangle]
+extern "C" fn malloc(size: usize) -> *mut c_void {
+    taken(|| unsafe { __libc_malloc(size) })
 }
 
 #[no_mangle]
-extern "C" fn malloc(size: usize) -> *mut c_void {
-    // SAFETY: this is the allocator that the C library has for this call.
-    if is_refused() {
-        ptr::null_mut()
-    } else {
-        unsafe { __libc_malloc(size) }
-    }
+extern "C" fn calloc(count: usize, size: usize) -> *mut c_void {
+    taken(|| unsafe { __libc_calloc(count, size) })
 }
 
 #[no_mangle]
 unsafe extern "C" fn realloc(block: *mut c_void, size: usize) -> *mut c_void {
-    // SAFETY: as in `malloc`. A block of it is one of the C library's.
-    if is_refused() {
-        ptr::null_mut()
+    let moved = taken(|| unsafe { __libc_realloc(block, size) });
+    KEPT.set(KEPT.get() - i64::from(!block.is_null() && !moved.is_null()));
+    moved
+}
+
+#[no_mangle]
+unsafe extern "C" fn posix_memalign(block: *mut *mut c_void, align: usize, size: usize) -> c_int {
+    let aligned = taken(|| unsafe { memalign(align, size) });
+    unsafe { *block = aligned };
+    if aligned.is_null() {
+        OUT_OF_MEMORY
     } else {
-        unsafe { __libc_realloc(block, size) }
+        0
     }
+}
+
+#[no_mangle]
+unsafe extern "C" fn free(block: *mut c_void) {
+    KEPT.set(KEPT.get() - i64::from(!block.is_null()));
+    unsafe { __libc_free(block) };
 }
 
 fn with_allocations<T>(allowed: u32, call: impl FnOnce() -> T) -> T {
@@ -57,8 +81,9 @@ fn with_allocations<T>(allowed: u32, call: impl FnOnce() -> T) -> T {
 // A list that needs more than the two allocations of the crate. Each of them is refused in turn.
 fn lists<T: Debug, E: PartialEq + Debug>(mut list: impl FnMut() -> Result<Vec<T>, E>, without_memory: &E) -> Vec<T> {
     for allowed in 0..20 {
+        let kept = KEPT.get();
         match with_allocations(allowed, &mut list) {
-            Err(why) => assert_eq!(why, *without_memory),
+            Err(why) => assert_eq!((&why, KEPT.get()), (without_memory, kept)),
             Ok(listed) => {
                 assert!(allowed > 2, "a list after {allowed} allocations");
                 return listed;
@@ -66,6 +91,75 @@ fn lists<T: Debug, E: PartialEq + Debug>(mut list: impl FnMut() -> Result<Vec<T>
         }
     }
     panic!("no list after twenty allocations");
+}
+
+// Opens after more than `least` refusals: the archive allocates, too. A refusal keeps nothing.
+fn opens<T: Debug>(least: u32, mut open: impl FnMut() -> Result<T, OpenError>) -> T {
+    for allowed in 0..500 {
+        let kept = KEPT.get();
+        match with_allocations(allowed, &mut open) {
+            Err(why) => assert_eq!((why, KEPT.get()), (OpenError::NoMemory, kept)),
+            Ok(opened) => {
+                assert!(allowed > least, "an opening after {allowed} allocations");
+                return opened;
+            }
+        }
+    }
+    panic!("no opening after 500 allocations");
+}
+
+// For two readers or passes, the crate takes a list of handles, one of what they become, and one of counters. To count, it takes what they
+// share, two lists of lines, and three lines.
+const OF_CRATE: u32 = if cfg!(feature = "counts") { 9 } else { 3 };
+
+#[test]
+fn an_opening_without_memory_is_an_error() -> Tested {
+    let shape = Shape::for_items(100)?;
+    let (mut writer, mut readers) = opens(OF_CRATE, || Cache::<2>::open(&shape, 2));
+    writer.put(7, &[70, 71])?;
+    assert_eq!(readers[1].get(7).value(), Some([70, 71]));
+    let mut passes = opens(OF_CRATE, || Desk::<2>::open(&shape, 2)).into_passes();
+    passes[1].try_put(7, &[70, 71])?;
+    assert_eq!(passes[0].get(7).value(), Some([70, 71]));
+    let mut passes = opens(OF_CRATE, || Shards::<2>::open(&shape, 4, 2));
+    passes[1].try_put(7, &[70, 71])?;
+    assert_eq!(passes[0].get(7).value(), Some([70, 71]));
+    Ok(())
+}
+
+// Its own lists are those of words, of statuses, and of what was left out.
+#[test]
+fn an_opening_with_entries_without_memory_is_an_error() -> Tested {
+    let small = Shape { items: 2, ..Shape::for_items(100)? };
+    let mut opened = opens(OF_CRATE + 3, || Cache::<1>::open_with(&small, 2, &[(7, [70]), (8, [80]), (9, [90])]));
+    assert_eq!(opened.left, [(2, Why::NoItem)]);
+    assert_eq!((opened.writer.len(), opened.readers[0].get(8).value()), (2, Some([80])));
+    Ok(())
+}
+
+// The writer goes on. Lines that were made are kept for the next handles.
+#[test]
+fn a_desk_for_a_writer_without_memory_is_an_error() -> Tested {
+    fn try_desk(writer: Writer<1>, allowed: u32) -> Result<Desk<1>, Writer<1>> {
+        with_allocations(allowed, || writer.into_desk(40)).map_err(|NoDesk { mut writer, why }| {
+            assert_eq!((why, writer.get(7).value()), (OpenError::NoMemory, Some([70])));
+            writer
+        })
+    }
+    let (mut writer, mut readers) = Cache::<1>::open(&Shape::for_items(100)?, 1)?;
+    writer.put(7, &[70])?;
+    for allowed in 0..500 {
+        match try_desk(writer, allowed) {
+            Err(refused) => writer = refused,
+            Ok(desk) => {
+                assert!(allowed > 3, "a desk after {allowed} allocations");
+                desk.pass().ok_or("no pass")?.try_put(8, &[80])?;
+                assert_eq!(readers[0].get(8).value(), Some([80]));
+                return Ok(());
+            }
+        }
+    }
+    Err("no desk after 500 allocations".into())
 }
 
 #[test]
@@ -86,12 +180,20 @@ fn a_list_without_memory_is_an_error() -> Tested {
 }
 
 #[test]
-fn to_close_takes_no_memory() -> Tested {
+fn to_lend_and_to_close_takes_no_memory() -> Tested {
+    let before = KEPT.get();
     let (writer, readers) = Cache::<1>::open(&Shape::for_items(100)?, 1)?;
     let desk = writer.into_desk(64)?;
-    with_allocations(0, || drop((desk, readers)));
+    with_allocations(0, || {
+        let meter = desk.meter();
+        drop(desk.pass());
+        let passes = desk.into_passes();
+        assert_eq!((passes.len(), meter.counts().hits), (64, 0));
+        drop((passes, readers));
+    });
     let passes = Shards::<1>::open(&Shape::for_shards(100, 4)?, 4, 5)?;
     with_allocations(0, || drop(passes));
+    assert_eq!(KEPT.get(), before);
     Ok(())
 }
 

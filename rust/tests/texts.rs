@@ -27,6 +27,7 @@ fn errors_of(status: u32) -> Vec<String> {
         20 => vec![OpenError::Limit.to_string()],
         23 => vec![Why::NoItem.to_string()],
         24 => vec![OpenError::Shards.to_string()],
+        27 => vec![OpenError::Processor.to_string()],
         _ => Vec::new(),
     }
 }
@@ -39,7 +40,7 @@ fn errors_have_the_texts_of_the_archive() {
             assert_eq!(text, text_of_archive(*status), "status {status}");
         }
     }
-    assert_eq!(errors.iter().filter(|(_, texts)| !texts.is_empty()).count(), 13);
+    assert_eq!(errors.iter().filter(|(_, texts)| !texts.is_empty()).count(), 14);
 }
 
 #[test]

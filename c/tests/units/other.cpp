@@ -1,0 +1,5 @@
+// The other file of units.cpp.
+#include "common.hpp"
+
+Addresses addresses_of_other_file() { return ADDRESSES_HERE; }
+bool serves_in_other_file(cefrodil_handle *writer, cefrodil_handle *reader) { return serves(writer, reader, 8); }
