@@ -10,6 +10,7 @@ struct prices {
     cefrodil_handle writer;
     cefrodil_handle reader;
     unsigned long misses;
+    unsigned long unput;
 };
 
 /* The price list: the slow way. */
@@ -30,7 +31,7 @@ static uint64_t total(struct prices *prices, const uint64_t *order) {
             found[line] = listed(order[line]);
             prices->misses++;
             /* A price that finds no place is read from the list again. */
-            cefrodil_put(&prices->writer, order[line], &found[line], 1, &reply);
+            prices->unput += cefrodil_put(&prices->writer, order[line], &found[line], 1, &reply) != CEFRODIL_OK;
         }
         sum += found[line];
     }
@@ -38,7 +39,7 @@ static uint64_t total(struct prices *prices, const uint64_t *order) {
 }
 
 int main(void) {
-    struct prices prices = {CEFRODIL_EMPTY, CEFRODIL_EMPTY, 0};
+    struct prices prices = {CEFRODIL_EMPTY, CEFRODIL_EMPTY, 0, 0};
     cefrodil_shape shape;
     int wrong = 0;
     if (cefrodil_shape_for_items(PRODUCTS, &shape) != CEFRODIL_OK ||
@@ -56,5 +57,5 @@ int main(void) {
     cefrodil_close(&prices.reader);
     cefrodil_close(&prices.writer);
     printf("%lu of %d prices came from the list\n", prices.misses, ORDERS * LINES);
-    return wrong != 0 || prices.misses != PRODUCTS;
+    return wrong != 0 || prices.unput != 0 || prices.misses != PRODUCTS;
 }

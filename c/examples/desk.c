@@ -25,7 +25,7 @@ static uint32_t add_one(cefrodil_handle *pass, uint64_t key) {
         return status;
     }
     value++;
-    return cefrodil_try_put_if(pass, key, reply.since, &value, 1, &reply);
+    return cefrodil_put_if(pass, key, reply.since, &value, 1, &reply);
 }
 
 static void *add_many(void *handle) {
@@ -50,7 +50,7 @@ int main(void) {
     must(cefrodil_open_desk(&shape, 1, passes, THREADS), "open");
     for (uint64_t key = 0; key < COUNTERS; key++) {
         uint64_t none = 0;
-        must(cefrodil_try_put(&passes[0], key, &none, 1, &reply), "put");
+        must(cefrodil_put(&passes[0], key, &none, 1, &reply), "put");
     }
     for (int i = 0; i < THREADS; i++) {
         if (pthread_create(&threads[i], NULL, add_many, &passes[i]) != 0) {

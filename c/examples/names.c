@@ -95,6 +95,7 @@ int main(void) {
     cefrodil_reply reply;
     struct resolved answer;
     uint64_t last = 0, found[WORDS];
+    unsigned long unput = 0;
     pthread_t threads[THREADS];
     if (cefrodil_shape_for_items(2 * NAMES, &shape) != CEFRODIL_OK || cefrodil_open(&shape, WORDS, &writer, readers, THREADS) != CEFRODIL_OK) {
         return 1;
@@ -106,7 +107,8 @@ int main(void) {
     }
     while (take(&answer)) {
         last = answer.key;
-        cefrodil_put(&writer, last, answer.value, WORDS, &reply); /* if it fails, the name is resolved again later */
+        /* If it fails, the name is resolved again later. */
+        unput += cefrodil_put(&writer, last, answer.value, WORDS, &reply) != CEFRODIL_OK;
     }
     const bool cached = cefrodil_get(&writer, last, found, WORDS, NULL) == CEFRODIL_OK;
     for (int i = 0; i < THREADS; i++) {
@@ -115,5 +117,5 @@ int main(void) {
     }
     cefrodil_close(&writer);
     printf("%lu of %d names were cached\n", all_hits, THREADS * LOOKUPS);
-    return !cached || all_wrong != 0;
+    return !cached || unput != 0 || all_wrong != 0;
 }

@@ -54,7 +54,7 @@ static bool allow(cefrodil_handle *pass, uint64_t client, uint64_t window) {
             }
             value[0] = window;
             value[1] = count + 1;
-            status = cefrodil_try_put_if(pass, client, reply.since, value, WORDS, &reply);
+            status = cefrodil_put_if(pass, client, reply.since, value, WORDS, &reply);
             if (status == CEFRODIL_OK) {
                 return true;
             }

@@ -7,7 +7,7 @@
  * What you promise at every call, because no proof can check it:
  *
  *   1. A handle is memory of yours. You zeroed it once (CEFRODIL_EMPTY), and since then only this library wrote it. To
- *      move a handle, use cefrodil_take, or copy it and zero the old place. Never use a copy beside the original.
+ *      move a handle, use cefrodil_move, or copy it and zero the old place. Never use a copy beside the original.
  *   2. One call at a time uses a handle. It passes from one thread to another by a lock, or by a thread's start or join.
  *      Or one thread stores an atomic with release order, and the other loads it with acquire order. Each of these puts
  *      the earlier calls before the later ones. Calls with different handles of one cache need no synchronization.
@@ -37,7 +37,7 @@
 
 /* The version of this header. cefrodil_version() is that of the archive, as CEFRODIL_VERSION writes it. */
 #define CEFRODIL_VERSION_MAJOR 0
-#define CEFRODIL_VERSION_MINOR 1
+#define CEFRODIL_VERSION_MINOR 2
 #define CEFRODIL_VERSION_PATCH 0
 #define CEFRODIL_VERSION (10000 * CEFRODIL_VERSION_MAJOR + 100 * CEFRODIL_VERSION_MINOR + CEFRODIL_VERSION_PATCH)
 
@@ -234,45 +234,38 @@ CEFRODIL_CHECKED CEFRODIL_NO_NULL cefrodil_status cefrodil_get_many(cefrodil_han
 CEFRODIL_CHECKED CEFRODIL_NO_NULL cefrodil_status cefrodil_get_or_desk(cefrodil_handle *pass, uint64_t key, uint64_t *value, size_t words,
                                                                        cefrodil_reply *reply);
 
-/* Puts a key with this value, by the writer. A new key evicts another one if the table is full: its `len` is its `capacity`.
+/* A write is by the writer, or by a pass, which tries once for the turn. HELD: the try did not win, and nothing was changed but the reply, so
+ * a value that should go is still there. Try again, or note the key. KIND: by a reader.
+ *
+ * Puts a key with this value. A new key evicts another one if the table is full: its `len` is its `capacity`.
  * OK: `at`, `put` and `moves` are set, and with PUT_EVICTED `evicted`. NO_PATH or ALL_RECENT: the key is absent, and was not put. SPENT: it
- * was not put, and an earlier value stays. CLOSED, KIND, WIDTH. */
-CEFRODIL_NO_NULL cefrodil_status cefrodil_put(cefrodil_handle *writer, uint64_t key, const uint64_t *value, size_t words,
-                                              cefrodil_reply *reply);
+ * was not put, and an earlier value stays. HELD, CLOSED, KIND, WIDTH. */
+CEFRODIL_CHECKED CEFRODIL_NO_NULL cefrodil_status cefrodil_put(cefrodil_handle *handle, uint64_t key, const uint64_t *value, size_t words,
+                                                               cefrodil_reply *reply);
 
-/* Overwrites the value of a key if its last put was at `since`, as a lookup of the key returned it. By the writer.
+/* Overwrites the value of a key if its last put was at `since`, as a lookup of the key returned it.
  * OK: `at` is set, and `put` is PUT_RENEWED. ABSENT: `at` is set. CHANGED: `since` is that of the key's last put.
- * SPENT, CLOSED, KIND, WIDTH. */
-CEFRODIL_CHECKED CEFRODIL_NO_NULL cefrodil_status cefrodil_put_if(cefrodil_handle *writer, uint64_t key, uint64_t since,
+ * SPENT, HELD, CLOSED, KIND, WIDTH. */
+CEFRODIL_CHECKED CEFRODIL_NO_NULL cefrodil_status cefrodil_put_if(cefrodil_handle *handle, uint64_t key, uint64_t since,
                                                                   const uint64_t *value, size_t words, cefrodil_reply *reply);
 
-/* Puts a key only if it is absent, by the writer. Evicts as cefrodil_put does.
+/* Puts a key only if it is absent. Evicts as cefrodil_put does.
  * OK: as in cefrodil_put; `put` is never PUT_RENEWED. PRESENT: `since` is that of the key's last put, and the key counts as used.
- * NO_PATH, ALL_RECENT or SPENT: the key is absent, and was not put. CLOSED, KIND, WIDTH. */
-CEFRODIL_CHECKED CEFRODIL_NO_NULL cefrodil_status cefrodil_put_if_absent(cefrodil_handle *writer, uint64_t key, const uint64_t *value,
+ * NO_PATH, ALL_RECENT or SPENT: the key is absent, and was not put. HELD, CLOSED, KIND, WIDTH. */
+CEFRODIL_CHECKED CEFRODIL_NO_NULL cefrodil_status cefrodil_put_if_absent(cefrodil_handle *handle, uint64_t key, const uint64_t *value,
                                                                          size_t words, cefrodil_reply *reply);
 
-/* Removes a key, by the writer.
- * OK and ABSENT: `at` is set. SPENT, CLOSED, KIND. */
-CEFRODIL_NO_NULL cefrodil_status cefrodil_remove(cefrodil_handle *writer, uint64_t key, cefrodil_reply *reply);
+/* Removes a key.
+ * OK and ABSENT: `at` is set. SPENT, HELD, CLOSED, KIND. */
+CEFRODIL_CHECKED CEFRODIL_NO_NULL cefrodil_status cefrodil_remove(cefrodil_handle *handle, uint64_t key, cefrodil_reply *reply);
 
-/* The same four calls by a pass, which tries once for the turn. HELD: the try did not win, and nothing was changed but the reply, so a value
- * that should go is still there. Try again, or note the key. */
-CEFRODIL_CHECKED CEFRODIL_NO_NULL cefrodil_status cefrodil_try_put(cefrodil_handle *pass, uint64_t key, const uint64_t *value, size_t words,
-                                                                   cefrodil_reply *reply);
-CEFRODIL_CHECKED CEFRODIL_NO_NULL cefrodil_status cefrodil_try_put_if(cefrodil_handle *pass, uint64_t key, uint64_t since,
-                                                                      const uint64_t *value, size_t words, cefrodil_reply *reply);
-CEFRODIL_CHECKED CEFRODIL_NO_NULL cefrodil_status cefrodil_try_put_if_absent(cefrodil_handle *pass, uint64_t key, const uint64_t *value,
-                                                                             size_t words, cefrodil_reply *reply);
-CEFRODIL_CHECKED CEFRODIL_NO_NULL cefrodil_status cefrodil_try_remove(cefrodil_handle *pass, uint64_t key, cefrodil_reply *reply);
-
-/* Like cefrodil_try_put, with up to `tries` tries, at least one, one after the other without a pause. HELD: none of them won. */
-CEFRODIL_CHECKED CEFRODIL_NO_NULL cefrodil_status cefrodil_put_within(cefrodil_handle *pass, uint32_t tries, uint64_t key,
+/* Like cefrodil_put; a pass tries up to `tries` times for the turn, at least once, one try after the other without a pause. HELD: none of
+ * them won. */
+CEFRODIL_CHECKED CEFRODIL_NO_NULL cefrodil_status cefrodil_put_within(cefrodil_handle *handle, uint32_t tries, uint64_t key,
                                                                       const uint64_t *value, size_t words, cefrodil_reply *reply);
 
 /* Like cefrodil_put, cefrodil_put_if and cefrodil_remove, and they also return the entry that gives way: the key's earlier one, or that
- * of the key that was evicted. So a program that keeps objects behind the cache knows which to free. By the writer; or by a pass,
- * which tries once for the turn. `former` has `former_words` words.
+ * of the key that was evicted. So a program that keeps objects behind the cache knows which to free. `former` has `former_words` words.
  * OK: as for cefrodil_put, cefrodil_put_if and cefrodil_remove. If an entry gave way, `former` is its value, and `since` the `at` of its last
  * put. If a new key evicted none, `former` is unchanged, and `since` is 0. HELD: the try of a pass did not win. WIDTH: `words` or
  * `former_words` does not match.
@@ -282,8 +275,8 @@ CEFRODIL_CHECKED CEFRODIL_NO_NULL cefrodil_status cefrodil_swap(cefrodil_handle 
 CEFRODIL_CHECKED CEFRODIL_NO_NULL cefrodil_status cefrodil_swap_if(cefrodil_handle *handle, uint64_t key, uint64_t since,
                                                                    const uint64_t *value, size_t words, uint64_t *former,
                                                                    size_t former_words, cefrodil_reply *reply);
-CEFRODIL_CHECKED CEFRODIL_NO_NULL cefrodil_status cefrodil_take_out(cefrodil_handle *handle, uint64_t key, uint64_t *former,
-                                                                    size_t former_words, cefrodil_reply *reply);
+CEFRODIL_CHECKED CEFRODIL_NO_NULL cefrodil_status cefrodil_take(cefrodil_handle *handle, uint64_t key, uint64_t *former,
+                                                                size_t former_words, cefrodil_reply *reply);
 
 /* Ends a pass's turns: its handle becomes a reader's. The last pass of a desk gets the writer back, so a program can go on with one
  * writer. For that every pass of the desk leaves, in any order and in any thread, or is closed. If the last one is closed, the writer is
@@ -293,19 +286,17 @@ CEFRODIL_CHECKED CEFRODIL_NO_NULL cefrodil_status cefrodil_take_out(cefrodil_han
  * NO_MEMORY. */
 CEFRODIL_CHECKED CEFRODIL_NO_NULL cefrodil_status cefrodil_leave_desk(cefrodil_handle *pass, cefrodil_handle *writer);
 
-/* The number of changes to the table, which is the `at` of a lookup made now, and the number of keys in it. By the writer. Neither
- * looks through the table.
+/* The number of changes to the table, which is the `at` of a lookup made now. By the writer.
  * OK: the number is set. CLOSED, KIND: it is unchanged. */
 CEFRODIL_CHECKED CEFRODIL_NO_NULL cefrodil_status cefrodil_moment(cefrodil_handle *writer, uint64_t *moment);
-CEFRODIL_CHECKED CEFRODIL_NO_NULL cefrodil_status cefrodil_len(cefrodil_handle *writer, uint64_t *len);
+
+/* The number of keys in the table, by the writer, or by a pass of a desk, which tries once for the turn. It does not look through the table.
+ * OK: `len` is set. HELD: the try did not win. CLOSED; KIND: also by a pass of shards. Unless OK, `len` is unchanged. */
+CEFRODIL_CHECKED CEFRODIL_NO_NULL cefrodil_status cefrodil_len(cefrodil_handle *handle, uint64_t *len);
 
 /* The number of keys that the cache holds at most: the `items` of its shape, times the shards if there are any. By any handle.
  * OK: the number is set. CLOSED: it is unchanged. */
 CEFRODIL_CHECKED CEFRODIL_NO_NULL cefrodil_status cefrodil_capacity(cefrodil_handle *handle, uint64_t *capacity);
-
-/* The number of keys in the table, by a pass of a desk, which tries once for the turn.
- * OK: `len` is set. HELD: the try did not win. CLOSED; KIND: also by a pass of shards. Unless OK, `len` is unchanged. */
-CEFRODIL_CHECKED CEFRODIL_NO_NULL cefrodil_status cefrodil_try_len(cefrodil_handle *pass, uint64_t *len);
 
 /* Lists each key with its value, by the writer or a pass. A pass tries once for the turn, and a pass of shards once for that of each
  * shard, so it lists each shard at a moment of its own. An entry is its key, then the words of its value, as cefrodil_open_with
@@ -327,9 +318,9 @@ CEFRODIL_CHECKED CEFRODIL_NO_NULL cefrodil_status cefrodil_stamped_entries(cefro
  * OK, or CLOSED if it was not open, or null. The handle is closed afterwards. */
 CEFRODIL_NO_NULL cefrodil_status cefrodil_close(cefrodil_handle *handle);
 
-/* cefrodil_get, cefrodil_put, cefrodil_get_or_desk and cefrodil_try_put for values of 1 to 8 words. An optimizing compiler calls these
- * where `words` is a constant, because they take fewer instructions. A program has no need to name them: each returns what the call
- * without a number returns. */
+/* cefrodil_get, cefrodil_put and cefrodil_get_or_desk for values of 1 to 8 words. An optimizing compiler calls these where `words` is a
+ * constant, because they take fewer instructions. A program has no need to name them: each returns what the call without a number
+ * returns. */
 CEFRODIL_CHECKED CEFRODIL_NO_NULL cefrodil_status cefrodil_get_1(cefrodil_handle *reader, uint64_t key, uint64_t *value,
                                                                  cefrodil_reply *reply);
 CEFRODIL_CHECKED CEFRODIL_NO_NULL cefrodil_status cefrodil_get_2(cefrodil_handle *reader, uint64_t key, uint64_t *value,
@@ -346,14 +337,22 @@ CEFRODIL_CHECKED CEFRODIL_NO_NULL cefrodil_status cefrodil_get_7(cefrodil_handle
                                                                  cefrodil_reply *reply);
 CEFRODIL_CHECKED CEFRODIL_NO_NULL cefrodil_status cefrodil_get_8(cefrodil_handle *reader, uint64_t key, uint64_t *value,
                                                                  cefrodil_reply *reply);
-CEFRODIL_NO_NULL cefrodil_status cefrodil_put_1(cefrodil_handle *writer, uint64_t key, const uint64_t *value, cefrodil_reply *reply);
-CEFRODIL_NO_NULL cefrodil_status cefrodil_put_2(cefrodil_handle *writer, uint64_t key, const uint64_t *value, cefrodil_reply *reply);
-CEFRODIL_NO_NULL cefrodil_status cefrodil_put_3(cefrodil_handle *writer, uint64_t key, const uint64_t *value, cefrodil_reply *reply);
-CEFRODIL_NO_NULL cefrodil_status cefrodil_put_4(cefrodil_handle *writer, uint64_t key, const uint64_t *value, cefrodil_reply *reply);
-CEFRODIL_NO_NULL cefrodil_status cefrodil_put_5(cefrodil_handle *writer, uint64_t key, const uint64_t *value, cefrodil_reply *reply);
-CEFRODIL_NO_NULL cefrodil_status cefrodil_put_6(cefrodil_handle *writer, uint64_t key, const uint64_t *value, cefrodil_reply *reply);
-CEFRODIL_NO_NULL cefrodil_status cefrodil_put_7(cefrodil_handle *writer, uint64_t key, const uint64_t *value, cefrodil_reply *reply);
-CEFRODIL_NO_NULL cefrodil_status cefrodil_put_8(cefrodil_handle *writer, uint64_t key, const uint64_t *value, cefrodil_reply *reply);
+CEFRODIL_CHECKED CEFRODIL_NO_NULL cefrodil_status cefrodil_put_1(cefrodil_handle *handle, uint64_t key, const uint64_t *value,
+                                                                 cefrodil_reply *reply);
+CEFRODIL_CHECKED CEFRODIL_NO_NULL cefrodil_status cefrodil_put_2(cefrodil_handle *handle, uint64_t key, const uint64_t *value,
+                                                                 cefrodil_reply *reply);
+CEFRODIL_CHECKED CEFRODIL_NO_NULL cefrodil_status cefrodil_put_3(cefrodil_handle *handle, uint64_t key, const uint64_t *value,
+                                                                 cefrodil_reply *reply);
+CEFRODIL_CHECKED CEFRODIL_NO_NULL cefrodil_status cefrodil_put_4(cefrodil_handle *handle, uint64_t key, const uint64_t *value,
+                                                                 cefrodil_reply *reply);
+CEFRODIL_CHECKED CEFRODIL_NO_NULL cefrodil_status cefrodil_put_5(cefrodil_handle *handle, uint64_t key, const uint64_t *value,
+                                                                 cefrodil_reply *reply);
+CEFRODIL_CHECKED CEFRODIL_NO_NULL cefrodil_status cefrodil_put_6(cefrodil_handle *handle, uint64_t key, const uint64_t *value,
+                                                                 cefrodil_reply *reply);
+CEFRODIL_CHECKED CEFRODIL_NO_NULL cefrodil_status cefrodil_put_7(cefrodil_handle *handle, uint64_t key, const uint64_t *value,
+                                                                 cefrodil_reply *reply);
+CEFRODIL_CHECKED CEFRODIL_NO_NULL cefrodil_status cefrodil_put_8(cefrodil_handle *handle, uint64_t key, const uint64_t *value,
+                                                                 cefrodil_reply *reply);
 CEFRODIL_CHECKED CEFRODIL_NO_NULL cefrodil_status cefrodil_get_or_desk_1(cefrodil_handle *pass, uint64_t key, uint64_t *value,
                                                                          cefrodil_reply *reply);
 CEFRODIL_CHECKED CEFRODIL_NO_NULL cefrodil_status cefrodil_get_or_desk_2(cefrodil_handle *pass, uint64_t key, uint64_t *value,
@@ -370,22 +369,6 @@ CEFRODIL_CHECKED CEFRODIL_NO_NULL cefrodil_status cefrodil_get_or_desk_7(cefrodi
                                                                          cefrodil_reply *reply);
 CEFRODIL_CHECKED CEFRODIL_NO_NULL cefrodil_status cefrodil_get_or_desk_8(cefrodil_handle *pass, uint64_t key, uint64_t *value,
                                                                          cefrodil_reply *reply);
-CEFRODIL_CHECKED CEFRODIL_NO_NULL cefrodil_status cefrodil_try_put_1(cefrodil_handle *pass, uint64_t key, const uint64_t *value,
-                                                                     cefrodil_reply *reply);
-CEFRODIL_CHECKED CEFRODIL_NO_NULL cefrodil_status cefrodil_try_put_2(cefrodil_handle *pass, uint64_t key, const uint64_t *value,
-                                                                     cefrodil_reply *reply);
-CEFRODIL_CHECKED CEFRODIL_NO_NULL cefrodil_status cefrodil_try_put_3(cefrodil_handle *pass, uint64_t key, const uint64_t *value,
-                                                                     cefrodil_reply *reply);
-CEFRODIL_CHECKED CEFRODIL_NO_NULL cefrodil_status cefrodil_try_put_4(cefrodil_handle *pass, uint64_t key, const uint64_t *value,
-                                                                     cefrodil_reply *reply);
-CEFRODIL_CHECKED CEFRODIL_NO_NULL cefrodil_status cefrodil_try_put_5(cefrodil_handle *pass, uint64_t key, const uint64_t *value,
-                                                                     cefrodil_reply *reply);
-CEFRODIL_CHECKED CEFRODIL_NO_NULL cefrodil_status cefrodil_try_put_6(cefrodil_handle *pass, uint64_t key, const uint64_t *value,
-                                                                     cefrodil_reply *reply);
-CEFRODIL_CHECKED CEFRODIL_NO_NULL cefrodil_status cefrodil_try_put_7(cefrodil_handle *pass, uint64_t key, const uint64_t *value,
-                                                                     cefrodil_reply *reply);
-CEFRODIL_CHECKED CEFRODIL_NO_NULL cefrodil_status cefrodil_try_put_8(cefrodil_handle *pass, uint64_t key, const uint64_t *value,
-                                                                     cefrodil_reply *reply);
 
 #ifdef __cplusplus
 }
@@ -414,13 +397,13 @@ CEFRODIL_INLINE cefrodil_handle cefrodil_empty(void) {
 }
 
 /* Moves a handle: returns it, and leaves the old place empty. */
-CEFRODIL_CHECKED CEFRODIL_INLINE cefrodil_handle cefrodil_take(cefrodil_handle *from) {
+CEFRODIL_CHECKED CEFRODIL_INLINE cefrodil_handle cefrodil_move(cefrodil_handle *from) {
     const cefrodil_handle taken = *from;
     *from = cefrodil_empty();
     return taken;
 }
 
-/* The exports take no null pointer. The functions from here on take one where that is allowed, and four of them call the export for
+/* The exports take no null pointer. The functions from here on take one where that is allowed, and three of them call the export for
  * the width of a value where that is a constant. The macros behind them give them the names of the exports. A program that defines
  * CEFRODIL_NO_MACROS goes without these: then no pointer may be null, and cefrodil_get_of_width and so on are called by their own names. */
 CEFRODIL_CHECKED CEFRODIL_INLINED(nonnull(1, 3)) cefrodil_status cefrodil_get_of_width(cefrodil_handle *reader, uint64_t key, uint64_t *value,
@@ -440,18 +423,19 @@ CEFRODIL_CHECKED CEFRODIL_INLINED(nonnull(1, 3)) cefrodil_status cefrodil_get_of
     }
 }
 
-CEFRODIL_INLINED(nonnull) cefrodil_status cefrodil_put_of_width(cefrodil_handle *writer, uint64_t key, const uint64_t *value, size_t words,
-                                                                cefrodil_reply *reply) {
+CEFRODIL_CHECKED CEFRODIL_INLINED(nonnull) cefrodil_status cefrodil_put_of_width(cefrodil_handle *handle, uint64_t key,
+                                                                                 const uint64_t *value, size_t words,
+                                                                                 cefrodil_reply *reply) {
     switch (CEFRODIL_KNOWN(words) ? words : 0) {
-    case 1: return cefrodil_put_1(writer, key, value, reply);
-    case 2: return cefrodil_put_2(writer, key, value, reply);
-    case 3: return cefrodil_put_3(writer, key, value, reply);
-    case 4: return cefrodil_put_4(writer, key, value, reply);
-    case 5: return cefrodil_put_5(writer, key, value, reply);
-    case 6: return cefrodil_put_6(writer, key, value, reply);
-    case 7: return cefrodil_put_7(writer, key, value, reply);
-    case 8: return cefrodil_put_8(writer, key, value, reply);
-    default: return cefrodil_put(writer, key, value, words, reply);
+    case 1: return cefrodil_put_1(handle, key, value, reply);
+    case 2: return cefrodil_put_2(handle, key, value, reply);
+    case 3: return cefrodil_put_3(handle, key, value, reply);
+    case 4: return cefrodil_put_4(handle, key, value, reply);
+    case 5: return cefrodil_put_5(handle, key, value, reply);
+    case 6: return cefrodil_put_6(handle, key, value, reply);
+    case 7: return cefrodil_put_7(handle, key, value, reply);
+    case 8: return cefrodil_put_8(handle, key, value, reply);
+    default: return cefrodil_put(handle, key, value, words, reply);
     }
 }
 
@@ -467,22 +451,6 @@ CEFRODIL_CHECKED CEFRODIL_INLINED(nonnull) cefrodil_status cefrodil_get_or_desk_
     case 7: return cefrodil_get_or_desk_7(pass, key, value, reply);
     case 8: return cefrodil_get_or_desk_8(pass, key, value, reply);
     default: return cefrodil_get_or_desk(pass, key, value, words, reply);
-    }
-}
-
-CEFRODIL_CHECKED CEFRODIL_INLINED(nonnull) cefrodil_status cefrodil_try_put_of_width(cefrodil_handle *pass, uint64_t key,
-                                                                                     const uint64_t *value, size_t words,
-                                                                                     cefrodil_reply *reply) {
-    switch (CEFRODIL_KNOWN(words) ? words : 0) {
-    case 1: return cefrodil_try_put_1(pass, key, value, reply);
-    case 2: return cefrodil_try_put_2(pass, key, value, reply);
-    case 3: return cefrodil_try_put_3(pass, key, value, reply);
-    case 4: return cefrodil_try_put_4(pass, key, value, reply);
-    case 5: return cefrodil_try_put_5(pass, key, value, reply);
-    case 6: return cefrodil_try_put_6(pass, key, value, reply);
-    case 7: return cefrodil_try_put_7(pass, key, value, reply);
-    case 8: return cefrodil_try_put_8(pass, key, value, reply);
-    default: return cefrodil_try_put(pass, key, value, words, reply);
     }
 }
 
@@ -511,10 +479,7 @@ CEFRODIL_CHECKED CEFRODIL_INLINE cefrodil_status cefrodil_get_many_or_none(cefro
 
 /* Counts the entries for a list that has no room, by the writer or a pass of a desk, and makes no list. KIND: by another handle. */
 CEFRODIL_CHECKED CEFRODIL_INLINE cefrodil_status cefrodil_list_without_room(cefrodil_handle *handle, uint64_t *count) {
-    cefrodil_status status = cefrodil_len(handle, count);
-    if (status == CEFRODIL_KIND) {
-        status = cefrodil_try_len(handle, count);
-    }
+    const cefrodil_status status = cefrodil_len(handle, count);
     return status == CEFRODIL_OK && *count != 0 ? CEFRODIL_BAD_COUNT : status;
 }
 
@@ -546,7 +511,6 @@ CEFRODIL_CHECKED CEFRODIL_INLINE cefrodil_status cefrodil_stamped_entries_or_non
 #define cefrodil_get cefrodil_get_of_width
 #define cefrodil_put cefrodil_put_of_width
 #define cefrodil_get_or_desk cefrodil_get_or_desk_of_width
-#define cefrodil_try_put cefrodil_try_put_of_width
 #define cefrodil_close cefrodil_close_unless_null
 #define cefrodil_open_with cefrodil_open_with_or_none
 #define cefrodil_get_many cefrodil_get_many_or_none

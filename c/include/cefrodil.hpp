@@ -128,17 +128,17 @@ template <size_t Words> class Pass : public Lookups<Words> {
     }
     [[nodiscard]] Written try_put_if(uint64_t key, uint64_t since, const Value &value) noexcept {
         cefrodil_reply reply;
-        const cefrodil_status status = cefrodil_try_put_if(this->raw(), key, since, value.data(), Words, &reply);
+        const cefrodil_status status = cefrodil_put_if(this->raw(), key, since, value.data(), Words, &reply);
         return this->wrote(status, reply);
     }
     [[nodiscard]] Written try_put_if_absent(uint64_t key, const Value &value) noexcept {
         cefrodil_reply reply;
-        const cefrodil_status status = cefrodil_try_put_if_absent(this->raw(), key, value.data(), Words, &reply);
+        const cefrodil_status status = cefrodil_put_if_absent(this->raw(), key, value.data(), Words, &reply);
         return this->wrote(status, reply);
     }
     [[nodiscard]] Written try_remove(uint64_t key) noexcept {
         cefrodil_reply reply;
-        const cefrodil_status status = cefrodil_try_remove(this->raw(), key, &reply);
+        const cefrodil_status status = cefrodil_remove(this->raw(), key, &reply);
         return this->wrote(status, reply);
     }
     // Like try_put, try_put_if and try_remove, and they also return the entry that gives way.
@@ -163,7 +163,7 @@ template <size_t Words> class Pass : public Lookups<Words> {
         return status;
     }
     // The number of keys, in a turn at a desk. It is held if the try does not win.
-    [[nodiscard]] Status try_len(uint64_t &number) noexcept { return this->tried(cefrodil_try_len(this->raw(), &number)); }
+    [[nodiscard]] Status try_len(uint64_t &number) noexcept { return this->tried(cefrodil_len(this->raw(), &number)); }
     // Like Writer::entries, but `words` takes room for `capacity` entries, so that one turn is enough. It is held if a try for a turn does not win.
     [[nodiscard]] Status try_entries(std::vector<uint64_t> &words) noexcept {
         return this->list(1 + Words, words, cefrodil_capacity, cefrodil_entries_or_none);

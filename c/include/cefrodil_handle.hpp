@@ -218,7 +218,7 @@ class Handle {
     template <size_t Words> Swapped<Words> take_words(uint64_t key) noexcept {
         cefrodil_reply reply;
         std::array<uint64_t, Words> old{};
-        const cefrodil_status status = cefrodil_take_out(&raw_, key, old.data(), Words, &reply);
+        const cefrodil_status status = cefrodil_take(&raw_, key, old.data(), Words, &reply);
         return inside::swapped<Words>(wrote(status, reply), old, true);
     }
 

@@ -15,13 +15,13 @@ static uint32_t count(cefrodil_handle *pass, uint64_t key, uint32_t looked, uint
     cefrodil_reply reply;
     if (looked == CEFRODIL_ABSENT) {
         uint64_t one = 1;
-        return cefrodil_try_put_if_absent(pass, key, &one, 1, &reply);
+        return cefrodil_put_if_absent(pass, key, &one, 1, &reply);
     }
     if (looked != CEFRODIL_OK) {
         return looked;
     }
     found++;
-    return cefrodil_try_put_if(pass, key, since, &found, 1, &reply);
+    return cefrodil_put_if(pass, key, since, &found, 1, &reply);
 }
 
 /* A key that cannot be put is found out at the end: a thread that gave up would leave the others waiting. */

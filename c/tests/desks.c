@@ -28,8 +28,8 @@ static void statuses(void) {
     MUST(cefrodil_make_desk(&writer, passes, 2) == CEFRODIL_OK && !writer.live_ && passes[0].live_ && passes[1].live_);
     MUST(cefrodil_make_desk(&passes[0], crowd, 1) == CEFRODIL_KIND);
     MUST(cefrodil_get(&passes[0], 1, found, 2, &reply) == CEFRODIL_OK && found[0] == 10 && found[1] == 11 && reply.at == 2);
-    MUST(cefrodil_try_put(&passes[1], 3, value, 2, &reply) == CEFRODIL_OK && reply.at == 3);
-    MUST(cefrodil_try_len(&passes[0], &found[0]) == CEFRODIL_OK && found[0] == 3);
+    MUST(cefrodil_put(&passes[1], 3, value, 2, &reply) == CEFRODIL_OK && reply.at == 3);
+    MUST(cefrodil_len(&passes[0], &found[0]) == CEFRODIL_OK && found[0] == 3);
     MUST(cefrodil_get(&readers[1], 3, found, 2, &reply) == CEFRODIL_OK && found[1] == 8 && reply.at == 3);
     MUST(cefrodil_close(&passes[0]) == CEFRODIL_OK && cefrodil_close(&passes[1]) == CEFRODIL_OK);
     close_readers();
@@ -43,7 +43,7 @@ static void again(size_t words) {
     opened_with_one_entry(words);
     for (uint64_t round = 0; round < 5; round++) {
         MUST(cefrodil_make_desk(&writer, passes, 2) == CEFRODIL_OK);
-        MUST(cefrodil_try_put(&passes[0], 100 + round, entries + 1, words, &reply) == CEFRODIL_OK && reply.at == 2 * round + 2);
+        MUST(cefrodil_put(&passes[0], 100 + round, entries + 1, words, &reply) == CEFRODIL_OK && reply.at == 2 * round + 2);
         MUST(cefrodil_leave_desk(&passes[1], &writer) == CEFRODIL_NOT_LAST && cefrodil_leave_desk(&passes[0], &writer) == CEFRODIL_OK);
         MUST(cefrodil_put(&writer, 200 + round, entries + 1, words, &reply) == CEFRODIL_OK && reply.at == 2 * round + 3);
         for (int i = 0; i < 2; i++) {

@@ -156,7 +156,7 @@ static void listed_by_turns(void) {
         shape.mix = CEFRODIL_MIX_FULL;
         MUST((of_shards ? cefrodil_open_shards(&shape, 4, 1, readers, 2) : cefrodil_open_desk(&shape, 1, readers, 2)) == CEFRODIL_OK);
         for (uint64_t key = 1; key <= 10; key++) {
-            MUST(cefrodil_try_put(&readers[0], key, &key, 1, &reply) == CEFRODIL_OK);
+            MUST(cefrodil_put(&readers[0], key, &key, 1, &reply) == CEFRODIL_OK);
         }
         MUST(cefrodil_entries(&readers[1], list, 19, &count) == CEFRODIL_BAD_COUNT && count == 10 && list[0] == 0);
         MUST(cefrodil_entries(&readers[1], list, 20, &count) == CEFRODIL_OK && count == 10);
@@ -197,8 +197,8 @@ static void stamped_by_turns(void) {
         const uint64_t value = 7;
         shape.mix = CEFRODIL_MIX_FULL;
         MUST((of_shards ? cefrodil_open_shards(&shape, 4, 1, readers, 2) : cefrodil_open_desk(&shape, 1, readers, 2)) == CEFRODIL_OK);
-        MUST(cefrodil_try_put(&readers[0], 5, &value, 1, &reply) == CEFRODIL_OK);
-        MUST(cefrodil_try_put(&readers[0], 5, &value, 1, &reply) == CEFRODIL_OK);
+        MUST(cefrodil_put(&readers[0], 5, &value, 1, &reply) == CEFRODIL_OK);
+        MUST(cefrodil_put(&readers[0], 5, &value, 1, &reply) == CEFRODIL_OK);
         if (of_shards) {
             MUST(cefrodil_stamped_entries(&readers[1], list, 3, &count) == CEFRODIL_KIND && count == 98 && list[0] == 99);
         } else {

@@ -23,7 +23,7 @@ static void assigned(const cefrodil_shape *shape) {
     reader = cefrodil_empty();
     MUST(!writer.live_ && writer.at_ == cefrodil_empty().at_ && cefrodil_close(&writer) == CEFRODIL_CLOSED);
     MUST(cefrodil_open(shape, 1, &writer, &reader, 1) == CEFRODIL_OK && writer.live_);
-    other = cefrodil_take(&writer);
+    other = cefrodil_move(&writer);
     MUST(!writer.live_ && other.live_ && cefrodil_close(&other) == CEFRODIL_OK && cefrodil_close(&reader) == CEFRODIL_OK);
 }
 

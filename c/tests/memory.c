@@ -127,7 +127,7 @@ static int all_list(const cefrodil_shape *shape, size_t words) {
         }
         cefrodil_close(&writer);
         listed = listed && open_one(shape, words, how) == CEFRODIL_OK &&
-                 cefrodil_try_put(&handles[0], 0, entries, words, &reply) == CEFRODIL_OK && lists(&handles[0], words, false) &&
+                 cefrodil_put(&handles[0], 0, entries, words, &reply) == CEFRODIL_OK && lists(&handles[0], words, false) &&
                  (how == BY_SHARDS || lists(&handles[0], words, true)) && counts(&handles[0], how == BY_SHARDS);
     }
     for (int i = 0; i < 4; i++) {
@@ -160,7 +160,7 @@ static int leaves(const cefrodil_shape *shape, size_t words) {
     left_it = left_it && cefrodil_leave_desk(&handles[0], &writer) == CEFRODIL_NO_MEMORY && !writer.live_;
     left = -1;
     left_it = left_it && leaves_by_kind_first(shape, words);
-    left_it = left_it && kept == before && cefrodil_try_put(&handles[0], 1, entries, words, &reply) == CEFRODIL_OK &&
+    left_it = left_it && kept == before && cefrodil_put(&handles[0], 1, entries, words, &reply) == CEFRODIL_OK &&
               cefrodil_leave_desk(&handles[0], &writer) == CEFRODIL_OK && cefrodil_put(&writer, 2, entries, words, &reply) == CEFRODIL_OK;
     cefrodil_close(&handles[0]);
     cefrodil_close(&writer);
@@ -178,7 +178,7 @@ static int makes_desk(const cefrodil_shape *shape, size_t words) {
         left = allowed;
         status = cefrodil_make_desk(&writer, passes, 3);
         left = -1;
-        made = status == CEFRODIL_OK ? !writer.live_ && cefrodil_try_put(&passes[2], 1, entries, words, &reply) == CEFRODIL_OK
+        made = status == CEFRODIL_OK ? !writer.live_ && cefrodil_put(&passes[2], 1, entries, words, &reply) == CEFRODIL_OK
                                      : status == CEFRODIL_NO_MEMORY && kept == before && !passes[0].live_ && !passes[1].live_ && !passes[2].live_ &&
                                            cefrodil_put(&writer, 0, entries, words, &reply) == CEFRODIL_OK;
     }

@@ -33,7 +33,7 @@ static void empty(void) {
     for (uint64_t key = 0; key < KEYS; key++) {
         cefrodil_reply reply;
         uint64_t old = OBJECTS;
-        const uint32_t status = cefrodil_take_out(&handle, key, &old, 1, &reply);
+        const uint32_t status = cefrodil_take(&handle, key, &old, 1, &reply);
         MUST(status == CEFRODIL_OK || (status == CEFRODIL_ABSENT && old == OBJECTS));
         if (status == CEFRODIL_OK) {
             free_object(old);
@@ -65,19 +65,19 @@ static void replace(void) {
     MUST(cefrodil_swap_if(&handle, 8, 1, &value, 1, &old, 1, &reply) == CEFRODIL_ABSENT && reply.at == 1 && old == 0);
     MUST(cefrodil_swap_if(&handle, 7, 1, &value, 1, &old, 1, &reply) == CEFRODIL_OK && reply.at == 2 && reply.since == 1 && old == 70);
     MUST(reply.put == CEFRODIL_PUT_RENEWED);
-    MUST(cefrodil_take_out(&handle, 7, &old, 1, &reply) == CEFRODIL_OK && reply.at == 3 && reply.since == 2 && old == 71);
-    MUST(cefrodil_take_out(&handle, 7, &old, 1, &reply) == CEFRODIL_ABSENT && reply.at == 3 && old == 71);
-    MUST(cefrodil_swap(&handle, 7, &value, 1, &old, 2, &reply) == CEFRODIL_WIDTH && cefrodil_take_out(&handle, 7, &old, 2, &reply) == CEFRODIL_WIDTH);
+    MUST(cefrodil_take(&handle, 7, &old, 1, &reply) == CEFRODIL_OK && reply.at == 3 && reply.since == 2 && old == 71);
+    MUST(cefrodil_take(&handle, 7, &old, 1, &reply) == CEFRODIL_ABSENT && reply.at == 3 && old == 71);
+    MUST(cefrodil_swap(&handle, 7, &value, 1, &old, 2, &reply) == CEFRODIL_WIDTH && cefrodil_take(&handle, 7, &old, 2, &reply) == CEFRODIL_WIDTH);
     MUST(cefrodil_close(&handle) == CEFRODIL_OK);
     MUST(cefrodil_swap(&handle, 7, &value, 1, &old, 1, &reply) == CEFRODIL_CLOSED && old == 71);
     MUST(cefrodil_swap_if(&handle, 7, 1, &value, 1, &old, 1, &reply) == CEFRODIL_CLOSED);
-    MUST(cefrodil_take_out(&handle, 7, &old, 1, &reply) == CEFRODIL_CLOSED);
+    MUST(cefrodil_take(&handle, 7, &old, 1, &reply) == CEFRODIL_CLOSED);
 }
 
 static void by_a_reader(cefrodil_handle *reader) {
     cefrodil_reply reply;
     uint64_t value = 70, old = 0;
-    MUST(cefrodil_swap(reader, 7, &value, 1, &old, 1, &reply) == CEFRODIL_KIND && cefrodil_take_out(reader, 7, &old, 1, &reply) == CEFRODIL_KIND);
+    MUST(cefrodil_swap(reader, 7, &value, 1, &old, 1, &reply) == CEFRODIL_KIND && cefrodil_take(reader, 7, &old, 1, &reply) == CEFRODIL_KIND);
     MUST(cefrodil_swap_if(reader, 7, 1, &value, 1, &old, 1, &reply) == CEFRODIL_KIND);
     MUST(cefrodil_close(reader) == CEFRODIL_OK);
 }

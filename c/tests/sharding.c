@@ -49,17 +49,17 @@ static void calls(void) {
     MUST(cefrodil_get(&passes[0], 1, found, 2, &reply) == CEFRODIL_ABSENT && found[0] == 0 && reply.at == 0);
     uint64_t capacity = 0;
     MUST(cefrodil_capacity(&passes[1], &capacity) == CEFRODIL_OK && capacity == 103 * SHARDS);
-    MUST(cefrodil_try_put(&passes[0], 1, value, 2, &reply) == CEFRODIL_OK && reply.at == 1 && reply.put == CEFRODIL_PUT_STORED);
+    MUST(cefrodil_put(&passes[0], 1, value, 2, &reply) == CEFRODIL_OK && reply.at == 1 && reply.put == CEFRODIL_PUT_STORED);
     MUST(cefrodil_get(&passes[1], 1, found, 2, &reply) == CEFRODIL_OK && found[0] == 7 && found[1] == 8 && reply.since == 1);
     MUST(cefrodil_get_or_desk(&passes[1], 1, found, 2, &reply) == CEFRODIL_OK && reply.at == 1);
     MUST(cefrodil_put_within(&passes[1], 0, 1, value, 2, &reply) == CEFRODIL_OK && reply.at == 2 && reply.put == CEFRODIL_PUT_RENEWED);
     MUST(cefrodil_put_within(&passes[1], 9, 1, value, 2, &reply) == CEFRODIL_OK && reply.at == 3);
-    MUST(cefrodil_try_put_if(&passes[0], 1, 2, value, 2, &reply) == CEFRODIL_CHANGED && reply.since == 3);
-    MUST(cefrodil_try_put_if(&passes[0], 1, 3, value, 2, &reply) == CEFRODIL_OK && reply.at == 4);
-    MUST(cefrodil_try_put_if(&passes[0], 2, 3, value, 2, &reply) == CEFRODIL_ABSENT);
-    MUST(cefrodil_try_remove(&passes[0], 1, &reply) == CEFRODIL_OK && reply.at == 5);
-    MUST(cefrodil_try_remove(&passes[1], 1, &reply) == CEFRODIL_ABSENT && reply.at == 5);
-    MUST(cefrodil_try_put(&passes[0], 1, value, 1, &reply) == CEFRODIL_WIDTH && cefrodil_put_within(&passes[0], 2, 1, value, 3, &reply) == CEFRODIL_WIDTH);
+    MUST(cefrodil_put_if(&passes[0], 1, 2, value, 2, &reply) == CEFRODIL_CHANGED && reply.since == 3);
+    MUST(cefrodil_put_if(&passes[0], 1, 3, value, 2, &reply) == CEFRODIL_OK && reply.at == 4);
+    MUST(cefrodil_put_if(&passes[0], 2, 3, value, 2, &reply) == CEFRODIL_ABSENT);
+    MUST(cefrodil_remove(&passes[0], 1, &reply) == CEFRODIL_OK && reply.at == 5);
+    MUST(cefrodil_remove(&passes[1], 1, &reply) == CEFRODIL_ABSENT && reply.at == 5);
+    MUST(cefrodil_put(&passes[0], 1, value, 1, &reply) == CEFRODIL_WIDTH && cefrodil_put_within(&passes[0], 2, 1, value, 3, &reply) == CEFRODIL_WIDTH);
     MUST(cefrodil_get(&passes[0], 1, found, 1, &reply) == CEFRODIL_WIDTH);
     MUST(cefrodil_put(&passes[0], 1, value, 2, &reply) == CEFRODIL_KIND && cefrodil_remove(&passes[0], 1, &reply) == CEFRODIL_KIND);
     MUST(cefrodil_put_if(&passes[0], 1, 1, value, 2, &reply) == CEFRODIL_KIND);
@@ -90,7 +90,7 @@ static void many_keys(uint32_t shards, size_t words) {
     for (uint64_t key = 0; key < KEYS; key++) {
         uint64_t value[8] = {key, key, key, key, key, key, key, key};
         keys[key] = key;
-        MUST(cefrodil_try_put(&passes[key % 2], key, value, words, &reply) == CEFRODIL_OK && reply.put == CEFRODIL_PUT_STORED);
+        MUST(cefrodil_put(&passes[key % 2], key, value, words, &reply) == CEFRODIL_OK && reply.put == CEFRODIL_PUT_STORED);
         last = reply.at > last ? reply.at : last;
     }
     MUST(shards == 1 ? last == KEYS : last < KEYS / 2);

@@ -48,13 +48,13 @@ static void closed(void) {
     MUST(cefrodil_put(&none, 1, value, 2, &reply) == CEFRODIL_CLOSED);
     MUST(cefrodil_put_if(&none, 1, 0, value, 2, &reply) == CEFRODIL_CLOSED);
     uint64_t len = 99;
-    MUST(cefrodil_try_len(&none, &len) == CEFRODIL_CLOSED && len == 99);
+    MUST(cefrodil_len(&none, &len) == CEFRODIL_CLOSED && len == 99);
     MUST(cefrodil_put_if_absent(&none, 1, value, 2, &reply) == CEFRODIL_CLOSED);
-    MUST(cefrodil_try_put_if_absent(&none, 1, value, 2, &reply) == CEFRODIL_CLOSED);
+    MUST(cefrodil_put_if_absent(&none, 1, value, 2, &reply) == CEFRODIL_CLOSED);
     MUST(cefrodil_remove(&none, 1, &reply) == CEFRODIL_CLOSED);
-    MUST(cefrodil_try_put(&none, 1, value, 2, &reply) == CEFRODIL_CLOSED);
-    MUST(cefrodil_try_put_if(&none, 1, 0, value, 2, &reply) == CEFRODIL_CLOSED);
-    MUST(cefrodil_try_remove(&none, 1, &reply) == CEFRODIL_CLOSED);
+    MUST(cefrodil_put(&none, 1, value, 2, &reply) == CEFRODIL_CLOSED);
+    MUST(cefrodil_put_if(&none, 1, 0, value, 2, &reply) == CEFRODIL_CLOSED);
+    MUST(cefrodil_remove(&none, 1, &reply) == CEFRODIL_CLOSED);
     MUST(cefrodil_moment(&none, value) == CEFRODIL_CLOSED && cefrodil_len(&none, value) == CEFRODIL_CLOSED);
     MUST(cefrodil_capacity(&none, value) == CEFRODIL_CLOSED && cefrodil_entries(&none, value, 1, value + 1) == CEFRODIL_CLOSED && value[0] == 1 && value[1] == 2);
     MUST(cefrodil_stamped_entries(&none, value, 1, value + 1) == CEFRODIL_CLOSED && value[0] == 1 && value[1] == 2);
@@ -89,10 +89,10 @@ static void writes(void) {
     MUST(cefrodil_get_or_desk(&readers[0], 1, found, 2, &reply) == CEFRODIL_KIND);
     MUST(cefrodil_put(&readers[0], 1, value, 2, &reply) == CEFRODIL_KIND);
     MUST(cefrodil_put_if_absent(&readers[0], 1, value, 2, &reply) == CEFRODIL_KIND);
-    MUST(cefrodil_try_put_if_absent(&writer, 1, value, 2, &reply) == CEFRODIL_KIND);
+    MUST(cefrodil_put_if_absent(&writer, 1, value, 2, &reply) == CEFRODIL_KIND);
     MUST(cefrodil_remove(&readers[0], 1, &reply) == CEFRODIL_KIND);
-    MUST(cefrodil_try_put(&writer, 1, value, 2, &reply) == CEFRODIL_KIND);
-    MUST(cefrodil_try_remove(&readers[1], 1, &reply) == CEFRODIL_KIND);
+    MUST(cefrodil_put(&writer, 1, value, 2, &reply) == CEFRODIL_KIND);
+    MUST(cefrodil_remove(&readers[1], 1, &reply) == CEFRODIL_KIND);
 }
 
 /* What the writer knows after four changes, and after four keys more. */
@@ -101,7 +101,7 @@ static void counts(cefrodil_handle *other) {
     MUST(cefrodil_moment(other, &number) == CEFRODIL_KIND && cefrodil_len(other, &number) == CEFRODIL_KIND);
     MUST(cefrodil_capacity(other, &number) == CEFRODIL_OK && number == 20);
     number = 99;
-    MUST(cefrodil_try_len(other, &number) == CEFRODIL_KIND && cefrodil_try_len(&writer, &number) == CEFRODIL_KIND && number == 99);
+    MUST(cefrodil_len(other, &number) == CEFRODIL_KIND && cefrodil_len(&writer, &number) == CEFRODIL_KIND && number == 99);
     MUST(cefrodil_moment(&writer, &number) == CEFRODIL_OK && number == 4);
     MUST(cefrodil_len(&writer, &number) == CEFRODIL_OK && number == 0);
     MUST(cefrodil_capacity(&writer, &number) == CEFRODIL_OK && number == 20);
@@ -153,7 +153,7 @@ static void many_by_a_pass(void) {
     uint64_t value[2] = {7, 8};
     MUST(cefrodil_open_desk(&shape, 2, passes, 1) == CEFRODIL_OK);
     for (int i = 0; i < 4; i++) {
-        MUST(cefrodil_try_put(&passes[0], 1, value, 2, &reply) == CEFRODIL_OK);
+        MUST(cefrodil_put(&passes[0], 1, value, 2, &reply) == CEFRODIL_OK);
     }
     many(&passes[0]);
     MUST(cefrodil_close(&passes[0]) == CEFRODIL_OK);
@@ -174,14 +174,14 @@ static void evictions(void) {
 /* A turn whose call is refused gives the writer back: no call after it is held. */
 static void refused_by(cefrodil_handle *pass) {
     uint64_t value[2] = {7, 8}, former[2];
-    MUST(cefrodil_try_put(pass, 1, value, 2, &reply) == CEFRODIL_SPENT);
+    MUST(cefrodil_put(pass, 1, value, 2, &reply) == CEFRODIL_SPENT);
     MUST(cefrodil_put_within(pass, 3, 1, value, 2, &reply) == CEFRODIL_SPENT);
-    MUST(cefrodil_try_put_if(pass, 1, 0, value, 2, &reply) == CEFRODIL_SPENT);
-    MUST(cefrodil_try_put_if_absent(pass, 1, value, 2, &reply) == CEFRODIL_SPENT);
-    MUST(cefrodil_try_remove(pass, 1, &reply) == CEFRODIL_SPENT);
+    MUST(cefrodil_put_if(pass, 1, 0, value, 2, &reply) == CEFRODIL_SPENT);
+    MUST(cefrodil_put_if_absent(pass, 1, value, 2, &reply) == CEFRODIL_SPENT);
+    MUST(cefrodil_remove(pass, 1, &reply) == CEFRODIL_SPENT);
     MUST(cefrodil_swap(pass, 1, value, 2, former, 2, &reply) == CEFRODIL_SPENT);
     MUST(cefrodil_swap_if(pass, 1, 0, value, 2, former, 2, &reply) == CEFRODIL_SPENT);
-    MUST(cefrodil_take_out(pass, 1, former, 2, &reply) == CEFRODIL_SPENT);
+    MUST(cefrodil_take(pass, 1, former, 2, &reply) == CEFRODIL_SPENT);
 }
 
 static void spent(void) {
@@ -197,32 +197,32 @@ static void spent(void) {
     MUST(cefrodil_open_desk(&few, 2, passes, 1) == CEFRODIL_OK);
     refused_by(&passes[0]);
     uint64_t len = 99;
-    MUST(cefrodil_try_len(&passes[0], &len) == CEFRODIL_OK && len == 0);
+    MUST(cefrodil_len(&passes[0], &len) == CEFRODIL_OK && len == 0);
     MUST(cefrodil_close(&passes[0]) == CEFRODIL_OK);
     MUST(cefrodil_open_shards(&few, 2, 2, passes, 1) == CEFRODIL_OK);
     refused_by(&passes[0]);
-    MUST(cefrodil_try_put(&passes[0], 1, value, 2, &reply) == CEFRODIL_SPENT);
+    MUST(cefrodil_put(&passes[0], 1, value, 2, &reply) == CEFRODIL_SPENT);
     MUST(cefrodil_close(&passes[0]) == CEFRODIL_OK);
 }
 
 static void turns(void) {
     uint64_t value[2] = {7, 8}, found[2] = {0, 0};
     MUST(cefrodil_open_desk(&shape, 2, passes, 2) == CEFRODIL_OK);
-    MUST(cefrodil_try_put_if_absent(&passes[0], 1, value, 2, &reply) == CEFRODIL_OK && reply.at == 1 && reply.put == CEFRODIL_PUT_STORED);
-    MUST(cefrodil_try_put_if_absent(&passes[1], 1, value, 2, &reply) == CEFRODIL_PRESENT && reply.since == 1 && reply.at == 0);
-    MUST(cefrodil_try_put_if_absent(&passes[1], 1, value, 1, &reply) == CEFRODIL_WIDTH);
+    MUST(cefrodil_put_if_absent(&passes[0], 1, value, 2, &reply) == CEFRODIL_OK && reply.at == 1 && reply.put == CEFRODIL_PUT_STORED);
+    MUST(cefrodil_put_if_absent(&passes[1], 1, value, 2, &reply) == CEFRODIL_PRESENT && reply.since == 1 && reply.at == 0);
+    MUST(cefrodil_put_if_absent(&passes[1], 1, value, 1, &reply) == CEFRODIL_WIDTH);
     uint64_t len = 99;
-    MUST(cefrodil_try_len(&passes[1], &len) == CEFRODIL_OK && len == 1);
+    MUST(cefrodil_len(&passes[1], &len) == CEFRODIL_OK && len == 1);
     MUST(cefrodil_capacity(&passes[1], &len) == CEFRODIL_OK && len == 20);
     MUST(cefrodil_get(&passes[1], 1, found, 2, &reply) == CEFRODIL_OK && found[1] == 8);
     MUST(cefrodil_get_or_desk(&passes[1], 2, found, 2, &reply) == CEFRODIL_ABSENT && reply.at == 1);
-    MUST(cefrodil_try_put_if(&passes[1], 1, 1, value, 2, &reply) == CEFRODIL_OK && reply.at == 2);
-    MUST(cefrodil_try_put_if(&passes[1], 1, 1, value, 2, &reply) == CEFRODIL_CHANGED && reply.since == 2);
-    MUST(cefrodil_try_remove(&passes[0], 1, &reply) == CEFRODIL_OK && reply.at == 3);
-    MUST(cefrodil_try_put(&passes[0], 1, value, 1, &reply) == CEFRODIL_WIDTH);
+    MUST(cefrodil_put_if(&passes[1], 1, 1, value, 2, &reply) == CEFRODIL_OK && reply.at == 2);
+    MUST(cefrodil_put_if(&passes[1], 1, 1, value, 2, &reply) == CEFRODIL_CHANGED && reply.since == 2);
+    MUST(cefrodil_remove(&passes[0], 1, &reply) == CEFRODIL_OK && reply.at == 3);
+    MUST(cefrodil_put(&passes[0], 1, value, 1, &reply) == CEFRODIL_WIDTH);
     MUST(cefrodil_put(&passes[0], 1, value, 2, &reply) == CEFRODIL_KIND);
     MUST(cefrodil_close(&passes[0]) == CEFRODIL_OK && cefrodil_close(&passes[0]) == CEFRODIL_CLOSED);
-    MUST(cefrodil_try_remove(&passes[1], 1, &reply) == CEFRODIL_ABSENT);
+    MUST(cefrodil_remove(&passes[1], 1, &reply) == CEFRODIL_ABSENT);
     MUST(cefrodil_close(&passes[1]) == CEFRODIL_OK);
 }
 
@@ -230,12 +230,12 @@ static void turns(void) {
 static void leaving(void) {
     uint64_t value[2] = {7, 8}, found[2] = {0, 0}, number = 0;
     MUST(cefrodil_open_desk(&shape, 2, passes, 2) == CEFRODIL_OK);
-    MUST(cefrodil_try_put(&passes[0], 1, value, 2, &reply) == CEFRODIL_OK && reply.at == 1);
+    MUST(cefrodil_put(&passes[0], 1, value, 2, &reply) == CEFRODIL_OK && reply.at == 1);
     MUST(cefrodil_leave_desk(&none, &writer) == CEFRODIL_CLOSED && !writer.live_);
     MUST(cefrodil_leave_desk(&passes[0], &writer) == CEFRODIL_NOT_LAST && !writer.live_);
-    MUST(cefrodil_try_put(&passes[0], 2, value, 2, &reply) == CEFRODIL_KIND);
+    MUST(cefrodil_put(&passes[0], 2, value, 2, &reply) == CEFRODIL_KIND);
     MUST(cefrodil_leave_desk(&passes[0], &writer) == CEFRODIL_KIND && !writer.live_);
-    MUST(cefrodil_try_put(&passes[1], 2, value, 2, &reply) == CEFRODIL_OK && reply.at == 2);
+    MUST(cefrodil_put(&passes[1], 2, value, 2, &reply) == CEFRODIL_OK && reply.at == 2);
     MUST(cefrodil_leave_desk(&passes[1], &writer) == CEFRODIL_OK && writer.live_);
     MUST(cefrodil_leave_desk(&passes[0], &writer) == CEFRODIL_IN_USE && writer.live_);
     MUST(cefrodil_moment(&writer, &number) == CEFRODIL_OK && number == 2);
@@ -256,10 +256,10 @@ static void leaving(void) {
 /* The writer goes first: its readers can still look up. A handle that was moved is the same one. */
 static void last_close(void) {
     uint64_t found[2];
-    cefrodil_handle moved = cefrodil_take(&readers[1]);
+    cefrodil_handle moved = cefrodil_move(&readers[1]);
     MUST(moved.live_ && !readers[1].live_ && cefrodil_get(&moved, 500, found, 2, &reply) == CEFRODIL_ABSENT);
     MUST(cefrodil_get(&readers[1], 500, found, 2, &reply) == CEFRODIL_CLOSED);
-    readers[1] = cefrodil_take(&moved);
+    readers[1] = cefrodil_move(&moved);
     MUST(cefrodil_close(&writer) == CEFRODIL_OK && cefrodil_close(&writer) == CEFRODIL_CLOSED);
     MUST(cefrodil_get(&readers[0], 500, found, 2, &reply) == CEFRODIL_ABSENT);
     MUST(cefrodil_close(&readers[0]) == CEFRODIL_OK && cefrodil_close(&readers[1]) == CEFRODIL_OK);
@@ -292,7 +292,7 @@ static void most_handles(void) {
     for (int by_turns = 0; by_turns < 2; by_turns++) {
         if (by_turns) {
             MUST(cefrodil_open_desk(&shape, 1, crowd, MOST) == CEFRODIL_OK);
-            MUST(cefrodil_try_put(&crowd[MOST - 1], 1, &value, 1, &reply) == CEFRODIL_OK);
+            MUST(cefrodil_put(&crowd[MOST - 1], 1, &value, 1, &reply) == CEFRODIL_OK);
         } else {
             MUST(cefrodil_open(&shape, 1, &writer, crowd, MOST) == CEFRODIL_OK);
             MUST(cefrodil_put(&writer, 1, &value, 1, &reply) == CEFRODIL_OK);

@@ -27,7 +27,7 @@ static void put_after_held(cefrodil_handle *pass, uint64_t key) {
     uint64_t value = key;
     cefrodil_status status = CEFRODIL_OK;
     for (long n = 0; n < MOST_TRIES && status == CEFRODIL_OK; n++) {
-        status = cefrodil_try_put(pass, key, &value, 1, &reply);
+        status = cefrodil_put(pass, key, &value, 1, &reply);
     }
     MUST(status == CEFRODIL_HELD);
     MUST(cefrodil_put_within(pass, UINT32_MAX, key, &value, 1, &reply) == CEFRODIL_OK);
@@ -37,7 +37,7 @@ static void put_beside_lists(cefrodil_handle passes[2]) {
     pthread_t lister;
     cefrodil_reply reply;
     for (uint64_t key = 0; key < KEYS; key++) {
-        MUST(cefrodil_try_put(&passes[0], key, &key, 1, &reply) == CEFRODIL_OK);
+        MUST(cefrodil_put(&passes[0], key, &key, 1, &reply) == CEFRODIL_OK);
     }
     atomic_store(&is_over, 0);
     MUST(pthread_create(&lister, NULL, list_all, &passes[1]) == 0);

@@ -249,7 +249,7 @@ impl<const WORDS: usize> Writer<WORDS> {
     /// [`Spent`]: nothing was changed.
     pub fn take(&mut self, key: u64) -> Result<Take<WORDS>, Spent> {
         let mut old = [0; WORDS];
-        let told = self.0.take_out(key, &mut old);
+        let told = self.0.take(key, &mut old);
         Take::of(key, old, told)
     }
 

@@ -251,7 +251,7 @@ impl<const WORDS: usize> Pass<'_, WORDS> {
     ///
     /// [`TurnError`]: no key and no value was changed.
     pub fn try_put(&mut self, key: u64, value: &[u64; WORDS]) -> Result<Put, TurnError<PutError>> {
-        reply::turn(self.handle().try_put(key, value), Put::of)
+        reply::turn(self.handle().put(key, value), Put::of)
     }
 
     /// Like [`try_put`](Pass::try_put), with up to `tries` tries, at least one, one after the other without a pause. `Held` if
@@ -270,7 +270,7 @@ impl<const WORDS: usize> Pass<'_, WORDS> {
     ///
     /// [`TurnError`]: nothing was changed.
     pub fn try_put_if(&mut self, key: u64, since: u64, value: &[u64; WORDS]) -> Result<u64, TurnError<PutIfError>> {
-        reply::turn(self.handle().try_put_if(key, since, value), reply::put_if)
+        reply::turn(self.handle().put_if(key, since, value), reply::put_if)
     }
 
     /// Like [`try_put`](Pass::try_put), with [`Writer::put_if_absent`](crate::Writer::put_if_absent).
@@ -279,7 +279,7 @@ impl<const WORDS: usize> Pass<'_, WORDS> {
     ///
     /// [`TurnError`]: nothing was changed.
     pub fn try_put_if_absent(&mut self, key: u64, value: &[u64; WORDS]) -> Result<Put, TurnError<PutIfAbsentError>> {
-        reply::turn(self.handle().try_put_if_absent(key, value), reply::put_if_absent)
+        reply::turn(self.handle().put_if_absent(key, value), reply::put_if_absent)
     }
 
     /// Like [`try_put`](Pass::try_put), with [`Writer::remove`](crate::Writer::remove).
@@ -288,7 +288,7 @@ impl<const WORDS: usize> Pass<'_, WORDS> {
     ///
     /// [`TurnError`]: nothing was changed.
     pub fn try_remove(&mut self, key: u64) -> Result<Removal, TurnError<Spent>> {
-        reply::turn(self.handle().try_remove(key), Removal::of)
+        reply::turn(self.handle().remove(key), Removal::of)
     }
 
     /// Like [`try_put`](Pass::try_put), with [`Writer::swap`](crate::Writer::swap).
@@ -320,7 +320,7 @@ impl<const WORDS: usize> Pass<'_, WORDS> {
     /// [`TurnError`]: nothing was changed.
     pub fn try_take(&mut self, key: u64) -> Result<Take<WORDS>, TurnError<Spent>> {
         let mut old = [0; WORDS];
-        let told = self.handle().take_out(key, &mut old);
+        let told = self.handle().take(key, &mut old);
         reply::turn(told, |told| Take::of(key, old, told))
     }
 
@@ -341,7 +341,7 @@ impl<const WORDS: usize> Pass<'_, WORDS> {
     /// # Ok::<(), Box<dyn std::error::Error>>(())
     /// ```
     pub fn try_len(&mut self) -> Result<usize, TurnError<ListError>> {
-        match self.handle().try_len() {
+        match self.handle().len() {
             (raw::OK, len) => Ok(len as usize),
             (status, _) => Err(reply::no_list(status)),
         }

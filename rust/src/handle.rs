@@ -281,35 +281,9 @@ impl Handle {
         self.write(|handle, reply| unsafe { raw::cefrodil_remove(handle, key, reply) })
     }
 
-    pub fn try_put<const WORDS: usize>(&mut self, key: u64, value: &[u64; WORDS]) -> (u32, RawReply) {
-        let words = value.as_ptr();
-        // SAFETY: as in `get`.
-        self.write(|handle, reply| unsafe {
-            of_width!(WORDS, (handle, key, words, reply), raw::cefrodil_try_put, {
-                1 cefrodil_try_put_1, 2 cefrodil_try_put_2, 3 cefrodil_try_put_3, 4 cefrodil_try_put_4,
-                5 cefrodil_try_put_5, 6 cefrodil_try_put_6, 7 cefrodil_try_put_7, 8 cefrodil_try_put_8
-            })
-        })
-    }
-
     pub fn put_within(&mut self, tries: u32, key: u64, value: &[u64]) -> (u32, RawReply) {
         // SAFETY: as in `get`.
         self.write(|handle, reply| unsafe { raw::cefrodil_put_within(handle, tries, key, value.as_ptr(), value.len(), reply) })
-    }
-
-    pub fn try_put_if(&mut self, key: u64, since: u64, value: &[u64]) -> (u32, RawReply) {
-        // SAFETY: as in `get`.
-        self.write(|handle, reply| unsafe { raw::cefrodil_try_put_if(handle, key, since, value.as_ptr(), value.len(), reply) })
-    }
-
-    pub fn try_put_if_absent(&mut self, key: u64, value: &[u64]) -> (u32, RawReply) {
-        // SAFETY: as in `get`.
-        self.write(|handle, reply| unsafe { raw::cefrodil_try_put_if_absent(handle, key, value.as_ptr(), value.len(), reply) })
-    }
-
-    pub fn try_remove(&mut self, key: u64) -> (u32, RawReply) {
-        // SAFETY: as in `get`.
-        self.write(|handle, reply| unsafe { raw::cefrodil_try_remove(handle, key, reply) })
     }
 
     pub fn swap(&mut self, key: u64, value: &[u64], old: &mut [u64]) -> (u32, RawReply) {
@@ -328,9 +302,9 @@ impl Handle {
         })
     }
 
-    pub fn take_out(&mut self, key: u64, old: &mut [u64]) -> (u32, RawReply) {
+    pub fn take(&mut self, key: u64, old: &mut [u64]) -> (u32, RawReply) {
         // SAFETY: as in `get`.
-        self.write(|handle, reply| unsafe { raw::cefrodil_take_out(handle, key, old.as_mut_ptr(), old.len(), reply) })
+        self.write(|handle, reply| unsafe { raw::cefrodil_take(handle, key, old.as_mut_ptr(), old.len(), reply) })
     }
 
     /// A pass leaves its desk, and is a reader then. The handle beside the status is the writer's, if it was the last pass.
@@ -353,11 +327,7 @@ impl Handle {
         self.number(raw::cefrodil_capacity)
     }
 
-    pub fn try_len(&mut self) -> (u32, u64) {
-        self.number(raw::cefrodil_try_len)
-    }
-
-    // One of the four calls that write a number.
+    // One of the three calls that write a number.
     fn number(&mut self, call: unsafe extern "C" fn(*mut RawHandle, *mut u64) -> u32) -> (u32, u64) {
         let mut number = 0;
         // SAFETY: as in `get`.

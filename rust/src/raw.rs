@@ -122,59 +122,34 @@ unsafe extern "C" {
     pub fn cefrodil_get_or_desk_6(pass: *mut RawHandle, key: u64, value: *mut u64, reply: *mut RawReply) -> u32;
     pub fn cefrodil_get_or_desk_7(pass: *mut RawHandle, key: u64, value: *mut u64, reply: *mut RawReply) -> u32;
     pub fn cefrodil_get_or_desk_8(pass: *mut RawHandle, key: u64, value: *mut u64, reply: *mut RawReply) -> u32;
-    pub fn cefrodil_put(writer: *mut RawHandle, key: u64, value: *const u64, words: usize, reply: *mut RawReply) -> u32;
-    pub fn cefrodil_put_1(writer: *mut RawHandle, key: u64, value: *const u64, reply: *mut RawReply) -> u32;
-    pub fn cefrodil_put_2(writer: *mut RawHandle, key: u64, value: *const u64, reply: *mut RawReply) -> u32;
-    pub fn cefrodil_put_3(writer: *mut RawHandle, key: u64, value: *const u64, reply: *mut RawReply) -> u32;
-    pub fn cefrodil_put_4(writer: *mut RawHandle, key: u64, value: *const u64, reply: *mut RawReply) -> u32;
-    pub fn cefrodil_put_5(writer: *mut RawHandle, key: u64, value: *const u64, reply: *mut RawReply) -> u32;
-    pub fn cefrodil_put_6(writer: *mut RawHandle, key: u64, value: *const u64, reply: *mut RawReply) -> u32;
-    pub fn cefrodil_put_7(writer: *mut RawHandle, key: u64, value: *const u64, reply: *mut RawReply) -> u32;
-    pub fn cefrodil_put_8(writer: *mut RawHandle, key: u64, value: *const u64, reply: *mut RawReply) -> u32;
+    pub fn cefrodil_put(handle: *mut RawHandle, key: u64, value: *const u64, words: usize, reply: *mut RawReply) -> u32;
+    pub fn cefrodil_put_1(handle: *mut RawHandle, key: u64, value: *const u64, reply: *mut RawReply) -> u32;
+    pub fn cefrodil_put_2(handle: *mut RawHandle, key: u64, value: *const u64, reply: *mut RawReply) -> u32;
+    pub fn cefrodil_put_3(handle: *mut RawHandle, key: u64, value: *const u64, reply: *mut RawReply) -> u32;
+    pub fn cefrodil_put_4(handle: *mut RawHandle, key: u64, value: *const u64, reply: *mut RawReply) -> u32;
+    pub fn cefrodil_put_5(handle: *mut RawHandle, key: u64, value: *const u64, reply: *mut RawReply) -> u32;
+    pub fn cefrodil_put_6(handle: *mut RawHandle, key: u64, value: *const u64, reply: *mut RawReply) -> u32;
+    pub fn cefrodil_put_7(handle: *mut RawHandle, key: u64, value: *const u64, reply: *mut RawReply) -> u32;
+    pub fn cefrodil_put_8(handle: *mut RawHandle, key: u64, value: *const u64, reply: *mut RawReply) -> u32;
     pub fn cefrodil_put_if(
-        writer: *mut RawHandle,
+        handle: *mut RawHandle,
         key: u64,
         since: u64,
         value: *const u64,
         words: usize,
         reply: *mut RawReply,
     ) -> u32;
-    pub fn cefrodil_put_if_absent(writer: *mut RawHandle, key: u64, value: *const u64, words: usize, reply: *mut RawReply)
+    pub fn cefrodil_put_if_absent(handle: *mut RawHandle, key: u64, value: *const u64, words: usize, reply: *mut RawReply)
         -> u32;
-    pub fn cefrodil_remove(writer: *mut RawHandle, key: u64, reply: *mut RawReply) -> u32;
-    pub fn cefrodil_try_put(pass: *mut RawHandle, key: u64, value: *const u64, words: usize, reply: *mut RawReply) -> u32;
-    pub fn cefrodil_try_put_1(pass: *mut RawHandle, key: u64, value: *const u64, reply: *mut RawReply) -> u32;
-    pub fn cefrodil_try_put_2(pass: *mut RawHandle, key: u64, value: *const u64, reply: *mut RawReply) -> u32;
-    pub fn cefrodil_try_put_3(pass: *mut RawHandle, key: u64, value: *const u64, reply: *mut RawReply) -> u32;
-    pub fn cefrodil_try_put_4(pass: *mut RawHandle, key: u64, value: *const u64, reply: *mut RawReply) -> u32;
-    pub fn cefrodil_try_put_5(pass: *mut RawHandle, key: u64, value: *const u64, reply: *mut RawReply) -> u32;
-    pub fn cefrodil_try_put_6(pass: *mut RawHandle, key: u64, value: *const u64, reply: *mut RawReply) -> u32;
-    pub fn cefrodil_try_put_7(pass: *mut RawHandle, key: u64, value: *const u64, reply: *mut RawReply) -> u32;
-    pub fn cefrodil_try_put_8(pass: *mut RawHandle, key: u64, value: *const u64, reply: *mut RawReply) -> u32;
+    pub fn cefrodil_remove(handle: *mut RawHandle, key: u64, reply: *mut RawReply) -> u32;
     pub fn cefrodil_put_within(
-        pass: *mut RawHandle,
+        handle: *mut RawHandle,
         tries: u32,
         key: u64,
         value: *const u64,
         words: usize,
         reply: *mut RawReply,
     ) -> u32;
-    pub fn cefrodil_try_put_if(
-        pass: *mut RawHandle,
-        key: u64,
-        since: u64,
-        value: *const u64,
-        words: usize,
-        reply: *mut RawReply,
-    ) -> u32;
-    pub fn cefrodil_try_put_if_absent(
-        pass: *mut RawHandle,
-        key: u64,
-        value: *const u64,
-        words: usize,
-        reply: *mut RawReply,
-    ) -> u32;
-    pub fn cefrodil_try_remove(pass: *mut RawHandle, key: u64, reply: *mut RawReply) -> u32;
     pub fn cefrodil_swap(
         handle: *mut RawHandle,
         key: u64,
@@ -194,18 +169,11 @@ unsafe extern "C" {
         former_words: usize,
         reply: *mut RawReply,
     ) -> u32;
-    pub fn cefrodil_take_out(
-        handle: *mut RawHandle,
-        key: u64,
-        former: *mut u64,
-        former_words: usize,
-        reply: *mut RawReply,
-    ) -> u32;
+    pub fn cefrodil_take(handle: *mut RawHandle, key: u64, former: *mut u64, former_words: usize, reply: *mut RawReply) -> u32;
     pub fn cefrodil_leave_desk(pass: *mut RawHandle, writer: *mut RawHandle) -> u32;
     pub fn cefrodil_moment(writer: *mut RawHandle, moment: *mut u64) -> u32;
-    pub fn cefrodil_len(writer: *mut RawHandle, len: *mut u64) -> u32;
+    pub fn cefrodil_len(handle: *mut RawHandle, len: *mut u64) -> u32;
     pub fn cefrodil_capacity(handle: *mut RawHandle, capacity: *mut u64) -> u32;
-    pub fn cefrodil_try_len(pass: *mut RawHandle, len: *mut u64) -> u32;
     pub fn cefrodil_entries(handle: *mut RawHandle, entries: *mut u64, entry_words: usize, count: *mut u64) -> u32;
     pub fn cefrodil_stamped_entries(handle: *mut RawHandle, entries: *mut u64, entry_words: usize, count: *mut u64) -> u32;
     pub fn cefrodil_close(handle: *mut RawHandle) -> u32;

@@ -21,7 +21,7 @@ using Addresses = std::array<Address, 14>;
 // The addresses of the header's functions, and of the one above, in the file that calls this.
 #define ADDRESSES_HERE \
     Addresses { \
-        {reinterpret_cast<Address>(cefrodil_empty), reinterpret_cast<Address>(cefrodil_take), reinterpret_cast<Address>(cefrodil_get_of_width), \
+        {reinterpret_cast<Address>(cefrodil_empty), reinterpret_cast<Address>(cefrodil_move), reinterpret_cast<Address>(cefrodil_get_of_width), \
          reinterpret_cast<Address>(cefrodil_put_of_width), reinterpret_cast<Address>(cefrodil_get_or_desk_of_width), \
          reinterpret_cast<Address>(cefrodil_try_put_of_width), reinterpret_cast<Address>(cefrodil_close_unless_null), \
          reinterpret_cast<Address>(cefrodil_open_with_or_none), reinterpret_cast<Address>(cefrodil_get_many_or_none), \
