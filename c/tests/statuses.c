@@ -47,13 +47,8 @@ static void closed(void) {
     MUST(cefrodil_get_or_desk(&none, 1, value, 2, &reply) == CEFRODIL_CLOSED);
     MUST(cefrodil_put(&none, 1, value, 2, &reply) == CEFRODIL_CLOSED);
     MUST(cefrodil_put_if(&none, 1, 0, value, 2, &reply) == CEFRODIL_CLOSED);
-    uint64_t len = 99;
-    MUST(cefrodil_len(&none, &len) == CEFRODIL_CLOSED && len == 99);
     MUST(cefrodil_put_if_absent(&none, 1, value, 2, &reply) == CEFRODIL_CLOSED);
-    MUST(cefrodil_put_if_absent(&none, 1, value, 2, &reply) == CEFRODIL_CLOSED);
-    MUST(cefrodil_remove(&none, 1, &reply) == CEFRODIL_CLOSED);
-    MUST(cefrodil_put(&none, 1, value, 2, &reply) == CEFRODIL_CLOSED);
-    MUST(cefrodil_put_if(&none, 1, 0, value, 2, &reply) == CEFRODIL_CLOSED);
+    MUST(cefrodil_put_within(&none, 3, 1, value, 2, &reply) == CEFRODIL_CLOSED);
     MUST(cefrodil_remove(&none, 1, &reply) == CEFRODIL_CLOSED);
     MUST(cefrodil_moment(&none, value) == CEFRODIL_CLOSED && cefrodil_len(&none, value) == CEFRODIL_CLOSED);
     MUST(cefrodil_capacity(&none, value) == CEFRODIL_CLOSED && cefrodil_entries(&none, value, 1, value + 1) == CEFRODIL_CLOSED && value[0] == 1 && value[1] == 2);
@@ -88,20 +83,17 @@ static void writes(void) {
     MUST(cefrodil_get_or_desk(&writer, 1, found, 2, &reply) == CEFRODIL_KIND);
     MUST(cefrodil_get_or_desk(&readers[0], 1, found, 2, &reply) == CEFRODIL_KIND);
     MUST(cefrodil_put(&readers[0], 1, value, 2, &reply) == CEFRODIL_KIND);
+    MUST(cefrodil_put_if(&readers[0], 1, 1, value, 2, &reply) == CEFRODIL_KIND);
     MUST(cefrodil_put_if_absent(&readers[0], 1, value, 2, &reply) == CEFRODIL_KIND);
-    MUST(cefrodil_put_if_absent(&writer, 1, value, 2, &reply) == CEFRODIL_KIND);
-    MUST(cefrodil_remove(&readers[0], 1, &reply) == CEFRODIL_KIND);
-    MUST(cefrodil_put(&writer, 1, value, 2, &reply) == CEFRODIL_KIND);
+    MUST(cefrodil_put_within(&readers[0], 3, 1, value, 2, &reply) == CEFRODIL_KIND);
     MUST(cefrodil_remove(&readers[1], 1, &reply) == CEFRODIL_KIND);
 }
 
 /* What the writer knows after four changes, and after four keys more. */
 static void counts(cefrodil_handle *other) {
     uint64_t number = 99, value[2] = {7, 8}, found[2] = {0, 0};
-    MUST(cefrodil_moment(other, &number) == CEFRODIL_KIND && cefrodil_len(other, &number) == CEFRODIL_KIND);
+    MUST(cefrodil_moment(other, &number) == CEFRODIL_KIND && cefrodil_len(other, &number) == CEFRODIL_KIND && number == 99);
     MUST(cefrodil_capacity(other, &number) == CEFRODIL_OK && number == 20);
-    number = 99;
-    MUST(cefrodil_len(other, &number) == CEFRODIL_KIND && cefrodil_len(&writer, &number) == CEFRODIL_KIND && number == 99);
     MUST(cefrodil_moment(&writer, &number) == CEFRODIL_OK && number == 4);
     MUST(cefrodil_len(&writer, &number) == CEFRODIL_OK && number == 0);
     MUST(cefrodil_capacity(&writer, &number) == CEFRODIL_OK && number == 20);
@@ -201,7 +193,6 @@ static void spent(void) {
     MUST(cefrodil_close(&passes[0]) == CEFRODIL_OK);
     MUST(cefrodil_open_shards(&few, 2, 2, passes, 1) == CEFRODIL_OK);
     refused_by(&passes[0]);
-    MUST(cefrodil_put(&passes[0], 1, value, 2, &reply) == CEFRODIL_SPENT);
     MUST(cefrodil_close(&passes[0]) == CEFRODIL_OK);
 }
 
@@ -219,8 +210,9 @@ static void turns(void) {
     MUST(cefrodil_put_if(&passes[1], 1, 1, value, 2, &reply) == CEFRODIL_OK && reply.at == 2);
     MUST(cefrodil_put_if(&passes[1], 1, 1, value, 2, &reply) == CEFRODIL_CHANGED && reply.since == 2);
     MUST(cefrodil_remove(&passes[0], 1, &reply) == CEFRODIL_OK && reply.at == 3);
-    MUST(cefrodil_put(&passes[0], 1, value, 1, &reply) == CEFRODIL_WIDTH);
-    MUST(cefrodil_put(&passes[0], 1, value, 2, &reply) == CEFRODIL_KIND);
+    MUST(cefrodil_put(&passes[0], 1, value, 1, &reply) == CEFRODIL_WIDTH && cefrodil_put_within(&passes[0], 2, 1, value, 3, &reply) == CEFRODIL_WIDTH);
+    MUST(cefrodil_put_if(&passes[0], 1, 1, value, 1, &reply) == CEFRODIL_WIDTH);
+    MUST(cefrodil_moment(&passes[0], &len) == CEFRODIL_KIND && len == 20);
     MUST(cefrodil_close(&passes[0]) == CEFRODIL_OK && cefrodil_close(&passes[0]) == CEFRODIL_CLOSED);
     MUST(cefrodil_remove(&passes[1], 1, &reply) == CEFRODIL_ABSENT);
     MUST(cefrodil_close(&passes[1]) == CEFRODIL_OK);
