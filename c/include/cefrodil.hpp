@@ -118,7 +118,7 @@ template <size_t Words> class Pass : public Lookups<Words> {
     }
     [[nodiscard]] Written try_put(uint64_t key, const Value &value) noexcept {
         cefrodil_reply reply;
-        const cefrodil_status status = cefrodil_try_put_of_width(this->raw(), key, value.data(), Words, &reply);
+        const cefrodil_status status = cefrodil_put_of_width(this->raw(), key, value.data(), Words, &reply);
         return this->wrote(status, reply);
     }
     [[nodiscard]] Written put_within(uint32_t tries, uint64_t key, const Value &value) noexcept {
