@@ -193,7 +193,7 @@ impl Why {
     }
 }
 
-// A version as it is written: 100 is 0.1.0.
+// A version as it is written: 200 is 0.2.0.
 fn dotted(version: u32) -> String {
     format!("{}.{}.{}", version / 10_000, version / 100 % 100, version % 100)
 }
