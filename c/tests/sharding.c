@@ -82,12 +82,28 @@ static void within_elsewhere(void) {
     close_both();
 }
 
+/* New shards have no key, and no change was made to any: every key's shard is at moment 0. */
+static void start_empty(size_t words) {
+    static uint64_t keys[KEYS], values[8 * KEYS], list[9 * KEYS];
+    static cefrodil_answer answers[KEYS];
+    uint64_t count = 99;
+    for (uint64_t key = 0; key < KEYS; key++) {
+        keys[key] = key;
+    }
+    MUST(cefrodil_get_many(&passes[0], keys, KEYS, values, words * KEYS, answers, KEYS) == CEFRODIL_OK);
+    for (size_t i = 0; i < KEYS; i++) {
+        MUST(answers[i].status == CEFRODIL_ABSENT && answers[i].at == 0);
+    }
+    MUST(cefrodil_entries(&passes[1], list, 9 * KEYS, &count) == CEFRODIL_OK && count == 0);
+}
+
 /* Keys of all shards, each with its key for a value. One shard alone counts its changes: with n shards no moment is n times as high. */
 static void many_keys(uint32_t shards, size_t words) {
     static uint64_t keys[KEYS], values[8 * KEYS];
     static cefrodil_answer answers[KEYS];
     uint64_t last = 0;
     MUST(cefrodil_open_shards(&shape, shards, words, passes, 2) == CEFRODIL_OK);
+    start_empty(words);
     for (uint64_t key = 0; key < KEYS; key++) {
         uint64_t value[8] = {key, key, key, key, key, key, key, key};
         keys[key] = key;
