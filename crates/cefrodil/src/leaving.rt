@@ -3,7 +3,6 @@ ghost use Rattle.std.specs.Prelude.{◌≡◌, false, true};
 ghost use Rattle.cefrodil.specs.Leaving.{LeaveGives};
 ghost use Rattle.cefrodil.specs.Open.{kept};
 
-use crate::opening::boxed;
 use crate::slot::Slot;
 use mc_door::status::{CLOSED, IN_USE, KIND, NO_MEMORY, NOT_LAST, OK};
 use mc_door::{Held, LeaveError};
@@ -27,12 +26,12 @@ pub extern "C" fn cefrodil_leave_desk(alloc: Global, pass: &mut Slot, writer: &m
         return KIND;
     }
     // Memory first: behind this the writer's handle has a place.
-    let Some(mut place) = boxed(alloc, Held::nothing()) else {
+    let Some(mut place) = Held::nothing().boxed(alloc) else {
         return NO_MEMORY;
     };
     match held.leave() {
         Ok(Some(back)) => {
-            *place = back;
+            place.set(back);
             writer.put(place);
             OK
         }

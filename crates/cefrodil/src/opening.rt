@@ -52,16 +52,6 @@ pub(crate) fn close_all(alloc: Global, slots: &mut [Slot])
     }
 }
 
-// The side on the heap, if there is memory.
-pub(crate) fn boxed(alloc: Global, held: Held) -> Option<Box<Held, Global>>
-    ensures { IfSome result (λ b. b.value ≡ held) }
-{
-    match Box::new(alloc, held) {
-        Ok(kept) => Some(kept),
-        Err(_) => None,
-    }
-}
-
 // A side for each of the slots. `false` where there is no memory.
 #[tactic(auto, using(crate::proofs::Filling::all_filled))]
 fn fill(alloc: Global, mut rest: Rest, slots: &mut [Slot]) -> bool
@@ -75,7 +65,7 @@ fn fill(alloc: Global, mut rest: Rest, slots: &mut [Slot]) -> bool
         let Some(held) = given else {
             return false;
         };
-        let Some(held) = boxed(alloc, held) else {
+        let Some(held) = held.boxed(alloc) else {
             return false;
         };
         slot.put(held);
@@ -94,7 +84,7 @@ pub(crate) fn given_out(
     ensures given { IfSome result (λ b. (b.value ≡ held) × All (IsNewAt (opening_in rest) (has_desk_in rest) (width_in rest)) readers.new) }
     ensures refused { IfNone result (All IsClosed readers.new) }
 {
-    let kept = boxed(alloc, held)?;
+    let kept = held.boxed(alloc)?;
     if !fill(alloc, rest, readers) {
         close_all(alloc, readers);
         return None;

@@ -65,7 +65,7 @@ impl Slot {
         requires { self.old.live ≡ true }
         ensures { (self.new.live ≡ true) × (kept self.new ≡ some held) }
     {
-        *self.handle.held() = held;
+        self.handle.held().set(held);
     }
 }
 

@@ -21,6 +21,7 @@ use crate::widths::with_sides;
 use crate::write::{Swap, Write};
 use mc_words::NoMemory;
 use std::alloc::Global;
+use std::mem::replace;
 
 /// What a handle keeps: a side of a cache, whose values have as many words as the variant says.
 #[derive(Drop)]
@@ -58,6 +59,23 @@ impl Held {
         ensures { role_in result ≡ Idle }
     {
         Held::One(Side::Nothing)
+    }
+
+    /// It on the heap, if there is memory.
+    pub fn boxed(self, alloc: Global) -> Option<Box<Held, Global>>
+        ensures { IfSome result (λ b. b.value ≡ self) }
+    {
+        match Box::new(alloc, self) {
+            Ok(kept) => Some(kept),
+            Err(_) => None,
+        }
+    }
+
+    /// It is another side from now on. What it was is dropped.
+    pub fn set(&mut self, other: Held)
+        ensures { self.new ≡ other }
+    {
+        drop(replace(self, other));
     }
 
     /// How many words a value has.
