@@ -1,9 +1,10 @@
-//! Deeds of a writer beside a reader's lookups in another thread. Each answer is what the map held at its moment, and the last
-//! ones see all deeds.
+//! Deeds of a writer beside a reader's lookups in another thread, made by `get` and by single reads. Each answer is what the map held
+//! at its moment, and the last ones see all deeds.
 ghost use Rattle.std.specs.Prelude.{◌≡◌};
 ghost use Rattle.mc_shared.specs.Running.{IsRunning};
 ghost use Rattle.thread_tests.specs.Twins.{IsTwinOf};
 
+use crate::single_reads::look_up;
 use crate::truth::is_true;
 use crate::twin::{make_all, small_shape};
 use crate::waiting::is_set;
@@ -22,7 +23,7 @@ const DEEDS: u64 = 200;
 /// Lookups beside the deeds, and once all are made.
 const LOOKUPS: usize = 2000;
 
-const LAST: usize = 8;
+const LAST: usize = 16;
 
 /// Key number `n` of eight, whose stripe is `n`, where there are so many.
 fn key_of(n: u64) -> u64 {
@@ -116,7 +117,8 @@ fn write_deeds(
     true
 }
 
-// Looks the keys up in turn, into a list that has room; the last of them once all deeds are made, or none.
+// Looks the keys up in turn, into a list that has room, all eight by `get` and then all eight by single reads. The last of them once
+// all deeds are made, or none.
 fn look_all(cells: &Cells<1>, reader: &mut ReaderSeat, ended: &AtomicBool, replies: &mut [Reply<1>])
     requires of { reader.old.of ≡ cells.now }
     ensures of { reader.new.of ≡ reader.old.of }
@@ -125,7 +127,12 @@ fn look_all(cells: &Cells<1>, reader: &mut ReaderSeat, ended: &AtomicBool, repli
         if i == LOOKUPS && !is_set(ended) {
             return;
         }
-        replies[i] = get(cells, reader, key_of(i as u64));
+        let key = key_of(i as u64);
+        replies[i] = if i / 8 % 2 == 0 {
+            get(cells, reader, key)
+        } else {
+            look_up(cells, reader, key)
+        };
     }
 }
 

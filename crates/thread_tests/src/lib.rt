@@ -55,6 +55,8 @@ mod shards;
 #[cfg(test)]
 mod sharing;
 #[cfg(test)]
+mod single_reads;
+#[cfg(test)]
 mod stamped;
 #[cfg(test)]
 mod taken;
