@@ -3,6 +3,7 @@ ghost use Rattle.std.specs.Prelude.{◌≡◌, false, true};
 ghost use Rattle.cefrodil.specs.Leaving.{LeaveGives};
 ghost use Rattle.cefrodil.specs.Open.{kept};
 
+use crate::opening::boxed;
 use crate::slot::Slot;
 use mc_door::status::{CLOSED, IN_USE, KIND, NO_MEMORY, NOT_LAST, OK};
 use mc_door::{Held, LeaveError};
@@ -26,7 +27,7 @@ pub extern "C" fn cefrodil_leave_desk(alloc: Global, pass: &mut Slot, writer: &m
         return KIND;
     }
     // Memory first: behind this the writer's handle has a place.
-    let Some(mut place) = Held::nothing().boxed(alloc) else {
+    let Some(mut place) = boxed(alloc, Held::nothing()) else {
         return NO_MEMORY;
     };
     match held.leave() {

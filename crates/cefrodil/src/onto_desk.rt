@@ -7,7 +7,7 @@ ghost use Rattle.cefrodil.specs.OntoDesk.{AreDeskPasses, DeskGives, RefusesDesk,
 ghost use Rattle.cefrodil.specs.Open.{kept};
 ghost use Rattle.cefrodil.specs.Openings.{IsClosed, IsNewAt};
 
-use crate::opening::{all_closed, close_all};
+use crate::opening::{all_closed, boxed, close_all};
 use crate::slot::Slot;
 use mc_door::status::{CLOSED, IN_USE, KIND, NO_MEMORY, OK, READERS};
 use mc_door::{Held, MakeDeskError, Rest};
@@ -29,7 +29,7 @@ fn make_places(alloc: Global, slots: &mut [Slot]) -> bool
     ensures { result ≡ true → All IsOpen slots.new }
 {
     for slot in slots.iter_mut() {
-        let Some(place) = Held::nothing().boxed(alloc) else {
+        let Some(place) = boxed(alloc, Held::nothing()) else {
             return false;
         };
         slot.put(place);

@@ -52,6 +52,16 @@ pub(crate) fn close_all(alloc: Global, slots: &mut [Slot])
     }
 }
 
+// The value on the heap, if there is memory.
+pub(crate) fn boxed<T: Drop>(alloc: Global, value: T) -> Option<Box<T, Global>>
+    ensures { IfSome result (λ b. b.value ≡ value) }
+{
+    match Box::new(alloc, value) {
+        Ok(kept) => Some(kept),
+        Err(_) => None,
+    }
+}
+
 // A side for each of the slots. `false` where there is no memory.
 #[tactic(auto, using(crate::proofs::Filling::all_filled))]
 fn fill(alloc: Global, mut rest: Rest, slots: &mut [Slot]) -> bool
@@ -65,7 +75,7 @@ fn fill(alloc: Global, mut rest: Rest, slots: &mut [Slot]) -> bool
         let Some(held) = given else {
             return false;
         };
-        let Some(held) = held.boxed(alloc) else {
+        let Some(held) = boxed(alloc, held) else {
             return false;
         };
         slot.put(held);
@@ -84,7 +94,7 @@ pub(crate) fn given_out(
     ensures given { IfSome result (λ b. (b.value ≡ held) × All (IsNewAt (opening_in rest) (has_desk_in rest) (width_in rest)) readers.new) }
     ensures refused { IfNone result (All IsClosed readers.new) }
 {
-    let kept = held.boxed(alloc)?;
+    let kept = boxed(alloc, held)?;
     if !fill(alloc, rest, readers) {
         close_all(alloc, readers);
         return None;

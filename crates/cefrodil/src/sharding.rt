@@ -4,7 +4,7 @@ ghost use Rattle.mc_door.specs.NewPasses.{count_on, shards_on, width_on};
 ghost use Rattle.cefrodil.specs.Openings.{IsClosed, RefusesHandles};
 ghost use Rattle.cefrodil.specs.ShardOpenings.{AreShardPasses, IsNewPassAt, RefusesOpenShards, shards_status};
 
-use crate::opening::{all_closed, asked, close_all, count_of, status_of};
+use crate::opening::{all_closed, asked, boxed, close_all, count_of, status_of};
 use crate::shape::RawShape;
 use crate::slot::Slot;
 use mc_door::status::{IN_USE, NO_MEMORY, OK, SHARDS};
@@ -33,7 +33,7 @@ fn fill_passes(alloc: Global, mut rest: ShardRest, slots: &mut [Slot]) -> bool
         let Some(held) = given else {
             return false;
         };
-        let Some(held) = held.boxed(alloc) else {
+        let Some(held) = boxed(alloc, held) else {
             return false;
         };
         slot.put(held);

@@ -61,16 +61,6 @@ impl Held {
         Held::One(Side::Nothing)
     }
 
-    /// It on the heap, if there is memory.
-    pub fn boxed(self, alloc: Global) -> Option<Box<Held, Global>>
-        ensures { IfSome result (λ b. b.value ≡ self) }
-    {
-        match Box::new(alloc, self) {
-            Ok(kept) => Some(kept),
-            Err(_) => None,
-        }
-    }
-
     /// It is another side from now on. What it was is dropped.
     pub fn set(&mut self, other: Held)
         ensures { self.new ≡ other }
