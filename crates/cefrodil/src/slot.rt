@@ -73,7 +73,7 @@ impl Slot {
 macro_rules! told_of_handle {
     ($slot:ident, $reply:ident, $held:ident => $status:expr) => {{
         if !$slot.live {
-            return mc_door::refused(mc_door::status::CLOSED, $reply);
+            return mc_door::Told::plain(mc_door::status::CLOSED).tell($reply);
         }
         let $held = $slot.handle.held();
         $status

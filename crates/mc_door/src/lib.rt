@@ -43,6 +43,5 @@ pub use onto_desk::MakeDeskError;
 pub use rest::{Rest, open, open_desk, open_with};
 pub use shard_rest::{ShardRest, open_shards};
 pub use side::Side;
-pub use tell::refused;
 pub use told::{EVICTED, NOTHING, RENEWED, RawReply, STORED, Told};
 pub use write::{Swap, Write};

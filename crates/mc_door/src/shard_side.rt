@@ -54,21 +54,13 @@ impl<const V: usize> ShardSide<V> {
         Told::looked(looked).tell(reply)
     }
 
-    #[inline(always)]
+    #[inline(never)]
     pub(crate) fn put(&mut self, key: u64, value: &[u64], reply: &mut RawReply) -> u32
         requires { length value.now ≡ V }
         ensures { WriteMeans V (Shares self.old.shards.value self.old.pass) (Shares self.new.shards.value self.new.pass) key Write.Put value.now (record { status = result; reply = reply.new }) }
     {
         let tried = self.pass.try_put(&self.shards, key, array_of::<V>(value));
         in_turn!(tried, reply, made => tell::put(made, reply))
-    }
-
-    #[inline(never)]
-    fn put_apart(&mut self, key: u64, value: &[u64], reply: &mut RawReply) -> u32
-        requires { length value.now ≡ V }
-        ensures { WriteMeans V (Shares self.old.shards.value self.old.pass) (Shares self.new.shards.value self.new.pass) key Write.Put value.now (record { status = result; reply = reply.new }) }
-    {
-        self.put(key, value, reply)
     }
 
     #[inline(never)]
@@ -124,7 +116,7 @@ impl<const V: usize> ShardSide<V> {
         ensures { WriteMeans V (Shares self.old.shards.value self.old.pass) (Shares self.new.shards.value self.new.pass) key call value.now (record { status = result; reply = reply.new }) }
     {
         match call {
-            Write::Put => self.put_apart(key, value, reply),
+            Write::Put => self.put(key, value, reply),
             Write::PutWithin(tries) => self.put_within(tries, key, value, reply),
             Write::PutIf(since) => self.put_if(key, since, value, reply),
             Write::PutIfAbsent => self.put_if_absent(key, value, reply),

@@ -95,15 +95,8 @@ impl<const V: usize> Side<V> {
     {
         match self {
             Side::Pass(side) if value.len() == V => side.put(key, value, reply),
-            _ => self.put_of_any(key, value, reply),
+            _ => self.write(key, Write::Put, value, reply),
         }
-    }
-
-    #[inline(never)]
-    fn put_of_any(&mut self, key: u64, value: &[u64], reply: &mut RawReply) -> u32
-        ensures { WriteTells V (role_of self.old) (role_of self.new) (self.new ≡ self.old) key Write.Put value.now (record { status = result; reply = reply.new }) }
-    {
-        self.write(key, Write::Put, value, reply)
     }
 
     /// A write by the writer, or by a pass, which tries for the turn.
