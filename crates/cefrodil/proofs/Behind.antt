@@ -1,4 +1,4 @@
--- The machine values of a `Handle`, and of the box that lies behind it. Assumes `Logic`.
+-- The machine values of a `Handle`, and of the box behind it. Assumes `Logic`.
 use Rattle.std.proofs.Common.{◌≡◌, ℕ, List, [], ◌∷◌, refl, lit<}
 use mathlib.Core.Bool.{true, ◌&&◌}
 use mathlib.Core.Option.{Option, none, some}

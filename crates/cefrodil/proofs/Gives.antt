@@ -1,4 +1,4 @@
--- A call, where it is known what lies behind its handle.
+-- A call, when it is known what is behind its handle.
 use Rattle.std.proofs.Common.{◌≡◌, sym, subst}
 use mathlib.Core.Option.{Option, none, some}
 use Rattle.mc_door.specs.declared.held.Held.{Held}

@@ -1,4 +1,4 @@
--- What became of entries, as their statuses tell it.
+-- What became of each entry, as its status reports it.
 use Rattle.std.proofs.Common.{ℕ, zero, suc, ◌≡◌, ◌+◌, ◌<◌, ◌≤◌, ◌⊎◌, List, [], ◌∷◌, length, get_or, drop, set, refl, sym, subst, inl, inr, arith, add-one, drop-cons}
 use Rattle.std.proofs.lemmas.Bool.{cases_eq, eq-eqb, ne_eqb}
 use Rattle.std.proofs.lemmas.List.{get_or-set_same, get_or-set_other, length-set}
@@ -34,7 +34,7 @@ written : (statuses : List ℕ) (index i status other : ℕ) → get_or statuses
 written statuses index i status other was below (inl same) = rw (eq-eqb index i same) (rw (sym same) (get_or-set_same statuses index status 0 below))
 written statuses index i status other was below (inr apart) = rw (ne_eqb index i apart, get_or-set_other statuses index i status 0 (λ e. apart (sym e))) was
 
--- one more of the entries that were left is told
+-- one more of the entries that were left is reported
 pub one_told : (left : List (ℕ × Why)) (statuses : List ℕ) (k status : ℕ) (d l : ℕ × Why)
     → EachIndex statuses (λ i. slice_index statuses i ≡ entry_status (drop (k + 1) left) i) → k < length left → get_or left k d ≡ l → status ≡ left_status l.1 → l.0 < length statuses
     → EachIndex (set statuses l.0 status) (λ i. slice_index (set statuses l.0 status) i ≡ entry_status (drop k left) i)

@@ -1,4 +1,4 @@
--- What lies behind a handle may go to another thread: each side of a cache does, as its parts do.
+-- What is behind a handle may be sent to another thread: each side of a cache may, as its parts may.
 use denote.RattleType.{RattleType}
 use denote.Param.Send.{IsSend, IsSync, sendable}
 use Rattle.std.proofs.Crossing.{crosses}
@@ -17,7 +17,7 @@ use Rattle.mc_door.specs.contracts.shard_side.ShardSide as shard
 use Rattle.mc_door.specs.contracts.side.Side as side
 use Rattle.mc_door.specs.contracts.writer_side.WriterSide as writer
 
--- each at its field's row, since a `search` that goes down through all of them runs out of steps
+-- one for each field's row, because a `search` through all of them runs out of steps
 at_desk_send : (V : RattleType) → IsSend (at_desk.the_field V).row
 at_desk_send V = search (sendable, crosses, desk_send, reader_send) depth 30
 

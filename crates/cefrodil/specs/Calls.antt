@@ -1,4 +1,5 @@
--- What the calls by handles give. Before a call the first thing lies behind the handle, after it the second; nothing does where it is closed.
+-- What the calls by handles give. The first thing is behind the handle before a call, the second after it; nothing is behind a closed
+-- handle.
 use Rattle.std.specs.Prelude.{ℕ, ◌≡◌, List}
 use mathlib.Core.Option.{Option, none, some}
 use Rattle.mc_door.specs.Held.{role_in, width_of}
@@ -13,13 +14,13 @@ use Rattle.mc_door.specs.declared.told.Told.{Told}
 use Rattle.mc_door.specs.declared.write.Swap.{Swap}
 use Rattle.mc_door.specs.declared.write.Write.{Write}
 
--- before and after a call nothing lies behind the handle, and this holds; or something does, and that holds of the two
+-- before and after a call nothing is behind the handle, and this holds; or something is, and that holds of the two
 abbrev pub Gives : Option Held → Option Held → Type 0 → (Held → Held → Type 0) → Type 0
 Gives none none Closed Open = Closed
 Gives (some h) (some h') Closed Open = Open h h'
 Gives b b' Closed Open = ⊥
 
--- what lies behind an open handle tells this, and a closed one its own status. Then `Left` holds
+-- what is behind an open handle returns this, and a closed handle returns its own status. Then `Left` holds
 abbrev pub TellsBy : Option Held → Option Held → Type 0 → (ℕ → Role → Role → Type 0 → Told → Type 0) → Told → Type 0
 TellsBy b b' Left Tells told = Gives b b' ((told ≡ plain CLOSED) × Left) (λ h h'. (width_of h' ≡ width_of h) × Tells (width_of h) (role_in h) (role_in h') (h' ≡ h) told)
 

@@ -1,4 +1,4 @@
--- What lies behind the address that C keeps.
+-- What is behind the address that C keeps.
 use mathlib.Core.Option.{Option, none, some}
 use base.Fml.{Fml, ftrue}
 use denote.RawPtr.{Ptr}

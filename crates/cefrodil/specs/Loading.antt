@@ -22,7 +22,7 @@ abbrev pub entry_status : List (ℕ × Why) → ℕ → ℕ
 entry_status [] i = OK
 entry_status (l ∷ left) i = if l.0 == i then left_status l.1 else entry_status left i
 
--- so many entries have so many words in all: a key each, and a value
+-- the entries have this many words in all: a key each, and a value
 abbrev pub AreEntries : ℕ → ℕ → ℕ → Type 0
 AreEntries words entry_words count = entry_words ≡ count * (1 + words)
 
@@ -41,7 +41,7 @@ pub record AreLoaded (raw : RawShape) (words : ℕ) (entries statuses : List ℕ
   pub has_readers : All (IsNewAt opening false words) readers
   pub told : EachIndex statuses (λ i. slice_index statuses i ≡ entry_status left i)
 
--- the first fault: that of the width, then the number of words of the entries, then the others as of an opening with none
+-- the first fault: of the width, then of the number of words of the entries, then the others, as when a cache is opened without entries
 abbrev pub RefusesWith : ℕ → ℕ → ℕ → (ℕ → Type 0) → ℕ → Type 0
 RefusesWith words entry_words count Refuses status =
     ((status ≡ COUNT) × IsWidth words × (¬ AreEntries words entry_words count)) ⊎

@@ -1,4 +1,4 @@
--- Lookups of many keys in one call. Their values stand one after the other.
+-- Lookups of many keys in one call. Their values are stored one after the other.
 use Rattle.std.specs.Prelude.{ℕ, ◌≡◌, ◌≢◌, ◌⊎◌, ◌*◌, List, [], ◌∷◌, drop, length, take}
 use mathlib.Core.Option.{Option}
 use Rattle.mc_door.specs.Held.{role_in, width_of}
@@ -12,18 +12,17 @@ use Rattle.mc_door.specs.declared.told.Told.{Told}
 use Rattle.cefrodil.specs.declared.many.RawAnswer.{RawAnswer}
 use Rattle.mc_door.specs.declared.status.TheConstants.{OK, CLOSED, COUNT, WIDTH}
 
--- what is told, as one answer of many
+-- what is returned, as one answer of many
 abbrev pub answer_of : Told → RawAnswer
 answer_of told = record { at = told.reply.at; since = told.reply.since; status = told.status; unused = 0 }
 
--- a lookup by a side for values of so many words: this was told
+-- a lookup by a side for values of V words: this was returned
 pub record HasLooked (V : ℕ) (role role' : Role) (key : ℕ) (old new : List ℕ) (answer : RawAnswer) : Type 0 where
   pub told : Looked
   pub is : answer ≡ answer_of (lookup_told told)
   pub means : GetMeans V role role' key old new told
 
--- a lookup for each of the keys, one after the other in their order, each with its answer, and nothing else. The first so many words
--- are those of the first key's value
+-- one lookup for each key, in their order, each with its answer, and nothing else. The first V words are those of the first key's value
 abbrev pub HaveLooked : ℕ → Role → Role → List ℕ → List ℕ → List ℕ → List RawAnswer → Type 0
 HaveLooked V role role' [] old new [] = (role' ≡ role) × (new ≡ old)
 HaveLooked V role role' (key ∷ keys) old new (answer ∷ answers) =
@@ -31,8 +30,8 @@ HaveLooked V role role' (key ∷ keys) old new (answer ∷ answers) =
 HaveLooked V role role' [] old new (answer ∷ answers) = ⊥
 HaveLooked V role role' (key ∷ keys) old new [] = ⊥
 
--- for so many keys, words of values and answers the first that applies: there are more or fewer answers than keys, the values have
--- another width
+-- for these numbers of keys, words of values and answers, the first that applies: there are more or fewer answers than keys, the values
+-- have another width
 abbrev pub IsManyMisuse : Held → ℕ → ℕ → ℕ → ℕ → Type 0
 IsManyMisuse h keys words answers status =
     ((status ≡ COUNT) × (answers ≢ keys)) ⊎

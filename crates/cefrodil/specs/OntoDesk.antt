@@ -1,4 +1,4 @@
--- The writer of a cache goes on a desk, as the call by its handle does.
+-- The writer of a cache is put on a desk, as the call by its handle does it.
 use Rattle.std.specs.Prelude.{ℕ, ◌≡◌, ◌⊎◌, All, List, length, true}
 use mathlib.Core.Option.{Option, none, some}
 use Rattle.mc_shared.specs.Records.{Opening}
@@ -18,14 +18,14 @@ pub record AreDeskPasses (h : Held) (passes : List Slot) : Type 0 where
   pub of : WritesTo opening (role_in h)
   pub has_passes : All (IsNewAt opening true (width_of h)) passes
 
--- the first that applies: it is no writer, it has too few spare readers for so many passes, or there is no memory
+-- the first that applies: it is no writer, it has too few spare readers for this many passes, or there is no memory
 abbrev pub RefusesDesk : Held → ℕ → ℕ → Type 0
 RefusesDesk h passes status =
     ((status ≡ KIND) × (¬ CanWrite (role_in h))) ⊎
     (((status ≡ READERS) × CanWrite (role_in h) × (¬ HasPasses (spares_in h) passes)) ⊎
     ((status ≡ NO_MEMORY) × CanWrite (role_in h) × HasPasses (spares_in h) passes))
 
--- one of the passes that were asked for
+-- one of the requested passes
 abbrev pub IsDeskPass : Held → Held → Type 0
 IsDeskPass h h' = (o : Opening) × WritesTo o (role_in h) × (width_of h' ≡ width_of h) × IsNewSide o true (role_in h')
 

@@ -8,6 +8,6 @@ abbrev pub where_live : Bool → Option Held → Option Held
 where_live true held = held
 where_live false held = none
 
--- what lies behind the handle, if it is open
+-- what is behind the handle, if it is open
 abbrev pub kept : Slot → Option Held
 kept s = where_live s.live s.handle.value

@@ -27,7 +27,7 @@ abbrev pub Keeps : (Held → Type 0) → Option Held → Type 0
 Keeps P none = ⊥
 Keeps P (some h) = P h
 
--- a new reader of this cache, or a new pass at its desk, for values of so many words
+-- a new reader of this cache, or a new pass at its desk, for values of this many words
 abbrev pub IsNewAt : Opening → Bool → ℕ → Slot → Type 0
 IsNewAt o desk words s = Keeps (λ h. (width_of h ≡ words) × IsNewSide o desk (role_in h)) (kept s)
 
@@ -44,11 +44,11 @@ open_status (error.Shape fault.Limit) = LIMIT
 open_status error.Readers = READERS
 open_status error.NoMemory = NO_MEMORY
 
--- the cache has the shape that was asked for, with values of so many words
+-- the cache has the requested shape, with values of this many words
 abbrev pub IsOfShape : RawShape → ℕ → Opening → Type 0
 IsOfShape raw words o = (sh : Shape) × IsShapeOf raw sh × (o.layout ≡ layout_of words sh)
 
--- the writer keeps the readers that were not asked for
+-- the writer keeps the readers that were not requested
 abbrev pub KeepsSpares : ℕ → Slot → Type 0
 KeepsSpares asked s = Keeps (λ h. spares_in h + asked ≡ readers_for asked) (kept s)
 

@@ -15,11 +15,11 @@ use Rattle.cefrodil.specs.declared.shape.RawShape.{RawShape}
 use Rattle.cefrodil.specs.declared.slot.Slot.{Slot}
 use Rattle.mc_door.specs.declared.status.TheConstants.{SHARDS}
 
--- a new pass of these shards, for values of so many words
+-- a new pass of these shards, for values of this many words
 abbrev pub IsNewPassAt : Sharded → ℕ → Slot → Type 0
 IsNewPassAt s words slot = Keeps (λ h. (width_of h ≡ words) × IsNewPass words s (role_in h)) (kept slot)
 
--- the passes of so many new shards, each of the shape that was asked for
+-- the passes of `shards` new shards, each of the requested shape
 pub record AreShardPasses (raw : RawShape) (shards words : ℕ) (passes : List Slot) : Type 0 where
   pub sharded : Sharded
   pub shape : IsShapeOf raw sharded.shape

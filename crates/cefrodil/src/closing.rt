@@ -5,7 +5,7 @@ use crate::slot::Slot;
 use mc_door::status::{CLOSED, OK};
 use std::alloc::Global;
 
-/// Closes a handle. With the last of its handles the cache goes.
+/// Closes a handle. Closing the last handle frees the cache.
 #[unsafe(no_mangle)]
 pub extern "C" fn cefrodil_close(alloc: Global, handle: &mut Slot) -> u32
     ensures closed { handle.new.live ≡ false }

@@ -6,7 +6,7 @@ ghost use Rattle.cefrodil.specs.Open.{kept};
 use crate::slot::{Slot, told_of_handle};
 use mc_door::{Held, RawReply};
 
-// Looks up by a handle whose values have this width. Another handle goes the way of `cefrodil_get_or_desk`, which refuses it.
+// Looks up by a handle whose values have this width. Any other handle is passed to `cefrodil_get_or_desk`, which refuses it.
 macro_rules! get_or_desk_at {
     ($width:ident, $pass:ident, $key:ident, $value:ident, $reply:ident) => {
         told_of_handle!($pass, $reply, held => match held {

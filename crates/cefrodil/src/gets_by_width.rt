@@ -6,7 +6,7 @@ ghost use Rattle.cefrodil.specs.Open.{kept};
 use crate::slot::{Slot, told_of_handle};
 use mc_door::{Held, RawReply};
 
-// Looks up by a handle whose values have this width. Another handle goes the way of `cefrodil_get`, which refuses it.
+// Looks up by a handle whose values have this width. Any other handle is passed to `cefrodil_get`, which refuses it.
 macro_rules! get_at {
     ($width:ident, $reader:ident, $key:ident, $value:ident, $reply:ident) => {
         told_of_handle!($reader, $reply, held => match held {

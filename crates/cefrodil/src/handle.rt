@@ -27,7 +27,7 @@ impl Model for Handle {
     ghost also_owns = { λ h. kept_at h.alloc h.at h.value };
 }
 
-// What lies behind it may go to another thread, and any thread may free that block.
+// What is behind it may be sent to another thread, and any thread may free that block.
 unsafe impl Send for Handle {}
 
 impl Handle {
@@ -54,7 +54,7 @@ impl Handle {
         }
     }
 
-    // What lies behind it, where it lies.
+    // What is behind it, in place.
     #[inline(always)]
     pub(crate) fn held(&mut self) -> &mut Held
         requires { ¬ (self.old.value ≡ none) }

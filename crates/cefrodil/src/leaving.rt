@@ -9,7 +9,7 @@ use mc_door::status::{CLOSED, IN_USE, KIND, NO_MEMORY, NOT_LAST, OK};
 use mc_door::{Held, LeaveError};
 use std::alloc::Global;
 
-/// A pass leaves its desk, and its handle is a reader's then. The writer goes into the other handle with the last pass of the desk.
+/// A pass leaves its desk, and its handle becomes a reader's. When the last pass leaves, the writer is put into the other handle.
 #[tactic(auto, using(crate::proofs::Gives::gives_open, crate::proofs::Gives::gives_closed))]
 #[unsafe(no_mangle)]
 pub extern "C" fn cefrodil_leave_desk(alloc: Global, pass: &mut Slot, writer: &mut Slot) -> u32

@@ -1,4 +1,4 @@
-//! The entries of a cache that goes on, as C asks for them.
+//! The entries of a cache that stays open, as C asks for them.
 ghost use Rattle.std.specs.Prelude.{◌≡◌};
 ghost use Rattle.cefrodil.specs.Listing.{ListGives, StampedListGives, TellsList};
 ghost use Rattle.cefrodil.specs.Open.{kept};

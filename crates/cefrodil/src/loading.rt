@@ -22,7 +22,7 @@ fn status_of_left(why: Why) -> u32
     }
 }
 
-// Whether there are as many words as so many entries have.
+// Whether there are as many words as `count` entries have.
 fn are_entries(words: usize, entry_words: usize, count: usize) -> bool
     requires { words < 2 ^ 63 }
     ensures { IsTrue result ↔ AreEntries words entry_words count }
@@ -30,7 +30,7 @@ fn are_entries(words: usize, entry_words: usize, count: usize) -> bool
     count.checked_mul(1 + words) == Some(entry_words)
 }
 
-// The shape that is asked for, or the first fault before those that the cache tells.
+// The requested shape, or the first fault before those that the cache reports.
 fn asked_with(
     shape: &RawShape,
     words: usize,
@@ -54,7 +54,7 @@ fn tell_done(statuses: &mut [u32])
     }
 }
 
-// The statuses of the entries that were left. The others are told as done.
+// The statuses of the entries that were left. The others are reported as done.
 fn tell_left(left: &[(usize, Why)], statuses: &mut [u32])
     requires done { All (λ status. status ≡ OK) statuses.old }
     requires named { All (λ l. l.0 < length statuses.old) left.now }
@@ -106,8 +106,8 @@ fn open_all_with(
     OK
 }
 
-/// A cache for values of so many words, as by `cefrodil_open`, with entries, which are put one after the other and none of which takes
-/// another's place. `statuses` tells what became of each.
+/// Opens a cache for values of `words` words, as `cefrodil_open` does, and puts the entries in order. No entry evicts another. `statuses`
+/// reports what became of each.
 #[unsafe(no_mangle)]
 pub extern "C" fn cefrodil_open_with(
     alloc: Global,

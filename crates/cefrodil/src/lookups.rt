@@ -21,7 +21,7 @@ pub extern "C" fn cefrodil_get(
     told_of_handle!(reader, reply, held => held.get(key, value, reply))
 }
 
-/// The same by a pass. Where the lookup is busy it tries once for the turn, with which it always tells.
+/// Looks up by a pass. If the lookup is busy, tries once for the turn. With the turn, it always gets an answer.
 #[tactic(auto, using(crate::proofs::Gives::gives_open, crate::proofs::Gives::gives_closed))]
 #[unsafe(no_mangle)]
 pub extern "C" fn cefrodil_get_or_desk(

@@ -62,7 +62,7 @@ fn look_up_all<const V: usize>(
     }
 }
 
-// The same whatever the width.
+// Looks up each key, whatever the width.
 fn look_up_each(held: &mut Held, keys: &[u64], values: &mut [u64], answers: &mut [RawAnswer])
     requires answers { length answers.old ≡ length keys.now }
     requires values { length values.old ≡ length keys.now * width_of held.old }
@@ -85,7 +85,7 @@ fn get_many(held: &mut Held, keys: &[u64], values: &mut [u64], answers: &mut [Ra
     OK
 }
 
-/// What the cache holds of each of the keys, one lookup after the other in the order of the keys, by any handle. The values stand one after the other; each is written only where its key was found.
+/// Looks up each of the keys in order, by any handle. The values are stored one after the other; each is written only if its key was found.
 #[tactic(auto, using(crate::proofs::Gives::gives_open, crate::proofs::Gives::gives_closed))]
 #[unsafe(no_mangle)]
 pub extern "C" fn cefrodil_get_many(

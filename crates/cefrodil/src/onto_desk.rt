@@ -1,4 +1,4 @@
-//! The writer of an open cache goes on a desk.
+//! The writer of an open cache is put on a desk.
 ghost use Rattle.std.specs.Prelude.{◌≡◌, ◌≢◌, ◌≤◌, All, false, length, true};
 ghost use Rattle.mc_door.specs.NewSides.{count_in, has_desk_in, opening_in, width_in};
 ghost use Rattle.cefrodil.specs.Inside.DeskStatuses.{desk_status};
@@ -37,7 +37,7 @@ fn make_places(alloc: Global, slots: &mut [Slot]) -> bool
     true
 }
 
-// A pass goes behind each of the open handles. `false` where it can't have a share of the desk: then one pass is left at least.
+// Puts a pass behind each of the open handles. `false` if a pass can't have a share of the desk: then at least one pass is left.
 #[tactic(auto, using(crate::proofs::Filling::all_filled))]
 fn give_passes(rest: &mut Rest, slots: &mut [Slot]) -> bool
     requires { (count_in rest.old ≡ length slots.old) × All IsOpen slots.old }
@@ -57,7 +57,7 @@ fn give_passes(rest: &mut Rest, slots: &mut [Slot]) -> bool
     true
 }
 
-// The passes' handles are closed. All memory is taken before the writer goes.
+// The passes' handles are closed. All memory is allocated before the writer is moved.
 fn make_desk(alloc: Global, held: &mut Held, passes: &mut [Slot]) -> u32
     requires { All IsClosed passes.old }
     ensures made { result ≡ OK → AreDeskPasses held.old passes.new }
@@ -82,7 +82,7 @@ fn make_desk(alloc: Global, held: &mut Held, passes: &mut [Slot]) -> u32
     OK
 }
 
-/// The writer goes on a desk, with a pass in each of the other handles. Its own handle is closed then.
+/// Puts the writer on a desk, and a pass into each of the other handles. Closes the writer's own handle.
 #[unsafe(no_mangle)]
 pub extern "C" fn cefrodil_make_desk(alloc: Global, writer: &mut Slot, passes: &mut [Slot]) -> u32
     ensures in_use { ¬ All IsClosed passes.old → (result ≡ IN_USE) × (writer.new ≡ writer.old) × (passes.new ≡ passes.old) }

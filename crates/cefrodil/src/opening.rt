@@ -102,7 +102,7 @@ pub(crate) fn given_out(
     Some(kept)
 }
 
-// The shape that is asked for, or the first fault before those that the cache tells.
+// The requested shape, or the first fault before those that the cache reports.
 pub(crate) fn asked(shape: &RawShape, words: usize) -> Result<Shape, u32>
     ensures { MatchResult result (λ sh. IsWidth words × HasMix shape.now × IsShapeOf shape.now sh) (λ status. RefusesAsked shape.now words status) }
 {
@@ -152,7 +152,7 @@ fn open_all(
     OK
 }
 
-/// A cache for values of so many words: its writer goes into one handle, and a reader into each of the others.
+/// Opens a cache for values of `words` words. Puts its writer into one handle, and a reader into each of the others.
 #[unsafe(no_mangle)]
 pub extern "C" fn cefrodil_open(
     alloc: Global,
@@ -195,7 +195,7 @@ fn open_all_passes(alloc: Global, shape: &RawShape, words: usize, passes: &mut [
     OK
 }
 
-/// A cache for values of so many words, whose writer lies on a desk: a pass goes into each of the handles.
+/// Opens a cache for values of `words` words, with its writer on a desk. Puts a pass into each of the handles.
 #[unsafe(no_mangle)]
 pub extern "C" fn cefrodil_open_desk(
     alloc: Global,

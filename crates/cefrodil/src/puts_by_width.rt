@@ -6,7 +6,7 @@ ghost use Rattle.cefrodil.specs.Open.{kept};
 use crate::slot::{Slot, told_of_handle};
 use mc_door::{Held, RawReply, Write};
 
-// Puts by a handle whose values have this width. Another handle goes the way of `cefrodil_put`, which refuses it.
+// Puts by a handle whose values have this width. Any other handle is passed to `cefrodil_put`, which refuses it.
 macro_rules! put_at {
     ($width:ident, $handle:ident, $key:ident, $value:ident, $reply:ident) => {
         told_of_handle!($handle, $reply, held => match held {

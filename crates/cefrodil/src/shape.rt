@@ -78,7 +78,7 @@ impl RawShape {
     }
 }
 
-/// The shape for so many items, from 1 to 3,774,873.
+/// The shape for `items` items, from 1 to 3,774,873.
 #[unsafe(no_mangle)]
 pub extern "C" fn cefrodil_shape_for_items(items: u32, shape: &mut RawShape) -> u32
     ensures sized { result ≡ OK → (chosen : Shape) × IsShapeOf shape.new chosen × IsSizedFor items chosen }
@@ -91,7 +91,7 @@ pub extern "C" fn cefrodil_shape_for_items(items: u32, shape: &mut RawShape) -> 
     OK
 }
 
-/// The shape of each of so many shards, which have so many items together.
+/// The shape of each of `shards` shards, which have `items` items together.
 #[unsafe(no_mangle)]
 pub extern "C" fn cefrodil_shape_for_shards(items: u32, shards: u32, shape: &mut RawShape) -> u32
     ensures sized { result ≡ OK → (chosen : Shape) × (share : ℕ) × IsShapeOf shape.new chosen × HasShards shards × IsShare items shards share × IsSizedFor share chosen }

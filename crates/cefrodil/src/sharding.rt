@@ -70,7 +70,7 @@ fn open_all_shards(
     OK
 }
 
-/// That many shards for values of so many words, each with its writer on a desk: a pass of them goes into each of the handles.
+/// Opens `shards` shards for values of `words` words, each with its writer on a desk. Puts a pass into each of the handles.
 #[unsafe(no_mangle)]
 pub extern "C" fn cefrodil_open_shards(
     alloc: Global,

@@ -62,7 +62,7 @@ pub extern "C" fn cefrodil_remove(handle: &mut Slot, key: u64, reply: &mut RawRe
     told_of_handle!(handle, reply, held => held.write(key, Write::Remove, &[], reply))
 }
 
-/// Puts a key. A pass tries up to so many times for the turn, at least once.
+/// Puts a key. A pass tries for the turn at most `tries` times, and at least once.
 #[tactic(auto, using(crate::proofs::Gives::gives_open, crate::proofs::Gives::gives_closed))]
 #[unsafe(no_mangle)]
 pub extern "C" fn cefrodil_put_within(

@@ -1,4 +1,4 @@
--- A desk may be lent to threads, and its writer goes from one to the other. A reader may be lent, too.
+-- A desk may be lent to threads, and its writer passes from one to another. A reader may be lent, too.
 use denote.RattleType.{RattleType}
 use denote.Hole.{as_row}
 use denote.Struct.Field.{u64-field}

@@ -1,4 +1,4 @@
--- Turns, from what their parts tell.
+-- Turns, from what their parts state.
 use Rattle.std.specs.Prelude.{Result, Ok, Err}
 use Rattle.std.proofs.Common.{◌≡◌, ◌∙◌, ◌++◌, ℕ, List, ap, append_assoc, arith, length, subst, sym, take}
 use Rattle.std.proofs.Math.Seq.{take-length}
@@ -66,8 +66,8 @@ tried_means V Means old mid new before after r result b m e is =
     subst (TurnMeans Means (seen V old) (seen V new)) (sym is)
     (subst (λ (h : List (Change V)). TurnMeans Means (seen V old) h (turned r)) (sym e.now) (answered_means Means (seen V old) (history V after) (history V before) r b.begins m))
 
--- ---- a lookup beside the writer that lay on the desk
--- what the map holds at the end of a history is true of it, and no earlier than a history that begins it
+-- ---- a lookup beside the writer that was on the desk what the map holds at the end of a history is true of it, and no earlier than a
+-- history that begins it
 
 tells_true : {V : ℕ} (h all : List (Change V)) (k : ℕ) (reply : Reply V) → Begins h all → TellsNow all k reply → IsTrueAnswer all k reply × IsBetween (length h) (length all) reply
 tells_true {V} h all k (Found v at since) b t =

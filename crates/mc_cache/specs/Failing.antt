@@ -1,5 +1,5 @@
--- When a call of the writer may fail: the clauses `fails`. They speak of the history and of a number that the writer's record tells: how
--- many version changes were made. A call that fails changes neither.
+-- When a call of the writer may fail: the clauses `fails`. They speak of the history and of a number in the writer's record: how many
+-- version changes were made. A call that fails changes neither.
 use Rattle.std.specs.Prelude.{ℕ, ◌≡◌, ◌+◌, ◌*◌, ◌<◌, ◌≤◌, List, length, None, Result, Ok, Err}
 use Rattle.mc_words.specs.History.{key_count, map_value}
 use Rattle.mc_words.specs.declared.history.Change.{Change}
@@ -29,12 +29,12 @@ version_changes V w = (state_of V w.of.layout.shape w.acts).version_steps
 unfoldable pub versions_seen : (V : ℕ) → ReaderRecord → ℕ
 versions_seen V r = (state_of V r.of.layout.shape r.front).version_steps
 
--- so many version changes were made, two or more for each change of the history, and so many more could pass the limit
+-- n version changes were made, two or more for each change of the history, and `more` more could pass the limit
 abbrev pub IsSpent : {V : ℕ} → Shape → List (Change V) → ℕ → ℕ → Type 0
 IsSpent sh h made more = (2 * length h ≤ made) × (sh.limit < made + more)
 
--- a put may fail for want of a path or of an item only if its key is absent; for want of an item, only if as many keys are there as the
--- table has items. A put makes two version changes for each of its moves, for its eviction and for itself
+-- a put may fail without a path or without an item only if its key is absent; without an item, only if the table holds as many keys as it
+-- has items. A put makes two version changes for each of its moves, for its eviction and for itself
 abbrev pub PutFails : {V : ℕ} → Shape → List (Change V) → ℕ → ℕ → Result Put PutError → Type 0
 PutFails sh h made k (Ok told) = Unit {0}
 PutFails sh h made k (Err NoPath) = map_value h k ≡ None

@@ -6,7 +6,7 @@ use Rattle.mc_words.specs.declared.shape.Shape.{Shape}
 use Rattle.mc_cache.specs.declared.opening.OpenError.{OpenError}
 use Rattle.mc_cache.specs.declared.opening.OpenError.TheVariants as error
 
--- the first fault of what was asked for; where there is none, memory was refused
+-- the first fault of the request; if there is none, memory was refused
 abbrev pub RefusesOpening : Shape → ℕ → OpenError → Type 0
 RefusesOpening sh readers (error.Shape why) = RefusesShape sh why
 RefusesOpening sh readers error.Readers = IsShape sh × (¬ HasReaders readers)

@@ -10,6 +10,6 @@ pub record IsAtRest (V : ℕ) (w : WriterRecord) : Type 0 where
   pub quiet : (state_of V w.of.layout.shape w.acts).phase ≡ Quiet
   pub agrees : Agrees V w.of.layout.shape (state_of V w.of.layout.shape w.acts).words None (state_of V w.of.layout.shape w.acts).history
 
--- the writer is of this table, and rests
+-- the writer belongs to this table, and rests
 abbrev pub IsFit : ℕ → Opening → WriterRecord → Type 0
 IsFit V o w = (w.of ≡ o) × IsAtRest V w

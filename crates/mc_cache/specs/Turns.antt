@@ -1,4 +1,4 @@
--- What a try for the turn does, at the desk on which the writer lies.
+-- What a try for the turn does, at the desk that has the writer.
 use Rattle.std.specs.Prelude.{ℕ, ◌≡◌, ◌⊎◌, List, length, Result, Ok, Err}
 use Rattle.mc_words.specs.declared.history.Reply.{Reply}
 use Rattle.mc_words.specs.declared.history.Reply.TheVariants.{Busy}
@@ -19,7 +19,7 @@ use Rattle.mc_cache.specs.Resting.{IsAtRest}
 use Rattle.mc_cache.specs.declared.desk.DeskError.{DeskError}
 use Rattle.mc_cache.specs.declared.desk.DeskError.TheVariants as desk
 
--- a writer as it lies between two turns: its acts are lawful and within the limit, each has its note, and no call of it runs
+-- a writer between two turns: its acts are lawful and within the limit, each has its note, and no call of it runs
 pub record IsLaidDown (V : ℕ) (w : WriterRecord) : Type 0 where
   pub run : IsRun w.of.layout w.acts
   pub paired : length w.notes ≡ length w.acts
@@ -67,7 +67,7 @@ HasTriedToList V old new (Ok listed) = HasMetAtDesk V old new
 HasTriedToList V old new (Err desk.Held) = new ≡ old
 HasTriedToList V old new (Err (desk.Call why)) = HasMetAtDesk V old new
 
--- a lookup was busy, and then the key was looked up beside the writer, which lay down and has stayed as it was
+-- a lookup was busy, and then the key was looked up beside the writer, which was laid down and is unchanged
 pub record HasFallenBack (V : ℕ) (sh : Shape) (k : ℕ) (old new : ReaderRecord) (reply : Reply V) : Type 0 where
   pub mid : ReaderRecord
   pub writer : WriterRecord

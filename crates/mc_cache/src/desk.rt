@@ -99,7 +99,7 @@ impl<const V: usize> Desk<V> {
     ghost use Rattle.mc_cache.specs.Turns.{HasTriedTo};
 
     /// Tries once for the turn, and with it makes the call. The caller's reader is its pass: with the turn, it catches up with the
-    /// writer before the call and after it. Condition: desk and pass are of this cache.
+    /// writer before the call and after it. Condition: desk and pass belong to this cache.
     #[inline(always)]
     pub fn try_call<T, E, C: TurnCall<V, T, E>>(
         &self,
@@ -144,7 +144,7 @@ impl<const V: usize> Desk<V> {
     }
 
     /// Tries once for the turn, and with it calls `Writer::put`. The caller's reader is its pass: with the turn, it catches
-    /// up with the writer before the call and after it. Condition: desk and pass are of this cache.
+    /// up with the writer before the call and after it. Condition: desk and pass belong to this cache.
     #[inline(always)]
     pub fn try_put(
         &self,
@@ -271,7 +271,7 @@ impl<const V: usize> Desk<V> {
     }
 
     /// Tries once for the turn, and with it lists each key with its value, in the order of their items. The pass has then seen all
-    /// changes that led to this list. Condition: desk and pass are of this cache.
+    /// changes that led to this list. Condition: desk and pass belong to this cache.
     pub fn try_entries(
         &self,
         alloc: Global,
@@ -314,7 +314,7 @@ impl<const V: usize> Desk<V> {
     }
 
     /// Tries once for the turn, and with it counts the keys that the cache holds. `None` if the try did not win. The pass has then seen all
-    /// changes that led to this number. Condition: desk and pass are of this cache.
+    /// changes that led to this number. Condition: desk and pass belong to this cache.
     pub fn try_len(&self, cache: &Cache<V>, pass: &mut Reader<V>) -> Option<usize>
         requires of { (self.now ≡ cache.now) × (pass.old.of ≡ cache.now) }
         ensures of { pass.new.of ≡ pass.old.of }
@@ -345,7 +345,7 @@ impl<const V: usize> Reader<V> {
     ghost use Rattle.mc_cache.specs.Turns.{HasLookedInTurn, HasLookedOrMet};
 
     /// Looks the key up by `get`. If that is `Busy`, tries once for the turn, and with it looks the key up by `get_beside`.
-    /// `Busy` if the try does not win either. Condition: reader and desk are of this cache.
+    /// `Busy` if the try does not win either. Condition: reader and desk belong to this cache.
     #[inline(always)]
     pub fn get_or_desk(&mut self, cache: &Cache<V>, desk: &Desk<V>, key: u64) -> Reply<V>
         requires of { (self.old.of ≡ cache.now) × (desk.now ≡ cache.now) }

@@ -1,4 +1,4 @@
-//! The entries of a cache that goes on.
+//! The entries of a cache that stays open.
 ghost use Rattle.std.specs.Prelude.{◌≡◌, IfOk, length};
 ghost use Rattle.mc_words.specs.History.{key_count};
 ghost use Rattle.mc_theory.specs.Lists.{state_of};
@@ -33,8 +33,8 @@ fn list_beside<const V: usize>(
 }
 
 impl<const V: usize> Writer<V> {
-    /// Lists each key that the cache holds with its value, in the order of their items. The cache goes on. `Err` only if the list
-    /// can't be stored. Condition: the writer is this cache's.
+    /// Lists each key that the cache holds with its value, in the order of their items. The cache stays open. `Err` only if the list can't
+    /// be stored. Condition: the writer is this cache's.
     pub fn entries(
         &mut self,
         alloc: Global,

@@ -41,7 +41,7 @@ fn name(left: &mut Vec<(usize, Why)>, index: usize, why: Why)
     let _ = left.push((index, why));
 }
 
-// Puts the entries in their order, as long as no other key has to go. There is room to name them all.
+// Puts the entries in order, as long as no other key must be evicted. There is room to name them all.
 fn load<const V: usize>(
     cache: &Cache<V>,
     writer: &mut Writer<V>,

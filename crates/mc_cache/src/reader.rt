@@ -38,7 +38,7 @@ impl<const V: usize> Model for Reader<V> {
 
 impl<const V: usize> Reader<V> {
     /// Looks the key up. `Busy` if changes of keys of the same stripe spoiled each of the shape's tries. A hit marks the key's
-    /// item as recently used. Condition: the reader is of this cache.
+    /// item as recently used. Condition: the reader belongs to this cache.
     #[inline(always)]
     pub fn get(&mut self, cache: &Cache<V>, key: u64) -> Reply<V>
         requires of { self.old.of ≡ cache.now }
@@ -53,7 +53,7 @@ impl<const V: usize> Reader<V> {
 
     /// Looks the keys up. Equivalent to calling `get` for each key in order. In a large cache it is faster, because the
     /// processor waits for the words of several keys at once.
-    /// Condition: the reader is of this cache, and there are as many replies as keys.
+    /// Condition: the reader belongs to this cache, and there are as many replies as keys.
     pub fn get_many(&mut self, cache: &Cache<V>, keys: &[u64], replies: &mut [Reply<V>])
         requires of { self.old.of ≡ cache.now }
         requires many { length replies.old ≡ length keys.now }
@@ -78,7 +78,7 @@ impl<const V: usize> Reader<V> {
     }
 
     /// Meets the writer, and returns its moment. No later answer of this reader has a lower one.
-    /// Condition: reader and writer are of this cache.
+    /// Condition: reader and writer belong to this cache.
     pub fn catch_up(&mut self, cache: &Cache<V>, writer: &mut Writer<V>) -> u64
         requires of { (self.old.of ≡ cache.now) × (writer.old.of ≡ cache.now) }
         ensures writer { writer.new ≡ writer.old }
@@ -95,7 +95,7 @@ impl<const V: usize> Reader<V> {
     }
 
     /// Looks the key up at the writer's moment. Never `Busy`. A hit marks the key's item.
-    /// Condition: reader and writer are of this cache.
+    /// Condition: reader and writer belong to this cache.
     pub fn get_beside(&mut self, cache: &Cache<V>, writer: &mut Writer<V>, key: u64) -> Reply<V>
         requires of { (self.old.of ≡ cache.now) × (writer.old.of ≡ cache.now) }
         ensures writer { writer.new ≡ writer.old }

@@ -1,4 +1,4 @@
-//! The entries of a cache that goes on, with their stamps.
+//! The entries of a cache that stays open, with their stamps.
 ghost use Rattle.std.specs.Prelude.{ℕ, ◌≡◌, ◌<◌, All, List, None, Some, IfNone, IfOk, IfSome, length, map};
 ghost use Rattle.mc_words.specs.Checks.{shape_of};
 ghost use Rattle.mc_words.specs.History.{key_count, value_held};
@@ -87,7 +87,7 @@ fn list_stamped_beside<const V: usize>(
 }
 
 impl<const V: usize> Writer<V> {
-    /// Lists each entry that the cache holds, with the moment of its key's last put, in the order of their items. The cache goes on.
+    /// Lists each entry that the cache holds, with the moment of its key's last put, in the order of their items. The cache stays open.
     /// `Err` only if the list can't be stored. Condition: the writer is this cache's.
     pub fn stamped_entries(
         &mut self,

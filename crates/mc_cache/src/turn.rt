@@ -29,7 +29,7 @@ pub trait TurnCall<const V: usize, T, E>: Drop {
     // What it does, means and fails with.
     ghost contract: { Self → Contract V T E };
 
-    /// Makes the call. Condition: the writer is of this cache.
+    /// Makes the call. Condition: the writer belongs to this cache.
     fn make(self, cache: &Cache<V>, writer: &mut Writer<V>, answers: Answers<V>) -> Result<T, E>
         requires { CanMake V cache.now writer.old }
         ensures { HasMade (contract self) cache.now result writer.old writer.new };

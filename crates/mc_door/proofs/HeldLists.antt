@@ -1,4 +1,4 @@
--- A list by what lies behind a handle, where it is known which width that has.
+-- A list by what is behind a handle, when its width is known.
 use Rattle.std.proofs.Common.{ℕ, ◌≡◌, List, MatchResult, Result, length, subst, sym}
 use Rattle.mc_door.specs.Held.{role_in, width_of}
 use Rattle.mc_door.specs.Roles.{Role}

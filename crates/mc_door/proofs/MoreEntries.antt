@@ -3,7 +3,7 @@ use Rattle.std.proofs.Common.{ℕ, suc, ◌≡◌, ◌+◌, ◌<◌, List, [], �
 use Rattle.std.proofs.lemmas.List.{drop-drop}
 use Rattle.mc_door.specs.Loading.{entries_in}
 
--- one entry more: what stands behind it are the others
+-- one entry more: the others follow it
 pub one_more : (V count : ℕ) (words : List ℕ) (entries : List (ℕ × List ℕ)) (index at next : ℕ) (key : ℕ) (value : List ℕ)
     → ((rest : ℕ) → index + rest ≡ count → entries ++ entries_in V rest (drop at words) ≡ entries_in V count words)
     → at < length words → get_or words at 0 ≡ key → take V (drop (at + 1) words) ≡ value → next ≡ at + 1 + V

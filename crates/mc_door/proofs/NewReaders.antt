@@ -16,7 +16,7 @@ new_length o (suc n) = let h = new_length o n in omega (arith, h, length-append 
 pub as_many : (o : Opening) (n : ℕ) (rs : List ReaderRecord) → rs ≡ new_readers o n → length rs ≡ n
 as_many o n rs is = ap length is ∙ new_length o n
 
--- the cache is opened with other readers too. Where what was asked for is right, only memory can be refused
+-- the cache is opened with other readers too. If the request is right, only memory can be refused
 pub refused_as_asked : (sh : Shape) (asked all : ℕ) (why : OpenError) → IsShape sh → HasReaders asked → HasReaders all → RefusesOpening sh all why → RefusesOpening sh asked why
 refused_as_asked sh asked all (error.Shape fault) is has has' refused = refused
 refused_as_asked sh asked all error.Readers is has has' refused = absurd (refused.1 has')

@@ -8,7 +8,7 @@ use Rattle.mc_door.specs.Roles.{Role, Writes, Passes}
 use Rattle.mc_door.specs.declared.counting.CountError.{CountError}
 use Rattle.mc_door.specs.declared.counting.CountError.TheVariants.{Kind, Held}
 
--- there are so many keys after the changes that the writer has made, or that the pass has seen now
+-- there are this many keys after the changes that the writer has made, or that the pass has seen now
 abbrev pub Counts : (V : ℕ) → Role → Role → ℕ → Type 0
 Counts V (Writes w) (Writes w') many = (w' ≡ w) × (many ≡ key_count (history V w))
 Counts V (Passes r) (Passes r') many = (r'.of ≡ r.of) × Begins (seen V r) (seen V r') × (many ≡ key_count (seen V r'))

@@ -29,7 +29,7 @@ abbrev pub words_of : List (ℕ × List ℕ) → List ℕ
 words_of [] = []
 words_of (e ∷ es) = e.0 ∷ e.1 ++ words_of es
 
--- so many entries were written, and the words behind them are as they were
+-- these entries were written, and the words behind them are unchanged
 pub record AreWritten (V : ℕ) (es : List (ℕ × List ℕ)) (old new : List ℕ) (count : ℕ) : Type 0 where
   pub many : count ≡ length es
   pub words : new ≡ words_of es ++ drop (count * (1 + V)) old
@@ -38,7 +38,7 @@ pub record AreWritten (V : ℕ) (es : List (ℕ × List ℕ)) (old new : List �
 abbrev pub HasListed : (V : ℕ) → Role → List ℕ → List ℕ → ℕ → Type 0
 HasListed V role old new count = (es : List (ℕ × List ℕ)) × AreEntries V role es × AreWritten V es old new count
 
--- there are so many entries, for which the words do not suffice
+-- there are this many entries, and too few words for them
 abbrev pub HasMore : (V : ℕ) → Role → ℕ → ℕ → Type 0
 HasMore V role words count = (es : List (ℕ × List ℕ)) × AreEntries V role es × (count ≡ length es) × (words < count * (1 + V))
 

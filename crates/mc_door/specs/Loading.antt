@@ -1,4 +1,4 @@
--- A cache that was opened with entries, which stand one after the other as words.
+-- A cache that was opened with entries, given one after the other as words.
 use Rattle.std.specs.Prelude.{ℕ, zero, suc, ◌≡◌, List, [], ◌∷◌, drop, take}
 use Rattle.mc_cache.specs.Plain.{TakesOrNames, history}
 use Rattle.mc_plan.specs.Loads.{Loads}
@@ -7,7 +7,7 @@ use Rattle.mc_shared.specs.Records.{Opening, WriterRecord}
 use Rattle.mc_theory.specs.States.{opening}
 use Rattle.mc_door.specs.Roles.{Role, Writes}
 
--- so many entries: each is its key, and then the words of its value
+-- this many entries: each is its key, and then the words of its value
 abbrev pub entries_in : ℕ → ℕ → List ℕ → List (ℕ × List ℕ)
 entries_in V zero words = []
 entries_in V (suc n) [] = []

@@ -1,11 +1,11 @@
--- What a lookup tells, where its value is written beside its answer.
+-- What a lookup returns when its value is written beside its answer.
 use Rattle.std.specs.Prelude.{ℕ, ◌≡◌, List}
 use Rattle.mc_words.specs.declared.history.Reply.{Reply}
 use Rattle.mc_words.specs.declared.history.Reply.TheVariants as reply
 use Rattle.mc_door.specs.declared.looked.Looked.{Looked}
 use Rattle.mc_door.specs.declared.looked.Looked.TheVariants as looked
 
--- the reply that was told so; the value stands in these words where there is one
+-- the reply that was returned so; the value, if there is one, is in these words
 abbrev pub reply_of : (V : ℕ) → List ℕ → Looked → Reply V
 reply_of V words (looked.Found at since) = reply.Found words at since
 reply_of V words (looked.Absent at) = reply.Absent at

@@ -54,7 +54,7 @@ HasTurns (Passes r) = Unit {0}
 HasTurns (Shares s rs) = Unit {0}
 HasTurns Idle = ⊥
 
--- a lookup by the writer tells what the map holds now. By a reader or a pass the answer is true of what it has seen, and by a pass of
+-- a lookup by the writer returns what the map holds now. By a reader or a pass the answer is true of what it has seen, and by a pass of
 -- shards it is one in the key's shard
 abbrev pub Looks : (V : ℕ) → Role → Role → ℕ → Reply V → Type 0
 Looks V (Writes w) (Writes w') key reply = (w'.of ≡ w.of) × HasGot V w.of.layout.shape key w w' reply × TellsNow (history V w) key reply × (history V w' ≡ history V w)
@@ -77,7 +77,7 @@ GetMeans V role role' key old new told = (length old ≡ V) × Looks V role role
 abbrev pub GetOrDeskMeans : (V : ℕ) → Role → Role → ℕ → List ℕ → List ℕ → Looked → Type 0
 GetOrDeskMeans V role role' key old new told = (length old ≡ V) × LooksAtDesk V role role' key (reply_of V new told) × LeavesUnlessFound old new told
 
--- what lookups tell. `Same`: the side is as it was
+-- what lookups return. `Same`: the side is unchanged
 abbrev pub GetTells : (V : ℕ) → Role → Role → Type 0 → ℕ → List ℕ → List ℕ → Told → Type 0
 GetTells V role role' Same key old new told = Tells CanLook V role (length old) (Same × (new ≡ old)) (HasTold lookup_told (GetMeans V role role' key old new) told) told
 

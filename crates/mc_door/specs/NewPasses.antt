@@ -11,7 +11,7 @@ abbrev pub IsNewPass : ℕ → Sharded → Role → Type 0
 IsNewPass V s (Shares s' rs) = (s' ≡ s) × ArePassOf s rs × HasSeenNothing V rs
 IsNewPass V s role = ⊥
 
--- of the passes that are left: the width of values, the shards that they are of, and how many they are
+-- of the passes that are left: the width of values, their shards, and how many they are
 abbrev pub width_on : ShardRest → ℕ
 width_on (One s) = 1
 width_on (Two s) = 2

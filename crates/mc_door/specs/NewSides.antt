@@ -20,7 +20,7 @@ abbrev pub is_there : {D : Type 0} → Option D → Bool
 is_there None = false
 is_there (Some desk) = true
 
--- of the sides that are left: the cache that they are of, whether it has a desk, and how many they are
+-- of the sides that are left: their cache, whether it has a desk, and how many they are
 abbrev pub opening_of : {V : ℕ} → NewSides V → Opening
 opening_of s = s.cache.value
 

@@ -1,4 +1,4 @@
--- The writer of a cache goes on a desk, for so many passes.
+-- The writer of a cache is put on a desk, for a number of passes.
 use Rattle.std.specs.Prelude.{ℕ, ◌≡◌, ◌≤◌}
 use Rattle.mc_shared.specs.Records.{Opening}
 use Rattle.mc_door.specs.Means.{CanWrite}

@@ -6,7 +6,7 @@ use Rattle.mc_door.specs.declared.held.Held.TheVariants.{One, Two, Three, Four, 
 use Rattle.mc_door.specs.declared.side.Side.{Side}
 use Rattle.mc_door.specs.declared.side.Side.TheVariants as side
 
--- how many readers a cache is opened with, where so many are asked for: 64 more, or as many as there may be
+-- how many readers a cache is opened with: 64 more than requested, or as many as there may be
 abbrev pub readers_for : ℕ → ℕ
 readers_for asked = min (asked + 64) most_readers
 

@@ -25,7 +25,7 @@ abbrev pub HasListedStamped : (V : ℕ) → Role → Role → List ℕ → List 
 HasListedStamped V role role' old new count =
     SeesMore V role role' × ((es : List (Entry V)) × AreStampedEntries V role' es × AreWritten (V + 1) (map row_of es) old new count)
 
--- there are so many entries, for which the words do not suffice
+-- there are this many entries, and too few words for them
 abbrev pub HasMoreStamped : (V : ℕ) → Role → ℕ → ℕ → Type 0
 HasMoreStamped V role words count = (es : List (Entry V)) × AreStampedEntries V role es × (count ≡ length es) × (words < count * (2 + V))
 

@@ -1,4 +1,4 @@
--- What each answer of a call is told as: a status, and the numbers of a reply.
+-- How each answer of a call is returned: a status, and the numbers of a reply.
 use Rattle.std.specs.Prelude.{ℕ, Option, Some, None, Result, Ok, Err}
 use Rattle.mc_cache.specs.declared.desk.DeskError.{DeskError}
 use Rattle.mc_cache.specs.declared.desk.DeskError.TheVariants as desk
@@ -33,7 +33,7 @@ plain status = record { status = status; reply = record { at = 0; since = 0; evi
 abbrev pub told_at : ℕ → ℕ → Told
 told_at status at = record { status = status; reply = record { at = at; since = 0; evicted = 0; moves = 0; put = NOTHING } }
 
--- a status and the moment of the put that stands
+-- a status and the moment of the key's last put
 abbrev pub told_since : ℕ → ℕ → Told
 told_since status since = record { status = status; reply = record { at = 0; since = since; evicted = 0; moves = 0; put = NOTHING } }
 

@@ -1,11 +1,11 @@
--- What a call by a side tells.
+-- What a call by a side returns.
 use Rattle.std.specs.Prelude.{ℕ, ◌≡◌, ◌≢◌, ◌⊎◌}
 use Rattle.mc_door.specs.Roles.{Role}
 use Rattle.mc_door.specs.Tellings.{plain}
 use Rattle.mc_door.specs.declared.status.TheConstants.{KIND, WIDTH}
 use Rattle.mc_door.specs.declared.told.Told.{Told}
 
--- the call was made, and this was told of its answer
+-- the call was made, and this was returned for its answer
 pub record HasTold {Answer : Type 0} (tells : Answer → Told) (Means : Answer → Type 0) (told : Told) : Type 0 where
   pub made : Answer
   pub is : told ≡ tells made

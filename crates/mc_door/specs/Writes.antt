@@ -60,6 +60,6 @@ WriteMeans V (Shares s rs) (Shares s' rs') key call v told =
     (words_in V call v ≡ V) × (s' ≡ s) × WritesInTurn V s.shape (λ Tried Seen. IsAtShard V s key rs rs' Tried Seen) key call v told
 WriteMeans V _ _ key call v told = ⊥
 
--- what writes tell. `Same`: the side is as it was
+-- what writes return. `Same`: the side is unchanged
 abbrev pub WriteTells : (V : ℕ) → Role → Role → Type 0 → ℕ → Write → List ℕ → Told → Type 0
 WriteTells V role role' Same key call v told = Tells CanChange V role (words_in V call v) Same (WriteMeans V role role' key call v told) told

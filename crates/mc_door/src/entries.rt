@@ -10,7 +10,7 @@ use mc_cache::{OpenError, Shape};
 use mc_words::MOST_READERS;
 use std::alloc::{AllocError, Global};
 
-/// The first fault of what is asked for, if there is one.
+/// The first fault of the request, if there is one.
 pub(crate) fn check(shape: Shape, readers: u32) -> Result<(), OpenError>
     ensures { MatchResult result (λ _. IsShape shape × HasReaders readers) (λ e. RefusesOpening shape readers e) }
 {
@@ -23,7 +23,7 @@ pub(crate) fn check(shape: Shape, readers: u32) -> Result<(), OpenError>
     Ok(())
 }
 
-/// So many entries, which stand there one after the other.
+/// Reads `count` entries, which are stored one after the other.
 pub(crate) fn entries_of<const V: usize>(
     alloc: Global,
     count: usize,

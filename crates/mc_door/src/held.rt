@@ -76,7 +76,7 @@ impl Held {
     }
 }
 
-// Lookups are cold here: where the width is known, they go past these.
+// Lookups are cold here: where the width is known, they bypass these.
 impl Held {
     /// What the cache holds of the key: `Side::get`.
     #[cold]
@@ -166,7 +166,7 @@ impl Held {
         with_side!(self, side => side.is_pass())
     }
 
-    /// The first reason against a desk for so many passes, if there is one but memory.
+    /// The first reason against a desk for `passes` passes, if there is one other than memory.
     pub fn check_desk(&self, passes: usize) -> Result<(), MakeDeskError>
         ensures { MatchResult result (λ _. CanWrite (role_in self.now) × HasPasses (spares_in self.now) passes)
             (λ why. RefusesDesk (role_in self.now) (spares_in self.now) passes why) }
@@ -174,8 +174,8 @@ impl Held {
         with_side!(self, side => side.check_desk(passes))
     }
 
-    /// The writer goes on a desk, and leaves no side behind. The passes, so many, are given by `Rest::next`. `Err` only where there is
-    /// no memory: nothing is changed then. Condition: `check_desk` finds no reason against it.
+    /// Puts the writer on a desk, and leaves no side behind. `Rest::next` gives the `passes` passes. `Err` only if there is no memory: then
+    /// nothing is changed. Condition: `check_desk` finds no reason against it.
     pub fn make_desk(&mut self, alloc: Global, passes: usize) -> Result<Rest, NoMemory>
         requires { CanWrite (role_in self.old) × HasPasses (spares_in self.old) passes }
         ensures made { IfOk result (λ rest. WritesTo (opening_in rest) (role_in self.old) × (has_desk_in rest ≡ true) × (count_in rest ≡ passes) × (width_in rest ≡ width_of self.old)) }

@@ -1,7 +1,7 @@
-//! What lies behind a handle that a program in C keeps: a side of a cache, for values of one of eight widths.
+//! What is behind a handle that a program in C keeps: a side of a cache, for values of one of eight widths.
 //!
-//! A side keeps the cache with it, and that the two belong together. So a call of a side has no condition that its caller would have to
-//! know of: a call that the side can't make, or a value of another width, has a status of its own.
+//! A side keeps the cache with it, and that the two belong together. So a call of a side has no condition for its caller to know: a call
+//! that the side can't make, or a value of another width, has a status of its own.
 #![tactic(auto)]
 
 mod at_desk;

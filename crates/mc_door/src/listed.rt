@@ -24,7 +24,7 @@ pub enum ListError {
     NoMemory,
 }
 
-// The number of words that so many entries need, where there are as many.
+// The number of words that `count` entries need, if there are as many.
 pub(crate) fn room_for(count: usize, each: usize, words: usize) -> Result<usize, ListError>
     ensures { MatchResult result (λ needed. (needed ≡ count * each) × (needed ≤ words)) (λ e. (e ≡ why.Count count) × (words < count * each)) }
 {
@@ -47,7 +47,7 @@ fn write_entries<const V: usize>(entries: &[(u64, [u64; V])], words: &mut [u64])
     }
 }
 
-// The same, where there are words enough.
+// Writes all entries, if there are enough words.
 fn write_all<const V: usize>(
     entries: &[(u64, [u64; V])],
     words: &mut [u64],

@@ -1,10 +1,10 @@
-//! What a lookup tells, where its value is written beside its answer.
+//! What a lookup returns when its value is written beside its answer.
 ghost use Rattle.std.specs.Prelude.{◌≡◌, length};
 ghost use Rattle.mc_door.specs.Looks.{LeavesUnlessFound, reply_of};
 
 use mc_cache::Reply;
 
-/// What a lookup told. The value, where there is one, was written where the caller asked for it.
+/// What a lookup returned. The value, if there is one, was written where the caller asked for it.
 #[derive(Clone, Copy, Debug, PartialEq, Eq)]
 pub enum Looked {
     Found { at: u64, since: u64 },

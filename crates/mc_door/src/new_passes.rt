@@ -42,7 +42,7 @@ impl<const V: usize> NewPasses<V> {
         Ok(Some(Side::Shard(ShardSide { shards, pass })))
     }
 
-    /// That many shards, and as many passes as were asked for.
+    /// Opens `shards` shards, with the requested number of passes.
     pub(crate) fn open(
         alloc: Global,
         shape: Shape,

@@ -84,7 +84,7 @@ impl<const V: usize> NewSides<V> {
         Side::Pass(PassSide { cache, desk, pass })
     }
 
-    // The writer of a new cache in hand, and as many of its readers as were asked for. The others stay with the writer.
+    // The writer of a new cache in hand, and the requested number of its readers. The others stay with the writer.
     fn of(
         alloc: Global,
         cache: Cache<V>,
@@ -122,7 +122,7 @@ impl<const V: usize> NewSides<V> {
         Ok((side, rest))
     }
 
-    /// A cache with its writer in hand, and as many readers as were asked for.
+    /// A cache with its writer in hand, and the requested number of readers.
     #[tactic(auto, using(crate::proofs::NewReaders::as_many, crate::proofs::NewReaders::refused_as_asked))]
     pub(crate) fn open(
         alloc: Global,
@@ -143,7 +143,7 @@ impl<const V: usize> NewSides<V> {
         }
     }
 
-    /// A cache with so many entries, which stand one after the other as words, its writer in hand, as many readers as were asked for, and
+    /// A cache with `count` entries, given one after the other as words. Returns its writer in hand, the requested number of readers, and
     /// the index of each entry that was left, with the reason.
     #[tactic(auto, using(crate::proofs::NewReaders::as_many, crate::proofs::NewReaders::refused_as_asked))]
     pub(crate) fn open_with(
@@ -177,7 +177,7 @@ impl<const V: usize> NewSides<V> {
         }
     }
 
-    /// A cache whose writer lies on a desk, and as many passes as were asked for.
+    /// A cache with its writer on a desk, and the requested number of passes.
     #[tactic(auto, using(crate::proofs::NewReaders::as_many, crate::proofs::NewReaders::refused_as_asked))]
     pub(crate) fn open_desk(
         alloc: Global,

@@ -1,4 +1,4 @@
-//! The writer of a cache goes on a desk.
+//! The writer of a cache is put on a desk.
 ghost use Rattle.std.specs.Prelude.{◌≡◌, ◌≤◌, IfErr, IfOk, MatchResult, length, true};
 ghost use Rattle.mc_door.specs.Means.{CanWrite};
 ghost use Rattle.mc_door.specs.NewSides.{count_of, has_desk, opening_of};
@@ -65,7 +65,7 @@ impl<const V: usize> WriterSide<V> {
 }
 
 impl<const V: usize> Side<V> {
-    /// The first reason against a desk for so many passes, if there is one but memory.
+    /// The first reason against a desk for `passes` passes, if there is one other than memory.
     pub(crate) fn check_desk(&self, passes: usize) -> Result<(), MakeDeskError>
         ensures { MatchResult result (λ _. CanWrite (role_of self.now) × HasPasses (spares_of self.now) passes)
             (λ why. RefusesDesk (role_of self.now) (spares_of self.now) passes why) }
@@ -79,7 +79,7 @@ impl<const V: usize> Side<V> {
         Ok(())
     }
 
-    /// The writer goes on a desk, with so many passes. `Err` only where there is no memory: nothing is changed then.
+    /// Puts the writer on a desk, with `passes` passes. `Err` only if there is no memory: then nothing is changed.
     pub(crate) fn make_desk(
         &mut self,
         alloc: Global,

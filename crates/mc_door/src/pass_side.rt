@@ -17,7 +17,7 @@ use mc_words::NoMemory;
 use std::alloc::Global;
 use std::sync::Arc;
 
-/// A reader of a cache whose writer lies on a desk.
+/// A reader of a cache whose writer is on a desk.
 #[derive(Drop)]
 pub struct PassSide<const V: usize> {
     pub cache: Arc<Cache<V>, Global>,
@@ -68,7 +68,7 @@ impl<const V: usize> PassSide<V> {
             .try_put(&self.cache, &mut self.pass, key, value)
     }
 
-    // Tries up to so many times, at least once, for the turn, to put.
+    // Tries for the turn at most `tries` times, and at least once, to put.
     fn try_within(
         &mut self,
         tries: u32,

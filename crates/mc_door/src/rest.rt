@@ -60,7 +60,7 @@ impl Rest {
     }
 }
 
-/// A cache for values of so many words: its writer, and as many readers as were asked for, which `Rest::next` gives.
+/// Opens a cache for values of `words` words. Returns its writer; `Rest::next` gives the requested number of readers.
 pub fn open(
     alloc: Global,
     shape: Shape,
@@ -82,8 +82,8 @@ pub fn open(
     at_width!(words, opened)
 }
 
-/// A cache for values of so many words, with so many entries: its writer, as many readers as were asked for, which `Rest::next` gives,
-/// and the index of each entry that was left, with the reason. The entries stand one after the other, each as its key and then its value.
+/// Opens a cache for values of `words` words, with `count` entries. They are given one after the other, each as its key and then its value.
+/// Returns the writer, and the index of each entry that was left, with the reason. `Rest::next` gives the requested number of readers.
 pub fn open_with(
     alloc: Global,
     shape: Shape,
@@ -110,7 +110,7 @@ pub fn open_with(
     at_width!(words, opened)
 }
 
-/// A cache for values of so many words, whose writer lies on a desk: as many passes as were asked for, which `Rest::next` gives.
+/// Opens a cache for values of `words` words, with its writer on a desk. `Rest::next` gives the requested number of passes.
 pub fn open_desk(alloc: Global, shape: Shape, words: usize, passes: u32) -> Result<Rest, OpenError>
     requires width { IsWidth words }
     ensures refused { MatchResult result (λ r. (opening_in r).layout ≡ layout_of words shape) (λ e. RefusesOpening shape passes e) }

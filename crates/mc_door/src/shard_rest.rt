@@ -44,7 +44,7 @@ impl ShardRest {
     }
 }
 
-/// That many shards for values of so many words, and as many passes as were asked for, which `ShardRest::next` gives.
+/// Opens `shards` shards for values of `words` words. `ShardRest::next` gives the requested number of passes.
 pub fn open_shards(
     alloc: Global,
     shape: Shape,

@@ -1,4 +1,4 @@
-//! A side of a cache, for values of so many words.
+//! A side of a cache, for values of this many words.
 ghost use Rattle.std.specs.Prelude.{◌≡◌, MatchOption, length};
 ghost use Rattle.mc_words.specs.Places.{IsWidth};
 ghost use Rattle.mc_door.specs.Means.{CanWrite, CapacityIs, GetOrDeskTells, GetTells, HasCache, MomentIs};

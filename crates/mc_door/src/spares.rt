@@ -7,10 +7,10 @@ ghost use Rattle.mc_door.specs.Spares.{readers_for};
 use mc_cache::{Cache, Reader};
 use mc_words::MOST_READERS;
 
-// How many readers more than were asked for.
+// How many readers more than requested.
 const SPARES: u32 = 64;
 
-/// How many readers a cache is opened with, where so many are asked for.
+/// How many readers a cache is opened with when `asked` are requested.
 pub(crate) fn readers_for(asked: u32) -> u32
     requires { HasReaders asked }
     ensures is { result ≡ readers_for asked }
@@ -19,7 +19,7 @@ pub(crate) fn readers_for(asked: u32) -> u32
     (asked + SPARES).min(MOST_READERS)
 }
 
-/// Puts so many of the spare readers into the other list, which is empty and has room for them. So it takes no memory.
+/// Moves `many` of the spare readers into the other list, which is empty and has room for them. It allocates no memory.
 pub(crate) fn move_readers<const V: usize>(
     cache: &Cache<V>,
     spares: &mut Vec<Reader<V>>,

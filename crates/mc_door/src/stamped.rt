@@ -36,7 +36,7 @@ fn write_stamped<const V: usize>(entries: &[Entry<V>], words: &mut [u64])
     }
 }
 
-// The same, where there are words enough.
+// Writes all entries, if there are enough words.
 fn write_all<const V: usize>(entries: &[Entry<V>], words: &mut [u64]) -> Result<usize, ListError>
     requires { IsWidth V }
     ensures { MatchResult result (λ count. AreWritten (V + 1) (map row_of entries.now) words.old words.new count)

@@ -154,7 +154,7 @@ pub(crate) fn take<const V: usize>(
     }
 }
 
-// What a turn told: the answer of its call, or that the try for it did not win.
+// What a turn returned: the answer of its call, or that the try for it did not win.
 macro_rules! in_turn {
     ($tried:expr, $reply:ident, $made:ident => $told:expr) => {{
         let $made = match $tried {

@@ -1,4 +1,4 @@
-//! What a call tells C: a status, and the numbers of a reply.
+//! What a call returns to C: a status, and the numbers of a reply.
 ghost use Rattle.std.specs.Prelude.{◌≡◌, None, Some};
 ghost use Rattle.mc_door.specs.Tellings.{done_told, lookup_told, not_put_if_told, not_put_told, plain, told_at, told_since};
 ghost use Rattle.mc_plan.specs.declared.answer.Put.TheVariants.{Renewed, Stored};
@@ -7,7 +7,7 @@ use crate::looked::Looked;
 use crate::status;
 use mc_cache::{IfError, PutError};
 
-/// No change of a key is told.
+/// No change of a key is reported.
 pub const NOTHING: u32 = 0;
 
 /// The key is new.
@@ -79,7 +79,7 @@ impl Told {
         told
     }
 
-    /// A status and the moment of the put that stands.
+    /// A status and the moment of the key's last put.
     #[inline(always)]
     pub(crate) fn since(status: u32, since: u64) -> Told
         ensures { result ≡ told_since status since }

@@ -16,7 +16,7 @@ macro_rules! with_sides {
     };
 }
 
-// What is done for values of so many words: `$case` is given their width and the name of its variant.
+// What is done for values of this many words: `$case` is given their width and the name of its variant.
 macro_rules! at_width {
     ($words:expr, $case:ident) => {
         match $words {

@@ -3,11 +3,11 @@ ghost use Rattle.std.specs.Prelude.{◌≡◌};
 ghost use Rattle.mc_door.specs.Swaps.{swap_words};
 ghost use Rattle.mc_door.specs.Writes.{words_in};
 
-/// A write of one key. Its value stands beside it.
+/// A write of one key. Its value is kept beside it.
 #[derive(Clone, Copy)]
 pub enum Write {
     Put,
-    /// A put that tries up to so many times, at least once, for the turn. The writer needs none.
+    /// A put that tries for the turn at most this many times, and at least once. The writer needs none.
     PutWithin(u32),
     /// A put of a key whose last put was at this moment.
     PutIf(u64),
@@ -29,7 +29,7 @@ impl Write {
     }
 }
 
-/// A write of one key that also returns the entry which gives way. Its value stands beside it.
+/// A write of one key that also returns the entry which gives way. Its value is kept beside it.
 #[derive(Clone, Copy)]
 pub enum Swap {
     Put,

@@ -49,7 +49,7 @@ seens_change V n rs r r' Goes was goes = record {
   goes = goes;
 }
 
--- a record that goes to itself changes nothing
+-- a record that is replaced by itself changes nothing
 pub unchanged : {A : Type 0} (n : ℕ) (xs ys : List A) → ChangesAt n xs ys (λ x y. y ≡ x) → ys ≡ xs
 unchanged {A} n xs ys c = c.is ∙ (ap (λ (x : A). slice_set xs n x) (c.goes ∙ sym (get_or_from_slice_get xs n c.before c.before c.was)) ∙ set-get_or xs n c.before)
 

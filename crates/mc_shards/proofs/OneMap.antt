@@ -120,7 +120,7 @@ begins_front {V} h h' at b long = (take (at - length h) b.0, ap (take at) b.1 �
 front_begins : {V : ℕ} (h : List (Change V)) (at : ℕ) → Begins (take at h) h
 front_begins h at = (drop at h, sym (take-append-drop at h))
 
--- what the shards held when the key's had made so many changes
+-- what the shards held when the key's had made this many changes
 answered_at : (V : ℕ) (mix : Mix) (hs hs' : Histories V) (k at : ℕ) (P : List (Change V) → List (Change V) → Type 0) (c : ChangesAt (shard_of mix (length hs) k) hs hs' P) → Begins c.before c.after → length c.before ≤ at
     → (then : Histories V) × AllBegin hs then × AllBegin then hs' × (plain_of mix then k ≡ map_value (take at c.after) k)
 answered_at V mix hs hs' k at P c b low =

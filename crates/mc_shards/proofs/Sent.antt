@@ -1,4 +1,4 @@
--- Shards may be lent to threads, and a pass goes from one thread to another.
+-- Shards may be lent to threads, and a pass may be sent from one thread to another.
 use denote.RattleType.{RattleType}
 use denote.Param.Send.{IsSend, IsSync, sendable}
 use Rattle.std.proofs.Crossing.{crosses}

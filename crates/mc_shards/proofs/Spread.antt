@@ -1,4 +1,4 @@
--- The parts of a key are of different bits.
+-- The parts of a key use different bits.
 use Rattle.std.proofs.Common.{ℕ, zero, suc, ◌≡◌, ◌+◌, ◌-◌, ◌*◌, ◌/◌, ◌%◌, ◌^◌, ◌<◌, ◌≤◌, ◌∙◌, ◌⊎◌, ap, arith, inl, inr, sym}
 use Rattle.std.specs.Int.{w32, trailing_zeros}
 use Rattle.std.proofs.lemmas.Nat.{mod-mul-add, pow-add}
@@ -23,7 +23,7 @@ divides n e f is few = elim (le_or e f) [
   | inr more ↦ let less : 2 ^ f < 2 ^ e = pow-lt more in absurd (omega (arith, less, is, few))
 ]
 
--- what lies above is none of the low part
+-- what is above is not in the low part
 low : (a w m n r : ℕ) → w ≡ m * n → r < n → (a * w + r) % n ≡ r
 low a w m n r is l =
     let same : a * (m * n) ≡ a * m * n = grind arith in

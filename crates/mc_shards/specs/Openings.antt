@@ -8,7 +8,7 @@ use Rattle.mc_shards.specs.Plain.{seens}
 use Rattle.mc_shards.specs.declared.opening.OpenShardsError.{OpenShardsError}
 use Rattle.mc_shards.specs.declared.opening.OpenShardsError.TheVariants as error
 
--- the first fault of what was asked for; where there is none, memory was refused
+-- the first fault of the request; if there is none, memory was refused
 abbrev pub RefusesShards : Shape → ℕ → ℕ → OpenShardsError → Type 0
 RefusesShards sh shards passes error.Shards = ¬ HasShards shards
 RefusesShards sh shards passes (error.Open why) = HasShards shards × RefusesOpening sh passes why

@@ -17,7 +17,7 @@ shard_in s k = shard_of s.shape.mix (length s.tables) k
 abbrev pub ArePassOf : Sharded → List ReaderRecord → Type 0
 ArePassOf s rs = map (λ r. r.of) rs ≡ s.tables
 
--- of the one list the other differs at this place alone, where it went from one value to another, of which this holds
+-- the two lists differ at this place alone, where one value became another, and this holds of the two
 pub record ChangesAt {A : Type 0} (n : ℕ) (xs ys : List A) (Goes : A → A → Type 0) : Type 0 where
   pub before : A
   pub after : A

@@ -10,8 +10,8 @@ use crate::shards::Shards;
 use mc_cache::{DeskError, NoMemory};
 use std::alloc::Global;
 
-/// Shards that could not be closed, because their entries could not be listed: for lack of memory, or because a turn was held. They and
-/// the pass go on.
+/// Shards that could not be closed, because their entries could not be listed: for lack of memory, or because a turn was held. They and the
+/// pass stay usable.
 #[derive(Drop)]
 pub struct StillOpen<const V: usize> {
     pub shards: Shards<V>,
@@ -21,7 +21,7 @@ pub struct StillOpen<const V: usize> {
 
 impl<const V: usize> Shards<V> {
     /// Closes the shards, and returns each of their keys with its value. Drop all other passes first. `Err` if the entries can't be
-    /// listed: everything is given back. Condition: the pass is of these shards.
+    /// listed: everything is given back. Condition: the pass belongs to these shards.
     pub fn close(
         self,
         alloc: Global,

@@ -80,7 +80,7 @@ impl<const V: usize> Pass<V> {
     }
 
     /// Lists each key that the shards hold with its value, in no stated order. It tries once for the turn of each shard, so it lists
-    /// each at a moment of its own. `Held` if one of these tries did not win. Condition: the pass is of these shards.
+    /// each at a moment of its own. `Held` if one of these tries did not win. Condition: the pass belongs to these shards.
     pub fn entries(
         &mut self,
         alloc: Global,

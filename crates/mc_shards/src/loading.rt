@@ -25,7 +25,7 @@ use std::alloc::Global;
 #[derive(Drop)]
 pub struct OpenedShards<const V: usize> {
     pub shards: Shards<V>,
-    /// As many as asked for, each with a reader of every shard.
+    /// The requested number, each with a reader of every shard.
     pub passes: Vec<Pass<V>>,
     /// The entries that were left out: the index of each, in order, and the reason.
     pub left: Vec<(usize, Why)>,

@@ -31,7 +31,7 @@ impl<const V: usize> Model for Pass<V> {
 }
 
 impl<const V: usize> Pass<V> {
-    /// Looks the key up in its shard, as `Reader::get` does. Condition: the pass is of these shards.
+    /// Looks the key up in its shard, as `Reader::get` does. Condition: the pass belongs to these shards.
     #[inline(always)]
     pub fn get(&mut self, shards: &Shards<V>, key: u64) -> Reply<V>
         requires of { ArePassOf shards.now self.old }
@@ -45,7 +45,7 @@ impl<const V: usize> Pass<V> {
         reader.get(cache, key)
     }
 
-    /// Looks the key up in its shard, as `Reader::get_or_desk` does. Condition: the pass is of these shards.
+    /// Looks the key up in its shard, as `Reader::get_or_desk` does. Condition: the pass belongs to these shards.
     #[inline(always)]
     pub fn get_or_desk(&mut self, shards: &Shards<V>, key: u64) -> Reply<V>
         requires of { ArePassOf shards.now self.old }
@@ -82,7 +82,8 @@ impl<const V: usize> Pass<V> {
         lender.try_call(cache, reader, call)
     }
 
-    /// Tries once for the turn of the key's shard, and with it puts the key, as `Desk::try_put` does. Condition: the pass is of these shards.
+    /// Tries once for the turn of the key's shard, and with it puts the key, as `Desk::try_put` does. Condition: the pass belongs to these
+    /// shards.
     #[inline(always)]
     pub fn try_put(
         &mut self,
@@ -175,7 +176,7 @@ impl<const V: usize> Pass<V> {
     }
 
     /// Looks the keys up. Equivalent to calling `get` for each key in order.
-    /// Condition: the pass is of these shards, and there are as many replies as keys.
+    /// Condition: the pass belongs to these shards, and there are as many replies as keys.
     pub fn get_many(&mut self, shards: &Shards<V>, keys: &[u64], replies: &mut [Reply<V>])
         requires of { ArePassOf shards.now self.old }
         requires many { length replies.old ≡ length keys.now }

@@ -1,4 +1,4 @@
-//! The caches of the shards, and where their writers lie.
+//! The caches of the shards, and where their writers are.
 ghost use Rattle.std.specs.Prelude.{◌≡◌, ◌<◌, ◌*◌, Some, length, slice_get};
 ghost use Rattle.mc_shards.specs.Sharded.{shard_in};
 
@@ -65,7 +65,7 @@ impl<const V: usize> Shards<V> {
         &self.caches[n]
     }
 
-    // Where the writer of a shard lies.
+    // Where the writer of a shard is.
     #[inline(always)]
     pub(crate) fn lender(&self, n: usize) -> &Lender<V>
         requires { n < length self.now.tables }

@@ -1,4 +1,4 @@
--- Words of different uses lie at different places.
+-- Words of different uses are at different places.
 use Rattle.std.proofs.Common.{ℕ, ◌≡◌, ◌+◌, ◌*◌, ◌<◌, ◌≤◌, arith, refl, ap, ◌∙◌}
 use Rattle.std.proofs.lemmas.Nat.{same_from_place}
 use Rattle.mc_words.specs.Places.{payload, Use, TheMoment, AVersion, ASlot, AnItem, ARecency, IsUse, place_of, all_words, PlacesApart}

@@ -1,4 +1,4 @@
--- The keys that stand are no more than the items, and as many where no item is free: as many as items are in use.
+-- There are no more keys in the table than items, and as many if no item is free: as many as items are in use.
 use Rattle.std.proofs.Common.{ℕ, zero, suc, ◌≡◌, ◌+◌, ◌<◌, ◌≤◌, true, false, eqb, List, [], ◌∷◌, ◌++◌, ◌||◌, length, length-append, Option, Some, None, refl, sym, ◌∙◌, subst, inl, inr, arith}
 use Rattle.std.specs.Option.{is_some, IsSome}
 use Rattle.std.specs.List.{AllByRecursion, IsDistinct, list_any}
@@ -81,7 +81,7 @@ keys_fit V sh w h a =
     let fit : length its.its ≤ sh.items = length-le_from_distinct_below its.its sh.items its.distinct (λ i t. (its.stand i t).2.1.names.in_items) in
     omega (arith, its.many, length-keys_of m)
 
--- ---- an item is free where fewer keys than items stand, and only there
+-- ---- an item is free if fewer keys stand than there are items, and only then
 some_from_present : (V : ℕ) (sh : Shape) (w : List ℕ) (k : ℕ) (o : Option (List ℕ)) → AgreesAt V sh w k o → IsPresent V sh w k → IsSome o
 some_from_present V sh w k None a here = absurd (a here.0 here.1 here.2)
 some_from_present V sh w k (Some v) a here = refl

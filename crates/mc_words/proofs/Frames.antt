@@ -1,4 +1,4 @@
--- What a write leaves of where a key stands.
+-- What a write leaves unchanged of where a key stands.
 use Rattle.std.proofs.Common.{ℕ, ◌≡◌, ◌≢◌, ◌+◌, ◌*◌, ◌^◌, ◌<◌, ◌≤◌, List, length, Option, Some, None, sym, ◌∙◌, subst, arith}
 use Rattle.mc_words.specs.Keys.{slot_word}
 use Rattle.mc_words.specs.Places.{payload, slot, item, with_moment, with_version, with_slot, with_item}

@@ -27,7 +27,7 @@ payload_few V width = omega (arith, width.most)
 pub value_length : (V : ℕ) (xs : List ℕ) → length xs ≡ payload V → length (value_of V xs) ≡ V
 value_length V xs whole = length-take-le V xs (omega (arith, whole, value_fits V))
 
--- what the words are of a value and a stamp
+-- the words of a value and a stamp
 pub value_of-push : (V n : ℕ) (v : List ℕ) → length v ≡ V → value_of V (v ++ n ∷ []) ≡ v
 value_of-push V n v e = subst (λ (y : ℕ). take y (v ++ n ∷ []) ≡ v) e (take-append_seam v (n ∷ []))
 

@@ -6,7 +6,7 @@ use Rattle.mc_words.specs.declared.shape.Shape.{Shape}
 use Rattle.mc_words.specs.Chains.{IsLeastLength, NoChain}
 use Rattle.mc_words.specs.History.{map_value, key_count}
 
--- a table between two calls: its words, the item at which the hand stands, its history, and how many version changes were made
+-- a table between two calls: its words, the item at the hand, its history, and how many version changes were made
 pub record Quiet (V : ℕ) : Type 0 where
   pub words : List ℕ
   pub hand : ℕ

@@ -21,12 +21,12 @@ abbrev pub Leads : Shape → List ℕ → ℕ → List Place → Place → Type 
 Leads sh w b [] hole = IsHole sh w hole × (hole.bucket ≡ b)
 Leads sh w b (p ∷ ps) hole = IsOccupied sh w p × (p.bucket ≡ b) × Leads sh w (beyond sh w p) ps hole
 
--- a chain from the key: it begins in a bucket of the key, and goes through no bucket twice
+-- a chain from the key: it begins in a bucket of the key, and enters no bucket twice
 pub record IsChain (sh : Shape) (w : List ℕ) (k : ℕ) (places : List Place) (hole : Place) : Type 0 where
   pub leads : Leads sh w (first_of sh k) places hole ⊎ Leads sh w (second_of sh k) places hole
   pub distinct : IsDistinct (λ a b. a == b) (hole.bucket ∷ map (λ (p : Place). p.bucket) places)
 
--- some chain from the key has so many places, and none has fewer
+-- some chain from the key has `count` places, and none has fewer
 pub record IsLeastLength (sh : Shape) (w : List ℕ) (k count : ℕ) : Type 0 where
   pub places : List Place
   pub hole : Place
@@ -34,6 +34,6 @@ pub record IsLeastLength (sh : Shape) (w : List ℕ) (k count : ℕ) : Type 0 wh
   pub many : length places ≡ count
   pub least : (others : List Place) (end : Place) → IsChain sh w k others end → count ≤ length others
 
--- every chain from the key has more than so many places
+-- every chain from the key has more than this many places
 abbrev pub NoChain : Shape → List ℕ → ℕ → ℕ → Type 0
 NoChain sh w k depth = (places : List Place) (hole : Place) → IsChain sh w k places hole → depth < length places

@@ -24,7 +24,7 @@ stripe_of sh k = (mixed_key sh.mix k / 2 ^ 32) % sh.stripes
 unfoldable pub first_of : Shape → ℕ → ℕ
 first_of sh k = mixed_key sh.mix k % sh.buckets
 
--- the shard of a key, of so many: cut from the byte below the tag, which no table uses
+-- the shard of a key among `shards` shards: cut from the byte below the tag, which no table uses
 unfoldable pub shard_of : Mix → ℕ → ℕ → ℕ
 shard_of mix shards k = (mixed_key mix k / 2 ^ 48) % shards
 

@@ -1,4 +1,4 @@
--- The places of the words, what stands in them, and what a write of one leaves.
+-- The places of the words, what they hold, and what a write of one leaves unchanged.
 use Rattle.std.specs.Prelude.{ℕ, ◌≡◌, ◌+◌, ◌*◌, ◌<◌, ◌≤◌, List, slice_index, slice_set}
 use Rattle.mc_words.specs.declared.place.Place.{Place}
 use Rattle.mc_words.specs.declared.shape.Shape.{Shape}
@@ -17,7 +17,7 @@ pub record IsWidth (V : ℕ) : Type 0 where
   pub some : 1 ≤ V
   pub most : V ≤ 8
 
--- a slot goes by its number: slot j of bucket b is 4b + j
+-- the number of a slot: slot j of bucket b is 4b + j
 abbrev pub slot_number : Place → ℕ
 slot_number p = 4 * p.bucket + p.slot
 
@@ -46,7 +46,7 @@ recency_place V sh i = word_count V sh + recency_word i
 abbrev pub all_words : ℕ → Shape → ℕ
 all_words V sh = word_count V sh + recency_words sh
 
--- what stands in the words
+-- what the words hold
 unfoldable pub moment : List ℕ → ℕ
 moment w = slice_index w 0
 
@@ -95,7 +95,7 @@ place_of V sh (ASlot q) = slot_place sh q
 place_of V sh (AnItem i j) = item_place V sh i j
 place_of V sh (ARecency m) = word_count V sh + m
 
--- words of different uses lie at different places, below the number of words
+-- words of different uses are at different places, below the number of words
 pub record PlacesApart (V : ℕ) : Type 0 where
   pub apart : (sh : Shape) (a b : Use) → IsUse V sh a → IsUse V sh b → place_of V sh a ≡ place_of V sh b → a ≡ b
   pub below : (sh : Shape) (a : Use) → IsUse V sh a → place_of V sh a < all_words V sh

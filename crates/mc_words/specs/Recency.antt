@@ -1,4 +1,4 @@
--- Where the recency bit of an item stands: the one place that says so.
+-- Where the recency bit of an item is: the one place that says so.
 use Rattle.std.specs.Prelude.{ℕ, ◌+◌, ◌/◌, ◌%◌}
 use Rattle.mc_words.specs.declared.shape.Shape.{Shape}
 

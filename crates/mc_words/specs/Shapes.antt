@@ -1,4 +1,4 @@
--- Which shapes are accepted, and which fault of a refused one is told.
+-- Which shapes are accepted, and which fault of a refused one is reported.
 use Rattle.std.specs.Prelude.{ℕ, ◌≡◌, ◌*◌, ◌^◌, ◌≤◌}
 use Rattle.std.specs.Int.{w32, trailing_zeros}
 use Rattle.mc_words.specs.declared.shape.Shape.{Shape}

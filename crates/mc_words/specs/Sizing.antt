@@ -4,7 +4,7 @@ use Rattle.mc_words.specs.Shapes.{IsShape}
 use Rattle.mc_words.specs.declared.mix.Mix.TheVariants.{Fmix}
 use Rattle.mc_words.specs.declared.shape.Shape.{Shape}
 
--- so many items fill at most nine tenths of the slots, of which each bucket has four
+-- this many items fill at most nine tenths of the slots, of which each bucket has four
 abbrev pub LeavesRoom : ℕ → ℕ → Type 0
 LeavesRoom items buckets = 10 * items ≤ 36 * buckets
 

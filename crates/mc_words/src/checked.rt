@@ -10,7 +10,7 @@ use crate::key_parts::KeyParts;
 use crate::place::Place;
 use crate::shape::Shape;
 
-/// A shape whose fields are all in their ranges: it cuts keys into their parts and tells where each word lies.
+/// A shape whose fields are all in their ranges: it cuts keys into their parts and computes where each word is.
 #[derive(Clone, Copy, Debug, PartialEq, Eq)]
 pub struct Checked {
     pub(crate) shape: Shape,
@@ -147,14 +147,14 @@ impl Checked {
         ((word - 1) % (1 << 32)) as u32
     }
 
-    /// Where the moment lies.
+    /// Where the moment is.
     pub fn moment_place(&self) -> usize
         ensures { result ≡ 0 }
     {
         0
     }
 
-    /// Where the version of a stripe lies. Condition: the stripe is one of the table.
+    /// Where the version of a stripe is. Condition: the stripe is one of the table.
     pub fn version_place(&self, s: u32) -> usize
         requires { s < (shape_of self.now).stripes }
         ensures { result ≡ version_place s }
@@ -162,7 +162,7 @@ impl Checked {
         1 + s as usize
     }
 
-    /// Where a slot lies. Condition: the slot is one of the table.
+    /// Where a slot is. Condition: the slot is one of the table.
     pub fn slot_place(&self, place: Place) -> usize
         requires { IsPlace (shape_of self.now) place }
         ensures { result ≡ slot_place (shape_of self.now) (slot_number place) }
@@ -179,8 +179,8 @@ impl Checked {
         1 + self.shape.stripes as usize + 4 * self.shape.buckets as usize
     }
 
-    /// Where a word of an item lies: word 0 is the key, words 1 to `V` are the value, word `V + 1` is the stamp.
-    /// Condition: the item is one of the table and has such a word, and a value has from 1 to 8 words.
+    /// Where a word of an item is: word 0 is the key, words 1 to `V` are the value, word `V + 1` is the stamp. Condition: the item is one
+    /// of the table and has such a word, and a value has from 1 to 8 words.
     pub fn item_place<const V: usize>(&self, i: u32, j: u8) -> usize
         requires width { IsWidth V }
         requires item { i < (shape_of self.now).items }
@@ -190,8 +190,8 @@ impl Checked {
         self.item_from::<V>(self.items_place(), i, j)
     }
 
-    /// The same, for a caller that has worked out where the items begin. Condition: there they begin, and a value has from 1
-    /// to 8 words.
+    /// Like `item_place`, for a caller that has computed where the items begin. Condition: they begin at `items`, and a value has from 1 to
+    /// 8 words.
     #[inline(always)]
     pub fn item_from<const V: usize>(&self, items: usize, i: u32, j: u8) -> usize
         requires width { IsWidth V }
@@ -212,8 +212,7 @@ impl Checked {
         self.items_place() + self.shape.items as usize * item_stride::<V>()
     }
 
-    /// Where the word that holds the recency bit of an item lies.
-    /// Condition: the item is one of the table, and a value has from 1 to 8 words.
+    /// Where the word that holds the recency bit of an item is. Condition: the item is one of the table, and a value has from 1 to 8 words.
     #[tactic(auto, unfolding(crate::specs::Recency::recency_word))]
     pub fn recency_place<const V: usize>(&self, i: u32) -> usize
         requires width { IsWidth V }

@@ -1,7 +1,7 @@
-//! The words of the cache index: the shape of a table, how a key is cut into its parts, where each word lies.
+//! The words of the cache index: the shape of a table, how a key is cut into its parts, where each word is.
 //!
 //! It also declares what every other crate speaks of: the changes of a history and the replies of a lookup.
-//! The definitions of what the words mean stand in `specs/`.
+//! `specs/` defines what the words mean.
 //!
 //! ```text
 //! let checked = Shape::for_items(3000)?.check()?;

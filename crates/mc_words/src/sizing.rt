@@ -9,7 +9,7 @@ use crate::shape::{Shape, ShapeError};
 /// The most stripes that a table of this many buckets gets.
 const MOST_STRIPES: u32 = 8192;
 
-/// The shape of so many items, with 2 to this power buckets.
+/// The shape of `items` items, with 2 to this power buckets.
 fn shape_of_power(items: u32, power: u32) -> Shape
     requires power { (1 ≤ power) × (power ≤ 20) }
     requires some { 1 ≤ items }
@@ -30,9 +30,9 @@ fn shape_of_power(items: u32, power: u32) -> Shape
 }
 
 impl Shape {
-    /// A shape for so many items, from 1 to 3774873: the least table of which they fill at most nine tenths of the slots.
-    /// Searches of up to five displacements then nearly always find an empty slot. There are as many stripes as buckets, and
-    /// no more than 8192; eight tries, and the greatest limit. `Err(Items)` where the number is out of its range.
+    /// A shape for `items` items, from 1 to 3774873: the smallest table in which they fill at most nine tenths of the slots. Searches of up
+    /// to five displacements then nearly always find an empty slot. There are as many stripes as buckets, and no more than 8192; eight
+    /// tries, and the greatest limit. `Err(Items)` if the number is out of its range.
     pub fn for_items(items: u32) -> Result<Shape, ShapeError>
         ensures { MatchResult result (λ sh. IsSizedFor items sh) (λ e. (e ≡ Items) × (¬ CanBeSized items)) }
     {

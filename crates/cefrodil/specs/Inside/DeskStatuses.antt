@@ -1,4 +1,4 @@
--- Why the writer of a cache does not go on a desk, as a status.
+-- Why the writer of a cache is not put on a desk, as a status.
 use Rattle.std.specs.Prelude.{ℕ}
 use Rattle.mc_door.specs.declared.onto_desk.MakeDeskError.{MakeDeskError}
 use Rattle.mc_door.specs.declared.onto_desk.MakeDeskError.TheVariants as why

@@ -12,7 +12,7 @@ use Rattle.cefrodil.specs.declared.slot.Slot.{Slot}
 abbrev pub IsOpen : Slot → Type 0
 IsOpen s = s.live ≡ true
 
--- so many handles have a side of the new cache, the others wait for one, and as many sides are left
+-- the first n handles have a side of the new cache, the others wait for one, and as many sides are left
 pub record IsFilledTo (Waits : Slot → Type 0) (first rest : Rest) (slots : List Slot) (n : ℕ) : Type 0 where
   pub opening : opening_in rest ≡ opening_in first
   pub desk : has_desk_in rest ≡ has_desk_in first
@@ -29,7 +29,7 @@ pub record HasPassesTo (first rest : ShardRest) (slots : List Slot) (n : ℕ) : 
   pub filled : AllWithin (IsNewPassAt (shards_on first) (width_on first)) slots 0 n
   pub closed : AllWithin IsClosed slots n (length slots)
 
--- so many handles are open, the others closed
+-- the first n handles are open, the others closed
 pub record HasPlacesTo (slots : List Slot) (n : ℕ) : Type 0 where
   pub places : AllWithin IsOpen slots 0 n
   pub closed : AllWithin IsClosed slots n (length slots)

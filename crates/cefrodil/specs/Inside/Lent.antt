@@ -1,4 +1,4 @@
--- What lies behind a handle, while a call has it.
+-- What is behind a handle while a call has it.
 use mathlib.Core.Option.{some}
 use Rattle.std.specs.Borrow.{Fml, Lends, MutBor}
 use Rattle.mc_door.specs.contracts.held.Held as held
@@ -10,6 +10,6 @@ use Rattle.cefrodil.specs.declared.handle.Handle.{Handle}
 abbrev pub with_held : Handle → Held → Handle
 with_held h w = record h { value = some w }
 
--- at the end of the loan what was left lies behind the handle
+-- at the end of the loan, what was left is behind the handle
 abbrev pub LendsHeld : MutBor Handle → MutBor Held → Fml
 LendsHeld s r = Lends the_row held.the_row s r (with_held s.now)

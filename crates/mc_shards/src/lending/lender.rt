@@ -9,8 +9,8 @@ use std::alloc::{AllocError, Global};
 use std::marker::Model;
 use std::snapshot::Snapshot;
 
-/// A try-lock around the writer of a shard. A turn borrows the writer where it lies, so nothing is moved. In contracts it is the table that
-/// was opened.
+/// A try-lock around the writer of a shard. A turn borrows the writer in place, so nothing is moved. In contracts it is the table that was
+/// opened.
 #[derive(Drop)]
 pub(crate) struct Lender<const V: usize> {
     table: Table<Writer<V>, Snapshot<Writer<V>>, Snapshot<Writer<V>>, LiesThere, Global>,
@@ -47,7 +47,7 @@ impl<const V: usize> Lender<V> {
     }
 
     /// Tries once for the turn, and with it makes the call. The caller's reader is its pass: with the turn, it catches up with the
-    /// writer before the call and after it. Condition: the pass is of this cache, and the cache is the writer's.
+    /// writer before the call and after it. Condition: the pass belongs to this cache, and the cache is the writer's.
     #[inline(always)]
     pub fn try_call<T, E, C: TurnCall<V, T, E>>(
         &self,
@@ -71,7 +71,7 @@ impl<const V: usize> Lender<V> {
     }
 
     /// Tries once for the turn, and with it lists each key with its value, in the order of their items. The pass has then seen all
-    /// changes that led to this list. Condition: the pass is of this cache, and the cache is the writer's.
+    /// changes that led to this list. Condition: the pass belongs to this cache, and the cache is the writer's.
     pub fn try_entries(
         &self,
         alloc: Global,
@@ -94,7 +94,7 @@ impl<const V: usize> Lender<V> {
     }
 
     /// Looks the key up by `get`. If that is `Busy`, tries once for the turn, and with it looks the key up beside the writer.
-    /// `Busy` if the try does not win either. Condition: the reader is of this cache, and the cache is the writer's.
+    /// `Busy` if the try does not win either. Condition: the reader belongs to this cache, and the cache is the writer's.
     #[inline(always)]
     pub fn get_or_lend(&self, cache: &Cache<V>, pass: &mut Reader<V>, key: u64) -> Reply<V>
         requires of { (self.now ≡ cache.now) × (pass.old.of ≡ cache.now) }

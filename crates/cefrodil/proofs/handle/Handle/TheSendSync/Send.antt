@@ -1,4 +1,4 @@
--- A handle may go to another thread: its allocator may, what lies behind it may, and any thread may free its block.
+-- A handle may be sent to another thread: its allocator may, what is behind it may, and any thread may free its block.
 use mathlib.Core.Option.{Option, none, some}
 use mir.Raw.{raw}
 use base.Shift.{Keyless}

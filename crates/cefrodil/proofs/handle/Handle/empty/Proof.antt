@@ -1,4 +1,4 @@
--- `empty`: nothing lies behind the null pointer.
+-- `empty`: nothing is behind the null pointer.
 use Rattle.std.proofs.Common.{List, [], ◌∷◌, ◌++◌, refl, sym, subst}
 use mathlib.Core.Option.{none}
 use mir.Syntax.{Fn}

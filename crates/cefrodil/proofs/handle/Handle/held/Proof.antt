@@ -1,4 +1,4 @@
--- `held` lends what lies behind the handle, and the handle follows it.
+-- `held` lends what is behind the handle, and the handle follows it.
 use Rattle.std.proofs.Common.{◌≡◌, ℕ, List, [], ◌∷◌, ◌++◌, refl, sym, subst}
 use mathlib.Core.Option.{none, some}
 use seplogic.Ra.Ura.{Ura}
@@ -70,7 +70,7 @@ module _ {M : Type 1} {𝓤 : Ura M} (𝓛 : Logic 𝓤) (at_mem : Memory → SP
     new = with_held d
 
     module _ (b o : ℕ) (h : Val) where
-      -- all but what lies behind the handle
+      -- all but what is behind the handle
       abbrev Rest : Fml
       Rest = fsep (fsep (ghosts.dealloc_token d.alloc (bare (lone Held.mir)) (block_ptr b o)) (Heap.own_val d.alloc (h ∷ []))) (cell_at full_share Handle.mir (at_block h b o ∷ []) rb ro)
 
@@ -98,7 +98,7 @@ module _ {M : Type 1} {𝓤 : Ura M} (𝓛 : Logic 𝓤) (at_mem : Memory → SP
         qed 𝓛 Had ∵ enter ! C Λ function (vptr rb ro ∷ []) _ $ alloc_all ! (λ l. pass_all ! refl ((tt, tt), tt) $
         let En : Env 𝓤 H = env function.locals l in
         opens ! tt Handle {h = d} rb ro (λ vs. move ! (1 ∷ []) $ full_out ! d kept.0 kept.1 vs (λ b o h at is fits.
-        -- [what lies behind; the allocator; the word; the open borrow; obs; auth]
+        -- [what is behind; the allocator; the word; the open borrow; obs; auth]
         fsplit ! $ move ! (1 ∷ 2 ∷ []) $ fjoin ! $ move ! (1 ∷ []) $ rewrite ! 2 (λ (us : List Val). ‵ (cell_at full_share Handle.mir us rb ro)) is refl $
         first ! $ blocks ! $
         sets ! (of_opd ! (load ! (through ! refl (fld ! refl (stop !))) (look_in ! 2 (sub ! 0 refl (whole !))))) refl (tt, tt) $

@@ -1,4 +1,4 @@
--- `into_unboxed`: what lies behind the handle is what the parts of a box own.
+-- `into_unboxed`: what is behind the handle is what the parts of a box own.
 use Rattle.std.proofs.Common.{◌≡◌, List, [], ◌∷◌, ◌++◌, refl, sym, subst}
 use mathlib.Core.Option.{none}
 use mir.Syntax.{Fn}

@@ -1,4 +1,4 @@
--- `of`: what the parts of a box own lies behind the handle.
+-- `of`: what the parts of a box own is behind the handle.
 use Rattle.std.proofs.Common.{List, [], ◌∷◌, ◌++◌, refl, sym, subst}
 use mathlib.Core.Option.{some}
 use mir.Syntax.{Fn}
