@@ -10,7 +10,7 @@ use Rattle.mc_theory.specs.declared.act.Act.{Act}
 use Rattle.mc_core.specs.declared.progress.Progress.{Progress}
 use Rattle.mc_core.specs.declared.written.Written.{Written}
 
--- what may be done where the progress is told in another way
+-- what may be done when the progress is written in another way
 pub may_at : (V : ℕ) (sh : Shape) (w : List ℕ) (hand : ℕ) (cleared : Option ℕ) (xs : Written V) (p q : Progress) (a : Act) → p ≡ q → MayFrom V sh w hand cleared (phase_at {V = V} xs p) a → MayFrom V sh w hand cleared (phase_at {V = V} xs q) a
 may_at V sh w hand cleared xs p q a e m = subst (λ (y : Progress). MayFrom V sh w hand cleared (phase_at {V = V} xs y) a) e m
 

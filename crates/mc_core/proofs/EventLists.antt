@@ -21,7 +21,7 @@ use Rattle.mc_core.specs.declared.parts.Parts.{Parts}
 use Rattle.mc_core.proofs.PairedLists.{set_there}
 use Rattle.mc_core.proofs.WorldSteps.{runs_append, stand_for}
 
--- what an event told
+-- what an event returned
 abbrev pub done_of : {V : ℕ} → Stepped V → List (Done V)
 done_of (stepped.Done done) = done ∷ []
 done_of _ = []
@@ -39,11 +39,11 @@ act_tells_none V bit (act.Mark i) = refl
 abbrev pub Tells : {V : ℕ} → Trace V → Trace V → List (Done V) → Type 0
 Tells {V} w x done = (ended : List (Ended V)) × (x.ended ≡ w.ended ++ ended) × (done ≡ map (λ e. e.told) ended)
 
--- what ends no lookup tells nothing
+-- an event that ends no lookup reports nothing
 tells_none : {V : ℕ} (w x : Trace V) (done : List (Done V)) → x.ended ≡ w.ended → done ≡ [] → Tells {V = V} w x done
 tells_none {V} w x done same none = ([], same ∙ sym (append-nil w.ended), none)
 
--- an event tells of the lookups that it ends
+-- an event reports the lookups that it ends
 event_tells : (V : ℕ) (sh : Shape) (w x : Trace V) (e : Event) (out : Stepped V) → Steps V sh w e x → EventGives {V = V} w e x out → Tells {V = V} w x (done_of {V = V} out)
 event_tells V sh w x (Write a) out s gives = tells_none {V = V} w x (done_of {V = V} out) (ap (λ (y : Trace V). y.ended) s.2) (ap (λ (o : Stepped V). done_of {V = V} o) gives ∙ act_tells_none V (bit_of w.bits a) a)
 event_tells V sh w x (Begin r k) out s gives = tells_none {V = V} w x (done_of {V = V} out) (ap (λ (y : Trace V). y.ended) s.3) (ap (λ (o : Stepped V). done_of {V = V} o) gives)
@@ -107,7 +107,7 @@ stops_at {V} old new es i e why known stands at refused room = λ seen s.
     let shape = ap (λ (shown : WorldView V). shown.shape) refused.kept in
     (e, at, subst (λ (sh : Shape). traces.RefusesEvent {V = V} sh seen e why) (sym shape) (refused.refused seen before), λ wanting. let none = refused.full wanting in absurd (omega arith))
 
--- the parts stand as one more list of events leaves them
+-- the parts are as one more list of events leaves them
 pub reached_made : {V : ℕ} (old new : Parts V) (es : List Event) (before after : List (Done V)) → AreReached {V = V} old → MakesEvents {V = V} old new es before after → AreReached {V = V} new
 reached_made {V} old new es before after reached made =
     let sh = shape_of_parts {V = V} old in

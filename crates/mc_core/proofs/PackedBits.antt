@@ -1,4 +1,4 @@
--- Recency bits in a word: one bit more, and where each item's bit lies.
+-- Recency bits in a word: one bit more, and where each item's bit is.
 use Rattle.std.proofs.Common.{◌≡◌, ℕ, ◌+◌, ◌-◌, ◌*◌, ◌/◌, ◌%◌, ◌^◌, ◌<◌, ◌≤◌, List, length, get_or, inl, inr, refl, ap, sym, ◌∙◌, subst, arith}
 use Rattle.std.specs.Prelude.{All, min}
 use Rattle.std.specs.Int.{bit_at, w64}
@@ -48,7 +48,7 @@ bit_most : (x : ℕ) → IsBit x → min 1 x ≡ x
 bit_most x (inl e) = subst (λ (y : ℕ). min 1 y ≡ y) (sym e) refl
 bit_most x (inr e) = subst (λ (y : ℕ). min 1 y ≡ y) (sym e) refl
 
--- a number is told by its quotient and its remainder
+-- a number follows from its quotient and its remainder
 parts : (i m : ℕ) → i / 64 ≡ m → 64 * m + i % 64 ≡ i
 parts i m e = omega (arith, e)
 
@@ -60,7 +60,7 @@ quotient m b l = omega arith
 remainder : (m b : ℕ) → b < 64 → (64 * m + b) % 64 ≡ b
 remainder m b l = omega arith
 
--- 64 bits in a word are those of the items whose bits lie there
+-- 64 bits in a word are those of the items whose bits are there
 pub packed_bits : (V : ℕ) (sh : Shape) (bits : List ℕ) (n word : ℕ) → length bits ≡ sh.items → All IsBit bits → word_count V sh ≤ n → IsPacked bits (n - word_count V sh) word → HasBits V sh bits n word
 unfolding recency_word recency_bit
 packed_bits V sh bits n word many all past packed =

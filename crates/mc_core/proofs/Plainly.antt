@@ -21,7 +21,7 @@ made_anew {V} sh old new readers events run shape shows runs =
     let ran = runs (first_trace V sh readers) shows in
     (ran.0, subst (λ (y : Shape). HasRun V y (first_trace V sh readers) ran.0 events run.done.items run.stopped) shape ran.1.made)
 
--- what lookups told that ended in a new world is plainly true of the events that were made
+-- what lookups that ended in a new world returned is plainly true of the events that were made
 pub plainly_anew : {V : ℕ} (sh : Shape) (readers : ℕ) (x : Trace V) (events : List Event) (done : List (Done V)) (stopped : Option (ℕ × Unlawful)) → IsShape sh → HasRun V sh (first_trace V sh readers) x events done stopped →
     All (IsPlainlyTrue (events_made events stopped)) done
 plainly_anew {V} sh readers x events done stopped shape ran =

@@ -1,4 +1,4 @@
--- A reader of a world begins a lookup, and goes on with it.
+-- A reader of a world begins a lookup, and continues it.
 use Rattle.std.proofs.Common.{ℕ, ◌≡◌, ◌+◌, ◌-◌, ◌^◌, ◌<◌, ◌≤◌, List, [], ◌∷◌, ◌++◌, length, Option, Some, None, refl, sym, ◌∙◌, ap, subst, inl, inr, arith}
 use Rattle.std.specs.Prelude.{◌↔◌, IsSome, slice_get, slice_set, unwrap_or}
 use Rattle.std.proofs.lemmas.List.{append_assoc, append-nil}
@@ -161,7 +161,7 @@ access_ends {V} old new seen r reader a word next reply done mid s at below read
       stand_read {V = V} old new seen r None None (λ bs. bits_read bs a) (seen.ended ++ ended ∷ []) s writer bits (readers ∙ ap (λ rs. slice_set rs r None) kept) events tt,
     )
 
--- an access after which the lookup goes on
+-- an access after which the lookup continues
 pub access_goes_on : {V : ℕ} (old new : Parts V) (seen : traces.Trace V) (r : ℕ) (reader : Reader V) (a : Access) (word : ℕ) (next : Lookup V) (after : Reader V) (mid : List (Option (Reader V))) → StandFor {V = V} old seen → slice_get old.readers.items r ≡ Some (Some reader) → old.events < 2 ^ 64 - 1 →
     IsWordOf V (shape_of_parts {V = V} old) (words_of_writer {V = V} old.writer) a word → Consumes {V = V} reader.lookup a word next → reply_now {V = V} next ≡ None →
     after.lookup ≡ next → after.first ≡ Some (unwrap_or reader.first old.events) →

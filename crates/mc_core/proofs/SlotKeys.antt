@@ -9,7 +9,7 @@ use Rattle.mc_words.specs.Standing.{NamesItem, Stands}
 use Rattle.mc_words.specs.declared.place.Place.{Place}
 use Rattle.mc_words.specs.declared.shape.Shape.{Shape}
 
--- a slot of the table goes by a number of the table
+-- the number of a slot of the table is one of the table
 pub number_in : (sh : Shape) (p : Place) → IsPlace sh p → slot_number p < 4 * sh.buckets
 number_in sh p is = omega (arith, is.in_table, is.in_bucket)
 

@@ -1,4 +1,4 @@
--- From the parts of a world to the world: it stands as some events leave it.
+-- From the parts of a world to the world: it is as some events leave it.
 use Rattle.std.proofs.Common.{ℕ, Bool, true, false, ◌≡◌, ◌+◌, List, [], ◌∷◌, ◌++◌, refl, sym, ◌∙◌, ap, subst, inl, inr, arith}
 use Rattle.std.specs.Prelude.{All, Result, Ok, Err, IfOk, IfErr, OnOk}
 use Rattle.mc_theory.specs.Acts.{IsAllowed}
@@ -79,7 +79,7 @@ counted_after {V} old new e (Ok out) reached made =
     next.3.shows.events ∙ steps_count V (shape_of_parts {V = V} old) reached.seen next.0 e next.1 ∙ ap (λ n. n + 1) (sym reached.stand.shows.events)
 counted_after old new e (Err why) reached made = made
 
--- an act that is allowed and passes no limit is refused for want of memory alone, and only where it counts a change
+-- an act that is allowed and passes no limit is refused only without memory, and only if it counts a change
 refused_act : (V : ℕ) (sh : Shape) (w : Trace V) (a : Act) (why : Unlawful) → traces.RefusesEvent {V = V} sh w (Write a) why → IsAllowed sh (state_of V sh w.acts) a → IsWithin {V = V} sh w (Write a) → (why ≡ unlawful.NoMemory) × (a ≡ act.Moment)
 refused_act V sh w a unlawful.NotLawful h may within = absurd (h may)
 refused_act V sh w a unlawful.Limit h may within = absurd (h.1 within)
@@ -93,7 +93,7 @@ refused_act V sh w (act.Mark i) unlawful.NoMemory h may within = absurd h
 refused_act V sh w a unlawful.NoReader h may within = absurd h
 refused_act V sh w a unlawful.StillRunning h may within = absurd h
 
--- what is refused though it may be done is a change, for want of memory
+-- what is refused though it is allowed is a change, when there is no memory
 pub lawful_after : {V : ℕ} (old new : Parts V) (e : Event) (r : Result (Stepped V) Unlawful) → AreReached {V = V} old → IfErr r (λ why. PartsRefuse {V = V} old new e why) → (a : Act) → e ≡ Write a → MayAct {V = V} (view_of {V = V} old) a → IfErr r (λ why. (why ≡ unlawful.NoMemory) × (a ≡ act.Moment))
 lawful_after old new e (Ok out) reached refused a is may = refused
 lawful_after {V} old new e (Err why) reached refused a is may =

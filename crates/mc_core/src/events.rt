@@ -34,9 +34,9 @@ pub fn run<const V: usize>(
     Ok(Run { done, stopped })
 }
 
-/// Makes the events of a list in a new world with so many readers, up to the first that is refused.
+/// Makes the events of a list in a new world with `readers` readers, up to the first that is refused.
 ///
-/// What each lookup told is plainly true of the events that were made. Which these are, which lookups ended by them, and
+/// What each lookup returned is plainly true of the events that were made. Which these are, which lookups ended by them, and
 /// why the next event is refused, follows from the list. Condition: a value has from 1 to 8 words.
 pub fn run_new<const V: usize>(
     alloc: Global,

@@ -1,7 +1,7 @@
 //! What the writer of a world has done of the deed that runs.
 use mc_words::Place;
 
-/// What the writer has done of a deed. The words that it wrote after a key stand beside it.
+/// What the writer has done of a deed. The words that it wrote after a key are kept beside it.
 #[derive(Clone, Copy)]
 pub(crate) enum Progress {
     Quiet,

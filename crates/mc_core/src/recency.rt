@@ -1,4 +1,4 @@
-//! The recency bits of a world as they lie in words.
+//! The recency bits of a world as they are packed in words.
 ghost use Rattle.std.specs.Prelude.{◌≡◌, ◌<◌, ◌^◌, MatchBool, min, slice_index};
 ghost use Rattle.mc_core.specs.Inside.Packed.{IsPacked};
 

@@ -95,7 +95,7 @@ impl<const V: usize> Table<V> {
         }
     }
 
-    /// The item at which the key stands in a slot.
+    /// The item that a slot names for the key, if it is the key's.
     pub(crate) fn stands(&self, place: Place, key: u64) -> Option<u32>
         requires { IsPlace (shape_of_table {V = V} self.now) place }
         ensures { MatchOption result
@@ -112,7 +112,7 @@ impl<const V: usize> Table<V> {
         }
     }
 
-    /// The slot of a bucket in which the key stands, and its item.
+    /// The slot of a bucket that has the key, and its item.
     fn find_in(&self, bucket: u32, key: u64) -> Option<(Place, u32)>
         requires { bucket < (shape_of_table {V = V} self.now).buckets }
         ensures { MatchOption result ((q i : ℕ) → q / 4 ≡ bucket →
@@ -128,7 +128,7 @@ impl<const V: usize> Table<V> {
         None
     }
 
-    /// Where the key stands, if it stands in one of its buckets.
+    /// Where the key is, if it is in one of its buckets.
     pub(crate) fn find(&self, key: u64) -> Option<(Place, u32)>
         ensures { MatchOption result ((q i : ℕ) → IsBucketOf (shape_of_table {V = V} self.now) key (q / 4) →
             Stands V (shape_of_table {V = V} self.now) (words_of_table {V = V} self.now) key q i → ⊥)

@@ -53,7 +53,7 @@ impl<const V: usize> World<V> {
     ghost use Rattle.mc_theory.specs.declared.event.Unlawful.TheVariants as unlawful;
     ghost use Rattle.mc_core.specs.declared.world.WorldError.TheVariants as error;
 
-    /// A new world with so many readers: nothing was written, and no lookup runs.
+    /// A new world with `readers` readers: nothing was written, and no lookup runs.
     /// Condition: a value has from 1 to 8 words.
     pub fn new(alloc: Global, checked: &Checked, readers: u32) -> Result<World<V>, WorldError>
         requires { IsWidth V }
@@ -91,7 +91,7 @@ impl<const V: usize> World<V> {
         self.parts.step(event)
     }
 
-    /// Does nothing. Every world stands as some events leave it, from a new one on, whose lookups replied truly.
+    /// Does nothing. Every world is as some events leave a new one, and the lookups of these events replied truly.
     pub fn reached(&self)
         ensures shape { IsShape self.now.shape }
         ensures events { (seen : traces.Trace V) × traces.IsReached V self.now.shape seen ×

@@ -1,7 +1,7 @@
 //! The words that the writer wrote of an item behind its key.
 ghost use Rattle.std.specs.Prelude.{◌≡◌, ◌≤◌, length};
 
-/// As many words as an item keeps behind its key: a value, and then its stamp. Those that weren't written yet are of no account.
+/// As many words as an item keeps behind its key: a value, and then its stamp. Those that weren't written yet don't count.
 #[derive(Clone, Copy)]
 pub(crate) struct Written<const V: usize> {
     value: [u64; V],
@@ -34,7 +34,7 @@ impl<const V: usize> Written<V> {
         self.value
     }
 
-    /// Keeps one word more, after so many.
+    /// Keeps one word more, after `count`.
     pub(crate) fn keep(&mut self, count: u8, word: u64)
         requires { count < payload V }
         ensures { take (count + 1) (payload_in {V = V} self.new) ≡ take count (payload_in {V = V} self.old) ++ word ∷ [] }

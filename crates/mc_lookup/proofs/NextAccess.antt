@@ -1,4 +1,4 @@
--- The access that comes next is the only one with which a lookup can go on, and some readings end it.
+-- The access that comes next is the only one with which a lookup can continue, and some readings end it.
 use Rattle.std.proofs.Common.{ℕ, zero, suc, ◌≡◌, ◌+◌, ◌-◌, ◌<◌, ◌≤◌, List, [], ◌∷◌, ◌++◌, length, take, drop, replicate, Option, Some, None, refl, sym, ◌∙◌, ap, subst, inl, inr, arith}
 use Rattle.std.specs.Prelude.{IfSome}
 use Rattle.std.proofs.lemmas.List.{length-take, length-append, length-replicate}

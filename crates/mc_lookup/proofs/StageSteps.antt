@@ -138,7 +138,7 @@ left_stamp V sh k t x v n told i w f rs reply whole =
     subst (λ (y : List ℕ). RemainderAtMoment V sh k t x (Some i) (v ++ w ∷ []) rs reply ↔ RemainderAtStamp V sh k t x i y (read (access.Stamp i) w f ∷ rs) reply) (sym (value_of-push V n v whole))
     (feed_stamp V sh k t x i v (read (access.Stamp i) w f) rs reply refl)
 
--- before the last version of a try that stands, and the mark after it: the reply has the value and the stamp
+-- before the last version of a try that succeeds, and the mark after it: the reply has the value and the stamp
 pub left_found : (V : ℕ) (sh : Shape) (k t x i : ℕ) (v : List ℕ) (n at : ℕ) (r : Reading) (rs : List Reading) (reply : Reply V) → length v ≡ V → r.access ≡ access.Version (stripe_of sh k) → r.word ≡ x → (MarksHit (Some i) rs × (reply ≡ Found v at n)) ↔ RemainderAtLast V sh k t x (Some i) (v ++ n ∷ []) at (r ∷ rs) reply
 left_found V sh k t x i v n at r rs reply whole a e =
     let told : reply_of {V = V} (Some i) (v ++ n ∷ []) at ≡ Found v at n = rw (value_of-push V n v whole, since_of-push V n v whole) refl in

@@ -12,7 +12,7 @@ abbrev pub BeginsWith : {V : ℕ} → Lookup V → Option Access → List Readin
 BeginsWith l (Some a) rs reply = (r : Reading) × (more : List Reading) × (rs ≡ r ∷ more) × (r.access ≡ a)
 BeginsWith l None rs reply = (rs ≡ []) × (reply ≡ l.reply)
 
--- the access that comes next is the only one with which the lookup can go on
+-- the access that comes next is the only one with which the lookup can continue
 abbrev pub NextIsDetermined : ℕ → Type 0
 NextIsDetermined V = (l : Lookup V) (rs : List Reading) (reply : Reply V) → IsRemainder l rs reply → BeginsWith l (next_access l) rs reply
 

@@ -14,7 +14,8 @@ use Rattle.mc_words.specs.Standing.{Stands}
 use Rattle.mc_words.specs.declared.place.Place.{Place}
 use Rattle.mc_words.specs.declared.shape.Shape.{Shape}
 
--- the word is still that of its place, if that is the version, the slot or a word of the item of the key; and a map of so many changes still holds of the key what the map holds
+-- the word is still that of its place, if that is the version, the slot or a word of the item of the key; and the map after x changes still
+-- holds of the key what the map holds
 abbrev pub IsStillSo : {V : ℕ} → Shape → State V → ℕ → Access → ℕ → Type 0
 IsStillSo {V} sh s k (Version t) x = t ≡ stripe_of sh k → version s.words t ≡ x
 IsStillSo {V} sh s k (Slot p) x = (i : ℕ) → Stands V sh s.words k (slot_number p) i → slot sh s.words (slot_number p) ≡ x

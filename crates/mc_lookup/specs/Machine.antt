@@ -59,7 +59,7 @@ slots_from j = if nat_lt j 8 then Slot j else Moment None
 abbrev pub values_from : ℕ → ℕ → ℕ → Stage
 values_from V i c = if nat_lt c V then Value i c else Stamp i
 
--- the stage after a try that stands
+-- the stage after a try that succeeds
 abbrev pub stage_after_try : Option ℕ → Stage
 stage_after_try None = Over
 stage_after_try (Some i) = Mark i
@@ -77,7 +77,7 @@ abbrev pub held_for : Option ℕ → List ℕ → List ℕ
 held_for None held = []
 held_for (Some i) held = held
 
--- what is left at a stage: of this key, with so many tries left, this first version and these words of the item
+-- what is left at a stage: of this key, with t tries left, this first version and these words of the item
 abbrev pub IsRemainderAt : (V : ℕ) → Shape → ℕ → ℕ → ℕ → List ℕ → Reply V → Stage → List Reading → Reply V → Type 0
 IsRemainderAt V sh k t x held told First rs reply = IsLookup V sh k t rs reply
 IsRemainderAt V sh k t x held told (Slot j) rs reply = RemainderAtSlots V sh k t x (drop j (slots_for sh k)) rs reply

@@ -2,7 +2,7 @@
 ghost use Rattle.mc_lookup.specs.Course.{CanEnd, NextIsDetermined, NextIsInTable};
 ghost use Rattle.mc_lookup.specs.Findings.{FindingsStay};
 
-/// The access that a lookup asks for is the only one with which it can go on.
+/// The access that a lookup asks for is the only one with which it can continue.
 pub fn next_is_determined<const V: usize>()
     ensures { NextIsDetermined V }
 {}

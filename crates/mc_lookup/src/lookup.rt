@@ -11,7 +11,7 @@ use mc_words::{Checked, KeyParts, Reply};
 
 mod stages;
 
-/// A lookup of one key. It is asked what to read `next` and told the word that was read there, until it has its reply.
+/// A lookup of one key. Ask it what to read `next`, and give it the word that was read there, until it has its reply.
 #[derive(Clone, Copy)]
 pub struct Lookup<const V: usize> {
     checked: Checked,
@@ -87,7 +87,7 @@ impl<const V: usize> Lookup<V> {
         self.parts.stripe
     }
 
-    /// Where the lookup stands.
+    /// The stage of the lookup.
     pub fn stage(&self) -> Stage
         ensures { result ≡ stage_of {V = V} self.now }
     {

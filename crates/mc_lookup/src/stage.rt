@@ -1,5 +1,5 @@
 //! The stages of a lookup.
-/// Where a lookup stands: what it reads next.
+/// The stage of a lookup: what it reads next.
 #[derive(Clone, Copy)]
 pub enum Stage {
     /// The version, at the start of a try.

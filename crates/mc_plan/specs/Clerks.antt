@@ -25,7 +25,7 @@ pub record Knows (V : ℕ) (clerk : Clerk V) (s : State V) : Type 0 where
   pub idle : clerk.stage ≡ Idle
   pub books : AreBooksOf V clerk.books s
 
--- the sweep of the call was made, and so many acts of its plan
+-- the sweep of the call was made, and `many` acts of its plan
 pub record MakesPlan (V : ℕ) (books : Books) (plan : List Act) (many : ℕ) (call : Call) (s : State V) (acts : List Made) (told : Answer) : Type 0 where
   pub sweep : List Swept
   pub others : List Made

@@ -27,7 +27,7 @@ acts_of_moves (m ∷ moves) = move_acts m.key m.word m.from m.to ++ acts_of_move
 abbrev pub renewal_acts : ℕ → List ℕ → ℕ → ℕ → List Act
 renewal_acts k v at i = renew_acts k v at i ++ Mark i ∷ []
 
--- the key goes to the item and the place, which is marked
+-- the key is put at the item and into the place, and the item is marked
 abbrev pub filling_acts : Shape → ℕ → List ℕ → ℕ → ℕ → Place → List Act
 filling_acts sh k v at i p = fill_acts sh k v at i p ++ Mark i ∷ []
 
@@ -37,7 +37,7 @@ moves_of listed Unneeded = []
 moves_of listed (One m) = m ∷ []
 moves_of listed Listed = listed
 
--- the moves make room, and the key goes to the item and the place, which is marked
+-- the moves make room, the key is put at the item and into the place, and the item is marked
 abbrev pub storing_acts : List Move → Shape → ℕ → List ℕ → Storing → List Act
 storing_acts listed sh k v storing = acts_of_moves (moves_of listed storing.moves) ++ filling_acts sh k v storing.at storing.item storing.place
 

@@ -29,7 +29,8 @@ as_made acts = map (λ (a : Act). record { act = a; bit = 0 }) acts
 abbrev pub state_after_acts : (V : ℕ) → Shape → State V → List Act → State V
 state_after_acts V sh s acts = after_all sh s (as_made acts)
 
--- each act is allowed after those before it, and they leave a quiet state: its history has these changes more, and so many version changes were made
+-- each act is allowed after those before it, and they leave a quiet state: its history has these changes more, and `steps` version changes
+-- were made
 pub record Makes (V : ℕ) (sh : Shape) (s : State V) (acts : List Act) (new : List (Change V)) (steps : ℕ) : Type 0 where
   pub allowed : AreAllowed sh s (as_made acts)
   pub quiet : IsQuiet V sh (state_after_acts V sh s acts)

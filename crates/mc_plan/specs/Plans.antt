@@ -19,7 +19,7 @@ value_acts i j (x ∷ xs) = Item i j x ∷ value_acts i (j + 1) xs
 abbrev pub payload_acts : ℕ → List ℕ → ℕ → List Act
 payload_acts i v at = value_acts i 1 v ++ Item i (length v + 1) at ∷ []
 
--- the key goes to the free item and the empty slot
+-- the key is put at the free item and into the empty slot
 abbrev pub fill_acts : Shape → ℕ → List ℕ → ℕ → ℕ → Place → List Act
 fill_acts sh k v at i p = Open k deed.Fill ∷ Item i 0 k ∷ (payload_acts i v at ++ Slot p (slot_word (tag_of sh k) i) ∷ Moment ∷ Close ∷ [])
 
@@ -39,7 +39,7 @@ remove_acts k p = take_out_acts k deed.Remove p
 abbrev pub evict_acts : ℕ → Place → List Act
 evict_acts k p = take_out_acts k deed.Evict p
 
--- the key with this slot word goes from one slot to the other
+-- the key with this slot word moves from one slot to the other
 abbrev pub move_acts : ℕ → ℕ → Place → Place → List Act
 move_acts k word from to = Open k deed.Move ∷ Slot to word ∷ Slot from 0 ∷ Close ∷ []
 

@@ -6,7 +6,7 @@ use thiserror::Error;
 /// What a `put` did. `at` is the moment of its change.
 #[derive(Clone, Copy, Debug, PartialEq, Eq)]
 pub enum Put {
-    /// The key is new. `moves` tells how many keys were moved, `evicted` the key that was taken out for it.
+    /// The key is new. `moves` is how many keys were moved, `evicted` the key that was taken out for it.
     Stored {
         at: u64,
         moves: u8,
@@ -32,7 +32,7 @@ pub enum PutError {
     Spent,
 }
 
-/// Why a `put` on a condition stored nothing. The first reason that applies is told.
+/// Why a `put` on a condition stored nothing. The first reason that applies is returned.
 #[derive(Clone, Copy, Debug, PartialEq, Eq, Error)]
 pub enum IfError {
     /// The limit of version changes could be passed.
@@ -57,7 +57,7 @@ pub enum AbsentError {
     Put(PutError),
 }
 
-/// Why a put that takes no other key's item stored nothing. The first reason that applies is told, `Spent` before the others.
+/// Why a put that takes no other key's item stored nothing. The first reason that applies is returned, `Spent` before the others.
 #[derive(Clone, Copy, Debug, PartialEq, Eq, Error)]
 pub enum Why {
     /// No chain of displacements leads to an empty slot.

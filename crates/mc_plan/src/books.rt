@@ -17,16 +17,16 @@ use mc_theory::Peek;
 use mc_words::{Checked, KeyParts, NoMemory};
 use std::alloc::Global;
 
-/// The writer's bookkeeping beside the words: which items are free, where the hand stands, how many version changes were made.
+/// The writer's bookkeeping beside the words: which items are free, where the hand is, how many version changes were made.
 #[derive(Drop)]
 pub struct Books {
     /// The version changes, with those of what was decided.
     version_steps: u64,
-    /// The item at which the hand stands, but while a call sweeps: at which it stood when the call began.
+    /// The item at the hand. While a call sweeps, the item that was at the hand when the call began.
     hand: u32,
     free: FreeItems,
     pub(crate) checked: Checked,
-    // Few puts need it, and it is large. A turn moves the writer, so it lies elsewhere.
+    // Few puts need it, and it is large. A turn moves the writer, so it is stored elsewhere.
     far: Box<Far>,
 }
 
@@ -69,7 +69,7 @@ impl Books {
         self.checked.shape().items
     }
 
-    /// Whether so many version changes more could pass the limit.
+    /// Whether `changes` more version changes could pass the limit.
     fn is_spent(&self, changes: u64) -> bool
         requires few { changes < 2 ^ 8 }
         requires within { self.now.version_steps ≤ (shape_of self.now.checked).limit }
@@ -86,7 +86,7 @@ impl Books {
         2 * (u64::from(self.checked.shape().depth) + 2)
     }
 
-    /// The sweep for an item, from where the hand stands.
+    /// The sweep for an item, from the hand's item.
     pub(crate) fn sweep(&self) -> Sweep
         requires { (V : ℕ) × (s : State V) × AreBooksOf V self.now s }
         ensures { (V : ℕ) (s : State V) → AreBooksOf V self.now s → HasSwept result (shape_of self.now.checked).items s.hand [] }
@@ -94,7 +94,7 @@ impl Books {
         Sweep::start(self.checked.shape().items, self.hand)
     }
 
-    /// Decides a put, as far as one look for the key tells.
+    /// Decides a put, as far as one look for the key allows.
     /// Condition: the books are those of the table whose words are looked at, between two calls, and the parts are the key's.
     #[inline(always)]
     pub fn decide<const V: usize, P: Peek>(
@@ -120,8 +120,8 @@ impl Books {
         self.version_steps += changes;
         match find_by::<V, P>(&self.checked, peek, key, parts) {
             Some((_, item)) => {
-                // The stamp is the item's last word, and may lie in another cache line than its key. Behind the first store no
-                // load runs ahead, so that line is asked for here, while the processor still waits for the key.
+                // The stamp is the item's last word, and may be in another cache line than its key. No load runs ahead of the first store,
+                // so this loads that line here, while the processor still waits for the key.
                 stamp_at::<V, P>(&self.checked, peek, item);
                 Decision::Renew { item, at }
             }

@@ -13,18 +13,18 @@ pub struct Move {
     pub to: Place,
 }
 
-/// What a put does, as far as one look for the key tells. It is small, so that a renewal pays for no path.
+/// What a put does, as far as one look for the key shows. It is small, so that a renewal pays for no path.
 #[derive(Clone, Copy)]
 pub enum Decision {
     /// It changes nothing.
     Refuse(PutError),
-    /// The key stands at the item, which gets the new value.
+    /// The key is at the item, which gets the new value.
     Renew { item: u32, at: u64 },
     /// The key is not there: `Books` find room for it, and then insert it.
     Insert { at: u64 },
 }
 
-/// A put on a condition that is met: the key stands at the item, which gets the new value.
+/// A put on a condition that is met: the key is at the item, which gets the new value.
 #[derive(Clone, Copy)]
 pub struct Renewal {
     pub item: u32,
@@ -34,7 +34,7 @@ pub struct Renewal {
 /// What the put of a key that must be absent finds.
 #[derive(Clone, Copy)]
 pub enum Vacancy {
-    /// The key stands at the item. Its last put was at the moment `since`.
+    /// The key is at the item. Its last put was at the moment `since`.
     Taken { item: u32, since: u64 },
     /// The key is absent, and its put could pass the limit.
     Spent,
@@ -50,7 +50,7 @@ pub enum Moves {
     Listed,
 }
 
-/// How a key is stored that was not there: the moves that make room, and the item and the place where it goes.
+/// How a key that was absent is stored: the moves that make room, its item and its place.
 #[derive(Clone, Copy)]
 pub struct Storing {
     pub item: u32,
@@ -79,7 +79,7 @@ pub struct Replacement {
 pub enum Removal {
     /// It changes nothing.
     Refuse(Spent),
-    /// The key stands in the slot, which is cleared.
+    /// The key is in the slot, which is cleared.
     TakeOut { place: Place, at: u64 },
     /// There is nothing to do.
     Leave { at: u64 },

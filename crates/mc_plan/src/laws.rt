@@ -11,17 +11,17 @@ pub fn fills_put<const V: usize>()
     ensures { FillsPut V }
 {}
 
-/// Where a key stands at the item, the acts of a renewal are allowed, and put its new value.
+/// If a key is at the item, the acts of a renewal are allowed, and put its new value.
 pub fn renewals_put<const V: usize>()
     ensures { RenewalsPut V }
 {}
 
-/// Where a key stands in the slot, the acts of a removal are allowed, and take it out.
+/// If a key is in the slot, the acts of a removal are allowed, and take it out.
 pub fn removals_take_out<const V: usize>()
     ensures { RemovalsTakeOut V }
 {}
 
-/// Where a key stands in the slot, at the item whose bit the hand found clear, the acts of an eviction are allowed, and take it out.
+/// If a key is in the slot, at the item whose bit the hand found clear, the acts of an eviction are allowed, and take it out.
 pub fn evictions_take_out<const V: usize>()
     ensures { EvictionsTakeOut V }
 {}
@@ -41,7 +41,9 @@ pub fn puts_make_room<const V: usize>()
     ensures { PutsMakeRoom V }
 {}
 
-/// Where a key is not there, another stands at the item whose bit the hand found clear, and a chain leads from the key to a hole, the eviction of the other key, the moves of the chain up to that key's slot and then a fill of its first place are allowed one after the other. They take the other key out and put the key.
+/// If a key is absent, another is at the item whose bit the hand found clear, and a chain leads from the key to a hole, the eviction of the
+/// other key, the moves of the chain up to that key's slot and then a fill of its first place are allowed one after the other. They take
+/// the other key out and put the key.
 pub fn evictions_make_room<const V: usize>()
     ensures { EvictionsMakeRoom V }
 {}

@@ -2,7 +2,7 @@
 //!
 //! A plan is a list of acts, and its contract says what the list makes of every quiet state that has what it needs. A
 //! `Clerk` turns a call into such acts, one at a time, and answers it after the last. The words of the table are read
-//! through `Peek`. The search on which plans stand is a crate of its own, given out here.
+//! through `Peek`. The search that plans are built on is a crate of its own, re-exported here.
 //!
 //! ```text
 //! clerk.put(&mut &world, key, value);

@@ -29,8 +29,8 @@ pub fn add_move(acts: &mut Plan, key: u64, word: u64, from: Place, to: Place)
     acts.push(Act::Close);
 }
 
-/// Lists the moves of a path, in place of those that were listed: the item at its last place goes to the hole, the item at the place before it to the place that
-/// became empty, and so on. The first place is empty then.
+/// Lists the moves of a path, in place of those that were listed: the item at its last place moves to the hole, the item at the place
+/// before it to the place that became empty, and so on. The first place is empty then.
 /// Condition: the words reach as far as the shape says, each slot is empty or names an item, and the path's places are occupied.
 pub fn path_moves<const V: usize, P: Peek>(
     checked: &Checked,

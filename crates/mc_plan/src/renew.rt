@@ -13,7 +13,7 @@ use crate::value::add_payload;
 use arrayvec::ArrayVec;
 use mc_theory::{Act, Deed};
 
-/// Adds the acts that put a new value of the key that stands at the item.
+/// Adds the acts that put a new value of the key at the item.
 /// `at` is the moment that the put is to have. Condition: the list has room for them: `V + 4` acts of 64.
 pub fn add_renew<const V: usize>(acts: &mut Plan, key: u64, value: &[u64; V], at: u64, item: u32)
     requires width { IsWidth V }
@@ -29,7 +29,7 @@ pub fn add_renew<const V: usize>(acts: &mut Plan, key: u64, value: &[u64; V], at
 }
 
 // Nothing in this repository calls it: it is for those who plan without books.
-/// The acts that put a new value of the key that stands at the item, at the moment `at`. Condition: a value has from 1 to 8 words.
+/// The acts that put a new value of the key at the item, at the moment `at`. Condition: a value has from 1 to 8 words.
 pub fn plan_renew<const V: usize>(key: u64, value: &[u64; V], at: u64, item: u32) -> Plan
     requires width { IsWidth V }
     ensures items { result.items ≡ renew_acts key value.now at item }

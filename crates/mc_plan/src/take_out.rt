@@ -11,7 +11,7 @@ use arrayvec::ArrayVec;
 use mc_theory::{Act, Deed};
 use mc_words::Place;
 
-/// Adds the acts that take out the key that stands in the slot, by a removal or an eviction.
+/// Adds the acts that take out the key in the slot, by a removal or an eviction.
 fn add_take_out(acts: &mut Plan, key: u64, deed: Deed, place: Place)
     requires room { array_vec_len acts.old + 4 ≤ 64 }
     ensures items { acts.new.items ≡ acts.old.items ++ take_out_acts key deed place }
@@ -23,7 +23,7 @@ fn add_take_out(acts: &mut Plan, key: u64, deed: Deed, place: Place)
     acts.push(Act::Close);
 }
 
-/// Adds the acts that take out the key that stands in the slot. Condition: the list has room for them: 4 acts of 64.
+/// Adds the acts that take out the key in the slot. Condition: the list has room for them: 4 acts of 64.
 pub fn add_remove(acts: &mut Plan, key: u64, place: Place)
     requires room { array_vec_len acts.old + 4 ≤ 64 }
     ensures items { acts.new.items ≡ acts.old.items ++ remove_acts key place }
@@ -32,7 +32,7 @@ pub fn add_remove(acts: &mut Plan, key: u64, place: Place)
     add_take_out(acts, key, Deed::Remove, place);
 }
 
-/// Adds the acts that take out the key that stands in the slot, to make room for another.
+/// Adds the acts that take out the key in the slot, to make room for another.
 /// Condition: the list has room for them: 4 acts of 64.
 pub fn add_evict(acts: &mut Plan, key: u64, place: Place)
     requires room { array_vec_len acts.old + 4 ≤ 64 }
@@ -43,7 +43,7 @@ pub fn add_evict(acts: &mut Plan, key: u64, place: Place)
 }
 
 // Nothing in this repository calls it: it is for those who plan without books.
-/// The acts that take out the key that stands in the slot.
+/// The acts that take out the key in the slot.
 pub fn plan_remove(key: u64, place: Place) -> Plan
     ensures items { result.items ≡ remove_acts key place }
     ensures law { (V : ℕ) (sh : Shape) → IsShape sh → ActsRemove V sh key place result.items }
@@ -54,7 +54,7 @@ pub fn plan_remove(key: u64, place: Place) -> Plan
 }
 
 // Nothing in this repository calls it: it is for those who plan without books.
-/// The acts that take out the key that stands in the slot, to make room for another.
+/// The acts that take out the key in the slot, to make room for another.
 pub fn plan_evict(key: u64, place: Place) -> Plan
     ensures items { result.items ≡ evict_acts key place }
     ensures law { (V : ℕ) (sh : Shape) → IsShape sh → ActsEvict V sh key place result.items }

@@ -147,7 +147,7 @@ leads_mark V sh old mid new l m n i on e t = record {
   most = omega (arith, on.most, t.fewer);
 }
 
--- ---- the stage tells the access that comes next
+-- ---- the stage determines the access that comes next
 pub next_is : (V : ℕ) (l : Lookup V) (st : Stage) (a : Access) → l.stage ≡ st → next_at l st ≡ Some a → next_access l ≡ Some a
 next_is V l st a e is = ap (next_at l) e ∙ is
 
@@ -164,8 +164,7 @@ leads_trans V sh old mid new l m n a b = record {
   most = omega (arith, a.most, b.most);
 }
 
--- ---- where a lookup reads
--- what comes next lies before the recency words
+-- ---- what a lookup reads next is before the recency words
 pub next_within : (V : ℕ) (sh : Shape) (l : Lookup V) (a : Access) (n : ℕ) → shape_for l ≡ sh → next_access l ≡ Some a → place_read V sh a ≡ Some n → n < word_count V sh
 next_within V sh l a n shape next here =
     let is : IsAccess V sh a = subst (λ (z : Shape). IsAccess V z a) shape (next_is_in_table V l a next) in

@@ -1,4 +1,4 @@
--- Where the words of an item lie.
+-- Where the words of an item are.
 use Rattle.std.proofs.Common.{ℕ, ◌<◌, ◌≤◌, arith}
 use Rattle.mc_words.specs.Places.{all_words, item_place, payload}
 use Rattle.mc_words.specs.declared.shape.Shape.{Shape}

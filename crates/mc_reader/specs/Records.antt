@@ -37,7 +37,7 @@ HaveLooked V sh (k ∷ ks) before after (r ∷ rs) = (mid : ReaderRecord) × Has
 HaveLooked V sh [] before after (r ∷ rs) = ⊥
 HaveLooked V sh (k ∷ ks) before after [] = ⊥
 
--- each key's reply is true of the history, and the number of changes that it names lies between these two
+-- each key's reply is true of the history, and the number of changes that it names is between these two
 abbrev pub AreTrueAnswers : {V : ℕ} → List (Change V) → ℕ → ℕ → List ℕ → List (Reply V) → Type 0
 AreTrueAnswers h lo hi [] [] = Unit {0}
 AreTrueAnswers h lo hi (k ∷ ks) (r ∷ rs) = IsTrueAnswer h k r × IsBetween lo hi r × AreTrueAnswers h lo hi ks rs

@@ -8,8 +8,8 @@ use crate::touches::{GROUP, touch_group};
 use mc_shared::{Cells, ReaderSeat};
 use mc_words::Reply;
 
-/// The buckets from which on words are touched ahead. In smaller tables most words lie in the processor's caches, and to
-/// touch them costs more than it saves.
+/// From this many buckets on, words are touched ahead. In smaller tables most words are in the processor's caches, and touching them costs
+/// more than it saves.
 const LARGE: u32 = 131_072;
 
 /// The keys from which on a group of them is touched ahead. With fewer too few loads are under way at once.

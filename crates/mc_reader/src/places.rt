@@ -8,7 +8,7 @@ ghost use Rattle.mc_reader.specs.Inside.Rows.{ArePlacesOf};
 use mc_lookup::Lookup;
 use mc_words::Checked;
 
-/// Where the key's version lies, slot 0 of each of its two buckets, and item 0.
+/// The places of the key's version, of slot 0 of each of its two buckets, and of item 0.
 #[derive(Clone, Copy)]
 pub(crate) struct Places {
     pub version: usize,

@@ -17,7 +17,7 @@ use mc_shared::{Cells, ReaderSeat, mark_unless_set, read_at};
 use mc_theory::Access;
 use mc_words::{Reply, payload_words};
 
-// Reads four slots, from this one of the eight on, which lies at `row`, and the key of each item that a slot names under
+// Reads four slots, from this one of the eight on, which is at `row`, and the key of each item that a slot names under
 // the key's tag. The item at which the key is found ends the scan.
 #[inline(always)]
 fn scan_four<const V: usize>(
@@ -154,7 +154,7 @@ fn conclude<const V: usize>(
     ensures leads { Leads V cells.now.layout.shape seat.old lookup.old seat.new lookup.new }
     ensures stage { IsRestart (stage_of {V = V} lookup.new) }
 {
-    // The moment before the version: if the version still stands, the moment lies in the window in which nothing of the key changed.
+    // The moment before the version: if the version is unchanged after it, the moment is in the window in which nothing of the key changed.
     let at = read_at(cells, seat, Access::Moment, 0);
     lookup.after_moment(hit, at);
     let stripe = lookup.stripe();

@@ -1,7 +1,7 @@
 //! Loads that go before lookups. They bring what the lookups will read into the processor's caches, and enter no record.
 //!
-//! None of them hangs on a branch, and they stand close to one another, so the processor waits for many at once. A lookup
-//! waits for one word after the other, and a branch on a slot's tag keeps it from going on to the next key.
+//! None of them depends on a branch, and they are close to one another, so the processor waits for many at once. A lookup waits for one
+//! word after the other, and a branch on a slot's tag delays the next key.
 ghost use Rattle.std.specs.Prelude.{◌≡◌, ◌<◌, ◌≤◌, ℕ, All, length};
 ghost use Rattle.mc_words.specs.Checks.{shape_of};
 ghost use Rattle.mc_words.specs.Places.{IsWidth};
@@ -46,7 +46,7 @@ fn aim_at<const V: usize>(checked: &Checked, key: u64) -> Aim
     }
 }
 
-// The same for each of the keys.
+// Where a lookup of each of the keys looks.
 #[inline(always)]
 fn aim_at_all<const V: usize>(checked: &Checked, keys: &[u64], aims: &mut [Aim])
     requires many { length keys.now ≤ length aims.old }
@@ -58,7 +58,7 @@ fn aim_at_all<const V: usize>(checked: &Checked, keys: &[u64], aims: &mut [Aim])
     }
 }
 
-// Touches four slots, which may lie in two lines of a cache.
+// Touches four slots, which may be in two cache lines.
 #[inline(always)]
 fn touch_row<const V: usize>(cells: &Cells<V>, row: usize)
     requires { IsRow V cells.now.layout.shape row }
@@ -92,7 +92,7 @@ fn guess<const V: usize>(cells: &Cells<V>, aim: Aim, items: u32) -> u32
     first.min(second).min(u64::from(items - 1)) as u32
 }
 
-// The same for each of the aims.
+// A guess for each of the aims.
 #[inline(always)]
 fn guess_all<const V: usize>(cells: &Cells<V>, aims: &[Aim], items: u32, guesses: &mut [u32])
     requires many { length aims.now ≤ length guesses.old }

@@ -10,12 +10,12 @@ use Rattle.std.proofs.lemmas.Map.Steps.{length-le_from_distinct_below}
 use Rattle.mc_search.specs.declared.queue.Entry.{Entry}
 use Rattle.mc_search.specs.Inside.Search.{blank, entry_at, bucket_at, depth_at, IsQueue}
 
--- the old entries stand where they stood
+-- the old entries are where they were
 pub entry_at-old : (q : List Entry) (e : Entry) (i : ℕ) → i < length q → entry_at (q ++ e ∷ []) i ≡ entry_at q i
 unfolding entry_at
 entry_at-old q e i h = get_or_append_left q (e ∷ []) blank i h
 
--- the new one stands at the end
+-- the new one is at the end
 pub entry_at-new : (q : List Entry) (e : Entry) → entry_at (q ++ e ∷ []) (length q) ≡ e
 unfolding entry_at
 entry_at-new q e =

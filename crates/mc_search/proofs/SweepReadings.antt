@@ -81,6 +81,6 @@ next_some (Some i) left hand e ne = absurd (false≢true (sym e))
 next_some None zero hand e ne = absurd (ne refl)
 next_some None (suc left) hand e ne = refl
 
--- the hand stands at an item
+-- the hand is at an item
 pub stands_below : (sweep : Sweep) (items hand : ℕ) (rs : List Swept) → HasSwept sweep items hand rs → sweep.hand < items
 stands_below sweep items hand rs has = rw has.stands (mod-lt (hand + length rs) (omega (arith, has.start)))

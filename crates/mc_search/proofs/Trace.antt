@@ -91,7 +91,7 @@ leads_start : (sh : Shape) (w : List ℕ) (k : ℕ) (q : List Entry) (i : ℕ) (
 leads_start sh w k q i ps h (inl e) f = inl (subst (λ (b : ℕ). Leads sh w b ps h) e f)
 leads_start sh w k q i ps h (inr e) f = inr (subst (λ (b : ℕ). Leads sh w b ps h) e f)
 
--- an entry at depth 0 is of a bucket of the key
+-- an entry at depth 0 belongs to a bucket of the key
 leads_from : (sh : Shape) (w : List ℕ) (k : ℕ) (q : List Entry) (i : ℕ) (ps : List Place) (h : Place) → depth_at q i ≡ 0 → Origin sh w k q i (entry_at q i) → Leads sh w (bucket_at q i) ps h → Leads sh w (first_of sh k) ps h ⊎ Leads sh w (second_of sh k) ps h
 leads_from sh w k q i ps h z (inl o) f = leads_start sh w k q i ps h o.of_key f
 leads_from sh w k q i ps h z (inr o) f = let y = o.deeper in absurd (omega arith)

@@ -33,11 +33,11 @@ abbrev pub victim_of : List Swept → Option ℕ
 victim_of [] = None
 victim_of (r ∷ rs) = if r.bit == 0 then Some r.item else victim_of rs
 
--- the sweep is over: it has a victim, or has gone round twice
+-- the sweep is over: it has a victim, or went round twice
 abbrev pub IsOver : ℕ → List Swept → Type 0
 IsOver items rs = IsSome (victim_of rs) ⊎ (length rs ≡ 2 * items)
 
--- the sweep began where the hand stood, and these are its readings
+-- the sweep began where the hand was, and these are its readings
 pub record HasSwept (sweep : Sweep) (items hand : ℕ) (rs : List Swept) : Type 0 where
   pub sweeps : IsSweep items hand rs
   pub count : sweep.items ≡ items

@@ -1,4 +1,4 @@
-//! The slots of a bucket: which is empty, where the key of one may go, and what is loaded ahead in a large table, so that the
+//! The slots of a bucket: which is empty, where the key of one may move, and what is loaded ahead in a large table, so that the
 //! processor waits for several words at once.
 ghost use Rattle.std.specs.Prelude.{ℕ, ◌≡◌, ◌≢◌, ◌+◌, ◌*◌, ◌<◌, ◌≤◌, ◌↔◌, IfNone, IfSome, IsTrue, MatchOption};
 ghost use Rattle.mc_words.specs.Checks.{shape_of};
@@ -11,7 +11,7 @@ use crate::word::slot_at;
 use mc_theory::Peek;
 use mc_words::{Checked, Place};
 
-/// The slots of so many buckets fill a megabyte, which is more than many processors keep close by.
+/// The slots of this many buckets fill a megabyte, which is more than many processors keep close by.
 const LARGE: u32 = 32_768;
 
 /// The other bucket of the item that a slot's word names.
@@ -77,7 +77,7 @@ pub fn touch_bucket<P: Peek>(checked: &Checked, peek: &mut P, bucket: u32)
     let _ = slot_at(checked, peek, Place { bucket, slot: 0 });
 }
 
-/// The same, where the table is large.
+/// Like `touch_bucket`, but only if the table is large.
 #[inline(always)]
 pub(crate) fn touch_bucket_if_large<P: Peek>(checked: &Checked, peek: &mut P, bucket: u32)
     requires words { HasSlots (shape_of checked.now) (P.words peek.old) }

@@ -1,4 +1,4 @@
-//! Where a key stands.
+//! Where a key is.
 ghost use Rattle.std.specs.Prelude.{ℕ, ◌≡◌, ◌<◌, ◌≤◌, length, IfSome, IfNone};
 ghost use Rattle.mc_words.specs.Checks.{shape_of};
 ghost use Rattle.mc_words.specs.KeyParts.{HasParts};
@@ -44,10 +44,10 @@ fn find_in<const V: usize, P: Peek>(
     None
 }
 
-/// Where the key stands: the slot that names it, and its item.
+/// Where the key is: the slot that names it, and its item.
 ///
 /// It looks at the slots of the key's two buckets, and reads an item's key only where the slot's word names the key's tag.
-/// Condition: the words reach as far as the shape says, and wherever the key stands it does so under its tag, in one of its buckets.
+/// Condition: the words reach as far as the shape says, and wherever the key is, it is under its tag, in one of its buckets.
 #[inline(always)]
 pub fn find<const V: usize, P: Peek>(
     checked: &Checked,
@@ -65,7 +65,7 @@ pub fn find<const V: usize, P: Peek>(
     find_by::<V, P>(checked, peek, key, checked.parts(key))
 }
 
-/// The same, for a caller that has worked out the key's parts. Condition: as for `find`, and the parts are the key's.
+/// Like `find`, for a caller that has computed the key's parts. Condition: as for `find`, and the parts are the key's.
 #[inline(always)]
 pub fn find_by<const V: usize, P: Peek>(
     checked: &Checked,
@@ -84,7 +84,7 @@ pub fn find_by<const V: usize, P: Peek>(
 {
     // A copy, which stays in registers while words are read.
     let table = *checked;
-    // Many keys stand in their second bucket: its slots are asked for while the processor still waits for those of the first.
+    // Many keys are in their second bucket: this loads its slots while the processor still waits for those of the first.
     touch_bucket_if_large(&table, peek, parts.second);
     let base = table.slot_word(parts.tag, 0);
     if let Some(found) = find_in::<V, P>(&table, peek, key, base, parts.first) {
@@ -93,7 +93,7 @@ pub fn find_by<const V: usize, P: Peek>(
     find_in::<V, P>(&table, peek, key, base, parts.second)
 }
 
-/// The slot in which the key stands, for a caller that knows its item: it looks for the word that names the item under the key's
+/// The slot that has the key, for a caller that knows its item: it looks for the word that names the item under the key's
 /// tag, and reads no item. Condition: as for `find`, the parts are the key's, and the item's key is this one.
 #[inline(always)]
 pub fn place_of<const V: usize, P: Peek>(

@@ -1,4 +1,4 @@
-//! Where a key stands, and how to make room for one more.
+//! Where a key is, and how to make room for one more.
 //!
 //! `find` gives a key's slot and item, and a `Finder` a least path of displacements to an empty slot, breadth first. A
 //! `Sweep` is CLOCK's hand on its way round the items, and `FreeItems` keeps those that no slot names. The words of the

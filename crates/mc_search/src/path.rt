@@ -10,7 +10,7 @@ use arrayvec::ArrayVec;
 use mc_words::Place;
 
 /// How to make room for a key: the item at the last place moves to the hole, the item at the place before it to
-/// the place that became empty, and so on. The key then goes to the first place, or to the hole where there is none.
+/// the place that became empty, and so on. The key is then put into the first place, or into the hole if the path has no place.
 #[derive(Drop)]
 pub struct Path {
     pub places: ArrayVec<Place, 8>,
@@ -34,7 +34,7 @@ fn index_of(places: &[Place], place: Place) -> Option<usize>
 impl Path {
     ghost use Rattle.mc_search.specs.Paths.{IsCut, direct_path};
 
-    /// The path that moves nothing: the key goes to the hole.
+    /// The path that moves nothing: the key is put into the hole.
     pub fn direct(hole: Place) -> Path
         ensures { result ≡ direct_path hole }
     {
@@ -44,7 +44,7 @@ impl Path {
         }
     }
 
-    /// Where the key goes.
+    /// Where the key is put.
     pub fn first(&self) -> Place
         ensures { result ≡ first_place self.now.places.items self.now.hole }
     {

@@ -16,7 +16,7 @@ pub(crate) struct Entry {
     pub(crate) depth: u8,
 }
 
-/// Puts the entry at the end, unless its bucket is there already; tells whether it did.
+/// Puts the entry at the end, unless its bucket is there already. Returns whether it did.
 pub(crate) fn add(queue: &mut Vec<Entry>, seen: &mut Vec<bool>, entry: Entry) -> bool
     requires queue { IsQueue queue.old.items seen.old.items }
     requires room { length seen.old.items ≤ vec_capacity queue.old }

@@ -30,14 +30,14 @@ fn value_at<const V: usize, P: Peek>(checked: &Checked, peek: &mut P, item: u32)
 /// What a table holds of a key.
 #[derive(Clone, Copy)]
 pub struct Held<const V: usize> {
-    /// The item at which the key stands.
+    /// The key's item.
     pub item: u32,
     pub value: [u64; V],
     /// The moment of the key's last put.
     pub since: u64,
 }
 
-/// What an item holds at which a key stands. Condition: the words agree with some history, and no deed runs.
+/// What the item of a key holds. Condition: the words agree with some history, and no deed runs.
 #[inline(always)]
 pub fn held_at<const V: usize, P: Peek>(checked: &Checked, peek: &mut P, item: u32) -> Held<V>
     requires width { IsWidth V }
@@ -53,7 +53,7 @@ pub fn held_at<const V: usize, P: Peek>(checked: &Checked, peek: &mut P, item: u
     Held { item, value, since }
 }
 
-/// The item at which the key stands, its value and its stamp. Condition: the words agree with some history, and no deed runs.
+/// The key's item, its value and its stamp. Condition: the words agree with some history, and no deed runs.
 pub fn read<const V: usize, P: Peek>(checked: &Checked, peek: &mut P, key: u64) -> Option<Held<V>>
     requires width { IsWidth V }
     requires agrees { (h : List (Change V)) × Agrees V (shape_of checked.now) (P.words peek.old) None h }

@@ -16,19 +16,19 @@ use crate::word::{key_in, slot_at};
 use mc_theory::Peek;
 use mc_words::{Checked, KeyParts, Place};
 
-/// A path of one place: the key that stands there moves to the hole.
+/// A path of one place: the key in it moves to the hole.
 #[derive(Clone, Copy)]
 pub struct OneMove {
     pub from: Place,
     pub hole: Place,
 }
 
-/// Where a key finds room. It is small, and a path of several moves is large: that one lies where the caller keeps it.
+/// Where a key finds room. It is small, and a path of several moves is large: the caller keeps that one.
 #[derive(Clone, Copy)]
 pub enum Room {
     /// A hole of one of its two buckets.
     Hole(Place),
-    /// A place of one of them, once the key that stands there has moved to a hole.
+    /// A place of one of them, once the key in it has moved to a hole.
     Move(OneMove),
     /// The place at which the kept path begins.
     Path,
@@ -37,8 +37,8 @@ pub enum Room {
 impl Room {
     ghost use Rattle.mc_search.specs.Paths.{IsCut, path_of_room};
 
-    /// The room that is left once the victim is taken out: where the key that was to move is the victim, its place is a hole. A kept
-    /// path is cut where it lies.
+    /// The room that is left once the victim is taken out: if the key that was to move is the victim, its place is a hole. A kept path is
+    /// cut in place.
     #[inline(always)]
     pub fn cut_at(self, victim: Place, path: &mut Path) -> Room
         ensures { IsCut victim (path_of_room path.old self).places.items (path_of_room path.old self).hole (path_of_room path.new result).places.items (path_of_room path.new result).hole }

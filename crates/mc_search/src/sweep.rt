@@ -1,7 +1,7 @@
 //! The search for an item whose recency bit is clear.
 ghost use Rattle.std.specs.Prelude.{ℕ, ◌≡◌, ◌+◌, ◌*◌, ◌^◌, ◌%◌, ◌<◌, ◌++◌, [], ◌∷◌, List, length, MatchOption, Some, None};
 
-/// The hand goes round the items, at most twice, and reads their bits until one is clear.
+/// The hand passes over the items, at most twice, and reads their bits until one is clear.
 #[derive(Clone, Copy, Debug, PartialEq, Eq)]
 pub struct Sweep {
     items: u32,
@@ -14,8 +14,7 @@ pub struct Sweep {
 impl Sweep {
     ghost use Rattle.mc_search.specs.Sweeps.{Swept, HasSwept, IsOver, next_item, victim_of};
 
-    /// A sweep that begins where the hand stands.
-    /// Condition: the hand stands at one of the items, of which there are fewer than 2^31.
+    /// A sweep that begins where the hand is. Condition: the hand is at one of the items, of which there are fewer than 2^31.
     pub fn start(items: u32, hand: u32) -> Sweep
         requires hand { hand < items }
         requires few { items < 2 ^ 31 }
@@ -62,7 +61,7 @@ impl Sweep {
         self.victim
     }
 
-    /// Where the hand stands now: one past the item that was read last.
+    /// Where the hand is now: one past the item that was read last.
     pub fn hand(&self) -> u32
         ensures stands { (items hand : ℕ) (rs : List Swept) → HasSwept self.now items hand rs → result ≡ (hand + length rs) % items }
         ensures home { (items hand : ℕ) (rs : List Swept) → HasSwept self.now items hand rs → length rs ≡ 2 * items → result ≡ hand }

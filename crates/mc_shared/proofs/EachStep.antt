@@ -67,7 +67,7 @@ joins_in l own log sums at j ne (Writes acts tally) f = absurd (ne f.1)
 joins_in l own log sums at j ne (Reads a front done) f = f
 joins_in l own log sums at j ne (Both acts tally a front done) f = absurd (ne f.1)
 
--- a view with as many marks in the place of another
+-- a view with as many marks instead of another
 pub same_marks : (i id : ℕ) (views : List View) (v w : View) → get_elem? views id ≡ some v → marks_in i (done_of w) ≡ marks_in i (done_of v) → marks_of i (set views id w) ≡ marks_of i views
 same_marks i id views v w at e = let t = total_set (λ (u : View). marks_in i (done_of u)) views id v w at in omega arith
 
@@ -211,7 +211,7 @@ module _ (l : Layout) (id slots : ℕ) (c : List (ℕ × Unit {0})) where
       (m.0, m.1, m.2, subst (λ (x : ℕ). Ruled l (stepped s n x id c m.0 m.1)) (or_same (recency_bit i) w e) m.3, ((λ _. m.4), (λ z. absurd (omega (arith, e, z))))))
       (λ ne. (v, keeps, tt, unmoved s r n v v at (λ k. refl) (λ a. refl) (λ z. z) (r.views id v at), ((λ z. absurd (ne z)), (λ _. refl))))
 
-  -- a load of the word that holds the bit at which the hand stands. Where it finds the bit clear, it is the very step that clears it
+  -- a load of the word that holds the bit at the hand. If it finds the bit clear, it is the very step that clears it
   pub passes : (acts : List Made) (tally : Tally) (i : ℕ) (st : Step (Unit {0})) → MayMake l acts (Hand i)
       → Allows (Ruled l) slots id (writer_view l acts tally, c) (recency_place l.width l.shape i) (λ w. w) (AddsActIfClear (Hand i) st (writer_view l acts tally, c))
   passes acts tally i st may s r long at fits =

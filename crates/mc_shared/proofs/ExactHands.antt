@@ -1,4 +1,4 @@
--- The rule of the hand: whatever step adds its act to the writer's record tells the bit that it clears.
+-- The rule of the hand: whatever step adds its act to the writer's record reports the bit that it clears.
 use Rattle.std.proofs.Common.{◌≡◌, Bool, ℕ, ◌<◌, eqb, eq-eqb, ne_eqb, List, [], ◌∷◌, ◌++◌, length, set, refl, ap, sym, ◌∙◌, subst, arith}
 use Rattle.std.specs.Prelude.{if◌then◌else◌}
 use mathlib.Core.Option.{some}

@@ -146,7 +146,7 @@ readings_are_newest l s t acts e h =
       λ n at low. one_word 0 l (layout_state l acts).words e.access n _ _ at word (reads_its_word l.width l.shape (layout_state l acts).words e.access n at).0 ∙ (ap (λ (z : List Made). word_after l z n) (sym h.made) ∙ sym (r.words n low)),
     )
 
--- a load that tells a reading is a step that enters it
+-- a load that returns a reading is a step that enters it
 pub reads_are_entries : ReadsAreEntries
 reads_are_entries l s seat slots place number old done held a st allows rule fits mine small =
     let next = allows s rule fits mine small in
@@ -177,7 +177,7 @@ load_stands (access.Stamp k) front made is h = h
 load_stands access.Moment front made is h = h
 load_stands (access.Mark k) front made is h = absurd is
 
--- so no step enters a reading at an older front, whatever word it tells, once another act was made
+-- so no step enters a reading at an older front, whatever word it has, once another act was made
 pub no_stale_reading : (l : Layout) (id slots : ℕ) (c : List (ℕ × Unit {0})) (number : ℕ) (old : List Made) (done : List Reading) (n : ℕ) (f : ℕ → ℕ) (told : ℕ → SeatView → Type 0) (s : table.State (Unit {0}) View) → (h : Stands l id slots c number old done s n)
     → ((me : SeatView) → told (get_or s.words n 0) me → (new : List Made) × (e : Reading) × IsReading e.access × (e.front < length h.acts) × ((number' : ℕ) × (me.0 ≡ reader_view l number' new (done ++ e ∷ []))))
     → Allows (Ruled l) slots id (reader_view l number old done, c) n f told → ⊥

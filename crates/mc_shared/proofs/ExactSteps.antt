@@ -25,7 +25,7 @@ pub rise_later : (a f : ℕ) (ts : List Note) (g h : ℕ) → g ≤ h → StepsR
 rise_later a f [] g h le r = omega (arith, le, r)
 rise_later a f (t ∷ ts) g h le r = (r.0, rise_later a (steps_by a t) ts g h le r.1)
 
--- one more note may follow that tells as many entries as there are
+-- one more note may follow, if it names as many entries as there are
 pub rise_push : (a f : ℕ) (ts : List Note) (t : Note) (g : ℕ) → steps_by a t ≡ g → StepsRise a f ts g → StepsRise a f (ts ++ t ∷ []) g
 rise_push a f [] t g e r = (omega (arith, e, r), omega (arith, e))
 rise_push a f (x ∷ xs) t g e r = (r.0, rise_push a (steps_by a x) xs t g e r.1)
@@ -101,7 +101,7 @@ abbrev pub steps_from : ℕ → ℕ → List View → List ℕ
 steps_from a zero views = []
 steps_from a (suc k) views = steps_in a views ∷ steps_from (suc a) k views
 
--- what is noted beside an act, in a table with these views and so many readers
+-- what is noted beside an act, in a table with these views and `readers` readers
 abbrev pub note_at : Act → ℕ → List View → Note
 note_at a readers views = record { marks = sum_at a views; steps = steps_from 0 readers views }
 

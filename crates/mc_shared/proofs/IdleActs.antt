@@ -29,7 +29,7 @@ rise_at a f [] (y ∷ ys) g zero t r e = let same : steps_by a y ≡ steps_by a 
 rise_at a f [] (y ∷ ys) g (suc k) t r e = rise_at a (steps_by a y) [] ys g k t r.1 e
 rise_at a f (x ∷ xs) ts g k t r e = rise_at a (steps_by a x) xs ts g k t r.1 e
 
--- where a reading stands, as a list of notes tells
+-- where a reading stands, according to a list of notes
 stood : (acts : List Made) (notes : List Note) (number : ℕ) (done rest : List Reading) (r : Reading) → InOneOrder acts notes number (done ++ r ∷ rest) → IsReading r.access → r.front ≡ made_by number (length done) notes
 stood acts notes number done rest r order reads =
     let here : StandAt number notes (length done) (r ∷ rest) = subst (λ (j : ℕ). StandAt number notes j (r ∷ rest)) (omega arith) (stand_drop number 0 notes done (r ∷ rest) order.exact.fronts) in

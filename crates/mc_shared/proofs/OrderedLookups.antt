@@ -36,7 +36,7 @@ made_none : (a n f : ℕ) (ts : List Note) (g : ℕ) → n < f → StepsRise a f
 made_none a n f [] g l r = omega arith
 made_none a n f (t ∷ ts) g l r = let h = made_none a n (steps_by a t) ts g (omega (arith, l, r.0)) r.1 in omega (arith, h, l, r.0)
 
--- the acts that were made when a record had at most n entries are the first so many: just those with a note of at most n
+-- the acts that were made when a record had at most n entries are a first part of all: just those with a note of at most n
 pub made_before : (a n f : ℕ) (ts : List Note) (g k : ℕ) (t : Note) → StepsRise a f ts g → get_elem? ts k ≡ some t → (steps_by a t ≤ n → k < made_by a n ts) × (k < made_by a n ts → steps_by a t ≤ n)
 made_before a n f [] g k t r e = absurd (some-ne-none t (sym e))
 made_before a n f (x ∷ xs) g zero t r e =

@@ -16,12 +16,12 @@ use Rattle.mc_words.specs.declared.shape.Shape.{Shape}
 use Rattle.mc_shared.specs.declared.layout.Layout.{Layout}
 use Rattle.mc_shared.specs.TableRule.{bit_in}
 
--- a recency bit lies within its word
+-- a recency bit is within its word
 pub bit_low : (i : ℕ) → recency_bit i < 64
 unfolding recency_bit
 bit_low i = omega arith
 
--- the recency word of an item lies within the table
+-- the recency word of an item is within the table
 pub recency_below : (V : ℕ) (sh : Shape) (i : ℕ) → i < sh.items → recency_place V sh i < all_words V sh
 unfolding recency_word recency_words
 recency_below V sh i l = omega arith

@@ -39,7 +39,7 @@ record_longer l front longer done p r = record {
   rise = (readings_grow l.width).later 0 (length front) (length longer) done r.rise (front_length front longer p);
 }
 
--- it may go on with what is read from the front that the reader is at
+-- it may continue with what is read from the front that the reader is at
 pub record_read : (l : Layout) (front : List Made) (done : List Reading) (a : Access) (word : ℕ) → IsRecord l front done → IsWordOf l.width l.shape (layout_state l front).words a word → IsRecord l front (done ++ reading a word front ∷ [])
 record_read l front done a word r is = record {
   read = (readings_grow l.width).read l.shape front done (reading a word front) r.read (subst (λ (s : State l.width). IsWordOf l.width l.shape s.words a word) (sym (front_all l.width l.shape front (length front) (omega arith))) is, tt);

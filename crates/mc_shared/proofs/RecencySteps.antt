@@ -41,7 +41,7 @@ low_bits l a n x g quiet low t words long k many c =
 low_past : (l : Layout) (n x : ℕ) → n < word_count l.width l.shape → StepPast l n (λ _. x)
 low_past l n x low words long k past = bit_elsewhere l words n x k (λ e. omega (arith, e))
 
--- an act off the recency bits keeps what each item's bit tells
+-- an act off the recency bits keeps what each item's bit says
 pub store_bits : (l : Layout) (acts : List Made) (a : Act) (n x : ℕ) (g : ℕ → ℕ) → IsOffBits a → MayMake l acts a → WritesAt l acts a n x → StepBits l a n (λ _. x) g
 store_bits l acts (Open key d) n x g st may w = low_bits l (Open key d) n x g (λ t k bit many. refl) (write_low l acts (Open key d) n x may w)
 store_bits l acts (Slot p y) n x g st may w = low_bits l (Slot p y) n x g (λ t k bit many. refl) (write_low l acts (Slot p y) n x may w)

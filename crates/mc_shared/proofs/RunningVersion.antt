@@ -106,7 +106,7 @@ after_acted {V} {before} {after} {a} {b} r h s runs = record {
 pub inner_acted : {V : ℕ} {before after : WriterRecord} {a : Act} {b : ℕ} (r : Running) → IsInner a → IsAllowed before.of.layout.shape (state_of V before.of.layout.shape before.acts) a → HasActed before after a b → IsRunning V before r → IsRunning V after r
 inner_acted {V} {before} {after} {a} {b} r is may h run = after_acted r h run.shape (inner_runs V before.of.layout.shape before.acts a b r run.shape is may run.runs)
 
--- the same, for a caller that was told which act it is
+-- the same, for a caller that knows which act it is
 pub inner_performed : {V : ℕ} {before after : WriterRecord} {o : Opening} {act a : Act} {b : ℕ} (r : Running) → before.of ≡ o → act ≡ a → IsInner a → IsAllowed o.layout.shape (state_of V o.layout.shape before.acts) act → HasActed before after a b → IsRunning V before r → IsRunning V after r
 inner_performed {V} {before} {after} {o} {act} {a} {b} r of is inner may h run =
     inner_acted r inner (subst (λ (y : Opening × Act). IsAllowed y.0.layout.shape (state_of V y.0.layout.shape before.acts) y.1) (λ i. (sym of i, is i)) may) h run

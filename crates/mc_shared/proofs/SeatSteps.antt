@@ -166,7 +166,7 @@ module _ {V : ℕ} {sh : Shape} {t : TableId} {me : SeatView} {o now : Opening} 
       let word : x ≡ word_after (layout_of V w.of.layout.shape) w.acts r.place = subst (λ (y : Layout × List Made). x ≡ word_after y.0 y.1 r.place) (λ i. ((sym size_is ∙ ap (λ (p : Opening). layout_of V p.layout.shape) (sym of)) i, acts_is i)) is in
       opened_acted r shape place (next ∙ ap (λ y. y + 1) (version_is (state_of V w.of.layout.shape w.acts).words _ r.place x place word)) h
 
--- what an allowed act names is of the table, for a caller that knows the number of words of a value
+-- what an allowed act names belongs to the table, for a caller that knows the number of words of a value
 pub named_in : (V : ℕ) (sh : Shape) (o : Opening) (w : WriterRecord) (a : Act) → o.layout ≡ layout_of V sh → w.of ≡ o → IsRun w.of.layout w.acts → IsAllowed o.layout.shape (state_of V o.layout.shape w.acts) a → NamesIn V sh a
 named_in V sh o w a e of run h =
     let r : IsRun (layout_of V sh) w.acts = subst (λ (l : Layout). IsRun l w.acts) (ap (λ (p : Opening). p.layout) of ∙ e) run in

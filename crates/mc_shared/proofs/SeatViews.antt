@@ -49,6 +49,6 @@ all_of l = all_words l.width l.shape
 pub read_seat : (l : Layout) (me me' : SeatView) → me ≡ (reader_view l (number_of me.0) (front_of me.0) (done_of me.0), []) → me' ≡ (reader_view me.0.layout (number_of me.0) (front_of me'.0) (done_of me'.0), me.1) → me' ≡ (reader_view l (number_of me.0) (front_of me'.0) (done_of me'.0), [])
 read_seat l me me' is e = e ∙ (λ i. (reader_view (ap (λ (m : SeatView). m.0.layout) is i) (number_of me.0) (front_of me'.0) (done_of me'.0), ap (λ (m : SeatView). m.1) is i))
 
--- an entry may be told with an equal access, of the view as the seat has it
+-- an entry may be written with an equal access, of the view as the seat has it
 pub read_one : (l : Layout) (me me' : SeatView) (a b : Access) (x : ℕ) → a ≡ b → me ≡ (reader_view l (number_of me.0) (front_of me.0) (done_of me.0), []) → ReadsOne me.0.layout (front_of me.0) (done_of me.0) a x (front_of me'.0) (done_of me'.0) → ReadsOne l (front_of me.0) (done_of me.0) b x (front_of me'.0) (done_of me'.0)
 read_one l me me' a b x same is r = subst (λ (y : Layout × Access). ReadsOne y.0 (front_of me.0) (done_of me.0) y.1 x (front_of me'.0) (done_of me'.0)) (λ i. (ap (λ (m : SeatView). m.0.layout) is i, same i)) r

@@ -43,7 +43,7 @@ write_small l acts a n x may e =
     let fits : FitsIn (layout_state l acts).words (Some (n, x)) = subst (FitsIn (layout_state l acts).words) e both.1 in
     fits.1
 
--- so it lies in the first part of the table
+-- so it is in the first part of the table
 lies_before : (l : Layout) (acts : List Made) (a : Act) (n x : ℕ) → MayMake l acts a → write_of l.width l.shape (layout_state l acts).words (layout_state l acts).phase a ≡ Some (n, x) → Lies l acts a n x
 lies_before l acts a n x may e =
     let both = writes_its_word l.width l.shape acts (with_bit a 0) may.shape may.lawful may.allowed may.few in

@@ -40,8 +40,8 @@ pub record IsExact (a : ℕ) (notes : List Note) (done : List Reading) : Type 0 
   pub rise : StepsRise a 0 notes (length done)
   pub fronts : StandAt a notes 0 done
 
--- the notes are those of these acts, and the entries of the reader with this number stand in the order that they tell: each reading
--- comes behind just the acts of its front
+-- the notes are those of these acts, and the entries of the reader with this number stand in the order of these notes: each reading comes
+-- right after the acts of its front
 pub record InOneOrder (acts : List Made) (notes : List Note) (number : ℕ) (done : List Reading) : Type 0 where
   pub paired : length notes ≡ length acts
   pub exact : IsExact number notes done

@@ -46,8 +46,8 @@ ReadingsAreNewest =
     StandsAt e.access e.front (length acts) × IsWordOf l.width l.shape (layout_state l acts).words e.access e.word ×
     ((n : ℕ) → place_read l.width l.shape e.access ≡ Some n → n < word_count l.width l.shape → e.word ≡ slice_index s.words n)
 
--- a running read is such a step: whatever proof its caller has that the rule allows a load that tells a reading, from each state that
--- it meets the load leads to one with that reading more, of the word that it found
+-- a running read is such a step: for whatever proof its caller has that the rule allows a load that returns a reading, the load leads from
+-- each state that it meets to one with that reading more, of the word that it found
 abbrev pub ReadsAreEntries : Type 0
 ReadsAreEntries =
     (l : Layout) (s : table.State (Unit {0}) View) (seat slots place number : ℕ) (old : List Made) (done : List Reading) (held : List (ℕ × Unit {0})) (a : Access) (st : table.Step (Unit {0})) →

@@ -8,17 +8,18 @@ use Rattle.mc_theory.specs.declared.act.Act.{Act}
 use Rattle.mc_theory.specs.declared.act.Act.TheVariants.{Hand, Mark}
 use Rattle.mc_shared.specs.Views.{Note}
 
--- of one item: 1 where the writer marked it since the hand was there, how many marks readers had made when the hand was there, and how much the hand told wrongly
+-- of one item: 1 where the writer marked it since the hand was there, how many marks readers had made when the hand was there, and how much
+-- the hand reported wrongly
 pub record Trace : Type 0 where
   pub own : ℕ
   pub seen : ℕ
   pub wrong : ℕ
 
--- the bit that is due after so many marks of readers: 1 where the item was marked since the hand was there, and else 0
+-- the bit that is due after this many marks of readers: 1 if the item was marked since the hand was there, else 0
 abbrev pub due_bit : Trace → ℕ → ℕ
 due_bit t marks = 1 - (1 - (t.own + (marks - t.seen)))
 
--- the hand told the bit and cleared it, after so many marks
+-- the hand reported the bit and cleared it, after this many marks
 abbrev pub trace_swept : Trace → ℕ → ℕ → Trace
 trace_swept t bit marks = record { own = 0; seen = marks; wrong = t.wrong + (bit - due_bit t marks) + (due_bit t marks - bit) + (t.seen - marks) }
 
@@ -52,7 +53,7 @@ abbrev pub marks_in : ℕ → List Reading → ℕ
 marks_in i [] = 0
 marks_in i (r ∷ rs) = is_mark_of i r.access + marks_in i rs
 
--- the bit is the one that is due, and the hand told none wrongly
+-- the bit is the one that is due, and the hand reported none wrongly
 pub record Coherent (t : Trace) (marks bit : ℕ) : Type 0 where
   pub is : bit ≡ due_bit t marks
   pub seen : t.seen ≤ marks

@@ -10,7 +10,7 @@ use Rattle.mc_theory.specs.States.{State}
 use Rattle.mc_shared.specs.Records.{WriterRecord}
 use Rattle.mc_shared.specs.declared.running.Running.{Running}
 
--- where the version of the running deed's key lies in the words, and what it is. Where no deed runs, it may be any
+-- where the version of the running deed's key is in the words, and its value. If no deed runs, it may be any
 abbrev pub RunsAt : Shape → List ℕ → Option ℕ → Running → Type 0
 RunsAt sh w None r = Unit {0}
 RunsAt sh w (Some k) r = (r.place ≡ version_place (stripe_of sh k)) × (r.count ≡ version w (stripe_of sh k))

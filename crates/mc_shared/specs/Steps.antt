@@ -1,4 +1,4 @@
--- What each step on a seat tells: what is written where, and what the seat's view is after it.
+-- What each step on a seat ensures: what is written where, and what the seat's view is after it.
 use Rattle.std.specs.Prelude.{◌≡◌, ℕ, List, [], ◌∷◌, ◌++◌, length, Some}
 use Rattle.std.specs.Int.{bit_at}
 use Rattle.atomic_table.specs.Table.{Me, Step}

@@ -70,7 +70,7 @@ pub record Ruled (l : Layout) (s : table.State (Unit {0}) View) : Type 0 where
   -- each reader is on just one seat, and readers have the numbers below that of readers
   pub single : (a : ℕ) → a < tally.readers → seats_of a s.views ≡ 1
   pub unseated : (a : ℕ) → tally.readers ≤ a → seats_of a s.views ≡ 0
-  -- a recency bit is set just where its item was marked since the hand was there, and the hand told each bit as it was
+  -- a recency bit is set just if its item was marked since the hand was there, and the hand reported each bit as it was
   pub bits : (i : ℕ) → i < l.shape.items → Coherent (trace_of i log tally.notes) (marks_of i s.views) (bit_in l s.words i)
   -- bits past the last item are 0
   pub past : (i : ℕ) → l.shape.items ≤ i → bit_in l s.words i ≡ 0

@@ -28,7 +28,7 @@ pub data Role : Type 0 where
   -- the writer's, with a reader's joined to it
   Both : (acts : List Made) (tally : Tally) (number : ℕ) (front : List Made) (done : List Reading) → Role
 
--- of a table with so many readers, and no acts
+-- of a table with this many readers, and no acts
 abbrev pub tally_for : ℕ → Tally
 tally_for n = record { readers = n; notes = [] }
 
@@ -137,6 +137,6 @@ with_bit a bit = record { act = a; bit = bit }
 abbrev pub IsFrontOf : List Made → List Made → Type 0
 IsFrontOf front acts = (more : List Made) × (acts ≡ front ++ more)
 
--- where the words of a table of this shape lie, if a value has V words
+-- where the words of a table of this shape are, if a value has V words
 abbrev pub layout_of : ℕ → Shape → Layout
 layout_of V sh = record { shape = sh; width = V }

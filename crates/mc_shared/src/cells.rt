@@ -68,7 +68,7 @@ impl<const V: usize> Cells<V> {
         self.recency_start
     }
 
-    /// Where the word that holds the recency bit of an item lies.
+    /// Where the word that holds the recency bit of an item is.
     #[inline(always)]
     #[tactic(auto, unfolding(mc_words::specs::Recency::recency_word))]
     pub(crate) fn recency_place(&self, i: u32) -> usize
@@ -86,7 +86,8 @@ impl<const V: usize> Cells<V> {
     }
 }
 
-/// A table with empty records, and as many readers' seats as are asked for, with the numbers from 0 on. `Err(NoMemory)` where the words or the seats can't be stored.
+/// A table with empty records, and the requested number of readers' seats, numbered from 0. `Err(NoMemory)` if the words or the seats can't
+/// be stored.
 /// Condition: a value has from 1 to 8 words, and there are from 1 to 1024 readers.
 #[tactic(auto, using(crate::proofs::NewReaders::all_new))]
 pub fn open<const V: usize>(

@@ -68,7 +68,7 @@ fn lay(
     Ok((RuledWords { table }, seat))
 }
 
-/// A table with empty records, and as many readers' seats as are asked for.
+/// A table with empty records, and the requested number of readers' seats.
 pub(crate) fn open_words(
     alloc: Global,
     layout: Layout,

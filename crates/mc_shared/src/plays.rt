@@ -1,4 +1,4 @@
-//! What seats know, the rule of a table, and what each kind of step tells.
+//! What seats know, the rule of a table, and what each kind of step ensures.
 use crate::layout::Layout;
 use atomic_table::{Join, Play, Split, TableRule};
 use std::marker::{Brand, Model, PhantomData};

@@ -41,7 +41,7 @@ pub fn read<const V: usize>(cells: &Cells<V>, reader: &mut ReaderSeat, access: A
     read_at(cells, reader, access, place)
 }
 
-/// The same, for a caller that has worked out the place of the access.
+/// Like `read`, for a caller that has computed the place of the access.
 /// Condition: the place is that of the access, and the seat one of these words.
 pub fn read_at<const V: usize>(
     cells: &Cells<V>,
@@ -86,7 +86,7 @@ pub fn mark<const V: usize>(cells: &Cells<V>, reader: &mut ReaderSeat, i: u32)
     reader.badge = seat.into_badge();
 }
 
-/// The same as `mark`. Where the bit is set already, the load that finds it so is the mark, and nothing is written.
+/// Like `mark`. If the bit is set already, the load that finds it so is the mark, and nothing is written.
 pub fn mark_unless_set<const V: usize>(cells: &Cells<V>, reader: &mut ReaderSeat, i: u32)
     requires of { reader.old.of ≡ cells.now }
     requires item { i < cells.now.layout.shape.items }

@@ -3,7 +3,7 @@ ghost use Rattle.std.specs.Prelude.{◌≡◌, ℕ, []};
 
 use crate::seats::WriterSeat;
 
-/// Where the version of the running deed's key lies, and what it is now. Whoever opens a deed hands it on to the close: no seat keeps
+/// Where the version of the running deed's key is, and its value now. Whoever opens a deed hands it on to the close: no seat keeps
 /// it, so nothing but the deed's own words is stored between the open and the close.
 #[derive(Clone, Copy)]
 pub struct Running {

@@ -39,7 +39,7 @@ pub fn open_deed<const V: usize>(
     open_deed_by(cells, writer, key, deed, parts)
 }
 
-/// The same, for a caller that has worked out the key's parts. Condition: as for `open_deed`, and the parts are the key's.
+/// Like `open_deed`, for a caller that has computed the key's parts. Condition: as for `open_deed`, and the parts are the key's.
 #[inline(always)]
 pub fn open_deed_by<const V: usize>(
     cells: &Cells<V>,
@@ -98,7 +98,7 @@ pub fn write_item<const V: usize>(
     store_as_writer::<Brand>(&cells.ruled, &mut writer.seat, act, at, word);
 }
 
-/// The same, for a caller that has worked out where the items begin.
+/// Like `write_item`, for a caller that has computed where the items begin.
 #[inline(always)]
 pub fn write_item_from<const V: usize>(
     cells: &Cells<V>,
@@ -154,7 +154,7 @@ pub fn set_mark<const V: usize>(cells: &Cells<V>, writer: &mut WriterSeat, i: u3
     set_mark_as_writer::<Brand>(&cells.ruled, &mut writer.seat, i, place, bit);
 }
 
-/// The same as `set_mark`. Where the bit is set already, the load that finds it so is the mark, and nothing is written.
+/// Like `set_mark`. If the bit is set already, the load that finds it so is the mark, and nothing is written.
 pub fn set_mark_unless_set<const V: usize>(cells: &Cells<V>, writer: &mut WriterSeat, i: u32)
     requires of { writer.old.of ≡ cells.now }
     requires allowed { IsAllowed cells.now.layout.shape (state_of V cells.now.layout.shape writer.old.acts) (Mark i) }
@@ -165,7 +165,7 @@ pub fn set_mark_unless_set<const V: usize>(cells: &Cells<V>, writer: &mut Writer
     set_mark_unless_set_as_writer::<Brand>(&cells.ruled, &mut writer.seat, i, place, bit);
 }
 
-/// Reads the recency bit of the item at which the hand stands, and clears it: one `fetch_and`.
+/// Reads the recency bit of the item at the hand, and clears it: one `fetch_and`.
 /// Condition: the seat is that of these words, and the act is allowed now.
 pub fn turn_hand<const V: usize>(cells: &Cells<V>, writer: &mut WriterSeat, i: u32) -> u64
     requires of { writer.old.of ≡ cells.now }
@@ -177,7 +177,7 @@ pub fn turn_hand<const V: usize>(cells: &Cells<V>, writer: &mut WriterSeat, i: u
     turn_hand_as_writer::<Brand>(&cells.ruled, &mut writer.seat, i, place, bit)
 }
 
-/// The same as `turn_hand`, for a caller that has worked out where the recency words begin. Where the bit is clear already, the load
+/// Like `turn_hand`, for a caller that has computed where the recency words begin. If the bit is clear already, the load
 /// that finds it so is the reading, and nothing is written.
 #[inline(always)]
 #[tactic(auto, unfolding(mc_words::specs::Recency::recency_word))]
@@ -227,7 +227,7 @@ pub fn perform<const V: usize>(
 }
 
 /// A load by the writer of a word that only the writer changes. It changes no record.
-/// Condition: the seat is that of these words, and the place lies before the recency words.
+/// Condition: the seat is that of these words, and the place is before the recency words.
 pub fn fetch<const V: usize>(cells: &Cells<V>, writer: &mut WriterSeat, n: usize) -> u64
     requires of { writer.old.of ≡ cells.now }
     requires place { n < word_count V cells.now.layout.shape }

@@ -48,7 +48,7 @@ DeedFacts V sh w h (Moving k) = (v : List ℕ) × (map_value h k ≡ Some v) × 
 DeedFacts V sh w h (Moved k fresh) = (v : List ℕ) × (map_value h k ≡ Some v) × StandsTwice V sh w k fresh v
 DeedFacts V sh w h (Closing k) = AgreesAt V sh w k (map_value h k)
 
--- the words agree with the history, which is legal, and the running deed stands as it should
+-- the words agree with the history, which is legal, and the running deed is as it should be
 pub record Holds (V : ℕ) (sh : Shape) (w : List ℕ) (p : Phase) (h : List (Change V)) : Type 0 where
   pub agrees : Agrees V sh w (deed_key p) h
   pub deed : DeedFacts V sh w h p

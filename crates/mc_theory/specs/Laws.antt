@@ -23,7 +23,8 @@ AgreesAlways V =
     (sh : Shape) (acts : List Made) (f : ℕ) → IsShape sh → IsLawful V sh acts →
     Agrees V sh (front V sh acts f).words (deed_key (front V sh acts f).phase) (front V sh acts f).history × IsLegal sh.items (front V sh acts f).history
 
--- while the version of a key's stripe stays at an even number, the key stands where it stood, with the words it had, and the map says of it what it said
+-- while the version of a key's stripe stays at an even number, the key stands where it stood, with the same words, and the map holds the
+-- same of it
 abbrev pub StaysWhileEven : ℕ → Type 0
 StaysWhileEven V =
     (sh : Shape) (acts : List Made) (f e g k : ℕ) → IsShape sh → IsLawful V sh acts → f ≤ e → e ≤ g →
@@ -56,7 +57,7 @@ EvictsAreClear V =
 abbrev pub CountsAlways : ℕ → Type 0
 CountsAlways V = (sh : Shape) (acts : List Made) (f : ℕ) → IsShape sh → IsLawful V sh acts → StateCounted sh (front V sh acts f)
 
--- the hand stands at an item
+-- the hand is at an item
 abbrev pub HandStays : ℕ → Type 0
 HandStays V = (sh : Shape) (acts : List Made) (f : ℕ) → IsShape sh → IsLawful V sh acts → (front V sh acts f).hand < sh.items
 
@@ -64,6 +65,6 @@ HandStays V = (sh : Shape) (acts : List Made) (f : ℕ) → IsShape sh → IsLaw
 abbrev pub ChangesFit : ℕ → Type 0
 ChangesFit V = (sh : Shape) (acts : List Made) (f : ℕ) → IsLawful V sh acts → All (IsChange {V = V}) (front V sh acts f).history
 
--- a lookup with so many tries left reads so many words at most
+-- a lookup with t tries left reads at most this many words
 abbrev pub LookupsAreShort : ℕ → Type 0
 LookupsAreShort V = (sh : Shape) (k t : ℕ) (rs : List Reading) (reply : Reply V) → IsLookup V sh k t rs reply → length rs ≤ t * (19 + payload V) + 1

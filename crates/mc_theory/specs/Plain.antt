@@ -1,14 +1,14 @@
--- What a lookup tells is true, in plain words: the clause `plain` of `run_new`. What it means is in the definitions below, and in
+-- What a lookup returns is true, in plain words: the clause `plain` of `run_new`. What it means is in the definitions below, and in
 -- those of the map that a history makes (`map_value`, `value_of`, `IsTrueAnswer`); no other of this project is needed.
 --
 -- Events come one after the other: each is an act of the writer, or the beginning of a reader's lookup, or the next access of
 -- one. The acts change a map: the writer opens a deed on a key, writes words, and at the moment of the deed the map changes. A
--- fill and a renewal put the value, which is the first of the words that were written, and behind it stands the stamp; a removal and an eviction take the key
--- out, a move changes nothing. The list of these changes is the history of the events.
+-- fill and a renewal put the value, which is the first of the words that were written; the stamp follows it. A removal and an eviction take
+-- the key out, a move changes nothing. The list of these changes is the history of the events.
 --
--- A lookup that has ended tells its reader, its key, its reply, and which events were its first access and its last. The reply
--- names a number of changes: no fewer than were made before the first access, and no more than were made when the last was. It
--- is what the map held of the key after so many changes of the history. A lookup that gave up, `Busy`, says nothing of the map.
+-- A lookup that has ended reports its reader, its key, its reply, and which events were its first access and its last. The reply
+-- names a number of changes: no fewer than were made before the first access, and no more than were made when the last was. It is what the
+-- map held of the key after that number of changes of the history. A lookup that gave up, `Busy`, says nothing of the map.
 use Rattle.std.specs.Prelude.{ℕ, suc, ◌≡◌, ◌+◌, ◌≤◌, ◌<◌, List, [], ◌∷◌, ◌++◌, length, take, Option, Some, None, slice_get}
 use Rattle.mc_words.specs.History.{IsTrueAnswer, value_of}
 use Rattle.mc_words.specs.declared.history.Change.{Change}
@@ -56,7 +56,7 @@ changes_by d k xs (_ ∷ acts) = changes_by d k xs acts
 unfoldable pub history_of : (V : ℕ) → List Event → List (Change V)
 history_of V es = changes_by deed.Move 0 [] (acts_in es)
 
--- the number of changes that the reply names lies between these two
+-- the number of changes that the reply names is between these two
 abbrev pub IsBetween : {V : ℕ} → ℕ → ℕ → Reply V → Type 0
 IsBetween lo hi (Found v at since) = (lo ≤ at) × (at ≤ hi)
 IsBetween lo hi (Absent at) = (lo ≤ at) × (at ≤ hi)
@@ -73,7 +73,7 @@ pub record IsSpan {V : ℕ} (es : List Event) (told : Done V) : Type 0 where
   pub unread : (n : ℕ) → begin < n → n < told.first → slice_get es n ≡ Some (Read told.reader) → ⊥
   pub alone : (n k : ℕ) → begin < n → n ≤ told.last → slice_get es n ≡ Some (Begin told.reader k) → ⊥
 
--- the lookup has its span in these events, and its reply is what the map held after a number of their changes that lies in the span
+-- the lookup has its span in these events, and its reply is what the map held after a number of their changes that is in the span
 pub record IsPlainlyTrue {V : ℕ} (es : List Event) (told : Done V) : Type 0 where
   pub span : IsSpan es told
   pub true : IsTrueAnswer (history_of V es) told.key told.reply

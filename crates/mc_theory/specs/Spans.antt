@@ -20,7 +20,7 @@ pub record IsSpanned {V : ℕ} (es : List Event) (e : Ended V) : Type 0 where
   pub start : start_of e.read ≡ length (acts_in (take e.told.first es))
   pub stop : e.stop ≡ length (acts_in (take e.told.last es))
 
--- whatever the events are: each lookup that has ended tells its first access and its last
+-- whatever the events are: each lookup that has ended reports its first access and its last
 abbrev pub EndsTellSpans : ℕ → Type 0
 EndsTellSpans V =
     (sh : Shape) (readers : ℕ) (es : List Event) (w : Trace V) → StepsAll V sh (first_trace V sh readers) es w → All (IsSpanned es) w.ended

@@ -104,7 +104,7 @@ first_read events run = first_of run.sofar
     first_of [] = events
     first_of (r ∷ rs) = run.first
 
--- the reading is of the words now, and is the one that some lookup has next
+-- the reading reads the words now, and is the one that some lookup has next
 pub record ReadsNext (V : ℕ) (sh : Shape) (w : Trace V) (run : OpenLookup) (r : Reading) : Type 0 where
   pub now : r.front ≡ length w.acts
   pub word : IsWordOf V sh (state_of V sh w.acts).words r.access r.word
@@ -112,7 +112,7 @@ pub record ReadsNext (V : ℕ) (sh : Shape) (w : Trace V) (run : OpenLookup) (r 
   pub reply : Reply V
   pub next : IsLookup V sh run.key sh.tries (run.sofar ++ r ∷ rest) reply
 
--- the lookup goes on, or ends with a reply
+-- the lookup continues, or ends with a reply
 abbrev pub EndsRead : (V : ℕ) → Shape → Trace V → ℕ → OpenLookup → Reading → Trace V → Type 0
 EndsRead V sh w r run reading x =
     (reply : Reply V) × IsLookup V sh run.key sh.tries (run.sofar ++ reading ∷ []) reply ×
@@ -144,7 +144,8 @@ Steps V sh w (Read r) x =
     (run : OpenLookup) × (reading : Reading) × (slice_get w.readers r ≡ Some (Some run)) × ReadsNext V sh w run reading × IsWithin sh w (Read r) × (
     EndsRead V sh w r run reading x ⊎ ContinuesRead V sh w r run reading x)
 
--- what an event gives that leads from one trace to the other: an access the word that it read, and the access that ends a lookup what is then told
+-- what an event that leads from one trace to the other gives: an access gives the word that it read, and the access that ends a lookup
+-- gives what is then returned
 abbrev pub EventGives : {V : ℕ} → Trace V → Event → Trace V → Stepped V → Type 0
 EventGives w (Write a) x out = out ≡ given_of (bit_of w.bits a) a
 EventGives w (Begin r k) x out = out ≡ stepped.Nothing
@@ -157,12 +158,12 @@ abbrev pub StepsAll : (V : ℕ) → Shape → Trace V → List Event → Trace V
 StepsAll V sh w [] x = x ≡ w
 StepsAll V sh w (e ∷ es) x = (mid : Trace V) × Steps V sh w e mid × StepsAll V sh mid es x
 
--- where a run stopped, the next event is refused, and not for want of memory
+-- where a run stopped, the next event is refused, and not because there is no memory
 abbrev pub StopsAt : {V : ℕ} → Shape → Trace V → List Event → Option (ℕ × Unlawful) → Type 0
 StopsAt sh w events None = Unit {0}
 StopsAt sh w events (Some stop) = (e : Event) × (slice_get events stop.0 ≡ Some e) × RefusesEvent sh w e stop.1 × (stop.1 ≢ unlawful.NoMemory)
 
--- the events lead from one trace to the other, up to the first that is refused; done is what the lookups told that ended
+-- the events lead from one trace to the other, up to the first that is refused; done is what the lookups that ended returned
 pub record HasRun (V : ℕ) (sh : Shape) (w x : Trace V) (events : List Event) (done : List (Done V)) (stopped : Option (ℕ × Unlawful)) : Type 0 where
   pub runs : StepsAll V sh w (events_made events stopped) x
   pub ended : List (Ended V)

@@ -48,7 +48,7 @@ WritesItsWord V =
     ((after_act sh (state_of V sh acts) m.act m.bit).words ≡ with_write (state_of V sh acts).words (write_of V sh (state_of V sh acts).words (state_of V sh acts).phase m.act)) ×
     FitsIn (state_of V sh acts).words (write_of V sh (state_of V sh acts).words (state_of V sh acts).phase m.act)
 
--- the slot, the item and the word of an item that an act names are of a table of this shape
+-- the slot, the item and the word of an item that an act names belong to a table of this shape
 abbrev pub NamesIn : ℕ → Shape → Act → Type 0
 NamesIn V sh (act.Slot p x) = IsPlace sh p
 NamesIn V sh (act.Item i j x) = (i < sh.items) × (j ≤ payload V)
@@ -58,7 +58,7 @@ NamesIn V sh (act.Open k d) = Unit {0}
 NamesIn V sh act.Moment = Unit {0}
 NamesIn V sh act.Close = Unit {0}
 
--- what an allowed act names is of the table
+-- what an allowed act names belongs to the table
 abbrev pub ActsNameTheTable : ℕ → Type 0
 ActsNameTheTable V =
     (sh : Shape) (acts : List Made) (a : Act) → IsShape sh → IsLawful V sh acts → IsAllowed sh (state_of V sh acts) a → NamesIn V sh a

@@ -30,7 +30,7 @@ pub enum Act {
     /// Makes the version even again.
     #[default]
     Close,
-    /// Clears the recency bit of the item at which the hand stands, and reads what it was.
+    /// Clears the recency bit of the item at the hand, and reads what it was.
     Hand(u32),
     /// Sets the recency bit of an item.
     Mark(u32),

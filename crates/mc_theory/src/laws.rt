@@ -60,7 +60,7 @@ pub fn readings_stay<const V: usize>()
     ensures { ReadingsStay V }
 {}
 
-/// How readings go on.
+/// How readings continue.
 pub fn readings_grow<const V: usize>()
     ensures { ReadingsGrow V }
 {}
@@ -85,7 +85,7 @@ pub fn words_keep_their_number<const V: usize>()
     ensures { KeepsItsWords V }
 {}
 
-/// Each word can stand in a `u64`.
+/// Each word fits a `u64`.
 pub fn words_fit<const V: usize>()
     ensures { WordsFit V }
 {}
@@ -110,17 +110,17 @@ pub fn bits_stay<const V: usize>()
     ensures { BitsStay V }
 {}
 
-/// The acts in a list of events tell the history that a trace has after them, without its words.
+/// The acts in a list of events determine the history that a trace has after them, without its words.
 pub fn events_tell_histories<const V: usize>()
     ensures { EventsTellHistories V }
 {}
 
-/// What a lookup that ended tells of its first access and its last is where these stand in the list of events.
+/// What a lookup that ended reports of its first access and its last is where these are in the list of events.
 pub fn ends_tell_spans<const V: usize>()
     ensures { EndsTellSpans V }
 {}
 
-/// Each lookup that ends has a true reply, said in terms of the list of events and of what the lookup tells: no word of the table is named of it.
+/// Each lookup that ends has a true reply, stated by the list of events and by what the lookup returns: it names no word of the table.
 pub fn traces_are_plainly_true<const V: usize>()
     ensures { TracesArePlainlyTrue V }
 {}

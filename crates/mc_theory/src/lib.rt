@@ -2,7 +2,7 @@
 //!
 //! An act is one step of the writer, an access one of a reader. A lawful list of acts is a run of the writer, and the
 //! laws of this crate say what holds of every such list, and of every lookup that reads words of it, whatever the order.
-//! Nothing here is stored in memory: a world in memory, plans and shared words stand on these laws side by side.
+//! Nothing here is stored in memory: a world in memory, plans and shared words each rest on these laws.
 //!
 //! ```text
 //! // The acts that put a key with the value 7, at item 0.

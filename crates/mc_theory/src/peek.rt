@@ -1,4 +1,4 @@
-//! Reading the words of a table, wherever they lie.
+//! Reading the words of a table, wherever they are stored.
 ghost use Rattle.std.specs.Prelude.{ℕ, ◌≡◌, ◌<◌, List, length, slice_index};
 
 /// The words of a table, read one at a time: the moment, the versions, the slots and the items.

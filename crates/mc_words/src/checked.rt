@@ -179,8 +179,8 @@ impl Checked {
         1 + self.shape.stripes as usize + 4 * self.shape.buckets as usize
     }
 
-    /// Where a word of an item is: word 0 is the key, words 1 to `V` are the value, word `V + 1` is the stamp. Condition: the item is one
-    /// of the table and has such a word, and a value has from 1 to 8 words.
+    /// Where a word of an item is: word 0 is the key, words 1 to `V` are the value, word `V + 1` is the stamp.
+    /// Condition: the item is one of the table and has such a word, and a value has from 1 to 8 words.
     pub fn item_place<const V: usize>(&self, i: u32, j: u8) -> usize
         requires width { IsWidth V }
         requires item { i < (shape_of self.now).items }
@@ -212,7 +212,8 @@ impl Checked {
         self.items_place() + self.shape.items as usize * item_stride::<V>()
     }
 
-    /// Where the word that holds the recency bit of an item is. Condition: the item is one of the table, and a value has from 1 to 8 words.
+    /// Where the word that holds the recency bit of an item is.
+    /// Condition: the item is one of the table, and a value has from 1 to 8 words.
     #[tactic(auto, unfolding(crate::specs::Recency::recency_word))]
     pub fn recency_place<const V: usize>(&self, i: u32) -> usize
         requires width { IsWidth V }

@@ -41,7 +41,7 @@ module _ (V : ℕ) (b : Books) (k : ℕ) (v : List ℕ) (p q : Pen V) (r : Repla
       → IsSamePen V p after × HasCalled V p.cells.now.layout.shape (PutCall k v) p.seat.now after.seat.now (answer.Put (Ok (storing_told b.far.value.moves.items r.storing (Some r.victim.key)))) × IsRested V b after.seat.now
   chosen_made after m = made_now V p q b b (PutCall k v) (answer.Put (Ok (storing_told b.far.value.moves.items r.storing (Some r.victim.key)))) (λ sh. replacement_acts b.far.value.moves.items sh k v r) is.readings is.layout refl is.read is.planned after m is.sweeps
 
--- a put for which the hand did not go round evicts nothing: what gives way is the key itself, which the map did not hold
+-- a put for which the hand did not turn evicts nothing: what gives way is the key itself, which the map did not hold
 pub unswept_old : (V : ℕ) (sh : Shape) (s : State V) (k : ℕ) (told : Put) → IsSweepOf V sh s [] (answer.Put (Ok told)) → map_value s.history k ≡ None → map_value s.history (giving_way k told) ≡ None
 unswept_old V sh s k (Stored at moves None) sweeps none = none
 unswept_old V sh s k (Stored at moves (Some other)) sweeps none = absurd (none-some sweeps.1.0 sweeps.1.2)

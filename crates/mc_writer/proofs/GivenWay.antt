@@ -1,4 +1,4 @@
--- Where the entry that gives way lies: the acts that are due say so.
+-- Where the entry that gives way is: the acts that are due say so.
 use Rattle.std.proofs.Common.{ℕ, ◌+◌, ◌<◌, ◌≤◌, List, [], ◌∷◌, ◌++◌, arith, length}
 use Rattle.mc_words.specs.Keys.{stripe_of}
 use Rattle.mc_words.specs.Places.{slot_number, version}

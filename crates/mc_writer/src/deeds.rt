@@ -39,7 +39,7 @@ impl<'a, const V: usize> Pen<'a, V> {
         self.write_item_from(items, i, V as u8 + 1, at);
     }
 
-    /// Puts a new value of the key that stands at the item, at the moment `at`.
+    /// Puts a new value of the key at the item, at the moment `at`.
     #[inline(always)]
     pub(crate) fn renew(&mut self, key: u64, parts: KeyParts, value: &[u64; V], at: u64, i: u32)
         requires width { IsWidth V }

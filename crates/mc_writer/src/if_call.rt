@@ -35,7 +35,7 @@ impl<'a, const V: usize> Pen<'a, V> {
     }
 }
 
-/// Puts a key whose last put was at the moment `since`, and tells the moment of the new one. The acts that are made are a whole
+/// Puts a key whose last put was at the moment `since`, and returns the moment of the new one. The acts that are made are a whole
 /// call, and the answer is a true one of it.
 /// Condition: the seat is that of these words, and the books are those of the table between two calls.
 pub fn put_if<const V: usize>(

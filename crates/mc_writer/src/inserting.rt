@@ -93,7 +93,7 @@ impl<'a, const V: usize> Pen<'a, V> {
         }
     }
 
-    /// Chooses the key whose item the put takes, where no item is free: the hand goes round.
+    /// Chooses the key whose item the put takes when no item is free: the hand advances.
     #[inline(always)]
     pub(crate) fn choose(
         &mut self,

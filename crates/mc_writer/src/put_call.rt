@@ -86,7 +86,7 @@ fn put_by_path<const V: usize>(
 }
 
 // Puts a key whose two buckets are full, by one move or by a path. Like `put_by_path` it is a call of its own, with a pen of its own: a pen
-// that is lent to a call lies in memory.
+// that is lent to a call is kept in memory.
 #[inline(never)]
 fn put_crowded<const V: usize>(
     cells: &Cells<V>,

@@ -25,7 +25,7 @@ pub record StandFor {V : ℕ} (p : Parts V) (seen : traces.Trace V) : Type 0 whe
   pub used : UsedWell p.writer.table
   pub within : p.writer.version_steps + close_owed (phase_at p.writer.written p.writer.progress) ≤ (shape_of_writer p.writer).limit
 
--- they stand as some events leave them, from a new world on
+-- they are as some events leave them, from a new world on
 pub record AreReached {V : ℕ} (p : Parts V) : Type 0 where
   pub seen : traces.Trace V
   pub stand : StandFor p seen
@@ -45,7 +45,7 @@ pub record PartsRefuse {V : ℕ} (old new : Parts V) (e : Event) (why : Unlawful
   pub refused : (seen : traces.Trace V) → StandFor old seen → traces.RefusesEvent (shape_of_parts old) seen e why
   pub stays : (seen : traces.Trace V) → StandFor old seen → StandFor new seen
 
--- these events were made, of which the lookups that ended told what was done more
+-- these events were made, and `done` has grown by what the lookups that ended in them returned
 pub record MakesEvents {V : ℕ} (old new : Parts V) (events : List Event) (before after : List (Done V)) : Type 0 where
   pub shape : shape_of_parts new ≡ shape_of_parts old
   pub made : (seen : traces.Trace V) → StandFor old seen → (x : traces.Trace V) × traces.StepsAll V (shape_of_parts old) seen events x × StandFor new x ×

@@ -5,7 +5,7 @@ use Rattle.mc_theory.specs.declared.access.Access.TheVariants as access
 use Rattle.mc_theory.specs.declared.act.Act.{Act}
 use Rattle.mc_theory.specs.declared.act.Act.TheVariants as act
 
--- an act on a recency bit is one on the bit of an item, of which there are so many
+-- an act on a recency bit is one on the bit of an item, and there are `items` items
 abbrev pub ReadsIn : ℕ → Act → Type 0
 ReadsIn items (act.Hand i) = i < items
 ReadsIn items (act.Mark i) = i < items

@@ -13,7 +13,7 @@ impl<const V: usize> Parts<V> {
     ghost use Rattle.mc_theory.specs.Traces.{StopsAt};
     ghost use Rattle.mc_core.specs.Inside.Writers.{room_of};
 
-    /// Makes the events up to the first that is refused: what the lookups told that ended, and where it stopped.
+    /// Makes the events up to the first that is refused: what the lookups that ended returned, and where it stopped.
     pub(crate) fn run(
         &mut self,
         alloc: Global,
@@ -33,7 +33,7 @@ impl<const V: usize> Parts<V> {
         Ok((done, stopped))
     }
 
-    /// Makes room for so many changes.
+    /// Makes room for `changes` changes.
     fn reserve(&mut self, changes: usize) -> Result<(), AllocError>
         ensures room { OnOk result (changes ≤ room_of {V = V} self.new.writer) }
         ensures made { MakesEvents {V = V} self.old self.new [] [] [] }
@@ -42,7 +42,7 @@ impl<const V: usize> Parts<V> {
         self.writer.history.try_reserve(changes)
     }
 
-    /// Makes the events up to the first that is refused. Room for all that they tell and change is there.
+    /// Makes the events up to the first that is refused. There is room for all that they return and change.
     fn make_all(&mut self, events: &[Event], done: &mut Vec<Done<V>>) -> Option<(usize, Unlawful)>
         requires stands { (seen : traces.Trace V) × StandFor {V = V} self.old seen }
         requires room { length events.now ≤ room_of {V = V} self.old.writer }
@@ -58,7 +58,7 @@ impl<const V: usize> Parts<V> {
         None
     }
 
-    /// Makes an event. Room for what it tells and changes is there.
+    /// Makes an event. There is room for what it returns and changes.
     fn make_one(&mut self, event: Event, done: &mut Vec<Done<V>>) -> Result<(), Unlawful>
         requires stands { (seen : traces.Trace V) × StandFor {V = V} self.old seen }
         requires room { 1 ≤ room_of {V = V} self.old.writer }
@@ -81,7 +81,7 @@ impl<const V: usize> Parts<V> {
     }
 }
 
-/// Keeps what a lookup told, for which there is room.
+/// Keeps what a lookup returned. There is room for it.
 fn keep<const V: usize>(done: &mut Vec<Done<V>>, told: Done<V>)
     requires { vec_len done.old < vec_capacity done.old }
     ensures items { done.new.items ≡ done.old.items ++ told.entry ∷ [] }

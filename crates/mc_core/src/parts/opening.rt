@@ -11,7 +11,7 @@ impl<const V: usize> Parts<V> {
     ghost use Rattle.mc_core.specs.Inside.Parts.{shape_of_parts, StandFor};
     ghost use Rattle.mc_theory.specs.Traces.{first_trace};
 
-    /// The parts of a new world with so many readers.
+    /// The parts of a new world with `readers` readers.
     pub(crate) fn new(
         alloc: Global,
         checked: &Checked,

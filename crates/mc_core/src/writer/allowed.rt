@@ -14,7 +14,7 @@ use mc_theory::{Act, Deed};
 use mc_words::{Place, payload_words};
 
 impl<const V: usize> Writer<V> {
-    /// The item at which the key stands.
+    /// The key's item.
     fn item_of(&self, key: u64) -> Option<u32>
         requires { StandsWell V (shape_of_writer {V = V} self.now) (words_of_writer {V = V} self.now) key }
         ensures { MatchOption result
@@ -25,7 +25,7 @@ impl<const V: usize> Writer<V> {
         Some(i)
     }
 
-    /// Whether the key stands in the table.
+    /// Whether the key is in the table.
     fn is_present(&self, key: u64) -> bool
         requires { StandsWell V (shape_of_writer {V = V} self.now) (words_of_writer {V = V} self.now) key }
         ensures { IsTrue result ↔ IsPresent V (shape_of_writer {V = V} self.now) (words_of_writer {V = V} self.now) key }
@@ -41,7 +41,7 @@ impl<const V: usize> Writer<V> {
         self.table.free > 0
     }
 
-    /// Whether the key stands at the item whose bit the hand found clear.
+    /// Whether the key is at the item whose bit the hand found clear.
     fn is_cleared(&self, key: u64) -> bool
         requires { StandsWell V (shape_of_writer {V = V} self.now) (words_of_writer {V = V} self.now) key }
         ensures { IsTrue result ↔ MayOpen V (shape_of_writer {V = V} self.now) (words_of_writer {V = V} self.now) self.now.cleared key Deed.Evict }
@@ -50,7 +50,7 @@ impl<const V: usize> Writer<V> {
         item.is_some() && item == self.cleared
     }
 
-    /// Whether the key stands nowhere, and some item is free for it.
+    /// Whether the key is not in the table, and some item is free for it.
     fn is_fillable(&self, key: u64) -> bool
         requires used { UsedWell {V = V} self.now.table }
         requires well { StandsWell V (shape_of_writer {V = V} self.now) (words_of_writer {V = V} self.now) key }
@@ -129,7 +129,7 @@ impl<const V: usize> Writer<V> {
         bucket == first || bucket == second
     }
 
-    /// Whether the key stands in the slot.
+    /// Whether the key is in the slot.
     fn stands(&self, key: u64, place: Place) -> bool
         ensures { IsTrue result ↔ ((i : ℕ) × StandsAt V (shape_of_writer {V = V} self.now) (words_of_writer {V = V} self.now) key place i) }
     {
@@ -147,7 +147,7 @@ impl<const V: usize> Writer<V> {
         }
     }
 
-    /// While the key stands twice: its old slot is cleared.
+    /// While two slots have the key: its old slot is cleared.
     pub(crate) fn may_leave(&self, key: u64, fresh: Place, act: Act) -> bool
         requires { IsPlace (shape_of_writer {V = V} self.now) fresh }
         ensures { IsTrue result ↔ MayFrom V (shape_of_writer {V = V} self.now) (words_of_writer {V = V} self.now)
@@ -191,14 +191,14 @@ impl<const V: usize> Writer<V> {
         count_is(count, payload_words::<V>())
     }
 
-    /// Whether the word may stand there: as a stamp only the moment of the put that is under way.
+    /// Whether the word may be written there: a stamp may only be the moment of the put that is under way.
     fn fits_stamp(&self, j: u8, word: u64) -> bool
         ensures { IsTrue result ↔ IsStampAt V (words_of_writer {V = V} self.now) j word }
     {
         usize::from(j) != payload_words::<V>() || is_next_moment(self.table.moment(), word)
     }
 
-    /// Whether the key stands at the item.
+    /// Whether the key is at the item.
     fn is_item_of(&self, key: u64, i: u32) -> bool
         requires { StandsWell V (shape_of_writer {V = V} self.now) (words_of_writer {V = V} self.now) key }
         ensures { IsTrue result ↔ ((q : ℕ) × Stands V (shape_of_writer {V = V} self.now) (words_of_writer {V = V} self.now) key q i) }
@@ -249,7 +249,7 @@ impl<const V: usize> Writer<V> {
         }
     }
 
-    /// Whether the place is in the other bucket of the key than the one in which it stands, and the word is the one of its slot there.
+    /// Whether the place is in the other bucket of the key than the one that has it, and the word is the one of its slot there.
     fn is_other(&self, key: u64, place: Place, word: u64) -> bool
         requires { StandsWell V (shape_of_writer {V = V} self.now) (words_of_writer {V = V} self.now) key }
         ensures { IsTrue result ↔ ((q : ℕ) × (i : ℕ) ×
@@ -279,14 +279,14 @@ impl<const V: usize> Writer<V> {
     }
 }
 
-/// Whether this word is the one after so many, and one of all.
+/// Whether this word is the one after `count`, and one of `all`.
 fn follows(count: u8, j: u8, all: usize) -> bool
     ensures { IsTrue result ↔ ((j ≡ count + 1) × (j ≤ all)) }
 {
     u32::from(j) == u32::from(count) + 1 && usize::from(j) <= all
 }
 
-/// Whether so many are all.
+/// Whether `count` is `all`.
 fn count_is(count: u8, all: usize) -> bool
     ensures { IsTrue result ↔ (count ≡ all) }
 {

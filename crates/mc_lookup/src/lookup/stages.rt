@@ -36,7 +36,7 @@ impl<const V: usize> Lookup<V> {
         self.checked.tag_match(self.base, word)
     }
 
-    /// A reading of the version at the start of a try. Whether the try goes on: an odd version spoils it.
+    /// A reading of the version at the start of a try. Whether the try continues: an odd version spoils it.
     /// Condition: the lookup is at its first stage.
     pub fn after_first(&mut self, word: u64) -> bool
         requires { stage_of {V = V} self.old ≡ Stage.First }
@@ -81,7 +81,7 @@ impl<const V: usize> Lookup<V> {
     }
 
     /// A reading of the key of an item. Whether it is the key that is looked up.
-    /// Condition: the lookup is at the key of that item, and goes on with slot `j`.
+    /// Condition: the lookup is at the key of that item, and continues with slot `j`.
     pub fn after_key(&mut self, j: u8, i: u32, word: u64) -> bool
         requires { stage_of {V = V} self.old ≡ Stage.Key j i }
         ensures takes { Consumes {V = V} self.old (Access.Key i) word self.new }
@@ -130,7 +130,7 @@ impl<const V: usize> Lookup<V> {
         self.stage = Stage::Last(hit, word);
     }
 
-    /// A reading of the version at the end of a try. Whether the try stands: another version than the first spoils it.
+    /// A reading of the version at the end of a try. Whether the try succeeds: another version than the first spoils it.
     /// Condition: the lookup is at its last version, with this hit or none and this moment.
     pub fn after_last(&mut self, hit: Option<u32>, at: u64, word: u64) -> bool
         requires { stage_of {V = V} self.old ≡ Stage.Last hit at }

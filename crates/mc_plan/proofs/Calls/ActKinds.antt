@@ -113,7 +113,7 @@ mark_ends [] more (f ∷ front) last i same none one =
 mark_ends (x ∷ xs) more (f ∷ front) last i same none one = mark_ends xs more front last i (cc same) none.1 one
 
 -- ---- sweeps at the beginning
--- two lists begin with the same readings, if the one goes on with no act of the hand and has no more readings than the other
+-- two lists begin with the same readings, if the one continues with no act of the hand and has no more readings than the other
 pub same_sweep : (rs qs : List Swept) (more others : List Made) → hand_acts rs ++ more ≡ hand_acts qs ++ others → Each IsUnswept (acts_of others) → length qs ≤ length rs → rs ≡ qs
 same_sweep [] [] more others same none few = refl
 same_sweep [] (q ∷ qs) more others same none few = absurd (omega (arith, few))

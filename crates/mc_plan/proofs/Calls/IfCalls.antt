@@ -27,7 +27,7 @@ pub record HasStamp (V : ℕ) (o : Option (List ℕ)) (n : ℕ) : Type 0 where
   pub held : o ≡ Some (value ++ n ∷ [])
   pub size : length value ≡ V
 
--- the words of a key tell its stamp
+-- the words of a key include its stamp
 stamp_on : (V : ℕ) (sh : Shape) (w : List ℕ) (k q i n : ℕ) (o : Option (List ℕ)) → AgreesAt V sh w k o → Stands V sh w k q i → item V sh w i (payload V) ≡ n → HasStamp V o n
 stamp_on V sh w k q i n None a stands is = absurd (a q i stands)
 stamp_on V sh w k q i n (Some xs) a stands is =

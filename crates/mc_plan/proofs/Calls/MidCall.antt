@@ -41,7 +41,7 @@ abbrev pub AreStill : List Act → Type 0
 AreStill [] = Unit {0}
 AreStill (a ∷ acts) = IsStill a × AreStill acts
 
--- the bit that is read tells nothing for an act that is no turn of the hand
+-- the bit that is read says nothing about an act that is no turn of the hand
 any_bit : {V : ℕ} (sh : Shape) (s : State V) (a : Act) (bit : ℕ) → IsStill a → after_act sh s a bit ≡ after_act sh s a 0
 any_bit sh s (Open k d) bit still = refl
 any_bit sh s (Slot p x) bit still = refl
@@ -123,7 +123,7 @@ take_next [] n a e = absurd (cc)
 take_next (x ∷ xs) zero a e = let is : x ≡ a = cc in ap (λ (y : Act). y ∷ []) is
 take_next (x ∷ xs) (suc n) a e = ap (λ (ys : List Act). x ∷ ys) (take_next xs n a e)
 
--- which lies within the plan
+-- which is within the plan
 pub next_below : (acts : List Act) (n : ℕ) (a : Act) → slice_get acts n ≡ Some a → n < length acts
 next_below [] n a e = absurd (cc)
 next_below (x ∷ xs) zero a e = omega arith
@@ -309,7 +309,7 @@ pub on_runs : (V : ℕ) (clerk : Clerk V) (call : Call) (s : State V) (acts : Li
 unfolding HasCall
 on_runs V clerk call s acts on = runs_at V clerk.stage clerk.books clerk.plan.items clerk.made call s acts on.now
 
--- its values have so many words
+-- its values have V words
 width_at : (V : ℕ) (st : Stage V) (b : Books) (plan : List Act) (many : ℕ) (call : Call) (s : State V) (acts : List Made) → IsAtStage V st b plan many call s acts → IsWidth V
 width_at V Idle b plan many call s acts now = absurd now
 width_at V (Sweeping waiting) b plan many call s acts now = now.1.waits.known.width

@@ -37,7 +37,7 @@ module _ (V : ℕ) (b : Books) (waiting : Waiting V) (call : Call) (s : State V)
   pub hands_may : AreAllowed (shape_of b.checked) s (hand_acts rs)
   hands_may = sweep_allowed V (shape_of b.checked) s s.hand rs on.waits.known.quiet full refl on.has.sweeps on.has.start
 
-  -- the hand reads at most twice as many bits as there are items, round from where it stands
+  -- the hand reads at most twice as many bits as there are items, round from its item
   pub hand_may : (i : ℕ) → next_item waiting.sweep ≡ Some i → IsAllowed (shape_of b.checked) (state_after_sweep V (shape_of b.checked) s rs) (Hand i)
   unfolding next_item
   hand_may i next =

@@ -32,7 +32,7 @@ sweep_tail items hand r rs sweeps =
       marked = λ n d l. sweeps.marked (suc n) d (omega arith);
     }
 
--- the first reading is of the item where the hand stands
+-- the first reading is of the item at the hand
 sweep_first : (items hand : ℕ) (r : Swept) (rs : List Swept) → IsSweep items hand (r ∷ rs) → hand < items → r.item ≡ hand
 sweep_first items hand r rs sweeps below =
     let at : r.item ≡ (hand + 0) % items = sweeps.round 0 r (omega arith) in
@@ -43,12 +43,12 @@ sweep_first items hand r rs sweeps below =
 first_set : (items hand : ℕ) (r x : Swept) (rs : List Swept) → IsSweep items hand (r ∷ x ∷ rs) → eqb r.bit 0 ≡ false
 first_set items hand r x rs sweeps = ne_eqb r.bit 0 (sweeps.marked 0 r (omega arith))
 
--- the hand has gone round twice and stands where it stood
+-- the hand has turned twice round and is where it was
 pub swept_home : (items hand : ℕ) (rs : List Swept) → hand < items → length rs ≡ 2 * items → (hand + length rs) % items ≡ hand
 swept_home items hand rs below twice =
     ap (λ (m : ℕ). (hand + m) % items) twice ∙ add-mul-mod_self_right hand 2 items ∙ mod-eq_of_lt below
 
--- a sweep that is over and has no victim has gone round twice
+-- a sweep that is over and has no victim went round twice
 pub over_without : (items : ℕ) (rs : List Swept) → IsOver items rs → victim_of rs ≡ None → length rs ≡ 2 * items
 over_without items rs over none =
     elim over [
@@ -81,7 +81,7 @@ pub record CanGoOn (items hand : ℕ) (rs : List Swept) (n : ℕ) : Type 0 where
   pub none : victim_of (rs ++ more) ≡ None
   pub many : length more ≡ n
 
--- a sweep without a victim can go on until it is whole
+-- a sweep without a victim can continue until it is whole
 goes_on : (items hand : ℕ) (rs : List Swept) (n : ℕ) → IsSweep items hand rs → victim_of rs ≡ None → length rs + n ≡ 2 * items → CanGoOn items hand rs n
 goes_on items hand rs zero sweeps none whole =
     let same = sym (append-nil rs) in
@@ -139,7 +139,7 @@ swept_still V sh s (r ∷ rs) =
     let rest = swept_still V sh (after_act sh s (Hand r.item) r.bit) rs in
     record { words = rest.words; phase = rest.phase; history = rest.history; version_steps = rest.version_steps }
 
--- the hand has gone round by as many items as were read
+-- the hand has advanced by as many items as were read
 pub swept_hand : (V : ℕ) (sh : Shape) (s : State V) (hand : ℕ) (rs : List Swept) → s.hand ≡ hand → IsSweep sh.items hand rs → hand < sh.items → (after_all sh s (hand_acts rs)).hand ≡ (hand + length rs) % sh.items
 swept_hand V sh s hand [] at sweeps below = at ∙ sym (mod-eq_of_lt below) ∙ ap (λ (m : ℕ). m % sh.items) (omega arith)
 swept_hand V sh s hand (r ∷ rs) at sweeps below =
@@ -160,7 +160,7 @@ swept_cleared V sh s items hand [] i sweeps found = absurd (cc)
 swept_cleared V sh s items hand (r ∷ rs) i sweeps found = last_cleared V sh s items hand r rs sweeps ∙ found
 
 -- ---- which acts of the hand are allowed
--- the hand reads where it stands, between two deeds and while no item is free
+-- the hand reads its item, between two deeds and while no item is free
 is_allowed : (V : ℕ) (sh : Shape) (s : State V) (i : ℕ) → s.phase ≡ Quiet → (HasFree sh s.words → ⊥) → i ≡ s.hand → IsAllowed sh s (Hand i)
 is_allowed V sh s i quiet full at = subst (λ (p : Phase). MayFrom V sh s.words s.hand s.cleared p (Hand i)) (sym quiet) (full, at)
 

@@ -30,7 +30,7 @@ payload_of V v at e =
     let all = length-append v (at ∷ []) in
     omega (arith, e, all, payload_is V)
 
--- the stamp lies behind the value
+-- the stamp follows the value
 pub stamp_at : (V : ℕ) (v : List ℕ) → length v ≡ V → length v + 1 ≡ payload V
 stamp_at V v e = omega (arith, e, payload_is V)
 

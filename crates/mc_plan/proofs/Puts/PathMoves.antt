@@ -22,7 +22,7 @@ use Rattle.mc_plan.proofs.Deeds.Moves.{moves}
 use Rattle.mc_plan.proofs.Deeds.QuietStates.{agrees_quiet, makes_from_walk}
 use Rattle.mc_plan.proofs.Deeds.Walks.{Walk, walk_none, walk_then}
 
--- the bucket is none of those that the path goes through
+-- the bucket is none of those on the path
 abbrev OffPath : ℕ → List Place → Place → Type 0
 OffPath b [] hole = b ≢ hole.bucket
 OffPath b (p ∷ ps) hole = (b ≢ p.bucket) × OffPath b ps hole
@@ -147,7 +147,7 @@ off_first b (p ∷ ps) hole off = off.0
 row_of : (p : Place) → p.slot < 4 → slot_number p / 4 ≡ p.bucket
 row_of p l = omega arith
 
--- one move more: the item at the place goes where the path went on
+-- one move more: the item at the place moves to the next place of the path
 cleared_step : (V : ℕ) (sh : Shape) (s : State V) (p : Place) (ps : List Place) (hole : Place) → IsShape sh → IsQuiet V sh s → IsOccupied sh s.words p → Leads sh s.words (beyond sh s.words p) ps hole → OffPath p.bucket ps hole → key_named V sh s.words p < 2 ^ 64
     → Cleared V sh s ps hole → Cleared V sh s (p ∷ ps) hole
 cleared_step V sh s p ps hole shape quiet taken leads apart key c =

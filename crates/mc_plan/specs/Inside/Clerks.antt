@@ -36,7 +36,7 @@ abbrev pub IsStarted : (V : ℕ) → Books → List Act → ℕ → List ℕ →
 IsStarted V books plan k v s (start.Planned told) = (IsPlanned V books plan (PutCall k v) s s (answer.Put told)) × IsSweepOf V (shape_of books.checked) s [] (answer.Put told)
 IsStarted V books plan k v s (start.Waits room) = (plan ≡ []) × Waits V books k v s room
 
--- its sweep has found an item, and the books know where the hand stands now
+-- its sweep has found an item, and the books know where the hand is now
 pub record IsReplacing (V : ℕ) (books : Books) (waiting : Waiting V) (call : Call) (s : State V) (rs : List Swept) (item : ℕ) : Type 0 where
   pub before : ℕ
   pub sweeping : IsSweeping V (record books { hand = before }) waiting call s rs

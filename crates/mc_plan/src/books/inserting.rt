@@ -51,7 +51,7 @@ impl Books {
     ghost use Rattle.mc_plan.specs.Books.{AreBooksOf, HasRoom, IsLackingKey};
     ghost use Rattle.mc_plan.specs.Deciding.{IsCrowdedOut, IsWithoutPath};
 
-    /// Loads a word of each bucket in which the key of the item at the hand may stand, where the table is large and no item is free: the put is
+    /// If the table is large and no item is free, loads a word of each bucket that may have the key of the item at the hand: the put is
     /// likely to evict that key, and the processor waits for these words while it still waits for those of the put's own buckets.
     #[inline(always)]
     fn look_ahead<const V: usize, P: Peek>(&self, peek: &mut P)
@@ -269,7 +269,7 @@ impl Books {
     ghost use Rattle.mc_plan.specs.Inside.Clerks.{IsReplacing, IsVictim};
     ghost use Rattle.mc_search.specs.Sweeps.{IsOver, Swept};
 
-    /// The key at the item, which is taken out: its parts, and the slot in which it stands.
+    /// The key at the item, which is taken out: its parts, and its slot.
     #[inline(always)]
     pub(crate) fn victim<const V: usize, P: Peek>(&self, peek: &mut P, item: u32) -> Victim
         requires books { (waiting : Waiting V) × (call : Call) × (s : State V) × (rs : List Swept) ×
@@ -286,7 +286,7 @@ impl Books {
         Victim { key, parts, place }
     }
 
-    /// Decides how the key at the item is replaced. The room is cut where that key stands.
+    /// Decides how the key at the item is replaced. The room is cut at that key's slot.
     #[inline(always)]
     fn replace<const V: usize, P: Peek>(
         &mut self,

@@ -1,4 +1,4 @@
--- Where the words lie that a lookup of a key reads.
+-- Where the words that a lookup of a key reads are.
 use Rattle.std.specs.Prelude.{ℕ, ◌≡◌}
 use Rattle.mc_words.specs.Keys.{first_of, second_of, stripe_of}
 use Rattle.mc_words.specs.Places.{item_place, slot_number, slot_place, version_place}

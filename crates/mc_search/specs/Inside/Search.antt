@@ -63,7 +63,7 @@ pub record IsStart (sh : Shape) (k : ℕ) (e : Entry) : Type 0 where
   pub top : e.depth ≡ 0
   pub of_key : IsBucketOf sh k e.bucket
 
--- an entry is of a bucket of the key, or comes from an earlier one
+-- an entry belongs to a bucket of the key, or comes from an earlier one
 abbrev pub Origin : Shape → List ℕ → ℕ → List Entry → ℕ → Entry → Type 0
 Origin sh w k q i e = IsStart sh k e ⊎ ComesFrom sh w q i e
 

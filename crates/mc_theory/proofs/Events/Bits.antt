@@ -12,7 +12,7 @@ use Rattle.mc_theory.specs.declared.act.Act.TheVariants as act
 use Rattle.mc_theory.specs.declared.event.Event.{Event}
 use Rattle.mc_theory.specs.declared.event.Event.TheVariants.{Write, Begin, Read}
 
--- so many bits
+-- n bits
 pub record AreBits (n : ℕ) (bits : List ℕ) : Type 0 where
   pub many : length bits ≡ n
   pub each : All IsBit bits

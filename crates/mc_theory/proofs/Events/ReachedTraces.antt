@@ -138,7 +138,7 @@ first_holds V sh readers = record {
   ended = λ k d l. absurd (omega arith);
 }
 
--- each lookup that ended told the truth
+-- each lookup that ended returned the truth
 pub ends_true : (V : ℕ) (sh : Shape) (w : Trace V) → IsShape sh → WorldHolds V sh w → All (IsTrueEnd V sh w) w.ended
 ends_true V sh w shape h = λ k d l.
     let e = get_or w.ended k d in

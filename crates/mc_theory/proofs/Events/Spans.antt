@@ -1,4 +1,4 @@
--- What a list of events tells by itself: the history that its acts make, and the span of each lookup.
+-- What a list of events determines by itself: the history that its acts make, and the span of each lookup.
 use Rattle.std.proofs.Common.{ℕ, zero, suc, ◌≡◌, ◌+◌, ◌≤◌, ◌<◌, ◌⊎◌, List, [], ◌∷◌, ◌++◌, get_or, length, take, Some, None, refl, sym, ◌∙◌, ap, subst, inl, inr, arith, add-one}
 use Rattle.std.specs.Prelude.{map, slice_get}
 use Rattle.std.specs.List.{All}
@@ -51,7 +51,7 @@ acts_in-read (Begin q k ∷ es) (suc n) r e = acts_in-read es n r e
 acts_in-read (Read q ∷ es) (suc n) r e = acts_in-read es n r e
 
 -- ---- the history that they make
--- a front of lawful acts has the history that its acts tell
+-- a front of lawful acts has the history that its acts determine
 front_history : (V : ℕ) (sh : Shape) (acts : List Made) (f : ℕ) → IsLawful V sh acts → (front V sh acts f).history ≡ changes_by {V = V} deed.Move 0 [] (take f (map act_of acts))
 unfolding front opening IsLawful
 front_history V sh acts f lawful =
@@ -102,7 +102,7 @@ BeganAt es r begin first [] = (n : ℕ) → begin < n → slice_get es n ≡ Som
 BeganAt es r begin first (x ∷ xs) =
     (begin < first) × (slice_get es first ≡ Some (Read r)) × (x.front ≡ length (acts_in (take first es))) × ((n : ℕ) → begin < n → n < first → slice_get es n ≡ Some (Read r) → ⊥)
 
--- the last lookup that the reader began is of this key, and has these readings so far
+-- the last lookup that the reader began looks up this key, and has these readings so far
 record IsOpen (es : List Event) (r : ℕ) (run : OpenLookup) : Type 0 where
   begin : ℕ
   begun : slice_get es begin ≡ Some (Begin r run.key)

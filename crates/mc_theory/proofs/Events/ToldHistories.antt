@@ -1,4 +1,4 @@
--- The changes that allowed acts tell by themselves are those of the state's history.
+-- The changes that allowed acts determine by themselves are those of the state's history.
 use Rattle.std.proofs.Common.{ℕ, ◌≡◌, Bool, true, false, List, [], ◌∷◌, ◌++◌, length, Option, refl, sym, ◌∙◌, ap, add-one}
 use Rattle.std.specs.Prelude.{map}
 use Rattle.std.proofs.lemmas.List.{append_assoc, append-nil}
@@ -58,11 +58,11 @@ record GoesOn (V : ℕ) (p : Phase) (h : List (Change V)) (d : Deed) (k : ℕ) (
   under_way : IsUnderWay V (phase_after p a) deed key written
   same : h ++ changes_by d k xs (a ∷ more) ≡ history_after h p a ++ changes_by deed key written more
 
--- the change of the moment goes into the history
+-- the change of the moment enters the history
 moves_over : {A : Type 0} (h now made rest : List A) → made ≡ now → h ++ (made ++ rest) ≡ (h ++ now) ++ rest
 moves_over h now made rest e = ap (λ y. h ++ (y ++ rest)) e ∙ sym (append_assoc h now rest)
 
--- each allowed act goes on so
+-- each allowed act continues so
 goes_on : (V : ℕ) (sh : Shape) (w : List ℕ) (hand : ℕ) (cleared : Option ℕ) (p : Phase) (h : List (Change V)) (d : Deed) (k : ℕ) (xs : List ℕ) (a : Act) (more : List Act)
     → MayFrom V sh w hand cleared p a → IsUnderWay V p d k xs → GoesOn V p h d k xs a more
 goes_on V sh w hand cleared Quiet h d k xs (Open q e) more may at = record { deed = e; key = q; written = []; under_way = under_way_opened V q e; same = refl }

@@ -31,7 +31,7 @@ same_refl V sh w k = record {
 pub names_back-with_item : (V : ℕ) (sh : Shape) (w : List ℕ) (i j x q g : ℕ) → NamesItem sh (with_item V sh w i j x) q g → NamesItem sh w q g
 names_back-with_item V sh w i j x q g a = moved_names sh (with_item V sh w i j x) w q g (sym (slot-with_item V sh w i j x q a.in_table)) a
 
--- the place of a slot lies within the words
+-- the place of a slot is within the words
 pub slot_in : (V : ℕ) (sh : Shape) (w : List ℕ) (q : ℕ) → word_count V sh ≤ length w → q < 4 * sh.buckets → 1 + sh.stripes + q < length w
 slot_in V sh w q size l = omega arith
 

@@ -93,7 +93,7 @@ unfolding front opening
 cleared_was V sh acts zero i c = absurd (cc)
 cleared_was V sh acts (suc f) i c = step_clear V sh acts f i (slice_get acts f) refl c (λ h. cleared_was V sh acts f i h)
 
--- an eviction that may open is of a key at the cleared item
+-- an eviction that may open evicts a key at the cleared item
 evict_may : (V : ℕ) (sh : Shape) (w : List ℕ) (hand : ℕ) (cleared : Option ℕ) (p : Phase) (k : ℕ) → MayFrom V sh w hand cleared p (Open k deed.Evict) → (q : ℕ) × (i : ℕ) × Stands V sh w k q i × (cleared ≡ Some i)
 evict_may V sh w hand cleared Quiet k may = may.1
 evict_may V sh w hand cleared _ k may = absurd may

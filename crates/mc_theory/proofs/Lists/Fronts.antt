@@ -70,7 +70,7 @@ pub lawful_none : (V : ℕ) (sh : Shape) → IsLawful V sh []
 unfolding IsLawful
 lawful_none V sh = tt
 
--- a lawful list may go on with an act that is allowed
+-- a lawful list may continue with an act that is allowed
 pub lawful_push : (V : ℕ) (sh : Shape) (acts : List Made) (m : Made) → IsLawful V sh acts → IsAllowed sh (state_of V sh acts) m.act → IsLawful V sh (acts ++ m ∷ [])
 unfolding IsLawful state_of
 lawful_push V sh acts m l a = allowed_push sh (opening V sh) acts m l a

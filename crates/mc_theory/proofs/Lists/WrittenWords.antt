@@ -90,7 +90,7 @@ write_fits V sh w hand cleared h c _ _ s size at d n l may = absurd may
 in_place : (sh : Shape) (p : Place) → slot_number p < 4 * sh.buckets → p.slot < 4 → IsPlace sh p
 in_place sh p l b = record { in_table = omega arith; in_bucket = b }
 
--- what an act may name in its phase is of the table
+-- what an act may name in its phase belongs to the table
 names_in : (V : ℕ) (sh : Shape) (w : List ℕ) (hand : ℕ) (cleared : Option ℕ) (h : List (Change V)) (p : Phase) (a : Act) → hand < sh.items → DeedFacts V sh w h p → MayFrom V sh w hand cleared p a → NamesIn V sh a
 names_in V sh w hand cleared h Quiet (Open k u) at d may = tt
 names_in V sh w hand cleared h Quiet (Hand i) at d may = omega (arith, may.1)

@@ -62,7 +62,7 @@ marks_length (Some i) rs marks = let one = ap length marks.1 in omega (arith, on
 one_more : (t n : ℕ) → suc t * n ≡ n + t * n
 one_more t n = grind arith
 
--- a lookup makes so many readings at most
+-- a lookup makes at most this many readings
 pub lookup_length : (V : ℕ) (sh : Shape) (k t : ℕ) (rs : List Reading) (reply : Reply V) → IsLookup V sh k t rs reply → length rs ≤ t * (19 + payload V) + 1
 lookup_length V sh k zero rs reply looks = let none = ap length looks.0 in omega (arith, none)
 lookup_length V sh k (suc t) rs reply looks = elim looks [

@@ -23,7 +23,7 @@ abbrev pub InTable : Shape → List Place → Type 0
 InTable sh [] = Unit {0}
 InTable sh (p ∷ ps) = (slot_number p < 4 * sh.buckets) × InTable sh ps
 
--- a list that was read, told by its first reading and the rest
+-- a list that was read, as its first reading and the rest
 pub read_at : (V : ℕ) (sh : Shape) (acts : List Made) (r : Reading) (rs more : List Reading) → rs ≡ r ∷ more → AreRead V sh acts rs → AreRead V sh acts (r ∷ more)
 read_at V sh acts r rs more e a = subst (λ (y : List Reading). AreRead V sh acts y) e a
 
@@ -31,7 +31,7 @@ read_at V sh acts r rs more e a = subst (λ (y : List Reading). AreRead V sh act
 pub rise_at : (d e : ℕ) (r : Reading) (rs more : List Reading) → rs ≡ r ∷ more → RiseTo d rs e → RiseTo d (r ∷ more) e
 rise_at d e r rs more h a = subst (λ (y : List Reading). RiseTo d y e) h a
 
--- the same of a word, told by an equal access
+-- the same of a word, by an equal access
 pub word_at : (V : ℕ) (sh : Shape) (w : List ℕ) (a : Access) (r : Reading) → r.access ≡ a → IsWordOf V sh w r.access r.word → IsWordOf V sh w a r.word
 word_at V sh w a r e h = subst (λ (y : Access). IsWordOf V sh w y r.word) e h
 

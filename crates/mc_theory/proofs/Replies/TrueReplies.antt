@@ -37,7 +37,7 @@ slots_for_in sh k s =
     let one : first_of sh k < sh.buckets = first_of-lt sh k s in
     slots_in sh (first_of sh k) (slots_of (second_of sh k)) one (slots_in sh (second_of sh k) [] (alternate-lt sh (first_of sh k) (tag_of sh k) s one) tt)
 
--- a slot that none of a bucket's slots is lies in another bucket
+-- a slot that is none of a bucket's slots is in another bucket
 none_in : (q b : ℕ) (ps : List Place) → NoneIs q (slots_of b ++ ps) → q / 4 ≢ b
 none_in q b ps h e = omega arith
 
@@ -128,7 +128,7 @@ try_true V sh acts k d e rs hit v x at shape lawful key_in within read rise t =
     answer_true (state_of V sh acts).history k at (length (front V sh acts d).history) (length (front V sh acts e).history) hit v (hit_whole V hit t.values v t.reads) size
     (ap (λ y. map_value y k) told ∙ kept ∙ truth) low high
 
--- what lies between two moments lies between wider ones
+-- what is between two moments is between wider ones
 wider : {V : ℕ} (r : Reply V) (a b c d : ℕ) → a ≤ b → c ≤ d → IsBetween b c r → IsBetween a d r
 wider (Found v at since) a b c d x y h = (omega arith, omega arith)
 wider (Absent at) a b c d x y h = (omega arith, omega arith)

@@ -33,7 +33,8 @@ pub record HasRead (V : ℕ) (before after : Pen V) (readings : List Swept) : Ty
   pub notes : NotesGrow before.seat.now.notes after.seat.now.notes
   pub may : AreAllowed before.cells.now.layout.shape (state_at V before) (hand_acts readings)
 
--- since the pen was `before`, the hand has gone round for the put of this key, and it was decided which key gives way, and how the item is taken
+-- since the pen was `before`, the hand has turned for the put of this key, and it was decided which key gives way, and how the item is
+-- taken
 pub record IsChosen (V : ℕ) (books : Books) (k : ℕ) (v : List ℕ) (before after : Pen V) (taken : Replacement) : Type 0 where
   pub readings : List Swept
   pub layout : before.cells.now.layout ≡ layout_of V (shape_of books.checked)

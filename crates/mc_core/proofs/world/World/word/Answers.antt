@@ -10,7 +10,7 @@ use Rattle.mc_core.specs.declared.parts.Parts.{Parts}
 use Rattle.mc_core.proofs.PackedBits.{bits_now, packed_bits}
 use Rattle.mc_core.proofs.world.World.word.Goals as goal
 
--- past the words of the table lie the words with the bits, which are few
+-- the words with the bits follow the words of the table, and are few
 few : {V : ℕ} (p : Parts V) (shown : WorldView V) (n len : ℕ) → view_of {V = V} p ≡ shown → n < all_words V shown.shape → len ≡ length p.writer.table.words.items → n - len < 2 ^ 32
 unfolding recency_words
 few {V} p shown n len view below is =

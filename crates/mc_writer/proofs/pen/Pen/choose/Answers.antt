@@ -24,7 +24,7 @@ turn_round-requires g c =
     let s = state_at g.row.V pen in
     (omega arith, (search rules, (c.args.books.now, PutCall c.args.key c.args.value.now, c.new-waiting.ensures.sweeping s c.requires.waits, shape_there g.row.V pen c.args.books.now c.requires.layout)))
 
--- the hand has gone round
+-- the hand has turned
 turned : (g : Over) (c : After-turn_round g) → HasTurned g.row.V c.args.books.now c.turn_round.new.waiting (PutCall c.args.key c.args.value.now) c.args.self.now c.turn_round.new.self
 turned g c = c.turn_round.ensures.turned c.args.books.now (PutCall c.args.key c.args.value.now) (c.new-waiting.ensures.sweeping (state_at g.row.V c.args.self.now) c.requires.waits)
 

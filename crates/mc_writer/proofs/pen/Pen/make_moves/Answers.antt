@@ -8,7 +8,7 @@ use Rattle.mc_writer.proofs.Due.{next_move, no_moves}
 use Rattle.mc_writer.proofs.Pens.{all_made, due_then, first_due, none_yet, one_more}
 use Rattle.mc_writer.proofs.pen.Pen.make_moves.Goals as goal
 
--- what stands where there is no move
+-- what is kept where there is no move
 abbrev blank : Move
 blank = record { key = 0; word = 0; from = record { bucket = 0; slot = 0 }; to = record { bucket = 0; slot = 0 } }
 
