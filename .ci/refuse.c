@@ -111,7 +111,7 @@ int pthread_create(pthread_t *thread, const pthread_attr_t *attributes, void *(*
     return next_thread(thread, attributes, body, argument);
 }
 
-/* What a disturbed read or write answers: a number below 0 is an error, otherwise so many bytes are moved at most. */
+/* What a disturbed read or write answers: a number below 0 is an error, otherwise at most this many bytes are moved. */
 static ssize_t disturbed(void) {
     if (strcmp(how, "none") == 0)
         return 0;

@@ -1,4 +1,4 @@
-# What the benches share, which read it by `.`: how they fail, their help, and a folder that goes with the bench. A wrong
+# What the benches share, which read it by `.`: how they fail, their help, and a folder that is deleted with the bench. A wrong
 # program, and a run that fails, end the bench with status 2 and a line on standard error.
 # shellcheck shell=bash
 set -euo pipefail
@@ -30,7 +30,7 @@ trap 'rm -rf "$folder"' EXIT
 
 top=$(cd "$(dirname "$0")/.." && pwd)
 
-# Sets `program`. Arguments: the program that was asked for, and how the default one is built.
+# Sets `program`. Arguments: the requested program, and how the default one is built.
 choose_program() {
     if [ ! -f "$1" ] || [ ! -x "$1" ]; then
         fail "there is no program $1; to build it: $2"

@@ -1,13 +1,13 @@
 /* The memory of the archive: the three functions by which the cache allocates, over malloc, realloc and free. The toolchain's own hand each
- * call to these as it is. Here large blocks lie where a lookup needs few cache lines and few entries of page tables.
+ * call to these as it is. Here large blocks are placed so that a lookup needs few cache lines and few entries of page tables.
  *
  * A block of at least 4,096 bytes begins 56 bytes behind a cache line. A table's slots begin at its word 1 + stripes, and stripes are a power
  * of two. So from 8 stripes on they begin on a cache line, and no bucket of four slots crosses one.
- * A block of at least 2 MB begins 56 bytes behind a boundary of huge pages, and the huge pages that it fills are asked for.
- * Blocks from 128 KB up to that are cut from regions of 32 MB, whose huge pages are asked for. So the tables of many shards are on huge pages
- * too. The first huge page of the first region isn't: a program with little in its caches takes no more memory than it uses. A region is
- * freed with its last block. Any thread may allocate and free, and so may another copy of these functions in the same program, since
- * libraries that were built apart may pass a handle on.
+ * A block of at least 2 MB begins 56 bytes behind a boundary of huge pages, and the huge pages that it fills are requested.
+ * Blocks from 128 KB up to that are cut from regions of 32 MB, whose huge pages are requested. So the tables of many shards are on huge pages
+ * too. The first huge page of the first region isn't: a program with little in its caches takes no more memory than it uses. A region is freed with its last
+ * block. Any thread may allocate and free, and so may another copy of these functions in the same program, since libraries that were built
+ * apart may pass a handle on.
  *
  * What the toolchain asks of them (its crate `libc`, src/heap.rt): `align` divides 16 and `size` is below 2^63. A block that is returned has
  * `size` bytes, aligned to `align`, which nothing else uses until it is given back. A block that grows or shrinks keeps its first `kept`
@@ -32,13 +32,13 @@ void rattle_dealloc(void *at);
 
 enum { LINE = 64, BEHIND = 56, PLACED = 4096, CUT = 128 << 10, HUGE_PAGE = 2 << 20, REGION = 32 << 20 };
 
-/* It lies at the start of its region. */
+/* It is at the start of its region. */
 struct region {
     /* The bytes that were cut, with these words; a multiple of a cache line. Only the copy of these functions that opened the region cuts. */
     size_t used;
     /* How many blocks are in use, and one more while the region is open. Whoever takes the last one off frees the region. */
     atomic_size_t users;
-    /* The block of malloc in which the region lies. */
+    /* The block of malloc that holds the region. */
     void *around;
 };
 
@@ -50,8 +50,8 @@ static char nothing;
 
 static struct block told(void *at) { return (struct block){at != NULL, at != NULL ? at : &nothing}; }
 
-/* Each block of malloc is aligned to 16, since none is asked for that is smaller. A placed one never is. The word before a placed block is
- * the address of the block of malloc in which it lies. If it was cut from a region, it is the region's address plus 1, and the word before
+/* Each block of malloc is aligned to 16, since no smaller one is requested. A placed one never is. The word before a placed block is
+ * the address of the block of malloc that holds it. If it was cut from a region, it is the region's address plus 1, and the word before
  * that is how many bytes were cut. */
 static bool is_placed(const void *at) { return (uintptr_t)at % 16 == 8; }
 

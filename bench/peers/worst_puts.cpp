@@ -45,7 +45,7 @@ static double median(std::vector<double> values) {
     return values[values.size() / 2];
 }
 
-// Fills a table, looks every key up, and puts a new one, which has the hand go round once. The median of three such puts.
+// Fills a table, looks every key up, and puts a new one, for which the hand passes all items once. The median of three such puts.
 static double put_when_all_are_used(const cefrodil_shape &shape, uint64_t first, double &opening) {
     Open table(shape, 1);
     opening = table.seconds;
@@ -74,7 +74,7 @@ static double refused_put(cefrodil_shape shape, uint64_t first) {
     return median(spent);
 }
 
-// The heap of a table with so many readers.
+// The heap of a table with `many` readers.
 static double heap_of(const cefrodil_shape &shape, size_t many) {
     double before = mallinfo2().uordblks;
     Open table(shape, many);

@@ -30,7 +30,7 @@ static uint64_t number(cefrodil_status (*call)(cefrodil_handle *, uint64_t *), s
     return result;
 }
 
-/* Opens a table for so many items with these entries. False if one of them has no place there. */
+/* Opens a table for `items` items with these entries. False if one of them finds no place in it. */
 static bool opens(struct table *table, uint64_t items, const uint64_t *entries, uint64_t count) {
     const struct table closed = {CEFRODIL_EMPTY, CEFRODIL_EMPTY};
     uint32_t *statuses = (uint32_t *)memory((count + 1) * sizeof *statuses);

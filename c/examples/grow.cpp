@@ -48,7 +48,7 @@ class Table {
         }
     }
 
-    // Opens a table for so many items with these entries, in place of this one. False if one of them has no place there.
+    // Opens a table for `items` items with these entries, in place of this one. False if one of them finds no place in it.
     bool opens(uint64_t items, const std::vector<uint64_t> &entries) {
         const auto shape = cefrodil::shape_for_items(static_cast<uint32_t>(items));
         cefrodil::Writer<1> writer;

@@ -16,7 +16,7 @@ static void must(uint32_t status, const char *what) {
     }
 }
 
-/* A handle goes to one thread, which is started with it and joined before main closes it. */
+/* Each thread is started with a handle of its own, and joined before main closes the handle. */
 static void *look_up(void *handle) {
     cefrodil_handle *reader = (cefrodil_handle *)handle;
     uint64_t value[WORDS];

@@ -194,9 +194,9 @@ CEFRODIL_CHECKED CEFRODIL_NO_NULL cefrodil_status cefrodil_open_desk(const cefro
                                                                      size_t pass_count);
 
 /* Puts the writer of an open cache on a desk, so that threads can write by turns. It may be the writer of cefrodil_open or
- * cefrodil_open_with, or one that came back by cefrodil_leave_desk. Each of `pass_count` handles becomes a pass. Readers of the cache
- * go on beside the desk. A cache is opened with 64 readers to spare, or as many as 1,024 in all allow, and a new pass takes one of them
- * for good. This call takes memory.
+ * cefrodil_open_with, or one that came back by cefrodil_leave_desk. Each of `pass_count` handles becomes a pass. Readers of the cache stay
+ * open beside the desk. A cache is opened with 64 readers to spare, or as many as 1,024 in all allow, and a new pass takes one of them for
+ * good. This call takes memory.
  * OK: the passes are open, and `writer` is closed. IN_USE: one of the passes was open before. Otherwise returns the first that
  * applies: CLOSED, KIND, BAD_READERS (no passes, or more than readers to spare), NO_MEMORY. Unless OK, nothing was done. */
 CEFRODIL_CHECKED CEFRODIL_NO_NULL cefrodil_status cefrodil_make_desk(cefrodil_handle *writer, cefrodil_handle *passes, size_t pass_count);
@@ -216,7 +216,7 @@ CEFRODIL_CHECKED CEFRODIL_NO_NULL cefrodil_status cefrodil_open_shards(const cef
 
 /* Looks a key up, by any handle. By the writer it is never busy.
  * OK: `value`, `at` and `since` are set. ABSENT: `at` is set. BUSY: ask again, or treat it as a miss. If the writer
- * stops in the middle of a change, lookups in the stripe that it changes are busy until it goes on.
+ * stops in the middle of a change, lookups in the stripe that it changes are busy until it continues.
  * CLOSED, WIDTH. `value` is written only with OK. `reply` may be null. */
 CEFRODIL_CHECKED CEFRODIL_NO_NULL cefrodil_status cefrodil_get(cefrodil_handle *reader, uint64_t key, uint64_t *value, size_t words,
                                                                cefrodil_reply *reply);
@@ -235,7 +235,7 @@ CEFRODIL_CHECKED CEFRODIL_NO_NULL cefrodil_status cefrodil_get_or_desk(cefrodil_
                                                                        cefrodil_reply *reply);
 
 /* A write is by the writer, or by a pass, which tries once for the turn. HELD: the try did not win, and nothing was changed but the reply, so
- * a value that should go is still there. Try again, or note the key. KIND: by a reader.
+ * a value that should be removed is still there. Try again, or note the key. KIND: by a reader.
  *
  * Puts a key with this value. A new key evicts another one if the table is full: its `len` is its `capacity`.
  * OK: `at`, `put` and `moves` are set, and with PUT_EVICTED `evicted`. NO_PATH or ALL_RECENT: the key is absent, and was not put. SPENT: it
@@ -300,7 +300,7 @@ CEFRODIL_CHECKED CEFRODIL_NO_NULL cefrodil_status cefrodil_capacity(cefrodil_han
 
 /* Lists each key with its value, by the writer or a pass. A pass tries once for the turn, and a pass of shards once for that of each
  * shard, so it lists each shard at a moment of its own. An entry is its key, then the words of its value, as cefrodil_open_with
- * takes it. Readers may go on meanwhile. This call takes memory for the whole list, and frees it. To ask for the number of entries, pass 0
+ * takes it. Readers may work meanwhile. This call takes memory for the whole list, and frees it. To ask for the number of entries, pass 0
  * as `entry_words`: that takes no memory by the writer or a pass of a desk.
  * OK: the first `count` entries of `entries` are written. BAD_COUNT: there are `count` entries, and `entry_words` is less than
  * `count` times (1 + the words of a value). HELD: a try did not win. CLOSED, KIND, NO_MEMORY. Unless OK, `entries` is unchanged. With

@@ -63,7 +63,7 @@ template <size_t Words> class Writer : public Handle {
     [[nodiscard]] Status capacity(uint64_t &number) noexcept { return static_cast<Status>(cefrodil_capacity(raw(), &number)); }
     // Each key with its value, one entry after the other. Unless ok, `words` is empty.
     [[nodiscard]] Status entries(std::vector<uint64_t> &words) noexcept { return list(1 + Words, words, cefrodil_len, cefrodil_entries_or_none); }
-    // The same with stamps: each entry is its key, its value, and then the moment of the key's last put.
+    // Lists the entries with stamps: each entry is its key, its value, and then the moment of the key's last put.
     [[nodiscard]] Status stamped_entries(std::vector<uint64_t> &words) noexcept {
         return list(2 + Words, words, cefrodil_len, cefrodil_stamped_entries_or_none);
     }
@@ -174,8 +174,8 @@ template <size_t Words> class Pass : public Lookups<Words> {
     }
 };
 
-// The shape for so many items, or none if that is out of range. Where no cache can be opened there is none, either: over an archive of another
-// version (Status::other_version), and on a processor that is too old (Status::processor).
+// The shape for `items` items, or none if that is out of range. There is none, either, if no cache can be opened: over an archive of
+// another version (Status::other_version), and on a processor that is too old (Status::processor).
 [[nodiscard]] inline std::optional<cefrodil_shape> shape_for_items(uint32_t items) noexcept {
     cefrodil_shape shape{};
     if (!inside::same_version() || cefrodil_shape_for_items(items, &shape) != CEFRODIL_OK) {
@@ -184,7 +184,7 @@ template <size_t Words> class Pass : public Lookups<Words> {
     return shape;
 }
 
-// The shape of each of so many shards that hold so many items together, or none for the same reasons.
+// The shape of each of `shards` shards that hold `items` items together, or none for the same reasons.
 [[nodiscard]] inline std::optional<cefrodil_shape> shape_for_shards(uint32_t items, uint32_t shards) noexcept {
     cefrodil_shape shape{};
     if (!inside::same_version() || cefrodil_shape_for_shards(items, shards, &shape) != CEFRODIL_OK) {
@@ -193,7 +193,7 @@ template <size_t Words> class Pass : public Lookups<Words> {
     return shape;
 }
 
-// Opens a cache: its writer, and so many readers. Unless ok, `writer` and `readers` are unchanged. in_use: the writer is open.
+// Opens a cache: its writer, and `count` readers. Unless ok, `writer` and `readers` are unchanged. in_use: the writer is open.
 template <size_t Words>
 [[nodiscard]] Status open(const cefrodil_shape &shape, size_t count, Writer<Words> &writer, std::vector<Reader<Words>> &readers) noexcept {
     count = inside::allowed(count);
@@ -208,7 +208,7 @@ template <size_t Words>
     return status;
 }
 
-// The same with entries, each its key and then its value, as Writer::entries lists them. `statuses` says what became of each.
+// Opens a cache with entries, each its key and then its value, as Writer::entries lists them. `statuses` says what became of each.
 template <size_t Words>
 [[nodiscard]] Status open_with(const cefrodil_shape &shape, size_t count, const std::vector<uint64_t> &entries, Writer<Words> &writer,
                  std::vector<Reader<Words>> &readers, std::vector<Status> &statuses) noexcept {
@@ -235,7 +235,7 @@ template <size_t Words>
     return status;
 }
 
-// Opens a cache for threads that write by turns: so many passes. Unless ok, `passes` is unchanged.
+// Opens a cache for threads that write by turns: `count` passes. Unless ok, `passes` is unchanged.
 template <size_t Words> [[nodiscard]] Status open_desk(const cefrodil_shape &shape, size_t count, std::vector<Pass<Words>> &passes) noexcept {
     count = inside::allowed(count);
     std::shared_ptr<inside::Lines> lines;
@@ -245,8 +245,8 @@ template <size_t Words> [[nodiscard]] Status open_desk(const cefrodil_shape &sha
     });
 }
 
-// Puts the writer of an open cache on a desk, for threads that write by turns: so many passes. ok: the writer is closed. Unless ok, `writer`
-// and `passes` are unchanged. bad_readers: no passes, or more than the cache has readers to spare.
+// Puts the writer of an open cache on a desk, for threads that write by turns: `count` passes. ok: the writer is closed. Unless ok,
+// `writer` and `passes` are unchanged. bad_readers: no passes, or more than the cache has readers to spare.
 template <size_t Words> [[nodiscard]] Status make_desk(Writer<Words> &writer, size_t count, std::vector<Pass<Words>> &passes) noexcept {
     count = inside::allowed(count);
     const auto lines = inside::Counting::lines(writer);
@@ -264,7 +264,7 @@ template <size_t Words> [[nodiscard]] Status make_desk(Writer<Words> &writer, si
     return status;
 }
 
-// Opens a cache of so many shards: so many passes.
+// Opens a cache of `shards` shards: `count` passes.
 template <size_t Words>
 [[nodiscard]] Status open_shards(const cefrodil_shape &shape, uint32_t shards, size_t count, std::vector<Pass<Words>> &passes) noexcept {
     count = inside::allowed(count);

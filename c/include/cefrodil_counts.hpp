@@ -47,10 +47,11 @@ struct alignas(64) Line {
 };
 static_assert(sizeof(Line) == 64, "a cache line");
 
-// The lines of a cache's handles. The line of a handle that is closed keeps its numbers, and the next handle that takes it goes on from them.
+// The lines of a cache's handles. The line of a handle that is closed keeps its numbers, and the next handle that takes it counts on from
+// them.
 class Lines {
   public:
-    // Makes lines until no handle has so many of them.
+    // Makes lines until `count` of them are free.
     void reserve(size_t count) {
         const std::lock_guard<std::mutex> guard(lock_);
         while (free_count_ < count) {
@@ -154,7 +155,7 @@ class Counter {
     Line *line_ = nullptr;
 };
 
-// The lines of a cache that is to be opened with so many handles beside its writer.
+// The lines of a cache that is to be opened with `count` handles beside its writer.
 inline std::shared_ptr<Lines> lines_for(size_t count) {
     if constexpr (CEFRODIL_COUNTS != 0) {
         const auto lines = std::make_shared<Lines>();

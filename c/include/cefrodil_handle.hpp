@@ -150,7 +150,7 @@ struct Counting;
 class Handle {
   public:
     bool is_open() const noexcept { return raw_.live_; }
-    // Closes the handle now. Closing the last handle frees the cache. Until then, the others go on.
+    // Closes the handle now. Closing the last handle frees the cache. Until then, the others stay open.
     Status close() noexcept {
         counter_ = inside::Counter();
         return static_cast<Status>(cefrodil_close_unless_null(&raw_));

@@ -1,5 +1,5 @@
-/* The memory of the archive by itself: each block has room, lies where it should, and keeps its bytes while it grows and shrinks. Threads may
- * do so at once. What malloc refuses is reported, and changes nothing. All memory is given back. */
+/* The memory of the archive by itself: each block has room, is where it should be, and keeps its bytes while it grows and shrinks. Threads
+ * may do so at once. What malloc refuses is reported, and changes nothing. All memory is given back. */
 #define _GNU_SOURCE
 #include <stdatomic.h>
 #include <stdlib.h>
@@ -154,7 +154,7 @@ static void threads_at_once(void) {
     }
 }
 
-/* 64 blocks of a megabyte fill two regions and a bit of a third, and each region goes with its last block. */
+/* 64 blocks of a megabyte fill two regions and a bit of a third, and each region is freed with its last block. */
 static void regions_go_with_their_blocks(void) {
     struct full fulls[64];
     long before = in_use;

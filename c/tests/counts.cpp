@@ -18,7 +18,7 @@ static cefrodil_shape shape_of(uint32_t items, uint64_t limit) {
 
 static const uint64_t most = uint64_t(1) << 62;
 
-// Each lookup of the writer and of a reader is a hit or a miss, also if they are asked for many at once.
+// Each lookup of the writer and of a reader is a hit or a miss, also in calls for many keys at once.
 static void lookups() {
     Writer<1> writer;
     std::vector<Reader<1>> readers;
@@ -94,7 +94,7 @@ static void all_recent() {
     MUST(refused != 0 && writer.meter().counts().refusals == refused);
 }
 
-// The cache of entries counts, and goes on counting on a desk, by the readers that its passes become, and by the writer that comes back.
+// The cache of entries counts, and continues counting on a desk, by the readers that its passes become, and by the writer that comes back.
 static void desks() {
     Writer<1> writer, back;
     Reader<1> left[2];
@@ -133,7 +133,7 @@ static void add(Counts &to, const Counts &more) {
     to.evictions += more.evictions;
 }
 
-// What a thread is told.
+// What a thread gets as answers.
 struct Told {
     Counts counts{};
     template <size_t Words> void looked(const Answer<Words> &answer) {
@@ -176,7 +176,7 @@ static void work(Pass<1> &pass, Told &told, std::atomic<bool> &is_held) {
     }
 }
 
-// Threads work by passes, and one reads the counts meanwhile. In the end they are what the threads were told.
+// Threads work by passes, and one reads the counts meanwhile. In the end they match the answers that the threads got.
 static void threads(std::vector<Pass<1>> passes) {
     const Meter meter = passes[0].meter();
     std::atomic<bool> is_held{false};

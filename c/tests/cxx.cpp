@@ -15,7 +15,7 @@ using cefrodil::Writer;
 static_assert(!std::is_copy_constructible_v<Writer<2>> && std::is_nothrow_move_constructible_v<Writer<2>>);
 static_assert(!std::is_copy_assignable_v<Pass<2>> && std::is_nothrow_move_assignable_v<Pass<2>>);
 static_assert(!std::is_convertible_v<Status, bool>);
-// A handle is of one kind and one width.
+// A handle has one kind and one width.
 static_assert(!std::is_constructible_v<Writer<1>, Reader<1>> && !std::is_constructible_v<Writer<4>, Writer<1>>);
 static_assert(!std::is_constructible_v<Reader<1>, cefrodil::Handle> && !std::is_default_constructible_v<cefrodil::Handle>);
 // A pass becomes a reader only by leaving its desk. Both can be lent as what they have in common, which can't be moved.
@@ -191,7 +191,7 @@ static void stamped(Pass<1> &at_desk, Pass<1> &of_shards) {
     MUST(of_shards.try_stamped_entries(list) == Status::kind && list.empty());
 }
 
-// Both passes leave, and the second one gets the writer, which goes on a desk again.
+// Both passes leave, and the second one gets the writer, which is put on a desk again.
 static void leaving(std::vector<Pass<1>> passes) {
     cefrodil::Reader<1> readers[2];
     cefrodil::Writer<1> writer;

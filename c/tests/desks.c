@@ -1,4 +1,4 @@
-/* The writer of an open cache goes on a desk, comes back, and goes on a desk once more. */
+/* The writer of an open cache is put on a desk, comes back, and is put on a desk once more. */
 #include "cefrodil.h"
 #include "must.h"
 

@@ -23,7 +23,7 @@ static void close_all(void) {
     }
 }
 
-/* The first `put` of so many entries are put, and the others have this status. */
+/* The first `put` of `count` entries are put, and the others have this status. */
 static void loads(cefrodil_shape shape, size_t count, size_t put, uint32_t others) {
     uint32_t statuses[10];
     uint64_t value[1];
@@ -122,7 +122,7 @@ static void listed(void) {
     close_all();
 }
 
-/* So are values of each width, and a cache without keys. */
+/* Values of each width are listed, and a cache without keys. */
 static void listed_widths(void) {
     cefrodil_shape shape = shape_of(4, 3, most);
     for (size_t words = 1; words <= 8; words++) {
@@ -189,7 +189,7 @@ static void stamped(void) {
     close_all();
 }
 
-/* So does a pass at a desk, but not one of shards. */
+/* A pass at a desk lists entries with stamps, too. A pass of shards does not. */
 static void stamped_by_turns(void) {
     cefrodil_shape shape = shape_of(8, 16, most);
     for (int of_shards = 0; of_shards < 2; of_shards++) {

@@ -1,4 +1,4 @@
-// A fill whose value was read before its key was changed in the store is refused, and the cache does not go back to the old value.
+// A fill whose value was read before its key was changed in the store is refused, and the cache does not return to the old value.
 #include "cefrodil_filler.hpp"
 #include "must.h"
 #include <string>
@@ -38,7 +38,7 @@ static void lost_update() {
     MUST(filler.fill(1, tickets.take(), {store}).status == Status::present);
 }
 
-// A new value that was put and has gone again is a change as well.
+// A new value that was put and is absent again is a change as well.
 static void lost_put() {
     std::vector<Reader<1>> readers;
     Filler<1> filler = filler_of(10, readers);

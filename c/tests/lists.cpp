@@ -24,7 +24,7 @@ static cefrodil_status counted_stamped_entries(cefrodil_handle *handle, uint64_t
 
 using namespace cefrodil;
 
-// One more call of the archive, with room for so many words. The list has the others' length, and nothing else.
+// One more call of the archive, with room for `room` words. The list has the others' length, and nothing else.
 static bool once(Status status, const std::vector<uint64_t> &list, size_t words, size_t room) {
     static int before;
     return status == Status::ok && list.size() == words && ++before == calls && last_room == room;

@@ -1,4 +1,4 @@
-/* Each allocation of an opening is refused in turn: no handle is open then, and nothing is kept. So is that of a list of entries,
+/* Each allocation of an opening is refused in turn: then no handle is open, and nothing leaks. So is that of a list of entries,
  * that of a pass that leaves its desk, and each of a desk for a writer. A list without room takes no memory. Linked with --wrap. */
 #include "cefrodil.h"
 #include <stdio.h>
@@ -42,7 +42,7 @@ static cefrodil_handle writer, handles[4];
 
 enum how { APART, BY_TURNS, BY_SHARDS, WITH_ENTRIES };
 
-/* Three entries of 1 to 8 words, and what is told of them. */
+/* Three entries of 1 to 8 words, and their statuses. */
 static const uint64_t entries[27];
 static uint32_t statuses[3];
 

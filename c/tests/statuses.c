@@ -245,7 +245,7 @@ static void leaving(void) {
     MUST(cefrodil_leave_desk(&passes[0], &writer) == CEFRODIL_KIND && !writer.live_ && cefrodil_close(&passes[0]) == CEFRODIL_OK);
 }
 
-/* The writer goes first: its readers can still look up. A handle that was moved is the same one. */
+/* The writer is closed first: its readers can still look up. A handle that was moved is the same one. */
 static void last_close(void) {
     uint64_t found[2];
     cefrodil_handle moved = cefrodil_move(&readers[1]);

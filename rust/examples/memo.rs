@@ -37,7 +37,7 @@ fn next(number: u64) -> u64 {
     }
 }
 
-/// The same without a memory.
+/// Counts the steps without a memory.
 fn plain_steps(number: u64) -> u64 {
     std::iter::successors(Some(number), |last| (*last != 1).then(|| next(*last))).count() as u64 - 1
 }

@@ -285,8 +285,7 @@ impl<const WORDS: usize> Writer<WORDS> {
         reply::number(self.0.capacity()) as usize
     }
 
-    /// Lists each key with its value, as [`Cache::open_with`] takes them. The cache goes on. The library takes memory for the
-    /// list, too.
+    /// Lists each key with its value, as [`Cache::open_with`] takes them. The cache stays open. The library takes memory for the list, too.
     ///
     /// # Errors
     ///

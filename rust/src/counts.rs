@@ -110,7 +110,7 @@ impl Line {
     }
 }
 
-/// The lines of a cache's handles. The line of a handle that is dropped keeps its numbers, and the next handle that takes it goes on from
+/// The lines of a cache's handles. The line of a handle that is dropped keeps its numbers, and the next handle that takes it counts on from
 /// them.
 #[derive(Default)]
 pub(crate) struct Lines(Mutex<Kept>);
@@ -132,7 +132,7 @@ impl Lines {
 pub(crate) struct Counter(Option<(Shared<Line>, Shared<Lines>)>);
 
 impl Counter {
-    /// The counters of a new cache: so many.
+    /// `count` counters of a new cache.
     pub fn many(count: usize) -> Result<Vec<Counter>, NoMemory> {
         Counter::of(COUNTED.then(|| Shared::new(Lines::default())).transpose()?, count)
     }

@@ -152,8 +152,8 @@ impl<const WORDS: usize> Desk<WORDS> {
 
 impl<const WORDS: usize> Writer<WORDS> {
     /// Puts the writer on a desk, for this many passes at a time. So a cache that was opened with entries can have writers by turns. Its
-    /// readers go on beside the desk. A cache is opened with 64 readers to spare, or as many as 1,024 in all allow, and a new pass takes one
-    /// of them for good. This call takes memory.
+    /// readers stay open beside the desk. A cache is opened with 64 readers to spare, or as many as 1,024 in all allow, and a new pass
+    /// takes one of them for good. This call takes memory.
     ///
     /// ```
     /// use cefrodil::{Cache, Reply, Shape};

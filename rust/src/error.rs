@@ -104,7 +104,7 @@ pub struct Spent;
 #[derive(Clone, Copy, Debug, PartialEq, Eq, Hash)]
 #[non_exhaustive]
 pub enum ListError {
-    /// Out of memory. The cache goes on; list later.
+    /// Out of memory. The cache stays open; list later.
     NoMemory,
     /// A pass of shards has no such call: no call sees several shards at one moment. Waiting does not help.
     OfShards,
@@ -121,7 +121,7 @@ pub enum EndError {
     NoWriter,
 }
 
-/// A writer that did not go on a desk, and why.
+/// A writer that was not put on a desk, and why.
 #[derive(Debug)]
 pub struct NoDesk<const WORDS: usize> {
     /// The writer, as it was.

@@ -106,7 +106,7 @@ impl<T> Opening<T> {
         Ok(opened)
     }
 
-    // The same with the writer.
+    // Like `opened`, with the writer.
     fn opened_beside(
         mut self,
         status: u32,
@@ -172,7 +172,8 @@ impl Handle {
         all.opened(status, kind)
     }
 
-    /// The writer goes on a desk: its passes, or why not. Then the handle is closed; if not, it is the writer's still.
+    /// Puts the writer on a desk. Returns its passes, or why it failed. On success the handle is closed; otherwise it is still the
+    /// writer's.
     pub fn make_desk<T>(&mut self, passes: usize, kind: fn(Handle) -> T) -> Result<Vec<T>, OpenError> {
         let mut all = Opening::of(passes, |count| self.counter.more(count))?;
         // SAFETY: as in `open`.

@@ -8,7 +8,7 @@ use std::sync::atomic::{AtomicUsize, Ordering};
 #[derive(Debug)]
 pub struct NoMemory;
 
-/// An empty list with room for so many.
+/// An empty list with room for `count` entries.
 pub fn room<T>(count: usize) -> Result<Vec<T>, NoMemory> {
     let mut list = Vec::new();
     list.try_reserve_exact(count).map_err(|_| NoMemory)?;
@@ -17,7 +17,7 @@ pub fn room<T>(count: usize) -> Result<Vec<T>, NoMemory> {
 
 struct Block<T> {
     owners: AtomicUsize,
-    // The capacity of the list in which the block lies.
+    // The capacity of the list that holds the block.
     capacity: usize,
     shared: T,
 }
@@ -35,7 +35,7 @@ impl<T> Shared<T> {
         let mut list = ManuallyDrop::new(room(1)?);
         let capacity = list.capacity();
         list.push(Block { owners: AtomicUsize::new(1), capacity, shared });
-        // No list lies at null.
+        // No list is at null.
         NonNull::new(list.as_mut_ptr()).map(Shared).ok_or(NoMemory)
     }
 
@@ -62,10 +62,10 @@ impl<T> Deref for Shared<T> {
 
 impl<T> Drop for Shared<T> {
     fn drop(&mut self) {
-        // What the other owners did comes before the block goes.
+        // What the other owners did comes before the block is freed.
         if self.block().owners.fetch_sub(1, Ordering::AcqRel) == 1 {
             let capacity = self.block().capacity;
-            // SAFETY: this was the last owner, and the block lies in a list of one that `new` took apart.
+            // SAFETY: this was the last owner, and the block is in a list of one that `new` took apart.
             drop(unsafe { Vec::from_raw_parts(self.0.as_ptr(), 1, capacity) });
         }
     }

@@ -264,12 +264,12 @@ pub(crate) fn number((status, number): (u32, u64)) -> u64 {
 /// What a list of a pass is, or why there is none.
 pub(crate) type Listed<T> = Result<Vec<T>, TurnError<ListError>>;
 
-/// The entries of a cache, of which there are at most so many.
+/// The entries of a cache, at most `most` of them.
 pub(crate) fn entries<const WORDS: usize>(handle: &mut Handle, most: usize) -> Listed<(u64, [u64; WORDS])> {
     listed(1 + WORDS, most, |words| handle.entries(words), entry)
 }
 
-/// The same with stamps.
+/// The entries with their stamps.
 pub(crate) fn stamped_entries<const WORDS: usize>(handle: &mut Handle, most: usize) -> Listed<Entry<WORDS>> {
     listed(2 + WORDS, most, |words| handle.stamped_entries(words), stamped)
 }

@@ -9,7 +9,7 @@ use std::iter;
 
 const SMALL: Shape = Shape { limit: 1 << 62, buckets: 4, items: 16, stripes: 1, depth: 2, tries: 2, mix: Mix::None };
 
-// The error of each opening of this shape with so many readers, which is one.
+// The error of each opening of this shape with `readers` readers. All give the same one.
 fn opening_error<const WORDS: usize>(shape: &Shape, readers: usize) -> OpenError
 where
     [u64; WORDS]: Value,

@@ -59,7 +59,7 @@ fn entries_that_are_left_out_are_no_changes() -> Tested {
     Ok(())
 }
 
-// A stream that takes so many bytes.
+// A stream that takes this many bytes.
 struct Full(usize);
 
 impl io::Write for Full {

@@ -315,7 +315,7 @@ fn add_one(pass: &mut cefrodil::Pass<1>) {
     }
 }
 
-// A value of so many different words is put and found.
+// A value of `WORDS` different words is put and found.
 fn serves<const WORDS: usize>() -> Result<(), Box<dyn Error>>
 where
     [u64; WORDS]: Value,

@@ -129,7 +129,7 @@ fn a_desk_counts_on() -> Tested {
     Ok(())
 }
 
-// What a thread is told.
+// What a thread gets as answers.
 #[derive(Default)]
 struct Told([u64; 6]);
 
@@ -181,7 +181,7 @@ fn work(pass: &mut Pass<1>, is_held: &AtomicBool) -> Told {
     told
 }
 
-// Threads work by passes, and one reads the counts meanwhile. In the end they are what the threads were told.
+// Threads work by passes, and one reads the counts meanwhile. In the end they match the answers that the threads got.
 fn threads_work(passes: Vec<Pass<'static, 1>>) {
     let meter = passes[0].meter();
     let (mut all, mut misses, is_held) = ([0; 6], 0, &AtomicBool::new(false));

@@ -1,4 +1,4 @@
-//! A fill whose value was read before its key was changed in the store is refused, and the cache does not go back to the old value.
+//! A fill whose value was read before its key was changed in the store is refused, and the cache does not return to the old value.
 use cefrodil::{
     Cache, Desk, FillError, Filler, Mix, PutError, PutIfError, Reader, Removal, Reply, Shape, Spent, Ticket, Tickets, TurnError,
     Writer,

@@ -137,7 +137,7 @@ fn an_opening_with_entries_without_memory_is_an_error() -> Tested {
     Ok(())
 }
 
-// The writer goes on. Lines that were made are kept for the next handles.
+// The writer stays usable. Lines that were made are kept for the next handles.
 #[test]
 fn a_desk_for_a_writer_without_memory_is_an_error() -> Tested {
     fn try_desk(writer: Writer<1>, allowed: u32) -> Result<Desk<1>, Writer<1>> {

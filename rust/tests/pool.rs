@@ -144,7 +144,7 @@ impl Service {
     }
 }
 
-// Who need not be told that a future is ready.
+// A waker that ignores that a future is ready.
 struct Nobody;
 
 impl Wake for Nobody {

@@ -1,4 +1,4 @@
--- What a change is of.
+-- Which key a change belongs to.
 use Rattle.std.specs.Prelude.{ℕ}
 use Rattle.mc_words.specs.declared.history.Change.{Change}
 use Rattle.mc_words.specs.declared.history.Change.TheVariants.{Put, Remove, Evict}

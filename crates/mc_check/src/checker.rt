@@ -57,7 +57,7 @@ impl<'h, const V: usize> Checker<'h, V> {
         }
     }
 
-    /// The last change of the key among the first so many.
+    /// The last change of the key among the first `moment` changes.
     fn last(&self, key: u64, moment: usize) -> Option<usize>
         requires { moment ≤ length self.now }
         ensures { IsLast self.now key moment result }

@@ -42,7 +42,7 @@ pub(crate) fn is_stamp(last: Option<usize>, since: u64) -> bool
     }
 }
 
-/// The last change of the key among the first so many. It is looked for from the moment backwards.
+/// The last change of the key among the first `moment` changes. It searches from there backwards.
 pub(crate) fn last_change<const V: usize>(
     history: &[Change<V>],
     key: u64,

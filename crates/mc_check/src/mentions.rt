@@ -60,7 +60,7 @@ fn count_before(mentions: &[Mention], bound: u128) -> usize
     mentions.partition_point(|mention| rank(mention.key, mention.moment) < bound)
 }
 
-/// The last change of the key among the first so many of the history that the mentions are of.
+/// The last change of the key among the first `moment` changes of the history that these mentions index.
 pub(crate) fn last_mention(mentions: &[Mention], key: u64, moment: usize) -> Option<usize>
     ensures { (V : ℕ) (h : List (Change V)) → AreMentionsOf h mentions.now → moment ≤ length h → IsLast h key moment result }
 {

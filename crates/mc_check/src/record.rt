@@ -1,4 +1,4 @@
-//! What a reader was told.
+//! A reader's answer.
 ghost use Rattle.std.specs.Prelude.{◌≡◌, ◌≤◌, length};
 ghost use Rattle.std.specs.Bool.{Decides};
 ghost use Rattle.mc_words.specs.History.{IsTrueAnswer};
@@ -7,7 +7,7 @@ ghost use Rattle.mc_check.specs.Inside.Last.{IsLast, moment_in};
 use crate::last::{is_stamp, value_of};
 use mc_words::{Change, Reply};
 
-/// What a reader was told of a key.
+/// A reader's answer for a key.
 #[derive(Clone, Copy)]
 pub struct Record<const V: usize> {
     /// Counted from 0.

@@ -1,4 +1,4 @@
--- The keys of one call: those that are drawn next, and what was told of them.
+-- The keys of one call: those that are drawn next, and their answers.
 use Rattle.std.proofs.Common.{ℕ, zero, suc, below_more, ◌≡◌, ◌+◌, ◌<◌, List, [], ◌∷◌, ◌++◌, length, get_or, set, take, ap, sym, subst, ◌∙◌, arith}
 use Rattle.std.proofs.Math.Seq.{get_or-append_seam}
 use Rattle.std.proofs.lemmas.List.{get_or_append_left, length-append, length-take-le, take_more_set}

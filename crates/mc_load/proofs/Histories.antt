@@ -1,4 +1,4 @@
--- The history of the writer's acts, and what was told of it.
+-- The history of the writer's acts, and what the answers say of it.
 use Rattle.std.proofs.Common.{ℕ, ◌≡◌, ◌+◌, ◌*◌, ◌%◌, add-one, eq-eqb, false, below_more, List, [], ◌∷◌, ◌++◌, length, get_or, Some, None, Ok, Err, Result, refl, ap, sym, subst, ◌∙◌, arith}
 use Rattle.std.specs.Prelude.{replicate}
 use Rattle.std.proofs.Math.Dec.{eqb}
@@ -62,7 +62,7 @@ remove_history V sh s t k (Ok (Removed at)) a = a.grows.history
 remove_history V sh s t k (Ok (NotThere at)) a = ap (λ q. q.history) a.unchanged ∙ sym (append-nil s.history)
 remove_history V sh s t k (Err spent) a = ap (λ q. q.history) a.1 ∙ sym (append-nil s.history)
 
--- what a call changed of the history is what its answer tells
+-- what a call changed of the history is what its answer says
 pub put_told : (V : ℕ) (sh : Shape) (before after : WriterRecord) (k : ℕ) (v : List ℕ) (told : Result Put PutError) → IsLawful V sh before.acts → HasCalled V sh (PutCall k v) before after (answer.Put told)
     → IsLawful V sh after.acts × ((state_of V sh after.acts).history ≡ (state_of V sh before.acts).history ++ put_changes k v told)
 put_told V sh before after k v told lawful h = (

@@ -82,7 +82,7 @@ refused_by_none may load error.Keys r = r
 refused_by_none may load error.Writers r = absurd r
 refused_by_none may load error.Shards r = absurd r
 
--- what a reader of a cache was told is true of the history of a writer whom it has met
+-- a reader's answers are true of the history of a writer that it has met
 pub told_of_cache : {V : ℕ} (h : Handle V) (held : CacheReader V) (w : WriterRecord) (records : List (Record V)) → h ≡ handle.Cache held → cache_of h ≡ Some w.of → IsFrontOf held.reader.front w.acts → AreAllTold V h records
     → AreTrue (history_after V w.of.layout.shape w.acts) records
 told_of_cache {V} h held w records is of begins told =

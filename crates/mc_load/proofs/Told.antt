@@ -1,4 +1,4 @@
--- What the answers of turns tell of moments.
+-- What the answers of turns say of moments.
 use Rattle.std.specs.Prelude.{IfOk, Ok, Err, Result}
 use Rattle.std.proofs.Common.{ℕ, List, Some, None, ap, arith, length}
 use Rattle.std.proofs.lemmas.List.{length-append}

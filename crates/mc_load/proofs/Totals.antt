@@ -14,7 +14,7 @@ use Rattle.mc_load.specs.Loads.{is_absent, is_busy, is_found, total_of}
 use Rattle.mc_load.specs.Inside.Workers.{answers_of}
 use Rattle.mc_load.specs.declared.looking.Looking.{Looking}
 
--- how many answers of one reader are of a kind
+-- how many answers of one reader have this kind
 abbrev pub count_of : {V : ℕ} → (Reply V → Bool) → List (Record V) → ℕ
 count_of {V} kind records = count_by (λ (r : Record V). kind r.reply) records
 
@@ -22,7 +22,7 @@ all_true_at : {V : ℕ} (h : List (Change V)) (r : Record V) (rs : List (Record 
 all_true_at {V} h r rs one all zero d low = one
 all_true_at {V} h r rs one all (suc k) d low = all k d (omega (arith, low))
 
--- an answer is of one kind
+-- an answer has one kind
 of_one_kind : {V : ℕ} (reply : Reply V) → cond (is_found reply) 1 0 + cond (is_absent reply) 1 0 + cond (is_busy reply) 1 0 ≡ 1
 of_one_kind (Found v at since) = refl
 of_one_kind (Absent at) = refl

@@ -17,7 +17,7 @@ use Rattle.mc_load.specs.declared.trying.Trying.{Trying}
 use Rattle.mc_load.specs.declared.writing.Writing.{Writing}
 
 -- ---- readers
--- of a new cache there are as many as were asked for
+-- of a new cache there are as many as requested
 pub new_length : (o : Opening) (n : ℕ) → length (new_readers o n) ≡ n
 new_length o zero = refl
 new_length o (suc n) = let h = new_length o n in omega (arith, h, length-append (new_readers o n) (reader_record o n [] [] ∷ []))

@@ -4,7 +4,7 @@ use Rattle.mc_load.specs.Draws.{generator_after}
 use Rattle.mc_load.specs.declared.asked.Load.{Load}
 use Rattle.mc_load.specs.declared.draws.Draws.{Draws}
 
--- so many words of a worker of this load were drawn
+-- n words of a worker of this load were drawn
 pub record HasDrawn (load : Load) (who n : ℕ) (d : Draws) : Type 0 where
   pub generator : d.generator ≡ generator_after load who n
   pub keys : d.keys ≡ load.keys

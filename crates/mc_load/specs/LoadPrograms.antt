@@ -1,4 +1,4 @@
--- What the program `mcload` writes and tells, and its exit status.
+-- What the program `mcload` writes to its two streams, and its exit status.
 use Rattle.std.specs.Prelude.{◌≡◌, ◌≢◌, ◌+◌, ◌==◌, ◌&&◌, ℕ, ◌⊎◌, ◌++◌, ◌∷◌, Bool, false, List, [], take, codes, if◌then◌else◌}
 use Rattle.std.specs.Fmt.{decimal}
 use Rattle.std.specs.Io.KnownBytes.{Appends}
@@ -23,7 +23,7 @@ abbrev pub lines_text : (lookups writes : ℕ) → Bool → (wrong : ℕ) → Li
 lines_text lookups writes sum wrong =
     codes "lookups " ++ decimal lookups ++ codes "\nwrites " ++ decimal writes ++ codes "\nsum " ++ (if sum then codes "ok" else codes "bad") ++ codes "\nwrong " ++ decimal wrong
 
--- the sum is of the answers
+-- the sum is that of the answers
 abbrev pub report_text : Report → List ℕ
 report_text r = lines_text r.lookups r.writes (r.found + r.absent + r.busy == r.lookups) r.wrong
 
@@ -31,7 +31,7 @@ report_text r = lines_text r.lookups r.writes (r.found + r.absent + r.busy == r.
 abbrev pub turns_text : DeskReport → List ℕ
 turns_text r = lines_text r.lookups r.calls ((r.found + r.absent + r.busy == r.lookups) && (r.held + r.answered == r.calls)) r.wrong
 
--- what is told of a load that is refused
+-- what is printed for a load that is refused
 abbrev pub load_text : LoadError → List ℕ
 load_text (error.Open (opening.Shape why)) = shape_text why
 load_text (error.Open opening.Readers) = codes "readers must be from 1 to 1024"
@@ -57,7 +57,7 @@ load_status (error.Gate who call) = failed
 abbrev pub load_of : LoadOptions → Load
 load_of o = record { shape = o.shape; readers = o.readers; lookups = o.lookups; writes = o.writes; keys = o.keys; seed = o.seed }
 
--- the lines were written, and where more is asked for, bytes of which no clause speaks; or, where a write failed, a beginning of all that
+-- the lines were written, and, if more is requested, bytes that no clause specifies; or, if a write failed, a beginning of all that
 abbrev pub WritesLines : Bool → Stream → List ℕ → ℕ → Type 0
 WritesLines asked output text status =
     (more : List ℕ) × (asked ≡ false → more ≡ []) × (((status ≡ 0) × Appends output.old output.new (text ++ 10 ∷ more)) ⊎ ((status ≡ failed) × ((n : ℕ) × Appends output.old output.new (take n (text ++ 10 ∷ more)))))
@@ -78,7 +78,7 @@ IsAlone o = (o.writers ≡ 1) × (o.shards ≡ 1)
 abbrev pub IsRefused : LoadOptions → LoadError → Type 0
 IsRefused o why = (IsAlone o × RefusesLoad (λ who call. ⊥) (load_of o) why) ⊎ ((¬ IsAlone o) × RefusesTurns (λ who call. ⊥) (load_of o) o.shards o.writers why)
 
--- the refusal is told
+-- the refusal is reported
 abbrev pub TellsRefusal : LoadOptions → Stream → Stream → ℕ → Type 0
 TellsRefusal o output errors status =
     (why : LoadError) × IsRefused o why × IsUntouched output × Tells errors (codes "refused: " ++ load_text why) × (status ≡ load_status why)

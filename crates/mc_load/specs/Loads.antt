@@ -19,7 +19,7 @@ use Rattle.mc_load.specs.declared.error.LoadError.TheVariants as error
 use Rattle.mc_load.specs.declared.report.Report.{Report}
 use Rattle.mc_load.specs.declared.asked.Load.{Load}
 
--- a new writer has made so many calls, one after the other, each the one that was drawn
+-- a new writer has made this many calls, one after the other, each the one that was drawn
 unfoldable pub HasMade : (V : ℕ) → Load → ℕ → WriterRecord → Type 0
 HasMade V load zero w = w.acts ≡ []
 HasMade V load (suc n) w = (before : WriterRecord) × (told : Answer) × HasMade V load n before × HasCalled V load.shape (drawn_call V load n) before w told
@@ -28,11 +28,11 @@ HasMade V load (suc n) w = (before : WriterRecord) × (told : Answer) × HasMade
 abbrev pub AreTrue : {V : ℕ} → List (Change V) → List (Record V) → Type 0
 AreTrue {V} h records = All (λ (r : Record V). IsTrueAnswer h r.key r.reply) records
 
--- reader r has looked up so many keys, each the one that was drawn
+-- reader r has looked up these keys, each the one that was drawn
 abbrev pub AreDrawn : {V : ℕ} → Load → ℕ → List (Record V) → Type 0
 AreDrawn {V} load r records = (n : ℕ) (d : Record V) → n < length records → (slice_index_or records n d).key ≡ drawn_key load (r + 1) n
 
--- what reader r was told: an answer to each of its lookups, which is true of the history
+-- the answers of reader r: one to each of its lookups, which is true of the history
 pub record HasLookedUp {V : ℕ} (load : Load) (h : List (Change V)) (r : ℕ) (records : List (Record V)) : Type 0 where
   pub many : length records ≡ load.lookups
   pub drawn : AreDrawn load r records
@@ -64,7 +64,7 @@ is_busy (reply.Found v at since) = false
 is_busy (reply.Absent at) = false
 is_busy reply.Busy = true
 
--- how many answers of all readers are of a kind
+-- how many answers of all readers have this kind
 abbrev pub total_of : {V : ℕ} → (Reply V → Bool) → List (List (Record V)) → ℕ
 total_of {V} kind answers = sum_by (λ (records : List (Record V)). count_by (λ (r : Record V). kind r.reply) records) answers
 
@@ -101,7 +101,7 @@ MayAskAtOnce many = (1 ≤ many) × (many ≤ most_at_once)
 abbrev pub IsCall : Load → ℕ → ℕ → Type 0
 IsCall load who call = (1 ≤ call) × (((who ≡ 0) × (call ≤ load.writes)) ⊎ ((1 ≤ who) × (who ≤ load.readers) × (call ≤ load.lookups)))
 
--- the first fault of what was asked for; where there is none, memory was refused, or the gate refused a call, which is one that it may refuse
+-- the first fault of the request; if there is none, memory was refused, or the gate refused a call that it may refuse
 abbrev pub RefusesLoad : (ℕ → ℕ → Type 0) → Load → LoadError → Type 0
 RefusesLoad may load error.Writers = ⊥
 RefusesLoad may load error.Shards = ⊥

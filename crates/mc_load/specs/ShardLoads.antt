@@ -38,12 +38,12 @@ who_of readers writer = if writer == 0 then 0 else readers + writer
 
 -- ---- what is reported
 
--- reader r has looked up as many keys as were asked for, each the one that was drawn
+-- reader r has looked up the requested number of keys, each the one that was drawn
 pub record HasAsked {V : ℕ} (load : Load) (r : ℕ) (records : List (Record V)) : Type 0 where
   pub many : length records ≡ load.lookups
   pub drawn : AreDrawn load r records
 
--- what was told of a shard's keys
+-- the answers for a shard's keys
 abbrev pub answers_in : {V : ℕ} → Mix → ℕ → ℕ → List (Record V) → List (Record V)
 answers_in {V} mix shards n records = filter (λ (r : Record V). shard_of mix shards r.key == n) records
 
@@ -95,7 +95,7 @@ RefusesSeats sh readers writers (opening.Shape why) = RefusesShape sh why
 RefusesSeats sh readers writers opening.Readers = IsShape sh × (¬ HasSeats readers writers)
 RefusesSeats sh readers writers opening.NoMemory = IsShape sh × HasSeats readers writers
 
--- what was asked for has no fault
+-- the request has no fault
 pub record CanTakeTurns (load : Load) (shards writers : ℕ) : Type 0 where
   pub some : HasWriters writers
   pub keys : HasKeys load.keys
@@ -103,7 +103,7 @@ pub record CanTakeTurns (load : Load) (shards writers : ℕ) : Type 0 where
   pub shape : IsShape load.shape
   pub seats : HasSeats load.readers writers
 
--- the first fault of what was asked for; where there is none, memory was refused, or the gate refused a call, which is one that it may refuse
+-- the first fault of the request; if there is none, memory was refused, or the gate refused a call that it may refuse
 abbrev pub RefusesTurns : (ℕ → ℕ → Type 0) → Load → ℕ → ℕ → LoadError → Type 0
 RefusesTurns may load shards writers error.Writers = ¬ HasWriters writers
 RefusesTurns may load shards writers error.Keys = HasWriters writers × (¬ HasKeys load.keys)

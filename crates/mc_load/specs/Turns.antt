@@ -39,13 +39,14 @@ answered_of (Ok done) = 1
 answered_of (Err desk.Held) = 0
 answered_of (Err (desk.Call why)) = 1
 
--- a writer's tries so far: the records of its pass, what they counted as, and the changes that it was told of
+-- a writer's tries so far: the records of its pass, what they counted as, and the changes that their answers reported
 pub record Tries (V : ℕ) : Type 0 where
   pub pass : List ReaderRecord
   pub turns : Turns
   pub journal : List (Dated V)
 
--- one try more, to make this call for this key: it was one at the key's shard, it was counted as what it was, and what its answer tells was written down
+-- one try more, to make this call for this key: it was one at the key's shard, its outcome was counted, and what its answer reports was
+-- written down
 pub record HasTriedCall {T E : Type 0} (V : ℕ) (s : Sharded) (k : ℕ) (call : Call) (answered_by : Result T E → Answer) (changes : Result T (DeskError E) → List (Dated V)) (before after : Tries V) : Type 0 where
   pub told : Result T (DeskError E)
   pub turn : ChangesAt (shard_in s k) before.pass after.pass (λ r r'. HasTried V s.shape call answered_by r r' told)
@@ -59,7 +60,7 @@ IsTryOf V s (RemoveCall k) before after = HasTriedCall V s k (RemoveCall k) answ
 IsTryOf V s (PutIfCall k since v) before after = ⊥
 IsTryOf V s (KeptCall k v) before after = ⊥
 
--- so many tries of a writer, one after the other, each to make the call that was drawn
+-- this many tries of a writer, one after the other, each to make the call that was drawn
 unfoldable pub HasTriedDrawn : (V : ℕ) → Sharded → Load → ℕ → ℕ → Tries V → Type 0
 HasTriedDrawn V s load writer zero t = (t.turns.held ≡ 0) × (t.turns.answered ≡ 0) × (t.journal ≡ [])
 HasTriedDrawn V s load writer (suc n) t = (before : Tries V) × HasTriedDrawn V s load writer n before × IsTryOf V s (drawn_turn V load writer n) before t

@@ -1,4 +1,4 @@
-//! The changes that a turn's answer tells, each with its moment, written down.
+//! The changes that a turn's answer reports, written down, each with its moment.
 ghost use Rattle.std.specs.Prelude.{◌≡◌, ◌+◌, ◌≤◌, ◌++◌, IfOk, vec_len, vec_capacity};
 ghost use Rattle.mc_load.specs.Dates.{put_dated, removal_dated};
 ghost use Rattle.mc_load.specs.Inside.Dates.{IsAfterEviction};
@@ -12,7 +12,7 @@ pub(crate) struct Dated<const V: usize> {
     pub(crate) change: Change<V>,
 }
 
-/// Writes down what a put changed, and tells its moment. A key is evicted at the moment before it.
+/// Writes down what a put changed, and returns its moment. A key is evicted at the moment before it.
 pub(crate) fn note_put_at<const V: usize>(
     journal: &mut Vec<Dated<V>>,
     key: u64,
@@ -39,7 +39,7 @@ pub(crate) fn note_put_at<const V: usize>(
     Some(at)
 }
 
-/// Writes down what a removal changed, and tells its moment.
+/// Writes down what a removal changed, and returns its moment.
 pub(crate) fn note_removal_at<const V: usize>(
     journal: &mut Vec<Dated<V>>,
     key: u64,

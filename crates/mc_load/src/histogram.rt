@@ -52,7 +52,7 @@ impl Display for Row {
     }
 }
 
-/// The worker of this number, of so many readers. Where several writers took turns, this is what came of their tries.
+/// The worker with this number, if there are `readers` readers. If several writers took turns, `turns` is what came of their tries.
 fn worker_of(who: u32, readers: u32, turns: &[Turns]) -> Worker {
     if 0 < who && who <= readers {
         return Worker::Reader(who - 1);

@@ -14,7 +14,7 @@ fn note<const V: usize>(journal: &mut Vec<Change<V>>, change: Change<V>)
     let _ = journal.push(change);
 }
 
-/// Writes down what a put changed, and tells its moment.
+/// Writes down what a put changed, and returns its moment.
 pub(crate) fn note_put<const V: usize>(
     journal: &mut Vec<Change<V>>,
     key: u64,
@@ -42,7 +42,7 @@ pub(crate) fn note_put<const V: usize>(
     }
 }
 
-/// Writes down what a removal changed, and tells its moment.
+/// Writes down what a removal changed, and returns its moment.
 pub(crate) fn note_removal<const V: usize>(
     journal: &mut Vec<Change<V>>,
     key: u64,

@@ -1,8 +1,8 @@
 //! Loads, and the body of the program `mcload` that runs them, over any streams.
 //!
 //! A load opens a cache, runs writers and readers in threads, each with calls that it draws, and checks every answer. `load` has one
-//! writer, `load_desk` several that take turns at the cache's desk, and `load_shards` several that take turns at shards. A `Gate` is
-//! asked before each call and told of each answer, so that a test can hold workers back.
+//! writer, `load_desk` several that take turns at the cache's desk, and `load_shards` several that take turns at shards. A `Gate` is asked
+//! before each call and gets each answer, so that a test can hold workers back.
 //!
 //! ```text
 //! let report = load::<4, R, Free>(rt, alloc, load, &Free)?;

@@ -243,8 +243,9 @@ fn run_for<R: Threads + Sync + Clock, W: Write, E: Write>(
 
 /// The whole program `mcload`: the words of the command line, its own name first, and its two streams.
 ///
-/// Answers the exit status: 0 where the report is written; 2 where an option, the shape, the readers or the keys are refused; 3
-/// for want of memory or a failed write. Where there is no memory to measure, `--histogram` adds nothing. The texts of help and version, and of a fault of the words, are `clap`'s.
+/// Answers the exit status: 0 where the report is written; 2 if an option, the shape, the readers or the keys are refused; 3 if there is no
+/// memory or a write failed. Without memory to measure, `--histogram` adds nothing. The texts of help and version, and of a fault of the
+/// words, are `clap`'s.
 pub fn run_load<S: AsStr, R: Threads + Sync + Clock, W: Write, E: Write>(
     rt: &R,
     alloc: Global,

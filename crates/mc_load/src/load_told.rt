@@ -1,4 +1,4 @@
-//! What `mcload` writes, and what it tells on standard error.
+//! What `mcload` writes, and what it reports on standard error.
 ghost use Rattle.std.specs.Prelude.{◌≡◌, ◌+◌, ◌==◌, ◌++◌, Some, codes};
 ghost use Rattle.mc_load.specs.LoadPrograms.{load_text, report_text, turns_text};
 ghost use Rattle.mc_load.specs.Told.{text_of};

@@ -48,7 +48,7 @@ impl<'p, const V: usize> Looking<'p, V> {
     ghost use Rattle.mc_load.specs.Inside.Workers.{AreNextOf, HasNotedDrawn, IsNextOf};
     ghost use Rattle.mc_words.specs.Readers.{most_readers};
 
-    /// Writes one answer down, and tells the gate of it.
+    /// Writes one answer down, and passes it to the gate.
     fn note<A: Asks>(&mut self, gate: &A, key: u64, reply: Reply<V>)
         requires number { self.old.number < most_readers }
         requires room { vec_len self.old.records + 1 ≤ vec_capacity self.old.records }
@@ -66,7 +66,7 @@ impl<'p, const V: usize> Looking<'p, V> {
         gate.after(reader + 1, self.records.len() as u64, at);
     }
 
-    /// Writes the answers of one call down, and tells the gate of each.
+    /// Writes the answers of one call down, and passes each to the gate.
     fn note_all<A: Asks>(&mut self, gate: &A, keys: &[u64], replies: &[Reply<V>])
         requires number { self.old.number < most_readers }
         requires many { length replies.now ≡ length keys.now }
@@ -102,8 +102,8 @@ impl<'p, const V: usize> Looking<'p, V> {
         self.note_all(gate, keys, replies);
     }
 
-    /// Asks the gate for so many calls, up to one that it refuses, and draws the keys of those that it lets through: how many
-    /// they are.
+    /// Asks the gate for at most `most` calls, up to one that it refuses, and draws the keys of those that it lets through. Returns how
+    /// many they are.
     fn ask<A: Asks>(&mut self, gate: &A, most: usize, keys: &mut [u64]) -> usize
         requires number { self.old.number < most_readers }
         requires most { most ≤ length keys.old }

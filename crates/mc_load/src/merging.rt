@@ -34,7 +34,7 @@ impl Share {
     }
 }
 
-/// Writes those of the changes that are of the shard's keys behind others. There is room for all.
+/// Appends the changes of the shard's keys to others. There is room for all.
 fn append<const V: usize>(all: &mut Vec<Dated<V>>, share: Share, journal: &[Dated<V>])
     requires width { IsWidth V }
     requires room { vec_len all.old + length journal.now ≤ vec_capacity all.old }

@@ -7,10 +7,10 @@ use std::marker::Sync;
 use std::sync::atomic::{AtomicU64, Ordering};
 use std::time::Clock;
 
-/// How many answers lie so far behind the newest change: 0, 1 to 9, 10 to 99, 100 to 999, more.
+/// How many classes there are of how far answers are behind the newest change: 0, 1 to 9, 10 to 99, 100 to 999, more.
 pub const DELAYS: usize = 5;
 
-/// The clock is read at each of a worker's first calls, and then at one in so many.
+/// The clock is read at each of a worker's first calls, and then at one in this many.
 const CALLS_A_READING: u64 = 256;
 
 /// What is known of one worker. It alone writes here.
@@ -32,7 +32,7 @@ pub struct Figures {
     pub calls_a_second: u64,
     /// Answers without a moment.
     pub busy: u64,
-    /// Answers by how far they were behind the newest change that the writer had been told of.
+    /// Answers by how far they were behind the newest change that the writer knew of.
     pub behind: [u64; DELAYS],
 }
 
@@ -103,7 +103,7 @@ fn class_of(behind: u64) -> usize
 }
 
 impl<'c, C> Meter<'c, C> {
-    /// For so many readers and writers, of which there is one at least.
+    /// For `readers` readers and `writers` writers, of which there is at least one.
     pub fn new(
         alloc: Global,
         clock: &'c C,

@@ -119,7 +119,7 @@ fn looking_of<'p, const V: usize>(
     })
 }
 
-/// The readers, each with one of these handles. Each asks for so many keys at once.
+/// The readers, each with one of these handles. Each asks for `many` keys at once.
 pub(crate) fn lookings_of<'p, const V: usize>(
     alloc: Global,
     load: Load,

@@ -26,7 +26,7 @@ pub(crate) fn refused_lookup<const V: usize>(lookings: &[Looking<'_, V>]) -> Opt
     None
 }
 
-/// The same of the writers that take turns.
+/// The first refusal by the gate among the writers that take turns.
 pub(crate) fn refused_try<const V: usize>(tryings: &[Trying<'_, V>]) -> Option<LoadError>
     ensures none { IfNone result (AreTriesLetThrough tryings.now (length tryings.now)) }
     ensures some { IfSome result (IsTryRefusal tryings.now) }

@@ -22,7 +22,7 @@ pub struct Report {
 }
 
 impl Report {
-    /// Of a writer that has made so many calls and changes, and of no reader.
+    /// Of a writer that has made `writes` calls and `changes` changes, and of no reader.
     pub fn none(writes: u64, changes: u64) -> Report
         ensures counts { (result.lookups ≡ 0) × (result.wrong ≡ 0) }
         ensures answers { (result.found ≡ 0) × (result.absent ≡ 0) × (result.busy ≡ 0) }
@@ -39,7 +39,7 @@ impl Report {
         }
     }
 
-    /// Adds the answers of one reader, of which so many are wrong.
+    /// Adds the answers of one reader, of which `wrong` are wrong.
     pub fn add(&mut self, tally: Tally, wrong: u64)
         requires many { self.old.lookups + (tally.found + tally.absent + tally.busy) < 2 ^ 64 }
         requires answers { self.old.found + self.old.absent + self.old.busy ≡ self.old.lookups }

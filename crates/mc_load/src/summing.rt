@@ -1,4 +1,4 @@
-//! What the readers were told is added up, and for a single writer checked.
+//! Adds up the readers' answers, and checks them if there is a single writer.
 ghost use Rattle.std.specs.Prelude.{ℕ, ◌≡◌, ◌*◌, ◌+◌, ◌≤◌, ◌<◌, Some, length, slice_index_or, vec_len};
 ghost use Rattle.mc_words.specs.Places.{IsWidth};
 ghost use Rattle.mc_words.specs.Readers.{most_readers};
@@ -16,7 +16,7 @@ use mc_cache::Writer;
 use mc_check::Checker;
 use std::alloc::Global;
 
-/// How many answers of all readers are of each kind.
+/// How many answers of all readers have each kind.
 pub(crate) fn answers_of<const V: usize>(load: Load, lookings: &[Looking<'_, V>]) -> Report
     requires few { length lookings.now ≤ most_readers }
     requires noted { HaveAllNoted load lookings.now }

@@ -16,7 +16,7 @@ pub(crate) struct Trying<'p, const V: usize> {
     pub(crate) handle: Handle<'p, V>,
     /// Among the writers, counted from 0.
     pub(crate) number: u32,
-    /// Among all workers, as the gate is told.
+    /// Among all workers, as the gate counts them.
     pub(crate) who: u32,
     pub(crate) draws: Draws,
     pub(crate) turns: Turns,
@@ -71,7 +71,7 @@ impl<'p, const V: usize> Trying<'p, V> {
         note_put_at(&mut self.journal, key, value, told)
     }
 
-    /// Makes one call, and tells the moment of its answer. Each word of a value names the call and the writer.
+    /// Makes one call, and returns the moment of its answer. Each word of a value names the call and the writer.
     fn make_call(&mut self, call: u64) -> Option<u64>
         requires few { (self.old.number < most_writers) × (call < 2 ^ 33) }
         requires counted { self.old.turns.held + self.old.turns.answered + 1 < 2 ^ 64 }

@@ -63,7 +63,7 @@ pub struct DeskReport {
     pub calls: u64,
     pub held: u64,
     pub answered: u64,
-    /// Changes of the map that the writers were told of.
+    /// Changes of the map that the writers' answers reported.
     pub changes: u64,
     /// Answers that aren't what the map held after the changes that they name, and moments of a shard that no change or several have.
     pub wrong: u64,
@@ -72,7 +72,7 @@ pub struct DeskReport {
 /// The report of a load of shards.
 pub type TurnsReport = DeskReport;
 
-/// The same, and what came of each writer's tries.
+/// The report of the desk, and what came of each writer's tries.
 #[derive(Clone, Copy)]
 pub struct TurnsRun {
     pub report: DeskReport,

@@ -74,7 +74,7 @@ fn run_workers<const V: usize, R: Threads + Sync, G: Gate>(
     Ok(run_of(alloc, load, shards, seated))
 }
 
-/// As `load_desk`, and tells what came of each writer's tries.
+/// Like `load_desk`. It also returns what came of each writer's tries.
 /// Condition: a value has from 1 to 8 words.
 pub fn run_desk<const V: usize, R: Threads + Sync, G: Gate>(
     rt: &R,
@@ -101,7 +101,7 @@ pub fn run_desk<const V: usize, R: Threads + Sync, G: Gate>(
     }
 }
 
-/// As `load_shards`, and tells what came of each writer's tries.
+/// Like `load_shards`. It also returns what came of each writer's tries.
 /// Condition: a value has from 1 to 8 words.
 pub fn run_shards<const V: usize, R: Threads + Sync, G: Gate>(
     rt: &R,
@@ -153,8 +153,8 @@ pub fn load_desk<const V: usize, R: Threads + Sync, G: Gate>(
     }
 }
 
-/// The same on that many shards, each of the load's shape: a writer tries for the turn of its key's shard, and the answers are checked
-/// shard by shard.
+/// Like `load_desk`, on `shards` shards, each of the load's shape: a writer tries for the turn of its key's shard, and the answers are
+/// checked shard by shard.
 /// Condition: a value has from 1 to 8 words.
 pub fn load_shards<const V: usize, R: Threads + Sync, G: Gate>(
     rt: &R,

@@ -73,7 +73,7 @@ fn tryings_of<'p, const V: usize>(
     Ok(tryings)
 }
 
-/// With what so many writers and the readers are checked.
+/// What `writers` writers and the readers are checked with.
 fn audit_of<const V: usize>(alloc: Global, load: Load, writers: u32) -> Result<Audit<V>, AllocError>
     requires width { IsWidth V }
     requires writers { HasWriters writers }

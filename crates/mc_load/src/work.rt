@@ -20,7 +20,7 @@ use mc_cache::{Cache, Writer, open};
 use std::alloc::Global;
 use std::thread::Threads;
 
-/// Runs the writer, and readers with these handles, and checks what they were told.
+/// Runs the writer, and readers with these handles, and checks their answers.
 fn run_workers<const V: usize, R: Threads + Sync, G: Gate>(
     rt: &R,
     alloc: Global,
@@ -59,9 +59,8 @@ fn run_workers<const V: usize, R: Threads + Sync, G: Gate>(
     }
 }
 
-/// Runs a writer and its readers, each in a thread of its own, and checks what the readers were told. All room is made before a
-/// worker starts; between two calls a worker waits for nothing but the gate. A load whose gate may refuse no call, as `Free`, isn't
-/// refused by it.
+/// Runs a writer and its readers, each in a thread of its own, and checks the readers' answers. All memory is allocated before a worker
+/// starts; between two calls a worker waits for nothing but the gate. A load whose gate may refuse no call, as `Free`, isn't refused by it.
 /// Condition: a value has from 1 to 8 words.
 pub fn load<const V: usize, R: Threads + Sync, G: Gate>(
     rt: &R,
@@ -75,9 +74,8 @@ pub fn load<const V: usize, R: Threads + Sync, G: Gate>(
     load_many::<V, R, G>(rt, alloc, load, gate, 1)
 }
 
-/// The same, but that a reader looks so many keys up by one call of `Reader::get_many`, in the order in which it draws them. The
-/// gate is asked for each of them before that call, and is told of each answer behind it. Where it refuses one, those before it
-/// are still looked up.
+/// Like `load`, but a reader looks `many` keys up by one call of `Reader::get_many`, in the order in which it draws them. The gate is asked
+/// for each of them before that call, and gets each answer after it. If it refuses one, those before it are still looked up.
 /// Condition: a value has from 1 to 8 words, and `many` is from 1 to 64.
 pub fn load_many<const V: usize, R: Threads + Sync, G: Gate>(
     rt: &R,

@@ -27,7 +27,7 @@ pub(crate) struct Writing<'p, const V: usize> {
 impl<'p, const V: usize> Writing<'p, V> {
     ghost use Rattle.mc_load.specs.Inside.Workers.{HasWritten, IsWriting};
 
-    /// Removes a key, and tells the moment of the answer.
+    /// Removes a key, and returns the moment of the answer.
     fn remove(&mut self, key: u64) -> Option<u64>
         requires writing { IsWriting V self.old.cache.now self.old }
         requires room { vec_len self.old.journal + 2 ≤ vec_capacity self.old.journal }
@@ -42,7 +42,7 @@ impl<'p, const V: usize> Writing<'p, V> {
         note_removal(&mut self.journal, key, told)
     }
 
-    /// Puts a key, and tells the moment of the answer.
+    /// Puts a key, and returns the moment of the answer.
     fn put(&mut self, key: u64, value: [u64; V]) -> Option<u64>
         requires writing { IsWriting V self.old.cache.now self.old }
         requires room { vec_len self.old.journal + 2 ≤ vec_capacity self.old.journal }
@@ -57,7 +57,7 @@ impl<'p, const V: usize> Writing<'p, V> {
         note_put(&mut self.journal, key, value, told)
     }
 
-    /// Makes one call, and tells the moment of its answer.
+    /// Makes one call, and returns the moment of its answer.
     fn make_call(&mut self, call: u64) -> Option<u64>
         requires writing { IsWriting V self.old.cache.now self.old }
         requires room { vec_len self.old.journal + 2 ≤ vec_capacity self.old.journal }

@@ -26,7 +26,7 @@ number-above least most text high =
     go true c e = rw e refl
     go false c e = refl
 
--- a text of digits that is no number of 64 bits lies above the bounds
+-- a text of digits that is no number of 64 bits is above the bounds
 pub number-unparsed : (least most : ℕ) (text : Text) → 0 < length text → list_all is_ascii_digit text ≡ true → most < 2 ^ 64 → ParsesUnsigned {E = ℕ} 64 10 text (Err 0) → None ≡ number_in least most text
 number-unparsed least most text some digits small parses =
     let failed : Result ℕ ℕ = Err 0 in
@@ -34,7 +34,7 @@ number-unparsed least most text some digits small parses =
     let past : most < digits_value 10 text = grind arith in
     number-above least most text past
 
--- a number lies between its bounds
+-- a number is between its bounds
 pub number-bounds : (least most n : ℕ) (o : Option Text) → Some n ≡ option_and_then (number_in least most) o → (least ≤ n) × (n ≤ most)
 number-bounds least most n None e = absurd (cc)
 number-bounds least most n (Some text) e =

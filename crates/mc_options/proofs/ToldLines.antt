@@ -1,4 +1,4 @@
--- A line that is told on standard error.
+-- A line that is printed on standard error.
 use Rattle.std.proofs.Common.{◌≡◌, ℕ, ◌++◌, ◌∷◌, ◌∙◌, List, [], Option, Some, None, sym, ap, subst, take, append-nil, append_assoc, length}
 use Rattle.std.specs.Prelude.{IfSome}
 use Rattle.std.specs.List.{FoldsTo, concat}

@@ -13,7 +13,7 @@ use Rattle.mc_options.specs.declared.load_options.LoadOptions.{LoadOptions}
 
 -- ---- the options
 
--- the name that the first argument takes, wherever it stands in memory
+-- the name that the first argument takes, wherever it is in memory
 abbrev pub AreCommands : MixNames → Type 0
 AreCommands names = map (λ name. name.now) names.now ≡ codes "run" ∷ []
 

@@ -21,7 +21,7 @@ use Rattle.mc_options.specs.declared.options.Options.{Options}
 
 -- ---- the options
 
--- the names that `--mix` takes, wherever they stand in memory
+-- the names that `--mix` takes, wherever they are in memory
 abbrev pub MixNames : Type 0
 MixNames = Bor (List (Bor Text))
 
@@ -81,7 +81,7 @@ whole_command name mixes =
 
 -- ---- what their texts say
 
--- the number that decimal digits say, where it lies between the bounds
+-- the number that decimal digits say, if it is between the bounds
 abbrev pub number_in : ℕ → ℕ → Text → Option ℕ
 number_in least most text =
     if nat_lt 0 (length text) && list_all is_ascii_digit text && nat_le least (digits_value 10 text) && nat_le (digits_value 10 text) most then Some (digits_value 10 text)

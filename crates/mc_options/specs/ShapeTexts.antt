@@ -1,4 +1,4 @@
--- What is told of a shape that is refused, without the line's end.
+-- What is printed for a shape that is refused, without the line's end.
 use Rattle.std.specs.Prelude.{ℕ, List, codes}
 use Rattle.mc_words.specs.declared.shape.ShapeError.{ShapeError}
 use Rattle.mc_words.specs.declared.shape.ShapeError.TheVariants as shape

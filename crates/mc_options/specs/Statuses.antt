@@ -1,10 +1,10 @@
--- The exit statuses of the programs; 0 where all went well.
+-- The exit statuses of the programs; 0 is success.
 use Rattle.std.specs.Prelude.{ℕ}
 
--- what was asked for can't be
+-- the request can't be met
 abbrev pub refused : ℕ
 refused = 2
 
--- what was asked for could not be done: memory was short, or a read or a write failed
+-- the request failed: memory was short, or a read or a write failed
 abbrev pub failed : ℕ
 failed = 3

@@ -1,4 +1,4 @@
--- What a program does with its streams, and what it tells.
+-- What a program does with its streams, and what it reports.
 use Rattle.std.specs.Prelude.{◌≡◌, ◌≢◌, ℕ, ◌⊎◌, ◌++◌, ◌∷◌, List, [], take, codes, Option}
 use Rattle.std.specs.Io.KnownBytes.{Keeps, Appends}
 use Rattle.clap.specs.declared.error.kind.ErrorKind.{ErrorKind}

@@ -1,4 +1,4 @@
-//! The command lines of `mcstep`, `mctrace` and `mcload`, read by `clap`, and what the programs tell on standard error.
+//! The command lines of `mcstep`, `mctrace` and `mcload`, read by `clap`, and what the programs print on standard error.
 //!
 //! ```text
 //! let options = options_of(alloc, program, &["mcstep", "--buckets", "8"])?;

@@ -226,7 +226,7 @@ fn command<'a>(
     command.arg(option(alloc, &words_row()))
 }
 
-/// The number that a text of decimal digits says, where it lies between the bounds.
+/// The number that a text of decimal digits says, if it is between the bounds.
 fn number_in(text: &str, least: u64, most: u64) -> Option<u64>
     ensures { result ≡ number_in least most text.now }
 {
@@ -333,7 +333,7 @@ fn digits_only(
     command.error(ErrorKind::ValueValidation, message.as_str())
 }
 
-/// Why what an option says is refused: `clap` has told of all faults but those of digits.
+/// Why what an option says is refused: `clap` has reported all faults but those of digits.
 pub(crate) fn refusal(
     alloc: Global,
     command: &mut Command<'_>,

@@ -1,4 +1,4 @@
-//! What the programs tell on standard error.
+//! What the programs print on standard error.
 ghost use Rattle.std.specs.Prelude.{◌++◌, IfSome, Some, codes};
 ghost use Rattle.clap.specs.Words.{kind_of};
 ghost use Rattle.mc_options.specs.Streams.{stream, Tells, TellsFault};
@@ -21,7 +21,7 @@ pub const FAILED: u8 = 3;
 /// The most bytes of a line.
 const ROOM: usize = 96;
 
-/// A shape that is refused, as it is told: `refused: ` and the bounds of the field at fault.
+/// A shape that is refused, as it is reported: `refused: ` and the bounds of the field at fault.
 #[derive(Clone, Copy)]
 pub struct Refusal(pub ShapeError);
 
@@ -72,8 +72,8 @@ pub fn tell<E: Write, D: Display + Drop>(errors: &mut E, what: D)
     }
 }
 
-/// Prints the help or the version that the words ask for, or tells their fault. Answers the exit status: 0 after help and version,
-/// 2 after a fault of the words, 3 where memory was short or a write failed.
+/// Prints the help or the version that the words ask for, or reports their fault. Returns the exit status: 0 after help and version, 2
+/// after a fault of the words, 3 if memory was short or a write failed.
 pub fn tell_fault<W: Write, E: Write>(error: Error, output: &mut W, errors: &mut E) -> u8
     ensures { TellsFault (kind_of error) (stream (W.contents output.old) (W.contents output.new))
         (stream (E.contents errors.old) (E.contents errors.new)) result }

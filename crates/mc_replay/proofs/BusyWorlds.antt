@@ -1,4 +1,4 @@
--- Whether a lookup runs, as a world tells it and as its trace shows it.
+-- Whether a lookup runs, by a world and by its trace.
 use Rattle.std.proofs.Common.{◌≡◌, ℕ, zero, suc, true, false, List, [], ◌∷◌, Option, Some, None, inl, inr, ap, refl, sym, subst, ◌∙◌}
 use Rattle.std.specs.Prelude.{is_some, slice_get}
 use Rattle.std.specs.List.{list_any}

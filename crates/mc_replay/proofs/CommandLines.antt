@@ -50,7 +50,7 @@ still_running V player most s text P fits some none =
     let runs = runs_of V player most s.running s.world fits some in
     inr (ap is_some runs.1, refl, none, refl)
 
--- ---- a line that was told, or not
+-- ---- a line that was written, or not
 pub told_as : {V : ℕ} (P : List ℕ → Option Fault → Replay V → Type 0) (text : List ℕ) (t : Replay V) (r : Result (Unit {0}) Fault) (is : Type 0) (F : Type 0) → OnErr r (r ≡ Err NoMemory) → OnOk r is → (is → P text None t × F) → DoneAs P text t r × OnOk r F
 told_as P text t (Ok u) is F err ok then = then ok
 told_as P text t (Err NoMemory) is F err ok then = (tt, tt)
@@ -128,7 +128,7 @@ runs_in V player most n m p room so_far runs =
     let few = so_far.few (ap is_some runs) in
     (subst (λ (r : Option (Pending V)). FitsCall V player (most + n) r m.world) runs so_far.fits, omega (arith, few, room))
 
--- an act after which the call goes on
+-- an act after which the call continues
 pub act_goes_on : (V : ℕ) (old new : Player V) (most n : ℕ) (m : Replay V) (p : Pending V) (before : List ℕ) → ActsSoFar V old most n m → m.running ≡ Some p → (act : MakesAct V old new (most + n) p m.world None)
     → (t : Replay V) × (own : List ℕ) × ActDoes (shape_of_player old) m p own t × (before ≡ before ++ own) × ActsSoFar V new most (n + 1) t × (shape_of_player new ≡ shape_of_player old)
 act_goes_on V old new most n m p before so_far runs act =

@@ -61,7 +61,7 @@ loaded_more V old now new w es n k v left told index so call =
       idle = idle_more V new _ _ call.after (omega (arith, more)) call.idle;
     }
 
--- the entries of a world went into a new one, and the lines tell so
+-- the entries of a world were put into a new one, and the lines report it
 pub moves_to : (V : ℕ) (old first new : Player V) (sh : Shape) (n at b c : ℕ) (es : List (ℕ × List ℕ)) (left : List (ℕ × Why)) (text : List ℕ) → n ≡ length old.world.readers → shape_of_player first ≡ sh → sh ≡ with_sizes (shape_of_player old) b c → length es ≤ most_entries
     → ((most : ℕ) (w : Trace V) → IsIdle V old most w → HasEntries V (shape_of_player old) (state_of V (shape_of_player old) w.acts) es) → (loaded : HasLoaded V first new (first_trace V sh n) es left)
     → at ≡ length (state_of V (shape_of_player new) loaded.after.acts).history → text ≡ reopened_lines at es left → MovesTo V old new b c text

@@ -200,7 +200,7 @@ width_of V player most (Some p) w fits = on_width V player.clerk p.call p.from p
 pub width_can : (V : ℕ) (player : Player V) (text : List ℕ) → CanDo V player text → IsWidth V
 width_can V player text can = width_of V player can.1.0 can.1.1.running can.1.1.world can.1.3
 
--- a player has room in memory where its world and its clerk have: they lie side by side
+-- a player has room in memory where its world and its clerk have: they are side by side
 pub player_room : (world clerk : ℕ) → world < 2 ^ 32 → clerk < 2 ^ 32 → up 8 (up 8 (0 + world) + clerk) < 2 ^ 63
 player_room world clerk some few = omega arith
 

@@ -32,7 +32,7 @@ pub line_done : (V : ℕ) (before : ℕ) (s t : Scene V) (line text : List ℕ) 
 line_done V before s t line text c fault short few says does =
     inr (not_long before line short few, subst (λ r. SaidDoes s r text fault t) (sym says) does)
 
--- a line after so many others is one too many
+-- a line after this many others is one too many
 pub line_too_many : (V : ℕ) (before : ℕ) (s : Scene V) (line text : List ℕ) → 2 ^ 40 ≤ before → text ≡ [] → LineDoes V before s line text (Some TooLong) s
 line_too_many V before s line text many none = inl (inr many, refl, none, refl)
 
@@ -75,7 +75,7 @@ refused_is_not_played fault e = absurd (cc (e))
 pub none_is_not_played : {A : Type 0} → ◌≡◌ {A = Result Bool Fault} (Ok false) (Ok true) → A
 none_is_not_played e = absurd (cc (e))
 
--- what holds in any case, holds where it went well
+-- what holds in any case holds after success
 pub always_ok : {E : Type 0} (r : Result (Unit {0}) E) (A : Type 0) → A → OnOk r A
 always_ok (Ok u) A x = x
 always_ok (Err e) A x = tt

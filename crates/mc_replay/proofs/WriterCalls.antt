@@ -84,7 +84,7 @@ at_after_one V old new most w x m at same shows makes events clerk = record {
   events = omega (arith, events, at.events);
 }
 
--- the call goes on after one act
+-- the call continues after one act
 pub call_goes_on : (V : ℕ) (old new : Player V) (most : ℕ) (p : Pending V) (w x : Trace V) (m : Made) → IsInCall V old most p w → shape_of_player new ≡ shape_of_player old → Shows {V = V} new.world x → WriterMakes V (shape_of_player old) w (m ∷ []) x → x.events ≡ w.events + 1
     → clerks.shape_of_clerk new.clerk ≡ clerks.shape_of_clerk old.clerk → IsOn V new.clerk p.call p.from (p.acts ++ m ∷ []) → acts_left new.clerk < acts_left old.clerk → IsInCall V new (most + 1) (with_acts p (m ∷ [])) x
 call_goes_on V old new most p w x m call same shows makes events clerk on fewer = record {
@@ -165,7 +165,7 @@ none_or_some : {A : Type 0} (o : Option A) → (o ≡ None) ⊎ IsSome o
 none_or_some None = inl refl
 none_or_some (Some x) = inr refl
 
--- where no answer is told there is an act to make
+-- if no answer is returned there is an act to make
 acts_to_make : (V : ℕ) (clerk : Clerk V) (call : Call) (s : State V) (acts : List Made) → IsOn V clerk call s acts → (IsSome {T = Answer} None ↔ (clerks.HasCall {V = V} clerk × (next_act clerk ≡ None))) → IsSome (next_act clerk)
 acts_to_make V clerk call s acts on ends = elim (none_or_some (next_act clerk)) [
   | inl none ↦ absurd (cc (ends.1 (on_runs V clerk call s acts on, none)))
@@ -191,7 +191,7 @@ same_call V mid new most p w world clerk call =
     player_is : (mid new : Player V) → new.world ≡ mid.world → new.clerk ≡ mid.clerk → mid ≡ new
     player_is mid new world clerk = ap (λ (y : WorldView V). of_parts y mid.clerk) (sym world) ∙ ap (of_parts new.world) (sym clerk)
 
--- after an act the call goes on, or is answered
+-- after an act the call continues, or is answered
 pub goes_on_as : (V : ℕ) (old mid new : Player V) (most : ℕ) (p : Pending V) (w : Trace V) (told : Option Answer) → IsInCall V mid most p w → shape_of_player mid ≡ shape_of_player old → acts_left mid.clerk < acts_left old.clerk → TellsAs V mid new told → GoesOn V old new most p w told
 goes_on_as V old mid new most p w None call same fewer tells =
     let on = call.on in
@@ -215,7 +215,7 @@ begins_as V old mid new most call w (Some a) in_call same tells =
     (subst (λ (y : Shape). Answered V y p.call p.from p.acts a) (in_call.at.shape ∙ same) said.0, call_is_over V mid new most p w in_call tells.world tells.shape said.1)
 
 -- ---- a whole call
--- a call that was begun has an answer to tell, or acts to make
+-- a call that was begun has an answer to return, or acts to make
 pub begun : (V : ℕ) (old mid : Player V) (most : ℕ) (call : Call) (w : Trace V) → IsIdle V old most w → mid.world ≡ old.world → clerks.shape_of_clerk mid.clerk ≡ clerks.shape_of_clerk old.clerk
     → IsOn V mid.clerk call (state_of V (shape_of_player old) w.acts) [] → acts_left mid.clerk ≤ 2 ^ 23 + 64 → IsInCall V mid most (pending call (state_of V (shape_of_player old) w.acts)) w
 begun V old mid most call w idle world clerk on few =
@@ -233,7 +233,7 @@ begun V old mid most call w idle world clerk on few =
       few = omega (arith, few);
     }
 
--- the acts that were made of a call that goes on
+-- the acts that were made of a call that continues
 pub record MakesSome (V : ℕ) (old now : Player V) (most : ℕ) (p : Pending V) (w : Trace V) : Type 0 where
   pub acts : List Made
   pub after : Trace V
@@ -381,7 +381,7 @@ looks_found V player most k i at since q v w sh idle same value is stands =
     subst (λ (x : State V). Stands V (shape_of_player player) x.words k q i) idle.at.world.state (subst (λ (y : Shape). Stands V y player.world.state.words k q i) same stands) in
     (record { value = value; unchanged = refl; moment = is ∙ agrees.at_moment }, (q, i, there, refl))
 
--- a key that the history does not hold is told absent, and no act is made
+-- a key that the history does not hold is reported absent, and no act is made
 pub looks_missed : (V : ℕ) (player : Player V) (most k at : ℕ) (w : Trace V) (sh : Shape) → IsIdle V player most w → sh ≡ shape_of_player player → map_value (state_of V (shape_of_player player) w.acts).history k ≡ None → at ≡ moment player.world.state.words
     → LooksUp {V = V} (shape_of_player player) (state_of V (shape_of_player player) w.acts) k (Absent at) []
 looks_missed V player most k at w sh idle same absent is =

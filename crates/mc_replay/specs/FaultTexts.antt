@@ -1,4 +1,4 @@
--- What is told of a fault, without the line's end.
+-- What is printed for a fault, without the line's end.
 use Rattle.std.specs.Prelude.{ℕ, Option, Some, None, List, ◌==◌, ◌++◌, codes, if◌then◌else◌}
 use Rattle.std.specs.Fmt.{decimal}
 use Rattle.mc_replay.specs.declared.fault.Fault.{Fault}
@@ -19,7 +19,7 @@ fault_text fault.NothingToStep = codes "nothing to step"
 fault_text fault.WriteFailed = codes "write failed"
 fault_text fault.BadShape = codes "bad shape"
 
--- what is told where no line was read
+-- what is printed if no line was read
 abbrev pub refusal_text : Fault → List ℕ
 refusal_text fault.NoSuchReader = codes "readers must be from 1 to 1024"
 refusal_text f = fault_text f

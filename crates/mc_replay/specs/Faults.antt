@@ -27,7 +27,7 @@ abbrev pub fault_of : LineFault → Fault
 fault_of said.NotACommand = NotACommand
 fault_of said.BadNumber = BadNumber
 
--- the error that a caller is told
+-- the error that a caller gets
 abbrev pub as_replay_error : Result (Unit {0}) Stop → Result (Unit {0}) ReplayError
 as_replay_error (Ok u) = Ok u
 as_replay_error (Err stop) = Err (record { line = stop.line; number = fault_number stop.fault })

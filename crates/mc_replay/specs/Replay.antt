@@ -107,7 +107,7 @@ ActDoes {V} sh s p text t =
     ((a : Answer) × Answered V sh p.call p.from (p.acts ++ m ∷ []) a × (text ≡ answer_line a) × (t.running ≡ None))
     )
 
--- so many acts, or those up to the first that cannot be made
+-- this many acts, or those up to the first that cannot be made
 abbrev pub ActsDo : {V : ℕ} → Shape → ℕ → Replay V → List ℕ → Option Fault → Replay V → Type 0
 ActsDo sh zero s text fault t = (text ≡ []) × (fault ≡ None) × (t ≡ s)
 ActsDo {V} sh (suc n) s text fault t =
@@ -118,13 +118,13 @@ ActsDo {V} sh (suc n) s text fault t =
 abbrev pub IsTold : {V : ℕ} → Shape → Trace V → Trace V → List ℕ → Type 0
 IsTold {V} sh w x text = ((x.ended ≡ w.ended) × (text ≡ [])) ⊎ ((e : Ended V) × (x.ended ≡ w.ended ++ e ∷ []) × IsTrueEnd V sh x e × (text ≡ done_line e.told))
 
--- one access of a reader's lookup; after its last access the lookup is told
+-- one access of a reader's lookup; after its last access the lookup's reply is written
 pub record AccessDoes (V : ℕ) (sh : Shape) (s : Replay V) (r : ℕ) (text : List ℕ) (t : Replay V) : Type 0 where
   pub steps : Steps V sh s.world (event.Read r) t.world
   pub told : IsTold sh s.world t.world text
   pub writer : t.running ≡ s.running
 
--- so many accesses, or those up to the first that cannot be made
+-- this many accesses, or those up to the first that cannot be made
 abbrev pub AccessesDo : {V : ℕ} → Shape → ℕ → Replay V → ℕ → List ℕ → Option Fault → Replay V → Type 0
 AccessesDo sh zero s r text fault t = (text ≡ []) × (fault ≡ None) × (t ≡ s)
 AccessesDo {V} sh (suc n) s r text fault t =
@@ -177,12 +177,12 @@ first_scene V sh readers = record { shape = sh; now = first_replay V sh readers 
 abbrev pub IsBusy : {V : ℕ} → Replay V → Type 0
 IsBusy s = IsSome s.running ⊎ ((r : ℕ) × (run : OpenLookup) × (slice_get s.world.readers r ≡ Some (Some run)))
 
--- the same shape, with so many buckets and items
+-- the same shape, with b buckets and c items
 abbrev pub with_sizes : Shape → ℕ → ℕ → Shape
 with_sizes sh b c = record { buckets = b; items = c; stripes = sh.stripes; depth = sh.depth; tries = sh.tries; limit = sh.limit; mix = sh.mix }
 
--- Another world stands in the place of the first, with these sizes and as many readers. All that was done in it is that the entries of
--- the first, in the order of their items, were put one after the other. Those that were left are told.
+-- Another world replaces the first, with these sizes and as many readers. All that was done in it is that the entries of the first were put
+-- one after the other, in the order of their items. Those that were left are reported.
 pub record Reopens (V : ℕ) (s : Scene V) (b c : ℕ) (text : List ℕ) (t : Scene V) : Type 0 where
   pub entries : List (ℕ × List ℕ)
   pub listed : AreInOrder V s.shape (state_now s.shape s.now).words 0 s.shape.items entries

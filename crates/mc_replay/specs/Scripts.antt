@@ -25,7 +25,7 @@ SaidDoes s (Err f) text fault t = (text ≡ []) × (fault ≡ Some (fault_of f))
 abbrev pub IsTooLong : ℕ → List ℕ → Type 0
 IsTooLong before line = (4096 < length line) ⊎ (2 ^ 40 ≤ before)
 
--- what is written for a line after so many others, or its fault, and what it leaves
+-- what is written for a line after `before` others, or its fault, and what it leaves
 abbrev pub LineDoes : (V : ℕ) → ℕ → Scene V → List ℕ → List ℕ → Option Fault → Scene V → Type 0
 LineDoes V before s line text fault t =
     (IsTooLong before line × (fault ≡ Some TooLong) × (text ≡ []) × (t ≡ s)) ⊎

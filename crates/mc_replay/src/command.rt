@@ -63,7 +63,7 @@ fn get<const V: usize, O: Watch<V>>(
     add_line(text, &ReplyLine(reply))
 }
 
-/// A whole lookup by the writer, which tells the moment of the key's last put.
+/// A whole lookup by the writer, which reports the moment of the key's last put.
 fn stamp<const V: usize, O: Watch<V>>(
     player: &mut Player<V>,
     text: &mut String,
@@ -78,7 +78,7 @@ fn stamp<const V: usize, O: Watch<V>>(
     add_line(text, &StampLine(reply))
 }
 
-/// Makes an act of the writer's call, and tells the call's answer after its last one.
+/// Makes an act of the writer's call, and writes the call's answer after its last one.
 fn act<const V: usize, O: Watch<V>>(
     player: &mut Player<V>,
     text: &mut String,

@@ -2,7 +2,7 @@
 //!
 //! `replay` reads a script line by line, makes the calls of the writer and the accesses of the readers that the lines
 //! say, and writes a line for each answer. Its contract says so for every script whose bytes are known. `play` is the
-//! same for a program, which also tells where and why a script stopped.
+//! same for a program, which also reports where and why a script stopped.
 //!
 //! ```text
 //! let mut input = &b"put 0 7\nget 0\n"[..];

@@ -94,7 +94,7 @@ impl<const V: usize> fmt::Display for ReplyLine<V> {
     }
 }
 
-/// The line of a reply that tells the moment of the key's last put, without its end.
+/// The line of a reply that gives the moment of the key's last put, without its end.
 #[derive(Clone, Copy)]
 pub(crate) struct StampLine<const V: usize>(pub(crate) Reply<V>);
 
@@ -157,7 +157,7 @@ impl fmt::Display for LeftLine {
     }
 }
 
-/// The first line after a world was opened in the place of another, without its end.
+/// The first line after a world was opened instead of another, without its end.
 #[derive(Clone, Copy)]
 pub(crate) struct ReopenedLine {
     pub(crate) at: u64,

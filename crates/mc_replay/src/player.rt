@@ -148,7 +148,7 @@ impl<const V: usize> Player<V> {
         }
     }
 
-    /// Puts a key, as long as no other one has to go.
+    /// Puts a key, as long as no other one must be evicted.
     pub(crate) fn put_kept<O: Watch<V>>(
         &mut self,
         key: u64,

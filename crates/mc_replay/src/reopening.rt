@@ -1,4 +1,4 @@
-//! The line `reopen`: the entries of the world go into another one.
+//! The line `reopen`: the entries of the world are put into another one.
 ghost use Rattle.std.specs.Prelude.{ℕ, ◌≡◌, ◌≤◌, ◌++◌, [], Err, IfOk, OnErr, OnOk, length, slice_get, string_bytes};
 ghost use Rattle.mc_words.specs.Checks.{shape_of};
 ghost use Rattle.mc_words.specs.Shapes.{IsShape};
@@ -22,7 +22,7 @@ use std::alloc::Global;
 /// The greatest number of buckets or items that a shape can name.
 const MOST: u64 = (1 << 32) - 1;
 
-/// The shape with so many buckets and items, if there is such a one.
+/// The shape with `buckets` buckets and `items` items, if there is one.
 fn resized(checked: &Checked, buckets: u64, items: u64) -> Result<Checked, Fault>
     ensures shape { IfOk result (λ c. shape_of c ≡ with_sizes (shape_of checked.now) buckets items) }
     ensures sound { OnOk result (IsShape (with_sizes (shape_of checked.now) buckets items)) }
@@ -55,7 +55,7 @@ fn name(left: &mut Vec<(usize, Why)>, index: usize, told: Result<Put, Why>) -> R
     Ok(())
 }
 
-/// Puts entries into a new world, one after the other, as long as no other key has to go; those that are left are named.
+/// Puts entries into a new world, one after the other, as long as no other key must be evicted; those that are left are named.
 fn load<const V: usize, O: Watch<V>>(
     alloc: Global,
     player: &mut Player<V>,
@@ -108,7 +108,7 @@ fn tell_all<const V: usize>(
     Ok(())
 }
 
-/// Adds the lines that tell of another world.
+/// Adds the lines that report another world.
 fn tell<const V: usize>(
     text: &mut String,
     at: u64,
@@ -123,7 +123,7 @@ fn tell<const V: usize>(
     tell_all(text, entries, left)
 }
 
-/// A new world with this shape and the entries of another, which is told.
+/// A new world with this shape and the entries of another, which is reported.
 fn moved<const V: usize, O: Watch<V>>(
     alloc: Global,
     player: &Player<V>,
@@ -147,7 +147,7 @@ fn moved<const V: usize, O: Watch<V>>(
     Ok(new)
 }
 
-/// Opens a world with so many buckets and items in the place of the present one, which stands until the other one does.
+/// Opens a world with `buckets` buckets and `items` items instead of the present one, which is kept until the other one is open.
 pub(crate) fn reopen<const V: usize, O: Watch<V>>(
     alloc: Global,
     player: &mut Player<V>,

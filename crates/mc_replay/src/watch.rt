@@ -1,7 +1,7 @@
 //! Those who watch a replay.
 use mc_core::{Event, Stepped, World};
 
-/// Is told of each world and each event of a replay. It changes nothing of the replay, and no clause says what it makes of it.
+/// Sees each world and each event of a replay. It changes nothing of the replay, and no clause says what it does with them.
 pub trait Watch<const V: usize> {
     /// A world was opened, in which no event was made yet.
     fn opened(&mut self, world: &World<V>);

@@ -17,7 +17,7 @@ use Rattle.mc_script.specs.Inside.Numbers.{numbers_in}
 use Rattle.mc_script.specs.Inside.Commands.{command_from, otherwise, stepping, begin_put_in, begin_put_if_in, begin_remove_in, begin_get_in, begin_in, write_in, read_in, form_in}
 use Rattle.mc_script.proofs.NumberLists.{other_count, same_count}
 
--- as many words as numbers may stand for them
+-- as many words as numbers may be read as them
 numbers_fit : (n : ℕ) (words : List (List ℕ)) → length words ≡ n → pointwise may_stand (replicate n Number) words ≡ true
 numbers_fit zero [] same = refl
 numbers_fit zero (word ∷ words) same = absurd (omega (arith, same))
@@ -49,7 +49,7 @@ numbers_valued (suc n) (word ∷ words) same = ap (λ ns. digits_value 10 word �
 abbrev told : {v : ℕ} → Bool → Bool → Command v → Result (Command v) LineFault
 told fits good command = cond fits (cond good (Ok command) (Err BadNumber)) (Err NotACommand)
 
--- so many numbers, by their count and then by their form
+-- n numbers, by their count and then by their form
 counted : {v : ℕ} (n : ℕ) (words : List (List ℕ)) (make : List ℕ → Command v)
     → command_from make (numbers_in n words) ≡ told (pointwise may_stand (replicate n Number) words) (pointwise is_good (replicate n Number) words) (make (values (replicate n Number) words))
 counted {v = v} n words make = elim (cases_eq (length words) n) [

@@ -61,7 +61,7 @@ word_in_front x xs e =
       omega (arith, one),
     )
 
--- what stands where the first word begins
+-- the byte where the first word begins
 pub inner_at_start : (xs : List ℕ) → position_or_len is_inner xs < length xs → (x : ℕ) × (rest : List ℕ) × (drop (position_or_len is_inner xs) xs ≡ x ∷ rest) × (is_blank x ≡ false)
 inner_at_start [] lt = absurd (omega arith)
 inner_at_start (x ∷ xs) lt = at (inner_at_start xs) (is_blank x) refl

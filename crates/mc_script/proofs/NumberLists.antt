@@ -79,12 +79,12 @@ counted_other {more = more} {i = i} word so_far is none = record {
 counted_length : {whole rest : List (List ℕ)} {i : ℕ} {are_good : Bool} {found : List ℕ} → Counted whole rest i are_good found → length whole ≡ i + length rest
 counted_length {rest = rest} so_far = ap length so_far.first ∙ length-append so_far.done rest ∙ omega (arith, so_far.count)
 
--- another count is told first
+-- another count is reported first
 pub other_count : (n : ℕ) (words : List (List ℕ)) → (length words ≡ n → ⊥) → numbers_in n words ≡ Err NotACommand
 unfolding numbers_in
 other_count n words other = ap (λ t. cond t (cond (list_all is_number words) (Ok (map (digits_value 10) words)) (Err BadNumber)) (Err NotACommand)) (ne_eqb (length words) n other)
 
--- with the right count it is told whether all are numbers
+-- with the right count it is reported whether all are numbers
 pub same_count : (n : ℕ) (words : List (List ℕ)) (t : Bool) → length words ≡ n → list_all is_number words ≡ t
     → numbers_in n words ≡ cond t (Ok (map (digits_value 10) words)) (Err BadNumber)
 unfolding numbers_in

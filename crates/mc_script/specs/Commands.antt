@@ -49,7 +49,7 @@ forms v =
     ∷ form (Fixed (codes "reopen") ∷ Number ∷ Number ∷ []) (λ numbers. Reopen (first numbers) (second numbers))
     ∷ []
 
--- a fixed word stands only for itself, any word for a number
+-- a fixed word may stand only for itself, any word for a number
 abbrev pub may_stand : Part → List ℕ → Bool
 may_stand (Fixed name) word = bytes_eq word name
 may_stand Number word = true

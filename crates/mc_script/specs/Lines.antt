@@ -14,7 +14,7 @@ lines_within (suc n) (b ∷ bytes) = first_line (b ∷ bytes) ∷ lines_within n
 abbrev pub lines_of : List ℕ → List (List ℕ)
 lines_of bytes = lines_within (length bytes) bytes
 
--- the bytes behind so many lines
+-- the bytes after this many lines
 unfoldable pub after_lines : ℕ → List ℕ → List ℕ
 after_lines zero bytes = bytes
 after_lines (suc n) bytes = after_lines n (drop_through 10 bytes)

@@ -19,7 +19,7 @@ pub enum Command<const V: usize> {
     PutIf(u64, u64, [u64; V]),
     Remove(u64),
     Get(u64),
-    /// A `get` that tells the moment of the key's last put.
+    /// A `get` that reports the moment of the key's last put.
     Stamp(u64),
     /// A `put` by single acts.
     BeginPut(u64, [u64; V]),
@@ -33,7 +33,7 @@ pub enum Command<const V: usize> {
     BeginGet(u64, u64),
     /// So many accesses of a reader, of which there is at least one.
     Read(u64, u64),
-    /// The entries go into another world, with so many buckets and items.
+    /// The entries are put into another world, with these numbers of buckets and items.
     Reopen(u64, u64),
 }
 

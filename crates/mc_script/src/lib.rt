@@ -1,6 +1,6 @@
 //! The script of commands that `mcstep` plays: from bytes to lines, from lines to commands, and bytes to a writer.
 //!
-//! What a line is and what it says stand in `specs/`. Nothing here knows of a cache.
+//! `specs/` defines what a line is and what it says. Nothing here knows of a cache.
 //!
 //! ```text
 //! let mut line = Line::new();

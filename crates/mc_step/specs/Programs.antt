@@ -1,4 +1,4 @@
--- What the program `mcstep` reads, writes and tells, and its exit status.
+-- What the program `mcstep` reads, writes and reports, and its exit status.
 use Rattle.std.specs.Prelude.{◌≡◌, ℕ, ◌⊎◌, ◌++◌, List, codes, Result, Ok, Err}
 use Rattle.mc_words.specs.declared.shape.Shape.{Shape}
 use Rattle.mc_words.specs.declared.shape.ShapeError.{ShapeError}
@@ -14,7 +14,7 @@ use Rattle.mc_options.specs.ShapeTexts.{shape_text}
 use Rattle.mc_options.specs.Statuses.{failed, refused}
 use Rattle.mc_options.specs.Streams.{Stream, IsUntouched, Tells, Prints, IsShort}
 
--- what is told of the end of a replay
+-- what is printed for the end of a replay
 abbrev pub TellsEnd : Stream → Result (Unit {0}) Stop → Type 0
 TellsEnd errors (Ok u) = IsUntouched errors
 TellsEnd errors (Err stop) = Tells errors (stop_text stop)
@@ -37,7 +37,7 @@ abbrev pub exit_of : Result (Unit {0}) Stop → ℕ
 exit_of (Ok u) = 0
 exit_of (Err stop) = status_of stop.fault
 
--- all is that of one replay over a table of this shape, with so many readers
+-- everything comes from one replay over a table of this shape, with `readers` readers
 abbrev pub Ends : ℕ → Shape → ℕ → Stream → Stream → Stream → ℕ → Type 0
 Ends V sh readers input output errors status = (r : Result (Unit {0}) Stop) × ReplaysKnown V sh readers input.old input.new output.old output.new r × TellsEnd errors r × (status ≡ exit_of r)
 

@@ -39,7 +39,7 @@ pub fn status_of(fault: Fault) -> u8
     }
 }
 
-/// Replays the script, and tells where it stopped.
+/// Replays the script, and reports where it stopped.
 fn run_script<const V: usize, R: BufRead, W: Write, E: Write>(
     alloc: Global,
     checked: &Checked,
@@ -91,8 +91,8 @@ fn run_options<R: BufRead, W: Write, E: Write>(
 
 /// The whole program `mcstep`: the words of the command line, its own name first, and its three streams.
 ///
-/// Answers the exit status: 0 at the end of the script; 2 where an option, the shape or a line is refused; 3 for want
-/// of memory, or a failed read or write. The texts of help and version, and of a fault of the words, are `clap`'s.
+/// Returns the exit status: 0 at the end of the script; 2 if an option, the shape or a line is refused; 3 if there is no memory, or a read
+/// or write failed. The texts of help and version, and of a fault of the words, are `clap`'s.
 pub fn run_step<S: AsStr, R: BufRead, W: Write, E: Write>(
     alloc: Global,
     words: &[S],

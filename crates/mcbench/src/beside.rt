@@ -139,7 +139,7 @@ fn work_as_asked<R: Threads + Sync + Clock + CpuClock>(
     }
 }
 
-// Puts the keys and looks them up. How many were refused, and the memory that came by the keys, before which so many bytes were there.
+// Puts the keys and looks them up. Returns how many were refused, and the memory that the keys added to `before` bytes.
 fn fill<R: Files + AllocGlobal>(
     rt: &R,
     cache: &Cache<4>,

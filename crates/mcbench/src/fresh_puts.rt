@@ -23,7 +23,7 @@ pub(crate) fn open_for(alloc: Global, options: &Options) -> io::Result<(Cache<4>
     Ok((cache, writer))
 }
 
-// Fills an open cache, before which so many bytes were in memory. What was done, how long it took, and the memory by keys.
+// Fills an open cache; `before` bytes were in memory before it was opened. Returns what was done, how long it took, and the memory by keys.
 fn fill_open<R: Files + AllocGlobal + Clock + CpuClock>(
     rt: &R,
     cache: &Cache<4>,
@@ -100,7 +100,7 @@ fn evict_on<R: Clock + CpuClock>(
     Ok(written)
 }
 
-// Fills an open cache, puts as many keys again so that the hand has gone round, and measures the evictions that follow.
+// Fills an open cache, puts as many keys again so that the hand has passed all items, and measures the evictions that follow.
 fn evict_open<R: Clock + CpuClock>(
     rt: &R,
     cache: &Cache<4>,
@@ -132,7 +132,7 @@ fn evict<R: Clock + CpuClock>(rt: &R, alloc: Global, options: &Options) -> io::R
     })
 }
 
-// Puts fresh keys into an open cache until one is refused, and at most so many.
+// Puts fresh keys into an open cache until one is refused, and at most `most`.
 fn load_open<R: Clock + CpuClock>(
     rt: &R,
     cache: &Cache<4>,
@@ -148,7 +148,7 @@ fn load_open<R: Clock + CpuClock>(
     Ok(written.over(spent))
 }
 
-// The same into a cache that is opened for them.
+// Puts fresh keys into a cache that is opened for them, until one is refused, and at most `most`.
 fn load_one<R: Clock + CpuClock>(
     rt: &R,
     alloc: Global,

@@ -14,7 +14,7 @@ const MOST: usize = 64;
 /// What a thread is to do.
 #[derive(Clone, Copy)]
 pub(crate) struct Task {
-    /// The keys are those of so many numbers, from this one on.
+    /// The keys are those of `numbers` numbers, from this one on.
     pub first: u64,
     pub numbers: u32,
     pub seed: u64,

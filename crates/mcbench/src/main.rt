@@ -40,7 +40,7 @@ fn measure<R: Runtime + AllocGlobal + CpuClock + Threads + Sync>(
     }
 }
 
-/// Measures what the words ask for and prints it, or tells what is wrong with them. The exit status.
+/// Measures what the words ask for and prints it, or reports what is wrong with them. Returns the exit status.
 fn answer<R: Runtime + AllocGlobal + CpuClock + Threads + Sync>(
     rt: &R,
     alloc: Global,

@@ -33,7 +33,7 @@ pub(crate) struct Options {
     pub keys: u32,
     pub capacity: u32,
     pub time: Duration,
-    /// Of so many calls of the writer one is a put.
+    /// One in this many calls of the writer is a put.
     pub write_every: u32,
     pub seed: u32,
     /// Keys that a call of a reader looks up.
@@ -183,7 +183,7 @@ pub(crate) fn options_of<S: AsStr>(alloc: Global, words: &[S]) -> Result<Options
     })
 }
 
-/// The fewest buckets of which so many keys fill at most 0.96.
+/// The fewest buckets of which `keys` keys fill at most 0.96.
 fn buckets_for(keys: u32) -> u32 {
     for doublings in 1..20u32 {
         let buckets = 1u32 << doublings;

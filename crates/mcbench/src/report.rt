@@ -20,7 +20,7 @@ impl Display for Quotient {
     }
 }
 
-/// The memory that came, by so many keys.
+/// The memory that was added for each of `keys` keys.
 pub(crate) fn bytes_a_key(before: u64, after: u64, keys: u32) -> Quotient {
     Quotient {
         top: after.saturating_sub(before),

@@ -27,7 +27,7 @@ pub(crate) fn nanos_of(time: Duration) -> u64 {
     u64::try_from(time.as_nanos()).unwrap_or(u64::MAX)
 }
 
-/// How many there were a second, of so many in so many nanoseconds.
+/// How many there were a second, if there were `many` in `nanos` nanoseconds.
 fn a_second(many: u64, nanos: u64) -> u64 {
     if nanos == 0 {
         return 0;

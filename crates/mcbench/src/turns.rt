@@ -67,7 +67,7 @@ fn call_on<R: Clock + CpuClock>(
     Ok(tally)
 }
 
-// Takes so many of the readers, for passes.
+// Takes `many` of the readers, for passes.
 fn passes_of(
     alloc: Global,
     cache: &Cache<4>,

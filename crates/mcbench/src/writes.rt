@@ -9,7 +9,7 @@ use mc_cache::{Cache, Writer};
 use std::io;
 use std::time::{Clock, CpuClock};
 
-/// Puts the keys of so many numbers, from the first on.
+/// Puts the keys of `many` numbers, from `first` on.
 #[inline(never)]
 pub(crate) fn put_all(cache: &Cache<4>, writer: &mut Writer<4>, first: u64, many: u32) -> Tally
     requires { writer.old.of ≡ cache.now }
@@ -22,7 +22,7 @@ pub(crate) fn put_all(cache: &Cache<4>, writer: &mut Writer<4>, first: u64, many
     tally
 }
 
-/// Looks the keys of so many numbers up, from 0 on.
+/// Looks up the keys of `keys` numbers, from 0 on.
 pub(crate) fn get_all(cache: &Cache<4>, writer: &mut Writer<4>, keys: u32) -> Tally
     requires { writer.old.of ≡ cache.now }
     ensures { writer.new.of ≡ writer.old.of }
@@ -34,7 +34,7 @@ pub(crate) fn get_all(cache: &Cache<4>, writer: &mut Writer<4>, keys: u32) -> Ta
     tally
 }
 
-/// Puts fresh keys until one is refused, and at most so many.
+/// Puts fresh keys until one is refused, and at most `most`.
 pub(crate) fn put_until_refused(
     cache: &Cache<4>,
     writer: &mut Writer<4>,

@@ -24,7 +24,7 @@ pub struct Log<const V: usize> {
 #[derive(Clone, Copy)]
 pub enum Refused {
     NoMemory,
-    /// This line of this file is none of a log whose values have so many words.
+    /// This line of this file doesn't belong to a log whose values have this many words.
     Line { file: usize, line: u64 },
 }
 

@@ -1,4 +1,4 @@
-//! A cache that can't be closed for want of memory answers as if nobody had tried.
+//! A cache that can't be closed because there is no memory answers as if nobody had tried.
 ghost use Rattle.std.specs.Prelude.{◌≡◌};
 
 use crate::opening::SHAPE;
@@ -6,7 +6,7 @@ use crate::seen::Seen;
 use mc_cache::{Cache, Put, Reader, Reply, StillOpen, Writer, open};
 use std::alloc::Global;
 
-// Whether the entries are those of the puts of keys 1, 2 and so on, with values 11, 12 and so on, so many of them.
+// Whether the entries are those of the puts of keys 1, 2 and so on, with values 11, 12 and so on, `many` of them.
 fn are_first(entries: &[(u64, [u64; 1])], many: usize) -> bool {
     let first = [(1, [11]), (2, [12]), (3, [13])];
     entries == &first[..many.min(3)]

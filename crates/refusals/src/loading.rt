@@ -65,7 +65,7 @@ fn put_both(cells: &Cells<1>, seat: &mut WriterSeat, books: &mut Books) -> bool
     first == Ok(stored(1)) && second == Ok(stored(2))
 }
 
-// What a put tells of which this is the moment, and which moved no key.
+// What a put with this moment returns if it moved no key.
 fn stored(at: u64) -> Put {
     Put::Stored {
         at,

@@ -1,4 +1,4 @@
-//! Makes one call that takes memory, and makes it again where memory was refused, for `.ci/refusals`, which refuses it. The status tells
+//! Makes one call that takes memory, and makes it again if memory was refused, for `.ci/refusals`, which refuses it. The status reports
 //! what was seen; nothing is printed, as that might take memory too.
 #![tactic(auto)]
 

@@ -5,18 +5,18 @@
 pub(crate) enum Seen {
     /// It was given its memory, and did what it is to do.
     Given,
-    /// It was refused; what stands then is right, and so is what the same call did next.
+    /// It was refused; the state after that is right, and so is what the same call did next.
     Refused,
-    /// It was refused twice, and what stands is right.
+    /// It was refused twice, and the state after that is right.
     RefusedTwice,
     /// Memory was refused before the call.
     Before,
-    /// What stands, or what was answered, isn't right.
+    /// The state, or the answer, isn't right.
     Wrong,
 }
 
 impl Seen {
-    /// The exit status that tells it.
+    /// The exit status that reports it.
     pub(crate) fn status(self) -> u8 {
         match self {
             Seen::Given => 0,
@@ -27,8 +27,8 @@ impl Seen {
         }
     }
 
-    /// What is seen of a call that is made a second time where the first was refused. `None` is a refusal; the others tell
-    /// whether all is right.
+    /// What is seen of a call that is made a second time where the first was refused. `None` is a refusal; the others say whether all is
+    /// right.
     pub(crate) fn of_two(first: Option<bool>, second: Option<bool>) -> Seen {
         match (first, second) {
             (Some(true), _) => Seen::Given,

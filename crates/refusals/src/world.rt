@@ -1,4 +1,4 @@
-//! Events that a world can't make for want of memory leave it as it was, and aren't counted.
+//! Events that a world can't make without memory leave it unchanged, and aren't counted.
 use crate::opening::SHAPE;
 use crate::seen::Seen;
 use mc_core::{Act, Change, Deed, Done, Event, Reply, Run, Unlawful, World, run};
@@ -46,7 +46,7 @@ const LOOKUP: [Event; 9] = [
     Event::Read(0),
 ];
 
-// A number that all words of the world, and its changes, go into.
+// A number that depends on all words of the world, and on its changes.
 fn digest(world: &World<1>) -> u64 {
     let mut digest = world.history().len() as u64;
     for n in 0..world.checked().words::<1>() {
@@ -55,7 +55,7 @@ fn digest(world: &World<1>) -> u64 {
     digest
 }
 
-// Runs the events, and runs them once more where memory was refused. What they told, and whether it was refused.
+// Runs the events, and runs them once more if memory was refused. Returns their answers, and whether it was refused.
 fn run_or_again(
     alloc: Global,
     world: &mut World<1>,
@@ -75,7 +75,7 @@ fn run_or_again(
     }
 }
 
-// Whether the events of a put and of a lookup behind it told what they are to tell.
+// Whether the events of a put and of a lookup after it returned what they should.
 fn are_right(put: &Run<1>, looked: &Run<1>) -> bool {
     let found = Done {
         reader: 0,

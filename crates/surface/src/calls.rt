@@ -1,4 +1,4 @@
-//! Every call, as a pointer to a function of its full signature: that of values of one word, and of words that lie in a `World`.
+//! Every call, as a pointer to a function of its full signature: that of values of one word, and of words that are in a `World`.
 //! The functions only group the calls by crate.
 use arrayvec::ArrayVec;
 use mc_cache::{Cache, Desk, DeskError, OpenError, Opened, Reader, StillOpen, Writer};

@@ -38,7 +38,7 @@ tied_after V sh w hand cleared (Moved k f) (Slot p x) key may tie = tie
 tied_after V sh w hand cleared (Closing k) Close key may tie = λ j e. absurd (cc)
 tied_after V sh w hand cleared _ _ key may tie = absurd may
 
--- a close is of the tied key
+-- a close is one for the tied key
 close_tied : (V : ℕ) (sh : Shape) (w : List ℕ) (hand : ℕ) (cleared : Option ℕ) (p : Phase) (key : ℕ) → MayFrom V sh w hand cleared p Close → IsTied key p → deed_key p ≡ Some key
 close_tied V sh w hand cleared (Closing k) key may tie = ap Some (tie k refl)
 close_tied V sh w hand cleared _ key may tie = absurd may

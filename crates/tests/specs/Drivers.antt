@@ -15,7 +15,7 @@ abbrev pub key_after : ℕ → Act → ℕ
 key_after key (Open k d) = k
 key_after key _ = key
 
--- a running deed is of this key
+-- a running deed changes this key
 abbrev pub IsTied : ℕ → Phase → Type 0
 IsTied key p = (k : ℕ) → deed_key p ≡ Some k → k ≡ key
 

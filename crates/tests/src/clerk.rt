@@ -85,7 +85,7 @@ fn make(clerk: &mut Clerk<1>, driver: &mut Driver, call: Call) -> Option<Answer>
     }
 }
 
-/// Makes a call, and tells whether each act was made, and the answer is this one.
+/// Makes a call, and returns whether each act was made, and the answer is this one.
 pub(crate) fn answers(clerk: &mut Clerk<1>, driver: &mut Driver, call: Call, wanted: Answer) -> bool
     requires { IsBeside clerk.old (shape_of driver.old.checked) driver.old.words.items }
     ensures beside { IsTrue result → IsBeside clerk.new (shape_of driver.new.checked) driver.new.words.items }

@@ -15,7 +15,7 @@ use std::test::Fail;
 enum Due {
     /// The moment of a put without an eviction, and the number of moves.
     Stored(u64, u8),
-    /// The same, and then the key that was evicted.
+    /// Like `Stored`, and then the key that was evicted.
     Replaced(u64, u8, u64),
     Renewed(u64),
     Refused(PutError),
@@ -60,7 +60,7 @@ enum Row {
     Mark(u32),
 }
 
-/// Takes the step, and tells whether what is due came of it.
+/// Takes the step, and returns whether its result is the one that is due.
 fn is_so(clerk: &mut Clerk<1>, driver: &mut Driver, row: Row) -> bool
     requires { IsBeside clerk.old (shape_of driver.old.checked) driver.old.words.items }
     ensures beside { IsTrue result → IsBeside clerk.new (shape_of driver.new.checked) driver.new.words.items }
@@ -91,14 +91,14 @@ fn check_rows_of(clerk: &mut Clerk<1>, driver: &mut Driver, rows: &[Row]) -> Res
     Ok(())
 }
 
-/// The same with a new table of four buckets and so many items.
+/// Checks the rows with a new table of four buckets and `items` items.
 fn check_rows(alloc: Global, items: u32, rows: &[Row]) -> Result<(), Fail> {
     let checked = checked(4, items, 2)?;
     let (mut clerk, mut driver) = start(alloc, &checked)?;
     check_rows_of(&mut clerk, &mut driver, rows)
 }
 
-/// A key of the buckets 0 and 1 under tag 1, so that it can go to bucket 3.
+/// A key of the buckets 0 and 1 under tag 1, so it can move to bucket 3.
 const FAR: u64 = 72057594037927936;
 
 /// Eight keys fill the buckets 0 and 1, and one more comes.

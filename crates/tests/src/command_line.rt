@@ -2,7 +2,7 @@
 use mc_step::run_step;
 use std::alloc::{AllocError, Global};
 
-/// Options that are refused, and behind a bar how the text begins that tells it: without one, as a fault of the command line.
+/// Options that are refused, and after a bar how the text that reports it begins; without a bar, it is a fault of the command line.
 const REFUSED: &str = "\
 --other|error: unexpected argument '--other' found
 --stripe 1|error: unexpected argument '--stripe' found

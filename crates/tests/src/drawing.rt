@@ -13,7 +13,7 @@ fn drawn_size(a: u32, seed: u64) -> (u32, u32) {
     }
 }
 
-/// A shape whose limit is 40 at most. Its stripes, and how large it is, go by the seed.
+/// A shape whose limit is 40 at most. Its stripes and its size depend on the seed.
 pub(crate) fn drawn_shape(rng: &mut Lcg64Xsh32, seed: u64) -> Shape {
     let a = rng.next_u32();
     let (buckets, items) = drawn_size(a >> 4, seed);
@@ -49,8 +49,7 @@ enum Task {
     Close,
 }
 
-/// What a generator needs to draw acts that fit: the shape, what is to be done next, where the hand stands, and how many
-/// changes were made.
+/// What a generator needs to draw acts that fit: the shape, what is to be done next, where the hand is, and how many changes were made.
 #[derive(Clone, Copy)]
 pub(crate) struct Writer {
     checked: Checked,

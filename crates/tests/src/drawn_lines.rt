@@ -8,7 +8,7 @@ use std::alloc::{AllocError, Global};
 use std::io::BufReader;
 use std::{io, str};
 
-/// A put that evicts a key and moves none makes so many acts after its sweep.
+/// A put that evicts a key and moves none makes this many acts after its sweep.
 const ACTS_AFTER_SWEEP: u64 = 12;
 
 /// The stamp in the last of these lines, or 0.
@@ -104,7 +104,7 @@ impl Script {
         }
     }
 
-    /// The stamp of the key as it stands, or 0.
+    /// The key's present stamp, or 0.
     fn stamp_of(&self, key: u64) -> io::Result<u64> {
         let line = format!(in self.alloc; "{}stamp {key}\n", self.text)?;
         let (output, _) = play(self.alloc, &self.checked, line.as_str())?;
@@ -129,7 +129,7 @@ impl Script {
         Ok(())
     }
 
-    /// A whole get that tells the stamp, or a put on the condition that it is a drawn one or the one that stands.
+    /// A whole get that reports the stamp, or a put on the condition that it is a drawn one or the present one.
     pub(crate) fn stamp_call(&mut self, draw: u32, key: u64, number: u64) -> io::Result<()> {
         if draw % 4 == 0 {
             let line = format!(in self.alloc; "stamp {key}")?;
@@ -144,7 +144,7 @@ impl Script {
         self.put_if(draw / 4 % 2 == 0, key, since, number)
     }
 
-    /// A reader begins a lookup, or goes on with the one that it runs. An odd draw goes on to its end.
+    /// A reader begins a lookup, or continues the one that it runs. An odd draw continues to its end.
     pub(crate) fn read(&mut self, reader: usize, key: u64, draw: u32) -> io::Result<()> {
         let Some(runs) = self.runs.get(reader).copied() else {
             return Ok(());
@@ -219,7 +219,7 @@ impl Script {
     }
 }
 
-/// One of so many keys. Keys of several tags move to several buckets, and the keys have several stripes.
+/// One of `keys` keys. Keys of several tags move to several buckets, and the keys have several stripes.
 pub(crate) fn drawn_key(rng: &mut Lcg64Xsh32, keys: u64) -> u64 {
     let draw = u64::from(rng.next_u32()).checked_rem(keys).unwrap_or(0);
     draw | ((draw % 4) << 56) | ((draw / 2 % 64) << 32)

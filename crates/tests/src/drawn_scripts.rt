@@ -9,7 +9,7 @@ use std::ops::Range;
 use std::test::Fail;
 use std::{io, str};
 
-/// How scripts are drawn: so many whole calls, and accesses of a reader after one in so many of them.
+/// How scripts are drawn: `calls` whole calls, and accesses of a reader after one in `one_in` of them.
 #[derive(Clone, Copy)]
 struct Draws {
     calls: u64,
@@ -18,7 +18,7 @@ struct Draws {
     limit: u64,
     /// Whether the tables have few items, and readers look up between the hand's readings.
     sweeps: bool,
-    /// Whether one call in three asks for a key's stamp, or goes by it.
+    /// Whether one call in three asks for a key's stamp, or depends on it.
     stamps: bool,
     /// Whether before one call in sixteen another world is opened, where no lookup runs.
     reopens: bool,

@@ -130,7 +130,7 @@ impl Driver {
 }
 
 impl Driver {
-    /// Puts a bit in the place of an item's, and tells the one that was there.
+    /// Replaces an item's bit, and returns the old one.
     pub(crate) fn swap(&mut self, i: u32, bit: u64) -> u64
         ensures words { self.new.words ≡ self.old.words }
         ensures shape { self.new.checked ≡ self.old.checked }

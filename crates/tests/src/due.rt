@@ -14,7 +14,7 @@ pub(crate) enum Due {
     NotThere(usize),
     /// The value and the moment.
     Found(u64, usize),
-    /// The same and the stamp.
+    /// Like `Found`, and the stamp.
     Stamped(u64, usize, usize),
     Absent(usize),
     /// The key of an entry that is left, as no path leads to a hole, or no item is free.
@@ -22,7 +22,7 @@ pub(crate) enum Due {
     NoItem(u64),
     /// The moment of another world, and how many entries were left.
     Reopened(usize, usize),
-    /// The start of the line that tells what a lookup of this reader found.
+    /// The start of the line that reports what a lookup of this reader found.
     Reader(usize),
 }
 

@@ -1,4 +1,4 @@
-//! Where keys stand, on tables of plain words.
+//! Where keys are, on tables of plain words.
 ghost use Rattle.std.specs.Prelude.{◌≡◌, ◌<◌, ◌≤◌, IsTrue, length};
 ghost use Rattle.mc_words.specs.Checks.{shape_of};
 ghost use Rattle.mc_words.specs.Places.{IsPlace, slot_number, item, word_count};
@@ -78,7 +78,7 @@ fn found(checked: &Checked, table: &mut Table, key: u64) -> Option<Option<(Place
 /// Keys of the buckets 0 and 1 of four, the first of them under tag 1.
 const KEYS: [u64; 8] = [72057594037927936, 0, 4, 8, 12, 16, 20, 24];
 
-/// A table in which these keys stand.
+/// A table with these keys.
 fn filled() -> Table {
     let mut table = table_of(&[4294967297, 2, 3, 4, 5, 6, 7, 8]);
     for (i, key) in KEYS.iter().enumerate() {

@@ -1,6 +1,6 @@
 //! Tests of the libraries: what no contract says, and what no transcript can hold.
 //!
-//! They stand here alone, and see of each crate what any other crate sees.
+//! All of them are in this crate, and see of each crate what any other crate sees.
 #![tactic(auto)]
 
 #[cfg(test)]

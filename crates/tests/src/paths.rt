@@ -231,7 +231,7 @@ fn paths_are_the_first_of_the_least(rt: HostRuntime) -> Result<(), Fail> {
     Ok(())
 }
 
-/// Key 28 has the buckets 0 and 1 of four. Item 0 is the only one there with tag 1, so it can go to bucket 3.
+/// Key 28 has the buckets 0 and 1 of four. Item 0 is the only one there with tag 1, so it can move to bucket 3.
 #[test]
 fn items_go_to_their_other_buckets(rt: HostRuntime) -> Result<(), Fail> {
     let checked = checked(4, 16, 2)?;

@@ -1,4 +1,4 @@
-//! A plain map beside a replay, and the order in which a put goes.
+//! A plain map beside a replay, and the order of a put's steps.
 use crate::due::{Due, rest_behind};
 use mc_words::Shape;
 use std::alloc::{AllocError, Global};
@@ -83,7 +83,7 @@ impl Plain {
         })
     }
 
-    /// What the key had after so many changes.
+    /// What the key had after `changes` changes.
     pub(crate) fn entry(&self, key: u64, changes: usize) -> Entry {
         let made = self.changes.as_slice().get(..changes)?;
         for change in made.iter().rev() {
@@ -107,14 +107,14 @@ impl Plain {
         Ok(since)
     }
 
-    /// The same of a key that stands there. What that answers.
+    /// Renews a key that is there. Returns the answer that is due.
     fn renew(&mut self, key: u64, value: u64, item: usize) -> Result<Due, AllocError> {
         let at = self.hold(key, value, item)?;
         self.mark(item);
         Ok(Due::Renewed(at))
     }
 
-    /// Whether so many version changes more would pass the limit.
+    /// Whether `more` version changes more would pass the limit.
     fn is_spent(&self, more: u64) -> bool {
         self.versions.saturating_add(more) > self.shape.limit
     }
@@ -186,7 +186,7 @@ impl Plain {
         (self.shape.buckets as usize).saturating_mul(4)
     }
 
-    /// Stores a new key, for which another one goes where no item is free.
+    /// Stores a new key. Another one is evicted for it if no item is free.
     fn store(&mut self, key: u64, value: u64, told: &str) -> Result<bool, AllocError> {
         // No key has to move while the slots of two buckets can't all be taken.
         let most = if self.held() < 8 {
@@ -260,7 +260,7 @@ impl Plain {
         Ok(Due::Removed(self.changes.len()).is(told))
     }
 
-    /// Marks the item that the key had after so many changes. What the lookup that found it answers.
+    /// Marks the item that the key had after `at` changes. Returns the answer of the lookup that found it.
     fn find(&mut self, key: u64, at: usize) -> Due {
         match self.entry(key, at) {
             None => Due::Absent(at),

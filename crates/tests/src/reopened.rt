@@ -1,12 +1,12 @@
-//! A plain map in the place of another, whose entries were put into it.
+//! A plain map that replaces another, whose entries were put into it.
 use crate::due::Due;
 use crate::plain::Plain;
 use mc_words::Shape;
 use std::alloc::AllocError;
 
 impl Plain {
-    /// Puts an entry that may be left. The line that tells why it was is among these, if it was: it is taken for the
-    /// next one. Whether it may be so.
+    /// Puts an entry that may be left. If it is left, line `next` of `left` reports why, and `next` moves on to the following line. Returns
+    /// whether that may be so.
     fn load(
         &mut self,
         key: u64,
@@ -32,7 +32,7 @@ impl Plain {
         Ok(true)
     }
 
-    /// Puts the entries of the map into a new one of these sizes, in the order of their items. Whether the lines tell it so.
+    /// Puts the entries of the map into a new one of these sizes, in the order of their items. Returns whether the lines report it so.
     pub(crate) fn reopen(
         &mut self,
         buckets: u32,

@@ -1,7 +1,7 @@
 //! The shape that tests start from.
 use mc_words::{Checked, Mix, Shape, ShapeError};
 
-/// A shape of so many buckets and items and this depth, with one stripe, two tries, the highest limit and no mixing.
+/// A shape of `buckets` buckets, `items` items and this depth, with one stripe, two tries, the highest limit and no mixing.
 pub(crate) fn shape(buckets: u32, items: u32, depth: u8) -> Shape {
     Shape {
         buckets,

@@ -7,7 +7,7 @@ use std::alloc::Global;
 use std::io;
 use std::io::{BufReader, Error, ErrorKind, Read, Write};
 
-/// A writer that takes so many bytes and then fails.
+/// A writer that takes `room` bytes and then fails.
 #[derive(Drop)]
 struct Narrow {
     taken: Vec<u8>,
@@ -52,7 +52,7 @@ const SCRIPT: &[u8] = b"put 0 7\nput 0 9\nget 0\n";
 
 const ANSWERS: &[u8] = b"stored at 1 moves 0\nrenewed at 2\nfound 9 at 2\n";
 
-/// The line that is read after so many bytes of the script, and the answers of those before it.
+/// The line that is read after `count` bytes of the script, and the answers of those before it.
 fn reading(count: usize) -> (u64, &'static [u8]) {
     if count < 8 {
         (1, b"")
@@ -65,7 +65,7 @@ fn reading(count: usize) -> (u64, &'static [u8]) {
     }
 }
 
-/// The line whose answer is written after so many bytes.
+/// The line whose answer is written after `count` bytes.
 fn writing(count: usize) -> u64 {
     if count < 20 {
         1
@@ -76,7 +76,7 @@ fn writing(count: usize) -> u64 {
     }
 }
 
-/// Replays a script of a new cache with two readers, into a writer that takes so many bytes: what it took, and the end.
+/// Replays a script of a new cache with two readers, into a writer that takes `room` bytes: what it took, and the end.
 fn replay_narrow(
     alloc: Global,
     script: &[u8],

@@ -6,7 +6,7 @@ use mc_plan::{Path, Sweep};
 use mc_words::Place;
 use std::test::Fail;
 
-/// The victim of a sweep that reads these bits, and where the hand stands then.
+/// The victim of a sweep that reads these bits, and where the hand is then.
 fn swept(items: u32, hand: u32, bits: &[u64]) -> (Option<u32>, u32)
     requires hand { hand < items }
     requires few { items < 2 ^ 31 }

@@ -6,7 +6,7 @@ use crate::shapes::{checked, shape};
 use mc_words::{Checked, Mix, Shape, ShapeError};
 use std::alloc::{AllocError, Global};
 
-/// A checked shape of so many buckets, whose keys are mixed.
+/// A checked shape of `buckets` buckets, whose keys are mixed.
 fn mixed(buckets: u32) -> Result<Checked, ShapeError> {
     let shape = Shape {
         mix: Mix::Fmix,
@@ -120,7 +120,7 @@ fn a_checked_shape_is_kept(rt: HostRuntime) -> Result<(), ShapeError> {
     Ok(())
 }
 
-/// Whether the fault is told in these words.
+/// Whether the fault is reported in these words.
 fn is_told(alloc: Global, fault: ShapeError, text: &str) -> Result<bool, AllocError> {
     Ok(format!(in alloc; "{fault}")?.as_str() == text)
 }

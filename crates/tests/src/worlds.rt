@@ -7,13 +7,13 @@ use mc_words::{Checked, Place, Shape};
 use std::alloc::{AllocError, Global};
 use std::test::Fail;
 
-/// A new world of so many buckets and items for so many readers.
+/// A new world of `buckets` buckets and `items` items for `readers` readers.
 fn new_world(alloc: Global, buckets: u32, items: u32, readers: u32) -> Result<World<1>, Fail> {
     let checked = checked(buckets, items, 2)?;
     Ok(World::new(alloc, &checked, readers)?)
 }
 
-/// Makes the event, and tells whether the world gives this.
+/// Makes the event, and returns whether the world gives this.
 fn gives(world: &mut World<1>, event: Event, given: Result<Stepped<1>, Unlawful>) -> bool {
     world.step(event) == given
 }
@@ -23,7 +23,7 @@ fn gives(world: &mut World<1>, event: Event, given: Result<Stepped<1>, Unlawful>
 enum Row {
     /// The event is made, and gives this.
     Gives(Event, Result<Stepped<1>, Unlawful>),
-    /// The word of this number, if the world has so many.
+    /// The word of this number, if the world has one.
     Word(usize, Option<u64>),
     /// The next words, up to the one of this number, are 0.
     Zeros(usize, usize),
@@ -64,7 +64,7 @@ fn stops_at(made: &Run<1>, event: usize, why: Unlawful) -> bool {
     made.done.is_empty() && made.stopped == Some((event, why))
 }
 
-/// A word of the world, if it has so many.
+/// Word `n` of the world, if it has one.
 fn word_at(world: &World<1>, n: usize) -> Option<u64> {
     if n < world.checked().words::<1>() {
         Some(world.word(n))
@@ -198,7 +198,7 @@ fn make_lookups(alloc: Global, world: &mut World<1>) -> Result<Run<1>, Fail> {
     Ok(run(alloc, world, events.as_slice())?)
 }
 
-/// Whether each of these lookups found no key, and told it of this moment.
+/// Whether each of these lookups found no key, and reported this moment.
 fn are_absent(ended: &[Done<1>], at: u64) -> bool {
     for done in ended {
         if done.reply != (Reply::Absent { at }) {
@@ -261,7 +261,7 @@ fn a_fill_and_a_lookup(rt: HostRuntime) -> Result<(), Fail> {
     Ok(())
 }
 
-/// Whether a world for so many readers is refused for their number.
+/// Whether a world for `readers` readers is refused for their number.
 fn refuses_readers(alloc: Global, checked: &Checked, readers: u32) -> bool {
     let world: Result<World<1>, WorldError> = World::new(alloc, checked, readers);
     matches!(&world, Err(WorldError::Readers))
@@ -337,7 +337,7 @@ fn the_hand_clears_one_bit_of_its_word(rt: HostRuntime) -> Result<(), Fail> {
     Ok(())
 }
 
-/// A fill of key 0 with 7, a lookup of it to its end, and what that tells.
+/// A fill of key 0 with 7, a lookup of it to its end, and what that returns.
 #[test]
 fn a_lookup_after_a_fill_tells_the_value(rt: HostRuntime) -> Result<(), Fail> {
     let checked = checked(4, 16, 2)?;

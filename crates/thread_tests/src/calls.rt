@@ -36,7 +36,7 @@ pub enum Told {
     StoredByMoves,
     Renewed(u64),
     Refused(PutError),
-    /// The stamp was the one asked for.
+    /// The stamp was the requested one.
     RenewedIf(u64),
     RefusedIf(IfError),
     /// The key was there, or its put was refused.

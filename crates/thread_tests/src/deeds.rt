@@ -25,7 +25,7 @@ const LOOKUPS: usize = 2000;
 
 const LAST: usize = 16;
 
-/// Key number `n` of eight, whose stripe is `n`, where there are so many.
+/// Key number `n` of eight. Its stripe is `n`, if there are eight stripes.
 fn key_of(n: u64) -> u64 {
     n % 8 * ((1 << 32) + 1)
 }
@@ -136,7 +136,7 @@ fn look_all(cells: &Cells<1>, reader: &mut ReaderSeat, ended: &AtomicBool, repli
     }
 }
 
-/// Whether the answer is of the moment after all deeds.
+/// Whether the answer has the moment after all deeds.
 fn is_of_the_end(reply: Reply<1>) -> bool {
     match reply {
         Reply::Found { at, .. } | Reply::Absent { at } => at == DEEDS,
@@ -177,7 +177,7 @@ fn are_true(changes: &[Change<1>], replies: &[Reply<1>]) -> bool {
     right
 }
 
-// Whether all answers of a reader beside the writer are true, in a table of so many stripes.
+// Whether all answers of a reader beside the writer are true, in a table of `stripes` stripes.
 fn are_answers_true<R: Threads + Sync>(rt: &R, alloc: Global, stripes: u32) -> Result<bool, Fail> {
     let checked = small_shape(stripes).check()?;
     let mut replies = vec![in alloc; Reply::Busy; LOOKUPS + LAST]?;

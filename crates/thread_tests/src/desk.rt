@@ -1,4 +1,4 @@
-//! A writer that lies on a desk: what a thread alone is told, and what many are that take turns.
+//! A writer on a desk: the answers to one thread alone, and to many that take turns.
 ghost use Rattle.std.specs.Prelude.{◌≡◌, All, IfOk};
 
 use crate::opened::open_for_one;
@@ -57,7 +57,7 @@ fn one_thread_is_never_held(rt: HostRuntime) -> Result<(), Fail> {
     Ok(())
 }
 
-// Whether a put on a condition renews by the stamp, and is else told why not.
+// Whether a put on a condition renews by the stamp, and otherwise returns why not.
 fn goes_by_the_stamp(cache: &Cache<1>, desk: &Desk<1>, pass: &mut Reader<1>) -> bool
     requires { (desk.now ≡ cache.now) × (pass.old.of ≡ cache.now) }
 {
@@ -94,7 +94,7 @@ fn wide(stripes: u32, tries: u8) -> Shape {
     }
 }
 
-// A caller for each reader: so many write, the others only look keys up.
+// A caller for each reader: `writers` of them write, the others only look keys up.
 fn callers_of(
     alloc: Global,
     cache: &Cache<1>,
@@ -117,13 +117,13 @@ fn callers_of(
 /// What came of the turns that threads took.
 #[derive(Drop)]
 struct Turns {
-    /// All that they were told is true of one history, in which each change that was made stands once.
+    /// All their answers are true of one history, which has each change that was made once.
     right: bool,
     /// A try was held.
     held: bool,
 }
 
-// So many writers have taken turns beside so many readers: all of them, and the last moment.
+// `writers` writers have taken turns beside `readers` readers. Returns all of them, and the last moment.
 fn callers_after<R: Threads + Sync>(
     rt: &R,
     alloc: Global,
@@ -158,8 +158,8 @@ fn turns_of(alloc: Global, callers: &[Caller], moment: u64) -> Result<Turns, Fai
 /// How often threads take turns at most until a try is held.
 const ROUNDS: u32 = 100;
 
-// Whether a try is held in some round, and no thread is told what isn't true. On one processor turns hardly ever meet, and
-// none has to be held.
+// Whether a try is held in some round, and no thread gets an answer that isn't true. On one processor turns hardly ever meet, and none has
+// to be held.
 fn do_turns_meet<R: Threads + Sync>(
     rt: &R,
     alloc: Global,

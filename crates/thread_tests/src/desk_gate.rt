@@ -103,7 +103,7 @@ impl Held {
         true
     }
 
-    /// The last moment that a writer was told.
+    /// The last moment that a writer got as an answer.
     fn last_moment(&self) -> u64 {
         let first = self.workers[0].moment.load(Ordering::SeqCst);
         let second = self.workers[4].moment.load(Ordering::SeqCst);

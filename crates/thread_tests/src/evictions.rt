@@ -53,7 +53,7 @@ fn write_all(cache: &Cache<1>, writer: &mut Writer<1>, entries: &mut [Entry], en
     ended.store(true, Ordering::SeqCst);
 }
 
-/// The history that the entries tell. `None` where a moment is not its length.
+/// The history that the entries give. `None` if a moment is not its length.
 fn history_of(alloc: Global, entries: &[Entry]) -> Result<Option<Vec<Change<1>>>, AllocError> {
     let mut history = Vec::new(alloc);
     for n in 0..entries.len() {
@@ -142,7 +142,7 @@ fn looked_beside<R: Threads + Sync>(
     Ok((looked, entries))
 }
 
-// Whether a key was evicted, and all lookers were told the truth of this history.
+// Whether a key was evicted, and all lookers' answers are true of this history.
 fn is_history_of(history: &[Change<1>], looked: &[Looker]) -> bool {
     let mut right = looked.len() == 3 && history.iter().any(is_eviction);
     for looker in looked {
@@ -151,7 +151,7 @@ fn is_history_of(history: &[Change<1>], looked: &[Looker]) -> bool {
     right
 }
 
-// Whether a key was evicted, and what three readers were told beside the writer is true of the history that it tells.
+// Whether a key was evicted, and the answers of three readers beside the writer are true of the history that it gives.
 fn are_answers_true<R: Threads + Sync>(
     rt: &R,
     alloc: Global,

@@ -1,4 +1,4 @@
-//! What came of a writer's calls, one after the other, and the history that they tell.
+//! What came of a writer's calls, one after the other, and the history that they give.
 use mc_cache::{Change, Put, PutError, Remove, Spent};
 use std::alloc::AllocError;
 

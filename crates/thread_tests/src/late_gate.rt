@@ -14,7 +14,7 @@ pub struct Late {
     refused: u64,
     /// The writer's calls that were answered.
     answered: AtomicU64,
-    /// The readers' calls that were asked for, and those that were answered.
+    /// The readers' calls that the gate was asked for, and those that were answered.
     asked: AtomicU64,
     told: AtomicU64,
 }
@@ -31,7 +31,7 @@ impl Late {
         }
     }
 
-    /// The writer's calls that were answered, the readers' that were asked for, and those of these that were answered.
+    /// The writer's calls that were answered, the readers' that the gate was asked for, and those of these that were answered.
     pub fn calls(&self) -> [u64; 3] {
         [
             self.answered.load(Ordering::SeqCst),

@@ -1,7 +1,7 @@
 //! Tests of what threads do with shared words: the calls that no contract shows to succeed, and their answers beside
 //! values from elsewhere.
 //!
-//! They stand here alone, and see of each crate what any other crate sees.
+//! All of them are in this crate, and see of each crate what any other crate sees.
 #![tactic(auto)]
 
 #[cfg(test)]

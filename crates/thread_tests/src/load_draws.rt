@@ -126,7 +126,7 @@ impl Gate for Counting {
     }
 }
 
-// How many busy answers a load tells of, and how many its gate saw.
+// How many busy answers a load reports, and how many its gate saw.
 fn busy_of<R: Threads + Sync>(rt: &R, alloc: Global, asked: Load) -> Result<(u64, u64), LoadError> {
     let gate = Counting {
         busy: AtomicU64::new(0),

@@ -1,11 +1,11 @@
-//! What `mcload` writes and tells, worked out by hand.
+//! What `mcload` writes and reports, worked out by hand.
 use mc_load::run_load;
 use std::alloc::Global;
 use std::test::Fail;
 use std::thread::Threads;
 use std::time::Clock;
 
-/// Whether the program writes and tells these texts, and ends with this status.
+/// Whether the program writes and reports these texts, and ends with this status.
 fn tells<R: Threads + Sync + Clock>(
     rt: &R,
     alloc: Global,

@@ -1,4 +1,4 @@
-//! A reader that looks keys up in an order of its own, one or many by a call, and what it was told.
+//! A reader that looks keys up in an order of its own, one or many by a call, and its answers.
 ghost use Rattle.std.specs.Prelude.{◌≡◌, IfOk};
 
 use crate::truth::is_true;
@@ -47,7 +47,7 @@ fn write_keys(first: usize, factor: u64, keys: &mut [u64]) {
     }
 }
 
-// The same by calls for many keys, of which the last one waits for the writer's end.
+// Looks keys up by calls for many keys. The last call waits for the writer's end.
 fn look_many(
     cache: &Cache<1>,
     reader: &mut Reader<1>,

@@ -32,7 +32,7 @@ fn is_found(cache: &Cache<1>, writer: &mut Writer<1>, reader: &mut Reader<1>) ->
     writer.put(cache, 0, [7]) == Ok(stored) && reader.get(cache, 0) == due
 }
 
-// Whether a cache has so many readers, of which the last finds what is put.
+// Whether a cache has `many` readers, and the last one finds what is put.
 fn has_readers(alloc: Global, many: u32) -> Result<bool, Fail> {
     let (cache, mut writer, mut readers) = open::<1>(alloc, SHAPE, many)?;
     let all = readers.len() == many as usize;

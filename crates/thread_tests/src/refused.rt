@@ -45,7 +45,7 @@ fn a_refused_call_leaves_the_writer_at_the_desk(rt: HostRuntime) -> Result<(), F
     Ok(())
 }
 
-// The same by a pass of shards, and then one put more.
+// Checks it by a pass of shards, and then one put more.
 fn each_is_spent_by_shards(shards: &Shards<1>, pass: &mut Pass<1>) -> bool
     requires { ArePassOf shards.now pass.old }
 {

@@ -58,7 +58,7 @@ pub fn small() -> Shape {
     with_items(16)
 }
 
-/// Four buckets, so many items, and keys as they are.
+/// Four buckets, `items` items, and keys as they are.
 pub fn with_items(items: u32) -> Shape {
     shape(items, MOST, Mix::Plain)
 }

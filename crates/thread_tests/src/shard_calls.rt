@@ -17,7 +17,7 @@ const CALLS: usize = 400;
 /// Keys are below this number.
 pub const KEYS: u64 = 64;
 
-/// What a thread was told by one try, and by the lookup after it.
+/// The answers to one try of a thread, and to the lookup after it.
 #[derive(Clone, Copy)]
 struct Told {
     tried: Tried,
@@ -102,7 +102,7 @@ impl Caller {
         many
     }
 
-    /// Lays the changes that it made in this shard at their moments. Whether no other lies there.
+    /// Writes the changes that it made in this shard at their moments. Returns whether no other is there.
     pub fn lay_changes(
         &self,
         shards: &Shards<1>,

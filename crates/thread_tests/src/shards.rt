@@ -1,4 +1,4 @@
-//! Shards: what a thread alone is told, and what many are whose turns are at several desks.
+//! Shards: the answers to one thread alone, and to many that take turns at several desks.
 ghost use Rattle.std.specs.Prelude.{◌≡◌, All, IfOk};
 ghost use Rattle.mc_shards.specs.Sharded.{ArePassOf};
 
@@ -89,7 +89,7 @@ fn a_fault_of_what_is_opened_is_told(rt: HostRuntime) -> Result<(), Fail> {
     Ok(())
 }
 
-// A caller for each pass: so many write, the others only look keys up.
+// A caller for each pass: `writers` of them write, the others only look keys up.
 fn callers_of(
     alloc: Global,
     shards: &Shards<1>,

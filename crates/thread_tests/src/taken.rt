@@ -30,7 +30,7 @@ const ONE_KEY: [(Call, Told); 9] = [
     (Call::Get(0), Told::Absent(4)),
 ];
 
-// Two items. Each put marks its item, so that the hand goes round once and evicts from the item at which it began.
+// Two items. Each put marks its item, so the hand passes all items once and evicts from the item at which it began.
 const AN_EVICTED_KEY: [(Call, Told); 6] = [
     (Call::Swap(0, 10), Told::Stored(1)),
     (Call::Swap(1, 11), Told::Stored(2)),
@@ -104,7 +104,7 @@ fn a_turn_returns_the_entry_that_gives_way(rt: HostRuntime) -> Result<(), Fail> 
     Ok(())
 }
 
-// The same in shards, where no other key has made a change.
+// Whether shards return entries, too. No other key has made a change in them.
 fn returns_entries_in_shards(shards: &Shards<1>, pass: &mut Pass<1>) -> bool
     requires { ArePassOf shards.now pass.old }
 {

@@ -100,7 +100,7 @@ fn is_lost(n: usize, tried: Tried) -> bool {
     n % STUBBORN == 0 && tried == Tried::Held
 }
 
-/// What a thread was told by one try, and by the lookup after it.
+/// The answers to one try of a thread, and to the lookup after it.
 #[derive(Clone, Copy)]
 struct Told {
     tried: Tried,
@@ -138,7 +138,7 @@ pub struct Meeting {
 }
 
 impl Meeting {
-    /// Where so many threads are awaited.
+    /// Where `due` threads are awaited.
     pub fn of(due: usize) -> Meeting {
         Meeting {
             here: AtomicU64::new(0),
@@ -199,7 +199,7 @@ impl Caller {
         self
     }
 
-    // Lays the changes that it made at their moments. Whether no other lies there.
+    // Writes the changes that it made at their moments. Returns whether no other is there.
     fn lay_changes(&self, places: &mut [Option<Change<1>>]) -> bool {
         for told in self.told.as_slice() {
             if let Tried::Made { at, change } = told.tried {

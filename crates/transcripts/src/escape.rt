@@ -22,7 +22,7 @@ fn first_byte(text: &[u8]) -> Option<(u8, &[u8])> {
     }
 }
 
-/// The byte that the text begins with, how many times it stands there, and the text after it.
+/// The byte that the text begins with, how many times it is there, and the text after it.
 fn first_run(text: &[u8]) -> Option<(u8, usize, &[u8])> {
     let Some(run) = text.strip_prefix(b"\\{") else {
         let (byte, rest) = first_byte(text)?;

@@ -10,7 +10,7 @@ use std::io;
 use std::io::{BufRead, BufReader};
 use std::process::ExitCode;
 
-/// Plays all transcripts, and tells whether each passed.
+/// Plays all transcripts, and returns whether each passed.
 fn play(rt: &HostRuntime) -> io::Result<bool> {
     let alloc = rt.alloc();
     let mut player = Player::new(alloc);

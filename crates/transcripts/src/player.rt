@@ -117,7 +117,7 @@ impl Player {
         Ok(())
     }
 
-    /// Ends the last transcript, and tells whether all passed.
+    /// Ends the last transcript, and returns whether all passed.
     pub(crate) fn end(mut self, rt: &impl Print) -> io::Result<bool> {
         self.close(rt)?;
         let passed = self.passed;

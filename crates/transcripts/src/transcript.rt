@@ -5,7 +5,7 @@ use mc_trace::run_trace;
 use std::alloc::{AllocError, Global};
 use std::str;
 
-/// What a run writes, what it tells on standard error, and its status.
+/// What a run writes, what it prints on standard error, and its status.
 #[derive(PartialEq, Drop)]
 pub(crate) struct Outcome {
     pub(crate) output: Vec<u8>,

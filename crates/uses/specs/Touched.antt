@@ -25,7 +25,7 @@ SaysTouched h h' k (Err (desk.Call (why.NotThere at))) = WasTouched h h' k
 SaysTouched h h' k (Err (desk.Call (why.Changed stands))) = WasTouched h h' k
 SaysTouched h h' k told = Unit {0}
 
--- the entry was listed at some history that a pass saw between the two, and a refusal tells of a change of its key after that
+-- the entry was listed at some history that a pass saw between the two, and a refusal reports a change of its key after that
 pub record IsOverwrittenOrTouched (h h' : List (Change 1)) (entry : Entry 1) (told : Result ℕ (DeskError IfError)) : Type 0 where
   pub listed : List (Change 1)
   pub begins : Begins h listed

@@ -23,7 +23,7 @@ pub fn put_and_get(
     }
 }
 
-/// The same with a lookup that the writer isn't beside, between two meetings: it finds the value, or was spoiled.
+/// A lookup between two meetings, without the writer beside it, finds the value, or was spoiled.
 pub fn get_between_meetings(
     cache: &Cache<1>,
     writer: &mut Writer<1>,

@@ -2,8 +2,9 @@
 //!
 //! Each function is a caller, and its contract says something that the cache's words let it say: a value that was put is found,
 //! a reply in another thread is true of the writer's history, replies come in the order of their moments, two threads take turns at one
-//! writer, two puts of one turn stand one right behind the other, of two that put an absent key one succeeds, no object behind the index is lost, a listed stamp is refused only if the key was
-//! changed since, a lookup in shards is no older than the put before it, and shards that are opened anew hold what the old ones held.
+//! writer, two puts of one turn come one right after the other, of two that put an absent key one succeeds, no object behind the index is
+//! lost, a listed stamp is refused only if the key was changed since, a lookup in shards is no older than the put before it, and shards
+//! that are opened anew hold what the old ones held.
 #![tactic(auto)]
 
 mod absent;

@@ -4,7 +4,7 @@ ghost use Rattle.uses.specs.Order.{AreInOrder};
 
 use mc_cache::{Cache, Reader, Reply};
 
-/// Looks two keys up. The second reply is of no earlier moment than the first, whatever the writer does meanwhile.
+/// Looks two keys up. The second reply has no earlier moment than the first, whatever the writer does meanwhile.
 pub fn get_twice(
     cache: &Cache<1>,
     reader: &mut Reader<1>,

@@ -1,5 +1,5 @@
 //! A twin of the cache that nothing proves: the same words, the same order of loads and stores, each of them sequentially
-//! consistent. It shows what the algorithm costs in ordinary Rust, so that the price of the proofs can be told.
+//! consistent. It shows what the algorithm costs in ordinary Rust, and so the price of the proofs.
 pub mod free;
 pub mod protocol;
 pub mod search;

@@ -21,7 +21,7 @@ pub struct Shape {
 }
 
 impl Shape {
-    /// The fewest buckets of which so many keys fill at most 0.96.
+    /// The fewest buckets of which `keys` keys fill at most 0.96.
     pub fn for_keys(keys: u32) -> Shape {
         let mut buckets = 2;
         while 384 * u64::from(buckets) < 100 * u64::from(keys) {
@@ -70,7 +70,7 @@ pub struct Table {
     bits: usize,
 }
 
-/// So many words that are zero, of which no page lies in memory yet.
+/// `many` words of zero, with no page in memory yet.
 fn zeros(many: usize) -> Vec<AtomicU64> {
     let mut words = ManuallyDrop::new(vec![0u64; many]);
     // An AtomicU64 is laid out as a u64.
@@ -150,7 +150,7 @@ impl Table {
         self.word(self.bits + item as usize / 64).fetch_and(!bit, SeqCst) & bit != 0
     }
 
-    /// Where the key stands, and at which item.
+    /// Where the key is, and at which item.
     #[inline(always)]
     pub fn find(&self, key: u64, parts: Parts) -> Option<(Place, u64)> {
         for bucket in [parts.first, parts.second] {

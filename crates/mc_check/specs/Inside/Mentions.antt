@@ -21,7 +21,7 @@ pub record AreInTime {V : ℕ} (h : List (Change V)) (n : ℕ) (ms : List Mentio
   pub count : length ms ≡ n
   pub at : (i : ℕ) (c : Change V) (d : Mention) → i < n → slice_get h i ≡ Some c → slice_index_or ms i d ≡ mention c i
 
--- each mention is of a change, and each change is mentioned
+-- each mention names a change, and each change is mentioned
 pub record MentionAll {V : ℕ} (h : List (Change V)) (ms : List Mention) : Type 0 where
   pub small : length h < 2 ^ 64
   pub named : (m : Mention) → Contains ms m → (c : Change V) × (slice_get h m.moment ≡ Some c) × (key_in c ≡ m.key)

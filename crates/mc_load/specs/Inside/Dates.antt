@@ -1,4 +1,4 @@
--- When an answer tells of an eviction.
+-- When an answer reports an eviction.
 use Rattle.std.specs.Prelude.{⊤, ◌≤◌, Some, None}
 use Rattle.mc_plan.specs.declared.answer.Put.{Put}
 use Rattle.mc_plan.specs.declared.answer.Put.TheVariants.{Stored, Renewed}

@@ -7,7 +7,7 @@ use Rattle.mc_load.specs.declared.turns_ready.Seated.{Seated}
 use Rattle.mc_load.specs.Inside.Tries.{CanAllTry}
 use Rattle.mc_load.specs.Inside.Workers.{AreReady}
 
--- there is room for all changes that so many writers can make, and for the answers of one reader
+-- there is room for all changes that `writers` writers can make, and for the answers of one reader
 pub record CanAudit (V : ℕ) (load : Load) (writers : ℕ) (a : Audit V) : Type 0 where
   pub dated : 2 * load.writes * writers ≤ vec_capacity a.dated
   pub history : 2 * load.writes * writers ≤ vec_capacity a.history

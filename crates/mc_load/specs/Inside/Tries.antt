@@ -18,7 +18,7 @@ pub record IsTrying (V : ℕ) (s : Sharded) (load : Load) (n : ℕ) (t : Trying 
   pub number : t.number ≡ n
   pub who : t.who ≡ who_of load.readers n
 
--- it has made one try, which was counted, and the changes that it was told of were written down
+-- it has made one try, which was counted, and the changes that its answer reported were written down
 pub record HasTriedOnce (V : ℕ) (before after : Trying V) : Type 0 where
   pub number : after.number ≡ before.number
   pub who : after.who ≡ before.who
@@ -27,7 +27,7 @@ pub record HasTriedOnce (V : ℕ) (before after : Trying V) : Type 0 where
   pub few : vec_len after.journal + 2 * before.turns.answered ≤ vec_len before.journal + 2 * after.turns.answered
   pub capacity : vec_capacity before.journal ≤ vec_capacity after.journal
 
--- so many of its tries were counted, and no more changes were written down than they can have made
+-- `calls` of its tries were counted, and no more changes were written down than they can have made
 pub record HasTriedTimes (V : ℕ) (load : Load) (calls : ℕ) (t : Trying V) : Type 0 where
   pub drawn : HasDrawn load (stream_of t.number) (2 * calls) t.draws
   pub counted : t.turns.held + t.turns.answered ≡ calls

@@ -20,7 +20,7 @@ pub record IsWriting (V : ℕ) (o : Opening) (w : Writing V) : Type 0 where
   pub lawful : IsLawful V o.layout.shape w.writer.acts
   pub kept : w.journal.items ≡ history_after V o.layout.shape w.writer.acts
 
--- the writer has made so many calls, those that were drawn
+-- the writer has made n calls, those that were drawn
 pub record HasWritten (V : ℕ) (load : Load) (n : ℕ) (w : Writing V) : Type 0 where
   pub drawn : HasDrawn load 0 (2 * n) w.draws
   pub made : HasMade V load n w.writer
@@ -58,7 +58,7 @@ IsNextOf V load l key = key ≡ drawn_key load (l.number + 1) (length l.records.
 abbrev pub AreNextOf : (V : ℕ) → Load → Looking V → List ℕ → Type 0
 AreNextOf V load l keys = AreNext load (l.number + 1) (length l.records.items) keys
 
--- reader n may begin: there is room for what it will be told
+-- reader n may begin: there is room for its answers
 pub record IsReady (V : ℕ) (load : Load) (n : ℕ) (l : Looking V) : Type 0 where
   pub told : AreAllTold V l.handle l.records.items
   pub drawn : HasDrawn load (n + 1) 0 l.draws
@@ -102,6 +102,6 @@ AreReadersOf {V} o ls = All (λ (l : Looking V). cache_of l.handle ≡ Some o) l
 abbrev pub AreWhole : {V : ℕ} → List (Looking V) → Type 0
 AreWhole {V} ls = All (λ (l : Looking V). l.refused ≡ None) ls
 
--- every reader has written down as many answers as were asked for, those of the keys that were drawn
+-- every reader has written down the requested number of answers, those of the keys that were drawn
 abbrev pub HaveAllNoted : {V : ℕ} → Load → List (Looking V) → Type 0
 HaveAllNoted {V} load ls = (n : ℕ) (d : Looking V) → n < length ls → HasAsked load n (slice_index_or ls n d).records.items

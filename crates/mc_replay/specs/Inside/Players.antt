@@ -37,7 +37,7 @@ most_entries = 2 ^ 22
 abbrev pub most_loading : ℕ
 most_loading = most_entries * most_steps
 
--- how many events there are at most in a world before so many lines are done
+-- the most events that there are in a world before this many lines are done
 abbrev pub most_before : ℕ → ℕ
 most_before lines = most_loading + lines * most_steps
 
@@ -53,7 +53,7 @@ HasAccessed w r n = (run : OpenLookup) → slice_get w.readers r ≡ Some (Some 
 abbrev pub HasRoom : ℕ → Type 0
 HasRoom most = most + most_steps < 2 ^ 64 - 1
 
--- the player shows this world, to which some events led from a new one, at most so many
+-- the player shows this world, to which at most `most` events led from a new one
 pub record IsAt (V : ℕ) (player : Player V) (most : ℕ) (w : Trace V) : Type 0 where
   pub world : Shows {V = V} player.world w
   pub reached : IsReached V (shape_of_player player) w
@@ -66,7 +66,7 @@ pub record IsIdle (V : ℕ) (player : Player V) (most : ℕ) (w : Trace V) : Typ
   pub at : IsAt V player most w
   pub knows : Knows V player.clerk (state_of V (shape_of_player player) w.acts)
 
--- the writer's call runs, or its answer is still to be told
+-- the writer's call runs, or its answer is still to be returned
 pub record IsInCall (V : ℕ) (player : Player V) (most : ℕ) (p : Pending V) (w : Trace V) : Type 0 where
   pub at : IsAt V player most w
   pub on : IsOn V player.clerk p.call p.from p.acts
@@ -81,7 +81,7 @@ abbrev pub FitsCall : (V : ℕ) → Player V → ℕ → Option (Pending V) → 
 FitsCall V player most None w = IsIdle V player most w
 FitsCall V player most (Some p) w = IsMidCall V player most p w
 
--- the player is this replay, in which there were at most so many events
+-- the player is this replay, in which there were at most `most` events
 abbrev pub Fits : (V : ℕ) → Player V → ℕ → Replay V → Type 0
 Fits V player most s = FitsCall V player most s.running s.world
 
@@ -89,7 +89,7 @@ Fits V player most s = FitsCall V player most s.running s.world
 abbrev pub with_acts : {V : ℕ} → Pending V → List Made → Pending V
 with_acts p acts = record { call = p.call; from = p.from; acts = p.acts ++ acts }
 
--- the call that is asked for, as a clerk's definitions name it
+-- the requested call, as a clerk's definitions name it
 abbrev pub call_of : {V : ℕ} → asked.Call V → Call
 call_of (asked_as.Put k v) = whole.PutCall k v
 call_of (asked_as.PutIf k since v) = whole.PutIfCall k since v
@@ -104,7 +104,7 @@ BeginsAs V sh new most call w None = IsMidCall V new most (pending call (state_o
 abbrev pub Begins : (V : ℕ) → Player V → Player V → ℕ → Call → Trace V → Option Answer → Type 0
 Begins V old new most call w told = (shape_of_player new ≡ shape_of_player old) × BeginsAs V (shape_of_player old) new most call w told
 
--- after an act the call goes on, or is answered
+-- after an act the call continues, or is answered
 abbrev pub GoesOn : (V : ℕ) → Player V → Player V → ℕ → Pending V → Trace V → Option Answer → Type 0
 GoesOn V old new most p x (Some a) = Answered V (shape_of_player old) p.call p.from p.acts a × IsIdle V new most x
 GoesOn V old new most p x None = IsMidCall V new most p x × (acts_left new.clerk < acts_left old.clerk)
@@ -151,7 +151,7 @@ pub record Looks (V : ℕ) (old new : Player V) (most k : ℕ) (w : Trace V) (re
   pub shape : shape_of_player new ≡ shape_of_player old
   pub idle : IsIdle V new (most + most_steps) after
 
--- after so many accesses of a reader's lookup
+-- after n accesses of a reader's lookup
 pub record ReadsSoFar (V : ℕ) (player : Player V) (most r n : ℕ) (m : Replay V) : Type 0 where
   pub fits : FitsCall V player (most + n) m.running m.world
   pub made : HasAccessed m.world r n
@@ -198,7 +198,7 @@ CanDo V player text = (text ≡ []) × ((most : ℕ) × (s : Replay V) × HasRoo
 abbrev pub CanAct : (V : ℕ) → Player V → Type 0
 CanAct V player = (most : ℕ) × (p : Pending V) × (w : Trace V) × IsMidCall V player most p w × (most + acts_left player.clerk < 2 ^ 64 - 1)
 
--- after so many acts of calls, in which there were at most so many events
+-- after n acts of calls, when there were at most `most` events before
 pub record ActsSoFar (V : ℕ) (player : Player V) (most n : ℕ) (m : Replay V) : Type 0 where
   pub fits : FitsCall V player (most + n) m.running m.world
   pub few : IsSome m.running → n + acts_left player.clerk ≤ most_steps

@@ -35,7 +35,7 @@ pub record HasLoaded (V : ℕ) (old new : Player V) (w : Trace V) (entries : Lis
   pub shape : shape_of_player new ≡ shape_of_player old
   pub idle : IsIdle V new (length entries * most_steps) after
 
--- the entries of a world went into another one
+-- the entries of a world were put into another one
 abbrev pub MovesTo : (V : ℕ) → Player V → Player V → ℕ → ℕ → List ℕ → Type 0
 MovesTo V old new b c text =
     (most : ℕ) (s : Scene V) → (s.now.running ≡ None) → FitsScene V old most s → (t : Scene V) × Reopens V s b c text t × FitsScene V new most_loading t

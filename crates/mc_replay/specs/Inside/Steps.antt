@@ -39,7 +39,7 @@ abbrev pub PlaysKnown : (V : ℕ) → ℕ → Scene V → Scene V → Option (Li
 PlaysKnown V before s t None rest old new r = Unit {0}
 PlaysKnown V before s t (Some bytes) rest old new r = ReadsNextLine bytes rest r × PlaysLine V before s t bytes old new r
 
--- after so many lines that were not refused: which they are, and what was written
+-- after `before` lines that were not refused: which they are, and what was written
 pub record SoFar (V : ℕ) (start : Scene V) (lines left : List (List ℕ)) (old new : Option (List ℕ)) (before : ℕ) (s : Scene V) : Type 0 where
   pub done : List (List ℕ)
   pub text : List ℕ

@@ -6,7 +6,7 @@ use Rattle.mc_script.specs.declared.command.LineFault.{LineFault}
 use Rattle.mc_script.specs.declared.command.LineFault.TheVariants.{NotACommand, BadNumber}
 use Rattle.mc_script.specs.Numbers.{is_number}
 
--- the values of exactly n numbers: their count is told before their form
+-- the values of exactly n numbers: a wrong count is reported before a wrong form
 unfoldable pub numbers_in : ℕ → List (List ℕ) → Result (List ℕ) LineFault
 numbers_in n words =
     if length words == n then (if list_all is_number words then Ok (map (digits_value 10) words) else Err BadNumber)

@@ -3,7 +3,7 @@ use Rattle.mc_replay.specs.Replay.{Replay, ActsDo}
 use Rattle.mc_replay.specs.Inside.Players.{shape_of_player, HasRoom, Fits, ActsSoFar}
 use Rattle.mc_replay.proofs.command.acts.Given as goal
 
--- so many acts were made, whatever replay the player was
+-- this many acts were made, whatever replay the player was
 abbrev pub invariant-acts : goal.invariant-acts
 invariant-acts g l =
     (most : ℕ) (s : Replay g.row.V) → HasRoom most → Fits g.row.V l.fn.player most s →

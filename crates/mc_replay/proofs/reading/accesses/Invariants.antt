@@ -4,7 +4,7 @@ use Rattle.mc_replay.specs.Inside.Players.{shape_of_player, HasRoom, Fits, Reads
 use Rattle.mc_replay.specs.declared.player.Player.{Player}
 use Rattle.mc_replay.proofs.reading.accesses.Given as goal
 
--- so many accesses were made, whatever replay the player was
+-- this many accesses were made, whatever replay the player was
 pub record SoFar (V : ℕ) (old now : Player V) (text : List ℕ) (r n : ℕ) : Type 0 where
   pub shape : shape_of_player now ≡ shape_of_player old
   pub readers : length now.world.readers ≡ length old.world.readers
