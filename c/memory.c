@@ -4,10 +4,10 @@
  * A block of at least 4,096 bytes begins 56 bytes behind a cache line. A table's slots begin at its word 1 + stripes, and stripes are a power
  * of two. So from 8 stripes on they begin on a cache line, and no bucket of four slots crosses one.
  * A block of at least 2 MB begins 56 bytes behind a boundary of huge pages, and the huge pages that it fills are requested.
- * Blocks from 128 KB up to that are cut from regions of 32 MB, whose huge pages are requested. So the tables of many shards are on huge pages
- * too. The first huge page of the first region isn't: a program with little in its caches takes no more memory than it uses. A region is freed with its last
- * block. Any thread may allocate and free, and so may another copy of these functions in the same program, since libraries that were built
- * apart may pass a handle on.
+ * Blocks from 128 KB up to that are cut from regions of 32 MB, whose huge pages are requested. So the tables of many shards are on huge
+ * pages too. The first huge page of the first region isn't: a program with little in its caches takes no more memory than it uses. A region
+ * is freed with its last block. Any thread may allocate and free, and so may another copy of these functions in the same program, since
+ * libraries that were built apart may pass a handle on.
  *
  * What the toolchain asks of them (its crate `libc`, src/heap.rt): `align` divides 16 and `size` is below 2^63. A block that is returned has
  * `size` bytes, aligned to `align`, which nothing else uses until it is given back. A block that grows or shrinks keeps its first `kept`

@@ -10,7 +10,7 @@ use Rattle.mc_door.specs.declared.held.Held.{Held}
 use Rattle.cefrodil.specs.Calls.{Gives}
 use Rattle.mc_door.specs.declared.status.TheConstants.{OK, CLOSED, HELD, KIND}
 
--- the number is written, by a handle that knows it; by another nothing is
+-- a handle that knows the number writes it; any other handle writes nothing
 pub record HasCounted (Knows : Role → Type 0) (Is : ℕ → Role → ℕ → Type 0) (h : Held) (old new status : ℕ) : Type 0 where
   pub known : Known ℕ
   pub is : MatchOption known (¬ Knows (role_in h)) (Is (width_of h) (role_in h))
@@ -19,7 +19,7 @@ pub record HasCounted (Knows : Role → Type 0) (Is : ℕ → Role → ℕ → T
 abbrev pub CountGives : (Role → Type 0) → (ℕ → Role → ℕ → Type 0) → Option Held → Option Held → ℕ → ℕ → ℕ → Type 0
 CountGives Knows Is b b' old new status = Gives b b' ((status ≡ CLOSED) × (new ≡ old)) (λ h h'. (h' ≡ h) × HasCounted Knows Is h old new status)
 
--- the status; and the number, where it was counted
+-- the status; and the number, if it was counted
 abbrev pub TellsCount : Result ℕ CountError → ℕ → ℕ → ℕ → Type 0
 TellsCount (Ok many) old new status = (status ≡ OK) × (new ≡ many)
 TellsCount (Err why.Kind) old new status = (status ≡ KIND) × (new ≡ old)

@@ -8,7 +8,7 @@ use Rattle.cefrodil.specs.Calls.{Gives}
 use Rattle.cefrodil.specs.Openings.{Keeps}
 use Rattle.mc_door.specs.declared.status.TheConstants.{OK, CLOSED, KIND, NO_MEMORY, NOT_LAST}
 
--- the pass is a reader, and the writer's handle keeps the writer if the pass was the last one, and else nothing
+-- the pass becomes a reader. The writer's handle keeps the writer if the pass was the last one, and otherwise nothing
 abbrev pub HasLeft : Held → Held → Option Held → ℕ → Type 0
 HasLeft h h' w status =
     BecomesReader (role_in h) (role_in h') ×

@@ -10,7 +10,7 @@ use Rattle.mc_door.specs.declared.listed.ListError.TheVariants as why
 use Rattle.cefrodil.specs.Calls.{Gives}
 use Rattle.mc_door.specs.declared.status.TheConstants.{OK, CLOSED, COUNT, HELD, KIND, NO_MEMORY}
 
--- the status; and how many entries there are, where that is known
+-- the status; and how many entries there are, if that is known
 abbrev pub TellsList : Result ℕ ListError → ℕ → ℕ → ℕ → Type 0
 TellsList (Ok many) old new status = (status ≡ OK) × (new ≡ many)
 TellsList (Err why.Kind) old new status = (status ≡ KIND) × (new ≡ old)
@@ -18,7 +18,7 @@ TellsList (Err why.Held) old new status = (status ≡ HELD) × (new ≡ old)
 TellsList (Err (why.Count many)) old new status = (status ≡ COUNT) × (new ≡ many)
 TellsList (Err why.NoMemory) old new status = (status ≡ NO_MEMORY) × (new ≡ old)
 
--- the entries were written, or there was a reason why not, and then nothing was
+-- the entries were written, or there was a reason why not, and then nothing was written
 pub record HasMadeList (h h' : Held) (old new : List ℕ) (count count' status : ℕ) : Type 0 where
   pub width : width_of h' ≡ width_of h
   pub more : SeesMore (width_of h) (role_in h) (role_in h')
@@ -31,7 +31,7 @@ abbrev pub ListGives : Option Held → Option Held → List ℕ → List ℕ →
 ListGives b b' old new count count' status =
     Gives b b' ((status ≡ CLOSED) × (new ≡ old) × (count' ≡ count)) (λ h h'. HasMadeList h h' old new count count' status)
 
--- the entries were written with their stamps, or there was a reason why not, and then nothing was
+-- the entries were written with their stamps, or there was a reason why not, and then nothing was written
 pub record HasMadeStampedList (h h' : Held) (old new : List ℕ) (count count' status : ℕ) : Type 0 where
   pub width : width_of h' ≡ width_of h
   pub made : Result ℕ ListError

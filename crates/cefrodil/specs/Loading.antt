@@ -17,7 +17,7 @@ left_status why.NoPath = NO_PATH
 left_status why.NoItem = NO_ITEM
 left_status why.Spent = SPENT
 
--- the status of the entry with this index: why it was left, where it was
+-- the status of the entry with this index: why it was left, if it was
 abbrev pub entry_status : List (ℕ × Why) → ℕ → ℕ
 entry_status [] i = OK
 entry_status (l ∷ left) i = if l.0 == i then left_status l.1 else entry_status left i
@@ -26,7 +26,7 @@ entry_status (l ∷ left) i = if l.0 == i then left_status l.1 else entry_status
 abbrev pub AreEntries : ℕ → ℕ → ℕ → Type 0
 AreEntries words entry_words count = entry_words ≡ count * (1 + words)
 
--- the writer of a new cache, which has put these entries but those that were left
+-- the writer of a new cache, which has put these entries, except those that were left
 abbrev pub IsLoadedAt : Opening → ℕ → List (ℕ × List ℕ) → List (ℕ × Why) → Slot → Type 0
 IsLoadedAt o words entries left s = Keeps (λ h. (width_of h ≡ words) × IsLoadedWriter words o entries left (role_in h)) (kept s)
 

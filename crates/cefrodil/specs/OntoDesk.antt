@@ -29,11 +29,12 @@ RefusesDesk h passes status =
 abbrev pub IsDeskPass : Held → Held → Type 0
 IsDeskPass h h' = (o : Opening) × WritesTo o (role_in h) × (width_of h' ≡ width_of h) × IsNewSide o true (role_in h')
 
--- the writer stays. If the desk's shares can't be counted, of which there may be 2^63 - 1, it is on the desk, and its handle keeps a pass
+-- the writer stays. If the desk has more shares than can be counted (2^63 - 1), the writer is on the desk, and its handle keeps a pass
 abbrev pub StaysOrShares : Held → Held → ℕ → Type 0
 StaysOrShares h h' status = (h' ≡ h) ⊎ ((status ≡ NO_MEMORY) × IsDeskPass h h')
 
--- the passes' handles were closed. The writer's handle is closed then, and they are open; or it keeps what it kept, and they are closed
+-- the passes' handles were closed. After the call the writer's handle is closed, and they are open; or it keeps what it kept, and they are
+-- closed
 abbrev pub DeskGives : Option Held → Option Held → List Slot → List Slot → ℕ → Type 0
 DeskGives none none ps ps' status = (status ≡ CLOSED) × (ps' ≡ ps)
 DeskGives (some h) none ps ps' status = (status ≡ OK) × AreDeskPasses h ps'

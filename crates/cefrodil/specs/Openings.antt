@@ -75,6 +75,6 @@ RefusesOpen raw words handles status =
     RefusesAsked raw words status ⊎
     ((sh : Shape) × (why : OpenError) × IsWidth words × HasMix raw × IsShapeOf raw sh × RefusesOpening sh handles why × (status ≡ open_status why))
 
--- and before all of them that a handle is open
+-- and before all of them: a handle is open
 abbrev pub RefusesHandles : Type 0 → (ℕ → Type 0) → ℕ → Type 0
 RefusesHandles AreClosed Refuses status = ((status ≡ IN_USE) × (¬ AreClosed)) ⊎ (AreClosed × Refuses status)

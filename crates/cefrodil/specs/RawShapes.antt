@@ -13,7 +13,7 @@ abbrev pub number_of : Mix → ℕ
 number_of Fmix = FMIX
 number_of Plain = PLAIN
 
--- depth and tries keep out of their ranges where they are
+-- a depth or a number of tries that is out of range stays out of range
 pub record IsShapeOf (raw : RawShape) (sh : Shape) : Type 0 where
   pub limit : sh.limit ≡ raw.limit
   pub buckets : sh.buckets ≡ raw.buckets

@@ -26,7 +26,7 @@ pub extern "C" fn cefrodil_leave_desk(alloc: Global, pass: &mut Slot, writer: &m
     if !held.is_pass() {
         return KIND;
     }
-    // Memory first: behind this the writer's handle has a place.
+    // Memory first: after this the writer's handle has a place.
     let Some(mut place) = boxed(alloc, Held::nothing()) else {
         return NO_MEMORY;
     };

@@ -8,7 +8,7 @@ use mc_door::ListError;
 use mc_door::status::{CLOSED, COUNT, HELD, KIND, NO_MEMORY, OK};
 use std::alloc::Global;
 
-// Writes how many entries there are, where that is known.
+// Writes how many entries there are, if that is known.
 fn tell(listed: Result<usize, ListError>, count: &mut u64) -> u32
     ensures { TellsList listed count.old count.new result }
 {

@@ -6,7 +6,7 @@ ghost use Rattle.cefrodil.specs.Open.{kept};
 use crate::slot::{Slot, told_of_handle};
 use mc_door::RawReply;
 
-/// What the cache holds of the key, by any handle. The value is written only where it was found.
+/// Looks the key up, by any handle. The value is written only if the key was found.
 #[tactic(auto, using(crate::proofs::Gives::gives_open, crate::proofs::Gives::gives_closed))]
 #[unsafe(no_mangle)]
 pub extern "C" fn cefrodil_get(

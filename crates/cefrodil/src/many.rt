@@ -10,7 +10,7 @@ use crate::slot::Slot;
 use mc_door::status::{CLOSED, COUNT, OK, WIDTH};
 use mc_door::{GROUP, Held, Side, Told, with_side};
 
-/// One answer of many. What its status has no use for is 0.
+/// One answer of many. A field that does not apply to the status is 0.
 #[repr(C)]
 #[derive(Clone, Copy)]
 pub struct RawAnswer {
@@ -40,7 +40,7 @@ fn look_up<const V: usize>(side: &mut Side<V>, key: u64, value: &mut [u64]) -> R
     }
 }
 
-// One lookup after the other, behind the loads ahead of their group.
+// Looks the keys up one after the other, after the loads ahead of each group.
 #[inline(never)]
 fn look_up_all<const V: usize>(
     side: &mut Side<V>,

@@ -22,7 +22,7 @@ fn status_of_desk(why: MakeDeskError) -> u32
     }
 }
 
-// Opens the handles, with nothing behind them yet. `false` where there is no memory.
+// Opens the handles, with nothing behind them yet. `false` if there is no memory.
 #[tactic(auto, using(crate::proofs::Filling::all_placed))]
 fn make_places(alloc: Global, slots: &mut [Slot]) -> bool
     requires { All IsClosed slots.old }

@@ -62,7 +62,7 @@ pub(crate) fn boxed<T: Drop>(alloc: Global, value: T) -> Option<Box<T, Global>>
     }
 }
 
-// A side for each of the slots. `false` where there is no memory.
+// A side for each of the slots. `false` if there is no memory.
 #[tactic(auto, using(crate::proofs::Filling::all_filled))]
 fn fill(alloc: Global, mut rest: Rest, slots: &mut [Slot]) -> bool
     requires { (count_in rest ≡ length slots.old) × All IsClosed slots.old }
@@ -83,7 +83,7 @@ fn fill(alloc: Global, mut rest: Rest, slots: &mut [Slot]) -> bool
     true
 }
 
-// The writer on the heap, and a reader in each of the handles, which are closed. None where there is no memory: they are closed then.
+// The writer on the heap, and a reader in each of the handles, which are closed. None if there is no memory: then they are closed.
 pub(crate) fn given_out(
     alloc: Global,
     held: Held,

@@ -20,7 +20,7 @@ pub(crate) fn status_of_shards(why: OpenShardsError) -> u32
     }
 }
 
-// A pass for each of the slots. `false` where there is no memory.
+// A pass for each of the slots. `false` if there is no memory.
 #[tactic(auto, using(crate::proofs::ShardFilling::all_passes))]
 fn fill_passes(alloc: Global, mut rest: ShardRest, slots: &mut [Slot]) -> bool
     requires { (count_on rest ≡ length slots.old) × All IsClosed slots.old }

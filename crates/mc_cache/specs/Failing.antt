@@ -41,7 +41,7 @@ PutFails sh h made k (Err NoPath) = map_value h k ≡ None
 PutFails sh h made k (Err AllRecent) = (map_value h k ≡ None) × (key_count h ≡ sh.items)
 PutFails sh h made k (Err Spent) = IsSpent sh h made (2 * (sh.depth + 2))
 
--- a put that puts a key only if it is absent may fail as a put may. That the key is there is no failure of the put
+-- a put that puts a key only if it is absent may fail as a put may. A key that is there is no failure of the put
 abbrev pub PutIfAbsentFails : {V : ℕ} → Shape → List (Change V) → ℕ → ℕ → Result Put AbsentError → Type 0
 PutIfAbsentFails sh h made k (Ok told) = Unit {0}
 PutIfAbsentFails sh h made k (Err (absent.Put why)) = PutFails sh h made k (Err why)

@@ -1,4 +1,4 @@
--- What the calls of a cache mean for whoever uses it: the clauses `plain`. Of the table they name no word: they speak of two
+-- What the calls of a cache mean for whoever uses it: the clauses `plain`. They name no word of the table: they speak of two
 -- histories, which are lists of changes of a map. The writer's has every change that was made. A reader's is the part of it that
 -- the reader is known to have seen.
 use Rattle.std.specs.Prelude.{ℕ, ◌≡◌, ◌≢◌, ◌+◌, ◌⊎◌, List, [], ◌∷◌, ◌++◌, length, Some, None, IsSome, Result, Ok, Err}
@@ -43,13 +43,13 @@ TellsNow h k (Found v at since) = (map_value h k ≡ Some (v ++ since ∷ [])) �
 TellsNow h k (Absent at) = (map_value h k ≡ None) × (at ≡ length h)
 TellsNow h k Busy = ⊥
 
--- a put that succeeds puts the key, and first evicts another one where it says so
+-- a put that succeeds puts the key, and first evicts another one if it says so
 abbrev pub put_changes : {V : ℕ} → ℕ → List ℕ → Put → List (Change V)
 put_changes k v (Stored at moves None) = change.Put k v ∷ []
 put_changes k v (Stored at moves (Some other)) = change.Evict other ∷ change.Put k v ∷ []
 put_changes k v (Renewed at) = change.Put k v ∷ []
 
--- the key was there before only where it was renewed, and a key that was evicted was there
+-- the key was there before only if it was renewed, and a key that was evicted was there
 abbrev pub WasThere : {V : ℕ} → List (Change V) → ℕ → Put → Type 0
 WasThere h k (Stored at moves None) = map_value h k ≡ None
 WasThere h k (Stored at moves (Some other)) = (map_value h k ≡ None) × IsSome (map_value h other)
@@ -59,7 +59,7 @@ abbrev pub moment_of : Put → ℕ
 moment_of (Stored at moves evicted) = at
 moment_of (Renewed at) = at
 
--- from the one history a put has made the other, in which the key has the value, and as its stamp the moment of this put
+-- a put led from the one history to the other, in which the key has the value, with the moment of this put as its stamp
 pub record HasPut (V : ℕ) (h h' : List (Change V)) (k : ℕ) (v : List ℕ) (told : Put) : Type 0 where
   pub was : WasThere h k told
   pub grew : h' ≡ h ++ put_changes k v told
@@ -75,7 +75,7 @@ PutMeans V h h' k v (Err why) = h' ≡ h
 abbrev pub HasStamp : {V : ℕ} → List (Change V) → ℕ → ℕ → Type 0
 HasStamp {V} h k since = (v : List ℕ) × (map_value h k ≡ Some (v ++ since ∷ [])) × (length v ≡ V)
 
--- from the one history a put on a condition has made the other: the key's last put was the one that the caller had seen
+-- a put on a condition led from the one history to the other: the key's last put was the one that the caller had seen
 pub record HasPutIf (V : ℕ) (h h' : List (Change V)) (k since : ℕ) (v : List ℕ) (at : ℕ) : Type 0 where
   pub was : HasStamp h k since
   pub grew : h' ≡ h ++ change.Put k v ∷ []
@@ -89,7 +89,7 @@ PutIfMeans V h h' k since v (Err why.Spent) = h' ≡ h
 PutIfMeans V h h' k since v (Err (why.NotThere at)) = (map_value h k ≡ None) × (h' ≡ h) × (at ≡ length h)
 PutIfMeans V h h' k since v (Err (why.Changed stands)) = HasStamp h k stands × (stands ≢ since) × (h' ≡ h)
 
--- what the answer of a put means that puts a key only if it is absent: if the key is there, its stamp is returned. One that puts nothing
+-- what the answer of a put that requires an absent key means: if the key is there, its stamp is returned. One that puts nothing
 -- has changed nothing
 abbrev pub PutIfAbsentMeans : (V : ℕ) → List (Change V) → List (Change V) → ℕ → List ℕ → Result Put AbsentError → Type 0
 PutIfAbsentMeans V h h' k v (Ok told) = (map_value h k ≡ None) × HasPut V h h' k v told
@@ -122,8 +122,8 @@ pub record HasMet (V : ℕ) (h h' : List (Change V)) (all : List (Change V)) : T
   pub begins : Begins h all
   pub now : h' ≡ all
 
--- what a try for the turn means for what its pass has seen: the call was made from a history which that begins, and all is seen now.
--- Where it was held, nothing was seen
+-- what a try for the turn means for what its pass has seen: the call was made from a history that begins with what the pass had seen, and
+-- all is seen now. If it was held, nothing was seen
 abbrev pub TurnMeans : {T E : Type 0} {V : ℕ} → (List (Change V) → List (Change V) → Result T E → Type 0) → List (Change V) → List (Change V) → Result T (DeskError E) → Type 0
 TurnMeans {V = V} Means h h' (Ok done) = (before : List (Change V)) × Begins h before × Means before h' (Ok done)
 TurnMeans Means h h' (Err desk.Held) = h' ≡ h

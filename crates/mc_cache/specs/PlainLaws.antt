@@ -13,7 +13,8 @@ key_of (Put k v) = k
 key_of (Remove k) = k
 key_of (Evict k) = k
 
--- at the opening the map is empty; a put sets its key to the value, with the moment of the put behind it, a removal and an eviction take theirs out, and other keys stay as they are
+-- at the opening the map is empty; a put sets its key to the value, with the moment of the put behind it, a removal and an eviction take
+-- their key out, and other keys stay as they are
 pub record MapsFollow (V : ℕ) : Type 0 where
   pub empty : (k : ℕ) → map_value {V = V} [] k ≡ None
   pub put : (h : List (Change V)) (k : ℕ) (v : List ℕ) → map_value (h ++ Put k v ∷ []) k ≡ Some (v ++ (length h + 1) ∷ [])
@@ -29,7 +30,7 @@ AnswersStay V = (h h' : List (Change V)) (k : ℕ) (reply : Reply V) → Begins 
 abbrev pub LastAnswersTellNow : ℕ → Type 0
 LastAnswersTellNow V = (h : List (Change V)) (k : ℕ) (reply : Reply V) → IsTrueAnswer h k reply → IsBetween (length h) (length h) reply → (reply ≡ Busy) ⊎ TellsNow h k reply
 
--- and where the map holds a value, the answer has it, with its stamp
+-- and if the map holds a value, the answer has it, with its stamp
 abbrev pub HeldIsFound : ℕ → Type 0
 HeldIsFound V =
     (h : List (Change V)) (k : ℕ) (v : List ℕ) (since : ℕ) (reply : Reply V) → map_value h k ≡ Some (v ++ since ∷ []) → TellsNow h k reply → reply ≡ Found v (length h) since

@@ -1,4 +1,4 @@
--- What the calls mean that also return the entry which they take out of the map: it is what the map held just before.
+-- The meaning of the calls that also return the entry which they take out of the map: it is what the map held just before.
 use Rattle.std.specs.Prelude.{ℕ, List, Some, Result, Ok, Err, IfOk}
 pub use Rattle.mc_writer.specs.GivenWay.{Holds, giving_way, put_if_of, put_of, removal_of}
 use Rattle.mc_words.specs.declared.history.Change.{Change}

@@ -27,7 +27,7 @@ pub record IsLaidDown (V : ℕ) (w : WriterRecord) : Type 0 where
 
 -- whoever lent this reader as a pass has had the turn. It found the writer with the one record, of which the pass had seen a front,
 -- and left it with the other: what was called leads from the one to the other. The pass has then seen all, and its earlier lookups are
--- true in the order that the notes tell
+-- true in the order of the notes
 pub record HasHadTurn (V : ℕ) (sh : Shape) (Called : WriterRecord → WriterRecord → Type 0) (old new : ReaderRecord) : Type 0 where
   pub before : WriterRecord
   pub after : WriterRecord
@@ -39,7 +39,7 @@ pub record HasHadTurn (V : ℕ) (sh : Shape) (Called : WriterRecord → WriterRe
   pub caught : new ≡ reader_record old.of old.number after.acts old.done
   pub order : HasAnsweredInOrder V sh after old.number old.done
 
--- a try for the turn, to call what answers so: where it was held, nothing was done with the pass
+-- a try for the turn, to call what answers so: if it was held, nothing was done with the pass
 abbrev pub HasTriedTo : {T E : Type 0} (V : ℕ) → Shape → (Result T E → WriterRecord → WriterRecord → Type 0) → ReaderRecord → ReaderRecord → Result T (DeskError E) → Type 0
 HasTriedTo V sh Called old new (Ok done) = HasHadTurn V sh (Called (Ok done)) old new
 HasTriedTo V sh Called old new (Err desk.Held) = new ≡ old
@@ -61,7 +61,7 @@ pub record HasMetAtDesk (V : ℕ) (old new : ReaderRecord) : Type 0 where
   pub seen : IsFrontOf old.front writer.acts
   pub caught : new ≡ reader_record old.of old.number writer.acts old.done
 
--- a try for the turn, to list the entries: where it was held, nothing was done with the pass
+-- a try for the turn, to list the entries: if it was held, nothing was done with the pass
 abbrev pub HasTriedToList : {T E : Type 0} (V : ℕ) → ReaderRecord → ReaderRecord → Result T (DeskError E) → Type 0
 HasTriedToList V old new (Ok listed) = HasMetAtDesk V old new
 HasTriedToList V old new (Err desk.Held) = new ≡ old

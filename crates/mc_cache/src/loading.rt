@@ -31,7 +31,7 @@ pub struct Opened<const V: usize> {
     pub left: Vec<(usize, Why)>,
 }
 
-// Names an entry that is left, for which there is room.
+// Names an entry that is left. There is room for it.
 fn name(left: &mut Vec<(usize, Why)>, index: usize, why: Why)
     requires { vec_len left.old < vec_capacity left.old }
     ensures items { left.new.items ≡ left.old.items ++ (index, why) ∷ [] }

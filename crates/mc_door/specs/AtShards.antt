@@ -5,7 +5,7 @@ use Rattle.mc_shared.specs.Records.{ReaderRecord}
 use Rattle.mc_shards.specs.Plain.{seens}
 use Rattle.mc_shards.specs.Sharded.{ArePassOf, ChangesAt, Sharded, shard_in}
 
--- of the pass's records that of the key's shard alone changes, as this says, and so does what is seen of that shard
+-- only the pass's record of the key's shard changes, as this says, and so does what is seen of that shard
 pub record IsAtShard (V : ℕ) (s : Sharded) (key : ℕ) (rs rs' : List ReaderRecord) (Goes : ReaderRecord → ReaderRecord → Type 0) (Means : List (Change V) → List (Change V) → Type 0) : Type 0 where
   pub of : ArePassOf s rs'
   pub goes : ChangesAt (shard_in s key) rs rs' Goes

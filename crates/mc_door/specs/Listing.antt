@@ -7,7 +7,7 @@ use Rattle.mc_door.specs.Roles.{Role, Writes, Reads, Passes, Shares, Idle}
 use Rattle.mc_door.specs.declared.listed.ListError.{ListError}
 use Rattle.mc_door.specs.declared.listed.ListError.TheVariants as why
 
--- a pass has seen more of the histories at most. The others are as they were
+-- a pass may have seen more of the histories. The others are unchanged
 abbrev pub SeesMore : (V : ℕ) → Role → Role → Type 0
 SeesMore V (Writes w) (Writes w') = w' ≡ w
 SeesMore V (Reads r) (Reads r') = r' ≡ r

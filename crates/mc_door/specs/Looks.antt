@@ -11,7 +11,7 @@ reply_of V words (looked.Found at since) = reply.Found words at since
 reply_of V words (looked.Absent at) = reply.Absent at
 reply_of V words looked.Busy = reply.Busy
 
--- the words are written only where a value was found
+-- the words are written only if a value was found
 abbrev pub LeavesUnlessFound : List ℕ → List ℕ → Looked → Type 0
 LeavesUnlessFound old new (looked.Found at since) = Unit {0}
 LeavesUnlessFound old new (looked.Absent at) = new ≡ old

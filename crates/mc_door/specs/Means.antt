@@ -64,7 +64,7 @@ Looks V (Shares s rs) (Shares s' rs') key reply = (s' ≡ s) × IsAtShard V s ke
 Looks V Idle Idle key reply = reply ≡ Busy
 Looks V _ _ key reply = ⊥
 
--- the same by a pass alone, which tries for the turn where it is busy
+-- a lookup by a pass alone, which tries for the turn if it is busy
 abbrev pub LooksAtDesk : (V : ℕ) → Role → Role → ℕ → Reply V → Type 0
 LooksAtDesk V (Passes r) (Passes r') key reply = (r'.of ≡ r.of) × HasLookedOrMet V r.of.layout.shape key r r' reply × HasAnswered V (seen V r) (seen V r') key reply
 LooksAtDesk V (Shares s rs) (Shares s' rs') key reply = (s' ≡ s) × IsAtShard V s key rs rs' (λ r r'. HasLookedOrMet V s.shape key r r' reply) (λ h h'. HasAnswered V h h' key reply)

@@ -28,7 +28,7 @@ use Rattle.mc_door.specs.declared.told.Told.{Told}
 use Rattle.mc_door.specs.declared.write.Swap.{Swap}
 use Rattle.mc_door.specs.declared.write.Swap.TheVariants as call
 
--- how many words the value has; as many as those of the cache where there is none
+-- how many words the value has; as many as those of the cache if there is none
 abbrev pub swap_words : ℕ → Swap → List ℕ → ℕ
 swap_words V call.Remove v = V
 swap_words V _ v = length v
@@ -47,13 +47,13 @@ old_of_take (Ok (Taken at old)) = Some old
 old_of_take (Ok (NotThere at)) = None
 old_of_take (Err why) = None
 
--- the same of a turn
+-- the entry that a turn took out, if it took one out
 abbrev pub old_of_turn : {V : ℕ} {T E : Type 0} → (Result T E → Option (Entry V)) → Result T (DeskError E) → Option (Entry V)
 old_of_turn old_of (Ok done) = old_of (Ok done)
 old_of_turn old_of (Err desk.Held) = None
 old_of_turn old_of (Err (desk.Call why)) = old_of (Err why)
 
--- its value is written, and otherwise the words stay
+-- its value is written; if there is none, the words stay
 abbrev pub left_by : {V : ℕ} → Option (Entry V) → List ℕ → List ℕ
 left_by (Some entry) words = entry.value
 left_by None words = words

@@ -11,7 +11,7 @@ pub record HasTold {Answer : Type 0} (tells : Answer → Told) (Means : Answer �
   pub is : told ≡ tells made
   pub means : Means made
 
--- the call was made; or the first that applies: the side has no such call, or the value has another width. Then all is the same
+-- the call was made; or the first that applies: the side has no such call, or the value has another width. Then nothing has changed
 abbrev pub Tells : (Role → Type 0) → ℕ → Role → ℕ → Type 0 → Type 0 → Told → Type 0
 Tells Can V role words Same Made told =
     Made ⊎ (((told ≡ plain KIND) × (¬ Can role) × Same) ⊎ ((told ≡ plain WIDTH) × Can role × (words ≢ V) × Same))

@@ -17,7 +17,7 @@ use Rattle.mc_door.specs.declared.told.Told.{Told}
 use Rattle.mc_door.specs.declared.write.Write.{Write}
 use Rattle.mc_door.specs.declared.write.Write.TheVariants as call
 
--- how many words the value has; as many as those of the cache where there is none
+-- how many words the value has; as many as those of the cache if there is none
 abbrev pub words_in : ℕ → Write → List ℕ → ℕ
 words_in V call.Remove v = V
 words_in V _ v = length v

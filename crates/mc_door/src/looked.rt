@@ -13,7 +13,7 @@ pub enum Looked {
 }
 
 impl Looked {
-    /// Tells a reply, and writes its value if it has one.
+    /// Converts a reply, and writes its value if it has one.
     #[inline(always)]
     pub(crate) fn of<const V: usize>(reply: Reply<V>, value: &mut [u64]) -> Looked
         requires { length value.old ≡ V }

@@ -31,7 +31,7 @@ pub enum Rest {
 }
 
 impl Rest {
-    /// One of them, if any is left. `Err` only where there is no memory.
+    /// One of them, if any is left. `Err` only if there is no memory.
     pub fn next(&mut self) -> Result<Option<Held>, NoMemory>
         ensures same { (opening_in self.new ≡ opening_in self.old) × (has_desk_in self.new ≡ has_desk_in self.old) × (width_in self.new ≡ width_in self.old) }
         ensures refused { IfErr result (λ _. count_in self.new ≡ count_in self.old) }

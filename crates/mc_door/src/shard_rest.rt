@@ -29,7 +29,7 @@ pub enum ShardRest {
 }
 
 impl ShardRest {
-    /// One of them, if any is left. `Err` only where there is no memory.
+    /// One of them, if any is left. `Err` only if there is no memory.
     pub fn next(&mut self) -> Result<Option<Held>, NoMemory>
         ensures same { (shards_on self.new ≡ shards_on self.old) × (width_on self.new ≡ width_on self.old) }
         ensures given { IfOk result (λ given. MatchOption given (count_on self.old ≡ 0)

@@ -33,7 +33,7 @@ impl<const V: usize> Side<V> {
         V
     }
 
-    /// What the cache holds of the key: `get` of the writer, a reader or a pass. The value is written only where it was found. A reader's
+    /// What the cache holds of the key: `get` of the writer, a reader or a pass. The value is written only if the key was found. A reader's
     /// lookup shares no registers with those of other sides.
     #[inline(always)]
     pub fn get(&mut self, key: u64, value: &mut [u64], reply: &mut RawReply) -> u32
@@ -119,7 +119,7 @@ impl<const V: usize> Side<V> {
         }
     }
 
-    /// A write that also returns the entry which gives way, by the writer or a pass. The old value is written only where one does.
+    /// A write that also returns the entry which gives way, by the writer or a pass. The old value is written only if one does.
     #[inline(always)]
     pub(crate) fn swap(
         &mut self,

@@ -19,7 +19,7 @@ pub const EVICTED: u32 = 2;
 /// The key was there.
 pub const RENEWED: u32 = 3;
 
-/// The numbers of a reply. What a status has no use for is 0.
+/// The numbers of a reply. A number that does not apply to the status is 0.
 #[repr(C)]
 #[derive(Clone, Copy)]
 pub struct RawReply {
@@ -60,7 +60,7 @@ impl Told {
         }
     }
 
-    /// Writes the reply, and gives the status.
+    /// Writes the reply, and returns the status.
     #[inline(always)]
     pub fn tell(self, reply: &mut RawReply) -> u32
         ensures { record { status = result; reply = reply.new } ≡ self }

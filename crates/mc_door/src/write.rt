@@ -17,7 +17,7 @@ pub enum Write {
 }
 
 impl Write {
-    /// How many words its value has; as many as those of the cache where it has none.
+    /// How many words its value has; as many as those of the cache if it has none.
     #[inline(always)]
     pub(crate) fn words(self, value: &[u64], words: usize) -> usize
         ensures { result ≡ words_in words self value.now }
@@ -40,7 +40,7 @@ pub enum Swap {
 }
 
 impl Swap {
-    /// How many words its value has; as many as those of the cache where it has none.
+    /// How many words its value has; as many as those of the cache if it has none.
     #[inline(always)]
     pub(crate) fn words(self, value: &[u64], words: usize) -> usize
         ensures { result ≡ swap_words words self value.now }

@@ -41,7 +41,7 @@ Tells mix hs k Busy = Unit {0}
 abbrev pub AllAnswered : (V : ℕ) → Mix → List (List (Change V)) → List (List (Change V)) → List ℕ → List (Reply V) → Type 0
 AllAnswered V mix hs hs' ks rs = EachIndex ks (λ i. HasAnswered V (history_of mix hs (slice_index ks i)) (history_of mix hs' (slice_index ks i)) (slice_index ks i) (slice_index_or rs i Busy))
 
--- of each key the entries have the value that the one map holds, and no key is there twice
+-- the entries have the value that the one map holds for each key, and have no key twice
 pub record AreEntriesOfAll (V : ℕ) (mix : Mix) (hs : List (List (Change V))) (es : List (ℕ × List ℕ)) : Type 0 where
   pub values : (k : ℕ) → lookup (λ q. k == q) es ≡ value_held (history_of mix hs k) k
   pub once : AllPairs (λ d e. d.0 ≢ e.0) es

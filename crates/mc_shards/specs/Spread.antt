@@ -13,6 +13,6 @@ pub record HasParts (sh : Shape) (shards tag bucket stripe shard k : ℕ) : Type
   pub has_stripe : stripe_of sh k ≡ stripe
   pub has_shard : shard_of sh.mix shards k ≡ shard
 
--- where keys are not mixed, each choice of a tag, a first bucket, a stripe and a shard is that of some key
+-- if keys are not mixed, each choice of a tag, a first bucket, a stripe and a shard belongs to some key
 abbrev pub Spreads : Type 0
 Spreads = (sh : Shape) (shards tag bucket stripe shard : ℕ) → IsShape sh → HasShards shards → sh.mix ≡ Plain → tag < 256 → bucket < sh.buckets → stripe < sh.stripes → shard < shards → (k : ℕ) × HasParts sh shards tag bucket stripe shard k

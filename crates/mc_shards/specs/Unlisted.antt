@@ -6,13 +6,13 @@ use Rattle.mc_cache.specs.Turns.{HasMetAtDesk}
 use Rattle.mc_cache.specs.declared.desk.DeskError.{DeskError}
 use Rattle.mc_cache.specs.declared.desk.DeskError.TheVariants as desk
 
--- why a shard was not listed, whose reader had the one record and has the other: the try was held, and the reader was left alone; or the
--- list could not be stored, and the reader has seen all
+-- why a shard was not listed, if its reader had the one record and now has the other: the try was held, and the reader was left alone; or
+-- the list could not be stored, and the reader has seen all
 abbrev pub HasNotListed : (V : ℕ) → DeskError NoMemory → ReaderRecord → ReaderRecord → Type 0
 HasNotListed V desk.Held r r' = r' ≡ r
 HasNotListed V (desk.Call why) r r' = HasMetAtDesk V r r'
 
--- for this reason one of the shards was not listed
+-- one of the shards was not listed for this reason
 pub record HasStopped (V : ℕ) (rs rs' : List ReaderRecord) (why : DeskError NoMemory) : Type 0 where
   pub shard : ℕ
   pub before : ReaderRecord

@@ -22,7 +22,7 @@ fn share_of(items: u32, shards: u32) -> u64
 
 /// A shape for each of that many shards, which have that many items together: `Shape::for_items` of a shard's mean share and five
 /// standard deviations more, since the hash gives some shards more keys than others. `Err` if the number of shards is not allowed, or if
-/// the items are none or too many.
+/// there are no items or too many.
 pub fn shard_shape(items: u32, shards: u32) -> Result<Shape, OpenShardsError>
     ensures { MatchResult result
         (λ sh. HasShards shards × (n : ℕ) × IsShare items shards n × IsSizedFor n sh)

@@ -93,7 +93,7 @@ pub record RefusesAll (V : ℕ) (sh : Shape) (s t : Quiet V) (k : ℕ) : Type 0 
   pub needs : NeedsItem V sh s k
   pub unchanged : t ≡ s
 
--- another key was taken out, and the key was put with its item after no more moves than the shortest chain asks for
+-- another key was taken out, and the key was put with its item after no more moves than the shortest chain needs
 pub record Replaces (V : ℕ) (sh : Shape) (s t : Quiet V) (k : ℕ) (v : List ℕ) (at moves evicted : ℕ) : Type 0 where
   pub needs : NeedsItem V sh s k
   pub few : moves ≤ needs.count

@@ -4,7 +4,7 @@ use Rattle.mc_words.specs.declared.place.Place.{Place}
 use Rattle.mc_words.specs.declared.shape.Shape.{Shape}
 use Rattle.mc_words.specs.Recency.{recency_word, recency_words}
 
--- how many words of an item follow its key, where a value has V words: the value, and behind it the stamp, the moment of the last put
+-- how many words of an item follow its key, if a value has V words: the value, and behind it the stamp, the moment of the last put
 unfoldable pub payload : ℕ → ℕ
 payload V = V + 1
 
@@ -59,7 +59,7 @@ slot sh w q = slice_index w (slot_place sh q)
 unfoldable pub item : ℕ → Shape → List ℕ → ℕ → ℕ → ℕ
 item V sh w i j = slice_index w (item_place V sh i j)
 
--- what a write of one of them leaves
+-- what a write of one of them leaves unchanged
 unfoldable pub with_moment : List ℕ → ℕ → List ℕ
 with_moment w x = slice_set w 0 x
 

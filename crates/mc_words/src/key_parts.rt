@@ -1,5 +1,5 @@
 //! A key cut into its parts.
-/// What a key is cut into in tables of one shape, worked out once for all that a call asks of it.
+/// What a key is cut into in tables of one shape, computed once for all that a call needs.
 #[derive(Clone, Copy, Debug, PartialEq, Eq)]
 pub struct KeyParts {
     /// The byte that its slot keeps.

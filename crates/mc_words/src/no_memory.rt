@@ -1,4 +1,4 @@
-//! What a call answers that ran out of memory.
+//! The error of a call that ran out of memory.
 use std::alloc::AllocError;
 use thiserror::Error;
 

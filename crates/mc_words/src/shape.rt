@@ -11,8 +11,8 @@ use thiserror::Error;
 pub struct Shape {
     /// A power of two from 2 to 2^20. Each bucket has four slots.
     pub buckets: u32,
-    /// From 1 to four times the buckets. Keep it below nine tenths of the slots, as `Shape::for_items` does: where no slot is
-    /// empty once each item is in use, a new key is refused with `NoPath` and nothing is evicted for it.
+    /// From 1 to four times the buckets. Keep it below nine tenths of the slots, as `Shape::for_items` does: if no slot is empty once each
+    /// item is in use, a new key is refused with `NoPath` and nothing is evicted for it.
     pub items: u32,
     /// The number of version counters, a power of two from 1 to 2^16.
     pub stripes: u32,
@@ -54,7 +54,7 @@ impl Shape {
     ghost use Rattle.mc_words.specs.Shapes.{IsShape, RefusesShape};
     ghost use Rattle.mc_words.specs.Checks.{shape_of};
 
-    /// The shape, checked. The first fault in the order of `ShapeError` is answered.
+    /// The shape, checked. Otherwise the first fault in the order of `ShapeError`.
     pub fn check(self) -> Result<Checked, ShapeError>
         ensures { MatchResult result (λ c. (shape_of c ≡ self) × IsShape self) (λ e. RefusesShape self e) }
     {

@@ -21,7 +21,7 @@ pub record IsFilledTo (Waits : Slot → Type 0) (first rest : Rest) (slots : Lis
   pub filled : AllWithin (IsNewAt (opening_in first) (has_desk_in first) (width_in first)) slots 0 n
   pub waiting : AllWithin Waits slots n (length slots)
 
--- the same of passes of shards
+-- the same for passes of shards
 pub record HasPassesTo (first rest : ShardRest) (slots : List Slot) (n : ℕ) : Type 0 where
   pub shards : shards_on rest ≡ shards_on first
   pub width : width_on rest ≡ width_on first

@@ -1,4 +1,4 @@
--- How far a list of entries with their stamps is.
+-- How far a list of entries with their stamps has come.
 use Rattle.std.specs.Prelude.{ℕ, All, List, map, Some}
 use Rattle.mc_words.specs.declared.history.Change.{Change}
 use Rattle.mc_words.specs.declared.shape.Shape.{Shape}

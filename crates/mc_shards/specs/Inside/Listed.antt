@@ -5,7 +5,7 @@ use Rattle.mc_words.specs.declared.mix.Mix.{Mix}
 use Rattle.mc_cache.specs.Plain.{AreEntriesOf}
 use Rattle.mc_shards.specs.Own.{own_of}
 
--- of the entries of a cache whose history is h those that belong to its shard were added
+-- the entries of a cache with history h that belong to its shard were added
 abbrev pub AddsShard : (V : ℕ) → Mix → ℕ → ℕ → List (Change V) → List (ℕ × List ℕ) → List (ℕ × List ℕ) → Type 0
 AddsShard V mix many n h es es' = (all : List (ℕ × List ℕ)) × AreEntriesOf V h all × (es' ≡ es ++ own_of mix many n all)
 
