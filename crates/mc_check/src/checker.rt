@@ -45,8 +45,7 @@ impl<'h, const V: usize> Checker<'h, V> {
         }
     }
 
-    /// A checker that finds a record's last change in a logarithmic number of steps. Where there is no memory for the sorted
-    /// changes, it scans.
+    /// A checker that finds a record's last change in a logarithmic number of steps. Without memory for the sorted changes, it scans.
     pub fn sorted(alloc: Global, history: &'h [Change<V>]) -> Checker<'h, V>
         requires { IsWidth V }
         ensures { result ≡ history.now }

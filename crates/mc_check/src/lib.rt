@@ -1,6 +1,6 @@
 //! The answers of readers, checked against a history of changes.
 //!
-//! A record is wrong where its answer isn't what the map held after the changes that it names. `check` counts the wrong
+//! A record is wrong if its answer isn't what the map held after the changes that it names. `check` counts the wrong
 //! records and takes no memory. A `Checker` that is `sorted` does the same for long histories: it sorts the changes by key.
 //!
 //! ```text

@@ -26,7 +26,7 @@ pub(crate) fn moment_of<const V: usize>(reply: &Reply<V>) -> u64
     }
 }
 
-/// Whether the answer is true, where `last` is the last change of the key before the moment of the answer.
+/// Whether the answer is true, if `last` is the last change of the key before the moment of the answer.
 pub(crate) fn is_true<const V: usize>(
     history: &[Change<V>],
     told: &Record<V>,

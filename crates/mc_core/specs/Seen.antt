@@ -16,7 +16,7 @@ use Rattle.mc_theory.specs.declared.event.Event.{Event}
 use Rattle.mc_theory.specs.declared.event.Event.TheVariants as event
 use Rattle.mc_core.specs.declared.reader.Reader.{Reader}
 
--- what callers see of a world: of its readers those whose lookup runs, and how many events were counted
+-- what callers see of a world: the readers whose lookup runs, and how many events were counted
 pub record WorldView (V : ℕ) : Type 0 where
   pub shape : Shape
   pub state : State V

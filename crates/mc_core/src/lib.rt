@@ -1,7 +1,7 @@
 //! A world in memory: one writer and its readers, whose atomic steps come in whatever order a caller names.
 //!
 //! `World::step` makes one event, `run` a list of them. Their contracts say that a world in memory is one of the theory's
-//! at every step, and so that each lookup that ends has a true reply. The theory and the lookup machine are given out here.
+//! at every step, and so that each lookup that ends has a true reply. The theory and the lookup machine are re-exported here.
 //!
 //! ```text
 //! // A lookup of one reader and a writer that opens a deed beside it, in this order.

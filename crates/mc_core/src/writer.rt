@@ -75,7 +75,7 @@ impl<const V: usize> Writer<V> {
         }
     }
 
-    /// Makes an act that is allowed; `bit` is what the hand reads. Memory may be wanting for the change that a `Moment` counts.
+    /// Makes an act that is allowed; `bit` is what the hand reads. There may be no memory for the change that a `Moment` counts.
     pub(crate) fn make(&mut self, act: Act, bit: u64) -> Result<(), AllocError>
         requires holds { StateHolds (shape_of_writer {V = V} self.old) (state_in {V = V} self.old) }
         requires used { UsedWell {V = V} self.old.table }

@@ -42,7 +42,7 @@ pub record HasLookedUp {V : ℕ} (load : Load) (h : List (Change V)) (r : ℕ) (
 abbrev pub history_after : (V : ℕ) → Shape → List Made → List (Change V)
 history_after V sh acts = (state_of V sh acts).history
 
--- the moment of an answer, where it has one
+-- the moment of an answer, if it has one
 abbrev pub at_of : {V : ℕ} → Reply V → Option ℕ
 at_of (reply.Found v at since) = Some at
 at_of (reply.Absent at) = Some at

@@ -1,4 +1,4 @@
--- What a load of shards reports whose writers take turns, and why there may be no report.
+-- What a load of shards with writers in turns reports, and why there may be no report.
 use Rattle.std.specs.Prelude.{ℕ, ◌≡◌, ◌==◌, ◌+◌, ◌*◌, ◌<◌, ◌≤◌, ◌⊎◌, List, filter, length, slice_index_or, sum_by, if◌then◌else◌}
 use Rattle.mc_words.specs.Keys.{shard_of}
 use Rattle.mc_words.specs.Readers.{most_readers}
@@ -47,13 +47,14 @@ pub record HasAsked {V : ℕ} (load : Load) (r : ℕ) (records : List (Record V)
 abbrev pub answers_in : {V : ℕ} → Mix → ℕ → ℕ → List (Record V) → List (Record V)
 answers_in {V} mix shards n records = filter (λ (r : Record V). shard_of mix shards r.key == n) records
 
--- of shard n no answer was wrong: the changes of its keys, of all writers, are one history, of which each answer about its keys is true
+-- no answer of shard n was wrong: the changes of its keys by all writers are one history, and each answer about its keys is true of it
 pub record IsRightIn {V : ℕ} (mix : Mix) (shards : ℕ) (tries : List (Tries V)) (answers : List (List (Record V))) (n : ℕ) : Type 0 where
   pub history : List (Change V)
   pub one : AreOneHistory (journals_in mix shards n tries) history
   pub told : (r : ℕ) (d : List (Record V)) → r < length answers → AreTrue history (answers_in mix shards n (slice_index_or answers r d))
 
--- the readers and the writers of these shards have made all their calls, the totals add up, and where nothing is wrong all answers are right, shard by shard
+-- the readers and the writers of these shards have made all their calls, the totals add up, and if nothing is wrong all answers are right,
+-- shard by shard
 pub record ReportsTurns (V : ℕ) (load : Load) (shards writers : ℕ) (told : DeskReport) : Type 0 where
   pub opened : Sharded
   pub shape : opened.shape ≡ load.shape
@@ -89,7 +90,7 @@ abbrev pub IsCallInTurns : Load → ℕ → ℕ → ℕ → Type 0
 IsCallInTurns load writers who call =
     (1 ≤ call) × (((1 ≤ who) × (who ≤ load.readers) × (call ≤ load.lookups)) ⊎ (((w : ℕ) × (w < writers) × (who ≡ who_of load.readers w)) × (call ≤ load.writes)))
 
--- the first fault of what shards are opened with, behind their number
+-- the first fault of what shards are opened with, after their number
 abbrev pub RefusesSeats : Shape → ℕ → ℕ → OpenError → Type 0
 RefusesSeats sh readers writers (opening.Shape why) = RefusesShape sh why
 RefusesSeats sh readers writers opening.Readers = IsShape sh × (¬ HasSeats readers writers)

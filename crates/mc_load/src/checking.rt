@@ -16,7 +16,7 @@ use crate::turns_ready::Audit;
 use mc_check::{Checker, Record};
 use std::alloc::Global;
 
-/// Writes those of the answers that are about the shard's keys behind others. There is room for all.
+/// Appends the answers about the shard's keys to others. There is room for all.
 fn append_answers<const V: usize>(told: &mut Vec<Record<V>>, share: Share, records: &[Record<V>])
     requires width { IsWidth V }
     requires room { vec_len told.old + length records.now ≤ vec_capacity told.old }
@@ -54,7 +54,7 @@ fn wrong_answers<const V: usize>(
     wrong
 }
 
-/// How many answers about a shard's keys are wrong, and how many of its moments, up to the last, no change or several have.
+/// How many answers about a shard's keys are wrong, and how many of its moments, up to the last, have no change or several.
 pub(crate) fn check_shard<const V: usize>(
     alloc: Global,
     load: Load,

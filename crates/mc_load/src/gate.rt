@@ -5,14 +5,14 @@ use std::marker::Sync;
 
 /// Lets calls through. `who` is 0 for the writer and `r + 1` for reader `r`; each worker's calls are numbered from 1.
 pub trait Gate: Sync {
-    // Which calls it may refuse, by worker and number: any, where an implementation says nothing.
+    // Which calls it may refuse, by worker and number: any, if an implementation says nothing.
     ghost may_refuse: { Self → ℕ → ℕ → Type 0 } = { λ _ _ _. ⊤ };
 
-    /// Whether the call may be made. Where it may not, the worker stops.
+    /// Whether the call may be made. If not, the worker stops.
     fn before(&self, who: u32, call: u64) -> bool
         ensures { result ≡ false → may_refuse self.now who call };
 
-    /// The call was made. `at` is the moment of its answer, where it has one.
+    /// The call was made. `at` is the moment of its answer, if it has one.
     fn after(&self, who: u32, call: u64, at: Option<u64>);
 }
 

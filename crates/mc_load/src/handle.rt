@@ -1,4 +1,4 @@
-//! With what a worker looks keys up, and a writer in turns tries for turns.
+//! What a worker looks keys up with, and a writer in turns tries for turns with.
 ghost use Rattle.std.specs.Prelude.{ℕ, ◌≡◌, IfOk, length};
 ghost use Rattle.mc_plan.specs.WholeCalls.Call.{PutCall, RemoveCall};
 ghost use Rattle.mc_plan.specs.declared.answer.Answer.TheVariants as answer;
@@ -45,7 +45,7 @@ pub(crate) enum Handle<'p, const V: usize> {
 impl<'p, const V: usize> Handle<'p, V> {
     ghost use Rattle.mc_load.specs.Inside.Handles.{AreTold, IsTold, cache_of, place_of, records_of};
 
-    /// Looks a key up, where there is a desk by a turn if the lookup is busy.
+    /// Looks a key up. If the lookup is busy and there is a desk, tries for a turn.
     pub(crate) fn get(&mut self, key: u64) -> Reply<V>
         ensures cache { cache_of self.new ≡ cache_of self.old }
         ensures told { IsTold V self.new key result }
@@ -67,7 +67,7 @@ impl<'p, const V: usize> Handle<'p, V> {
         }
     }
 
-    /// Looks keys up, in a cache with no desk several by one call.
+    /// Looks keys up. In a cache with no desk, one call looks up several.
     pub(crate) fn get_many(&mut self, keys: &[u64], replies: &mut [Reply<V>])
         requires many { length replies.old ≡ length keys.now }
         ensures many { length replies.new ≡ length keys.now }

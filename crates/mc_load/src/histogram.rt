@@ -65,8 +65,8 @@ fn worker_of(who: u32, readers: u32, turns: &[Turns]) -> Worker {
 }
 
 /// A line for each worker: calls a second, answers without a moment, and how many answers were how many changes behind the
-/// newest; of several writers also how many of its tries were held and answered. Nothing is behind where there are several shards, since
-/// each has moments of its own.
+/// newest; of several writers also how many of its tries were held and answered. With several shards nothing is behind, since each has
+/// moments of its own.
 pub(crate) fn histogram<C>(
     alloc: Global,
     meter: &Meter<'_, C>,

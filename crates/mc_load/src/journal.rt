@@ -4,7 +4,7 @@ ghost use Rattle.mc_load.specs.Inside.Journals.{put_changes, remove_changes};
 
 use mc_cache::{Change, Put, PutError, Remove, Spent};
 
-/// Writes one change down, for which there is room.
+/// Writes one change down. There is room for it.
 fn note<const V: usize>(journal: &mut Vec<Change<V>>, change: Change<V>)
     requires { vec_len journal.old < vec_capacity journal.old }
     ensures items { journal.new.items ≡ journal.old.items ++ change.entry ∷ [] }

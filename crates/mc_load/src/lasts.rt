@@ -34,7 +34,7 @@ fn note_lasts<const V: usize>(
     }
 }
 
-/// The last moment of each shard, by the last reader's lookup of one of the keys that the writers changed. 0 where they changed none.
+/// The last moment of each shard, by the last reader's lookup of one of the keys that the writers changed. 0 if they changed none.
 pub(crate) fn last_moments<const V: usize>(
     load: Load,
     shards: u32,

@@ -31,7 +31,7 @@ use std::time::Clock;
 /// The most bytes of a report.
 const ROOM: usize = 128;
 
-/// Writes the lines of a report. 3 where a write failed.
+/// Writes the lines of a report. Returns 3 if a write failed.
 fn write_report<W: Write>(output: &mut W, told: Lines) -> u8
     ensures { WritesLines false (stream (W.contents output.old) (W.contents output.new)) (text_of told) result }
 {
@@ -43,7 +43,7 @@ fn write_report<W: Write>(output: &mut W, told: Lines) -> u8
     if all { 0 } else { FAILED }
 }
 
-/// Writes what the meter shows. 3 where a write failed, or there was no room for the text.
+/// Writes what the meter shows. Returns 3 if a write failed, or there was no room for the text.
 fn write_histogram<W: Write, C>(
     alloc: Global,
     output: &mut W,
@@ -120,7 +120,7 @@ fn load_for(options: LoadOptions) -> Load
     }
 }
 
-/// Tells why there is no report.
+/// Prints why there is no report.
 fn refuse<E: Write>(errors: &mut E, why: LoadError) -> u8
     ensures told { Tells (stream (E.contents errors.old) (E.contents errors.new)) (codes "refused: " ++ load_text why) }
     ensures status { result ≡ load_status why }
@@ -243,7 +243,7 @@ fn run_for<R: Threads + Sync + Clock, W: Write, E: Write>(
 
 /// The whole program `mcload`: the words of the command line, its own name first, and its two streams.
 ///
-/// Answers the exit status: 0 where the report is written; 2 if an option, the shape, the readers or the keys are refused; 3 if there is no
+/// Returns the exit status: 0 if the report is written; 2 if an option, the shape, the readers or the keys are refused; 3 if there is no
 /// memory or a write failed. Without memory to measure, `--histogram` adds nothing. The texts of help and version, and of a fault of the
 /// words, are `clap`'s.
 pub fn run_load<S: AsStr, R: Threads + Sync + Clock, W: Write, E: Write>(

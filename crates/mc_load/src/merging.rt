@@ -71,7 +71,7 @@ pub(crate) fn gather<const V: usize>(
     }
 }
 
-/// How many moments are missing up to the last, or are there again. The changes are in the order of their moments.
+/// How many moments up to the last are missing or repeated. The changes are in the order of their moments.
 pub(crate) fn misplaced<const V: usize>(all: &[Dated<V>], last: u64) -> u64
     ensures right { result ≡ 0 → AreMoments all.now × (last ≤ length all.now) }
     ensures none { AreMoments all.now → last ≤ length all.now → result ≡ 0 }
@@ -90,7 +90,7 @@ pub(crate) fn misplaced<const V: usize>(all: &[Dated<V>], last: u64) -> u64
     wrong.saturating_add(last.saturating_sub(moment))
 }
 
-/// Writes the changes without their moments, for which there is room.
+/// Writes the changes without their moments. There is room for them.
 pub(crate) fn write_history<const V: usize>(history: &mut Vec<Change<V>>, all: &[Dated<V>])
     requires width { IsWidth V }
     requires room { vec_len history.old + length all.now ≤ vec_capacity history.old }

@@ -81,7 +81,7 @@ impl Counts {
     }
 }
 
-/// The clock, in nanoseconds, or 0 where it can't be read.
+/// The clock, in nanoseconds, or 0 if it can't be read.
 fn now<C: Clock>(clock: &C) -> u64 {
     match clock.monotonic() {
         Ok(now) => u64::try_from(now.as_nanos()).unwrap_or(u64::MAX),
@@ -171,7 +171,7 @@ impl<'c, C: Clock + Sync> Gate for Meter<'c, C> {
     }
 }
 
-/// An optional meter measures nothing where there is none.
+/// An optional meter measures nothing if there is none.
 impl<'c, C: Clock + Sync> Gate for Option<Meter<'c, C>> {
     ghost may_refuse = { λ _ _ _. ⊥ };
 

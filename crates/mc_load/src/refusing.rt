@@ -1,4 +1,4 @@
-//! The first worker whom the gate refused a call.
+//! The first worker that the gate refused a call.
 ghost use Rattle.std.specs.Prelude.{◌≡◌, ◌≤◌, IfNone, IfSome, length};
 ghost use Rattle.mc_words.specs.Readers.{most_readers};
 ghost use Rattle.mc_load.specs.Inside.Refusals.{AreTriesLetThrough, IsFirstRefusal, IsTryRefusal};

@@ -17,7 +17,7 @@ pub(crate) trait Work<G>: Send {
     // What it has done beside this gate.
     ghost ended: { G → Load → Self → Self → Type 0 };
 
-    /// Makes the load's calls, or fewer where the gate refuses one.
+    /// Makes the load's calls, or fewer if the gate refuses one.
     fn run(&mut self, gate: &G, load: Load)
         requires { ready load self.old }
         ensures { ended gate.now load self.old self.new };

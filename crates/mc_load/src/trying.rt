@@ -43,7 +43,7 @@ impl<'p, const V: usize> Trying<'p, V> {
     ghost use Rattle.mc_load.specs.Inside.Tries.{HasTriedOnce, tries_of};
     ghost use Rattle.mc_load.specs.Inside.Handles.{place_of};
 
-    /// Tries once to remove a key. The moment of the answer, where it has one.
+    /// Tries once to remove a key. Returns the moment of the answer, if it has one.
     fn try_remove(&mut self, key: u64) -> Option<u64>
         requires few { self.old.turns.held + self.old.turns.answered + 1 < 2 ^ 64 }
         requires room { vec_len self.old.journal + 2 ≤ vec_capacity self.old.journal }
@@ -57,7 +57,7 @@ impl<'p, const V: usize> Trying<'p, V> {
         note_removal_at(&mut self.journal, key, told)
     }
 
-    /// Tries once to put a key. The moment of the answer, where it has one.
+    /// Tries once to put a key. Returns the moment of the answer, if it has one.
     fn try_put(&mut self, key: u64, value: [u64; V]) -> Option<u64>
         requires few { self.old.turns.held + self.old.turns.answered + 1 < 2 ^ 64 }
         requires room { vec_len self.old.journal + 2 ≤ vec_capacity self.old.journal }

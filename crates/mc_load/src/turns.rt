@@ -51,7 +51,7 @@ pub const MOST_WRITERS: usize = 8;
 
 /// What came of a load in which every call was made, of writers that take turns at a desk, or at the desks of shards.
 ///
-/// That `wrong` is 0 is shown by tests, and by no clause.
+/// Tests show that `wrong` is 0. No clause does.
 #[derive(Clone, Copy, Debug, PartialEq, Eq)]
 pub struct DeskReport {
     /// Of all readers together.
@@ -65,7 +65,7 @@ pub struct DeskReport {
     pub answered: u64,
     /// Changes of the map that the writers' answers reported.
     pub changes: u64,
-    /// Answers that aren't what the map held after the changes that they name, and moments of a shard that no change or several have.
+    /// Answers that aren't what the map held after the changes that they name, and moments of a shard that have no change or several.
     pub wrong: u64,
 }
 

@@ -131,7 +131,7 @@ pub fn run_shards<const V: usize, R: Threads + Sync, G: Gate>(
 
 /// Opens a cache with its writer on a desk, runs from 1 to 8 writers and the readers, each in a thread of its own, and checks their
 /// answers. Each writer makes the load's number of calls, each by one try for the turn, and each word of a value that it puts names
-/// the call and the writer. A reader whose lookup is `Busy` tries for the turn too. All room is made before a worker starts; between
+/// the call and the writer. A reader whose lookup is `Busy` tries for the turn too. All memory is allocated before a worker starts; between
 /// two calls a worker waits for nothing but the gate.
 ///
 /// Writer 0 is worker 0, and the others follow the readers. Readers and writers are at most 1024 together. Only tests show that the

@@ -19,7 +19,7 @@ use mc_cache::Change;
 use mc_check::Record;
 use std::alloc::{AllocError, Global};
 
-/// With what one shard after the other is checked: room for all changes of all writers, twice, and for the answers of one reader.
+/// What the shards are checked with, one after the other: room for all changes of all writers, twice, and for the answers of one reader.
 #[derive(Drop)]
 pub(crate) struct Audit<const V: usize> {
     pub(crate) dated: Vec<Dated<V>>,
@@ -27,7 +27,7 @@ pub(crate) struct Audit<const V: usize> {
     pub(crate) told: Vec<Record<V>>,
 }
 
-/// The writers and the readers, and with what they are checked.
+/// The writers and the readers, and what they are checked with.
 #[derive(Drop)]
 pub(crate) struct Seated<'p, const V: usize> {
     pub(crate) tryings: Vec<Trying<'p, V>>,
@@ -35,7 +35,7 @@ pub(crate) struct Seated<'p, const V: usize> {
     pub(crate) audit: Audit<V>,
 }
 
-/// With how many readers a cache is opened for these readers and writers. None where there are no readers.
+/// How many readers a cache is opened with for these readers and writers. None if there are no readers.
 pub(crate) fn seats_of(readers: u32, writers: u32) -> u32
     requires writers { HasWriters writers }
     ensures asked { HasReaders result → (1 ≤ readers) × (result ≡ readers + writers) }
@@ -87,7 +87,7 @@ fn audit_of<const V: usize>(alloc: Global, load: Load, writers: u32) -> Result<A
     })
 }
 
-/// The workers, each with one of these handles, and with what they are checked.
+/// The workers, each with one of these handles, and what they are checked with.
 pub(crate) fn seat_workers<'p, const V: usize>(
     alloc: Global,
     load: Load,

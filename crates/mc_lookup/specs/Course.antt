@@ -7,7 +7,7 @@ use Rattle.mc_theory.specs.Writes.{IsAccess}
 use Rattle.mc_theory.specs.declared.access.Access.{Access}
 use Rattle.mc_lookup.specs.declared.lookup.Lookup.{Lookup}
 
--- the readings begin with one by this access; where there is none, they are none, and the reply is that of the lookup
+-- the readings begin with one by this access; if there is none, there are no readings, and the reply is that of the lookup
 abbrev pub BeginsWith : {V : ℕ} → Lookup V → Option Access → List Reading → Reply V → Type 0
 BeginsWith l (Some a) rs reply = (r : Reading) × (more : List Reading) × (rs ≡ r ∷ more) × (r.access ≡ a)
 BeginsWith l None rs reply = (rs ≡ []) × (reply ≡ l.reply)

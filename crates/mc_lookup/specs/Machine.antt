@@ -72,7 +72,7 @@ IsRestart stage = (stage ≡ First) ⊎ (stage ≡ Over)
 abbrev pub held_by : {V : ℕ} → Lookup V → List ℕ
 held_by l = l.value ++ l.since ∷ []
 
--- what was read of them: all, or none where the key wasn't found
+-- what was read of them: all, or none if the key wasn't found
 abbrev pub held_for : Option ℕ → List ℕ → List ℕ
 held_for None held = []
 held_for (Some i) held = held

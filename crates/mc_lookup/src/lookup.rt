@@ -122,7 +122,7 @@ impl<const V: usize> Lookup<V> {
         }
     }
 
-    /// Takes the word that the next access read. Of a mark, which reads nothing, the word isn't looked at.
+    /// Takes the word that the next access read. A mark reads nothing, so its word isn't looked at.
     /// Condition: there is a next access.
     pub fn after(&mut self, word: u64)
         requires { IsSome (next_access {V = V} self.old) }

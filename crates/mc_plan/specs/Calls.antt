@@ -24,7 +24,7 @@ PutAnswers {V} sh s k v (Err NoPath) t = means.RefusesPath V sh s t k
 PutAnswers {V} sh s k v (Err AllRecent) t = means.RefusesAll V sh s t k
 PutAnswers {V} sh s k v (Err Spent) t = means.PutRefusedSpent sh s t
 
--- what the answer of a put means that takes no other key's item: where every item is in use, that is why
+-- what the answer of a put that takes no other key's item means: if every item is in use, that is why
 abbrev pub KeptAnswers : {V : ℕ} → Shape → Quiet V → ℕ → List ℕ → Result Put Why → Quiet V → Type 0
 KeptAnswers {V} sh s k v (Ok (Stored at moves None)) t = means.Stores V sh s t k v at moves
 KeptAnswers {V} sh s k v (Ok (Stored at moves (Some evicted))) t = ⊥
@@ -33,7 +33,7 @@ KeptAnswers {V} sh s k v (Err left.NoPath) t = means.RefusesPath V sh s t k
 KeptAnswers {V} sh s k v (Err left.NoItem) t = means.RefusesAll V sh s t k
 KeptAnswers {V} sh s k v (Err left.Spent) t = means.PutRefusedSpent sh s t
 
--- why such a put stores nothing, where a put that swept for no item was refused
+-- why such a put stores nothing, if a put that swept for no item was refused
 abbrev pub why_of : PutError → Why
 why_of NoPath = left.NoPath
 why_of AllRecent = left.NoItem

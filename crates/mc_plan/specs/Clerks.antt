@@ -37,7 +37,7 @@ pub record MakesPlan (V : ℕ) (books : Books) (plan : List Act) (many : ℕ) (c
   pub within : many ≤ length plan
   pub done : acts_of others ≡ take many plan
 
--- how far the clerk is in the call, of which these acts were made
+-- how far the clerk is in the call, after these acts of it
 abbrev pub IsAtStage : (V : ℕ) → Stage V → Books → List Act → ℕ → Call → State V → List Made → Type 0
 IsAtStage V Idle books plan many call s acts = ⊥
 IsAtStage V (Sweeping waiting) books plan many call s acts = (rs : List Swept) × IsSweeping V books waiting call s rs × IsSome (next_item waiting.sweep) × (many ≡ 0) × (acts ≡ hand_acts rs) × (plan ≡ [])

@@ -36,7 +36,7 @@ pub record IsCrowdedOut (V : ℕ) (books : Books) (k : ℕ) (v : List ℕ) (s : 
 abbrev pub IsWithoutPath : (V : ℕ) → Books → ℕ → List ℕ → State V → Type 0
 IsWithoutPath V books k v s = IsPlanned V books [] (PutCall k v) s s (answer.Put (Err refusal.NoPath))
 
--- a put in state s is decided: the acts of its plan and its answer, or what is known where the key is not there
+-- a put in state s is decided: the acts of its plan and its answer, or what is known if the key is not there
 abbrev pub IsDecided : (V : ℕ) → Books → ℕ → List ℕ → State V → Decision → Type 0
 IsDecided V books k v s (decision.Refuse why) =
     IsPlanned V books [] (PutCall k v) s s (answer.Put (Err why)) × IsSweepOf V (shape_of books.checked) s [] (answer.Put (Err why))

@@ -31,7 +31,7 @@ renewal_acts k v at i = renew_acts k v at i ++ Mark i ∷ []
 abbrev pub filling_acts : Shape → ℕ → List ℕ → ℕ → ℕ → Place → List Act
 filling_acts sh k v at i p = fill_acts sh k v at i p ++ Mark i ∷ []
 
--- the moves, where those that the books list are these
+-- the moves, if those that the books list are these
 abbrev pub moves_of : List Move → Moves → List Move
 moves_of listed Unneeded = []
 moves_of listed (One m) = m ∷ []
@@ -45,7 +45,7 @@ storing_acts listed sh k v storing = acts_of_moves (moves_of listed storing.move
 abbrev pub replacement_acts : List Move → Shape → ℕ → List ℕ → Replacement → List Act
 replacement_acts listed sh k v r = evict_acts r.victim.key r.victim.place ++ storing_acts listed sh k v r.storing
 
--- the key is taken out, where there is something to do
+-- the key is taken out, if there is something to do
 abbrev pub removal_acts : ℕ → Removal → List Act
 removal_acts k (Refuse spent) = []
 removal_acts k (TakeOut place at) = remove_acts k place

@@ -36,7 +36,7 @@ DueActsCanBeMade V =
     (sh : Shape) (all acts : List Made) (a : Act) (due : List Act) → AreDue V sh all acts (a ∷ due) →
     IsAllowed sh (state_of V sh acts) a × HasVersionSteps sh.limit (state_of V sh acts).version_steps a × AreDue V sh all (acts ++ record { act = a; bit = 0 } ∷ []) due
 
--- where the hand looks for an item, the readings that it made were allowed one after the other, and so is its next one
+-- while the hand looks for an item, the readings that it made were allowed one after the other, and so is its next one
 abbrev pub SweepsCanRead : ℕ → Type 0
 SweepsCanRead V =
     (sh : Shape) (books : Books) (waiting : Waiting V) (call : Call) (acts : List Made) (rs : List Swept) → shape_of books.checked ≡ sh → IsSweeping V books waiting call (state_of V sh acts) rs →

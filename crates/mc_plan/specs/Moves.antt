@@ -22,7 +22,7 @@ pub record CanMove (V : ℕ) (sh : Shape) (w : List ℕ) (k i : ℕ) (from to : 
   pub hole : IsHole sh w to
   pub other : to.bucket ≡ alternate sh from.bucket (tag_of sh k)
 
--- the later words hold in one slot what the other held, which is empty; the other slots and all items are as they were
+-- the later words hold in one slot what the other held, and the other is empty; the other slots and all items are as they were
 pub record MovesSlot (V : ℕ) (sh : Shape) (w later : List ℕ) (from to : ℕ) : Type 0 where
   pub there : slot sh later to ≡ slot sh w from
   pub here : slot sh later from ≡ 0
@@ -47,7 +47,7 @@ abbrev pub AreKeys : ℕ → Shape → List ℕ → List Place → Type 0
 AreKeys V sh w [] = Unit {0}
 AreKeys V sh w (p ∷ ps) = IsWord (key_named V sh w p) × AreKeys V sh w ps
 
--- the key has room where the path begins; where it was absent it still is, and the same items are free
+-- the key has room where the path begins; if it was absent it still is, and the same items are free
 pub record HasRoomFor (V : ℕ) (sh : Shape) (w later : List ℕ) (k : ℕ) (first : Place) : Type 0 where
   pub hole : IsHole sh later first
   pub bucket : IsBucketOf sh k first.bucket

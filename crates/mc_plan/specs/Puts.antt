@@ -1,4 +1,4 @@
--- What a put makes of a quiet state where it first makes room.
+-- What a put makes of a quiet state when it first makes room.
 use Rattle.std.specs.Prelude.{ℕ, ◌≡◌, ◌≢◌, ◌+◌, ◌*◌, ◌<◌, List, [], ◌∷◌, ◌++◌, length}
 use Rattle.mc_words.specs.declared.history.Change.TheVariants.{Put}
 use Rattle.mc_words.specs.declared.place.Place.{Place}

@@ -1,4 +1,4 @@
--- What a put makes of a quiet state where it first takes out another key.
+-- What a put makes of a quiet state when it first takes out another key.
 use Rattle.std.specs.Prelude.{ℕ, ◌≡◌, ◌+◌, ◌*◌, List, [], ◌∷◌, ◌++◌, Some, length}
 use Rattle.mc_words.specs.declared.history.Change.TheVariants.{Put, Evict}
 use Rattle.mc_words.specs.declared.place.Place.{Place}

@@ -70,7 +70,8 @@ Marks V sh w (KeptCall k v) (answer.Kept (Ok told)) acts = MarksLast V sh w k ac
 Marks V sh w (KeptCall k v) (answer.Kept (Err why)) acts = AreOfDeeds acts
 Marks V sh w call told acts = ⊥
 
--- which readings of the hand an answer has: those of one sweep where every item was in use, which named the evicted key's item or none; and none otherwise
+-- which readings of the hand an answer has: those of one sweep if every item was in use, which named the evicted key's item or none; and
+-- none otherwise
 abbrev pub IsSweepOf : (V : ℕ) → Shape → State V → List Swept → Answer → Type 0
 IsSweepOf V sh s rs (answer.Put (Ok (put.Stored at moves (Some evicted)))) =
     IsSweep sh.items s.hand rs × ((i : ℕ) × (q : ℕ) × (victim_of rs ≡ Some i) × Stands V sh s.words evicted q i)

@@ -74,7 +74,7 @@ pub enum Why {
 impl Why {
     ghost use Rattle.mc_plan.specs.Calls.{why_of};
 
-    /// The reason of such a put, where a put was refused without a sweep.
+    /// The reason of such a put, if a put was refused without a sweep.
     pub fn of(refusal: PutError) -> Why
         ensures { result ≡ why_of refusal }
     {

@@ -160,8 +160,8 @@ impl Books {
         }
     }
 
-    /// Decides a put on a condition: it renews the key where the key's stamp is `since`. No key can move for it, so two version
-    /// changes are all that it asks of the limit.
+    /// Decides a put on a condition: it renews the key if the key's stamp is `since`. No key moves for it, so it needs only two version
+    /// changes within the limit.
     /// Condition: the books are those of the table whose words are looked at, between two calls, and the parts are the key's.
     #[inline(always)]
     pub fn decide_if<const V: usize, P: Peek>(

@@ -77,7 +77,7 @@ impl<const V: usize> Clerk<V> {
         };
     }
 
-    /// Starts a put that takes no other key's item: where every item is in use, a new key is refused. Condition: no call runs, and
+    /// Starts a put that takes no other key's item: if every item is in use, a new key is refused. Condition: no call runs, and
     /// the clerk knows the table whose words are looked at.
     pub fn put_kept<P: Peek>(&mut self, peek: &mut P, key: u64, value: [u64; V])
         requires { (s : State V) × Knows V self.old s × (P.words peek.old ≡ s.words) }
@@ -159,7 +159,7 @@ impl<const V: usize> Clerk<V> {
         }
     }
 
-    /// Goes on after the next act was made. `word` is the bit that it read, where it was one of the hand.
+    /// Continues after the next act was made. `word` is the bit that it read, if it was one of the hand.
     /// Condition: there was a next act, and the words are those after it.
     pub fn after<P: Peek>(&mut self, peek: &mut P, word: u64)
         requires { (call : Call) × (s : State V) × (acts : List Made) × (a : Act) × IsOn V self.old call s acts ×

@@ -6,7 +6,7 @@ ghost use Rattle.mc_plan.specs.Puts.{PutsMakeRoom};
 ghost use Rattle.mc_plan.specs.Replacing.{EvictionsMakeRoom};
 ghost use Rattle.mc_plan.specs.Laws.{FillsPut, RenewalsPut, RemovalsTakeOut, EvictionsTakeOut, MovesKeepTheMap};
 
-/// Where a key has room, the acts of a fill are allowed, and put the key.
+/// If a key has room, the acts of a fill are allowed, and put the key.
 pub fn fills_put<const V: usize>()
     ensures { FillsPut V }
 {}
@@ -26,17 +26,19 @@ pub fn evictions_take_out<const V: usize>()
     ensures { EvictionsTakeOut V }
 {}
 
-/// Where a key can move, the acts of a move are allowed, and the map stays as it was.
+/// If a key can move, the acts of a move are allowed, and the map stays as it was.
 pub fn moves_keep_the_map<const V: usize>()
     ensures { MovesKeepTheMap V }
 {}
 
-/// Where a chain leads from the key to a hole, its moves from the end backwards are allowed one after the other, and make room where it begins.
+/// If a chain leads from the key to a hole, its moves from the end backwards are allowed one after the other, and make room where it
+/// begins.
 pub fn moves_make_room<const V: usize>()
     ensures { MovesMakeRoom V }
 {}
 
-/// Where a key is not there, an item is free and a chain leads from the key to a hole, the moves of the chain and then a fill of its first place are allowed one after the other, and put the key.
+/// If a key is absent, an item is free and a chain leads from the key to a hole, the moves of the chain and then a fill of its first place
+/// are allowed one after the other, and put the key.
 pub fn puts_make_room<const V: usize>()
     ensures { PutsMakeRoom V }
 {}

@@ -16,7 +16,7 @@ pub(crate) fn words_of<const V: usize>(value: &[u64; V]) -> &[u64]
     value.as_slice()
 }
 
-/// Says of words that they have 64 bits each. Nothing is done.
+/// Says that the words have 64 bits each. Does nothing.
 pub(crate) fn have_words(words: &[u64])
     ensures { All IsWord words.now }
 {

@@ -57,7 +57,7 @@ impl<const V: usize> Waiting<V> {
         self.sweep.next()
     }
 
-    /// Goes on after the bit was read. Condition: an item was to be read next.
+    /// Continues after the bit was read. Condition: an item was to be read next.
     pub fn after(&mut self, bit: u64)
         requires { (b : Books) × (call : Call) × (s : State V) × (rs : List Swept) × (i : ℕ) ×
             IsSweeping V b self.old call s rs × (next_item self.old.sweep ≡ Some i) }

@@ -12,7 +12,7 @@ use mc_words::Reply;
 /// more than it saves.
 const LARGE: u32 = 131_072;
 
-/// The keys from which on a group of them is touched ahead. With fewer too few loads are under way at once.
+/// From this many keys on, a group of them is touched ahead. With fewer keys, too few loads are under way at once.
 const LEAST: usize = 8;
 
 /// What the table holds of each of the keys: a lookup for each, as by `get`, in the order of the keys. In a large table the

@@ -1,4 +1,4 @@
-//! The places of the words that a lookup reads, worked out once.
+//! The places of the words that a lookup reads, computed once.
 ghost use Rattle.std.specs.Prelude.{◌≡◌};
 ghost use Rattle.mc_words.specs.Checks.{shape_of};
 ghost use Rattle.mc_words.specs.Places.{IsWidth};

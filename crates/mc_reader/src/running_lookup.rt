@@ -194,7 +194,7 @@ fn try_once<const V: usize>(
     }
 }
 
-/// What the table holds of the key, read beside the writer. `Busy` where each try was spoiled by a change of a key of
+/// What the table holds of the key, read beside the writer. `Busy` if each try was spoiled by a change of a key of
 /// the same stripe. It makes at most as many steps as its tries allow (section 4 of the paper of Fan, Andersen and
 /// Kaminsky), and takes no memory. Condition: the seat is one of these words.
 #[inline(always)]

@@ -67,7 +67,7 @@ fn touch_row<const V: usize>(cells: &Cells<V>, row: usize)
     touch(cells, row + 3);
 }
 
-// The least number of an item that one of four slots seems to name under the tag of the base. Where none does, it is the
+// The least number of an item that one of four slots seems to name under the tag of the base. If none does, it is the
 // number of no item.
 #[inline(always)]
 fn least_named<const V: usize>(cells: &Cells<V>, row: usize, base: u64) -> u64
@@ -80,7 +80,7 @@ fn least_named<const V: usize>(cells: &Cells<V>, row: usize, base: u64) -> u64
     one.min(two).min(three.min(four))
 }
 
-// The item that the slots seem to name. Where they name none, it is the last item.
+// The item that the slots seem to name. If they name none, it is the last item.
 #[inline(always)]
 fn guess<const V: usize>(cells: &Cells<V>, aim: Aim, items: u32) -> u32
     requires aim { IsAimIn V cells.now.layout.shape aim }

@@ -6,7 +6,7 @@ use Rattle.mc_words.specs.declared.history.Change.{Change}
 use Rattle.mc_words.specs.declared.shape.Shape.{Shape}
 use Rattle.mc_words.specs.Standing.{Stands}
 
--- of each key they have the value that the map of the history holds, and no key is there twice
+-- they have the value that the map of the history holds for each key, and have no key twice
 pub record AreEntriesOf (V : ℕ) (h : List (Change V)) (es : List (ℕ × List ℕ)) : Type 0 where
   pub values : (k : ℕ) → lookup (λ q. k == q) es ≡ value_held h k
   pub once : AllPairs (λ d e. d.0 ≢ e.0) es

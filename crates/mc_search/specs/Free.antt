@@ -23,7 +23,7 @@ pub record IsConsistent (f : FreeItems) : Type 0 where
   pub distinct : IsDistinct nat_eq (returned_items f)
   pub room : f.items ≤ heap_capacity f.returned
 
--- the item is free no more, and each other is as it was
+-- the item is no longer free, and each other is as it was
 pub record TakesFree (old new : FreeItems) (i : ℕ) : Type 0 where
   pub taken : IsFreeIn new i → ⊥
   pub free : (j : ℕ) → IsFreeIn new j → IsFreeIn old j

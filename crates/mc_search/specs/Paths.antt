@@ -20,13 +20,13 @@ pub record IsLeastPath (sh : Shape) (w : List ℕ) (k : ℕ) (p : Path) : Type 0
 abbrev pub direct_path : Place → Path
 direct_path hole = record { places = record { items = [] }; hole = hole }
 
--- the places before the victim, and the victim's as the hole; or all of them, where the victim is none of the places
+-- the places before the victim, and the victim's as the hole; or all of them, if the victim is none of the places
 abbrev pub IsCut : Place → List Place → Place → List Place → Place → Type 0
 IsCut victim places hole kept end =
     ((after : List Place) × (places ≡ kept ++ victim ∷ after) × (Contains kept victim → ⊥) × (end ≡ victim)) ⊎
     ((Contains places victim → ⊥) × (kept ≡ places) × (end ≡ hole))
 
--- the first of the places, or the hole where there is none
+-- the first of the places, or the hole if there is none
 abbrev pub first_place : List Place → Place → Place
 first_place [] hole = hole
 first_place (p ∷ ps) hole = p
@@ -35,7 +35,7 @@ first_place (p ∷ ps) hole = p
 abbrev pub path_of_move : OneMove → Path
 path_of_move m = record { places = record { items = m.from ∷ [] }; hole = m.hole }
 
--- and that of a room, where a path that is kept is this one
+-- and that of a room, if the kept path is this one
 abbrev pub path_of_room : Path → Room → Path
 path_of_room kept (room.Hole hole) = direct_path hole
 path_of_room kept (room.Move m) = path_of_move m

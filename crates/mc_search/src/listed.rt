@@ -61,7 +61,7 @@ fn list_entries<const V: usize, P: Peek>(
     Ok(entries)
 }
 
-/// Each key that a quiet table holds, with its value, in the order of their items. `Err(NoMemory)` where the list can't be stored.
+/// Each key that a quiet table holds, with its value, in the order of their items. `Err(NoMemory)` if the list can't be stored.
 /// Condition: the words agree with some history, and no deed runs.
 pub fn entries<const V: usize, P: Peek>(
     alloc: Global,

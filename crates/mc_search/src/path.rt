@@ -54,8 +54,8 @@ impl Path {
         }
     }
 
-    /// Cuts the path at the victim's place, which is empty once the victim is taken out: what is left leads there. It stays as it
-    /// is where that is none of its places.
+    /// Cuts the path at the victim's place, which is empty once the victim is taken out: what is left leads there. It is unchanged if that
+    /// is none of its places.
     pub fn cut_at(&mut self, victim: Place)
         ensures cut { IsCut victim self.old.places.items self.old.hole self.new.places.items self.new.hole }
         ensures chain { (sh : Shape) (w later : List ℕ) (k : ℕ) → IsPlace sh victim →

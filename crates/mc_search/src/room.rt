@@ -82,7 +82,7 @@ pub fn find_hole<P: Peek>(checked: &Checked, peek: &mut P, parts: KeyParts) -> O
     None
 }
 
-/// Loads, where the table is large, a word of each bucket to which a key of this full one can move, and these keys: the one that
+/// If the table is large, loads a word of each bucket to which a key of this full one can move, and these keys: the one that
 /// moves is needed next, and the processor waits for all of them at once.
 fn touch_moves<const V: usize, P: Peek>(checked: &Checked, peek: &mut P, bucket: u32)
     requires width { IsWidth V }

@@ -41,7 +41,7 @@ impl Sweep {
         Some(self.hand)
     }
 
-    /// Goes on after the bit was read. Condition: an item was to be read next.
+    /// Continues after the bit was read. Condition: an item was to be read next.
     pub fn after(&mut self, bit: u64)
         requires { (items : ℕ) × (hand : ℕ) × (rs : List Swept) × (i : ℕ) × HasSwept self.old items hand rs × (next_item self.old ≡ Some i) }
         ensures swept { (items hand : ℕ) (rs : List Swept) (i : ℕ) → HasSwept self.old items hand rs →

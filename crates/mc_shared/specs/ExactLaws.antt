@@ -58,7 +58,7 @@ ReadsAreEntries =
     AddsEntry l s (table.stepped s place found seat held next.0 next.1) rule.log (reading a found (front_of next.0))
 
 -- whatever step enters a mark leaves the bit of its item set and the bits of all other items as they were. So a step that leaves all
--- words enters one only where the bit is set
+-- words enters one only if the bit is set
 abbrev pub MarksAreExact : Type 0
 MarksAreExact =
     (l : Layout) (s t : table.State (Unit {0}) View) (acts : List Made) (e : Reading) (i : ℕ) → AddsEntry l s t acts e → e.access ≡ access.Mark i →
@@ -144,7 +144,7 @@ pub record IsLookedUp (V : ℕ) (sh : Shape) (k tries : ℕ) (acts acts' : List 
   pub whole : ends.done ++ last ∷ [] ≡ begins.done ++ rs
   pub later : IsFrontOf acts acts'
 
--- two meetings of a reader with the writer speak of one order: a reading stands behind the same acts in both
+-- two meetings of a reader with the writer speak of one order: a reading comes after the same acts in both
 abbrev pub MeetingsAgree : Type 0
 MeetingsAgree =
     (acts later : List Made) (notes more : List Note) (number : ℕ) (done rest rest' : List Reading) (r : Reading) →

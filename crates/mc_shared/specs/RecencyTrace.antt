@@ -1,4 +1,4 @@
--- What the acts, the marks of readers and the recency bit of an item have to do with one another.
+-- How the acts, the marks of readers and the recency bit of an item are related.
 use Rattle.std.specs.Prelude.{◌≡◌, ℕ, ◌+◌, ◌-◌, ◌≤◌, ◌==◌, List, [], ◌∷◌, if◌then◌else◌}
 use Rattle.mc_theory.specs.Lists.{Made}
 use Rattle.mc_theory.specs.Readings.{Reading}

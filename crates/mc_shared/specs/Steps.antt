@@ -30,7 +30,7 @@ abbrev pub bit_of : Act → ℕ → ℕ
 bit_of (Hand i) found = bit_at found (recency_bit i)
 bit_of _ found = 0
 
--- the writer's record has this act more, with the bit that the step found. What the step may write, and where, the rule says
+-- the writer's record has this act more, with the bit that the step found. The rule says what the step may write, and where
 abbrev pub AddsAct : Act → Step (Unit {0}) → SeatView → ℕ → SeatView → Type 0
 AddsAct a st me found me' = (note : Note) × (me' ≡ (writer_view me.0.layout (acts_of me.0 ++ with_bit a (bit_of a found) ∷ []) (with_note (tally_of me.0) note), me.1))
 

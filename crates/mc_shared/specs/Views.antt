@@ -8,7 +8,7 @@ use Rattle.mc_words.specs.declared.shape.Shape.{Shape}
 use Rattle.mc_words.specs.declared.mix.Mix.TheVariants.{Plain}
 use Rattle.mc_shared.specs.declared.layout.Layout.{Layout}
 
--- what was so when an act was made: how many marks readers had made of its item, where it is one of the hand, and how many
+-- what was so when an act was made: how many marks readers had made of its item, if it is one of the hand, and how many
 -- entries the record of each reader had, by the reader's number
 pub record Note : Type 0 where
   pub marks : ℕ
@@ -93,7 +93,7 @@ done_in (Writes acts tally) = []
 done_in (Reads number front done) = done
 done_in (Both acts tally number front done) = done
 
--- 1 where a reader of this number has the seat, or was joined to it
+-- 1 if a reader of this number has the seat, or was joined to it
 abbrev pub seated_in : ℕ → Role → ℕ
 seated_in a Spent = 0
 seated_in a (Writes acts tally) = 0

@@ -40,7 +40,7 @@ fn catch_on_seats(
     (word, parted)
 }
 
-/// Shows the reader all acts of the writer, and gives the moment.
+/// Shows the reader all acts of the writer, and returns the moment.
 #[tactic(auto, unfolding(mc_words::specs::Places::moment))]
 pub(crate) fn catch_up(ruled: &RuledWords, reader: &mut ReaderSeat, writer: &mut WriterSeat) -> u64
     requires of { (reader.old.of ≡ ruled.now) × (writer.old.of ≡ ruled.now) }

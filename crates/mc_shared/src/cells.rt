@@ -22,7 +22,7 @@ use std::marker::Model;
 pub struct Cells<const V: usize> {
     pub(crate) ruled: RuledWords,
     pub(crate) checked: Checked,
-    /// Where the items begin, worked out once.
+    /// Where the items begin, computed once.
     items_start: usize,
     /// Where the recency words begin.
     recency_start: usize,

@@ -99,7 +99,7 @@ pub fn mark_unless_set<const V: usize>(cells: &Cells<V>, reader: &mut ReaderSeat
     reader.badge = seat.into_badge();
 }
 
-/// Shows the reader all acts of the writer, and gives the moment. Condition: both seats are those of these words.
+/// Shows the reader all acts of the writer, and returns the moment. Condition: both seats are those of these words.
 pub fn catch<const V: usize>(
     cells: &Cells<V>,
     reader: &mut ReaderSeat,

@@ -59,8 +59,8 @@ pub(crate) fn mark_as_reader<J: NamesItem>(
         .fetch_or::<Marks<J>>(seat, place, 1u64 << bit);
 }
 
-/// A mark of a reader. Where the bit is set, the load that found it so is the mark: it leaves what the step that sets the
-/// bit would have left, at the same instant. Where it is clear, that step is made.
+/// A mark of a reader. If the bit is set, the load that found it so is the mark: it leaves what the step that sets the
+/// bit would have left, at the same instant. If it is clear, that step is made.
 pub(crate) fn mark_unless_set_as_reader<J: NamesItem>(
     ruled: &RuledWords,
     seat: &mut Seat<(), Known>,

@@ -197,7 +197,7 @@ pub fn turn_hand_unless_clear<const V: usize>(
     turn_hand_unless_clear_as_writer::<Brand>(&cells.ruled, &mut writer.seat, i, place, bit)
 }
 
-/// Makes one act. It gives the bit that the hand read, else 0.
+/// Makes one act. Returns the bit that the hand read, or 0.
 /// Condition: the seat is that of these words, the act is allowed now, an opening leaves room for its close within the limit, and the
 /// version is that of the running deed.
 pub fn perform<const V: usize>(

@@ -46,7 +46,7 @@ pub(crate) fn store_as_writer<J: NamesAct>(
     ruled.table.shared.store::<Makes<J>>(seat, place, word);
 }
 
-/// A step of the writer that clears one bit of a word and makes the act of the hand. It gives the bit that it found.
+/// A step of the writer that clears one bit of a word and makes the act of the hand. Returns the bit that it found.
 pub(crate) fn turn_hand_as_writer<J: NamesAct>(
     ruled: &RuledWords,
     seat: &mut Seat<(), Known>,
@@ -72,7 +72,7 @@ pub(crate) fn turn_hand_as_writer<J: NamesAct>(
     (found >> bit) & 1
 }
 
-/// The hand's reading. Where the bit is clear, the load that found it so is the reading. Where it is set, the step that clears it is made.
+/// The hand's reading. If the bit is clear, the load that found it so is the reading. If it is set, the step that clears it is made.
 pub(crate) fn turn_hand_unless_clear_as_writer<J: NamesAct>(
     ruled: &RuledWords,
     seat: &mut Seat<(), Known>,
@@ -125,7 +125,7 @@ pub(crate) fn set_mark_as_writer<J: NamesAct>(
         .fetch_or::<Makes<J>>(seat, place, 1u64 << bit);
 }
 
-/// The writer's mark. Where the bit is set, the load that found it so is the mark. Where it is clear, the step that sets it is made.
+/// The writer's mark. If the bit is set, the load that found it so is the mark. If it is clear, the step that sets it is made.
 pub(crate) fn set_mark_unless_set_as_writer<J: NamesAct>(
     ruled: &RuledWords,
     seat: &mut Seat<(), Known>,

@@ -73,7 +73,7 @@ version_steps_after v (Open k d) = v + 1
 version_steps_after v Close = v + 1
 version_steps_after v _ = v
 
--- the state after an act; bit is what the hand read, where the act is one of the hand
+-- the state after an act; bit is what the hand read, if the act is one of the hand
 abbrev pub after_act : {V : ℕ} → Shape → State V → Act → ℕ → State V
 after_act {V} sh s a bit = record {
   words = words_after V sh s.words s.phase a;

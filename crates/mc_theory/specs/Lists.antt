@@ -6,7 +6,7 @@ use Rattle.mc_theory.specs.Effects.{after_act}
 use Rattle.mc_theory.specs.States.{State, opening}
 use Rattle.mc_theory.specs.declared.act.Act.{Act}
 
--- an act that was made, and the bit that it read where it is one of the hand
+-- an act that was made, and the bit that it read if it is one of the hand
 pub record Made : Type 0 where
   pub act : Act
   pub bit : ℕ

@@ -45,7 +45,7 @@ first_phase k deed.Remove = Removing k false
 first_phase k deed.Evict = Removing k true
 first_phase k deed.Move = Moving k
 
--- 1 where the moment of the running deed is still to come
+-- 1 if the moment of the running deed is still to come
 abbrev pub moment_owed : Phase → ℕ
 moment_owed (Filling k) = 1
 moment_owed (Keyed k i xs) = 1

@@ -36,7 +36,7 @@ acts_in (Write a ∷ es) = a ∷ acts_in es
 acts_in (Begin r k ∷ es) = acts_in es
 acts_in (Read r ∷ es) = acts_in es
 
--- what a deed on a key changes in the map, where these words were written: the first V of them are the value
+-- what a deed on a key changes in the map, when these words were written: the first V of them are the value
 abbrev pub change_by : {V : ℕ} → Deed → ℕ → List ℕ → List (Change V)
 change_by {V} deed.Fill k xs = Put k (value_of V xs) ∷ []
 change_by {V} deed.Renew k xs = Put k (value_of V xs) ∷ []

@@ -64,7 +64,7 @@ abbrev pub bits_read : List ℕ → Access → List ℕ
 bits_read bits (access.Mark i) = slice_set bits i 1
 bits_read bits _ = bits
 
--- what an act gives: the bit, where the hand read it
+-- what an act gives: the bit, if the hand read it
 abbrev pub given_of : {V : ℕ} → ℕ → Act → Stepped V
 given_of bit (act.Hand i) = stepped.Word bit
 given_of bit _ = stepped.Nothing
@@ -96,7 +96,7 @@ RefusesEvent sh w e unlawful.Limit = IsLawfulNow sh w e × (IsWithin sh w e → 
 RefusesEvent sh w (Write act.Moment) unlawful.NoMemory = IsLawfulNow sh w (Write act.Moment) × IsWithin sh w (Write act.Moment)
 RefusesEvent sh w _ _ = ⊥
 
--- the number of the first reading, where this event makes one
+-- the number of the first reading, if this event makes one
 abbrev pub first_read : ℕ → OpenLookup → ℕ
 first_read events run = first_of run.sofar
   where
@@ -158,7 +158,7 @@ abbrev pub StepsAll : (V : ℕ) → Shape → Trace V → List Event → Trace V
 StepsAll V sh w [] x = x ≡ w
 StepsAll V sh w (e ∷ es) x = (mid : Trace V) × Steps V sh w e mid × StepsAll V sh mid es x
 
--- where a run stopped, the next event is refused, and not because there is no memory
+-- when a run stopped, the next event is refused, and not because there is no memory
 abbrev pub StopsAt : {V : ℕ} → Shape → Trace V → List Event → Option (ℕ × Unlawful) → Type 0
 StopsAt sh w events None = Unit {0}
 StopsAt sh w events (Some stop) = (e : Event) × (slice_get events stop.0 ≡ Some e) × RefusesEvent sh w e stop.1 × (stop.1 ≢ unlawful.NoMemory)

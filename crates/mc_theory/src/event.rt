@@ -54,7 +54,7 @@ pub enum Unlawful {
     NoMemory,
 }
 
-/// What an act gives: the bit, where the hand read it.
+/// What an act gives: the bit, if the hand read it.
 pub fn given_by<const V: usize>(act: Act, bit: u64) -> Stepped<V>
     ensures { result ≡ given_of {V = V} bit act }
 {

@@ -1,4 +1,4 @@
-//! An entry of the map, and what calls return that take one out.
+//! An entry of the map, and what the calls that take one out return.
 ghost use Rattle.std.specs.Prelude.{ℕ, ◌≡◌, ◌<◌, List, None, Some};
 ghost use Rattle.mc_words.specs.Places.{IsWidth, slot_number};
 ghost use Rattle.mc_words.specs.Standing.{Agrees, Stands};
@@ -33,7 +33,7 @@ pub struct Replaced<const V: usize> {
     pub old: Entry<V>,
 }
 
-/// What a removal did that returns the entry. `at` is the moment after it.
+/// What a removal that returns the entry did. `at` is the moment after it.
 #[derive(Clone, Copy, Debug, PartialEq, Eq)]
 pub enum Take<const V: usize> {
     Taken { at: u64, old: Entry<V> },

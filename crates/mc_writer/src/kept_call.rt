@@ -60,7 +60,7 @@ impl<'a, const V: usize> Pen<'a, V> {
     }
 }
 
-/// Puts a key as `put` does, but a new key only where an item is free. The acts that are made are a whole call, and the answer is
+/// Puts a key as `put` does, but a new key only if an item is free. The acts that are made are a whole call, and the answer is
 /// a true one of it.
 /// Condition: the seat is that of these words, and the books are those of the table between two calls.
 pub fn put_kept<const V: usize>(

@@ -43,7 +43,7 @@ impl<'a, const V: usize> Pen<'a, V> {
         open_deed_by(self.cells, self.seat, key, deed, parts)
     }
 
-    /// Writes word `j` of an item, for a caller that has worked out where the items begin.
+    /// Writes word `j` of an item, for a caller that has computed where the items begin.
     pub(crate) fn write_item_from(&mut self, items: usize, i: u32, j: u8, word: u64)
         requires width { IsWidth V }
         requires items { (items ≡ item_place V self.old.cells.now.layout.shape 0 0) × (items < 2 ^ 40) }

@@ -102,7 +102,7 @@ fn put_crowded<const V: usize>(
     ensures called { HasCalled V cells.now.layout.shape (PutCall key value.now) seat.old seat.new (answer.Put result) }
     ensures rested { IsRested V books.new seat.new }
 {
-    // The parts once more: to hand them on would keep the puts that don't come here from keeping other things in registers.
+    // The parts once more: handing them on would cost registers in the puts that don't come here.
     let parts = cells.parts(key);
     let mut pen = Pen { cells, seat };
     match books.by_move::<V, Pen<V>>(&mut pen, parts) {

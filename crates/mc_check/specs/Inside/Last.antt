@@ -22,7 +22,7 @@ value_in (Evict k) = None
 abbrev pub AreOthers : {V : ℕ} → List (Change V) → ℕ → ℕ → ℕ → Type 0
 AreOthers {V} h k lo hi = (j : ℕ) (c : Change V) → lo ≤ j → j < hi → slice_get h j ≡ Some c → key_in c ≡ k → ⊥
 
--- the change at this place is the last of the key among the first n; where there is no place, none of them is one of the key
+-- the change at this place is the last of the key among the first n; if there is no place, none of them is one of the key
 abbrev pub IsLast : {V : ℕ} → List (Change V) → ℕ → ℕ → Option ℕ → Type 0
 IsLast h k n None = AreOthers h k 0 n
 IsLast {V} h k n (Some i) = (i < n) × ((c : Change V) × (slice_get h i ≡ Some c) × (key_in c ≡ k)) × AreOthers h k (i + 1) n

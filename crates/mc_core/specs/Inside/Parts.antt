@@ -38,7 +38,7 @@ pub record MakesEvent {V : ℕ} (old new : Parts V) (e : Event) (out : Stepped V
   pub room : room_of old.writer ≤ room_of new.writer + 1
   pub leads : (seen : traces.Trace V) → StandFor old seen → (next : traces.Trace V) × traces.Steps V (shape_of_parts old) seen e next × traces.EventGives seen e next out × StandFor new next
 
--- the event was refused, and nothing is changed; memory is wanting only where there was no room for a change
+-- the event was refused, and nothing is changed; the reason is memory only if there was no room for a change
 pub record PartsRefuse {V : ℕ} (old new : Parts V) (e : Event) (why : Unlawful) : Type 0 where
   pub kept : view_of new ≡ view_of old
   pub full : why ≡ unlawful.NoMemory → room_of old.writer ≡ 0

@@ -25,7 +25,7 @@ words_of_writer w = words_of_table w.table
 abbrev pub payload_in : {V : ℕ} → Written V → List ℕ
 payload_in xs = xs.value ++ xs.stamp ∷ []
 
--- the phase, where these words were written
+-- the phase, when these words were written
 abbrev pub phase_at : {V : ℕ} → Written V → Progress → Phase
 phase_at xs progress.Quiet = Quiet
 phase_at xs (progress.Filling k) = Filling k

@@ -126,7 +126,7 @@ impl<const V: usize> Writer<V> {
         }
     }
 
-    /// Counts a change, for which memory may be wanting.
+    /// Counts a change. There may be no memory for it.
     fn count_moment_of(&mut self, key: u64, change: Change<V>) -> Result<(), AllocError>
         requires moment { moment (words_of_writer {V = V} self.old) < 2 ^ 64 - 1 }
         requires used { UsedWell {V = V} self.old.table }

@@ -1,4 +1,4 @@
--- What a worker holds: of what it is, and what is known of the answers that it got.
+-- What a worker holds: what it belongs to, and what is known of the answers that it got.
 use Rattle.std.specs.Prelude.{ℕ, ⊤, ◌<◌, All, List, [], ◌∷◌, Option, Some, None, length, slice_index_or}
 use Rattle.mc_words.specs.History.{IsTrueAnswer}
 use Rattle.mc_words.specs.declared.history.Reply.{Reply}
@@ -13,7 +13,7 @@ use Rattle.mc_load.specs.declared.handle.Handle.TheVariants as handle
 abbrev pub one_shard : Opening → Sharded
 one_shard o = record { shape = o.layout.shape; tables = o ∷ [] }
 
--- of which shards it is
+-- the shards that it belongs to
 abbrev pub place_of : {V : ℕ} → Handle V → Sharded
 place_of (handle.Cache held) = one_shard held.cache.now
 place_of (handle.Desk held) = one_shard held.cache.now
@@ -25,7 +25,7 @@ records_of (handle.Cache held) = held.reader ∷ []
 records_of (handle.Desk held) = held.pass ∷ []
 records_of (handle.Shards held) = held.pass
 
--- the cache with no desk of which it is
+-- the cache with no desk that it belongs to
 abbrev pub cache_of : {V : ℕ} → Handle V → Option Opening
 cache_of (handle.Cache held) = Some held.cache.now
 cache_of (handle.Desk held) = None

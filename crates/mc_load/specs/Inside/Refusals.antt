@@ -9,7 +9,7 @@ use Rattle.mc_load.specs.declared.trying.Trying.{Trying}
 abbrev pub AreRefusedBy : {V : ℕ} → (ℕ → ℕ → Type 0) → List (Looking V) → Type 0
 AreRefusedBy {V} may ls = (n : ℕ) (d : Looking V) → n < length ls → IfSome (slice_index_or ls n d).refused (λ call. may (n + 1) call)
 
--- of the readers whom the gate refused a call, reader n is the first, and this is the call
+-- reader n is the first reader that the gate refused a call, and this is the call
 pub record IsFirstRefused {V : ℕ} (ls : List (Looking V)) (n call : ℕ) : Type 0 where
   pub below : n < length ls
   pub reader : Looking V
@@ -17,7 +17,7 @@ pub record IsFirstRefused {V : ℕ} (ls : List (Looking V)) (n call : ℕ) : Typ
   pub refused : reader.refused ≡ Some call
   pub first : (k : ℕ) (d : Looking V) → k < n → (slice_index_or ls k d).refused ≡ None
 
--- the refusal of the first reader whom the gate refused a call
+-- the refusal of the first reader that the gate refused a call
 abbrev pub IsFirstRefusal : {V : ℕ} → List (Looking V) → LoadError → Type 0
 IsFirstRefusal ls (error.Gate who call) = (n : ℕ) × (who ≡ n + 1) × IsFirstRefused ls n call
 IsFirstRefusal ls error.Writers = ⊥

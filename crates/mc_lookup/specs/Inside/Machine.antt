@@ -8,7 +8,7 @@ use Rattle.mc_lookup.specs.declared.lookup.Lookup.{Lookup}
 use Rattle.mc_lookup.specs.declared.stage.Stage.TheVariants.{First, Over}
 use Rattle.mc_lookup.specs.Machine.{shape_for, IsRemainder, steps_left}
 
--- a lookup at the start of a try, or over where no try is left
+-- a lookup at the start of a try, or over if no try is left
 pub record Restarts {V : ℕ} (old new : Lookup V) : Type 0 where
   pub shape : new.checked ≡ old.checked
   pub key : new.key ≡ old.key

@@ -54,7 +54,7 @@ impl<const V: usize> Lookup<V> {
         }
     }
 
-    /// A reading of one of the eight slots. The item whose key is to be read, where the slot names one under the key's tag.
+    /// A reading of one of the eight slots. The item whose key is to be read, if the slot names one under the key's tag.
     /// Condition: the lookup is at slot `j`.
     pub fn after_slot(&mut self, j: u8, word: u64) -> Option<u32>
         requires { stage_of {V = V} self.old ≡ Stage.Slot j }
@@ -167,7 +167,7 @@ impl<const V: usize> Lookup<V> {
         self.stage = Stage::Over;
     }
 
-    /// The next try, or `Busy` where none is left.
+    /// The next try, or `Busy` if none is left.
     fn try_again(&mut self)
         ensures { Restarts {V = V} self.old self.new }
     {

@@ -1,4 +1,4 @@
-//! How a key that is not there is put: where it finds room, by three steps of which each is dearer than the one before, how it is stored
+//! How a key that is not there is put: where it finds room, by three steps, each costlier than the one before, how it is stored
 //! there, and whose item it takes once a sweep is over.
 ghost use Rattle.std.specs.Prelude.{ℕ, ◌≡◌, ◌+◌, ◌*◌, ◌^◌, ◌<◌, ◌≤◌, [], ◌∷◌, List, MatchOption, length};
 ghost use Rattle.mc_words.specs.Chains.{IsOccupied};

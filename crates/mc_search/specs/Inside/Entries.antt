@@ -1,4 +1,4 @@
--- How far a list of entries is.
+-- How far a list of entries has come.
 use Rattle.std.specs.Prelude.{ℕ, ◌≡◌, ◌≢◌, ◌<◌, ◌==◌, AllPairs, List, None}
 use Rattle.std.specs.Map.{lookup}
 use Rattle.mc_words.specs.History.{value_held}
