@@ -59,7 +59,7 @@ static char *aligned(char *block, size_t align) { return block + (align - (uintp
 
 static size_t whole(size_t size) { return size < 16 ? 16 : size; }
 
-/* Where the system has no huge pages, the pages stay as they are. */
+/* If the system has no huge pages, the pages stay as they are. */
 static void ask_for_huge_pages(char *first, size_t size) { (void)madvise(first, size / HUGE_PAGE * HUGE_PAGE, MADV_HUGEPAGE); }
 
 static void *placed(size_t size) {

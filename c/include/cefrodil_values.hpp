@@ -30,7 +30,7 @@ template <class Type>
 inline constexpr bool is_value =
     std::is_trivially_copyable_v<Type> && std::is_default_constructible_v<Type> && words_of<Type> <= 8 && has_no_padding<Type>;
 
-// The bytes of such a type as the words of a value, and back. Bytes behind the type are 0. Floats are copied bit by bit: 0.0 and -0.0 are
+// The bytes of such a type as the words of a value, and back. Bytes after the type are 0. Floats are copied bit by bit: 0.0 and -0.0 are
 // different words.
 template <class Type> std::array<uint64_t, words_of<Type>> to_words(const Type &value) noexcept {
     static_assert(has_no_padding<Type>, "a value has no padding; specialize has_no_padding for a struct with a float and no padding");

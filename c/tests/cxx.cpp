@@ -112,7 +112,7 @@ static void opened_with(const cefrodil_shape &shape) {
     MUST(cefrodil::open_with(shape, 2, {}, other, readers, statuses) == Status::ok && statuses.empty() && readers.size() == 2);
 }
 
-// Types of the program. The second has four bytes of padding behind its last member, and the third one byte between its members.
+// Types of the program. The second has four bytes of padding after its last member, and the third one byte between its members.
 struct Account {
     double rate;
     uint32_t owner;

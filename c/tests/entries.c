@@ -72,7 +72,7 @@ static void widths(void) {
     }
 }
 
-/* Each refusal, with the faults behind it still there. */
+/* Each refusal, with the faults after it still there. */
 static void refused(void) {
     cefrodil_shape shape = shape_of(3, 3, most);
     uint32_t statuses[9] = {99, 99, 99, 99, 99, 99, 99, 99, 99};

@@ -66,7 +66,7 @@ static int open_handles(void) {
     return open;
 }
 
-/* How many allocations an opening takes; -1 where a refusal leaves something behind. */
+/* How many allocations an opening takes; -1 if a refusal leaves something behind. */
 static long allocations(const cefrodil_shape *shape, size_t words, enum how how) {
     for (long allowed = 0; allowed < 200; allowed++) {
         left = allowed, kept = 0;

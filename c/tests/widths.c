@@ -11,7 +11,7 @@ static size_t unknown(size_t number) {
     return hidden;
 }
 
-/* Whether the first `words` words of `found` are those of `value`, and the word behind them is 9. */
+/* Whether the first `words` words of `found` are those of `value`, and the word after them is 9. */
 static bool is_found(const uint64_t *found, const uint64_t *value, size_t words) {
     for (size_t n = 0; n < words; n++) {
         if (found[n] != value[n]) {

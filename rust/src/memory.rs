@@ -1,4 +1,4 @@
-//! Memory that may be refused. Where there is none, std's own ways to take it end the process.
+//! Memory that may be refused. If there is none, std's own ways to take it end the process.
 use std::mem::ManuallyDrop;
 use std::ops::Deref;
 use std::ptr::NonNull;

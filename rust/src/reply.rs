@@ -306,14 +306,14 @@ pub(crate) fn no_list(status: u32) -> TurnError<ListError> {
     }
 }
 
-// A key, and behind it the words of its value.
+// A key, and after it the words of its value.
 fn entry<const WORDS: usize>(words: &[u64]) -> (u64, [u64; WORDS]) {
     let mut value = [0; WORDS];
     value.copy_from_slice(&words[1..]);
     (words[0], value)
 }
 
-// A key, behind it the words of its value, and then its stamp.
+// A key, after it the words of its value, and then its stamp.
 fn stamped<const WORDS: usize>(words: &[u64]) -> Entry<WORDS> {
     let (key, value) = entry(&words[..1 + WORDS]);
     Entry { key, value, since: words[1 + WORDS] }

@@ -1,4 +1,4 @@
-//! Each status that is an error in Rust has the text of the archive. Where one has another, the table says so.
+//! Each status that is an error in Rust has the text of the archive. If one has another, the table says so.
 use cefrodil::{EndError, ListError, OpenError, PutError, PutIfAbsentError, PutIfError, Spent, TurnError, Why};
 use std::ffi::{c_char, CStr};
 

@@ -1,4 +1,4 @@
--- A side that is given out, where one is left.
+-- A side that is given out, if one is left.
 use Rattle.std.proofs.Common.{◌≡◌, ◌+◌, Option, Some, MatchOption, subst}
 use Rattle.mc_door.specs.Held.{role_in, width_of}
 use Rattle.mc_door.specs.NewSides.{IsNewSide, count_in, has_desk_in, opening_in, width_in}

@@ -57,13 +57,13 @@ are_passes raw words passes sh first of layout wide desk all = record {
   has_passes = all_at first true words passes desk wide all;
 }
 
--- the fault is one of the number of handles, where that is cut to what the cache takes
+-- the fault is one of the number of handles, if that is cut to what the cache takes
 pub refused_so_many : (sh : Shape) (cut handles : ℕ) (why : OpenError) → (HasReaders cut ↔ HasReaders handles) → RefusesOpening sh cut why → RefusesOpening sh handles why
 refused_so_many sh cut handles (error.Shape fault) same refused = refused
 refused_so_many sh cut handles error.Readers same refused = (refused.0, λ has. refused.1 (same.1 has))
 refused_so_many sh cut handles error.NoMemory same refused = (refused.0, same.0 refused.1)
 
--- and where there is none, memory was refused
+-- and if there is none, memory was refused
 pub refused_memory : (raw : RawShape) (words handles cut : ℕ) (sh : Shape) → IsWidth words → HasMix raw → IsShapeOf raw sh → IsShape sh → HasReaders cut
     → (HasReaders cut ↔ HasReaders handles) → RefusesOpen raw words handles NO_MEMORY
 refused_memory raw words handles cut sh wide mixed of shaped has same = inr (sh, error.NoMemory, wide, mixed, of, (shaped, same.0 has), refl)

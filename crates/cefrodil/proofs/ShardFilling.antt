@@ -62,12 +62,12 @@ are_shard_passes raw shards words passes sh first of shape count wide all = reco
   has_passes = subst (λ (w : ℕ). All (IsNewPassAt (shards_on first) w) passes) wide all;
 }
 
--- the fault is one of the number of handles, where that is cut to what the cache takes
+-- the fault is one of the number of handles, if that is cut to what the cache takes
 pub refused_so_many_passes : (sh : Shape) (shards cut handles : ℕ) (why : OpenShardsError) → (HasReaders cut ↔ HasReaders handles) → RefusesShards sh shards cut why → RefusesShards sh shards handles why
 refused_so_many_passes sh shards cut handles error.Shards same refused = refused
 refused_so_many_passes sh shards cut handles (error.Open why) same refused = (refused.0, refused_so_many sh cut handles why same refused.1)
 
--- and where there is none, memory was refused
+-- and if there is none, memory was refused
 pub refused_shard_memory : (raw : RawShape) (shards words handles cut : ℕ) (sh : Shape) → IsWidth words → HasMix raw → IsShapeOf raw sh → HasShards shards → IsShape sh → HasReaders cut
     → (HasReaders cut ↔ HasReaders handles) → RefusesOpenShards raw shards words handles NO_MEMORY
 refused_shard_memory raw shards words handles cut sh wide mixed of many shaped has same = inr (sh, error.Open opening.NoMemory, wide, mixed, of, (many, (shaped, same.0 has)), refl)

@@ -1,4 +1,4 @@
-//! `cefrodil_get` for each width of a value. The header calls these where the width is a constant.
+//! `cefrodil_get` for each width of a value. The header calls these if the width is a constant.
 ghost use Rattle.std.specs.Prelude.{◌≡◌};
 ghost use Rattle.cefrodil.specs.Calls.{GetGives};
 ghost use Rattle.cefrodil.specs.Open.{kept};

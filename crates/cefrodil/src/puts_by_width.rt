@@ -1,4 +1,4 @@
-//! `cefrodil_put` for each width of a value. The header calls these where the width is a constant.
+//! `cefrodil_put` for each width of a value. The header calls these if the width is a constant.
 ghost use Rattle.std.specs.Prelude.{◌≡◌};
 ghost use Rattle.cefrodil.specs.Calls.{WriteGives};
 ghost use Rattle.cefrodil.specs.Open.{kept};

@@ -57,7 +57,7 @@ loaded_new V sh o new now es left shape of none still so =
 
 -- ---- what is said of them without the table
 
--- one entry and those behind it
+-- one entry and those after it
 one_plain : {V : ℕ} (n k : ℕ) (v : List ℕ) (es : List (ℕ × List ℕ)) (told : Result Put Why) (changes later : List (Change V)) (left others : List (ℕ × Why)) → changes ≡ changes_by k v told ++ later → left ≡ left_by n told ++ others → TakesOrNames (n + 1) es later others → TakesOrNames n ((k, v) ∷ es) changes left
 one_plain n k v es (Ok put) changes later left others is names rest = inl (later, is, subst (λ (xs : List (ℕ × Why)). TakesOrNames (n + 1) es later xs) (sym names) rest)
 one_plain {V} n k v es (Err reason) changes later left others is names rest = inr (reason, others, names, subst (λ (xs : List (Change V)). TakesOrNames (n + 1) es xs others) (sym is) rest)

@@ -49,7 +49,7 @@ pub tried_to : {T E : Type 0} (V : ℕ) (o : Opening) (Called : Result T E → W
 tried_to V o Called old mid new before after r result of b called e is =
     subst (HasTriedTo V o.layout.shape Called old new) (sym is) (answered_turn V o.layout.shape Called old new r (had_turn V o (Called r) old mid new before after of b called e))
 
--- the same, where the call is a whole one
+-- the same, if the call is a whole one
 pub tried : {T E : Type 0} (V : ℕ) (o : Opening) (call : Call) (told : Result T E → Answer) (old mid new : ReaderRecord) (before after : WriterRecord) (r : Result T E) (result : Result T (DeskError E))
     → old.of ≡ o → HasBegunWith V o old mid before → HasCalled V o.layout.shape call before after (told r) → HasEnded V o.layout.shape mid new after → result ≡ turned r → HasTried V o.layout.shape call told old new result
 tried V o call told old mid new before after r result of b called e is =

@@ -71,7 +71,7 @@ abbrev pub PutMeans : (V : ℕ) → List (Change V) → List (Change V) → ℕ 
 PutMeans V h h' k v (Ok told) = HasPut V h h' k v told
 PutMeans V h h' k v (Err why) = h' ≡ h
 
--- the map of the history holds some value of the key, with this stamp behind it
+-- the map of the history holds some value of the key, with this stamp after it
 abbrev pub HasStamp : {V : ℕ} → List (Change V) → ℕ → ℕ → Type 0
 HasStamp {V} h k since = (v : List ℕ) × (map_value h k ≡ Some (v ++ since ∷ [])) × (length v ≡ V)
 

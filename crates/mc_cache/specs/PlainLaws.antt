@@ -13,7 +13,7 @@ key_of (Put k v) = k
 key_of (Remove k) = k
 key_of (Evict k) = k
 
--- at the opening the map is empty; a put sets its key to the value, with the moment of the put behind it, a removal and an eviction take
+-- at the opening the map is empty; a put sets its key to the value, with the moment of the put after it, a removal and an eviction take
 -- their key out, and other keys stay as they are
 pub record MapsFollow (V : ℕ) : Type 0 where
   pub empty : (k : ℕ) → map_value {V = V} [] k ≡ None

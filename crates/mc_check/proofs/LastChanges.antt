@@ -37,7 +37,7 @@ kept_over {V} h k lo (suc d) within o =
     ap (λ (z : List (Change V)). map_value z k) (ap (λ (n : ℕ). take n h) next ∙ take-suc h (d + lo) (Remove 0) (omega arith))
     ∙ (held-other (take (d + lo) h) c k other ∙ kept_over h k lo d (omega arith) (λ j c' low high. o j c' low (omega arith)))
 
--- a value with a stamp behind it
+-- a value with a stamp after it
 abbrev stamped : ℕ → Option (List ℕ) → Option (List ℕ)
 stamped n None = None
 stamped n (Some v) = Some (v ++ n ∷ [])

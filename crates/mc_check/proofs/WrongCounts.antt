@@ -18,7 +18,7 @@ wrong_more h [] r n f w = inr (f, (n, refl, w))
 wrong_more h (x ∷ rs) r n f (inl w) = inl (w.0, wrong_more h rs r n f w.1)
 wrong_more h (x ∷ rs) r n f (inr w) = inr (w.0, (n, refl, subst (AreWrong h (rs ++ r ∷ [])) (sym w.1.1) (wrong_more h rs r w.1.0 f w.1.2)))
 
--- where all are true, none is wrong
+-- if all are true, none is wrong
 pub none_wrong : {V : ℕ} (h : List (Change V)) (rs : List (Record V)) (n : ℕ) → All (λ (r : Record V). IsTrueAnswer h r.key r.reply) rs → AreWrong h rs n → n ≡ 0
 none_wrong h [] n all w = w
 none_wrong h (r ∷ rs) n all (inl w) = none_wrong h rs n (λ k d low. all (suc k) d (omega (arith, low))) w.1

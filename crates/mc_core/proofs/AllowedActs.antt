@@ -1,4 +1,4 @@
--- What is allowed, and what holds, where the progress of a deed is known.
+-- What is allowed, and what holds, when the progress of a deed is known.
 use Rattle.std.proofs.Common.{ℕ, Bool, true, eqb, refl, ◌≡◌, ◌↔◌, List, Option, Some, None, IsTrue, subst, sym, ◌∙◌}
 use Rattle.std.specs.Option.{MatchOption, is_some, option_eq}
 use Rattle.std.proofs.lemmas.Bool.{false≢true, eqb-true, eq-eqb}
@@ -14,7 +14,7 @@ use Rattle.mc_core.specs.declared.written.Written.{Written}
 pub may_at : (V : ℕ) (sh : Shape) (w : List ℕ) (hand : ℕ) (cleared : Option ℕ) (xs : Written V) (p q : Progress) (a : Act) → p ≡ q → MayFrom V sh w hand cleared (phase_at {V = V} xs p) a → MayFrom V sh w hand cleared (phase_at {V = V} xs q) a
 may_at V sh w hand cleared xs p q a e m = subst (λ (y : Progress). MayFrom V sh w hand cleared (phase_at {V = V} xs y) a) e m
 
--- where a key stands once, no other slot names its item
+-- if a key stands once, no other slot names its item
 pub only_one : (V : ℕ) (sh : Shape) (w : List ℕ) (k q i p g : ℕ) → OnlyAt V sh w k q i → Stands V sh w k p g → (r : ℕ) → NamesItem sh w r g → r ≡ p
 only_one V sh w k q i p g only here r named =
     let st : Stands V sh w k r g = record { names = named; key = here.key } in

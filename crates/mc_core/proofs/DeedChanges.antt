@@ -1,4 +1,4 @@
--- The change of a deed, where its progress is known.
+-- The change of a deed, when its progress is known.
 use Rattle.std.proofs.Common.{ℕ, ◌≡◌, List, [], ◌∷◌, length, take, refl, sym, ◌∙◌, ap, subst}
 use Rattle.mc_words.specs.History.{value_of}
 use Rattle.mc_words.specs.Places.{payload}

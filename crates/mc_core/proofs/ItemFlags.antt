@@ -136,7 +136,7 @@ used_leave sh w flags free p x i r s l e a b apart u = record {
   many = u.many;
 }
 
--- where a flag is up, fewer are down than there are
+-- if a flag is up, fewer are down than there are
 pub downs_room : (xs : List Bool) (i : ℕ) → i < length xs → get_or xs i false ≡ true → downs xs + 1 ≤ length xs
 downs_room [] i l e = absurd (omega arith)
 downs_room (true ∷ xs) zero l e = let most = downs_most xs in omega arith

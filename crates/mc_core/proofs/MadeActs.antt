@@ -25,7 +25,7 @@ same_state : {V : ℕ} (w x : List ℕ) (p q : Phase) (h k : ℕ) (c d : Option 
     ◌≡◌ {A = State V} (record { words = w; phase = p; hand = h; cleared = c; history = hs; version_steps = n }) (record { words = x; phase = q; hand = k; cleared = d; history = ks; version_steps = m })
 same_state w x p q h k c d hs ks n m a b e f g i = rw (a, b, e, f, g, i) refl
 
--- an act is made where each part of the writer is what the theory says
+-- an act is made if each part of the writer is what the theory says
 pub made : {V : ℕ} (old new : Writer V) → room_of {V = V} old ≤ room_of {V = V} new + 1 → (a : Act) (bit : ℕ) (p q : Progress) → old.progress ≡ p → new.progress ≡ q → new.table.checked ≡ old.table.checked →
     words_of_writer {V = V} new ≡ words_after V (shape_of_writer {V = V} old) (words_of_writer {V = V} old) (phase_at {V = V} old.written p) a → phase_at {V = V} new.written q ≡ phase_after (phase_at {V = V} old.written p) a →
     new.hand ≡ hand_after (shape_of_writer {V = V} old) old.hand a → new.cleared ≡ cleared_after old.cleared a bit →

@@ -3,7 +3,7 @@ use Rattle.std.proofs.Common.{ℕ, zero, suc, ◌≡◌, ◌≤◌, List, [], �
 use Rattle.std.specs.Prelude.{true, false, is_some, IfSome, slice_get, slice_set}
 use Rattle.mc_core.specs.Seen.{Both}
 
--- they stay so where related parts are set
+-- they stay so if related parts are set
 pub both_set : {A B : Type 0} (R : A → B → Type 0) (xs : List A) (ys : List B) (i : ℕ) (x : A) (y : B) → ((r : ℕ) → Both R (slice_get xs r) (slice_get ys r)) → R x y → (r : ℕ) → Both R (slice_get (slice_set xs i x) r) (slice_get (slice_set ys i y) r)
 both_set R [] [] i x y all new r = all r
 both_set R (a ∷ xs) (b ∷ ys) zero x y all new zero = new
@@ -13,14 +13,14 @@ both_set R (a ∷ xs) (b ∷ ys) (suc i) x y all new (suc r) = both_set R xs ys 
 both_set R [] (b ∷ ys) i x y all new r = absurd (all zero)
 both_set R (a ∷ xs) [] i x y all new r = absurd (all zero)
 
--- where one side has something, the other has too
+-- if one side has something, the other has too
 pub both_some : {A B : Type 0} (R : A → B → Type 0) (a : A) (o : Option A) (p : Option B) → Both R o p → o ≡ Some a → (b : B) × (p ≡ Some b) × R a b
 both_some R a (Some x) (Some b) h e = let is : x ≡ a = cc in (b, refl, subst (λ y. R y b) is h)
 both_some R a (Some x) None h e = absurd h
 both_some R a None (Some b) h e = absurd h
 both_some R a None None h e = absurd (cc (e))
 
--- and where it has nothing, neither has the other
+-- and if it has nothing, neither has the other
 pub both_none : {A B : Type 0} (R : A → B → Type 0) (o : Option A) (p : Option B) → Both R o p → o ≡ None → p ≡ None
 both_none R None None h e = refl
 both_none R None (Some b) h e = absurd h

@@ -73,7 +73,7 @@ going_left : {V : ℕ} (l : Lookup V) (reply : Reply V) → reply_now {V = V} l 
 going_left {V} l reply e left = begins_not {V = V} l (next_access {V = V} l) reply (going_at {V = V} l l.stage e) (next_is_determined V l [] reply left)
 
 -- ---- a reader's part
--- what a reader's event leaves of the parts, where only its own lookup and the bits are changed
+-- what a reader's event leaves of the parts, when only its own lookup and the bits are changed
 stand_read : {V : ℕ} (old new : Parts V) (seen : traces.Trace V) (r : ℕ) (x : Option (Reader V)) (y : Option OpenLookup) (bits : List ℕ → List ℕ) (ended : List (Ended V)) → StandFor {V = V} old seen →
     new.writer ≡ old.writer → new.bits.items ≡ bits old.bits.items → new.readers.items ≡ slice_set old.readers.items r x → new.events ≡ old.events + 1 → Both (IsOpenLookup V (shape_of_parts {V = V} old)) x y →
     StandFor {V = V} new (record { acts = seen.acts; bits = bits seen.bits; readers = slice_set seen.readers r y; ended = ended; events = seen.events + 1 })

@@ -98,7 +98,7 @@ stand_kept {V} old new seen s kept same = record {
   within = omega (arith, s.within, ap (λ (y : State V). y.version_steps) kept.state, ap (λ (y : State V). close_owed y.phase) kept.state, ap (λ (v : WorldView V). v.shape.limit) same);
 }
 
--- an allowed moment is refused where the history has no room left
+-- an allowed moment is refused if the history has no room left
 pub memory_wanting : {V : ℕ} (old new : Parts V) (a : Act) → a ≡ Moment → IsAllowed (shape_of_parts {V = V} old) (state_in {V = V} old.writer) a → old.events < 2 ^ 64 - 1 → KeepsWriter {V = V} old.writer new.writer → view_of {V = V} new ≡ view_of {V = V} old → room_of {V = V} old.writer ≡ 0 →
     PartsRefuse {V = V} old new (Write a) unlawful.NoMemory
 memory_wanting {V} old new a is may within kept same none = record {

@@ -22,7 +22,7 @@ named_item sh w q tag i g s under names =
 pub other_key : (V : ℕ) (sh : Shape) (w : List ℕ) (k q tag i g : ℕ) → IsShape sh → NamesUnder sh (slot sh w q) tag i → item V sh w i 0 ≢ k → Stands V sh w k q g → ⊥
 other_key V sh w k q tag i g s under ne st = ne (ap (λ y. item V sh w y 0) (sym (named_item sh w q tag i g s under st.names)) ∙ st.key)
 
--- where an option is none, a weaker fact
+-- if an option is none, a weaker fact
 pub match_none : {A : Type 0} (o : Option A) (P Q : Type 0) (R : A → Type 0) → (P → Q) → MatchOption o P R → MatchOption o Q R
 match_none None P Q R f m = f m
 match_none (Some x) P Q R f m = m

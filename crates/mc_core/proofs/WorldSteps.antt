@@ -134,6 +134,6 @@ abbrev pub is_wanting : Unlawful → Bool
 is_wanting unlawful.NoMemory = true
 is_wanting why = false
 
--- it wasn't where the event was refused for another reason
+-- it wasn't if the event was refused for another reason
 pub not_wanting : {A : Type 0} (why : Unlawful) → is_wanting why ≡ false → why ≡ unlawful.NoMemory → A
 not_wanting why other is = absurd (cc (other, ap is_wanting is))

@@ -17,11 +17,11 @@ use Rattle.mc_core.specs.declared.written.Written.{Written}
 use Rattle.mc_words.specs.History.{map_value}
 use Rattle.mc_words.specs.declared.history.Change.{Change}
 
--- an item's words behind its key, written or not
+-- an item's words after its key, written or not
 pub many_words : {V : ℕ} (xs : Written V) → length (payload_in {V = V} xs) ≡ payload V
 many_words {V} xs = omega (arith, xs.whole, length-append xs.value (xs.stamp ∷ []), payload_is V)
 
--- a word of the value is kept, or the stamp behind them
+-- a word of the value is kept, or the stamp after them
 pub kept_in_value : (v : List ℕ) (s c n x : ℕ) → n ≡ c → c < length v → take (c + 1) (set v n x ++ s ∷ []) ≡ take c (v ++ s ∷ []) ++ x ∷ []
 kept_in_value v s c n x e l =
     ap (λ (i : ℕ). take (c + 1) (set v i x ++ s ∷ [])) e ∙ ap (take (c + 1)) (sym (set-append_left v (s ∷ []) c x l)) ∙ take-set_at (v ++ s ∷ []) c (c + 1) x refl (omega (arith, l, length-append v (s ∷ [])))
@@ -81,10 +81,10 @@ renewing_well V sh w h k xs holds = let d = holds.deed in only_well V sh w k d.0
 pub moving_well : (V : ℕ) (sh : Shape) (w : List ℕ) (h : List (Change V)) (k : ℕ) → Holds V sh w (Moving k) h → StandsWell V sh w k
 moving_well V sh w h k holds = let d = holds.deed in agrees_well V sh w k (Some d.0) d.2
 
--- what holds, where the progress is known
+-- what holds, when the progress is known
 pub holds_at : (V : ℕ) (sh : Shape) (w : List ℕ) (h : List (Change V)) (xs : Written V) (p q : Progress) → p ≡ q → Holds V sh w (phase_at {V = V} xs p) h → Holds V sh w (phase_at {V = V} xs q) h
 holds_at V sh w h xs p q e a = subst (λ (y : Progress). Holds V sh w (phase_at {V = V} xs y) h) e a
 
--- where all words were written, they are all
+-- if all words were written, they are all
 pub whole_written : (V c : ℕ) (xs : Written V) → length (take c (payload_in {V = V} xs)) ≡ payload V → payload_in {V = V} xs ≡ take c (payload_in {V = V} xs)
 whole_written V c xs all = sym (take_all c (payload_in {V = V} xs) (omega (arith, length-take c (payload_in {V = V} xs), many_words {V = V} xs, all)))

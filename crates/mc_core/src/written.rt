@@ -1,7 +1,7 @@
-//! The words that the writer wrote of an item behind its key.
+//! The words that the writer wrote of an item after its key.
 ghost use Rattle.std.specs.Prelude.{◌≡◌, ◌≤◌, length};
 
-/// As many words as an item keeps behind its key: a value, and then its stamp. Those that weren't written yet don't count.
+/// As many words as an item keeps after its key: a value, and then its stamp. Those that weren't written yet don't count.
 #[derive(Clone, Copy)]
 pub(crate) struct Written<const V: usize> {
     value: [u64; V],

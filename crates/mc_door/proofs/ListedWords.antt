@@ -14,7 +14,7 @@ words_append : (xs ys : List Entry) → words_of (xs ++ ys) ≡ words_of xs ++ w
 words_append [] ys = refl
 words_append (e ∷ es) ys = ap (λ (ws : List ℕ). e.0 ∷ e.1 ++ ws) (words_append es ys) ∙ ap (λ (ws : List ℕ). e.0 ∷ ws) (sym (append_assoc e.1 (words_of es) (words_of ys)))
 
--- one entry more: its key is written to its place, and its value behind that
+-- one entry more: its key is written to its place, and its value after that
 pub one_written : (es : List Entry) (words words' : List ℕ) (n at next k : ℕ) (e : Entry) → take at words ≡ words_of (take n es) → n < length es
     → get_or es n e ≡ e → at + 1 + k ≤ length words → length e.1 ≡ k → next ≡ at + 1 + k
     → words' ≡ put_mid (at + 1) k (set words at e.0) e.1 → take next words' ≡ words_of (take (n + 1) es)
@@ -32,7 +32,7 @@ pub all_written : (es : List Entry) (words : List ℕ) (n at : ℕ) → take at 
 all_written es words n at so end long = sym (take_all at words long) ∙ so ∙ ap words_of (take_all n es end)
 
 -- ---- with their stamps
--- one entry more: its key and its value are written to their places, and its stamp behind them
+-- one entry more: its key and its value are written to their places, and its stamp after them
 pub one_stamped_written : {V : ℕ} (es : List (Stamped V)) (words valued words' : List ℕ) (n at next k : ℕ) (e : Stamped V) → take at words ≡ words_of (map row_of (take n es)) → n < length es
     → get_or es n e ≡ e → at + 2 + k ≤ length words → length e.value ≡ k → next ≡ at + 2 + k
     → valued ≡ put_mid (at + 1) k (set words at e.key) e.value → words' ≡ set valued (at + 1 + k) e.since → take next words' ≡ words_of (map row_of (take (n + 1) es))

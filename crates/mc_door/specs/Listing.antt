@@ -29,7 +29,7 @@ abbrev pub words_of : List (ℕ × List ℕ) → List ℕ
 words_of [] = []
 words_of (e ∷ es) = e.0 ∷ e.1 ++ words_of es
 
--- these entries were written, and the words behind them are unchanged
+-- these entries were written, and the words after them are unchanged
 pub record AreWritten (V : ℕ) (es : List (ℕ × List ℕ)) (old new : List ℕ) (count : ℕ) : Type 0 where
   pub many : count ≡ length es
   pub words : new ≡ words_of es ++ drop (count * (1 + V)) old

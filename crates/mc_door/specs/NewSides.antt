@@ -10,7 +10,7 @@ use Rattle.mc_door.specs.declared.rest.Rest.TheVariants.{One, Two, Three, Four, 
 abbrev pub IsNewWriter : Opening → Role → Type 0
 IsNewWriter o role = role ≡ Writes (writer_record o [] [])
 
--- a reader that has seen nothing; a pass, where there is a desk
+-- a reader that has seen nothing; a pass, if there is a desk
 abbrev pub IsNewSide : Opening → Bool → Role → Type 0
 IsNewSide o false (Reads r) = IsNewReader o r
 IsNewSide o true (Passes r) = IsNewReader o r

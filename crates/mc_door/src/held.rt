@@ -76,7 +76,7 @@ impl Held {
     }
 }
 
-// Lookups are cold here: where the width is known, they bypass these.
+// Lookups are cold here: if the width is known, they bypass these.
 impl Held {
     /// What the cache holds of the key: `Side::get`.
     #[cold]

@@ -23,7 +23,7 @@ use mc_words::NoMemory;
 use std::alloc::Global;
 use std::sync::Arc;
 
-/// The readers of a new cache that no handle keeps yet. Where there is a desk, they are passes.
+/// The readers of a new cache that no handle keeps yet. If there is a desk, they are passes.
 #[derive(Drop)]
 pub struct NewSides<const V: usize> {
     pub cache: Arc<Cache<V>, Global>,

@@ -15,7 +15,7 @@ first_of_one : (mix : Mix) (k : ℕ) → shard_of mix 1 k ≡ 0
 unfolding shard_of
 first_of_one mix k = omega arith
 
--- where there is one shard, it is the one that changes
+-- if there is one shard, it is the one that changes
 one_changes : {A : Type 0} (mix : Mix) (k : ℕ) (x y : A) (Goes : A → A → Type 0) → Goes x y → ChangesAt (shard_of mix 1 k) (x ∷ []) (y ∷ []) Goes
 one_changes {A} mix k x y Goes goes = subst (λ (n : ℕ). ChangesAt n (x ∷ []) (y ∷ []) Goes) (sym (first_of_one mix k)) (record { before = x; after = y; was = refl; is = refl; goes = goes })
 
@@ -25,7 +25,7 @@ pub desk_changes : {V : ℕ} (h : Handle V) (held : DeskPass V) (k : ℕ) (new :
 desk_changes {V} h held k new Goes is goes =
     subst (λ (x : Handle V). ChangesAt (shard_in (place_of x) k) (records_of x) (new ∷ []) (Goes (place_of x).shape)) (sym is) (one_changes held.cache.now.layout.shape.mix k held.pass new (Goes held.cache.now.layout.shape) goes)
 
--- where there is no desk, nothing changes
+-- if there is no desk, nothing changes
 pub nothing_changes : {V : ℕ} (h : Handle V) (held : CacheReader V) (k : ℕ) → h ≡ handle.Cache held → ChangesAt (shard_in (place_of h) k) (records_of h) (records_of h) (λ r r'. r' ≡ r)
 nothing_changes {V} h held k is =
     subst (λ (x : Handle V). ChangesAt (shard_in (place_of x) k) (records_of x) (records_of x) (λ r r'. r' ≡ r)) (sym is) (one_changes held.cache.now.layout.shape.mix k held.reader held.reader (λ r r'. r' ≡ r) refl)

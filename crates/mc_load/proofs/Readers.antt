@@ -58,7 +58,7 @@ reader_call : {V : ℕ} (may : ℕ → ℕ → Type 0) (load : Load) (ls : List 
     → IsCall load who call × may who call
 reader_call may load ls n call who many ended by place r = let one = reader_seat may load ls n call who many ended by place r in ((one.0, inr one.1), one.2)
 
--- where it refused nothing, each has noted all
+-- if it refused nothing, each has noted all
 pub all_noted : {V : ℕ} (load : Load) (ls : List (Looking V)) → HaveEnded V load ls → AreWhole ls → HaveAllNoted load ls
 all_noted load ls ended whole = λ n d low. record { many = (ended n d low).whole (whole n d low); drawn = (ended n d low).keys }
 

@@ -21,7 +21,7 @@ use Rattle.mc_load.specs.Inside.Sums.{HaveAllMade}
 use Rattle.mc_load.specs.Inside.Tries.{HasTriedAll, HaveAllTried, HaveTriedWhole}
 use Rattle.mc_load.specs.Inside.Workers.{HaveEnded}
 
--- ---- where it refused nothing
+-- ---- if it refused nothing
 pub all_tried : {V : ℕ} (s : Sharded) (load : Load) (ts : List (Trying V)) → HaveAllTried V s load ts → AreTriesLetThrough ts (length ts) → HaveTriedWhole load ts
 all_tried s load ts tried through = λ n d low. record {
   counted = (tried n d low).whole (through n d low);

@@ -53,7 +53,7 @@ total_more {V} kind ls n d low =
     ap (λ (m : ℕ). answers_of (take m ls)) next ∙ (ap (λ (z : List (Looking V)). answers_of z) (take-suc ls n d low) ∙ map-append (λ (l : Looking V). l.records.items) (take n ls) (x ∷ [])) in
     ap (λ (z : List (List (Record V))). sum_by count z) split ∙ (sum_by-append count front (x.records.items ∷ []) ∙ (let one = sum_by-cons count x.records.items [] in omega (arith, one)))
 
--- where none is wrong, all are true
+-- if none is wrong, all are true
 pub all_true : {V : ℕ} (h : List (Change V)) (records : List (Record V)) (n : ℕ) → n ≡ 0 → AreWrong h records n → All (λ (r : Record V). IsTrueAnswer h r.key r.reply) records
 all_true {V} h [] n none w = λ k d low. absurd (omega (arith, low))
 all_true {V} h (r ∷ rs) n none (inl w) = λ k d low. all_true_at h r rs w.0 (all_true h rs n none w.1) k d low

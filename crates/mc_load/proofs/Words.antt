@@ -5,7 +5,7 @@ use Rattle.rand_pcg.specs.Pcg.{multiplier_64, pcg32}
 use Rattle.mc_load.specs.Draws.{drawn_word, generator_after}
 use Rattle.mc_load.specs.declared.asked.Load.{Load}
 
--- a step behind n steps is n + 1 of them
+-- a step after n steps is n + 1 of them
 state_more : (w m i n s : ℕ) → next_state w m i (state_after w m i n s) ≡ state_after w m i (suc n) s
 unfolding state_after
 state_more w m i zero s = refl

@@ -1,4 +1,4 @@
--- A report's lines, and what is written behind them.
+-- A report's lines, and what is written after them.
 use Rattle.std.proofs.Common.{◌≡◌, ℕ, ◌++◌, ◌∷◌, ◌∙◌, Bool, true, false, List, [], Option, Some, None, ap, append_assoc, inl, inr, length, refl, subst, sym}
 use Rattle.std.proofs.Math.Seq.{take-length}
 use Rattle.std.specs.Io.KnownBytes.{Appends}
@@ -12,7 +12,7 @@ appends_both (Some u) None c xs ys p q = absurd p
 appends_both (Some u) (Some v) None xs ys p q = absurd q
 appends_both (Some u) (Some v) (Some w) xs ys p q = q ∙ (ap (λ (z : List ℕ). z ++ ys) p ∙ append_assoc u xs ys)
 
--- lines that were written, and bytes behind them
+-- lines that were written, and bytes after them
 pub lines_more : (a b c : Option (List ℕ)) (text : List ℕ) (status end : ℕ) → WritesLines false (stream a b) text status → status ≡ 0 → AppendsSome (stream b c) end → WritesLines true (stream a c) text end
 lines_more a b c text status end lines zero some =
     let more = some.0.0 in

@@ -32,7 +32,7 @@ HasWriters writers = (1 ≤ writers) × (writers ≤ most_writers)
 abbrev pub HasSeats : ℕ → ℕ → Type 0
 HasSeats readers writers = (1 ≤ readers) × (readers + writers ≤ most_readers)
 
--- the worker that a writer is, by its number, which is counted from 0: the first, or one behind the readers
+-- the worker that a writer is, by its number, which is counted from 0: the first, or one after the readers
 abbrev pub who_of : ℕ → ℕ → ℕ
 who_of readers writer = if writer == 0 then 0 else readers + writer
 

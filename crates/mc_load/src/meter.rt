@@ -36,7 +36,7 @@ pub struct Figures {
     pub behind: [u64; DELAYS],
 }
 
-/// Measures the writers and the readers. A writer is worker 0; the readers come behind it, and then the other writers.
+/// Measures the writers and the readers. A writer is worker 0; the readers come after it, and then the other writers.
 #[derive(Drop)]
 pub struct Meter<'c, C> {
     clock: &'c C,

@@ -27,7 +27,7 @@ use Rattle.mc_theory.specs.declared.access.Access.TheVariants.{Version, Slot, Ke
 open_window : (V : ℕ) (sh : Shape) (acts : List Made) (k f g : ℕ) → StaysEven V sh acts k f g → f ≤ g → Window V sh acts k f g
 open_window V sh acts k f g stays le = window V sh acts k f g stays.shape stays.lawful le stays.even stays.same
 
--- where the key is at the last front, it was at an earlier one
+-- if the key is at the last front, it was at an earlier one
 was_there : (V : ℕ) (sh : Shape) (acts : List Made) (k f g n q i : ℕ) → Window V sh acts k f g → f ≤ n → n ≤ g → Stands V sh (front V sh acts g).words k q i → Stands V sh (front V sh acts n).words k q i
 was_there V sh acts k f g n q i w a b is = (w.kept n g a b (omega arith)).same.back q i is
 

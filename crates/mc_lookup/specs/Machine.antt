@@ -68,7 +68,7 @@ stage_after_try (Some i) = Mark i
 abbrev pub IsRestart : Stage → Type 0
 IsRestart stage = (stage ≡ First) ⊎ (stage ≡ Over)
 
--- what the lookup keeps of the item's words behind its key: the value, and then the stamp
+-- what the lookup keeps of the item's words after its key: the value, and then the stamp
 abbrev pub held_by : {V : ℕ} → Lookup V → List ℕ
 held_by l = l.value ++ l.since ∷ []
 

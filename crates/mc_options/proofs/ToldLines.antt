@@ -27,7 +27,7 @@ told None start line errors bytes count empty intact wrote is sent = tt
 told (Some text) start line errors bytes count empty intact wrote is sent =
     (count, subst (λ (t : List ℕ). Appends errors.old errors.new (take count t)) (is ∙ line_is text start line empty intact wrote) sent)
 
--- where all was taken, it is all of it
+-- if all was taken, it is all of it
 pub written : {n : ℕ} (text : List ℕ) (start line : InlineText n) (output : Stream) (bytes : List ℕ) (count : ℕ) → inline_text start ≡ [] → IsIntact start
     → WritesText AppendsIfIntact start (with_newline (Some text)) line → bytes ≡ inline_text line → Appends output.old output.new (take count bytes) → count ≡ length bytes → Appends output.old output.new (text ++ 10 ∷ [])
 written text start line output bytes count empty intact wrote is sent all =

@@ -76,7 +76,7 @@ pub record SaysLoad (rows : List Row) (o : LoadOptions) : Type 0 where
 
 -- ---- what the words ask for
 
--- the kinds of the words' first fault; none where they are taken
+-- the kinds of the words' first fault; none if they are taken
 unfoldable pub load_faults : MixNames → MixNames → List Text → Kinds
 load_faults commands mixes words = fault_of (load_program commands mixes) words
 

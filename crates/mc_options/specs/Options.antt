@@ -1,6 +1,6 @@
 -- What the words of a command line ask of `mcstep` and `mctrace`; the first of them is the program's own name.
 -- The library `clap` defines how words are read: `fault_of` gives the kind of their first fault, and `matches_of` the
--- text of each option, which is its default's where the option isn't given.
+-- text of each option, which is its default's if the option isn't given.
 use Rattle.std.specs.Prelude.{◌≡◌, ◌≢◌, ◌⊎◌, ◌&&◌, ℕ, true, pos, List, [], ◌∷◌, Option, Some, None, Result, map, length, codes, fold, nat_le, nat_lt, option_and_then, if◌then◌else◌, MatchResult}
 use Rattle.std.specs.List.{list_all}
 use Rattle.std.specs.Borrow.{Bor}
@@ -108,7 +108,7 @@ pub record Says (rows : List Row) (o : Options) : Type 0 where
 
 -- ---- what the words ask of the program of a name
 
--- the kinds of the words' first fault; none where they are taken
+-- the kinds of the words' first fault; none if they are taken
 unfoldable pub faults_of : Text → MixNames → List Text → Kinds
 faults_of name mixes words = fault_of (whole_command name mixes) words
 

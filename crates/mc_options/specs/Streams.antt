@@ -5,7 +5,7 @@ use Rattle.clap.specs.declared.error.kind.ErrorKind.{ErrorKind}
 use Rattle.clap.specs.declared.error.kind.ErrorKind.TheVariants as kind
 use Rattle.mc_options.specs.Statuses.{failed, refused}
 
--- the bytes that a reader has left, or that a writer holds, where they are known: before a run and after it
+-- the bytes that a reader has left, or that a writer holds, if they are known: before a run and after it
 pub record Stream : Type 0 where
   pub old : Option (List ℕ)
   pub new : Option (List ℕ)
@@ -17,7 +17,7 @@ stream old new = record { old = old; new = new }
 abbrev pub IsUntouched : Stream → Type 0
 IsUntouched s = Keeps s.old s.new
 
--- a line was written or, where a write failed, a beginning of it
+-- a line was written or, if a write failed, a beginning of it
 abbrev pub Tells : Stream → List ℕ → Type 0
 Tells errors text = (n : ℕ) × Appends errors.old errors.new (take n (text ++ 10 ∷ []))
 

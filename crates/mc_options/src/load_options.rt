@@ -39,7 +39,7 @@ const MOST_CALLS: u64 = 1_048_576;
 /// The most keys of a reader's call.
 const MOST_AT_ONCE: u64 = 64;
 
-/// What the help says of a run, behind the options.
+/// What the help says of a run, after the options.
 const RUNS: &str = "\
 One writer and the readers run in threads. The writer puts and removes keys that it draws, one call in eight a removal; each
 reader looks up keys that it draws. Then each answer is compared with what the map held at the answer's moment.

@@ -35,7 +35,7 @@ pub struct Program<'a> {
 
 pub(crate) const VERSION: &str = "0.1.0";
 
-/// What the help says of scripts, behind the options and before the example's command.
+/// What the help says of scripts, after the options and before the example's command.
 const SCRIPTS: &str = "\
 Commands of a script, one a line:
   put K V..            Puts key K with its value, as many numbers as --words says
@@ -198,7 +198,7 @@ fn words_row<'a>() -> OptionRow<'a>
     }
 }
 
-/// What the help says behind the options.
+/// What the help says after the options.
 fn help_of(alloc: Global, program: &Program<'_>) -> Result<String, AllocError> {
     let example = program.example;
     format!(in alloc; "{SCRIPTS}{example}")

@@ -12,10 +12,10 @@ use std::fmt;
 use std::fmt::{Display, InlineText, Write as _};
 use std::io::Write;
 
-/// The exit status where the words of the command line, the shape, the readers or the keys are refused.
+/// The exit status if the words of the command line, the shape, the readers or the keys are refused.
 pub const REFUSED: u8 = 2;
 
-/// The exit status where memory was short or a write failed.
+/// The exit status if memory was short or a write failed.
 pub const FAILED: u8 = 3;
 
 /// The most bytes of a line.

@@ -15,7 +15,7 @@ abbrev pub value_acts : ℕ → ℕ → List ℕ → List Act
 value_acts i j [] = []
 value_acts i j (x ∷ xs) = Item i j x ∷ value_acts i (j + 1) xs
 
--- a value is written into the item, and behind it the stamp: the moment that the put is to have
+-- a value is written into the item, and after it the stamp: the moment that the put is to have
 abbrev pub payload_acts : ℕ → List ℕ → ℕ → List Act
 payload_acts i v at = value_acts i 1 v ++ Item i (length v + 1) at ∷ []
 

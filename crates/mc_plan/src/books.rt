@@ -115,7 +115,7 @@ impl Books {
             return Decision::Refuse(PutError::Spent);
         }
         let at = moment(&self.checked, peek) + 1;
-        // Those of a renewal, before it is known to be one: behind the look, the renewal's first store would wait for this one.
+        // Those of a renewal, before it is known to be one: after the look, the renewal's first store would wait for this one.
         let changes = 2;
         self.version_steps += changes;
         match find_by::<V, P>(&self.checked, peek, key, parts) {

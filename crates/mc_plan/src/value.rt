@@ -36,7 +36,7 @@ pub(crate) fn add_value(acts: &mut Plan, item: u32, value: &[u64])
     }
 }
 
-/// Adds the writes of a value into the item, after its key, and of the stamp behind it.
+/// Adds the writes of a value into the item, after its key, and of the stamp after it.
 /// Condition: the list has room for them: `V + 1` acts of 64.
 pub(crate) fn add_payload<const V: usize>(acts: &mut Plan, item: u32, value: &[u64; V], at: u64)
     requires width { IsWidth V }

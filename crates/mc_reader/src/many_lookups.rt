@@ -43,7 +43,7 @@ pub fn get_many<const V: usize>(
     seat.known();
 }
 
-/// Touches what lookups of the first of these keys will read, of `GROUP` keys at most, where `get_many` does so: in a large table, for
+/// Touches what lookups of the first of these keys will read, of `GROUP` keys at most, if `get_many` does so: in a large table, for
 /// enough keys. It changes nothing, and no answer depends on it.
 pub fn touch_ahead<const V: usize>(cells: &Cells<V>, keys: &[u64]) {
     if cells.checked().shape().buckets >= LARGE && keys.len() >= LEAST {

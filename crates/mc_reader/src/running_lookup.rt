@@ -118,7 +118,7 @@ fn read_stamp<const V: usize>(
     lookup.after_stamp(i, word);
 }
 
-// Reads all that the key's item holds behind its key.
+// Reads all that the key's item holds after its key.
 #[inline(always)]
 fn read_held<const V: usize>(
     cells: &Cells<V>,

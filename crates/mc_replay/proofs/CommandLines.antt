@@ -122,7 +122,7 @@ begin_begun V old new most call s text none begins is =
     (inl (none, refl, inr (is, refl, unanswered V new most (pending call (state_of V (shape_of_player old) s.world.acts)) s.world (shape_of_player old) begins.1 begins.0)), (begins.0, fits_more V new most (most + most_steps) (Some (pending call (state_of V (shape_of_player old) s.world.acts))) s.world (omega arith) begins.1))
 
 -- ---- one act of a call after the other
--- the call that runs, where the clerk has an act to make
+-- the call that runs, if the clerk has an act to make
 pub runs_in : (V : ℕ) (player : Player V) (most n : ℕ) (m : Replay V) (p : Pending V) → HasRoom most → ActsSoFar V player most n m → m.running ≡ Some p → IsMidCall V player (most + n) p m.world × (most + n + acts_left player.clerk < 2 ^ 64 - 1)
 runs_in V player most n m p room so_far runs =
     let few = so_far.few (ap is_some runs) in
@@ -167,7 +167,7 @@ act_ends V old new most n m p a before after room so_far runs act is =
       act.shape,
     )
 
--- what holds where a result is fine, from what follows
+-- what holds if a result is fine, from what follows
 pub on_ok : {E : Type 0} (r : Result (Unit {0}) E) (A B : Type 0) → OnOk r A → (A → B) → OnOk r B
 on_ok (Ok u) A B ok then = then ok
 on_ok (Err e) A B ok then = tt

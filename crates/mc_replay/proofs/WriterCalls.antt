@@ -354,7 +354,7 @@ acts_are_left V clerk some = some_left_in V clerk.stage clerk.plan.items clerk.m
 pub room_left : (V : ℕ) (old now : Player V) (most : ℕ) (p : Pending V) (w : Trace V) → MakesSome V old now most p w → most + acts_left old.clerk < 2 ^ 64 - 1 → most + (acts_left old.clerk - acts_left now.clerk) + acts_left now.clerk < 2 ^ 64 - 1
 room_left V old now most p w some room = omega (arith, room, some.fewer)
 
--- where there is an answer the call was still running
+-- if there is an answer the call was still running
 some_left : (V : ℕ) (player : Player V) (most : ℕ) (p : Pending V) (w : Trace V) → IsMidCall V player most p w → 0 < acts_left player.clerk
 some_left V player most p w runs = acts_are_left V player.clerk runs.1
 

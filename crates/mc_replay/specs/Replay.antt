@@ -73,7 +73,7 @@ pub record IsUnanswered (V : ℕ) (sh : Shape) (p : Pending V) : Type 0 where
 abbrev pub pending : {V : ℕ} → Call → State V → Pending V
 pending call s = record { call = call; from = s; acts = [] }
 
--- a call that is to be made act by act: it runs now, or is answered where it needs no act
+-- a call that is to be made act by act: it runs now, or is answered if it needs no act
 abbrev pub BeginDoes : {V : ℕ} → Shape → Replay V → Call → List ℕ → Option Fault → Replay V → Type 0
 BeginDoes {V} sh s call text fault t =
     WhereIdle s text fault t (
@@ -196,14 +196,14 @@ pub record Reopens (V : ℕ) (s : Scene V) (b c : ℕ) (text : List ℕ) (t : Sc
   pub idle : t.now.running ≡ None
   pub told : text ≡ reopened_lines (length (state_now t.shape t.now).history) entries left
 
--- a line `reopen`: it is refused while a call or a lookup runs, and where there is no such shape
+-- a line `reopen`: it is refused while a call or a lookup runs, and if there is no such shape
 abbrev pub ReopenDoes : {V : ℕ} → Scene V → ℕ → ℕ → List ℕ → Option Fault → Scene V → Type 0
 ReopenDoes {V} s b c text fault t =
     (IsBusy s.now × (fault ≡ Some StillRunning) × (text ≡ []) × (t ≡ s)) ⊎
     ((IsBusy s.now → ⊥) × (IsShape (with_sizes s.shape b c) → ⊥) × (fault ≡ Some BadShape) × (text ≡ []) × (t ≡ s)) ⊎
     ((IsBusy s.now → ⊥) × IsShape (with_sizes s.shape b c) × (fault ≡ None) × Reopens V s b c text t)
 
--- what a command does where a script plays
+-- what a command does when a script plays
 abbrev pub CommandDoes : {V : ℕ} → Scene V → Command V → List ℕ → Option Fault → Scene V → Type 0
 CommandDoes s (command.Reopen b c) text fault t = ReopenDoes s b c text fault t
 CommandDoes s c text fault t = (t.shape ≡ s.shape) × Does s.shape s.now c text fault t.now

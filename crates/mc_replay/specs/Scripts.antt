@@ -85,7 +85,7 @@ Replays V sh readers lines old new (Err stop) =
 abbrev pub ReadsLine : List ℕ → Option (List ℕ) → Result Bool ReadFault → Type 0
 ReadsLine bytes rest r = (line : List ℕ) × GivesLine (Some bytes) rest line r
 
--- what is read for the line at which a script stops: a beginning of it, as much as shows that it is too long, or the line and nothing behind it
+-- what is read for the line at which a script stops: a beginning of it, as much as shows that it is too long, or the line and nothing after it
 abbrev pub ReadsStopped : List ℕ → Option (List ℕ) → Fault → Type 0
 ReadsStopped bytes rest ReadFailed = ReadsLine bytes rest (Err read.ReadFailed)
 ReadsStopped bytes rest TooLong = ReadsLine bytes rest (Err read.TooLong) ⊎ ReadsLine bytes rest (Ok true)
@@ -98,7 +98,7 @@ ReadsScript bytes rest (Err stop) =
     ((stop.line ≡ 0) × (rest ≡ Some bytes)) ⊎
     ((0 < stop.line) × ReadsStopped (after_lines (stop.line - 1) bytes) rest stop.fault)
 
--- what is read and written, where the bytes of the script are known
+-- what is read and written, if the bytes of the script are known
 abbrev pub ReplaysKnown : (V : ℕ) → Shape → ℕ → Option (List ℕ) → Option (List ℕ) → Option (List ℕ) → Option (List ℕ) → Result (Unit {0}) Stop → Type 0
 ReplaysKnown V sh readers None rest old new r = Unit {0}
 ReplaysKnown V sh readers (Some bytes) rest old new r = ReadsScript bytes rest r × Replays V sh readers (lines_of bytes) old new r

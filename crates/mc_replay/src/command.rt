@@ -32,7 +32,7 @@ fn whole<const V: usize, O: Watch<V>>(
     add_line(text, &AnswerLine(answer))
 }
 
-/// Begins a call, which is answered at once where it needs no act.
+/// Begins a call, which is answered at once if it needs no act.
 fn begin<const V: usize>(
     player: &mut Player<V>,
     text: &mut String,

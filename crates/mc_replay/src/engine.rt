@@ -59,7 +59,7 @@ fn is_wanting(done: Result<(), Fault>) -> bool
     }
 }
 
-/// Reads the next line, does it and writes its answers: `false` where there is none.
+/// Reads the next line, does it and writes its answers: `false` if there is none.
 fn play_line<const V: usize, R: BufRead, W: Write, O: Watch<V>>(
     alloc: Global,
     player: &mut Player<V>,

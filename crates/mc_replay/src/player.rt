@@ -24,7 +24,7 @@ use std::alloc::Global;
 #[derive(Clone, Copy)]
 pub(crate) enum Call<const V: usize> {
     Put(u64, [u64; V]),
-    /// A put, where the moment of the key's last put is this one.
+    /// A put, if the moment of the key's last put is this one.
     PutIf(u64, u64, [u64; V]),
     Remove(u64),
     /// A put that takes no other key's item.
@@ -115,7 +115,7 @@ impl<const V: usize> Player<V> {
         }
     }
 
-    /// Begins a call; the answer, where it needs no act.
+    /// Begins a call; the answer, if it needs no act.
     pub(crate) fn begin(&mut self, call: Call<V>) -> Option<Answer>
         requires { (most : ℕ) × (w : traces.Trace V) × IsIdle V self.old most w }
         ensures { (most : ℕ) (w : traces.Trace V) → IsIdle V self.old most w → Begins V self.old self.new most (call_of call.entry) w result }

@@ -20,7 +20,7 @@ over_not line over = grind (arith, nat_tests)
 pub over_else : (line : List ℕ) → is_over line ≡ false → (length line ≤ 4096) ⊎ ((length line ≡ 4097) × (slice_index line 4096 ≡ 13))
 over_else line over = grind (arith, nat_tests)
 
--- where bytes end in a byte it is their last one
+-- if bytes end in a byte it is their last one
 pub ends_cases : (byte : ℕ) (line : List ℕ) → (ends_with_byte byte line ≡ false) ⊎ ((ends_with_byte byte line ≡ true) × (0 < length line) × (slice_index line (length line - 1) ≡ byte))
 ends_cases byte line = grind (arith, nat_tests)
 
@@ -61,7 +61,7 @@ line_beginning line more (x ∷ xs) true plain through ends =
     let part : take_through 10 (line ++ more) ≡ line ++ x ∷ xs = take_through-append 10 line more plain ∙ ap (λ t. line ++ t) through in
     (take (length xs) (x ∷ xs), inr (first_line-is (line ++ more) (line ++ x ∷ xs) true part ends ∙ ap (strip_last 13) (cut_last line x xs)))
 
--- where the last byte is a carriage return and the first part has none at its end, the second part is not empty
+-- if the last byte is a carriage return and the first part has none at its end, the second part is not empty
 not_return : (line u : List ℕ) → length line ≡ 4097 → slice_index line 4096 ≢ 13 → length (line ++ u) ≡ length line + length u → slice_index (line ++ u) (length (line ++ u) - 1) ≡ 13 → 0 < length u
 not_return line (x ∷ xs) long other len last = omega arith
 not_return line [] long other len last =

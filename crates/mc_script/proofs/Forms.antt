@@ -31,7 +31,7 @@ numbers_differ zero (word ∷ words) other = refl
 numbers_differ (suc n) [] other = refl
 numbers_differ (suc n) (word ∷ words) other = numbers_differ n words (λ same. other (omega (arith, same)))
 
--- they are good where all are numbers
+-- they are good if all are numbers
 numbers_good : (n : ℕ) (words : List (List ℕ)) → length words ≡ n → pointwise is_good (replicate n Number) words ≡ list_all is_number words
 numbers_good zero [] same = refl
 numbers_good zero (word ∷ words) same = absurd (omega (arith, same))

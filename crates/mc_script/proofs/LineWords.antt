@@ -73,7 +73,7 @@ inner_at_start (x ∷ xs) lt = at (inner_at_start xs) (is_blank x) refl
         (more.0, more.1, ap (λ k. drop k (x ∷ xs)) skip ∙ more.2, more.3)
     at again false e = (x, xs, ap (λ k. drop k (x ∷ xs)) (ap (λ t. cond (not (not t)) (1 + position_or_len is_inner xs) 0) e), e)
 
--- where nothing passes a test, the first place that does is the end
+-- if nothing passes a test, the first place that does is the end
 pub unwrap-position : {X : Type 0} (p : X → Bool) (xs : List X) → unwrap_or (position p xs) (length xs) ≡ position_or_len p xs
 unwrap-position p xs = at (nat_lt (position_or_len p xs) (length xs)) refl
   where
@@ -113,12 +113,12 @@ first_word_is xs i n e len =
       omega (arith, le, len),
     )
 
--- where no word is found there is none
+-- if no word is found there is none
 pub none_found : (xs : List ℕ) (o : Option (Bor (List ℕ) × Bor (List ℕ))) → FirstWord xs o → is_some o ≡ false → words_of xs ≡ []
 none_found xs None first none = first
 none_found xs (Some found) first none = absurd (cc)
 
--- where a word is found there is one
+-- if a word is found there is one
 pub some_found : (xs : List ℕ) (o : Option (Bor (List ℕ) × Bor (List ℕ))) → FirstWord xs o → is_some o ≡ true → 0 < length (words_of xs)
 some_found xs None first some = absurd (cc)
 some_found xs (Some found) first some = let len = ap length first.0 in omega (arith, len)

@@ -40,7 +40,7 @@ pub lines-nil : lines_of [] ≡ []
 unfolding lines_within
 lines-nil = refl
 
--- one line more is the first line of the bytes behind the others
+-- one line more is the first line of the bytes after the others
 pub after_lines-step : (n : ℕ) (xs : List ℕ) → after_lines (n + 1) xs ≡ drop_through 10 (after_lines n xs)
 unfolding after_lines
 after_lines-step n xs = ap (λ (k : ℕ). after_lines k xs) (one_more n) ∙ step n xs

@@ -23,7 +23,7 @@ after_lines (suc n) bytes = after_lines n (drop_through 10 bytes)
 abbrev pub is_over : List ℕ → Bool
 is_over bytes = nat_lt 4097 (length bytes) || ((length bytes == 4097) && not (slice_index bytes 4096 == 13))
 
--- how many bytes show that a line is too long: one too many or, where that one is a carriage return, the next one too
+-- how many bytes show that a line is too long: one too many or, if that one is a carriage return, the next one too
 abbrev pub length_over : List ℕ → ℕ
 length_over bytes = if slice_index bytes 4096 == 13 then 4098 else 4097
 
@@ -33,7 +33,7 @@ pub record IsUnfinished (old new : Option (List ℕ)) (line : List ℕ) : Type 0
   pub plain : All (λ b. b ≢ 10) line
   pub short : is_over line ≡ false
 
--- Reading a line gives the first line and takes its bytes, or finds the end. Of a line that is too long it takes the bytes that show it, and where it fails a beginning that isn't too long; `line` then holds these bytes.
+-- Reading a line gives the first line and takes its bytes, or finds the end. Of a line that is too long it takes the bytes that show it, and if it fails a beginning that isn't too long; `line` then holds these bytes.
 abbrev pub GivesLine : Option (List ℕ) → Option (List ℕ) → List ℕ → Result Bool ReadFault → Type 0
 GivesLine None new line result = ⊤
 GivesLine (Some bytes) new line (Ok true) = (0 < length bytes) × (line ≡ first_line bytes) × (length line ≤ 4096) × (new ≡ Some (drop_through 10 bytes))

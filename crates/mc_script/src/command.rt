@@ -15,7 +15,7 @@ use thiserror::Error;
 #[derive(Clone, Copy, PartialEq, Eq)]
 pub enum Command<const V: usize> {
     Put(u64, [u64; V]),
-    /// A `put`, where the moment of the key's last put is this one.
+    /// A `put`, if the moment of the key's last put is this one.
     PutIf(u64, u64, [u64; V]),
     Remove(u64),
     Get(u64),
@@ -96,7 +96,7 @@ fn form<const V: usize>(name: &[u8], words: &[u8]) -> Result<Command<V>, LineFau
     Err(LineFault::NotACommand)
 }
 
-/// What a line says, or nothing where it has no words or is a comment.
+/// What a line says, or nothing if it has no words or is a comment.
 #[tactic(auto, unfolding(crate::specs::Commands::command_by))]
 pub fn parse<const V: usize>(line: &[u8]) -> Result<Option<Command<V>>, LineFault>
     ensures { result ≡ command_in V line.now }

@@ -63,7 +63,7 @@ fn trim_return(line: &mut Line)
     }
 }
 
-/// Reads the next line into `line`, without its end: `false` where there is none.
+/// Reads the next line into `line`, without its end: `false` if there is none.
 ///
 /// A line ends at a line feed, at a carriage return and a line feed, or with the input.
 /// Of a line that is too long, and after a failed read, `line` holds what was read of it.

@@ -20,7 +20,7 @@ pub fn are_digits(word: &[u8]) -> bool
     word.iter().all(|b| b.is_ascii_digit())
 }
 
-/// The value of digits, where a `u64` holds it.
+/// The value of digits, if a `u64` holds it.
 fn value(word: &[u8]) -> Option<u64>
     requires digits { list_all is_ascii_digit word.now ≡ true }
     requires some { 0 < length word.now }

@@ -95,7 +95,7 @@ kept_on sh w later k ps hole victim is off chain set = record {
   distinct = chain.distinct;
 }
 
--- a cut path is a chain where the words lose the victim's slot
+-- a cut path is a chain when the words lose the victim's slot
 pub cut_chain : (sh : Shape) (w later : List ℕ) (k : ℕ) (victim : Place) (ps : List Place) (hole : Place) (kept : List Place) (end : Place) → IsCut victim ps hole kept end → IsPlace sh victim → IsChain sh w k ps hole → SetsSlot sh w later (slot_number victim) 0 → IsChain sh later k kept end
 cut_chain sh w later k victim ps hole kept end (inl cut) is chain set =
     subst (λ (p : Place). IsChain sh later k kept p) (sym cut.3) (cut_on sh w later k kept victim cut.0 hole is (subst (λ (xs : List Place). IsChain sh w k xs hole) cut.1 chain) set)

@@ -43,7 +43,7 @@ stands_at V sh w v u k q word g stored fits below same read names again key is =
   key = sym (key ∙ ap (λ (y : List ℕ). item V sh y g 0) (again ∙ same)) ∙ is;
 }
 
--- what follows where nothing was found
+-- what follows if nothing was found
 pub where_none : (A : Type 0) (P Q : Type 0) (o : Option A) → (P → Q) → IfNone o P → IfNone o Q
 where_none A P Q None f h = f h
 where_none A P Q (Some a) f h = tt
@@ -58,7 +58,7 @@ absent_from-buckets V sh w k placed one two q i s =
     none (q % 4) (omega arith) i s.names.in_items (ap (slot sh w) (sym is) ∙ at.0) s.key in
     elim at.1 [ inl e ↦ there (first_of sh k) e one | inr e ↦ there (second_of sh k) e two ]
 
--- where no slot of its buckets names the item under its tag, it doesn't stand at the item
+-- if no slot of its buckets names the item under its tag, it doesn't stand at the item
 pub not_at_item : (V : ℕ) (sh : Shape) (w : List ℕ) (k i : ℕ) → IsPlaced V sh w k → HasNot sh w (first_of sh k) (slot_word (tag_of sh k) i) 4 → HasNot sh w (second_of sh k) (slot_word (tag_of sh k) i) 4 → (q : ℕ) → Stands V sh w k q i → ⊥
 not_at_item V sh w k i placed one two q s =
     let at = placed q i s in
@@ -68,14 +68,14 @@ not_at_item V sh w k i placed one two q s =
     none (q % 4) (omega arith) (ap (slot sh w) (sym is) ∙ at.0) in
     elim at.1 [ inl e ↦ there (first_of sh k) e one | inr e ↦ there (second_of sh k) e two ]
 
--- where the words agree with what a map says of the key, the key is found
+-- if the words agree with what a map says of the key, the key is found
 pub placed-agrees : (V : ℕ) (sh : Shape) (w : List ℕ) (k : ℕ) (o : Option (List ℕ)) → AgreesAt V sh w k o → IsPlaced V sh w k
 placed-agrees V sh w k None a q i s = absurd (a q i s)
 placed-agrees V sh w k (Some v) a q i s =
     let is = a.2.once q i s in
     (ap (slot sh w) is.0 ∙ a.2.tagged ∙ ap (λ y. slot_word (tag_of sh k) y) (sym is.1), subst (λ (y : ℕ). IsBucketOf sh k (y / 4)) (sym is.0) a.2.placed)
 
--- where the words agree with a history and no deed runs, every key is found
+-- if the words agree with a history and no deed runs, every key is found
 pub placed-quiet : (V : ℕ) (sh : Shape) (w : List ℕ) (h : List (Change V)) (k : ℕ) → Agrees V sh w None h → IsPlaced V sh w k
 placed-quiet V sh w h k a = placed-agrees V sh w k (map_value h k) (a.keys k (λ e. cc))
 

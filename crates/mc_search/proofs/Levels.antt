@@ -9,7 +9,7 @@ use Rattle.mc_search.specs.Inside.Readable.{IsFull}
 use Rattle.mc_search.specs.Inside.Search.{entry_at, bucket_at, depth_at, next_bucket, AreFull, ComesFrom, Origin, IsTree, IsNear, IsUpTo, IsFollowed, IsAdded, IsSearching, IsExpanding}
 use Rattle.mc_search.proofs.QueueEntries.{entry_at-old, entry_at-new, bucket_at-old, depth_at-old, depth_at-new, length-push, last_or, each_pushed}
 
--- an entry that comes from an earlier one still does where one more is queued
+-- an entry that comes from an earlier one still does if one more is queued
 comes-push : (sh : Shape) (w : List ℕ) (q : List Entry) (x : Entry) (i : ℕ) (e : Entry) → i ≤ length q → ComesFrom sh w q i e → ComesFrom sh w (q ++ x ∷ []) i e
 comes-push sh w q x i e l k =
     let earlier = k.earlier in
@@ -98,7 +98,7 @@ expanding-push sh w k f x j q s l o m =
       front = entry_at-old q e f s.queued ∙ s.front;
     }
 
--- where the slot's bucket is queued, one slot more is followed
+-- if the slot's bucket is queued, one slot more is followed
 pub expanding-next : (sh : Shape) (w : List ℕ) (k f : ℕ) (x : Entry) (j : ℕ) (q : List Entry) → IsExpanding sh w k f x (4 * f + j) q → j < 4 → ((i : ℕ) × (i < length q) × (bucket_at q i ≡ next_bucket sh w x.bucket j)) → IsExpanding sh w k f x (4 * f + (j + 1)) q
 expanding-next sh w k f x j q s l at = record {
   tree = s.tree;
@@ -176,7 +176,7 @@ empty_tree sh w k = (
   λ i h. absurd (omega (arith, h)),
 )
 
--- the queue at the start has full buckets where both of the key are full
+-- the queue at the start has full buckets if both of the key are full
 pub start-full : (sh : Shape) (w : List ℕ) (a b : ℕ) (o q r : List Entry) (x y : Bool) → o ≡ [] → IsAdded o (start_at a) q x → IsAdded q (start_at b) r y → IsFull sh w a → IsFull sh w b → AreFull sh w r
 start-full sh w a b o q r x y z one two fa fb =
     full-added sh w q r (start_at b) y two (full-added sh w o q (start_at a) x one (subst (λ (v : List Entry). AreFull sh w v) (sym z) (none_full sh w)) fa) fb
@@ -200,7 +200,7 @@ searching-start sh w k a b o q r x y z one two ea eb =
       level = λ h i m. let v = up i m in omega arith;
     }
 
--- the entry that is queued for slot j, where the code found bucket b
+-- the entry that is queued for slot j, when the code found bucket b
 abbrev pub entry_to : ℕ → ℕ → Entry → ℕ → Entry
 entry_to b f x j = record { bucket = b; from = f; slot = j; depth = x.depth + 1 }
 
@@ -227,7 +227,7 @@ expanding-added sh w k f x j b q r false s l o d e a =
     let there = there-added q r (entry_to b f x j) false a in
     expanding-next sh w k f x j r (subst (λ (y : List Entry). IsExpanding sh w k f x (4 * f + j) y) (sym a.0) s) l (there.0, there.1, there.2 ∙ e)
 
--- full buckets stay full where nothing was added
+-- full buckets stay full if nothing was added
 pub full-old : (sh : Shape) (w : List ℕ) (q r : List Entry) (e : Entry) (new : Bool) → new ≡ false → IsAdded q e r new → AreFull sh w q → AreFull sh w r
 full-old sh w q r e true t a old = absurd (cc)
 full-old sh w q r e false t a old = subst (λ (y : List Entry). AreFull sh w y) (sym a.0) old

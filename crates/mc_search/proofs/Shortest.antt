@@ -15,7 +15,7 @@ use Rattle.mc_search.specs.Inside.Search.{entry_at, bucket_at, depth_at, next_bu
 use Rattle.mc_search.proofs.QueueEntries.{length-push, bucket_at-new, depth_at-new}
 use Rattle.mc_search.proofs.Levels.{entry_from, entry_to, expanding-push}
 
--- where all queued buckets are full, and the slots of all entries above level m - 1 were followed, no chain is shorter than m
+-- if all queued buckets are full, and the slots of all entries above level m - 1 were followed, no chain is shorter than m
 too_short : (sh : Shape) (w : List ℕ) (k t m : ℕ) (q : List Entry) → AreFull sh w q → IsFollowed sh w k t q → ((i : ℕ) → i < length q → depth_at q i + 1 < m → 4 * i + 4 ≤ t) → (b : ℕ) (ps : List Place) (h : Place) (u : ℕ) → Leads sh w b ps h → IsNear q b u → u + length ps < m → ⊥
 too_short sh w k t m q full s past b [] h u x n l =
     let same : bucket_at q n.0 ≡ h.bucket = n.2 ∙ sym x.1 in
@@ -34,18 +34,18 @@ chain_short : (sh : Shape) (w : List ℕ) (k t m : ℕ) (q : List Entry) → Are
 chain_short sh w k t m q full s past ps h (inl x) l = too_short sh w k t m q full s past (first_of sh k) ps h 0 x s.from_first (omega arith)
 chain_short sh w k t m q full s past ps h (inr x) l = too_short sh w k t m q full s past (second_of sh k) ps h 0 x s.from_second (omega arith)
 
--- where all entries above the last level were followed, there is no chain
+-- if all entries above the last level were followed, there is no chain
 none_left : (sh : Shape) (w : List ℕ) (k f : ℕ) (q : List Entry) → AreFull sh w q → IsSearching sh w k f q → ((i : ℕ) → i < length q → depth_at q i < sh.depth → i < f) → NoChain sh w k sh.depth
 none_left sh w k f q full s past ps h x = elim (cases_lt sh.depth (length ps)) [
   | inl g ↦ g
   | inr g ↦ absurd (chain_short sh w k (4 * f) (sh.depth + 1) q full s.slots (λ i l m. let b = past i l (omega arith) in omega arith) ps h x.leads (omega arith))
 ]
 
--- so it is where every entry was followed
+-- so it is if every entry was followed
 pub none_queued : (sh : Shape) (w : List ℕ) (k f : ℕ) (q : List Entry) → AreFull sh w q → IsSearching sh w k f q → length q ≤ f → NoChain sh w k sh.depth
 none_queued sh w k f q full s l = none_left sh w k f q full s (λ i h m. omega arith)
 
--- so it is where the next entry is at the last level
+-- so it is if the next entry is at the last level
 pub none_above : (sh : Shape) (w : List ℕ) (k f : ℕ) (x : Entry) (q : List Entry) → AreFull sh w q → IsSearching sh w k f q → f < length q → x ≡ entry_at q f → sh.depth ≤ x.depth → NoChain sh w k sh.depth
 none_above sh w k f x q full s l e d =
     let deep : x.depth ≡ depth_at q f = ap (λ (y : Entry). y.depth) e in
@@ -95,7 +95,7 @@ least_direct sh w k a b p ea eb none hole =
       least = λ ps g c. omega arith;
     }
 
--- so it is with no bucket but the key's two, where both are full
+-- so it is with no bucket but the key's two, if both are full
 pub none_near : (sh : Shape) (w : List ℕ) (k a b : ℕ) → a ≡ first_of sh k → b ≡ second_of sh k → IsFull sh w a → IsFull sh w b → NoChain sh w k 0
 none_near sh w k a b ea eb fa fb (p ∷ ps) h c = omega arith
 none_near sh w k a b ea eb fa fb [] h c = elim c.leads [
@@ -103,7 +103,7 @@ none_near sh w k a b ea eb fa fb [] h c = elim c.leads [
   | inr x ↦ absurd (subst (λ (y : ℕ). IsFull sh w y) (eb ∙ sym x.1) fb h.slot x.0.0.in_bucket x.0.1)
 ]
 
--- and where no chain is that short, both are full
+-- and if no chain is that short, both are full
 pub first_full : (sh : Shape) (w : List ℕ) (k a : ℕ) → a ≡ first_of sh k → a < sh.buckets → NoChain sh w k 0 → IsFull sh w a
 unfolding IsDistinct
 first_full sh w k a ea in_table none j l empty =

@@ -11,7 +11,7 @@ use Rattle.mc_words.proofs.Keys.{alternate-ne}
 use Rattle.mc_search.specs.declared.path.Path.{Path}
 use Rattle.mc_search.specs.Paths.{IsLeastPath}
 
--- a move to a hole is a least path, where both buckets of the key are full
+-- a move to a hole is a least path, if both buckets of the key are full
 pub least_move : (sh : Shape) (w : List ℕ) (k a b : ℕ) (p : Path) (from : Place) → IsShape sh → a ≡ first_of sh k → b ≡ second_of sh k → p.places.items ≡ from ∷ [] → Leads sh w a (from ∷ []) p.hole ⊎ Leads sh w b (from ∷ []) p.hole → 0 < sh.depth → NoChain sh w k 0 → IsLeastPath sh w k p
 unfolding IsDistinct
 least_move sh w k a b p from shape ea eb one moves deep none =
@@ -30,7 +30,7 @@ least_move sh w k a b p from shape ea eb one moves deep none =
       least = λ ps g c. let long = none ps g c in omega arith;
     }
 
--- where no single move makes room, and both buckets are full, each chain moves at least two
+-- if no single move makes room, and both buckets are full, each chain moves at least two
 pub none_short : (sh : Shape) (w : List ℕ) (k a b : ℕ) → a ≡ first_of sh k → b ≡ second_of sh k → ((from hole : Place) → Leads sh w a (from ∷ []) hole → ⊥) → ((from hole : Place) → Leads sh w b (from ∷ []) hole → ⊥) → NoChain sh w k 0 → NoChain sh w k 1
 none_short sh w k a b ea eb fa fb none [] h c = absurd (let long = none [] h c in omega arith)
 none_short sh w k a b ea eb fa fb none (p ∷ []) h c = elim c.leads [

@@ -13,7 +13,7 @@ next_parts (Some j) left hand i e = absurd (cc)
 next_parts None zero hand i e = absurd (cc)
 next_parts None (suc left) hand i e = (refl, omega arith, cc)
 
--- where there is no victim, the first reading is no victim's, and the others have none
+-- if there is no victim, the first reading is no victim's, and the others have none
 pub first_marked : (r : Swept) (rs : List Swept) → victim_of (r ∷ rs) ≡ None → (eqb r.bit 0 ≡ false) × (victim_of rs ≡ None)
 first_marked r rs none =
     let P : Bool → Type 0 = λ b. cond b (Some r.item) (victim_of rs) ≡ None → (b ≡ false) × (victim_of rs ≡ None) in

@@ -1,4 +1,4 @@
--- The records of a pass, and what is seen by them, where one of them changes.
+-- The records of a pass, and what is seen by them, when one of them changes.
 use Rattle.std.proofs.Common.{ℕ, zero, suc, ◌≡◌, ◌<◌, ◌∙◌, get_or, List, [], ◌∷◌, ◌++◌, length, map, Some, All, ap, arith, refl, subst, sym}
 use Rattle.std.specs.Prelude.{slice_get, slice_set}
 use Rattle.std.specs.Option.{option_map}

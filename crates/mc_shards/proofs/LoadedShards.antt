@@ -207,7 +207,7 @@ all_reverse V (e ∷ es) a =
     subst (All (IsWide V)) (sym (last_first e es))
     (All-append (IsWide V) (reverse es) (e ∷ []) (all_reverse V es (All-tail (IsWide V) e es a)) (All-cons (IsWide V) e [] (All-head (IsWide V) e es a) (All-nil (IsWide V))))
 
--- a put's value, without the stamp behind it
+-- a put's value, without the stamp after it
 value_put : (V : ℕ) (v : List ℕ) (n : ℕ) → length v ≡ V → option_map (value_of V) (Some (v ++ n ∷ [])) ≡ Some v
 value_put V v n wide = ap (λ (xs : List ℕ). Some xs) (ap (λ (m : ℕ). take m (v ++ n ∷ [])) (sym wide) ∙ take-append_seam v (n ∷ []))
 

@@ -28,7 +28,7 @@ pub record OneMap (V : ℕ) : Type 0 where
   -- new shards hold nothing
   pub empty : (mix : Mix) (hs : List (List (Change V))) (k : ℕ) → All (λ h. h ≡ []) hs → plain_of mix hs k ≡ None
   pub local : IsLocal V
-  -- a put gives its key the value, with the put's moment behind it, and leaves each other key but one that it evicts
+  -- a put gives its key the value, with the put's moment after it, and leaves each other key but one that it evicts
   pub puts : (mix : Mix) (hs hs' : List (List (Change V))) (k : ℕ) (v : List ℕ) (told : Put) → ChangesAt (shard_of mix (length hs) k) hs hs' (λ h h'. HasPut V h h' k v told)
       → (plain_of mix hs' k ≡ Some (v ++ moment_of told ∷ [])) × ((q : ℕ) → q ≢ k → Spares q told → plain_of mix hs' q ≡ plain_of mix hs q)
   -- a lookup's reply is what the one map held at some instant between what had been seen of all shards before it and after it

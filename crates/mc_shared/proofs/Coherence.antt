@@ -27,7 +27,7 @@ pub coherent_marked : (t : Trace) (marks bit : ℕ) → Coherent t marks bit →
 coherent_marked t marks bit c = let b = c.seen in record { is = omega arith; seen = omega arith; right = c.right }
 
 -- ---- what the rule leaves no choice in
--- where nothing is recorded of an item, its bit stays
+-- if nothing is recorded of an item, its bit stays
 pub bit_stays : (t : Trace) (marks bit bit' : ℕ) → Coherent t marks bit → Coherent t marks bit' → bit' ≡ bit
 bit_stays t marks bit bit' c d = d.is ∙ sym c.is
 
@@ -46,7 +46,7 @@ swept_is_told t marks n bit told c d =
     let all : n ≡ marks = omega arith in
     (omega (arith, all), all)
 
--- one more entry is one more mark where it marks the item
+-- one more entry is one more mark if it marks the item
 pub marks_in-push : (i : ℕ) (r : Reading) (done : List Reading) → marks_in i (done ++ r ∷ []) ≡ marks_in i done + is_mark_of i r.access
 marks_in-push i r [] = omega arith
 marks_in-push i r (x ∷ xs) = let e = marks_in-push i r xs in omega arith

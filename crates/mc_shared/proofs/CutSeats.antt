@@ -47,7 +47,7 @@ splits_as l id s r all v left right at same cut others mine new writes single un
   past = r.past;
 }
 
--- how many seats a reader is on, where one view is cut in two
+-- how many seats a reader is on, if one view is cut in two
 cut_seats : (a id : ℕ) (views : List View) (v left right : View) → get_elem? views id ≡ some v → seats_of a (set views id left ++ right ∷ []) + seated_in a v.role ≡ seats_of a views + seated_in a left.role + seated_in a right.role
 cut_seats a id views v left right at =
     let f = λ (u : View). seated_in a u.role in

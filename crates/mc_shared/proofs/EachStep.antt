@@ -45,7 +45,7 @@ use Rattle.mc_shared.proofs.ReaderRecords.{front_self, front_push, front_length,
 use Rattle.mc_shared.proofs.ExactSteps.{stands_here, exact_act, exact_entry, note_at, Counted, counted}
 use Rattle.mc_shared.proofs.RecencySteps.{StepBits, StepPast, spared_past, hand_bits, touch_bits, sum_here}
 
--- all views fit where the one that is replaced does and the others did
+-- all views fit if the one that is replaced does and the others did
 pub fits_set : (l : Layout) (log : List Made) (sums : Tally) (at id : ℕ) (views : List View) (w : View) → ((j : ℕ) (u : View) → j ≢ id → get_elem? views j ≡ some u → Fits l log sums at j u) → Fits l log sums at id w → AllFit l log sums at (set views id w)
 fits_set l log sums at id views w others mine j u e =
     ⊎_elim
@@ -147,7 +147,7 @@ module _ (l : Layout) (id slots : ℕ) (c : List (ℕ × Unit {0})) where
     past = r.past;
   }
 
-  -- the writer's act, where the word at its place becomes what the act writes
+  -- the writer's act, when the word at its place becomes what the act writes
   pub makes : (acts : List Made) (tally : Tally) (a : Act) (n x : ℕ) (f g : ℕ → ℕ) (st : Step (Unit {0})) → MayMake l acts a → WritesAt l acts a n x → (n < word_count l.width l.shape → f (word_after l acts n) ≡ x) → StepBits l a n f g → StepPast l n f
       → Allows (Ruled l) slots id (writer_view l acts tally, c) n f (λ r. AddsAct a st (writer_view l acts tally, c) (g r))
   makes acts tally a n x f g st may w writes bit past s r long at fits =
@@ -198,7 +198,7 @@ module _ (l : Layout) (id slots : ℕ) (c : List (ℕ × Unit {0})) where
         (note, refl),
       )
 
-  -- a load of the word that holds the bit of the writer's mark. Where it finds the bit set, it is the very step that sets it
+  -- a load of the word that holds the bit of the writer's mark. If it finds the bit set, it is the very step that sets it
   pub remarks : (acts : List Made) (tally : Tally) (i : ℕ) (st : Step (Unit {0})) → MayMake l acts (Mark i)
       → Allows (Ruled l) slots id (writer_view l acts tally, c) (recency_place l.width l.shape i) (λ w. w) (AddsActIfSet (Mark i) st (writer_view l acts tally, c))
   remarks acts tally i st may s r long at fits =
@@ -298,7 +298,7 @@ module _ (l : Layout) (id slots : ℕ) (c : List (ℕ × Unit {0})) where
         refl,
       )
 
-  -- a load of the word. Where it finds the bit set, it is the very step that sets it: the word and the views after it are the same
+  -- a load of the word. If it finds the bit set, it is the very step that sets it: the word and the views after it are the same
   pub notices_one : (number : ℕ) (front : List Made) (done : List Reading) (i : ℕ) (st : Step (Unit {0})) → i < l.shape.items → Allows (Ruled l) slots id (reader_view l number front done, c) (recency_place l.width l.shape i) (λ w. w) (AddsMarkIfSet i st (reader_view l number front done, c))
   notices_one number front done i st within s r long at fits =
       let v : View = reader_view l number front done in

@@ -38,7 +38,7 @@ made_all a f (t ∷ ts) g n le r =
     let h = made_all a (steps_by a t) ts g n le r.1 in
     omega (arith, top, h, le)
 
--- one more act counts where its note is at most n
+-- one more act counts if its note is at most n
 pub made_push : (a n : ℕ) (ts : List Note) (t : Note) → made_by a n (ts ++ t ∷ []) ≡ made_by a n ts + (1 - (steps_by a t - n))
 made_push a n [] t = omega arith
 made_push a n (x ∷ xs) t = let h = made_push a n xs t in omega (arith, h)

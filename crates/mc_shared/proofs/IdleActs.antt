@@ -16,7 +16,7 @@ made_parts : (a n : ℕ) (xs ys : List Note) → made_by a n (xs ++ ys) ≡ made
 made_parts a n [] ys = omega arith
 made_parts a n (x ∷ xs) ys = let h = made_parts a n xs ys in omega (arith, h)
 
--- where none was made by then, each has a later note
+-- if none was made by then, each has a later note
 made_later : (a n : ℕ) (ts : List Note) (k : ℕ) (t : Note) → made_by a n ts ≡ 0 → get_elem? ts k ≡ some t → n < steps_by a t
 made_later a n [] k t none e = absurd (some-ne-none t (sym e))
 made_later a n (x ∷ xs) zero t none e = let same : steps_by a x ≡ steps_by a t = ap (steps_by a) (some-injective _ _ e) in omega (arith, same, none)

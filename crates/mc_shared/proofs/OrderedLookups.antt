@@ -117,7 +117,7 @@ lookups_stand_in_order V sh acts number notes before rs after k tries reply shap
     (begins V sh k tries rs reply looked)
 
 -- ---- in time
--- where a list is longer by one entry than another, and begins a lookup there, the lookup's first front is the acts of that instant
+-- if a list is longer by one entry than another, and begins a lookup there, the lookup's first front is the acts of that instant
 pub lookups_are_in_time : (V : ℕ) → LookupsAreInTime V
 lookups_are_in_time V sh k tries acts acts' reply shape small h =
     let l : Layout = layout_of V sh in

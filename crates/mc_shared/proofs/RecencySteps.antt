@@ -1,4 +1,4 @@
--- What a step owes of the recency bits, where the word at its place becomes f of what it was.
+-- What a step owes of the recency bits, when the word at its place becomes f of what it was.
 use Rattle.std.proofs.Common.{◌≡◌, Bool, ℕ, ◌<◌, ◌≤◌, eqb, eq-eqb, ne_eqb, List, length, get_or, set, refl, ap, sym, ◌∙◌, subst, arith}
 use Rattle.std.specs.Prelude.{if◌then◌else◌}
 use mathlib.Core.Logic.{dite}

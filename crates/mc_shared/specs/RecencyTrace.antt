@@ -8,7 +8,7 @@ use Rattle.mc_theory.specs.declared.act.Act.{Act}
 use Rattle.mc_theory.specs.declared.act.Act.TheVariants.{Hand, Mark}
 use Rattle.mc_shared.specs.Views.{Note}
 
--- of one item: 1 where the writer marked it since the hand was there, how many marks readers had made when the hand was there, and how much
+-- of one item: 1 if the writer marked it since the hand was there, how many marks readers had made when the hand was there, and how much
 -- the hand reported wrongly
 pub record Trace : Type 0 where
   pub own : ℕ

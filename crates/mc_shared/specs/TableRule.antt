@@ -22,7 +22,7 @@ pub record IsRecord (l : Layout) (front : List Made) (done : List Reading) : Typ
   pub read : AreRead l.width l.shape front done
   pub rise : RiseTo 0 done (length front)
 
--- what the rule says of the role of a seat, where these are all acts with their tally, and the writer's seat is the one at `at`
+-- what the rule says of the role of a seat, if these are all acts with their tally, and the writer's seat is the one at `at`
 abbrev pub FitsRole : Layout → Layout → List Made → Tally → ℕ → ℕ → Role → Type 0
 FitsRole l own log all at seat Spent = Unit {0}
 FitsRole l own log all at seat (Writes acts tally) = (own ≡ l) × (seat ≡ at) × (acts ≡ log) × (tally ≡ all)

@@ -19,7 +19,7 @@ MayOpen V sh w cleared k deed.Remove = IsPresent V sh w k
 MayOpen V sh w cleared k deed.Evict = (q : ℕ) × (i : ℕ) × Stands V sh w k q i × (cleared ≡ Some i)
 MayOpen V sh w cleared k deed.Move = IsPresent V sh w k
 
--- a word behind the value is the item's stamp: the moment of the put that is under way
+-- a word after the value is the item's stamp: the moment of the put that is under way
 abbrev pub IsStampAt : ℕ → List ℕ → ℕ → ℕ → Type 0
 IsStampAt V w j x = j ≡ payload V → x ≡ moment w + 1
 

@@ -121,7 +121,7 @@ keys_below V sh w h a named (suc n) l =
       ];
     }
 
--- where each item is named, there are as many keys as items
+-- if each item is named, there are as many keys as items
 pub full_from_named : (V : ℕ) (sh : Shape) (w : List ℕ) (h : List (Change V)) → ((k : ℕ) → AgreesAt V sh w k (map_value h k)) → AllNamed sh w → key_count h ≡ sh.items
 unfolding map_value key_count
 full_from_named V sh w h a named =
@@ -133,7 +133,7 @@ full_from_named V sh w h a named =
     some_from_present V sh w k (map_value h k) (a k) (here.0, i.0, record { names = here.1; key = i.2 })) in
     omega (arith, all.many, most, least)
 
--- where an item is free, there are fewer keys than items
+-- if an item is free, there are fewer keys than items
 pub room_from_free : (V : ℕ) (sh : Shape) (w : List ℕ) (h : List (Change V)) → ((k : ℕ) → AgreesAt V sh w k (map_value h k)) → HasFree sh w → key_count h < sh.items
 unfolding map_value key_count IsDistinct
 room_from_free V sh w h a free =

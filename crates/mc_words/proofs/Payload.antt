@@ -34,7 +34,7 @@ value_of-push V n v e = subst (λ (y : ℕ). take y (v ++ n ∷ []) ≡ v) e (ta
 pub since_of-push : (V n : ℕ) (v : List ℕ) → length v ≡ V → since_of V (v ++ n ∷ []) ≡ n
 since_of-push V n v e = get_or_push v n 0 V e
 
--- the words are their value, and behind it their stamp
+-- the words are their value, and after it their stamp
 pub whole_payload : (V n : ℕ) (xs : List ℕ) → length xs ≡ payload V → since_of V xs ≡ n → value_of V xs ++ n ∷ [] ≡ xs
 whole_payload V n xs whole is =
     let many = value_length V xs whole in

@@ -38,7 +38,7 @@ pub record Renews (V : ℕ) (sh : Shape) (s t : Quiet V) (k : ℕ) (v : List ℕ
   pub hand : t.hand ≡ s.hand
   pub moment : at ≡ length t.history
 
--- ---- the answers of a put of value v under key k where the key's stamp is `since`
+-- ---- the answers of a put of value v under key k if the key's stamp is `since`
 -- it could pass the limit: it is a renewal, and no move can be due
 abbrev pub RenewalIsSpent : {V : ℕ} → Shape → Quiet V → Type 0
 RenewalIsSpent sh s = sh.limit < s.version_steps + 2

@@ -13,7 +13,7 @@ map_without k [] = []
 map_without k (e ∷ es) = if k == e.0 then map_without k es else e ∷ map_without k es
 
 -- the map after one change more, the one that is number n of its history, counted from 1. The map holds for a key its payload: its
--- value, and behind it the moment of the put
+-- value, and after it the moment of the put
 abbrev pub map_after : {V : ℕ} → ℕ → List (ℕ × List ℕ) → Change V → List (ℕ × List ℕ)
 map_after n m (Put k v) = (k, v ++ n ∷ []) ∷ map_without k m
 map_after n m (Remove k) = map_without k m
@@ -24,11 +24,11 @@ abbrev pub map_from : {V : ℕ} → ℕ → List (ℕ × List ℕ) → List (Cha
 map_from n m [] = m
 map_from n m (c ∷ cs) = map_from (n + 1) (map_after n m c) cs
 
--- the value in the words that an item keeps behind its key: the first V of them
+-- the value in the words that an item keeps after its key: the first V of them
 abbrev pub value_of : ℕ → List ℕ → List ℕ
 value_of V xs = take V xs
 
--- the stamp in them: the word behind the value, the moment of the key's last put
+-- the stamp in them: the word after the value, the moment of the key's last put
 abbrev pub since_of : ℕ → List ℕ → ℕ
 since_of V xs = slice_index xs V
 

@@ -4,7 +4,7 @@ use Rattle.mc_words.specs.declared.place.Place.{Place}
 use Rattle.mc_words.specs.declared.shape.Shape.{Shape}
 use Rattle.mc_words.specs.Recency.{recency_word, recency_words}
 
--- how many words of an item follow its key, if a value has V words: the value, and behind it the stamp, the moment of the last put
+-- how many words of an item follow its key, if a value has V words: the value, and after it the stamp, the moment of the last put
 unfoldable pub payload : ℕ → ℕ
 payload V = V + 1
 

@@ -55,7 +55,7 @@ abbrev pub AgreesAt : ℕ → Shape → List ℕ → ℕ → Option (List ℕ) �
 AgreesAt V sh w k None = IsAbsent V sh w k
 AgreesAt V sh w k (Some held) = (q : ℕ) × (i : ℕ) × OnlyAt V sh w k q i × HasPayload V sh w i held
 
--- 1 where the stripe is that of the running deed's key
+-- 1 if the stripe is that of the running deed's key
 abbrev pub odd_at : Shape → Option ℕ → ℕ → ℕ
 odd_at sh None t = 0
 odd_at sh (Some k) t = if stripe_of sh k == t then 1 else 0

@@ -1,8 +1,8 @@
-//! How many words an item keeps behind its key, and how far it is to the next item.
+//! How many words an item keeps after its key, and how far it is to the next item.
 ghost use Rattle.std.specs.Prelude.{◌≡◌, ◌+◌, ◌≤◌};
 ghost use Rattle.mc_words.specs.Places.{IsWidth, payload, most_payload};
 
-/// How many words an item keeps behind its key: its value of `V` words, and its stamp, the moment of the last put.
+/// How many words an item keeps after its key: its value of `V` words, and its stamp, the moment of the last put.
 /// Condition: a value has from 1 to 8 words.
 #[tactic(auto, unfolding(crate::specs::Places::payload))]
 pub fn payload_words<const V: usize>() -> usize

@@ -115,7 +115,7 @@ module _ (V : ℕ) (p q : Pen V) (b0 b1 : Books) (call : Call) (told : Answer) (
         },
       )
 
--- where the plan has no acts, the call is over at once
+-- if the plan has no acts, the call is over at once
 pub refused_now : (V : ℕ) (p q : Pen V) (b0 b1 : Books) (call : Call) (told : Answer) (rs : List Swept) → p.cells.now.layout ≡ layout_of V (shape_of b0.checked) → b1.checked ≡ b0.checked → HasRead V p q rs → IsPlanned V b1 [] call (state_at V p) (state_after_sweep V (shape_of b1.checked) (state_at V p) rs) told → IsSweepOf V (shape_of b1.checked) (state_at V p) rs told
     → IsSamePen V p q × HasCalled V p.cells.now.layout.shape call p.seat.now q.seat.now told × IsRested V b1 q.seat.now
 refused_now V p q b0 b1 call told rs layout kept read planned = made_now V p q b0 b1 call told (λ _. []) rs layout kept read planned q (made_none V q)

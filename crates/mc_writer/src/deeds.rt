@@ -27,7 +27,7 @@ impl<'a, const V: usize> Pen<'a, V> {
         }
     }
 
-    // Writes a value, and behind it the stamp: the moment that the put is to have. The items begin at this place. The compiler decides
+    // Writes a value, and after it the stamp: the moment that the put is to have. The items begin at this place. The compiler decides
     // whether it is a call: compiled into each renewal, it takes more instructions.
     fn write_payload(&mut self, items: usize, i: u32, value: &[u64; V], at: u64)
         requires width { IsWidth V }

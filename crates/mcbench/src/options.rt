@@ -209,7 +209,7 @@ impl Options {
         }
     }
 
-    /// The table: as many items as keys, but as many as slots where it is to be filled until a put is refused.
+    /// The table: as many items as keys, but as many as slots if it is to be filled until a put is refused.
     pub(crate) fn shape(&self) -> Shape {
         let buckets = buckets_for(self.capacity);
         let items = match self.workload {

@@ -3,7 +3,7 @@ use crate::tally::Tally;
 use std::fmt;
 use std::fmt::Display;
 
-/// A quotient, as a decimal number with five digits behind the point.
+/// A quotient, as a decimal number with five digits after the point.
 #[derive(Clone, Copy, Default)]
 pub(crate) struct Quotient {
     pub top: u64,

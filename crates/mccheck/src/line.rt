@@ -49,7 +49,7 @@ fn answer<const V: usize>(key: u64, reply: Reply<V>) -> Said<V> {
     })
 }
 
-/// What a line says that has this name and these words behind it.
+/// What a line says that has this name and these words after it.
 fn said_by<const V: usize>(name: &str, words: &mut SplitWhitespace<'_>) -> Option<Said<V>> {
     match name {
         "words" => Some(Said::Width(number(words)?)),

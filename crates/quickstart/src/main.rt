@@ -7,7 +7,7 @@ use anyhow::bail;
 use mc_cache::{Cache, Reader, Shape, Writer, open};
 use std::thread::{Threads, join_mut};
 
-/// Puts two keys: behind the first both readers look a key up at once, behind the second one asks beside the writer.
+/// Puts two keys: after the first both readers look a key up at once, after the second one asks beside the writer.
 /// Condition: writer and readers are those of this cache.
 fn put_and_look_up<R: Threads + Sync + Print>(
     rt: &R,

@@ -44,7 +44,7 @@ fn is_loaded(opened: Opened<1>) -> bool
     named && writer.get(&cache, 1) == found
 }
 
-/// Opens a cache with entries, and once more where memory was refused.
+/// Opens a cache with entries, and once more if memory was refused.
 pub(crate) fn see_loading(alloc: Global) -> Seen {
     let first = load(alloc);
     if first.is_some() {
@@ -74,7 +74,7 @@ fn stored(at: u64) -> Put {
     }
 }
 
-// Lists what the words hold. Whether it is the two entries, or `None` where memory was refused.
+// Lists what the words hold. Whether it is the two entries, or `None` if memory was refused.
 fn list(alloc: Global, cells: &Cells<1>, seat: &mut WriterSeat, books: &Books) -> Option<bool>
     requires of { seat.old.of ≡ cells.now }
     requires rested { IsRested 1 books.now seat.old }
@@ -88,7 +88,7 @@ fn list(alloc: Global, cells: &Cells<1>, seat: &mut WriterSeat, books: &Books) -
     }
 }
 
-/// Lists what the words hold, and once more where memory was refused.
+/// Lists what the words hold, and once more if memory was refused.
 pub(crate) fn see_entries(alloc: Global) -> Seen {
     let Ok(checked) = SHAPE.check() else {
         return Seen::Wrong;

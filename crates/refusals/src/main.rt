@@ -17,7 +17,7 @@ use std::alloc::Global;
 use std::process::ExitCode;
 use std::{env, io};
 
-/// What the call of that name does, or `None` where there is none.
+/// What the call of that name does, or `None` if there is none.
 fn see(alloc: Global, name: &str) -> Option<Seen> {
     match name {
         "words" => Some(see_making(alloc, Making::Words)),

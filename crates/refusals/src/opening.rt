@@ -47,7 +47,7 @@ fn make_cache(alloc: Global) -> Option<bool> {
     }
 }
 
-// Whether what was made is as it is to be, or `None` where memory was refused.
+// Whether what was made is as it is to be, or `None` if memory was refused.
 fn make(alloc: Global, checked: &Checked, making: Making) -> Option<bool> {
     match making {
         Making::Words => match mc_shared::open::<2>(alloc, checked, 3) {
@@ -71,7 +71,7 @@ fn make(alloc: Global, checked: &Checked, making: Making) -> Option<bool> {
     }
 }
 
-/// Makes it, and once more where memory was refused.
+/// Makes it, and once more if memory was refused.
 pub(crate) fn see_making(alloc: Global, making: Making) -> Seen {
     let Ok(checked) = SHAPE.check() else {
         return Seen::Wrong;

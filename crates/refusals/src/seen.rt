@@ -27,7 +27,7 @@ impl Seen {
         }
     }
 
-    /// What is seen of a call that is made a second time where the first was refused. `None` is a refusal; the others say whether all is
+    /// What is seen of a call that is made a second time if the first was refused. `None` is a refusal; the others say whether all is
     /// right.
     pub(crate) fn of_two(first: Option<bool>, second: Option<bool>) -> Seen {
         match (first, second) {
@@ -38,7 +38,7 @@ impl Seen {
         }
     }
 
-    /// What is seen where all is right at the end.
+    /// What is seen if all is right at the end.
     pub(crate) fn of_refusal(refused: bool) -> Seen {
         if refused { Seen::Refused } else { Seen::Given }
     }

@@ -41,7 +41,7 @@ fn is_loaded(opened: OpenedShards<1>) -> bool
     named && pass.get(&shards, 1) == found
 }
 
-/// Opens shards with entries, and once more where memory was refused.
+/// Opens shards with entries, and once more if memory was refused.
 pub(crate) fn see_shards(alloc: Global) -> Seen {
     let first = load(alloc);
     if first.is_some() {

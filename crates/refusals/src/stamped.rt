@@ -20,7 +20,7 @@ const ENTRIES: [Entry<1>; 2] = [
     },
 ];
 
-// Lists what the cache holds. Whether it is the two entries, or `None` where memory was refused.
+// Lists what the cache holds. Whether it is the two entries, or `None` if memory was refused.
 fn list(alloc: Global, cache: &Cache<1>, writer: &mut Writer<1>) -> Option<bool>
     requires { writer.old.of ≡ cache.now }
     ensures { writer.new ≡ writer.old }
@@ -31,7 +31,7 @@ fn list(alloc: Global, cache: &Cache<1>, writer: &mut Writer<1>) -> Option<bool>
     }
 }
 
-/// Lists what the cache holds, and once more where memory was refused.
+/// Lists what the cache holds, and once more if memory was refused.
 pub(crate) fn see_stamped(alloc: Global) -> Seen {
     let Ok((cache, mut writer, _readers)) = open::<1>(alloc, SHAPE, 1) else {
         return Seen::Before;

@@ -118,7 +118,7 @@ pub(crate) fn see_runs(alloc: Global) -> Seen {
     }
 }
 
-// Makes the event, and makes it once more where memory was refused. Whether it was.
+// Makes the event, and makes it once more if memory was refused. Whether it was.
 fn step_or_again(world: &mut World<1>, event: Event) -> Result<bool, Seen> {
     let before = digest(world);
     match world.step(event) {

@@ -61,7 +61,7 @@ impl Pair {
         })
     }
 
-    /// Whether the event was made; nothing where a refused one changed the world, or the second world gave something else.
+    /// Whether the event was made; nothing if a refused one changed the world, or the second world gave something else.
     fn step(&mut self, rng: &mut Lcg64Xsh32) -> Option<bool> {
         let event = self.writer.drawn_event(rng);
         let given = self.world.step(event);
@@ -91,7 +91,7 @@ impl Pair {
     }
 }
 
-/// How many of a world's drawn events were lawful; nothing where one did what it may not.
+/// How many of a world's drawn events were lawful; nothing if one did what it may not.
 fn lawful_of(rng: &mut Lcg64Xsh32, pair: &mut Pair, events: u32) -> Option<u32> {
     let mut lawful: u32 = 0;
     for _ in 0..events {

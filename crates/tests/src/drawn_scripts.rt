@@ -20,7 +20,7 @@ struct Draws {
     sweeps: bool,
     /// Whether one call in three asks for a key's stamp, or depends on it.
     stamps: bool,
-    /// Whether before one call in sixteen another world is opened, where no lookup runs.
+    /// Whether before one call in sixteen another world is opened, when no lookup runs.
     reopens: bool,
 }
 
@@ -83,7 +83,7 @@ fn drawn(
     Ok(script)
 }
 
-/// How many puts of a drawn script are refused since every bit was set; none where a line is not answered as the plain
+/// How many puts of a drawn script are refused since every bit was set; none if a line is not answered as the plain
 /// map says.
 fn all_recent(alloc: Global, seed: u64, draws: &Draws) -> Result<Option<usize>, Fail> {
     let mut rng = Lcg64Xsh32::new(seed, 0);

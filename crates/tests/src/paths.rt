@@ -27,7 +27,7 @@ fn drawn(rng: &mut Lcg64Xsh32) -> Table {
     Table { list }
 }
 
-/// The word of a slot, where there is one.
+/// The word of a slot, if there is one.
 fn word_of(table: &Table, bucket: u32, slot: u32) -> u64 {
     let number = bucket.saturating_mul(4).saturating_add(slot) as usize;
     match table.list.get(number.saturating_add(2)) {
@@ -55,7 +55,7 @@ fn onward(checked: &Checked, table: &Table, bucket: u32, slot: u32) -> Option<u3
     }
 }
 
-/// The length of the shortest chain from the bucket on that comes to none of the passed ones; a large number where
+/// The length of the shortest chain from the bucket on that comes to none of the passed ones; a large number if
 /// there is none within the depth.
 fn shortest(checked: &Checked, table: &Table, bucket: u32, passed: u32, depth: u8) -> u8 {
     if empty_in(table, bucket).is_some() {

@@ -45,7 +45,7 @@ pub(crate) enum Asked {
     Reading,
     Begin(usize, u64),
     End(usize),
-    /// The buckets and the items of the other world. A line for each entry that is left comes behind the first.
+    /// The buckets and the items of the other world. A line for each entry that is left comes after the first.
     Reopen(u32, u32),
 }
 
@@ -63,7 +63,7 @@ pub(crate) struct Plain {
     look_ups: [Option<LookUp>; 2],
 }
 
-/// The number behind these words of a line.
+/// The number after these words of a line.
 pub(crate) fn number_behind(told: &str, words: &str) -> Option<u64> {
     let rest = told.split_once(words)?.1;
     rest.split(' ').next()?.parse::<u64>().ok()
@@ -141,7 +141,7 @@ impl Plain {
         None
     }
 
-    /// Reads the bit at the hand, which turns: the item and its key, where the bit is clear.
+    /// Reads the bit at the hand, which turns: the item and its key, if the bit is clear.
     fn turn(&mut self) -> Option<(usize, u64)> {
         let item = self.hand;
         let next = item.saturating_add(1);

@@ -30,7 +30,7 @@ fn key_of(n: u64) -> u64 {
     n % 8 * ((1 << 32) + 1)
 }
 
-// The acts of deed `n` on a key, counted from 0, with its mark. It makes change number `n + 1`. None where the key is there no more.
+// The acts of deed `n` on a key, counted from 0, with its mark. It makes change number `n + 1`. None if the key is there no more.
 fn make_deed(
     cells: &Cells<1>,
     writer: &mut WriterSeat,

@@ -12,7 +12,7 @@ use std::thread::Threads;
 /// How often a loop that waits turns at most.
 const TURNS: u32 = 1 << 26;
 
-/// Lets the writers work one after the other, and then the readers. Where it is to refuse a call of a worker, it holds nobody.
+/// Lets the writers work one after the other, and then the readers. If it is to refuse a call of a worker, it holds nobody.
 #[derive(Drop)]
 struct OneByOne {
     load: Load,

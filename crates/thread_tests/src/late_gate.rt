@@ -5,7 +5,7 @@ use std::sync::atomic::{AtomicU64, Ordering};
 /// How often a loop that waits turns at most.
 const TURNS: u32 = 1 << 26;
 
-/// Holds the readers until the writer's last call is answered, and refuses one call of each worker from `first` on. Where it
+/// Holds the readers until the writer's last call is answered, and refuses one call of each worker from `first` on. If it
 /// refuses the writer's, it holds nobody.
 #[derive(Drop)]
 pub struct Late {

@@ -18,7 +18,7 @@ const SHAPE: Shape = Shape {
     mix: Mix::Plain,
 };
 
-// Misses the key, says so, and looks until it is there. `None` where the first look didn't miss, or none found it.
+// Misses the key, says so, and looks until it is there. `None` if the first look didn't miss, or none found it.
 fn look_until_found(
     cache: &Cache<1>,
     reader: &mut Reader<1>,

@@ -10,7 +10,7 @@ use std::sync::atomic::AtomicBool;
 /// Lookups that don't wait for the writer's end.
 const LOOKUPS: usize = 2000;
 
-/// Lookups behind these.
+/// Lookups after these.
 const LAST: usize = 64;
 
 /// The keys of a call for many.

@@ -176,7 +176,7 @@ pub fn call_in_threads<R: Threads + Sync>(
     )
 }
 
-/// The history that the callers' changes make in this shard. `None` where a moment is missing or there twice.
+/// The history that the callers' changes make in this shard. `None` if a moment is missing or there twice.
 pub fn history_of(
     alloc: Global,
     shards: &Shards<1>,

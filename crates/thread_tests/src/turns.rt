@@ -116,7 +116,7 @@ fn moment_of(reply: Reply<1>) -> Option<u64> {
 }
 
 impl Told {
-    // The moments that it names, where neither is lower than those before: the last one.
+    // The moments that it names, if neither is lower than those before: the last one.
     fn moment_after(self, last: u64) -> Option<u64> {
         let made = match self.tried {
             Tried::Made { at, .. } => at,
@@ -241,7 +241,7 @@ impl Caller {
     }
 }
 
-// One try and one lookup for each place. Ends where a change was tried for stubbornly, and lost.
+// One try and one lookup for each place. Ends if a change was tried for stubbornly, and lost.
 fn call_each(
     cache: &Cache<1>,
     desk: &Desk<1>,
@@ -288,7 +288,7 @@ pub fn call_in_threads<R: Threads + Sync>(
     )
 }
 
-/// The history that the callers' changes make. `None` where a moment up to this one is missing or there twice.
+/// The history that the callers' changes make. `None` if a moment up to this one is missing or there twice.
 pub fn history_of(
     alloc: Global,
     callers: &[Caller],

@@ -36,7 +36,7 @@ fn first_run(text: &[u8]) -> Option<(u8, usize, &[u8])> {
     Some((byte, count, rest.get(1..)?))
 }
 
-/// Adds the bytes of the line and its end; `false` where an escape is none.
+/// Adds the bytes of the line and its end; `false` if an escape is none.
 pub(crate) fn add_line(bytes: &mut Vec<u8>, line: &[u8]) -> Result<bool, AllocError> {
     let mut text = line;
     // Each round takes a byte at least.

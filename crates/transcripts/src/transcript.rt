@@ -43,7 +43,7 @@ impl Transcript {
         })
     }
 
-    /// Adds a line of the script, or one that is due for it; `false` where it is neither.
+    /// Adds a line of the script, or one that is due for it; `false` if it is neither.
     pub(crate) fn add(&mut self, line: &[u8]) -> Result<bool, AllocError> {
         match line {
             [b'>', b' ', text @ ..] => add_line(&mut self.script, text),

@@ -15,7 +15,7 @@ use Rattle.mc_shards.specs.Loadings.{HoldEntries, puts_of}
 use Rattle.mc_shards.specs.Plain.{AreEntriesOfAll, history_of}
 use Rattle.mc_shards.proofs.Entries.{Differ, Entry, append_none, lookup_append, none_in}
 
--- ---- where no entry is left, all are put
+-- ---- if no entry is left, all are put
 not_none : {A : Type 0} (x : A) (xs : List A) → ◌≡◌ {A = List A} [] (x ∷ xs) → ⊥
 not_none x xs e = absurd cc
 

@@ -1,4 +1,4 @@
--- A put by a pass of shards, and a lookup behind it.
+-- A put by a pass of shards, and a lookup after it.
 use Rattle.std.specs.Prelude.{ℕ, ◌≡◌, List, [], ◌∷◌, Some}
 use Rattle.mc_cache.specs.Change.{Change}
 use Rattle.mc_cache.specs.Reply.{Reply}

@@ -10,7 +10,7 @@ use Rattle.mc_cache.specs.declared.desk.DeskError.{DeskError}
 use Rattle.mc_cache.specs.declared.desk.DeskError.TheVariants as desk
 use Rattle.uses.specs.Owned.{HasEntry}
 
--- behind the one history, the other has a change of the key
+-- after the one history, the other has a change of the key
 pub record WasTouched (h h' : List (Change 1)) (k : ℕ) : Type 0 where
   pub early : List (Change 1)
   pub change : Change 1

@@ -4,7 +4,7 @@ ghost use Rattle.mc_cache.specs.Reply.TheVariants.{Found, Busy};
 
 use mc_cache::{Cache, Reader, Reply, Writer, laws};
 
-/// Puts 70 under 7 and looks it up beside the writer, which finds it. Nothing where the put was refused.
+/// Puts 70 under 7 and looks it up beside the writer, which finds it. Nothing if the put was refused.
 pub fn put_and_get(
     cache: &Cache<1>,
     writer: &mut Writer<1>,

@@ -28,7 +28,7 @@ impl TurnCall<1, Put, PutError> for Both {
     }
 }
 
-/// Puts both keys in one turn. What the pass has seen then ends with what the two puts did, one right behind the other. If the try was
+/// Puts both keys in one turn. What the pass has seen then ends with what the two puts did, one right after the other. If the try was
 /// held, neither was made.
 pub fn put_both(
     cache: &Cache<1>,

@@ -7,7 +7,7 @@ ghost use Rattle.uses.specs.AfterPut.{IsAfterPut};
 use mc_shards::{Pass, Reply, Shards, laws};
 
 /// Puts 70 under a key and looks the key up, in whichever shard it is. The reply is what all shards together held of the key once the
-/// put was made, or later. Nothing where the put was refused or held.
+/// put was made, or later. Nothing if the put was refused or held.
 pub fn put_and_get_in_shards(shards: &Shards<1>, pass: &mut Pass<1>, key: u64) -> Option<Reply<1>>
     requires of { ArePassOf shards.now pass.old }
     ensures of { ArePassOf shards.now pass.new }

@@ -21,7 +21,7 @@ shape_of_writer w = shape_of_table w.table
 abbrev pub words_of_writer : {V : ℕ} → Writer V → List ℕ
 words_of_writer w = words_of_table w.table
 
--- as many words as an item keeps behind its key: the value, and then the stamp
+-- as many words as an item keeps after its key: the value, and then the stamp
 abbrev pub payload_in : {V : ℕ} → Written V → List ℕ
 payload_in xs = xs.value ++ xs.stamp ∷ []
 

@@ -1,4 +1,4 @@
--- What is written behind a report.
+-- What is written after a report.
 use Rattle.std.specs.Prelude.{◌≡◌, ◌⊎◌, ℕ, List}
 use Rattle.std.specs.Io.KnownBytes.{Appends}
 use Rattle.mc_options.specs.Statuses.{failed}

@@ -101,7 +101,7 @@ deeds_after [] ys deeds = deeds
 deeds_after (x ∷ xs) ys deeds = deeds_after xs ys deeds.1
 
 -- ---- a mark at the end
--- where no act but perhaps the last is a mark, nothing comes after a mark
+-- if no act but perhaps the last is a mark, nothing comes after a mark
 pub mark_ends : (xs more front last : List Act) (i : ℕ) → xs ++ Mark i ∷ more ≡ front ++ last → Each IsUnmarked front → length last ≤ 1 → more ≡ []
 mark_ends xs more [] last i same none one =
     let many = length-append xs (Mark i ∷ more) in

@@ -300,7 +300,7 @@ books_still V b s free old kept items none still = record {
   named = λ i l f. old.named i l (none i);
 }
 
--- where no chain is short enough, the path is refused
+-- if no chain is short enough, the path is refused
 pub path_refused : (V : ℕ) (sh : Shape) (s : State V) (k : ℕ) → IsQuiet V sh s → (PutIsSpent sh (quiet_of s) → ⊥) → IsAbsent V sh s.words k → NoChain sh s.words k sh.depth → means.RefusesPath V sh (quiet_of s) (quiet_of s) k
 path_refused V sh s k quiet unspent absent none = record { unspent = unspent; absent = absent_held V sh s k quiet absent; none = none; unchanged = refl }
 

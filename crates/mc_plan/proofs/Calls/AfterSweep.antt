@@ -36,7 +36,7 @@ use Rattle.mc_plan.proofs.Puts.Replacements.{evictions_room}
 use Rattle.mc_plan.proofs.Calls.SweptStates.{swept_still, swept_hand, swept_cleared, sweep_quiet, swept_home, over_without, victim_below}
 
 -- ---- the victim
--- where an item is named, its key stands at it
+-- if an item is named, its key stands at it
 pub victim_stands : (V : ℕ) (b : Books) (waiting : Waiting V) (call : Call) (s : State V) (rs : List Swept) (i : ℕ) → IsReplacing V b waiting call s rs i
     → (i < (shape_of b.checked).items) × ((q : ℕ) × Stands V (shape_of b.checked) s.words (item V (shape_of b.checked) s.words i 0) q i)
 victim_stands V b waiting call s rs i on =

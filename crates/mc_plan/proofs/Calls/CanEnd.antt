@@ -95,7 +95,7 @@ ends_at V clerk call s acts Idle is now = absurd now
 ends_at V clerk call s acts (Sweeping waiting) is now = ends_sweep V clerk call s acts waiting now.0 now.1 now.2 now.4
 ends_at V clerk call s acts (Planned told) is now = ends_plan V clerk call s acts told is now
 
--- some acts end the call with an answer: at least one, where one is to be made
+-- some acts end the call with an answer: at least one, if one is to be made
 pub can_end : (V : ℕ) (clerk : Clerk V) (call : Call) (s : State V) (acts : List Made) → IsOn V clerk call s acts → (more : List Made) × (told : Answer) × Answered V (shape_of_clerk clerk) call s (acts ++ more) told × (IsSome (next_act clerk) → 0 < length more)
 can_end V clerk call s acts on =
     let ends = ends_at V clerk call s acts clerk.stage refl on.now in

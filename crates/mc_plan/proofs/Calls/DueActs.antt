@@ -39,7 +39,7 @@ pub due_may : (V : ℕ) → DueActsCanBeMade V
 due_may V sh all acts a due d =
     (d.allowed.0, changes_left V sh (state_of V sh acts) (a ∷ due) 0 a sh.limit d.allowed refl d.quiet d.within, due_made V sh all acts a due d)
 
--- where none is due any more, all were made
+-- if none is due any more, all were made
 pub all_made : (V : ℕ) (sh : Shape) (all acts : List Made) → AreDue V sh all acts [] → acts ≡ all
 all_made V sh all acts d = sym (append-nil acts) ∙ d.whole
 

@@ -118,7 +118,7 @@ stored_once V sh call w k s acts more a b one marks two =
     none_made more (mark_ends (hands ++ marks.before) (acts_of more) ends.front ends.last marks.item same ends.none ends.one)
 
 -- ---- a call that changes nothing
--- where no version changed and nothing was marked, only the sweep was made
+-- if no version changed and nothing was marked, only the sweep was made
 only_swept : (V : ℕ) (sh : Shape) (call : Call) (s : State V) (acts : List Made) (told : Answer) (c : Answered V sh call s acts told) → AreOfDeeds (acts_of c.others) → quiet_of (after_all sh s acts) ≡ quiet_of s → acts ≡ hand_acts c.sweep
 only_swept V sh call s acts told c deeds same =
     let m = after_all sh s (hand_acts c.sweep) in

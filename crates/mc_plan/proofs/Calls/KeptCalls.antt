@@ -1,4 +1,4 @@
--- A put that takes no other key's item: it is a put that sweeps for none, and where one would have to, it is refused.
+-- A put that takes no other key's item: it is a put that sweeps for none, and if one would have to, it is refused.
 use Rattle.std.proofs.Common.{ℕ, List, [], Some, None, Result, Ok, Err, refl}
 use Rattle.mc_words.specs.Checks.{shape_of}
 use Rattle.mc_words.specs.declared.shape.Shape.{Shape}

@@ -129,7 +129,7 @@ next_below [] n a e = absurd (cc)
 next_below (x ∷ xs) zero a e = omega arith
 next_below (x ∷ xs) (suc n) a e = let l = next_below xs n a e in omega arith
 
--- where there is none, all were made
+-- if there is none, all were made
 pub none_left : (acts : List Act) (n : ℕ) → slice_get acts n ≡ None → take n acts ≡ acts
 none_left [] zero e = refl
 none_left [] (suc n) e = refl
@@ -189,7 +189,7 @@ open_closes V sh s (x ∷ xs) zero k d may e quiet =
     omega (arith, grows, opens, counts, ends)
 open_closes V sh s (x ∷ xs) (suc n) k d may e quiet = open_closes V sh (after_act sh s x 0) xs n k d may.1 e quiet
 
--- where the end is within the limit, each act has the version steps that it needs
+-- if the end is within the limit, each act has the version steps that it needs
 pub changes_left : (V : ℕ) (sh : Shape) (s : State V) (acts : List Act) (n : ℕ) (a : Act) (limit : ℕ) → AreAllowed sh s (as_made acts) → slice_get acts n ≡ Some a → (state_after_acts V sh s acts).phase ≡ Quiet → (state_after_acts V sh s acts).version_steps ≤ limit
     → HasVersionSteps limit (state_after_acts V sh s (take n acts)).version_steps a
 changes_left V sh s acts n (Open k d) limit may e quiet l = let c = open_closes V sh s acts n k d may e quiet in omega arith

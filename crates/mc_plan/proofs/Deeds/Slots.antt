@@ -13,7 +13,7 @@ abbrev pub valued : ℕ → Shape → List ℕ → ℕ → ℕ → List ℕ → 
 valued V sh w i j [] = w
 valued V sh w i j (x ∷ xs) = valued V sh (with_item V sh w i j x) i (j + 1) xs
 
--- a value, and behind it a stamp
+-- a value, and after it a stamp
 abbrev pub stamped : ℕ → Shape → List ℕ → ℕ → List ℕ → ℕ → List ℕ
 stamped V sh w i v at = with_item V sh (valued V sh w i 1 v) i (length v + 1) at
 

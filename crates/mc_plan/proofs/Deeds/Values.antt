@@ -24,7 +24,7 @@ values_done acts all i j n v l left = sym (append-nil acts) ∙ ap (λ (rest : L
 pub are_words : (v : List ℕ) → ((i : ℕ) → get_or v i 0 < 2 ^ 64) → All IsWord v
 are_words v each k d l = rw get_or_default_zero (each k)
 
--- a value and its stamp are all that an item keeps behind its key
+-- a value and its stamp are all that an item keeps after its key
 pub payload_of : (V : ℕ) (v : List ℕ) (at : ℕ) → length v ≡ V → length (v ++ at ∷ []) ≡ payload V
 payload_of V v at e =
     let all = length-append v (at ∷ []) in

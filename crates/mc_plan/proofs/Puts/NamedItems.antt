@@ -1,4 +1,4 @@
--- Which items are free and which are named where one slot was written.
+-- Which items are free and which are named when one slot was written.
 use Rattle.std.proofs.Common.{ℕ, ◌≡◌, ◌≢◌, ◌<◌, ◌∙◌, List, ap, sym, subst, inl, inr}
 use Rattle.std.proofs.lemmas.Bool.{cases_eq}
 use Rattle.mc_words.specs.declared.shape.Shape.{Shape}
@@ -47,7 +47,7 @@ slot_given sh w x p i s was set freed = record {
       ];
 }
 
--- where no slot was written, the same items are free
+-- if no slot was written, the same items are free
 pub kept_free : (sh : Shape) (w x : List ℕ) (j : ℕ) → KeepsSlots sh w x → IsFree sh w j → IsFree sh x j
 kept_free sh w x j kept free q n = free q (moved_names sh x w q j (sym (kept q n.in_table)) n)
 
@@ -55,6 +55,6 @@ kept_free sh w x j kept free q n = free q (moved_names sh x w q j (sym (kept q n
 pub kept_named : (sh : Shape) (w x : List ℕ) (q j : ℕ) → KeepsSlots sh w x → NamesItem sh w q j → NamesItem sh x q j
 kept_named sh w x q j kept n = moved_names sh w x q j (kept q n.in_table) n
 
--- where each item is named, none is free
+-- if each item is named, none is free
 pub full_has_none : (sh : Shape) (w : List ℕ) → ((i : ℕ) → i < sh.items → (q : ℕ) × NamesItem sh w q i) → HasFree sh w → ⊥
 full_has_none sh w all free = let named = all free.0 free.1 in free.2 named.0 named.1

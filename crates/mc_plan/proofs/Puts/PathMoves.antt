@@ -192,7 +192,7 @@ cleared V sh s b (p ∷ ps) hole shape quiet leads distinct keys =
     let parts = distinct_parts p ps hole distinct in
     cleared_step V sh s p ps hole shape quiet leads.0 leads.2 parts.0 keys.0 (cleared V sh s (beyond sh s.words p) ps hole shape quiet leads.2 parts.1 keys.1)
 
--- where the words agree with one map before and after, an absent key stays absent
+-- if the words agree with one map before and after, an absent key stays absent
 absent_on : (V : ℕ) (sh : Shape) (w x : List ℕ) (k : ℕ) (o : Option (List ℕ)) → AgreesAt V sh w k o → AgreesAt V sh x k o → IsAbsent V sh w k → IsAbsent V sh x k
 absent_on V sh w x k None before later absent = later
 absent_on V sh w x k (Some v) before later absent = absurd (absent before.0 before.1 before.2.stands)

@@ -25,12 +25,12 @@ first_taken : (sh : Shape) (w : List ℕ) (ps qs : List Place) → AreTaken sh w
 first_taken sh w [] qs taken = tt
 first_taken sh w (p ∷ ps) qs taken = (taken.0, first_taken sh w ps qs taken.1)
 
--- those that a cut keeps are occupied where all were
+-- those that a cut keeps are occupied if all were
 pub cut_taken : (sh : Shape) (w : List ℕ) (victim : Place) (ps : List Place) (hole : Place) (kept : List Place) (end : Place) → IsCut victim ps hole kept end → AreTaken sh w ps → AreTaken sh w kept
 cut_taken sh w victim ps hole kept end (inl cut) taken = first_taken sh w kept (victim ∷ cut.0) (subst (AreTaken sh w) cut.1 taken)
 cut_taken sh w victim ps hole kept end (inr cut) taken = subst (AreTaken sh w) (sym cut.1) taken
 
--- each of the places is occupied where they all are
+-- each of the places is occupied if they all are
 pub occupied_at : (sh : Shape) (w : List ℕ) (ps : List Place) (n : ℕ) (d : Place) → AreTaken sh w ps → n < length ps → IsOccupied sh w (get_or ps n d)
 occupied_at sh w [] n d taken l = absurd (omega arith)
 occupied_at sh w (p ∷ ps) zero d taken l = taken.0

@@ -26,7 +26,7 @@ use Rattle.mc_plan.proofs.Deeds.Removals.{evicts}
 use Rattle.mc_plan.proofs.Puts.MadeRoom.{makes_then, puts_room}
 use Rattle.mc_plan.proofs.Puts.PathSteps.{chain_taken}
 
--- what is read of the words where one slot was cleared and no item was written
+-- what is read of the words when one slot was cleared and no item was written
 module _ (V : ℕ) (sh : Shape) (w x : List ℕ) (q : ℕ) (set : SetsSlot sh w x q 0) (items : KeepsItems V sh w x) where
   -- a key that is not there did not come
   absent_still : (k : ℕ) → IsAbsent V sh w k → IsAbsent V sh x k

@@ -96,7 +96,7 @@ call_of (asked_as.PutIf k since v) = whole.PutIfCall k since v
 call_of (asked_as.Remove k) = whole.RemoveCall k
 call_of (asked_as.PutKept k v) = whole.KeptCall k v
 
--- a call began, or is answered where it needs no act
+-- a call began, or is answered if it needs no act
 abbrev pub BeginsAs : (V : ℕ) → Shape → Player V → ℕ → Call → Trace V → Option Answer → Type 0
 BeginsAs V sh new most call w (Some a) = Answered V sh call (state_of V sh w.acts) [] a × IsIdle V new most w
 BeginsAs V sh new most call w None = IsMidCall V new most (pending call (state_of V sh w.acts)) w
@@ -204,7 +204,7 @@ pub record ActsSoFar (V : ℕ) (player : Player V) (most n : ℕ) (m : Replay V)
   pub few : IsSome m.running → n + acts_left player.clerk ≤ most_steps
   pub past : n ≤ most_steps
 
--- one act of the call, and the line of its answer where it was the last
+-- one act of the call, and the line of its answer if it was the last
 abbrev pub ActsOnce : (V : ℕ) → Player V → Player V → List ℕ → List ℕ → Type 0
 ActsOnce V old new before after =
     (most n : ℕ) (m : Replay V) (p : Pending V) → HasRoom most → ActsSoFar V old most n m → m.running ≡ Some p →

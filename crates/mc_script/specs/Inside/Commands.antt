@@ -12,7 +12,7 @@ abbrev pub command_from : {v : ℕ} → (List ℕ → Command v) → Result (Lis
 command_from command (Ok numbers) = Ok (command numbers)
 command_from command (Err fault) = Err fault
 
--- the form that fits: the second, where the first has other fixed words or another number of words
+-- the form that fits: the second, if the first has other fixed words or another number of words
 abbrev pub otherwise : {v : ℕ} → Result (Command v) LineFault → Result (Command v) LineFault → Result (Command v) LineFault
 otherwise (Err NotACommand) second = second
 otherwise first second = first

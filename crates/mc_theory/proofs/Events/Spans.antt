@@ -109,7 +109,7 @@ record IsOpen (es : List Event) (r : ℕ) (run : OpenLookup) : Type 0 where
   alone : (n k : ℕ) → begin < n → slice_get es n ≡ Some (Begin r k) → ⊥
   first : BeganAt es r begin run.first run.sofar
 
--- more events leave it so, where there is a reading
+-- more events leave it so, if there is a reading
 began_longer : (es more : List Event) (r begin first : ℕ) (x : Reading) (xs : List Reading) → BeganAt es r begin first (x ∷ xs) → BeganAt (es ++ more) r begin first (x ∷ xs)
 began_longer es more r begin first x xs at =
     let within = slice_get_within es first (Read r) at.1 in (
@@ -135,7 +135,7 @@ began_more es r key begin first [] x before now at = (
 )
 began_more es r key begin first (y ∷ ys) x before now at = began_longer es (Read r ∷ []) r begin first y (ys ++ x ∷ []) at
 
--- where there is a reading, there is such an event
+-- if there is a reading, there is such an event
 began_some : (es : List Event) (r begin first : ℕ) (rs : List Reading) (x : Reading) → BeganAt es r begin first (rs ++ x ∷ []) →
     (begin < first) × (slice_get es first ≡ Some (Read r)) × (start_of (rs ++ x ∷ []) ≡ length (acts_in (take first es))) × ((n : ℕ) → begin < n → n < first → slice_get es n ≡ Some (Read r) → ⊥)
 began_some es r begin first [] x at = at

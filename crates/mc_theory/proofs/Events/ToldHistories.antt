@@ -32,7 +32,7 @@ IsUnderWay V (Removing q e) d k xs = (d ≡ taking e) × (k ≡ q)
 IsUnderWay V (Removed q e) d k xs = (d ≡ taking e) × (k ≡ q)
 IsUnderWay V _ d k xs = Unit {0}
 
--- it is so where the deed begins
+-- it is so when the deed begins
 under_way_opened : (V k : ℕ) (d : Deed) → IsUnderWay V (first_phase k d) d k []
 under_way_opened V k deed.Fill = (refl, refl, refl)
 under_way_opened V k deed.Renew = (refl, refl, refl)

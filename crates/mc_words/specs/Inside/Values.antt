@@ -1,4 +1,4 @@
--- An item's value, without the stamp behind it.
+-- An item's value, without the stamp after it.
 use Rattle.std.specs.Prelude.{ℕ, ◌≡◌, List, length}
 use Rattle.mc_words.specs.declared.shape.Shape.{Shape}
 use Rattle.mc_words.specs.Standing.{ItemBegins}

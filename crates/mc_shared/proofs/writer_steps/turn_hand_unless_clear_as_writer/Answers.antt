@@ -33,7 +33,7 @@ load-found-requires g c =
 found_is : (found bit item : ℕ) (a : Act) → a ≡ Hand item → bit ≡ recency_bit item → bit_at found (item_bit a) ≡ bit_at found (recency_bit item)
 found_is found bit item a same here = ap (λ (b : Act). bit_at found (item_bit b)) same
 
--- where the bit is set, the load left the seat as it was
+-- if the bit is set, the load left the seat as it was
 still : (me me' : SeatView) (a : Act) (found bit item : ℕ) → a ≡ Hand item → bit ≡ recency_bit item → bit_and (found / 2 ^ bit) 1 ≢ 0 → (bit_at found (item_bit a) ≡ 1 → me' ≡ me) → me' ≡ me
 still me me' a found bit item same here ne then =
     let is = bit_is found bit item item refl here in

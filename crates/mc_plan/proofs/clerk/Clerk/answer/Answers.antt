@@ -14,7 +14,7 @@ none_from : (o : Option Act) → is_some o ≡ false → o ≡ None
 none_from None e = refl
 none_from (Some a) e = absurd (false≢true (sym e))
 
--- where no call runs, or the hand still has an item to read, no answer is due
+-- if no call runs, or the hand still has an item to read, no answer is due
 sweeps_on : (o : Option ℕ) → IsSome o → hand_of o ≡ None → ⊥
 sweeps_on None some e = absurd (false≢true some)
 sweeps_on (Some i) some e = cc
