@@ -68,7 +68,7 @@ struct Server {
         return address;
     }
 
-    // So many lookups.
+    // Makes `count` lookups.
     void ask(int count, Queue &queue) {
         for (int i = 0; i < count; i++) {
             const std::string name = "host" + std::to_string(i * 7 % names);

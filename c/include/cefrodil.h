@@ -278,9 +278,9 @@ CEFRODIL_CHECKED CEFRODIL_NO_NULL cefrodil_status cefrodil_swap_if(cefrodil_hand
 CEFRODIL_CHECKED CEFRODIL_NO_NULL cefrodil_status cefrodil_take(cefrodil_handle *handle, uint64_t key, uint64_t *former,
                                                                 size_t former_words, cefrodil_reply *reply);
 
-/* Ends a pass's turns: its handle becomes a reader's. The last pass of a desk gets the writer back, so a program can go on with one
- * writer. For that every pass of the desk leaves, in any order and in any thread, or is closed. If the last one is closed, the writer is
- * closed with it.
+/* Ends a pass's turns: its handle becomes a reader's. The last pass of a desk gets the writer back, so a program can continue with
+ * one writer. For that, every pass of the desk leaves or is closed, in any order and in any thread. If the last one is closed, the writer
+ * is closed with it.
  * OK: this was the last pass, and `writer` is open. NOT_LAST: other passes are at the desk, and `writer` is empty.
  * Otherwise nothing was done: the first that applies of IN_USE (`writer` was open before), CLOSED, KIND (also by a pass of shards),
  * NO_MEMORY. */
@@ -404,8 +404,8 @@ CEFRODIL_CHECKED CEFRODIL_INLINE cefrodil_handle cefrodil_move(cefrodil_handle *
 }
 
 /* The exports take no null pointer. The functions from here on take one where that is allowed, and three of them call the export for
- * the width of a value where that is a constant. The macros behind them give them the names of the exports. A program that defines
- * CEFRODIL_NO_MACROS goes without these: then no pointer may be null, and cefrodil_get_of_width and so on are called by their own names. */
+ * the width of a value if that is a constant. The macros behind them give them the names of the exports. A program that defines
+ * CEFRODIL_NO_MACROS has none of these: then no pointer may be null, and cefrodil_get_of_width and so on are called by their own names. */
 CEFRODIL_CHECKED CEFRODIL_INLINED(nonnull(1, 3)) cefrodil_status cefrodil_get_of_width(cefrodil_handle *reader, uint64_t key, uint64_t *value,
                                                                                        size_t words, cefrodil_reply *reply) {
     cefrodil_reply unread;

@@ -5,7 +5,7 @@
 static cefrodil_handle writer, readers[2];
 static cefrodil_reply reply;
 
-/* So many buckets and items, one stripe, and chains of at most two. */
+/* `buckets` buckets, `items` items, one stripe, and chains of at most two. */
 static cefrodil_shape shape_of(uint32_t buckets, uint32_t items, uint64_t limit) {
     cefrodil_shape shape = {limit, buckets, items, 1, 2, 2, CEFRODIL_MIX_NONE};
     return shape;

@@ -50,7 +50,7 @@ static void lost_put() {
     MUST(filler.writer().remove(2).status == Status::ok && filler.fill(2, ticket, {20}).status == Status::ok);
 }
 
-// So many changes are known. A fill that is older than all of them is refused, whatever its key is.
+// `known` changes are known. A fill that is older than all of them is refused, whatever its key is.
 static void known_changes(size_t changes, size_t known) {
     std::vector<Reader<1>> readers;
     Filler<1> filler = filler_of(changes, readers);

@@ -82,7 +82,7 @@ struct Opening<T> {
 }
 
 impl<T> Opening<T> {
-    // For that many handles; for none if the archive allows no such number. It refuses none for the same reason.
+    // For `count` handles; for none if the archive allows no such number. It refuses none for the same reason.
     fn of(count: usize, counters: impl FnOnce(usize) -> Result<Vec<Counter>, NoMemory>) -> Result<Opening<T>, OpenError> {
         same_version()?;
         let count = if count <= MOST { count } else { 0 };

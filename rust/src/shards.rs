@@ -15,7 +15,7 @@ use crate::width::Value;
 pub struct Shards<const WORDS: usize>(());
 
 impl<const WORDS: usize> Shards<WORDS> {
-    /// Opens that many empty shards, a power of two from 1 to 256, each of this shape, with this many passes, 1 to 1024.
+    /// Opens `shards` empty shards, a power of two from 1 to 256, each of this shape, with this many passes, 1 to 1024.
     /// [`Shape::for_shards`] chooses the shape. This takes all memory; of later
     /// calls, only [`Pass::try_entries`] takes any.
     ///

@@ -56,7 +56,7 @@ use Rattle.mc_cache.specs.Taking.{Holds, SwapMeans, giving_way, put_of, swap_ans
 use Rattle.mc_cache.specs.Plain.{Begins, HasAnswered, HasMet, PutIfAbsentMeans, PutIfMeans, PutMeans, RemovalMeans, TellsNow, history, moment_of, seen}
 
 -- ---- the states before a call and after it
--- a put's key has the value after it, and the moment of the put after it
+-- after a put its key has the value, with the moment of the put after it
 put_holds : {V : ℕ} (h h' : List (Change V)) (k at : ℕ) (v : List ℕ) → h' ≡ h ++ change.Put k v ∷ [] → at ≡ length h' → map_value h' k ≡ Some (v ++ at ∷ [])
 put_holds {V} h h' k at v grown is =
     ap (λ (x : List (Change V)). map_value x k) grown ∙ held-put h k v ∙ ap (λ (n : ℕ). Some (v ++ n ∷ [])) (omega (arith, is, ap length grown, length_push h (change.Put k v)))

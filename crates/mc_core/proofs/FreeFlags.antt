@@ -28,7 +28,7 @@ down_at [] l = absurd (omega arith)
 down_at (false ∷ xs) l = (0, omega arith, refl)
 down_at (true ∷ xs) l = let rest = down_at xs l in (suc rest.0, omega (arith, rest.1), rest.2)
 
--- and one if that is so has some
+-- and a list with such a flag has some
 some_down : (xs : List Bool) (i : ℕ) → i < length xs → get_or xs i false ≡ false → 0 < downs xs
 some_down [] i l e = absurd (omega arith)
 some_down (false ∷ xs) i l e = omega arith

@@ -85,7 +85,7 @@ stand_after {V} old new seen a s may has made bits readers events =
       within = subst (λ (y : Shape). new.writer.version_steps + close_owed (phase_at new.writer.written new.writer.progress) ≤ y.limit) (sym same) (omega (arith, close, changes, ap close_owed phase));
     }
 
--- ---- an act for which memory was wanting
+-- ---- an act for which there was no memory
 pub err_of : {A E : Type 0} (r : Result A E) (P : Type 0) → is_err r ≡ true → OnErr r P → P
 err_of (Err x) P e h = h
 err_of (Ok x) P e h = absurd (false≢true e)

@@ -129,7 +129,7 @@ refused_shown {V} old new e (Err why) reached refused = λ seen shows. refused.r
 refused_shown old new e (Ok out) reached refused = refused
 
 -- ---- why an event is refused
--- whether memory was wanting
+-- whether there was no memory
 abbrev pub is_wanting : Unlawful → Bool
 is_wanting unlawful.NoMemory = true
 is_wanting why = false

@@ -98,7 +98,7 @@ impl Held {
         with_side!(self, side => side.get_or_desk_apart(key, value, reply))
     }
 
-    /// A put, where its caller does not know the width: `Held::write`.
+    /// A put by a caller that does not know the width: `Held::write`.
     #[cold]
     #[inline(never)]
     pub fn put(&mut self, key: u64, value: &[u64], reply: &mut RawReply) -> u32

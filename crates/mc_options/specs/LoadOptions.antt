@@ -98,7 +98,7 @@ SaysNoLoad words =
 abbrev pub HasLoadFault : List Text → ErrorKind → Type 0
 HasLoadFault words k = (commands : MixNames) × (mixes : MixNames) × AreCommands commands × AreMixes mixes × IsAmong k (load_faults commands mixes words)
 
--- why no options are read: memory was short, of which no clause can say more, or the words have a fault of this kind
+-- why no options are read: memory was short, and no clause can say more of that, or the words have a fault of this kind
 abbrev pub IsLoadUnread : List Text → ErrorKind → Type 0
 IsLoadUnread words k = (k ≡ kind.OutOfMemory) ⊎ (HasLoadFault words k ⊎ ((k ≡ kind.ValueValidation) × SaysNoLoad words))
 

@@ -142,7 +142,7 @@ abbrev pub IsFaulty : Text → List Text → Type 0
 IsFaulty name words =
     ((k : ErrorKind) × (k ≢ kind.DisplayHelp) × (k ≢ kind.DisplayVersion) × HasFault name words k) ⊎ SaysNothing name words
 
--- why no options are read: memory was short, of which no clause can say more, or the words have a fault of this kind
+-- why no options are read: memory was short, and no clause can say more of that, or the words have a fault of this kind
 abbrev pub IsUnread : Text → List Text → ErrorKind → Type 0
 IsUnread name words k = (k ≡ kind.OutOfMemory) ⊎ (HasFault name words k ⊎ ((k ≡ kind.ValueValidation) × SaysNothing name words))
 

@@ -21,7 +21,7 @@ IsUntouched s = Keeps s.old s.new
 abbrev pub Tells : Stream → List ℕ → Type 0
 Tells errors text = (n : ℕ) × Appends errors.old errors.new (take n (text ++ 10 ∷ []))
 
--- the help or the version is printed; of its text no clause speaks
+-- the help or the version is printed; no clause specifies its text
 abbrev pub Prints : Stream → ℕ → Type 0
 Prints errors status = IsUntouched errors × ((status ≡ 0) ⊎ (status ≡ failed))
 

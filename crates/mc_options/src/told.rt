@@ -62,7 +62,7 @@ impl Display for Short {
     }
 }
 
-/// Tells a line, without taking memory. What a failed write leaves out is passed over, and so is a text of more than 95 bytes.
+/// Prints a line, without taking memory. What a failed write leaves out is ignored, and so is a text of more than 95 bytes.
 pub fn tell<E: Write, D: Display + Drop>(errors: &mut E, what: D)
     ensures { IfSome (D.output what) (Tells (stream (E.contents errors.old) (E.contents errors.new))) }
 {

@@ -64,7 +64,7 @@ told_as P text t (Err NothingToStep) is F err ok then = absurd (cc (err))
 told_as P text t (Err WriteFailed) is F err ok then = absurd (cc (err))
 told_as P text t (Err BadShape) is F err ok then = absurd (cc (err))
 
--- memory was wanting
+-- memory ran out
 pub wanted : {V : ℕ} (P : List ℕ → Option Fault → Replay V → Type 0) (text : List ℕ) (t : Replay V) (fault : Fault) → fault ≡ NoMemory → DoneAs P text t (Err fault)
 wanted {V} P text t fault e = subst (λ (f : Fault). DoneAs P text t (Err f)) (sym e) tt
 
@@ -101,7 +101,7 @@ unanswered V player most p w sh runs same =
 makes_none_to : (V : ℕ) (sh : Shape) (w : Trace V) → WriterMakes V sh w [] w
 makes_none_to V sh w = (refl, sym (append-nil w.acts))
 
--- a call that is answered where it begins
+-- a call that is answered at its beginning
 pub begin_answered : (V : ℕ) (old new : Player V) (most : ℕ) (call : Call) (s : Replay V) (a : Answer) (text : List ℕ) → s.running ≡ None → Begins V old new most call s.world (Some a) → text ≡ answer_line a
     → BeginDoes (shape_of_player old) s call text None (idle_in s.world) × FitsStill V old new (most + most_steps) (idle_in s.world)
 unfolding idle_in

@@ -129,12 +129,12 @@ pub plays_unread : (V : ℕ) (before : ℕ) (s : Scene V) (line : List ℕ) (a b
 plays_unread V before s line None b c gives = tt
 plays_unread V before s line (Some x) b c gives = ((line, gives), Keeps-refl c)
 
--- memory was wanting for the line
+-- memory ran out at the line
 pub plays_wanting : (V : ℕ) (before : ℕ) (s : Scene V) (line : List ℕ) (a b c : Option (List ℕ)) → GivesLine a b line (Ok true) → PlaysKnown V before s s a b c c (Err NoMemory)
 plays_wanting V before s line None b c gives = tt
 plays_wanting V before s line (Some x) b c gives = ((line, gives), Keeps-refl c)
 
--- a fault for which memory was not wanting is not that one
+-- a fault other than out of memory is not that one
 pub not_wanting : (fault : Fault) → is_wanting (Err fault) ≡ false → fault ≡ NoMemory → ⊥
 not_wanting fault other e = false≢true (sym other ∙ ap (λ (f : Fault). is_wanting (Err f)) e)
 

@@ -85,7 +85,8 @@ Replays V sh readers lines old new (Err stop) =
 abbrev pub ReadsLine : List ℕ → Option (List ℕ) → Result Bool ReadFault → Type 0
 ReadsLine bytes rest r = (line : List ℕ) × GivesLine (Some bytes) rest line r
 
--- what is read for the line at which a script stops: a beginning of it, as much as shows that it is too long, or the line and nothing after it
+-- what is read for the line at which a script stops: a beginning of it, as much as shows that it is too long, or the line and nothing
+-- after it
 abbrev pub ReadsStopped : List ℕ → Option (List ℕ) → Fault → Type 0
 ReadsStopped bytes rest ReadFailed = ReadsLine bytes rest (Err read.ReadFailed)
 ReadsStopped bytes rest TooLong = ReadsLine bytes rest (Err read.TooLong) ⊎ ReadsLine bytes rest (Ok true)

@@ -94,7 +94,7 @@ fn act<const V: usize, O: Watch<V>>(
     }
 }
 
-/// So many acts of the writer's call, up to its last one.
+/// Makes `many` acts of the writer's call, up to its last one.
 fn acts<const V: usize, O: Watch<V>>(
     player: &mut Player<V>,
     text: &mut String,

@@ -49,7 +49,7 @@ fn do_line<const V: usize, O: Watch<V>>(
     }
 }
 
-/// Whether memory was wanting.
+/// Whether memory ran out.
 fn is_wanting(done: Result<(), Fault>) -> bool
     ensures { result ≡ is_wanting done }
 {
@@ -126,7 +126,7 @@ fn play_lines<const V: usize, R: BufRead, W: Write, O: Watch<V>>(
     unreachable!()
 }
 
-/// Replays the script that is left to read, before one who watches. Condition: a value has from 1 to 8 words.
+/// Replays the script that is left to read, with a watcher. Condition: a value has from 1 to 8 words.
 pub fn play_watched<const V: usize, R: BufRead, W: Write, O: Watch<V>>(
     alloc: Global,
     checked: &Checked,

@@ -74,8 +74,8 @@ impl<const V: usize> Player<V> {
         self.clerk.next().is_some()
     }
 
-    /// The writer makes the next act of its call, and answers the call after its last one. Only memory for the history
-    /// may be wanting.
+    /// The writer makes the next act of its call, and answers the call after its last one. It fails only if there is no memory for the
+    /// history.
     pub(crate) fn act<O: Watch<V>>(&mut self, watch: &mut O) -> Result<Option<Answer>, Fault>
         requires runs { IsSome (next_act self.old.clerk) }
         requires call { (most : ℕ) × (p : Pending V) × (w : traces.Trace V) × IsInCall V self.old most p w × (most + acts_left self.old.clerk < 2 ^ 64 - 1) }

@@ -57,7 +57,7 @@ fn tell_end<const V: usize>(text: &mut String, given: Stepped<V>) -> Result<(), 
     }
 }
 
-/// So many accesses of a reader, up to the last of its lookup.
+/// Makes `many` accesses of a reader, up to the last of its lookup.
 fn accesses<const V: usize, O: Watch<V>>(
     player: &mut Player<V>,
     text: &mut String,

@@ -1,4 +1,4 @@
-//! Those who watch a replay.
+//! Watchers of a replay.
 use mc_core::{Event, Stepped, World};
 
 /// Sees each world and each event of a replay. It changes nothing of the replay, and no clause says what it does with them.

@@ -33,7 +33,8 @@ pub record IsUnfinished (old new : Option (List ℕ)) (line : List ℕ) : Type 0
   pub plain : All (λ b. b ≢ 10) line
   pub short : is_over line ≡ false
 
--- Reading a line gives the first line and takes its bytes, or finds the end. Of a line that is too long it takes the bytes that show it, and if it fails a beginning that isn't too long; `line` then holds these bytes.
+-- Reading a line gives the first line and takes its bytes, or finds the end. Of a line that is too long it takes the bytes that show it,
+-- and if it fails a beginning that isn't too long; `line` then holds these bytes.
 abbrev pub GivesLine : Option (List ℕ) → Option (List ℕ) → List ℕ → Result Bool ReadFault → Type 0
 GivesLine None new line result = ⊤
 GivesLine (Some bytes) new line (Ok true) = (0 < length bytes) × (line ≡ first_line bytes) × (length line ≤ 4096) × (new ≡ Some (drop_through 10 bytes))

@@ -27,11 +27,11 @@ pub enum Command<const V: usize> {
     BeginPutIf(u64, u64, [u64; V]),
     /// A `remove` by single acts.
     BeginRemove(u64),
-    /// So many acts of the writer, of which there is at least one.
+    /// This many acts of the writer, at least one.
     Write(u64),
     /// A reader begins to look up a key.
     BeginGet(u64, u64),
-    /// So many accesses of a reader, of which there is at least one.
+    /// This many accesses of a reader, at least one.
     Read(u64, u64),
     /// The entries are put into another world, with these numbers of buckets and items.
     Reopen(u64, u64),

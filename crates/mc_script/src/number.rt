@@ -42,7 +42,7 @@ pub(crate) fn number(word: &[u8]) -> Option<u64>
     value(word)
 }
 
-/// Exactly `N` numbers: their count is looked at before their form.
+/// Exactly `N` numbers: a wrong count is reported before a wrong form.
 pub(crate) fn numbers<const N: usize>(words: &[u8]) -> Result<[u64; N], LineFault>
     ensures { result ≡ numbers_in N (words_of words.now) }
 {

@@ -4,7 +4,7 @@ ghost use Rattle.std.specs.Io.KnownBytes.{Appends};
 
 use std::io::{ErrorKind, Write};
 
-/// Writes the bytes, and answers how many were taken, and whether these are all.
+/// Writes the bytes. Returns how many were taken, and whether these are all.
 ///
 /// A write that takes no byte has failed. An interrupted one is tried again.
 pub fn send<W: Write>(to: &mut W, bytes: &[u8]) -> (usize, bool)

@@ -187,7 +187,7 @@ pub(crate) fn lenders_of<const V: usize>(
     Ok(lenders)
 }
 
-/// Opens that many shards, each an empty cache of this shape, and that many passes. Returns the first error
+/// Opens `shards` shards, each an empty cache of this shape, and `passes` passes. Returns the first error
 /// that applies: `Shards` if their number is no power of two from 1 to 256, then those of `mc_cache::open`. After an error nothing leaks.
 /// Condition: a value has from 1 to 8 words.
 pub fn open_shards<const V: usize>(

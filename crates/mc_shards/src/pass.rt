@@ -101,7 +101,7 @@ impl<const V: usize> Pass<V> {
         self.try_call(shards, key, Putting(key, &value))
     }
 
-    /// Like `try_put`, with up to that many tries, one after the other without a pause. `Held` if none of them won.
+    /// Like `try_put`, with at most `tries` tries, one after the other without a pause. `Held` if none of them won.
     pub fn put_within(
         &mut self,
         shards: &Shards<V>,

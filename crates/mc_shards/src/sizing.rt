@@ -10,7 +10,7 @@ use mc_words::can_shard;
 
 const REFUSED: OpenShardsError = OpenShardsError::Open(OpenError::Shape(ShapeError::Items));
 
-// The items of each of that many shards, if there are some in all.
+// The items of each of `shards` shards. Condition: there are some items.
 fn share_of(items: u32, shards: u32) -> u64
     requires some { 1 ≤ items }
     requires shards { HasShards shards }
@@ -20,7 +20,7 @@ fn share_of(items: u32, shards: u32) -> u64
     mean + 5 * (mean.isqrt() + 1)
 }
 
-/// A shape for each of that many shards, which have that many items together: `Shape::for_items` of a shard's mean share and five
+/// A shape for each of `shards` shards, which have `items` items together: `Shape::for_items` of a shard's mean share and five
 /// standard deviations more, since the hash gives some shards more keys than others. `Err` if the number of shards is not allowed, or if
 /// there are no items or too many.
 pub fn shard_shape(items: u32, shards: u32) -> Result<Shape, OpenShardsError>

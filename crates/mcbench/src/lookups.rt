@@ -21,7 +21,7 @@ pub(crate) struct Task {
     pub time: Duration,
     /// No other thread works.
     pub alone: bool,
-    /// So many keys are looked up by one call, and at most 64.
+    /// One call looks up this many keys, at most 64.
     pub many: u32,
 }
 

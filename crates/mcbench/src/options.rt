@@ -150,7 +150,7 @@ fn command<'a>(alloc: Global) -> Result<Command<'a>, AllocError> {
     Ok(command)
 }
 
-/// The workload of the first name that is the asked one.
+/// The workload with this name.
 fn workload_in(matches: &ArgMatches<'_>) -> Workload {
     let asked = matches.get_str("workload");
     for (name, workload) in WORKLOADS.iter().zip(MEANT.iter()) {

@@ -3,7 +3,7 @@ use std::io;
 use std::time::{Clock, CpuClock, Duration};
 
 /// Runs from its start on. It measures the thread's own processor time if no other thread works, since other programs
-/// then don't count, and else the time on the clock.
+/// then don't count, and otherwise the time on the clock.
 #[derive(Clone, Copy)]
 pub(crate) struct Stopwatch {
     alone: bool,

@@ -37,8 +37,8 @@ fn a_second(many: u64, nanos: u64) -> u64 {
 }
 
 impl Tally {
-    /// Counts a lookup. Each word of a value is the same where it was read whole. It adds numbers and doesn't branch on the reply,
-    /// of which a processor would guess half wrong where half of the keys are there.
+    /// Counts a lookup. Each word of a value is the same if it was read whole. It adds numbers and doesn't branch on the reply. If half of
+    /// the keys are there, a processor would guess half of the branches wrong.
     #[inline(always)]
     pub(crate) fn count_reply(&mut self, reply: Reply<4>) {
         let (hit, busy, torn) = match reply {
@@ -83,7 +83,7 @@ impl Tally {
         }
     }
 
-    /// What was done took so long.
+    /// The tally, with the time that it took.
     pub(crate) fn over(self, time: Duration) -> Tally {
         let nanos = nanos_of(time);
         Tally {

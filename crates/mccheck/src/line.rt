@@ -71,7 +71,7 @@ fn said_by<const V: usize>(name: &str, words: &mut SplitWhitespace<'_>) -> Optio
     }
 }
 
-/// What the line says, or nothing if it is none of a log.
+/// What the line says, or nothing if it is no line of a log.
 pub fn parse<const V: usize>(line: &str) -> Option<Said<V>> {
     let mut words = line.split_whitespace();
     let Some(name) = words.next() else {

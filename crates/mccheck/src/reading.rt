@@ -37,7 +37,7 @@ pub fn width_of(texts: &[String]) -> Option<u64> {
     }
 }
 
-/// Takes up one line. `false` if it is none of a log.
+/// Adds one line. `false` if it is no line of a log.
 fn take_line<const V: usize>(log: &mut Log<V>, line: &str) -> Result<bool, Refused>
     requires { IsWidth V }
 {
@@ -56,7 +56,7 @@ fn take_line<const V: usize>(log: &mut Log<V>, line: &str) -> Result<bool, Refus
     }
 }
 
-/// Takes up the lines of one file.
+/// Adds the lines of one file.
 fn take_file<const V: usize>(log: &mut Log<V>, file: usize, text: &str) -> Result<(), Refused>
     requires { IsWidth V }
 {

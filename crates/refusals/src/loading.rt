@@ -1,4 +1,4 @@
-//! A cache that can't be opened with entries was never begun, and the entries are the caller's still. Entries that can't be listed
+//! If a cache can't be opened with entries, nothing is kept, and the caller still has the entries. Entries that can't be listed
 //! leave the words as they are.
 ghost use Rattle.std.specs.Prelude.{◌≡◌, IfOk, IfSome};
 ghost use Rattle.mc_writer.specs.WriterCalls.{IsRested};

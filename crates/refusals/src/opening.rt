@@ -47,7 +47,7 @@ fn make_cache(alloc: Global) -> Option<bool> {
     }
 }
 
-// Whether what was made is as it is to be, or `None` if memory was refused.
+// Whether what was made is as it should be, or `None` if memory was refused.
 fn make(alloc: Global, checked: &Checked, making: Making) -> Option<bool> {
     match making {
         Making::Words => match mc_shared::open::<2>(alloc, checked, 3) {

@@ -3,7 +3,7 @@
 /// What a call that takes memory did.
 #[derive(Clone, Copy)]
 pub(crate) enum Seen {
-    /// It was given its memory, and did what it is to do.
+    /// It got its memory, and did what it should.
     Given,
     /// It was refused; the state after that is right, and so is what the same call did next.
     Refused,

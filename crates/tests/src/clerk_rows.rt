@@ -52,7 +52,7 @@ impl Due {
 enum Row {
     /// The call is made, and has this answer.
     Call(Call, Due),
-    /// The words say this of the key, and the history is so long.
+    /// The words say this of the key, and the history has this length.
     Shows(u64, Option<Entry>, u64),
     /// From here on each bit is set again before it is read, or it is not.
     Marked(bool),
@@ -79,7 +79,7 @@ fn is_so(clerk: &mut Clerk<1>, driver: &mut Driver, row: Row) -> bool
     }
 }
 
-/// Takes the steps in turn. What is due has to come of each.
+/// Takes the steps in turn. Each must give what is due.
 fn check_rows_of(clerk: &mut Clerk<1>, driver: &mut Driver, rows: &[Row]) -> Result<(), Fail>
     requires { IsBeside clerk.old (shape_of driver.old.checked) driver.old.words.items }
 {

@@ -102,7 +102,7 @@ fn lawful_of(rng: &mut Lcg64Xsh32, pair: &mut Pair, events: u32) -> Option<u32> 
     if pair.is_one() { Some(lawful) } else { None }
 }
 
-/// How many drawn events were lawful in the worlds of the seed, and how many were drawn; nothing where one changed what it must not. One
+/// How many drawn events were lawful in the worlds of the seed, and how many were drawn; nothing if one changed what it must not. One
 /// world after the other has the next limit, and the more events the higher that is: on average 500. It is noted which limits refused one.
 fn lawful_in_worlds(
     alloc: Global,

@@ -224,7 +224,7 @@ impl Plain {
         if let Some(held) = self.entry(key, self.changes.len()) {
             return Ok(self.renew(key, value, held.item)?.is(told));
         }
-        // Both buckets of the key have to be full, and no way leads to a hole where the whole table is.
+        // Both buckets of the key have to be full, and no way leads to a hole if the whole table is full.
         let held = self.held();
         let is_refused = told == "refused no path";
         if is_refused || held == self.slots() {

@@ -173,7 +173,7 @@ fn thousand_changes(alloc: Global) -> Result<Vec<Event>, AllocError> {
     Ok(events)
 }
 
-/// So many events of lookups of key 0, each of a begin and 11 accesses.
+/// `many` events of lookups of key 0, each of a begin and 11 accesses.
 fn many_lookups(alloc: Global, many: u32) -> Result<Vec<Event>, AllocError> {
     let mut events = Vec::new(alloc);
     for n in 0..many {

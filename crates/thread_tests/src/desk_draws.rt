@@ -1,6 +1,6 @@
 //! Loads in turns whose workers run one after the other: what comes of them is known beforehand.
 //!
-//! The expected numbers come from a reckoning of its own: the generator's words, and a plain map.
+//! The expected numbers are computed separately: the generator's words, and a plain map.
 use mc_load::{DeskReport, Gate, Load, LoadError, load_desk, load_shards};
 use mc_words::{Mix, Shape};
 use std::alloc::Global;
@@ -9,7 +9,7 @@ use std::test::Fail;
 use std::thread;
 use std::thread::Threads;
 
-/// How often a loop that waits turns at most.
+/// How often a waiting loop runs at most.
 const TURNS: u32 = 1 << 26;
 
 /// Lets the writers work one after the other, and then the readers. If it is to refuse a call of a worker, it holds nobody.

@@ -6,7 +6,7 @@ use mc_words::{Mix, Shape};
 use std::sync::atomic::{AtomicBool, AtomicU64, Ordering};
 use std::test::Fail;
 
-/// How often a loop that waits turns at most.
+/// How often a waiting loop runs at most.
 const TURNS: u32 = 1 << 26;
 
 /// The readers are workers 1 to 3, and the writers workers 0 and 4.

@@ -2,7 +2,7 @@
 use mc_load::Gate;
 use std::sync::atomic::{AtomicU64, Ordering};
 
-/// How often a loop that waits turns at most.
+/// How often a waiting loop runs at most.
 const TURNS: u32 = 1 << 26;
 
 /// Holds the readers until the writer's last call is answered, and refuses one call of each worker from `first` on. If it

@@ -1,6 +1,6 @@
 //! Loads whose readers begin once the writer has ended: all of them but the threads' order is known beforehand.
 //!
-//! The expected numbers come from a reckoning of its own: the generator's words, and a plain map.
+//! The expected numbers are computed separately: the generator's words, and a plain map.
 use crate::late_gate::Late;
 use mc_load::{Gate, Load, LoadError, load, load_many};
 use mc_words::{Mix, Shape};

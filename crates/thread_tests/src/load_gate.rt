@@ -6,7 +6,7 @@ use mc_words::{Mix, Shape};
 use std::sync::atomic::{AtomicBool, AtomicU64, Ordering};
 use std::test::Fail;
 
-/// How often a loop that waits turns at most.
+/// How often a waiting loop runs at most.
 const TURNS: u32 = 1 << 26;
 
 /// What the workers have answered: worker 0 is the writer, 1 and 2 are the readers.

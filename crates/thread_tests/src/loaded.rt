@@ -5,7 +5,7 @@ use mc_cache::{Cache, Mix, OpenError, Put, Shape, ShapeError, Why, Writer, open_
 use std::alloc::Global;
 use std::test::Fail;
 
-/// So many buckets and items, one stripe, and chains of at most two.
+/// `buckets` buckets, `items` items, one stripe, and chains of at most two.
 fn shape(buckets: u32, items: u32, limit: u64) -> Shape {
     Shape {
         buckets,

@@ -1,7 +1,7 @@
 //! Waiting for what another thread does.
 use std::sync::atomic::{AtomicBool, Ordering};
 
-/// How often a loop that waits turns at most.
+/// How often a waiting loop runs at most.
 pub const TURNS: u32 = 1 << 26;
 
 /// Waits until the flag is set. Whether it was in time.

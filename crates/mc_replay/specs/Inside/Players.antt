@@ -168,7 +168,7 @@ abbrev pub bit_given : {V : ℕ} → Stepped V → ℕ
 bit_given (stepped.Word bit) = bit
 bit_given given = 0
 
--- what was done and written, or the fault; where memory was wanting nothing is said
+-- what was done and written, or the fault; if memory ran out nothing is said
 abbrev pub DoneAs : {A : Type 0} → (List ℕ → Option Fault → A → Type 0) → List ℕ → A → Result (Unit {0}) Fault → Type 0
 DoneAs P text t (Ok u) = P text None t
 DoneAs P text t (Err NoMemory) = Unit {0}

@@ -13,7 +13,7 @@ use Rattle.mc_replay.specs.Inside.Players.{DoneAs}
 abbrev pub DoesLine : (V : ℕ) → ℕ → Scene V → List ℕ → List ℕ → Scene V → Result (Unit {0}) Fault → Type 0
 DoesLine V before s line text t r = DoneAs (LineDoes V before s line) text t r
 
--- memory was wanting
+-- memory ran out
 abbrev pub is_wanting : Result (Unit {0}) Fault → Bool
 is_wanting (Err NoMemory) = true
 is_wanting r = false
