@@ -1,8 +1,8 @@
 /* The memory of the archive: the three functions by which the cache allocates, over malloc, realloc and free. The toolchain's own hand each
  * call to these as it is. Here large blocks are placed so that a lookup needs few cache lines and few entries of page tables.
  *
- * A block of at least 4,096 bytes begins 56 bytes after the start of a cache line. A table's slots begin at its word 1 + stripes, and stripes
- * are a power of two. So from 8 stripes on they begin on a cache line, and no bucket of four slots crosses one.
+ * A block of at least 4,096 bytes begins 56 bytes after the start of a cache line. A table's slots begin at its word 1 + stripes, and
+ * stripes are a power of two. So from 8 stripes on they begin on a cache line, and no bucket of four slots crosses one.
  * A block of at least 2 MB begins 56 bytes after a boundary of huge pages, and the huge pages that it fills are requested.
  * Blocks from 128 KB up to that are cut from regions of 32 MB, whose huge pages are requested. So the tables of many shards are on huge
  * pages too. The first huge page of the first region isn't: a program with little in its caches takes no more memory than it uses. A region
