@@ -1,5 +1,5 @@
-# What the benches share, which read it by `.`: how they fail, their help, and a folder that is deleted with the bench. A wrong
-# program, and a run that fails, end the bench with status 2 and a line on standard error.
+# What the benches share, which read it by `.`: how they fail, their help, and a folder that is deleted when the bench ends.
+# A wrong program, and a run that fails, end the bench with status 2 and a line on standard error.
 # shellcheck shell=bash
 set -euo pipefail
 shopt -s inherit_errexit

@@ -137,7 +137,7 @@ impl Counter {
         Counter::of(COUNTED.then(|| Shared::new(Lines::default())).transpose()?, count)
     }
 
-    /// So many more of this counter's cache.
+    /// `count` more counters of this counter's cache.
     pub fn more(&self, count: usize) -> Result<Vec<Counter>, NoMemory> {
         Counter::of(self.lines(), count)
     }

@@ -49,7 +49,7 @@ fn a_put_that_has_gone_again_is_a_change() -> Tested {
     Ok(())
 }
 
-// So many changes are known. A fill that is older than all of them is refused, whatever its key is.
+// `known` changes are known. A fill that is older than all of them is refused, whatever its key is.
 fn knows(changes: usize, known: u64) -> Tested {
     let (mut filler, tickets, _reader) = filler(changes)?;
     let oldest = tickets.take();

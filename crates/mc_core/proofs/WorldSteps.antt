@@ -112,7 +112,7 @@ given_after {V} old new e (Ok out) reached made a is =
     gives ∙ ap (λ (bits : List ℕ). given_of {V = V} (bit_of bits a) a) (sym reached.stand.shows.bits)
 given_after old new e (Err why) reached made a is = made
 
--- what the parts show is enough, where they are reached
+-- what the parts show is enough, if they are reached
 pub stand_for : {V : ℕ} (p : Parts V) (seen : Trace V) → AreReached {V = V} p → Shows {V = V} (view_of {V = V} p) seen → StandFor {V = V} p seen
 stand_for {V} p seen reached shows = record { shows = shows; used = reached.stand.used; within = reached.stand.within }
 

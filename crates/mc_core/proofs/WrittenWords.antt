@@ -64,7 +64,7 @@ only_well V sh w k q i a = record {
   once = λ p g r h st su. ((a.once p g st).0 ∙ sym (a.once r h su).0, (a.once p g st).1 ∙ sym (a.once r h su).1);
 }
 
--- so does one that agrees with the history, be it held or not
+-- so does one that agrees with the history, whether it is held or not
 pub agrees_well : (V : ℕ) (sh : Shape) (w : List ℕ) (k : ℕ) (o : Option (List ℕ)) → AgreesAt V sh w k o → StandsWell V sh w k
 agrees_well V sh w k None a = record { placed = λ p g st. absurd (a p g st); once = λ p g r h st su. absurd (a p g st) }
 agrees_well V sh w k (Some v) a = only_well V sh w k a.0 a.1 a.2

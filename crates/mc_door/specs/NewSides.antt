@@ -30,7 +30,7 @@ has_desk s = is_there s.desk
 abbrev pub count_of : {V : ℕ} → NewSides V → ℕ
 count_of s = length s.readers.items
 
--- the same, whatever the width of values
+-- of the sides that are left, whatever the width of values: that width, their cache, whether it has a desk, and how many they are
 abbrev pub width_in : Rest → ℕ
 width_in (One s) = 1
 width_in (Two s) = 2

@@ -75,7 +75,7 @@ removal_told (Ok (remove.Removed at)) = told_at OK at
 removal_told (Ok (remove.NotThere at)) = told_at ABSENT at
 removal_told (Err spent) = plain SPENT
 
--- the same by a pass, when another thread may have the turn
+-- how an answer by a pass is returned: another thread may have the turn
 abbrev pub turn_told : {T E : Type 0} → (Result T E → Told) → Result T (DeskError E) → Told
 turn_told tells (Ok done) = tells (Ok done)
 turn_told tells (Err desk.Held) = plain HELD

@@ -1,4 +1,4 @@
--- What the gate refused, and what was done where it refused nothing.
+-- What the gate refused, and what was done if it refused nothing.
 use Rattle.std.proofs.Common.{ℕ, ◌≡◌, ◌+◌, ◌≤◌, List, get_or, length, Option, inl, inr, subst, sym, ◌∙◌, arith}
 use Rattle.std.specs.Prelude.{IfSome}
 use Rattle.mc_shards.specs.Sharded.{ArePassOf, Sharded}

@@ -79,7 +79,7 @@ read a w f = record { access = a; word = w; front = f }
 pub both_refl : {A : Type 0} → A ↔ A
 both_refl = (λ a. a, λ a. a)
 
--- the slots from j on, where there may be none
+-- the slots from j on; there may be none
 pub left_slots : (V : ℕ) (sh : Shape) (k t x : ℕ) (v : List ℕ) (told : Reply V) (j : ℕ) (rs : List Reading) (reply : Reply V) → j ≤ 8 → IsRemainderAt V sh k t x v told (slots_from j) rs reply ↔ RemainderAtSlots V sh k t x (drop j (slots_for sh k)) rs reply
 left_slots V sh k t x v told j rs reply l =
     elim (cases_lt j 8) [

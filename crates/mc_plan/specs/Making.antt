@@ -71,7 +71,7 @@ ActsRemove V sh k p acts =
     SetsSlot sh s.words (state_after_acts V sh s acts).words (slot_number p) 0 ×
     KeepsItems V sh s.words (state_after_acts V sh s acts).words
 
--- the same of a key at the item whose bit the hand found clear
+-- from each quiet state in which the key stands in the slot, at the item whose bit the hand found clear, the acts evict it likewise
 abbrev pub ActsEvict : ℕ → Shape → ℕ → Place → List Act → Type 0
 ActsEvict V sh k p acts =
     (s : State V) (i : ℕ) → IsQuiet V sh s → p.slot < 4 → Stands V sh s.words k (slot_number p) i → s.cleared ≡ Some i →

@@ -28,7 +28,7 @@ refusal_text f = fault_text f
 abbrev pub stop_text : Stop → List ℕ
 stop_text stop = if stop.line == 0 then codes "refused: " ++ refusal_text stop.fault else codes "line " ++ decimal stop.line ++ codes ": " ++ fault_text stop.fault
 
--- the same, by the number of the fault
+-- that text, if the number of the fault is one; otherwise only the line
 abbrev pub stopped_text : ℕ → Option Fault → List ℕ
 stopped_text line (Some f) = stop_text (record { line = line; fault = f })
 stopped_text line None = codes "line " ++ decimal line

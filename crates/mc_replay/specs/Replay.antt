@@ -177,7 +177,7 @@ first_scene V sh readers = record { shape = sh; now = first_replay V sh readers 
 abbrev pub IsBusy : {V : ℕ} → Replay V → Type 0
 IsBusy s = IsSome s.running ⊎ ((r : ℕ) × (run : OpenLookup) × (slice_get s.world.readers r ≡ Some (Some run)))
 
--- the same shape, with b buckets and c items
+-- the shape with b buckets and c items, and otherwise unchanged
 abbrev pub with_sizes : Shape → ℕ → ℕ → Shape
 with_sizes sh b c = record { buckets = b; items = c; stripes = sh.stripes; depth = sh.depth; tries = sh.tries; limit = sh.limit; mix = sh.mix }
 

@@ -39,7 +39,7 @@ marked_is_set t marks bit bit' c d = let a = c.seen in let b = d.is in omega ari
 pub touched_is_set : (t : Trace) (marks bit : ℕ) → Coherent (trace_marked t) marks bit → bit ≡ 1
 touched_is_set t marks bit d = let b = d.is in omega arith
 
--- a hand that leaves the bit clear reported the bit that was there, and joined_view all marks
+-- a hand that leaves the bit clear reported the bit that was there, and counted all marks
 pub swept_is_told : (t : Trace) (marks n bit told : ℕ) → Coherent t marks bit → Coherent (trace_swept t told n) marks 0 → (told ≡ bit) × (n ≡ marks)
 swept_is_told t marks n bit told c d =
     let a = c.is in let b = c.seen in let e = c.right in let x = d.is in let y = d.seen in let z = d.right in

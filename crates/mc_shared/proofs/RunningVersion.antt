@@ -111,7 +111,7 @@ pub inner_performed : {V : ℕ} {before after : WriterRecord} {o : Opening} {act
 inner_performed {V} {before} {after} {o} {act} {a} {b} r of is inner may h run =
     inner_acted r inner (subst (λ (y : Opening × Act). IsAllowed y.0.layout.shape (state_of V y.0.layout.shape before.acts) y.1) (λ i. (sym of i, is i)) may) h run
 
--- after a close any is as good
+-- after a close any version will do
 closed_acted : {V : ℕ} {before after : WriterRecord} {b : ℕ} (r : Running) → IsShape before.of.layout.shape → IsAllowed before.of.layout.shape (state_of V before.of.layout.shape before.acts) Close → HasActed before after Close b → IsRunning V after r
 closed_acted {V} {before} {after} {b} r s may h =
     let sh = before.of.layout.shape in let st = state_of V sh before.acts in

@@ -15,7 +15,7 @@ abbrev pub RunsAt : Shape → List ℕ → Option ℕ → Running → Type 0
 RunsAt sh w None r = Unit {0}
 RunsAt sh w (Some k) r = (r.place ≡ version_place (stripe_of sh k)) × (r.count ≡ version w (stripe_of sh k))
 
--- the same, in a state
+-- the version of the deed that runs in a state
 abbrev pub RunsIn : {V : ℕ} → Shape → State V → Running → Type 0
 RunsIn {V} sh s r = RunsAt sh s.words (deed_key s.phase) r
 

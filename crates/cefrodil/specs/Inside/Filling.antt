@@ -21,7 +21,7 @@ pub record IsFilledTo (Waits : Slot → Type 0) (first rest : Rest) (slots : Lis
   pub filled : AllWithin (IsNewAt (opening_in first) (has_desk_in first) (width_in first)) slots 0 n
   pub waiting : AllWithin Waits slots n (length slots)
 
--- the same for passes of shards
+-- the first n handles have a pass of the new shards, the others are closed, and as many passes are left
 pub record HasPassesTo (first rest : ShardRest) (slots : List Slot) (n : ℕ) : Type 0 where
   pub shards : shards_on rest ≡ shards_on first
   pub width : width_on rest ≡ width_on first

@@ -91,7 +91,7 @@ next_word V b s at old l =
     omega (arith, l, now, old.quiet.counted.moments, ap close_owed old.quiet.quiet, old.limit, b.checked.sound.limit)
 
 -- ---- the books after a plan
--- the state after it, where its version changes were counted
+-- the state after it, with its version changes counted
 record Ends (V : ℕ) (b : Books) (s t : State V) (steps : ℕ) : Type 0 where
   quiet : IsQuiet V (shape_of b.checked) t
   version_steps : t.version_steps ≡ s.version_steps + steps

@@ -73,7 +73,7 @@ pub record IsInCall (V : ℕ) (player : Player V) (most : ℕ) (p : Pending V) (
   pub now : after_all (shape_of_player player) p.from p.acts ≡ state_of V (shape_of_player player) w.acts
   pub few : acts_left player.clerk ≤ most_steps
 
--- the same, with an act to make
+-- the writer's call runs, and has an act to make
 abbrev pub IsMidCall : (V : ℕ) → Player V → ℕ → Pending V → Trace V → Type 0
 IsMidCall V player most p w = IsInCall V player most p w × IsSome (next_act player.clerk)
 

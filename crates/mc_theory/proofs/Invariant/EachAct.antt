@@ -24,7 +24,7 @@ use Rattle.mc_words.specs.declared.history.Change.{Change}
 use Rattle.mc_words.specs.declared.shape.Shape.{Shape}
 use Rattle.mc_theory.specs.declared.act.Act.TheVariants.{Open, Slot, Item, Moment, Close, Hand, Mark}
 
--- a key that was taken out is held no more
+-- a key that was taken out is no longer held
 taken_out_held : {V : ℕ} (h : List (Change V)) (e : Bool) (k : ℕ) → map_value (h ++ removal_of e k ∷ []) k ≡ None
 taken_out_held h true k = held-evict h k
 taken_out_held h false k = held-remove h k

@@ -56,7 +56,7 @@ moment_after V sh w hand cleared h _ Moment size at may = absurd may
 abbrev pub Filled : Shape → List ℕ → Type 0
 Filled sh w = (q : ℕ) → q < 4 * sh.buckets → (slot sh w q ≡ 0) ⊎ ((i : ℕ) × NamesItem sh w q i)
 
--- it hangs on the slots alone
+-- it depends on the slots alone
 filled_same : (sh : Shape) (w x : List ℕ) → ((q : ℕ) → q < 4 * sh.buckets → slot sh x q ≡ slot sh w q) → Filled sh w → Filled sh x
 filled_same sh w x same f q l =
     elim (f q l) [
@@ -136,7 +136,7 @@ versions_close V sh w k size s v t l =
           rw (version-with_version_other w (stripe_of sh k) t _ (λ e. eqb-false (stripe_of sh k) t f (sym e))) (v t l ∙ cond-false {A = ℕ} (eqb (stripe_of sh k) t) 1 0 f)
     ]
 
--- whether versions are even hangs on the versions alone
+-- whether versions are even depends on the versions alone
 versions_same : (sh : Shape) (w x : List ℕ) (o : Option ℕ) → ((t : ℕ) → t < sh.stripes → version x t ≡ version w t) → Versions sh w o → Versions sh x o
 versions_same sh w x o same v t l = rw (same t l) (v t l)
 

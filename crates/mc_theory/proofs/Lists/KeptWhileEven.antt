@@ -58,7 +58,7 @@ even_not_running V sh w p h k s g even e =
 abbrev pub NoNew : ℕ → Shape → List ℕ → List ℕ → ℕ → Type 0
 NoNew V sh w x k = (i : ℕ) → item V sh x i 0 ≡ k → item V sh w i 0 ≡ k
 
--- it hangs on the keys of the items alone
+-- it depends on the keys of the items alone
 no_new_same : (V : ℕ) (sh : Shape) (w x : List ℕ) (k : ℕ) → ((i : ℕ) → item V sh x i 0 ≡ item V sh w i 0) → NoNew V sh w x k
 no_new_same V sh w x k same i e = sym (same i) ∙ e
 

@@ -44,7 +44,7 @@ hit_stands V sh acts k f g p r s i w table tag a b c slot_is key_is meets e =
     } in
     (w.kept f r.front (omega arith) a (omega arith)).same.back (slot_number p) i then
 
--- where a scan hits an item, the key stands there in some slot
+-- if a scan hits an item, the key stands there in some slot
 pub scan_hit : (V : ℕ) (sh : Shape) (acts : List Made) (k f g d e i : ℕ) (ps : List Place) (rs : List Reading) → Window V sh acts k f g → tag_of sh k < 256 → InTable sh ps → f ≤ d → e ≤ g → AreRead V sh acts rs → RiseTo d rs e → Scans sh k ps rs (Some i) → (q : ℕ) × Stands V sh (front V sh acts f).words k q i
 scan_hit V sh acts k f g d e i [] rs w tag table a b read rise scan = absurd (cc (scan.1))
 scan_hit V sh acts k f g d e i (p ∷ ps) rs w tag table a b read rise scan =
@@ -75,7 +75,7 @@ abbrev pub NoneIs : ℕ → List Place → Type 0
 NoneIs q [] = Unit {0}
 NoneIs q (p ∷ ps) = (slot_number p ≢ q) × NoneIs q ps
 
--- where it misses, the key stands in none of the slots that were read
+-- if it misses, the key stands in none of the slots that were read
 pub scan_miss : (V : ℕ) (sh : Shape) (acts : List Made) (k f g d e q i : ℕ) (ps : List Place) (rs : List Reading) → IsShape sh → Window V sh acts k f g → f ≤ d → e ≤ g → AreRead V sh acts rs → RiseTo d rs e → Scans sh k ps rs None → Stands V sh (front V sh acts f).words k q i → NoneIs q ps
 scan_miss V sh acts k f g d e q i [] rs shape w a b read rise scan st = tt
 scan_miss V sh acts k f g d e q i (p ∷ ps) rs shape w a b read rise scan st =
