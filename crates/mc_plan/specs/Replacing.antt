@@ -31,7 +31,8 @@ pub record CanReplace (V : ℕ) (sh : Shape) (w : List ℕ) (k i e : ℕ) (p : P
 abbrev pub replace_acts : ℕ → Shape → List ℕ → ℕ → List ℕ → ℕ → ℕ → ℕ → Place → List Place → Place → List Act
 replace_acts V sh w k v at i e p kept end = evict_acts e p ++ put_acts V sh w k v at i kept end
 
--- from each quiet state in which the key can replace the other, at the item whose bit the hand found clear, they take the other out and put the key, whose stamp is the moment after the eviction's: four version changes more than for the moves
+-- take any quiet state in which the key can replace the other, at the item whose bit the hand found clear. From there they take the other
+-- out and put the key, whose stamp is the moment after the eviction's: four version changes more than for the moves
 abbrev pub EvictionsMakeRoom : ℕ → Type 0
 EvictionsMakeRoom V =
     (sh : Shape) (s : State V) (k : ℕ) (v : List ℕ) (at i e : ℕ) (p : Place) (places : List Place) (hole : Place) (kept : List Place) (end : Place) →

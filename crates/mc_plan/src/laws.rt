@@ -37,15 +37,15 @@ pub fn moves_make_room<const V: usize>()
     ensures { MovesMakeRoom V }
 {}
 
-/// If a key is absent, an item is free and a chain leads from the key to a hole, the moves of the chain and then a fill of its first place
-/// are allowed one after the other, and put the key.
+/// Let a key be absent, an item free, and let a chain lead from the key to a hole. Then the moves of the chain and a fill of its first
+/// place are allowed one after the other, and put the key.
 pub fn puts_make_room<const V: usize>()
     ensures { PutsMakeRoom V }
 {}
 
-/// If a key is absent, another is at the item whose bit the hand found clear, and a chain leads from the key to a hole, the eviction of the
-/// other key, the moves of the chain up to that key's slot and then a fill of its first place are allowed one after the other. They take
-/// the other key out and put the key.
+/// Let a key be absent, another one be at the item whose bit the hand found clear, and let a chain lead from the key to a hole. Then these
+/// are allowed one after the other: the eviction of the other key, the moves of the chain up to that key's slot, and a fill of its first
+/// place. They take the other key out and put the key.
 pub fn evictions_make_room<const V: usize>()
     ensures { EvictionsMakeRoom V }
 {}

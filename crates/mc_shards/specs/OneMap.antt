@@ -17,8 +17,8 @@ Spares q (Stored at moves None) = Unit {0}
 Spares q (Stored at moves (Some other)) = q ≢ other
 Spares q (Renewed at) = Unit {0}
 
--- when the history of one shard becomes another, the map keeps what it holds of the keys of other shards, and of a key of that shard it
--- holds what the shard's map does
+-- when the history of one shard becomes another, the map keeps what it holds of the keys of other shards. Of a key of that shard it holds
+-- what the shard's map does
 pub record IsLocal (V : ℕ) : Type 0 where
   pub others : (mix : Mix) (n : ℕ) (hs : List (List (Change V))) (h : List (Change V)) (k : ℕ) → shard_of mix (length hs) k ≢ n → plain_of mix (slice_set hs n h) k ≡ plain_of mix hs k
   pub own : (mix : Mix) (hs : List (List (Change V))) (h : List (Change V)) (k : ℕ) → shard_of mix (length hs) k < length hs → plain_of mix (slice_set hs (shard_of mix (length hs) k) h) k ≡ map_value h k

@@ -46,8 +46,8 @@ ReadingsAreNewest =
     StandsAt e.access e.front (length acts) × IsWordOf l.width l.shape (layout_state l acts).words e.access e.word ×
     ((n : ℕ) → place_read l.width l.shape e.access ≡ Some n → n < word_count l.width l.shape → e.word ≡ slice_index s.words n)
 
--- a running read is such a step: for whatever proof its caller has that the rule allows a load that returns a reading, the load leads from
--- each state that it meets to one with that reading more, of the word that it found
+-- a running read is such a step. Its caller has some proof that the rule allows a load that returns a reading. Whatever that proof is, the
+-- load leads from each state that it meets to one with that reading more, of the word that it found
 abbrev pub ReadsAreEntries : Type 0
 ReadsAreEntries =
     (l : Layout) (s : table.State (Unit {0}) View) (seat slots place number : ℕ) (old : List Made) (done : List Reading) (held : List (ℕ × Unit {0})) (a : Access) (st : table.Step (Unit {0})) →
@@ -117,8 +117,8 @@ pub record HandsAreEntries : Type 0 where
       let next = allows s rule fits mine small in
       AddsTurn l s (table.stepped s place (slice_index s.words place) seat held next.0 next.1) acts i (bit_in l s.words i)
 
--- a lookup that a reader made, among all acts and its whole record: its reply is true, at a number of changes that is no lower than
--- that of the changes made before the lookup's first step, and no higher than that of those made before its last
+-- a lookup that a reader made, among all acts and its whole record: its reply is true at some number of changes: no fewer than were made
+-- before the lookup's first step, and no more than were made before its last
 abbrev pub LookupsStandInOrder : ℕ → Type 0
 LookupsStandInOrder V =
     (sh : Shape) (acts : List Made) (number : ℕ) (notes : List Note) (before rs after : List Reading) (k tries : ℕ) (reply : Reply V) → IsShape sh → IsLawful V sh acts → k < 2 ^ 64 →
@@ -151,16 +151,16 @@ MeetingsAgree =
     InOneOrder acts notes number (done ++ r ∷ rest) → InOneOrder later (notes ++ more) number (done ++ r ∷ rest') → IsReading r.access →
     made_by number (length done) notes ≡ made_by number (length done) (notes ++ more)
 
--- an act that was made between two meetings of a reader with the writer, between which the reader made no step, has in its note the
--- number of entries of that reader, up to marks that it made after its last reading
+-- take an act that was made between two meetings of a reader with the writer. If the reader made no step between them, the act's note has
+-- the number of entries of that reader, up to marks that it made after its last reading
 abbrev pub IdleActsAreNoted : Type 0
 IdleActsAreNoted =
     (acts later : List Made) (notes more : List Note) (number : ℕ) (done marks : List Reading) (last : Reading) (k : ℕ) (note : Note) →
     InOneOrder acts notes number (done ++ last ∷ marks) → InOneOrder later (notes ++ more) number (done ++ last ∷ marks) → IsReading last.access → get_elem? more k ≡ some note →
     (length (done ++ last ∷ []) ≤ steps_by number note) × (steps_by number note ≤ length (done ++ last ∷ marks))
 
--- whatever threads do meanwhile, its reply is what the map held after some number of changes, no fewer than had been made at the
--- instant of its first step, and no more than had been made at that of its last
+-- whatever threads do meanwhile, its reply is what the map held after some number of changes: no fewer than had been made at the instant of
+-- its first step, and no more than at that of its last
 abbrev pub LookupsAreInTime : ℕ → Type 0
 LookupsAreInTime V =
     (sh : Shape) (k tries : ℕ) (acts acts' : List Made) (reply : Reply V) → IsShape sh → k < 2 ^ 64 → IsLookedUp V sh k tries acts acts' reply →
