@@ -117,7 +117,7 @@ pub record HandsAreEntries : Type 0 where
       let next = allows s rule fits mine small in
       AddsTurn l s (table.stepped s place (slice_index s.words place) seat held next.0 next.1) acts i (bit_in l s.words i)
 
--- a lookup that a reader made, among all acts and its whole record: its reply is true at some number of changes: no fewer than were made
+-- a lookup that a reader made, among all acts and its whole record: its reply is true at some number of changes, no fewer than were made
 -- before the lookup's first step, and no more than were made before its last
 abbrev pub LookupsStandInOrder : ℕ → Type 0
 LookupsStandInOrder V =

@@ -45,7 +45,7 @@ pub record PartsRefuse {V : ℕ} (old new : Parts V) (e : Event) (why : Unlawful
   pub refused : (seen : traces.Trace V) → StandFor old seen → traces.RefusesEvent (shape_of_parts old) seen e why
   pub stays : (seen : traces.Trace V) → StandFor old seen → StandFor new seen
 
--- these events were made, and `done` has grown by what the lookups that ended in them returned
+-- these events were made, and `after` is `before` with what the lookups that ended in them returned
 pub record MakesEvents {V : ℕ} (old new : Parts V) (events : List Event) (before after : List (Done V)) : Type 0 where
   pub shape : shape_of_parts new ≡ shape_of_parts old
   pub made : (seen : traces.Trace V) → StandFor old seen → (x : traces.Trace V) × traces.StepsAll V (shape_of_parts old) seen events x × StandFor new x ×
