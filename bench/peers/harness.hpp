@@ -1,7 +1,7 @@
 // What each contestant in C++ is put through: the protocol of `twin/src/protocol.rs`, in C++.
 //
 // A contestant is a class with: a constructor that takes how many keys there will be; `get` (whether the key is there, and
-// its value); `put` (false where it is refused); `slots` (where keys can be, or 0); `enter`, `tick` and `leave`, which each
+// its value); `put` (false where it is refused); `slots` (places for keys, or 0); `enter`, `tick` and `leave`, which each
 // thread calls at its beginning, now and then, and at its end. With `--many N` readers call `get_many`, if the contestant has it:
 // lookups of N keys, whose values it writes and of which it returns how many are there.
 #pragma once
