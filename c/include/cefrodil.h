@@ -278,6 +278,12 @@ CEFRODIL_CHECKED CEFRODIL_NO_NULL cefrodil_status cefrodil_swap_if(cefrodil_hand
 CEFRODIL_CHECKED CEFRODIL_NO_NULL cefrodil_status cefrodil_take(cefrodil_handle *handle, uint64_t key, uint64_t *former,
                                                                 size_t former_words, cefrodil_reply *reply);
 
+/* Like cefrodil_take, if the key's last put was at `since`, as a lookup of the key returned it. So a program that found an entry too old
+ * removes that one, and no later one.
+ * OK: as for cefrodil_take. CHANGED: `since` is that of the key's last put. Otherwise ABSENT, SPENT, HELD, CLOSED, KIND, WIDTH. */
+CEFRODIL_CHECKED CEFRODIL_NO_NULL cefrodil_status cefrodil_take_if(cefrodil_handle *handle, uint64_t key, uint64_t since, uint64_t *former,
+                                                                   size_t former_words, cefrodil_reply *reply);
+
 /* Ends a pass's turns: its handle becomes a reader's. The last pass of a desk gets the writer back, so a program can continue with
  * one writer. For that, every pass of the desk leaves or is closed, in any order and in any thread. If the last one is closed, the writer
  * is closed with it.

@@ -51,6 +51,8 @@ template <size_t Words> class Writer : public Handle {
         return swap_words_if<Words>(key, since, value);
     }
     [[nodiscard]] Swapped<Words> take(uint64_t key) noexcept { return take_words<Words>(key); }
+    // Takes the entry whose put was at `since`, and no later one.
+    [[nodiscard]] Swapped<Words> take_if(uint64_t key, uint64_t since) noexcept { return take_words_if<Words>(key, since); }
     // Never busy.
     [[nodiscard]] Answer<Words> get(uint64_t key) noexcept {
         cefrodil_reply reply;
@@ -147,6 +149,16 @@ template <size_t Words> class Pass : public Lookups<Words> {
         return this->template swap_words_if<Words>(key, since, value);
     }
     [[nodiscard]] Swapped<Words> try_take(uint64_t key) noexcept { return this->template take_words<Words>(key); }
+    [[nodiscard]] Swapped<Words> try_take_if(uint64_t key, uint64_t since) noexcept { return this->template take_words_if<Words>(key, since); }
+    // Makes a call by this pass again while it is held: at most `tries` times, at least once, without a pause. `call` takes the pass, and returns
+    // what its call returned: `pass.within(1000, [](auto &pass) { return pass.try_take(7); })`.
+    template <class Call> [[nodiscard]] auto within(uint32_t tries, Call call) {
+        auto told = call(*this);
+        for (uint32_t n = 1; n < tries && inside::status_of(told) == Status::held; n++) {
+            told = call(*this);
+        }
+        return told;
+    }
     // Ends the pass's turns: it becomes `reader`. The last pass of a desk gets the writer back (ok); the others don't (not_last). With
     // another status nothing was done. in_use: `reader` or `writer` is open. kind: it is a pass of shards.
     [[nodiscard]] Status leave(Reader<Words> &reader, Writer<Words> &writer) noexcept {

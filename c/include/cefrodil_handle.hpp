@@ -124,6 +124,9 @@ template <size_t Words> struct Swapped {
 
 namespace inside {
 
+inline Status status_of(Status status) noexcept { return status; }
+template <class Told> Status status_of(const Told &told) noexcept { return told.status; }
+
 inline Written written(cefrodil_status status, const cefrodil_reply &reply) noexcept {
     std::optional<uint64_t> evicted;
     if (reply.put == CEFRODIL_PUT_EVICTED) {
@@ -219,6 +222,12 @@ class Handle {
         cefrodil_reply reply;
         std::array<uint64_t, Words> old{};
         const cefrodil_status status = cefrodil_take(&raw_, key, old.data(), Words, &reply);
+        return inside::swapped<Words>(wrote(status, reply), old, true);
+    }
+    template <size_t Words> Swapped<Words> take_words_if(uint64_t key, uint64_t since) noexcept {
+        cefrodil_reply reply;
+        std::array<uint64_t, Words> old{};
+        const cefrodil_status status = cefrodil_take_if(&raw_, key, since, old.data(), Words, &reply);
         return inside::swapped<Words>(wrote(status, reply), old, true);
     }
 

@@ -38,6 +38,7 @@ static_assert(noexcept(std::declval<Writer<1> &>().take(1)) && noexcept(std::dec
 static_assert(noexcept(std::declval<Pass<1> &>().try_put(1, {1})) && noexcept(std::declval<Pass<1> &>().put_within(1, 1, {1})));
 static_assert(noexcept(std::declval<Pass<1> &>().try_put_if(1, 1, {1})) && noexcept(std::declval<Pass<1> &>().try_put_if_absent(1, {1})));
 static_assert(noexcept(std::declval<Pass<1> &>().try_remove(1)) && noexcept(std::declval<Pass<1> &>().try_swap(1, {1})));
+static_assert(noexcept(std::declval<Pass<1> &>().try_take_if(1, 1)) && noexcept(std::declval<Writer<1> &>().take_if(1, 1)));
 static_assert(noexcept(std::declval<Pass<1> &>().try_swap_if(1, 1, {1})) && noexcept(std::declval<Pass<1> &>().try_take(1)));
 static_assert(noexcept(std::declval<Pass<1> &>().get_or_desk(1)) && noexcept(cefrodil::shape_for_items(1)) && noexcept(cefrodil::shape_for_shards(1, 1)));
 static_assert(std::is_nothrow_default_constructible_v<Writer<1>> && std::is_nothrow_default_constructible_v<Reader<1>>);
@@ -183,6 +184,27 @@ static void by_turns(std::vector<Pass<1>> passes) {
     }
 }
 
+// A call is made again only while it is held, and at most as often as it may be. This one is held so often, and then takes key 9.
+static int calls_within(Pass<1> &pass, uint32_t tries, int held, Status last) {
+    int calls = 0;
+    const auto told = pass.within(tries, [&](Pass<1> &mine) {
+        calls++;
+        cefrodil::Swapped<1> taken = mine.try_take(9);
+        taken.status = calls > held ? taken.status : Status::held;
+        return taken;
+    });
+    MUST(told.status == last);
+    return calls;
+}
+
+static void within(Pass<1> &pass) {
+    MUST(calls_within(pass, 5, 0, Status::absent) == 1 && calls_within(pass, 5, 3, Status::absent) == 4);
+    MUST(calls_within(pass, 5, 4, Status::absent) == 5 && calls_within(pass, 5, 5, Status::held) == 5);
+    MUST(calls_within(pass, 1, 1, Status::held) == 1 && calls_within(pass, 0, 0, Status::absent) == 1);
+    std::vector<uint64_t> list;
+    MUST(pass.within(3, [&](Pass<1> &mine) { return mine.try_entries(list); }) == Status::ok);
+}
+
 // A pass of shards doesn't list stamps.
 static void stamped(Pass<1> &at_desk, Pass<1> &of_shards) {
     std::vector<uint64_t> list;
@@ -213,6 +235,7 @@ int main() {
     std::vector<Pass<1>> passes, others;
     MUST(cefrodil::open_desk(*shape, 1, passes) == Status::ok && cefrodil::open_shards(*part, 4, 1, others) == Status::ok);
     stamped(passes[0], others[0]);
+    within(passes[0]);
     MUST(cefrodil::open_desk(*shape, 3, passes) == Status::ok);
     by_turns(std::move(passes));
     MUST(cefrodil::open_desk(*shape, 2, passes) == Status::ok);

@@ -174,6 +174,7 @@ static void refused_by(cefrodil_handle *pass) {
     MUST(cefrodil_swap(pass, 1, value, 2, former, 2, &reply) == CEFRODIL_SPENT);
     MUST(cefrodil_swap_if(pass, 1, 0, value, 2, former, 2, &reply) == CEFRODIL_SPENT);
     MUST(cefrodil_take(pass, 1, former, 2, &reply) == CEFRODIL_SPENT);
+    MUST(cefrodil_take_if(pass, 1, 1, former, 2, &reply) == CEFRODIL_SPENT);
 }
 
 static void spent(void) {

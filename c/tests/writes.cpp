@@ -13,6 +13,7 @@ struct ByWriter {
     Swapped<1> swap(uint64_t key, uint64_t value) { return writer.swap(key, {value}); }
     Swapped<1> swap_if(uint64_t key, uint64_t since, uint64_t value) { return writer.swap_if(key, since, {value}); }
     Swapped<1> take(uint64_t key) { return writer.take(key); }
+    Swapped<1> take_if(uint64_t key, uint64_t since) { return writer.take_if(key, since); }
 };
 struct ByPass {
     Pass<1> &pass;
@@ -22,6 +23,7 @@ struct ByPass {
     Swapped<1> swap(uint64_t key, uint64_t value) { return pass.try_swap(key, {value}); }
     Swapped<1> swap_if(uint64_t key, uint64_t since, uint64_t value) { return pass.try_swap_if(key, since, {value}); }
     Swapped<1> take(uint64_t key) { return pass.try_take(key); }
+    Swapped<1> take_if(uint64_t key, uint64_t since) { return pass.try_take_if(key, since); }
 };
 
 // A key that is there has its token in `since`, and its earlier entry gives way to the next put.
@@ -41,7 +43,8 @@ template <class Calls> static void a_key_that_is_there(Calls calls) {
 // What is taken is returned once. A key that is new and evicts none has nothing that gives way.
 template <class Calls> static void a_key_that_is_taken(Calls calls) {
     MUST(calls.swap(2, 20).status == Status::ok);
-    const Swapped<1> taken = calls.take(2), absent = calls.take(2), stored = calls.swap(2, 21);
+    const Swapped<1> other = calls.take_if(2, 3), taken = calls.take_if(2, 4), absent = calls.take_if(2, 4), stored = calls.swap(2, 21);
+    MUST(other.status == Status::changed && other.since == 4 && !other.old);
     MUST(taken.status == Status::ok && taken.old && (*taken.old)[0] == 20 && taken.old_since == 4 && taken.at == 5);
     MUST(absent.status == Status::absent && !absent.old && absent.at == 5);
     MUST(stored.status == Status::ok && !stored.old && !stored.evicted && stored.old_since == 0 && stored.at == 6);

@@ -253,6 +253,18 @@ impl<const WORDS: usize> Writer<WORDS> {
         Take::of(key, old, told)
     }
 
+    /// Removes the key as [`take`](Writer::take) does, if its last put was at the moment `since`, as a lookup of the key returned it.
+    /// So whoever found an entry too old removes that one, and no later one.
+    ///
+    /// # Errors
+    ///
+    /// [`PutIfError`]: nothing was changed.
+    pub fn take_if(&mut self, key: u64, since: u64) -> Result<Replaced<WORDS>, PutIfError> {
+        let mut old = [0; WORDS];
+        let told = self.0.take_if(key, since, &mut old);
+        Replaced::of(key, old, told)
+    }
+
     /// Looks the key up. Never [`Reply::Busy`]. A hit marks the key as recently used.
     #[must_use]
     pub fn get(&mut self, key: u64) -> Reply<WORDS> {

@@ -324,6 +324,17 @@ impl<const WORDS: usize> Pass<'_, WORDS> {
         reply::turn(told, |told| Take::of(key, old, told))
     }
 
+    /// Like [`try_put`](Pass::try_put), with [`Writer::take_if`](crate::Writer::take_if).
+    ///
+    /// # Errors
+    ///
+    /// [`TurnError`]: nothing was changed.
+    pub fn try_take_if(&mut self, key: u64, since: u64) -> Result<Replaced<WORDS>, TurnError<PutIfError>> {
+        let mut old = [0; WORDS];
+        let told = self.handle().take_if(key, since, &mut old);
+        reply::turn(told, |told| Replaced::of(key, old, told))
+    }
+
     /// The number of keys in the cache, in a turn.
     ///
     /// # Errors

@@ -308,6 +308,11 @@ impl Handle {
         self.write(|handle, reply| unsafe { raw::cefrodil_take(handle, key, old.as_mut_ptr(), old.len(), reply) })
     }
 
+    pub fn take_if(&mut self, key: u64, since: u64, old: &mut [u64]) -> (u32, RawReply) {
+        // SAFETY: as in `get`.
+        self.write(|handle, reply| unsafe { raw::cefrodil_take_if(handle, key, since, old.as_mut_ptr(), old.len(), reply) })
+    }
+
     /// A pass leaves its desk, and is a reader then. The handle beside the status is the writer's, if it was the last pass.
     pub fn leave_desk(&mut self) -> (u32, Option<Handle>) {
         let mut writer = EMPTY;

@@ -25,6 +25,7 @@ mod reply;
 mod shape;
 mod shards;
 mod width;
+mod within;
 
 pub use audit::AuditLog;
 pub use cache::{Cache, Opened, Reader, Writer};

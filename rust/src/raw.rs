@@ -170,6 +170,14 @@ unsafe extern "C" {
         reply: *mut RawReply,
     ) -> u32;
     pub fn cefrodil_take(handle: *mut RawHandle, key: u64, former: *mut u64, former_words: usize, reply: *mut RawReply) -> u32;
+    pub fn cefrodil_take_if(
+        handle: *mut RawHandle,
+        key: u64,
+        since: u64,
+        former: *mut u64,
+        former_words: usize,
+        reply: *mut RawReply,
+    ) -> u32;
     pub fn cefrodil_leave_desk(pass: *mut RawHandle, writer: *mut RawHandle) -> u32;
     pub fn cefrodil_moment(writer: *mut RawHandle, moment: *mut u64) -> u32;
     pub fn cefrodil_len(handle: *mut RawHandle, len: *mut u64) -> u32;

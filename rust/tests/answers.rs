@@ -87,6 +87,7 @@ fn refused_by(pass: &mut Pass<1>) {
     assert_eq!(pass.try_remove(0), Err(TurnError::Call(Spent)));
     assert_eq!(pass.try_swap(0, &[7]), Err(TurnError::Call(PutError::Spent)));
     assert_eq!(pass.try_swap_if(0, 1, &[7]), Err(TurnError::Call(PutIfError::Spent)));
+    assert_eq!(pass.try_take_if(0, 1), Err(TurnError::Call(PutIfError::Spent)));
     assert_eq!(pass.try_take(0), Err(TurnError::Call(Spent)));
 }
 

@@ -51,11 +51,17 @@ fn an_object_takes_the_place_of_the_one_that_was_seen() {
     assert_eq!(writer.swap_if(7, 2, &[71]), Err(PutIfError::Changed { since: 1 }));
     let replaced = writer.swap_if(7, 1, &[71]).unwrap();
     assert_eq!((replaced.at, replaced.old), (2, Entry { key: 7, value: [70], since: 1 }));
+    assert_eq!(writer.take_if(7, 1), Err(PutIfError::Changed { since: 2 }));
     assert_eq!(writer.take(7), Ok(Take::Taken { at: 3, old: Entry { key: 7, value: [71], since: 2 } }));
     assert_eq!(writer.take(7), Ok(Take::NotThere { at: 3 }));
+    assert_eq!(writer.take_if(7, 2), Err(PutIfError::NotThere { at: 3 }));
     let desk = Desk::<1>::open(&shape, 1).unwrap();
     let mut pass = desk.pass().unwrap();
     pass.try_put(7, &[70]).unwrap();
     assert_eq!(pass.try_swap_if(7, 2, &[71]), Err(TurnError::Call(PutIfError::Changed { since: 1 })));
     assert_eq!(pass.try_swap_if(7, 1, &[71]).unwrap().old, Entry { key: 7, value: [70], since: 1 });
+    assert_eq!(pass.try_take_if(7, 1), Err(TurnError::Call(PutIfError::Changed { since: 2 })));
+    let taken = pass.try_take_if(7, 2).unwrap();
+    assert_eq!((taken.at, taken.old), (3, Entry { key: 7, value: [71], since: 2 }));
+    assert_eq!(pass.get(7), Reply::Absent { at: 3 });
 }

@@ -39,6 +39,22 @@ pub extern "C" fn cefrodil_swap_if(
     told_of_handle!(handle, reply, held => held.swap(key, Swap::PutIf(since), value, former, reply))
 }
 
+/// Takes a key out, if its last put was at the moment `since`, and returns its entry, by the writer's handle or a pass.
+#[tactic(auto, using(crate::proofs::Gives::gives_open, crate::proofs::Gives::gives_closed))]
+#[unsafe(no_mangle)]
+pub extern "C" fn cefrodil_take_if(
+    handle: &mut Slot,
+    key: u64,
+    since: u64,
+    former: &mut [u64],
+    reply: &mut RawReply,
+) -> u32
+    ensures open { handle.new.live ≡ handle.old.live }
+    ensures told { SwapGives (kept handle.old) (kept handle.new) key (Swap.RemoveIf since) [] former.old former.new (record { status = result; reply = reply.new }) }
+{
+    told_of_handle!(handle, reply, held => held.swap(key, Swap::RemoveIf(since), &[], former, reply))
+}
+
 /// Takes a key out, and returns its entry, by the writer's handle or a pass.
 #[tactic(auto, using(crate::proofs::Gives::gives_open, crate::proofs::Gives::gives_closed))]
 #[unsafe(no_mangle)]

@@ -35,7 +35,7 @@ tells_now {V} h k (Found v at since) t b = inr (sym (ap (λ (z : List (Change V)
 tells_now {V} h k (Absent at) t b = inr (sym (ap (λ (z : List (Change V)). map_value z k) (whole h at b.0 b.1)) ∙ t.1, omega (arith, b.0, b.1))
 tells_now h k Busy t b = inl refl
 
-some_same : (xs ys : List ℕ) → ◌≡◌ {A = Option (List ℕ)} (Some xs) (Some ys) → xs ≡ ys
+pub some_same : (xs ys : List ℕ) → ◌≡◌ {A = Option (List ℕ)} (Some xs) (Some ys) → xs ≡ ys
 some_same xs ys e = cc
 
 held_found : {V : ℕ} (h : List (Change V)) (k : ℕ) (v : List ℕ) (since : ℕ) (reply : Reply V) → map_value h k ≡ Some (v ++ since ∷ []) → TellsNow h k reply → reply ≡ Found v (length h) since

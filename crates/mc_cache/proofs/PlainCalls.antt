@@ -1,6 +1,6 @@
 -- What calls of the cache mean, from what they do to records.
 use Rattle.std.proofs.Common.{ℕ, ◌≡◌, ◌∙◌, List, [], ◌∷◌, ◌++◌, length, Option, Some, None, Result, Ok, Err, All, IfOk, ap, arith, append-nil, append_assoc, refl, sym, subst}
-use Rattle.std.proofs.lemmas.List.{length_push}
+use Rattle.std.proofs.lemmas.List.{length_push, same_from_push}
 use Rattle.std.proofs.lemmas.List.Elements.{All-weaker}
 use Rattle.mc_words.proofs.Maps.{held-put, held-remove}
 use Rattle.mc_words.specs.History.{key_count, map_value, IsLegal, IsTrueAnswer}
@@ -42,6 +42,7 @@ use Rattle.mc_words.specs.Checks.{shape_of}
 use Rattle.mc_theory.specs.Phases.{Quiet as QuietPhase}
 use Rattle.mc_theory.proofs.Replies.TrueReplies.{agrees_always}
 use Rattle.mc_shared.specs.SeatFacts.{IsRun}
+use Rattle.mc_cache.proofs.HistoryLaws.{some_same}
 use Rattle.mc_cache.specs.Inside.KeptMoments.{KeepsMoment}
 use Rattle.mc_cache.specs.Resting.{IsAtRest}
 use Rattle.mc_search.specs.Entries.{AreEntriesOf}
@@ -195,6 +196,17 @@ module _ (V : ℕ) (o cells : Opening) (self seat : WriterRecord) (table : cells
   kept_at after k v (Stored at moves None) h = h.answered.means.moment ∙ sym (ap length (history_called after h.made h.of h.acts))
   kept_at after k v (Stored at moves (Some evicted)) h = absurd h.answered.means
   kept_at after k v (Renewed at) h = h.answered.means.moment ∙ sym (ap length (history_called after h.made h.of h.acts))
+
+  -- one entry has one stamp
+  pub stamp_is : (k s : ℕ) (v : List ℕ) (entry : Entry V) → map_value (state_of V cells.layout.shape seat.acts).history k ≡ Some (v ++ s ∷ []) → Holds (history V self) k (Some entry) → entry.since ≡ s
+  stamp_is k s v entry e holds = (same_from_push entry.value v entry.since s (some_same (entry.value ++ entry.since ∷ []) (v ++ s ∷ []) (sym holds.1 ∙ held_now k (Some (v ++ s ∷ [])) e))).1
+
+  -- and it is there
+  pub is_there : (k : ℕ) (entry : Entry V) → map_value (state_of V cells.layout.shape seat.acts).history k ≡ None → Holds (history V self) k (Some entry) → ⊥
+  is_there k entry e holds = none_some (sym (held_now k None e) ∙ holds.1)
+    where
+      none_some : ◌≡◌ {A = Option (List ℕ)} None (Some (entry.value ++ entry.since ∷ [])) → ⊥
+      none_some e = absurd (cc)
 
   pub entry_now : (k : ℕ) (entry : Option (Entry V)) → Holds (state_of V cells.layout.shape seat.acts).history k entry → Holds (history V self) k entry
   entry_now k entry = subst (λ (h : List (Change V)). Holds h k entry) (sym history_before)

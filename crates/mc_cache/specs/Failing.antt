@@ -67,6 +67,9 @@ SwapIfFails sh h made told = PutIfFails sh h made (put_if_of told)
 abbrev pub TakeFails : {V : ℕ} → Shape → List (Change V) → ℕ → Result (Take V) RemoveSpent → Type 0
 TakeFails sh h made told = RemovalFails sh h made (removal_of told)
 
+abbrev pub TakeIfFails : {V : ℕ} → Shape → List (Change V) → ℕ → Result (Replaced V) IfError → Type 0
+TakeIfFails sh h made told = PutIfFails sh h made (put_if_of told)
+
 -- a try for the turn may fail if the try was held, or as its call may fail
 abbrev pub TurnFails : {T E : Type 0} → (Result T E → Type 0) → Result T (DeskError E) → Type 0
 TurnFails Fails (Ok done) = Unit {0}

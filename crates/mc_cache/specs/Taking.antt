@@ -1,15 +1,21 @@
 -- The meaning of the calls that also return the entry which they take out of the map: it is what the map held just before.
-use Rattle.std.specs.Prelude.{ℕ, List, Some, Result, Ok, Err, IfOk}
+use Rattle.std.specs.Prelude.{ℕ, ◌≡◌, ◌≢◌, List, Some, Result, Ok, Err, IfOk}
 pub use Rattle.mc_writer.specs.GivenWay.{Holds, giving_way, put_if_of, put_of, removal_of}
 use Rattle.mc_words.specs.declared.history.Change.{Change}
 use Rattle.mc_plan.specs.declared.answer.Answer.{Answer}
 use Rattle.mc_plan.specs.declared.answer.Answer.TheVariants as answer
 use Rattle.mc_plan.specs.declared.answer.IfError.{IfError}
+use Rattle.mc_plan.specs.declared.answer.IfError.TheVariants as why
 use Rattle.mc_plan.specs.declared.answer.PutError.{PutError}
 use Rattle.mc_plan.specs.declared.answer.Remove.TheVariants as removal
 use Rattle.mc_plan.specs.declared.answer.Spent.{Spent}
 use Rattle.mc_writer.specs.declared.entry.Swapped.{Swapped}
+use Rattle.mc_words.specs.declared.shape.Shape.{Shape}
+use Rattle.mc_plan.specs.WholeCalls.{RemoveCall}
+use Rattle.mc_shared.specs.Records.{WriterRecord}
+use Rattle.mc_writer.specs.WriterCalls.{HasCalled}
 use Rattle.mc_cache.specs.Plain.{PutIfMeans, PutMeans, RemovalMeans}
+use Rattle.mc_writer.specs.declared.entry.Entry.{Entry}
 use Rattle.mc_writer.specs.declared.entry.Replaced.{Replaced}
 use Rattle.mc_writer.specs.declared.entry.Take.{Take}
 use Rattle.mc_writer.specs.declared.entry.Take.TheVariants.{Taken, NotThere}
@@ -37,3 +43,17 @@ abbrev pub TakeMeans : (V : ℕ) → List (Change V) → List (Change V) → ℕ
 TakeMeans V h h' k (Ok (Taken at old)) = RemovalMeans V h h' k (Ok (removal.Removed at)) × Holds h k (Some old)
 TakeMeans V h h' k (Ok (NotThere at)) = RemovalMeans V h h' k (Ok (removal.NotThere at))
 TakeMeans V h h' k (Err spent) = RemovalMeans V h h' k (Err spent)
+
+-- what a removal on a condition does: a removal, or nothing where the key's last put is another one than the caller had seen
+abbrev pub HasTakenIf : (V : ℕ) → Shape → ℕ → WriterRecord → WriterRecord → Result (Replaced V) IfError → Type 0
+HasTakenIf V sh k w w' (Ok replaced) = HasCalled V sh (RemoveCall k) w w' (answer.Remove (Ok (removal.Removed replaced.at)))
+HasTakenIf V sh k w w' (Err (why.NotThere at)) = HasCalled V sh (RemoveCall k) w w' (answer.Remove (Ok (removal.NotThere at)))
+HasTakenIf V sh k w w' (Err (why.Changed stands)) = w' ≡ w
+HasTakenIf V sh k w w' (Err why.Spent) = (spent : Spent) × HasCalled V sh (RemoveCall k) w w' (answer.Remove (Err spent))
+
+-- a removal on a condition, and what the map held of its key: its last put was the one that the caller had seen
+abbrev pub TakeIfMeans : (V : ℕ) → List (Change V) → List (Change V) → ℕ → ℕ → Result (Replaced V) IfError → Type 0
+TakeIfMeans V h h' k since (Ok replaced) = RemovalMeans V h h' k (Ok (removal.Removed replaced.at)) × Holds h k (Some replaced.old) × (replaced.old.since ≡ since)
+TakeIfMeans V h h' k since (Err (why.NotThere at)) = RemovalMeans V h h' k (Ok (removal.NotThere at))
+TakeIfMeans V h h' k since (Err (why.Changed stands)) = ((stays : Entry V) × Holds h k (Some stays) × (stays.since ≡ stands)) × (stands ≢ since) × (h' ≡ h)
+TakeIfMeans V h h' k since (Err why.Spent) = h' ≡ h

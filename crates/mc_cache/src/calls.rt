@@ -1,6 +1,6 @@
 //! The calls of the writer that a turn makes, as values.
 ghost use Rattle.mc_cache.specs.TurnCalls.{CanMake, HasMade};
-ghost use Rattle.mc_cache.specs.Inside.CallContracts.{put_contract, put_if_absent_contract, put_if_contract, remove_contract, swap_contract, swap_if_contract, take_contract};
+ghost use Rattle.mc_cache.specs.Inside.CallContracts.{put_contract, put_if_absent_contract, put_if_contract, remove_contract, swap_contract, swap_if_contract, take_contract, take_if_contract};
 
 use crate::cache::Cache;
 use crate::turn::{Answers, TurnCall};
@@ -132,5 +132,26 @@ impl<const V: usize> TurnCall<V, Take<V>, Spent> for Taking {
         ensures { HasMade (take_contract V self.0) cache.now result writer.old writer.new }
     {
         writer.take(cache, self.0)
+    }
+}
+
+/// `Writer::take_if` of this key with this stamp.
+#[derive(Clone, Copy)]
+pub struct TakingIf(pub u64, pub u64);
+
+impl<const V: usize> TurnCall<V, Replaced<V>, IfError> for TakingIf {
+    ghost contract = { λ c. take_if_contract V c.0 c.1 };
+
+    #[inline(always)]
+    fn make(
+        self,
+        cache: &Cache<V>,
+        writer: &mut Writer<V>,
+        _: Answers<V>,
+    ) -> Result<Replaced<V>, IfError>
+        requires { CanMake V cache.now writer.old }
+        ensures { HasMade (take_if_contract V self.0 self.1) cache.now result writer.old writer.new }
+    {
+        writer.take_if(cache, self.0, self.1)
     }
 }

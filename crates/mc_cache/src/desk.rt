@@ -3,7 +3,9 @@ ghost use Rattle.std.specs.Prelude.{◌≡◌, IfNone, IfOk, IfSome};
 ghost use Rattle.mc_cache.specs.Resting.{IsAtRest, IsFit};
 
 use crate::cache::Cache;
-use crate::calls::{Putting, PuttingIf, PuttingIfAbsent, Removing, Swapping, SwappingIf, Taking};
+use crate::calls::{
+    Putting, PuttingIf, PuttingIfAbsent, Removing, Swapping, SwappingIf, Taking, TakingIf,
+};
 use crate::reader::Reader;
 use crate::turn::{
     TurnCall, count_in_turn, get_in_turn, list_in_turn, list_stamped_in_turn, make_in_turn,
@@ -123,11 +125,11 @@ impl<const V: usize> Desk<V> {
 }
 
 impl<const V: usize> Desk<V> {
-    ghost use Rattle.mc_cache.specs.Failing.{PutFails, PutIfAbsentFails, PutIfFails, RemovalFails, SwapFails, SwapIfFails, TakeFails, TurnFails, versions_seen};
+    ghost use Rattle.mc_cache.specs.Failing.{PutFails, PutIfAbsentFails, PutIfFails, RemovalFails, SwapFails, SwapIfFails, TakeFails, TakeIfFails, TurnFails, versions_seen};
     ghost use Rattle.mc_cache.specs.Stamped.{AreStampedEntriesOf};
-    ghost use Rattle.mc_cache.specs.Taking.{SwapIfMeans, SwapMeans, TakeMeans, swap_answer, swap_if_answer, take_answer};
+    ghost use Rattle.mc_cache.specs.Taking.{SwapIfMeans, SwapMeans, TakeIfMeans, TakeMeans, swap_answer, swap_if_answer, take_answer};
     ghost use Rattle.mc_cache.specs.Plain.{AreEntriesOf, Begins, PutIfAbsentMeans, PutIfMeans, PutMeans, RemovalMeans, TurnMeans, seen};
-    ghost use Rattle.mc_cache.specs.Turns.{HasMetAtDesk, HasTried, HasTriedIfAbsent, HasTriedToList};
+    ghost use Rattle.mc_cache.specs.Turns.{HasMetAtDesk, HasTried, HasTriedIfAbsent, HasTriedTakeIf, HasTriedToList};
     ghost use Rattle.mc_words.specs.History.{key_count};
     ghost use Rattle.mc_plan.specs.WholeCalls.{PutCall, PutIfCall, RemoveCall};
     ghost use Rattle.mc_plan.specs.declared.answer.Answer.TheVariants as answer;
@@ -268,6 +270,23 @@ impl<const V: usize> Desk<V> {
         ensures fails { TurnFails (TakeFails cache.now.layout.shape (seen V pass.new) (versions_seen V pass.new)) result }
     {
         self.try_call(cache, pass, Taking(key))
+    }
+
+    /// Like `try_put`, with `Writer::take_if`.
+    pub fn try_take_if(
+        &self,
+        cache: &Cache<V>,
+        pass: &mut Reader<V>,
+        key: u64,
+        since: u64,
+    ) -> Result<Replaced<V>, DeskError<IfError>>
+        requires of { (self.now ≡ cache.now) × (pass.old.of ≡ cache.now) }
+        ensures of { pass.new.of ≡ pass.old.of }
+        ensures turn { HasTriedTakeIf V cache.now.layout.shape key pass.old pass.new result }
+        ensures plain { TurnMeans (λ h h' told. TakeIfMeans V h h' key since told) (seen V pass.old) (seen V pass.new) result }
+        ensures fails { TurnFails (TakeIfFails cache.now.layout.shape (seen V pass.new) (versions_seen V pass.new)) result }
+    {
+        self.try_call(cache, pass, TakingIf(key, since))
     }
 
     /// Tries once for the turn, and with it lists each key with its value, in the order of their items. The pass has then seen all

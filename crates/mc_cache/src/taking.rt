@@ -1,15 +1,15 @@
 //! The writer's calls that also return the entry which they take out of the map.
 ghost use Rattle.std.specs.Prelude.{◌≡◌};
-ghost use Rattle.mc_cache.specs.Failing.{SwapFails, SwapIfFails, TakeFails, version_changes};
+ghost use Rattle.mc_cache.specs.Failing.{SwapFails, SwapIfFails, TakeFails, TakeIfFails, version_changes};
 ghost use Rattle.mc_cache.specs.Plain.{history};
-ghost use Rattle.mc_cache.specs.Taking.{SwapIfMeans, SwapMeans, TakeMeans, swap_answer, swap_if_answer, take_answer};
+ghost use Rattle.mc_cache.specs.Taking.{HasTakenIf, SwapIfMeans, SwapMeans, TakeIfMeans, TakeMeans, swap_answer, swap_if_answer, take_answer};
 ghost use Rattle.mc_plan.specs.WholeCalls.{PutCall, PutIfCall, RemoveCall};
 ghost use Rattle.mc_writer.specs.WriterCalls.{HasCalled};
 
 use crate::cache::Cache;
 use crate::writer::{Writer, at};
 use mc_plan::{IfError, PutError, Spent};
-use mc_writer::{Replaced, Swapped, Take, swap, swap_if, take};
+use mc_writer::{Replaced, Swapped, Take, look, swap, swap_if, take};
 
 impl<const V: usize> Writer<V> {
     /// Puts the key as `put` does, and returns the entry that gives way: the key's earlier one, or that of the key that is evicted.
@@ -76,6 +76,32 @@ impl<const V: usize> Writer<V> {
             }
             Ok(Take::NotThere { at }) => Ok(Take::NotThere { at }),
             Err(spent) => Err(spent),
+        }
+    }
+
+    /// Removes the key as `take` does, if its last put was at the moment `since`, as a lookup of the key returned it. Returns the moment of
+    /// the removal, and the entry. After an `Err` nothing has changed: `Changed` with the moment of the key's last put if that is another,
+    /// else `Spent` if the limit on version changes could be exceeded, or `NotThere`.
+    pub fn take_if(
+        &mut self,
+        cache: &Cache<V>,
+        key: u64,
+        since: u64,
+    ) -> Result<Replaced<V>, IfError>
+        requires of { self.old.of ≡ cache.now }
+        ensures called { HasTakenIf V cache.now.layout.shape key self.old self.new result }
+        ensures plain { TakeIfMeans V (history V self.old) (history V self.new) key since result }
+        ensures fails { TakeIfFails cache.now.layout.shape (history V self.new) (version_changes V self.new) result }
+    {
+        if let Some(held) = look(&cache.cells, &mut self.seat, &self.books, key) {
+            if held.since != since {
+                return Err(IfError::Changed { since: held.since });
+            }
+        }
+        match self.take(cache, key) {
+            Ok(Take::Taken { at, old }) => Ok(Replaced { at, old }),
+            Ok(Take::NotThere { at }) => Err(IfError::NotThere { at }),
+            Err(_) => Err(IfError::Spent),
         }
     }
 }

@@ -1,8 +1,8 @@
 -- What the writes mean that also return the entry which gives way: the writer makes them, and a pass in a turn.
 use Rattle.std.specs.Prelude.{ℕ, ◌≡◌, ◌≢◌, ◌⊎◌, List, length, Option, Some, None, Result, Ok, Err}
 use Rattle.mc_cache.specs.Plain.{TurnMeans, history, seen}
-use Rattle.mc_cache.specs.Taking.{SwapIfMeans as SwapIfOf, SwapMeans as SwapOf, TakeMeans as TakeOf, swap_answer, swap_if_answer, take_answer}
-use Rattle.mc_cache.specs.Turns.{HasTried}
+use Rattle.mc_cache.specs.Taking.{HasTakenIf, SwapIfMeans as SwapIfOf, SwapMeans as SwapOf, TakeIfMeans as TakeIfOf, TakeMeans as TakeOf, swap_answer, swap_if_answer, take_answer}
+use Rattle.mc_cache.specs.Turns.{HasTried, HasTriedTakeIf}
 use Rattle.mc_cache.specs.declared.desk.DeskError.{DeskError}
 use Rattle.mc_cache.specs.declared.desk.DeskError.TheVariants as desk
 use Rattle.mc_words.specs.declared.history.Change.{Change}
@@ -20,7 +20,7 @@ use Rattle.mc_plan.specs.declared.answer.Spent.{Spent}
 use Rattle.mc_writer.specs.WriterCalls.{HasCalled}
 use Rattle.mc_door.specs.AtShards.{IsAtShard}
 use Rattle.mc_door.specs.Roles.{Role, Writes, Passes, Shares}
-use Rattle.mc_door.specs.Tellings.{plain, swap_if_told, swap_told, take_told, turn_told}
+use Rattle.mc_door.specs.Tellings.{plain, swap_if_told, swap_told, take_if_told, take_told, turn_told}
 use Rattle.mc_door.specs.Means.{CanChange}
 use Rattle.mc_door.specs.Tells.{HasTold}
 use Rattle.mc_door.specs.declared.status.TheConstants.{KIND, WIDTH}
@@ -31,6 +31,7 @@ use Rattle.mc_door.specs.declared.write.Swap.TheVariants as call
 -- how many words the value has; as many as those of the cache if there is none
 abbrev pub swap_words : ℕ → Swap → List ℕ → ℕ
 swap_words V call.Remove v = V
+swap_words V (call.RemoveIf since) v = V
 swap_words V _ v = length v
 
 -- the entry that a call took out, if it took one out
@@ -66,6 +67,8 @@ SwapsAtOnce V w w' key (call.PutIf since) v old new told =
     HasTold swap_if_told (λ a. HasCalled V w.of.layout.shape (PutIfCall key since v) w w' (swap_if_answer a) × SwapIfOf V (history V w) (history V w') key since v a × (new ≡ left_by (old_of_swap_if a) old)) told
 SwapsAtOnce V w w' key call.Remove v old new told =
     HasTold take_told (λ a. HasCalled V w.of.layout.shape (RemoveCall key) w w' (take_answer a) × TakeOf V (history V w) (history V w') key a × (new ≡ left_by (old_of_take a) old)) told
+SwapsAtOnce V w w' key (call.RemoveIf since) v old new told =
+    HasTold take_if_told (λ a. HasTakenIf V w.of.layout.shape key w w' a × TakeIfOf V (history V w) (history V w') key since a × (new ≡ left_by (old_of_swap_if a) old)) told
 
 -- by a pass, whose record and what it has seen change so
 abbrev pub SwapsInTurn : (V : ℕ) → Shape → ((ReaderRecord → ReaderRecord → Type 0) → (List (Change V) → List (Change V) → Type 0) → Type 0) → ℕ → Swap → List ℕ → List ℕ → List ℕ → Told → Type 0
@@ -75,6 +78,8 @@ SwapsInTurn V sh Goes key (call.PutIf since) v old new told =
     HasTold (turn_told swap_if_told) (λ a. Goes (λ r r'. HasTried V sh (PutIfCall key since v) swap_if_answer r r' a) (λ h h'. TurnMeans (λ b b' answer. SwapIfOf V b b' key since v answer) h h' a) × (new ≡ left_by (old_of_turn old_of_swap_if a) old)) told
 SwapsInTurn V sh Goes key call.Remove v old new told =
     HasTold (turn_told take_told) (λ a. Goes (λ r r'. HasTried V sh (RemoveCall key) take_answer r r' a) (λ h h'. TurnMeans (λ b b' answer. TakeOf V b b' key answer) h h' a) × (new ≡ left_by (old_of_turn old_of_take a) old)) told
+SwapsInTurn V sh Goes key (call.RemoveIf since) v old new told =
+    HasTold (turn_told take_if_told) (λ a. Goes (λ r r'. HasTriedTakeIf V sh key r r' a) (λ h h'. TurnMeans (λ b b' answer. TakeIfOf V b b' key since answer) h h' a) × (new ≡ left_by (old_of_turn old_of_swap_if a) old)) told
 
 abbrev pub SwapMeans : (V : ℕ) → Role → Role → ℕ → Swap → List ℕ → List ℕ → List ℕ → Told → Type 0
 SwapMeans V (Writes w) (Writes w') key call v old new told = (swap_words V call v ≡ V) × (w'.of ≡ w.of) × SwapsAtOnce V w w' key call v old new told

@@ -97,6 +97,10 @@ abbrev pub swap_if_told : {V : ℕ} → Result (Replaced V) IfError → Told
 swap_if_told (Ok replaced) = with_stamp (Some replaced.old) (done_told (Renewed replaced.at))
 swap_if_told (Err why) = not_put_if_told why
 
+abbrev pub take_if_told : {V : ℕ} → Result (Replaced V) IfError → Told
+take_if_told (Ok replaced) = with_stamp (Some replaced.old) (told_at OK replaced.at)
+take_if_told (Err why) = not_put_if_told why
+
 abbrev pub take_told : {V : ℕ} → Result (Take V) Spent → Told
 take_told (Ok (Taken at old)) = with_stamp (Some old) (told_at OK at)
 take_told (Ok (NotThere at)) = told_at ABSENT at

@@ -165,6 +165,16 @@ impl<const V: usize> ShardSide<V> {
         in_turn!(tried, reply, made => tell::take(made, old, reply))
     }
 
+    #[inline(never)]
+    fn take_if(&mut self, key: u64, since: u64, old: &mut [u64], reply: &mut RawReply) -> u32
+        requires width { IsWidth V }
+        requires old { length old.old ≡ V }
+        ensures { SwapMeans V (Shares self.old.shards.value self.old.pass) (Shares self.new.shards.value self.new.pass) key (Swap.RemoveIf since) [] old.old old.new (record { status = result; reply = reply.new }) }
+    {
+        let tried = self.pass.try_take_if(&self.shards, key, since);
+        in_turn!(tried, reply, made => tell::take_if(made, old, reply))
+    }
+
     #[inline(always)]
     pub(crate) fn swap(
         &mut self,
@@ -183,6 +193,7 @@ impl<const V: usize> ShardSide<V> {
             Swap::Put => self.swap_in(key, value, old, reply),
             Swap::PutIf(since) => self.swap_if(key, since, value, old, reply),
             Swap::Remove => self.take(key, old, reply),
+            Swap::RemoveIf(since) => self.take_if(key, since, old, reply),
         }
     }
 

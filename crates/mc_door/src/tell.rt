@@ -2,7 +2,7 @@
 //! registers.
 ghost use Rattle.std.specs.Prelude.{◌≡◌, length};
 ghost use Rattle.mc_door.specs.Swaps.{left_by, old_of_swap, old_of_swap_if, old_of_take};
-ghost use Rattle.mc_door.specs.Tellings.{done_told, not_put_told, plain, put_if_absent_told, put_if_told, put_told, removal_told, swap_if_told, swap_told, stamped, take_told};
+ghost use Rattle.mc_door.specs.Tellings.{done_told, not_put_told, plain, put_if_absent_told, put_if_told, put_told, removal_told, swap_if_told, swap_told, stamped, take_if_told, take_told};
 
 use crate::status;
 use crate::told::{RawReply, Told};
@@ -151,6 +151,25 @@ pub(crate) fn take<const V: usize>(
         }
         Ok(Take::NotThere { at }) => Told::at(status::ABSENT, at).tell(reply),
         Err(Spent) => refused(status::SPENT, reply),
+    }
+}
+
+pub(crate) fn take_if<const V: usize>(
+    made: Result<Replaced<V>, IfError>,
+    old: &mut [u64],
+    reply: &mut RawReply,
+) -> u32
+    requires { length old.old ≡ V }
+    ensures told { record { status = result; reply = reply.new } ≡ take_if_told made.entry }
+    ensures old { old.new ≡ left_by (old_of_swap_if made.entry) old.old }
+{
+    match made {
+        Ok(taken) => {
+            let status = Told::at(status::OK, taken.at).tell(reply);
+            give(Some(taken.old), old, reply);
+            status
+        }
+        Err(why) => Told::not_put_if(why).tell(reply),
     }
 }
 

@@ -37,6 +37,8 @@ pub enum Swap {
     PutIf(u64),
     /// A removal. It has no value.
     Remove,
+    /// A removal of a key whose last put was at this moment. It has no value.
+    RemoveIf(u64),
 }
 
 impl Swap {
@@ -46,7 +48,7 @@ impl Swap {
         ensures { result ≡ swap_words words self value.now }
     {
         match self {
-            Swap::Remove => words,
+            Swap::Remove | Swap::RemoveIf(_) => words,
             _ => value.len(),
         }
     }

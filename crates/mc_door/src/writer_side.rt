@@ -139,6 +139,16 @@ impl<const V: usize> WriterSide<V> {
         tell::take(made, old, reply)
     }
 
+    #[inline(never)]
+    fn take_if(&mut self, key: u64, since: u64, old: &mut [u64], reply: &mut RawReply) -> u32
+        requires width { IsWidth V }
+        requires old { length old.old ≡ V }
+        ensures { SwapMeans V (Writes self.old.writer) (Writes self.new.writer) key (Swap.RemoveIf since) [] old.old old.new (record { status = result; reply = reply.new }) }
+    {
+        let made = self.writer.take_if(&self.cache, key, since);
+        tell::take_if(made, old, reply)
+    }
+
     #[inline(always)]
     pub(crate) fn swap(
         &mut self,
@@ -157,6 +167,7 @@ impl<const V: usize> WriterSide<V> {
             Swap::Put => self.swap_in(key, value, old, reply),
             Swap::PutIf(since) => self.swap_if(key, since, value, old, reply),
             Swap::Remove => self.take(key, old, reply),
+            Swap::RemoveIf(since) => self.take_if(key, since, old, reply),
         }
     }
 

@@ -2,7 +2,7 @@
 -- shard. They are those of one map, whose part of a key is kept by the key's shard.
 use Rattle.std.specs.Prelude.{ℕ, ◌≡◌, ◌≢◌, ◌==◌, List, [], ◌∷◌, ◌++◌, AllPairs, EachIndex, Option, Some, None, length, map, slice_index, slice_index_or}
 pub use Rattle.mc_cache.specs.Plain.{Begins, HasAnswered, PutIfAbsentMeans, PutIfMeans, PutMeans, RemovalMeans, TurnMeans}
-pub use Rattle.mc_cache.specs.Taking.{SwapIfMeans, SwapMeans, TakeMeans}
+pub use Rattle.mc_cache.specs.Taking.{SwapIfMeans, SwapMeans, TakeIfMeans, TakeMeans}
 use Rattle.std.specs.Map.{lookup}
 use Rattle.mc_cache.specs.Plain.{seen, map_value}
 use Rattle.mc_words.specs.History.{value_held}

@@ -12,9 +12,9 @@ use Rattle.mc_writer.specs.WriterCalls.{HasCalled, HasPutIfAbsent}
 use Rattle.mc_writer.specs.declared.entry.Replaced.{Replaced}
 use Rattle.mc_writer.specs.declared.entry.Swapped.{Swapped}
 use Rattle.mc_writer.specs.declared.entry.Take.{Take}
-use Rattle.mc_cache.specs.Failing.{PutFails, PutIfAbsentFails, PutIfFails, RemovalFails, SwapFails, SwapIfFails, TakeFails}
+use Rattle.mc_cache.specs.Failing.{PutFails, PutIfAbsentFails, PutIfFails, RemovalFails, SwapFails, SwapIfFails, TakeFails, TakeIfFails}
 use Rattle.mc_cache.specs.Plain.{PutIfAbsentMeans, PutIfMeans, PutMeans, RemovalMeans}
-use Rattle.mc_cache.specs.Taking.{SwapIfMeans, SwapMeans, TakeMeans, swap_answer, swap_if_answer, take_answer}
+use Rattle.mc_cache.specs.Taking.{HasTakenIf, SwapIfMeans, SwapMeans, TakeIfMeans, TakeMeans, swap_answer, swap_if_answer, take_answer}
 use Rattle.mc_cache.specs.TurnCalls.{Contract}
 
 abbrev pub put_contract : (V : ℕ) → ℕ → List ℕ → Contract V Put PutError
@@ -64,4 +64,11 @@ take_contract V k = record {
   called = λ sh told w w'. HasCalled V sh (RemoveCall k) w w' (take_answer told);
   means = λ h h' told. TakeMeans V h h' k told;
   fails = λ sh h made told. TakeFails sh h made told;
+}
+
+abbrev pub take_if_contract : (V : ℕ) → ℕ → ℕ → Contract V (Replaced V) IfError
+take_if_contract V k since = record {
+  called = λ sh told w w'. HasTakenIf V sh k w w' told;
+  means = λ h h' told. TakeIfMeans V h h' k since told;
+  fails = λ sh h made told. TakeIfFails sh h made told;
 }

@@ -1,0 +1,40 @@
+//! A call is made again only while it is held, and at most as often as it may be.
+use cefrodil::{Desk, Shape, Shards, Spent, Take, TurnError};
+use std::cell::Cell;
+
+/// Makes a call that is held this often, and takes key 1 then: what came of it, and how often it was made.
+fn tried(tries: u32, held: u32) -> (Result<Take<1>, TurnError<Spent>>, u32) {
+    let desk = Desk::<1>::open(&Shape::for_items(10).unwrap(), 1).unwrap();
+    let mut pass = desk.pass().unwrap();
+    let calls = Cell::new(0);
+    let told = pass.within(tries, |pass| {
+        calls.set(calls.get() + 1);
+        if calls.get() <= held {
+            return Err(TurnError::Held);
+        }
+        pass.try_take(1)
+    });
+    (told, calls.get())
+}
+
+#[test]
+fn a_call_is_made_again_while_it_is_held() {
+    let done = Ok(Take::NotThere { at: 0 });
+    assert_eq!(tried(5, 0), (done, 1));
+    assert_eq!(tried(5, 3), (done, 4));
+    assert_eq!(tried(5, 4), (done, 5));
+    assert_eq!(tried(5, 5), (Err(TurnError::Held), 5));
+    assert_eq!(tried(1, 1), (Err(TurnError::Held), 1));
+    assert_eq!(tried(0, 0), (done, 1));
+}
+
+#[test]
+fn a_refusal_is_returned_at_once() {
+    let mut passes = Shards::<1>::open(&Shape { limit: 0, ..Shape::for_shards(10, 1).unwrap() }, 1, 1).unwrap();
+    let mut calls = 0;
+    let told = passes[0].within(5, |pass| {
+        calls += 1;
+        pass.try_remove(1)
+    });
+    assert_eq!((told, calls), (Err(TurnError::Call(Spent)), 1));
+}
