@@ -71,10 +71,10 @@ pub(crate) fn gather<const V: usize>(
     }
 }
 
-/// How many moments up to the last are missing or repeated. The changes are in the order of their moments.
+/// How many moments up to the last are missing or repeated, or are beyond it. The changes are in the order of their moments.
 pub(crate) fn misplaced<const V: usize>(all: &[Dated<V>], last: u64) -> u64
-    ensures right { result ≡ 0 → AreMoments all.now × (last ≤ length all.now) }
-    ensures none { AreMoments all.now → last ≤ length all.now → result ≡ 0 }
+    ensures right { result ≡ 0 → AreMoments all.now × (last ≡ length all.now) }
+    ensures none { AreMoments all.now → last ≡ length all.now → result ≡ 0 }
 {
     let mut wrong: u64 = 0;
     let mut moment: u64 = 0;
@@ -87,7 +87,7 @@ pub(crate) fn misplaced<const V: usize>(all: &[Dated<V>], last: u64) -> u64
             wrong = wrong.saturating_add(1);
         }
     }
-    wrong.saturating_add(last.saturating_sub(moment))
+    wrong.saturating_add(last.abs_diff(moment))
 }
 
 /// Writes the changes without their moments. There is room for them.

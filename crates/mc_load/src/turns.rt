@@ -65,7 +65,8 @@ pub struct DeskReport {
     pub answered: u64,
     /// Changes of the map that the writers' answers reported.
     pub changes: u64,
-    /// Answers that aren't what the map held after the changes that they name, and moments of a shard that have no change or several.
+    /// Answers that aren't what the map held after the changes that they name. Moments of a shard that have no change or several, or that a
+    /// lookup at the end doesn't see.
     pub wrong: u64,
 }
 
