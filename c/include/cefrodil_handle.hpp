@@ -16,7 +16,7 @@
 
 namespace cefrodil {
 
-// The statuses of cefrodil.h, and two more. A compiler warns if nobody looks at the status of a call, except that of `close`. `Status::ok` is
+// The statuses of cefrodil.h, and three more. A compiler warns if nobody looks at the status of a call, except that of `close`. `Status::ok` is
 // 0, so compare a status, and never take it for a bool.
 enum class Status : uint32_t {
     ok = CEFRODIL_OK,
@@ -49,8 +49,11 @@ enum class Status : uint32_t {
     processor = CEFRODIL_PROCESSOR,
     // The program is linked with an archive of another version, whose structs and calls may differ. Nothing was done.
     other_version = 1000,
-    // By Filler::fill alone (cefrodil_filler.hpp): the store may have changed since the value was read. Nothing was put.
-    stale = 1001
+    // By Filler::fill (cefrodil_filler.hpp): the store may have changed since the value was read. Nothing was put. By map::find_or_compute
+    // (cefrodil_map.hpp): the key was changed while its value was computed.
+    stale = 1001,
+    // By map::open alone: the kernel gave no random numbers. Nothing is open.
+    no_random = 1002
 };
 
 namespace inside {
@@ -89,6 +92,9 @@ template <class Grow> [[nodiscard]] bool has_memory(Grow grow) noexcept {
 inline const char *text(Status status) noexcept {
     if (status == Status::other_version) {
         return inside::versions();
+    }
+    if (status == Status::no_random) {
+        return "the kernel gave no random numbers";
     }
     return status == Status::stale ? "the store may have changed since the value was read" : cefrodil_text(static_cast<uint32_t>(status));
 }

@@ -1,13 +1,15 @@
 // Each allocation of an opening and of a list is refused in turn, the library's and those of C++: then the call returns no_memory, does nothing
-// and keeps nothing. Linked with --wrap.
-#include "cefrodil.hpp"
+// and keeps nothing. A list allocates in its turn, so other threads are held meanwhile. Linked with --wrap.
+#include "cefrodil_map.hpp"
 #include "must.h"
+#include <chrono>
 #include <cstdlib>
 #include <new>
 
 using namespace cefrodil;
 
-static long left = -1, kept, of_library;
+static std::atomic<long> left{-1}, kept{0}, of_library{0};
+static void (*in_turn)() = nullptr; // what the library's next allocation calls first
 
 static bool refused() {
     const bool none = left == 0;
@@ -30,6 +32,9 @@ void __wrap_free(void *block);
 
 void *__wrap_malloc(size_t size) {
     of_library++;
+    if (in_turn != nullptr) {
+        std::exchange(in_turn, nullptr)();
+    }
     return refused() ? nullptr : taken(__real_malloc(size));
 }
 void *__wrap_realloc(void *block, size_t size) {
@@ -125,10 +130,114 @@ static void by_passes() {
     MUST(passes.size() == 3 && !passes[1].get(7).value);
 }
 
+// A thread that has no memory to note its pass gives it back, and uses the shared one.
+static void passes_of_threads(const cefrodil_shape &one) {
+    inside::Passes<1> passes;
+    MUST(passes.open(one, 1, 2) == Status::ok && passes.free_count() == 1);
+    const auto is_own = [&](inside::Slot<1> &slot) { return &slot.pass != &passes.shared(); };
+    left = 0;
+    MUST(!passes.call(is_own) && passes.free_count() == 1);
+    left = -1;
+    MUST(passes.call(is_own) && passes.free_count() == 0);
+}
+
+// So a thread's first call of a map goes on without memory. Later calls take none.
+static void calls_of_a_map(map<uint64_t, uint64_t> &numbers) {
+    for (int call = 0; call < 3; call++) {
+        left = call == 1 ? -1 : 0;
+        MUST(numbers.insert_or_assign(7, 70).status == Status::ok && numbers.find(7) == 70u);
+        MUST(numbers.find_or_compute(8, [] { return 80; }).value == 80);
+        MUST(numbers.update(7, [](uint64_t n) { return n + 1; }).value == 71u && numbers.erase(8) == Status::ok && numbers.size() == 1);
+        left = -1;
+    }
+}
+
+// What a thread keeps of maps that have ended does not add up.
+static void maps_that_end() {
+    long after_three = 0;
+    for (int n = 0; n < 30; n++) {
+        map<uint64_t, uint64_t> numbers;
+        MUST(numbers.open({10, 1, 2}) == Status::ok && numbers.insert(1, 1).status == Status::ok && numbers.close() == Status::ok);
+        after_three = n == 3 ? long(kept) : after_three;
+    }
+    MUST(kept == after_three);
+}
+
+static map<uint64_t, uint64_t> turns;
+static std::vector<std::thread> others;
+static std::atomic<bool> has_ended{false};
+
+// Waits until calls of other threads were held three times.
+static void wait_for_held(uint64_t before) {
+    for (int n = 0; turns.meter().counts().held < before + 3 && n < 5000; n++) {
+        std::this_thread::sleep_for(std::chrono::milliseconds(1));
+    }
+    MUST(turns.meter().counts().held >= before + 3 && !has_ended);
+}
+
+// While one thread has the turn, each change by another one is held, and changes nothing.
+static void held_at_once() {
+    std::thread([] {
+        MUST(turns.erase(7) == Status::held && turns.find(7) == 70u && turns.insert_or_assign(7, 71).status == Status::held);
+        MUST(turns.insert(9, 90).status == Status::held && turns.update(7, [](uint64_t n) { return n + 1; }).status == Status::held);
+        MUST(turns.clear() == Status::held && turns.find(7) == 70u && turns.find(8) == 80u && !turns.contains(9) && turns.size() == 2);
+        const auto computed = turns.find_or_compute(9, [] { return 91; });
+        MUST(computed.status == Status::held && computed.value == 91 && computed.computed && !turns.contains(9));
+        has_ended = true;
+    }).join();
+}
+// Here it is repeated: it ends after the turn has.
+static void held_a_while() {
+    const uint64_t before = turns.meter().counts().held;
+    others.emplace_back([] {
+        MUST(turns.insert_or_assign(9, 90).status == Status::ok);
+        has_ended = true;
+    });
+    wait_for_held(before);
+}
+// The put of a computed value is held, and an erasure waits for it: or else the value would be put after the erasure has returned.
+static void held_computation() {
+    const uint64_t before = turns.meter().counts().held;
+    others.emplace_back([] { MUST(turns.find_or_compute(9, [] { return 90; }).status == Status::ok); });
+    wait_for_held(before);
+    others.emplace_back([] {
+        MUST(turns.erase(9) == Status::ok);
+        has_ended = true;
+    });
+    std::this_thread::sleep_for(std::chrono::milliseconds(20));
+    MUST(!has_ended);
+}
+
+static void turns_of_others(void (*meanwhile)(), uint32_t tries) {
+    MUST(turns.open({100, 1, 8, tries}) == Status::ok && turns.insert(7, 70).status == Status::ok && turns.insert(8, 80).status == Status::ok);
+    has_ended = false;
+    in_turn = meanwhile;
+    MUST(turns.clear() == Status::ok && in_turn == nullptr);
+    for (std::thread &other : others) {
+        other.join();
+    }
+    MUST(has_ended && !turns.contains(7) && !turns.contains(8) && turns.contains(9) == (meanwhile == held_a_while));
+    MUST(turns.size() == turns.contains(9) && turns.close() == Status::ok);
+    std::vector<std::thread>().swap(others);
+}
+
+static void by_maps() {
+    map<uint64_t, uint64_t> numbers;
+    MUST(at_last(6, [&] { return numbers.open({100, 4, 4}); }, [&] { return !numbers.is_open(); }));
+    calls_of_a_map(numbers);
+    MUST(at_last(1, [&] { return numbers.clear(); }, [&] { return numbers.find(7) == 71u && numbers.size() == 1; }) && numbers.size() == 0);
+    passes_of_threads(shape);
+    maps_that_end();
+    turns_of_others(held_at_once, 0);
+    turns_of_others(held_a_while, UINT32_MAX);
+    turns_of_others(held_computation, UINT32_MAX);
+}
+
 int main() {
     const long before = kept;
     apart();
     by_passes();
+    std::thread(by_maps).join(); // with what the thread keeps
     MUST(kept == before);
     return outcome("memory");
 }

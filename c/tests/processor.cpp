@@ -1,6 +1,6 @@
 // On a processor that is too old each opening returns that, and opens nothing. .ci/door links this with an archive that finds each processor too
 // old, and then defines TOO_OLD. Over any other archive each opening opens.
-#include "cefrodil.hpp"
+#include "cefrodil_map.hpp"
 #include "must.h"
 
 using namespace cefrodil;
@@ -43,6 +43,8 @@ static void in_cxx() {
     MUST(open_with(shape, 1, {1, 10}, other, others, statuses) == expected && statuses.size() == size_t(runs));
     MUST(open_desk(shape, 1, passes) == expected && open_shards(shape, 4, 1, of_shards) == expected);
     MUST((writer.put(1, {10}).status == Status::closed) != runs);
+    map<int, int> numbers;
+    MUST(numbers.open({100}) == expected && numbers.is_open() == runs);
 }
 
 int main() {

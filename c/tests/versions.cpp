@@ -1,5 +1,5 @@
 // Each opening refuses an archive of another minor version, and one whose patch alone is another opens. So this test passes over any archive.
-#include "cefrodil.hpp"
+#include "cefrodil_map.hpp"
 #include "must.h"
 #include <string>
 
@@ -21,6 +21,8 @@ int main() {
     MUST(open(shape, 1, writer, readers) == expected && writer.is_open() == same && readers.size() == size_t(same));
     MUST(open_with(shape, 1, {1, 10}, other, others, statuses) == expected && statuses.size() == size_t(same));
     MUST(open_desk(shape, 1, passes) == expected && open_shards(shape, 4, 1, of_shards) == expected);
+    map<int, int> numbers;
+    MUST(numbers.open({100}) == expected && numbers.is_open() == same);
     MUST(make_desk(writer, 1, of_writer) == expected && of_writer.size() == size_t(same));
     MUST(text(Status::other_version) == "the library has version " + dotted(cefrodil_version()) + ", and the header " + dotted(CEFRODIL_VERSION));
     return outcome("versions");

@@ -1,0 +1,151 @@
+// Keyed hashes for cefrodil_map.hpp: SipHash, by Jean-Philippe Aumasson and Daniel J. Bernstein (2012). It is designed so that nobody who does not
+// know the secret can choose keys whose hashes meet.
+#ifndef CEFRODIL_HASH_HPP
+#define CEFRODIL_HASH_HPP
+
+#include "cefrodil.h"
+#include <cstddef>
+#include <cstdint>
+#include <cstring>
+#include <memory>
+#include <string>
+#include <string_view>
+#include <sys/random.h>
+#include <type_traits>
+#include <utility>
+
+namespace cefrodil {
+
+// The secret of a hash: 128 random bits.
+struct HashSecret {
+    uint64_t first;
+    uint64_t second;
+};
+
+namespace inside {
+
+// The four words of SipHash, as its paper names them.
+class SipState {
+  public:
+    explicit SipState(const HashSecret &secret) noexcept
+        : v0_(secret.first ^ 0x736f6d6570736575), v1_(secret.second ^ 0x646f72616e646f6d), v2_(secret.first ^ 0x6c7967656e657261),
+          v3_(secret.second ^ 0x7465646279746573) {}
+
+    template <int Rounds> void take(uint64_t word) noexcept {
+        v3_ ^= word;
+        rounds<Rounds>();
+        v0_ ^= word;
+    }
+    template <int Rounds> uint64_t finish() noexcept {
+        v2_ ^= 0xff;
+        rounds<Rounds>();
+        return v0_ ^ v1_ ^ v2_ ^ v3_;
+    }
+
+  private:
+    static uint64_t rotated(uint64_t word, int bits) noexcept { return word << bits | word >> (64 - bits); }
+
+    template <int Rounds> void rounds() noexcept {
+        for (int round = 0; round < Rounds; round++) {
+            v0_ += v1_;
+            v2_ += v3_;
+            v1_ = rotated(v1_, 13) ^ v0_;
+            v3_ = rotated(v3_, 16) ^ v2_;
+            v0_ = rotated(v0_, 32) + v3_;
+            v2_ += v1_;
+            v3_ = rotated(v3_, 21) ^ v0_;
+            v1_ = rotated(v1_, 17) ^ v2_;
+            v2_ = rotated(v2_, 32);
+        }
+    }
+
+    uint64_t v0_, v1_, v2_, v3_;
+};
+
+// SipHash with so many rounds for each word and at the end.
+template <int Rounds, int FinalRounds> uint64_t sip_hash(const void *data, size_t size, const HashSecret &secret) noexcept {
+    SipState state(secret);
+    const auto *bytes = static_cast<const unsigned char *>(data);
+    size_t left = size;
+    for (; left >= sizeof(uint64_t); left -= sizeof(uint64_t), bytes += sizeof(uint64_t)) {
+        uint64_t word;
+        std::memcpy(&word, bytes, sizeof word);
+        state.take<Rounds>(word);
+    }
+    uint64_t last = 0;
+    if (left != 0) {
+        std::memcpy(&last, bytes, left);
+    }
+    state.take<Rounds>(last | uint64_t(size) << 56);
+    return state.finish<FinalRounds>();
+}
+
+template <class Key> inline constexpr bool is_string = std::is_same_v<Key, std::string> || std::is_same_v<Key, std::string_view>;
+
+} // namespace inside
+
+// The hash of a map, unless the program gives it another: SipHash-1-3 of a string's letters, or of the bytes of any other key.
+template <class Key> struct SipHash {
+    static_assert(std::has_unique_object_representations_v<Key>,
+                  "equal keys need equal bytes, so no padding, float or pointer inside a class: give the map a hash for this key");
+    uint64_t operator()(const Key &key, const HashSecret &secret) const noexcept {
+        return inside::sip_hash<1, 3>(std::addressof(key), sizeof key, secret);
+    }
+};
+template <> struct SipHash<std::string> {
+    uint64_t operator()(std::string_view key, const HashSecret &secret) const noexcept {
+        return inside::sip_hash<1, 3>(key.data(), key.size(), secret);
+    }
+};
+template <> struct SipHash<std::string_view> : SipHash<std::string> {};
+
+namespace inside {
+
+// What stands for a key in the index: the number under which its entry is, and a word of the entry which tells it from another key's.
+struct Identity {
+    uint64_t index;
+    uint64_t check;
+};
+
+inline bool is_same(const Identity &one, const Identity &other) noexcept { return one.index == other.index && one.check == other.check; }
+
+// Whether a hash takes all of the secret, or its first word as a seed.
+template <class Hash, class Key> inline constexpr bool takes_secret = std::is_invocable_r_v<uint64_t, const Hash &, Key, const HashSecret &>;
+template <class Hash, class Key> inline constexpr bool takes_seed = std::is_invocable_r_v<uint64_t, const Hash &, Key, uint64_t>;
+template <class Hash, class Key> inline constexpr bool hashes = takes_secret<Hash, Key> || takes_seed<Hash, Key>;
+
+// How a call takes a key. A string that the hash takes as a view is never copied.
+template <class Key, class Hash>
+using Taken = std::conditional_t<is_string<Key> && hashes<Hash, std::string_view>, std::string_view, const Key &>;
+
+// The two hashes of a map, each with a secret of its own.
+template <class Key, class Hash> class Identities {
+  public:
+    static constexpr bool never_throws = takes_secret<Hash, Key> ? std::is_nothrow_invocable_v<const Hash &, Key, const HashSecret &>
+                                                                 : std::is_nothrow_invocable_v<const Hash &, Key, uint64_t>;
+
+    explicit Identities(Hash &&hash) : hash_(std::move(hash)) {}
+
+    // Draws the secrets. Returns whether the kernel gave them. It gives up to 256 bytes at once.
+    [[nodiscard]] bool draw() noexcept { return getrandom(secrets_, sizeof secrets_, 0) == static_cast<ssize_t>(sizeof secrets_); }
+
+    Identity of(Key key) const noexcept(never_throws) { return {hashed(key, secrets_[0]), hashed(key, secrets_[1])}; }
+
+  private:
+    uint64_t hashed(Key key, const HashSecret &secret) const noexcept(never_throws) {
+        if constexpr (takes_secret<Hash, Key>) {
+            return hash_(key, secret);
+        } else {
+            return hash_(key, secret.first);
+        }
+    }
+
+    Hash hash_;
+    HashSecret secrets_[2] = {};
+};
+
+} // namespace inside
+
+} // namespace cefrodil
+
+#endif

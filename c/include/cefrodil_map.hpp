@@ -1,0 +1,376 @@
+// A cache as a map of a program's own types, for any number of threads. Keys are hashed, and values have up to 56 bytes. A new key evicts another one
+// when its shard is full.
+//
+// This header is plain C++ and is not proved. The index below it is: a lookup of a 64-bit number returns what was put under it last, at one moment
+// of the call, and never parts of two values.
+//
+// The map stores no keys. One keyed hash of a key is its number in the index. A second one, with a secret of its own, is stored with the value. Each
+// lookup compares it, and a mismatch is a miss. So two keys are confused only if both hashes agree. With SipHash that is, as far as is known, a
+// chance of 2^-128 for a pair. A hash of yours must give independent hashes for two seeds.
+//
+// What you promise: no other call runs during open, close, a move or the destructor. All other calls may come from any thread at any time. No call
+// comes from a signal handler or a forked child. Promises 5 and 6 of cefrodil.h hold, too.
+//
+// No call throws, but what your hash and your functions throw. A call that other threads keep from its turn is repeated, up to `tries` times. Then
+// it returns `held`, or `busy`, and has changed nothing; `clear` may have removed some keys.
+#ifndef CEFRODIL_MAP_HPP
+#define CEFRODIL_MAP_HPP
+
+#include "cefrodil.hpp"
+#include "cefrodil_flights.hpp"
+#include "cefrodil_hash.hpp"
+#include "cefrodil_passes.hpp"
+#include <algorithm>
+#include <thread>
+
+namespace cefrodil {
+
+// Whether a type can be the value of a map: as `is_value`, of up to 56 bytes, and an object that a function can return.
+template <class V> inline constexpr bool is_map_value = is_value<V> && words_of<V> <= 7 && std::is_copy_constructible_v<V> && !std::is_const_v<V>;
+
+// How a map is opened. A thread takes a pass at its first call, and gives it back at its end. One pass is shared behind a lock by all threads that
+// find no other: they are slower.
+struct MapOptions {
+    uint32_t entries;       // the map has room for so many; `capacity` is more
+    uint32_t shards = 16;   // a power of two, 1 to 256: so many threads can write at once
+    uint32_t passes = 64;   // 1 to 1,024, with the shared one
+    uint32_t tries = 20000; // how often a call is repeated that other threads keep from its turn
+};
+
+// The answer of a lookup, and of an update. `value` is there if the status is ok.
+template <class V> struct Found {
+    Status status;
+    std::optional<V> value;
+};
+
+// The answer of a put. `renewed`: it overwrote the key's value. `evicted`: another key's entry is lost.
+struct Stored {
+    Status status;
+    bool renewed;
+    bool evicted;
+};
+
+// The answer of find_or_compute. `value` is always there. If the status is not ok, it says why the value was not put.
+template <class V> struct Computed {
+    Status status;
+    V value;
+    bool computed; // by this call
+};
+
+namespace inside {
+
+// Waits before a call is repeated for this time: some steps of the processor at first, then a turn of the scheduler.
+inline void wait_before(uint32_t repeat) noexcept {
+    if (repeat >= 6) {
+        std::this_thread::yield();
+        return;
+    }
+    for (uint32_t step = 0; step < uint32_t(1) << repeat; step++) {
+        __builtin_ia32_pause();
+    }
+}
+
+// The entries of a map. Each has the key's check word before its value.
+template <class V> class Table {
+  public:
+    static constexpr size_t words = 1 + words_of<V>;
+    using Words = std::array<uint64_t, words>;
+
+    // What is under a key's number. ok: the key's value, and the moment of its put. absent: if `since` is not 0, another key's entry is there.
+    struct Entry {
+        Status status;
+        std::optional<V> value;
+        uint64_t since;
+    };
+
+    [[nodiscard]] Status open(const MapOptions &options) noexcept {
+        if (!same_version()) {
+            return Status::other_version;
+        }
+        cefrodil_shape shape{};
+        const auto status = static_cast<Status>(cefrodil_shape_for_shards(options.entries, options.shards, &shape));
+        if (status != Status::ok) {
+            return status;
+        }
+        tries_ = options.tries;
+        capacity_ = uint64_t(shape.items) * options.shards;
+        return passes_.open(shape, options.shards, options.passes);
+    }
+
+    Entry look(const Identity &key) noexcept {
+        bool again = false;
+        const Answer<words> found = repeated([&](Slot<words> &slot) {
+            return std::exchange(again, true) ? slot.pass.get_or_desk(key.index) : slot.pass.get(key.index);
+        });
+        if (found.status != Status::ok) {
+            return {found.status, std::nullopt, 0};
+        }
+        if ((*found.value)[0] != key.check) {
+            return {Status::absent, std::nullopt, found.since};
+        }
+        return {Status::ok, unpacked(*found.value), found.since};
+    }
+
+    Stored put(const Identity &key, const V &value) noexcept {
+        const Words packed = pack(key, value);
+        return write([&](Pass<words> &pass) { return pass.try_put(key.index, packed); });
+    }
+
+    // Another key's entry under the same number gives way.
+    Stored put_if_absent(const Identity &key, const V &value) noexcept {
+        const Words packed = pack(key, value);
+        for (uint32_t repeat = 0;; repeat++) {
+            const Stored stored = write([&](Pass<words> &pass) { return pass.try_put_if_absent(key.index, packed); });
+            if (stored.status != Status::present) {
+                return stored;
+            }
+            const Entry entry = look(key);
+            if (entry.status != Status::absent) {
+                return {entry.status == Status::ok ? Status::present : entry.status, false, false};
+            }
+            const Status status = entry.since != 0 ? put_over(key, entry.since, packed) : Status::changed;
+            if (!is_lost(status) || repeat >= tries_) {
+                return {is_lost(status) ? Status::changed : status, false, status == Status::ok};
+            }
+        }
+    }
+
+    template <class Function> Found<V> update(const Identity &key, Function &function) {
+        for (uint32_t repeat = 0;; repeat++) {
+            const Entry entry = look(key);
+            if (entry.status != Status::ok) {
+                return {entry.status, std::nullopt};
+            }
+            const V value = function(*entry.value);
+            const Status status = put_over(key, entry.since, pack(key, value));
+            if (status == Status::ok) {
+                return {status, value};
+            }
+            if (!is_lost(status) || repeat >= tries_) {
+                return {status, std::nullopt};
+            }
+        }
+    }
+
+    Status erase(const Identity &key) noexcept {
+        for (uint32_t repeat = 0;; repeat++) {
+            const Entry entry = look(key);
+            if (entry.status != Status::ok) {
+                return entry.status;
+            }
+            const Status status = removal([&](Pass<words> &pass) { return pass.try_take_if(key.index, entry.since).status; });
+            if (status != Status::changed || repeat >= tries_) {
+                return status;
+            }
+        }
+    }
+
+    // Each shard is listed at a moment of its own, and each key that is listed is removed.
+    Status clear() noexcept {
+        std::vector<uint64_t> list;
+        Status status = repeated([&](Slot<words> &slot) { return slot.pass.try_entries(list); });
+        for (size_t at = 0; at < list.size() && status == Status::ok; at += 1 + words) {
+            status = removal([&](Pass<words> &pass) { return pass.try_remove(list[at]).status; });
+            status = status == Status::absent ? Status::ok : status;
+        }
+        return status;
+    }
+
+    uint64_t size() const noexcept { return static_cast<uint64_t>(std::max<int64_t>(0, passes_.keys())); }
+    uint64_t capacity() const noexcept { return capacity_; }
+    Meter meter() const noexcept { return passes_.shared().meter(); }
+
+  private:
+    static Words pack(const Identity &key, const V &value) noexcept {
+        Words packed{key.check};
+        const auto own = to_words(value);
+        std::copy(own.begin(), own.end(), packed.begin() + 1);
+        return packed;
+    }
+    static V unpacked(const Words &packed) noexcept {
+        std::array<uint64_t, words_of<V>> own;
+        std::copy(packed.begin() + 1, packed.end(), own.begin());
+        return from_words<V>(own);
+    }
+
+    // Whether the entry is another one than was looked up.
+    static bool is_lost(Status status) noexcept { return status == Status::changed || status == Status::absent; }
+
+    // Makes a call by this thread's slot, or by the shared one, until it is neither busy nor held.
+    template <class Call> auto repeated(Call call) noexcept {
+        auto answer = passes_.call(call);
+        for (uint32_t repeat = 0; repeat < tries_; repeat++) {
+            const Status status = status_of(answer);
+            if (status != Status::busy && status != Status::held) {
+                break;
+            }
+            wait_before(repeat);
+            answer = passes_.call(call);
+        }
+        return answer;
+    }
+    template <class Write> Stored write(Write make) noexcept {
+        const Written written = repeated([&](Slot<words> &slot) {
+            const Written tried = make(slot.pass);
+            slot.add(tried.status == Status::ok && !tried.renewed && !tried.evicted ? 1 : 0);
+            return tried;
+        });
+        return {written.status, written.renewed, written.evicted.has_value()};
+    }
+    template <class Removal> Status removal(Removal make) noexcept {
+        return repeated([&](Slot<words> &slot) {
+            const Status status = make(slot.pass);
+            slot.add(status == Status::ok ? -1 : 0);
+            return status;
+        });
+    }
+    Status put_over(const Identity &key, uint64_t since, const Words &packed) noexcept {
+        return write([&](Pass<words> &pass) { return pass.try_put_if(key.index, since, packed); }).status;
+    }
+
+    Passes<words> passes_{};
+    uint32_t tries_ = 0;
+    uint64_t capacity_ = 0;
+};
+
+} // namespace inside
+
+// A map of K to V. A hash of yours is `uint64_t operator()(const K &key, uint64_t seed) const`: for two seeds it gives two independent hashes. Several
+// threads call it at once.
+template <class K, class V, class Hash = SipHash<K>> class map {
+    static_assert(std::is_trivially_copyable_v<V>, "a map's value is trivially copyable: keep an index or a pointer of other objects");
+    static_assert(words_of<V> <= 7, "a map's value has up to 56 bytes");
+    static_assert(is_map_value<V>, "a map's value is default-constructible, is no array, and has no padding; see has_no_padding");
+    static_assert(inside::hashes<Hash, inside::Taken<K, Hash>>, "a map's hash has a call `uint64_t operator()(const K &, uint64_t seed) const`");
+    static constexpr bool never_throws = inside::Identities<inside::Taken<K, Hash>, Hash>::never_throws;
+
+  public:
+    // How a call takes a key. A string is taken as a view.
+    using Key = inside::Taken<K, Hash>;
+
+    map() noexcept {}
+
+    // Opens the map, empty. in_use: it is open. no_random: the kernel gave no secret. Other statuses are those of open_shards, and bad_items.
+    [[nodiscard]] Status open(const MapOptions &options, Hash hash = Hash()) noexcept {
+        if (inner_) {
+            return Status::in_use;
+        }
+        std::unique_ptr<Inner> opened;
+        if (!inside::has_memory([&] { opened = std::make_unique<Inner>(std::move(hash)); })) {
+            return Status::no_memory;
+        }
+        if (!opened->identities.draw()) {
+            return Status::no_random;
+        }
+        const Status status = opened->table.open(options);
+        if (status == Status::ok) {
+            inner_ = std::move(opened);
+        }
+        return status;
+    }
+    bool is_open() const noexcept { return inner_ != nullptr; }
+    // Closes the map and frees its memory.
+    Status close() noexcept { return std::exchange(inner_, nullptr) ? Status::ok : Status::closed; }
+
+    // The key's value. None if the key is absent, or the lookup was busy each time.
+    [[nodiscard]] std::optional<V> find(Key key) const noexcept(never_throws) { return get(key).value; }
+    // The same, with the status: ok, absent, busy or closed.
+    [[nodiscard]] Found<V> get(Key key) const noexcept(never_throws) {
+        if (!inner_) {
+            return {Status::closed, std::nullopt};
+        }
+        const auto entry = inner_->table.look(inner_->identities.of(key));
+        return {entry.status, entry.value};
+    }
+    [[nodiscard]] bool contains(Key key) const noexcept(never_throws) { return get(key).status == Status::ok; }
+
+    // Puts a key that is absent. present: it is there. no_path, all_recent, spent: it is absent, and was not put. held, busy, changed: other threads
+    // were first each time, and nothing was done.
+    [[nodiscard]] Stored insert(Key key, const V &value) noexcept(never_throws) {
+        return change(key, Stored{Status::closed, false, false}, [&](const auto &known) { return inner_->table.put_if_absent(known, value); });
+    }
+    // Puts a key, whether it is there or not. no_path, all_recent: it is absent, and was not put. spent, held: an earlier value is still there.
+    [[nodiscard]] Stored insert_or_assign(Key key, const V &value) noexcept(never_throws) {
+        return change(key, Stored{Status::closed, false, false}, [&](const auto &known) { return inner_->table.put(known, value); });
+    }
+    // Removes a key. Unless ok or absent, it may still be there. If a store is behind the map, change the store first: then no older value is put
+    // afterwards by find_or_compute.
+    [[nodiscard]] Status erase(Key key) noexcept(never_throws) {
+        return change(key, Status::closed, [&](const auto &known) { return inner_->table.erase(known); });
+    }
+    // Replaces the key's value by what the function makes of it, `V function(const V &)`, and returns that. No other change is lost: if another
+    // thread is first, the function is called again, with the newer value. Unless ok, nothing was done.
+    template <class Function> [[nodiscard]] Found<V> update(Key key, Function function) {
+        return change(key, Found<V>{Status::closed, std::nullopt}, [&](const auto &known) { return inner_->table.update(known, function); });
+    }
+
+    // The key's value, or what the function computes, `V function()`, which is then put. Of several callers that miss the key one computes, and
+    // the others wait for it; if its value is refused or its function throws, the next one computes. The function may call the map, but must not
+    // compute the same key. stale: the key was changed while the function ran. present: another value was put meanwhile.
+    template <class Function> [[nodiscard]] Computed<V> find_or_compute(Key key, Function function) {
+        if (!inner_) {
+            return {Status::closed, function(), true};
+        }
+        const inside::Identity known = inner_->identities.of(key);
+        for (;;) {
+            if (const auto entry = inner_->table.look(known); entry.value) {
+                return {Status::ok, *entry.value, false};
+            }
+            inside::Flight flight(inner_->flights_of(known), known);
+            if (!flight.has_begun()) {
+                continue;
+            }
+            // Another flight may have ended between the lookup and the begin of this one.
+            if (const auto entry = inner_->table.look(known); entry.value) {
+                return {Status::ok, *entry.value, false};
+            }
+            const V value = function();
+            return {flight.land([&] { return inner_->table.put_if_absent(known, value).status; }), value, true};
+        }
+    }
+
+    // Removes each key that was put before. Unless ok, some keys may still be there; no_memory: all of them. It takes memory for a list of all
+    // entries, and a turn at each shard.
+    [[nodiscard]] Status clear() noexcept {
+        if (!inner_) {
+            return Status::closed;
+        }
+        for (inside::Flights &flights : inner_->flights) {
+            flights.outdate_all();
+        }
+        return inner_->table.clear();
+    }
+
+    // How many keys there are. Calls that run meanwhile count or not.
+    uint64_t size() const noexcept { return inner_ ? inner_->table.size() : 0; }
+    // How many keys all shards hold together. Each evicts for itself, so the first eviction comes before the map is full.
+    uint64_t capacity() const noexcept { return inner_ ? inner_->table.capacity() : 0; }
+    // What the calls of the index came to, repeated ones included.
+    Meter meter() const noexcept { return inner_ ? inner_->table.meter() : Meter(nullptr); }
+
+  private:
+    struct Inner {
+        explicit Inner(Hash &&hash) : identities(std::move(hash)) {}
+        inside::Flights &flights_of(const inside::Identity &key) noexcept { return flights[key.check % flights.size()]; }
+
+        inside::Identities<Key, Hash> identities;
+        inside::Table<V> table{};
+        std::array<inside::Flights, 16> flights{};
+    };
+
+    // Makes a change of a key, after its flight is told. `closed`: the answer of a map that is not open.
+    template <class Result, class Change> Result change(Key key, Result closed, Change make) {
+        if (!inner_) {
+            return closed;
+        }
+        const inside::Identity known = inner_->identities.of(key);
+        inner_->flights_of(known).outdate(known);
+        return make(known);
+    }
+
+    std::unique_ptr<Inner> inner_{};
+};
+
+} // namespace cefrodil
+
+#endif

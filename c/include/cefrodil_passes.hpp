@@ -1,0 +1,216 @@
+// Passes that threads take by themselves, for cefrodil_map.hpp. A thread takes one at its first call, and gives it back at its end. A thread
+// that finds none shares one with others, behind a lock.
+#ifndef CEFRODIL_PASSES_HPP
+#define CEFRODIL_PASSES_HPP
+
+#include "cefrodil.hpp"
+#include <algorithm>
+#include <atomic>
+#include <memory>
+#include <mutex>
+#include <numeric>
+#include <utility>
+#include <vector>
+
+namespace cefrodil {
+
+namespace inside {
+
+// Which passes no thread has. Pass 0 is the shared one, which no thread takes. A thread that has a pass keeps this, but not the passes: they may
+// end before the thread does.
+class FreePasses {
+  public:
+    explicit FreePasses(size_t count) : free_(count - 1), count_(count - 1) { std::iota(free_.begin(), free_.end(), size_t(1)); }
+
+    // A pass for this thread, or 0.
+    size_t take() noexcept {
+        if (count() == 0) {
+            return 0;
+        }
+        const std::lock_guard<std::mutex> guard(lock_);
+        const size_t left = count();
+        if (left == 0) {
+            return 0;
+        }
+        count_.store(left - 1, std::memory_order_relaxed);
+        return free_[left - 1];
+    }
+    void give(size_t pass) noexcept {
+        const std::lock_guard<std::mutex> guard(lock_);
+        const size_t left = count();
+        free_[left] = pass;
+        count_.store(left + 1, std::memory_order_relaxed);
+    }
+    size_t count() const noexcept { return count_.load(std::memory_order_relaxed); }
+
+    // The passes have ended.
+    void end() noexcept { ended_.store(true, std::memory_order_relaxed); }
+    bool have_ended() const noexcept { return ended_.load(std::memory_order_relaxed); }
+
+  private:
+    std::mutex lock_{};
+    std::vector<size_t> free_;
+    std::atomic<size_t> count_;
+    std::atomic<bool> ended_{false};
+};
+
+// What a thread used last: a slot of the passes with this number. It has no destructor, so it is there until the thread's very end.
+struct LastUsed {
+    uint64_t number = 0;
+    void *slot = nullptr;
+    bool has_ended = false;
+};
+
+inline LastUsed &last_used() noexcept {
+    static thread_local LastUsed last;
+    return last;
+}
+
+// The passes that a thread has.
+class Claims {
+  public:
+    // After the destructor has run, the thread may still call: from the destructors of its other objects. Then there are no claims.
+    static Claims *of_thread() noexcept {
+        if (last_used().has_ended) {
+            return nullptr;
+        }
+        static thread_local Claims claims;
+        return &claims;
+    }
+
+    // The pass of these that the thread has, or takes now, or 0.
+    size_t pass_of(const std::shared_ptr<FreePasses> &passes) noexcept {
+        for (const Claim &claim : claims_) {
+            if (claim.passes == passes) {
+                return claim.pass;
+            }
+        }
+        const size_t pass = passes->take();
+        if (pass != 0 && !has_memory([&] { add({passes, pass}); })) {
+            passes->give(pass);
+            return 0;
+        }
+        return pass;
+    }
+
+  private:
+    struct Claim {
+        std::shared_ptr<FreePasses> passes;
+        size_t pass;
+    };
+
+    Claims() noexcept = default;
+    ~Claims() {
+        last_used() = {0, nullptr, true};
+        for (const Claim &claim : claims_) {
+            claim.passes->give(claim.pass);
+        }
+    }
+    Claims(const Claims &) = delete;
+    Claims &operator=(const Claims &) = delete;
+
+    // Claims to passes that have ended make room.
+    void add(Claim claim) {
+        const auto has_ended = [](const Claim &old) { return old.passes->have_ended(); };
+        claims_.erase(std::remove_if(claims_.begin(), claims_.end(), has_ended), claims_.end());
+        claims_.push_back(std::move(claim));
+    }
+
+    std::vector<Claim> claims_{};
+};
+
+// No two openings have the same number, so a thread never follows what it kept of passes that have ended.
+inline uint64_t next_number() noexcept {
+    static std::atomic<uint64_t> last{0};
+    return last.fetch_add(1, std::memory_order_relaxed) + 1;
+}
+
+// A pass with what its thread alone writes.
+template <size_t Words> struct alignas(64) Slot {
+    Pass<Words> pass{};
+    std::atomic<int64_t> keys{0}; // how many keys its calls added, less those that they removed
+
+    void add(int64_t more) noexcept { keys.store(keys.load(std::memory_order_relaxed) + more, std::memory_order_relaxed); }
+};
+
+// The passes of shards. All but opening and ending may be called by any thread.
+template <size_t Words> class Passes {
+  public:
+    Passes() noexcept {}
+    Passes(const Passes &) = delete;
+    Passes &operator=(const Passes &) = delete;
+    ~Passes() {
+        if (free_) {
+            free_->end();
+        }
+    }
+
+    // Statuses are those of open_shards. Unless ok, nothing is open.
+    [[nodiscard]] Status open(const cefrodil_shape &shape, uint32_t shards, size_t count) noexcept {
+        std::vector<Pass<Words>> passes;
+        const Status status = open_shards(shape, shards, count, passes);
+        if (status != Status::ok) {
+            return status;
+        }
+        const auto grow = [&] {
+            slots_ = std::make_unique<Slot<Words>[]>(count);
+            free_ = std::make_shared<FreePasses>(count);
+        };
+        if (!has_memory(grow)) {
+            return Status::no_memory;
+        }
+        for (size_t i = 0; i < count; i++) {
+            slots_[i].pass = std::move(passes[i]);
+        }
+        count_ = count;
+        return Status::ok;
+    }
+
+    // Makes one call with the slot of this thread, or with the shared one. The call must run no code of the user, since that might call, too.
+    template <class Call> auto call(Call made) noexcept {
+        if (Slot<Words> *const slot = own_slot()) {
+            return made(*slot);
+        }
+        const std::lock_guard<std::mutex> guard(sharing_);
+        return made(slots_[0]);
+    }
+
+    // How many keys all calls added, less those that they removed. Calls that run meanwhile count or not.
+    int64_t keys() const noexcept {
+        int64_t sum = 0;
+        for (size_t i = 0; i < count_; i++) {
+            sum += slots_[i].keys.load(std::memory_order_relaxed);
+        }
+        return sum;
+    }
+    size_t free_count() const noexcept { return free_->count(); }
+    const Pass<Words> &shared() const noexcept { return slots_[0].pass; }
+
+  private:
+    Slot<Words> *own_slot() noexcept {
+        const LastUsed &last = last_used();
+        return last.number == number_ ? static_cast<Slot<Words> *>(last.slot) : find_slot();
+    }
+    Slot<Words> *find_slot() noexcept {
+        Claims *const claims = Claims::of_thread();
+        const size_t pass = claims != nullptr ? claims->pass_of(free_) : 0;
+        if (pass == 0) {
+            return nullptr;
+        }
+        last_used().number = number_;
+        last_used().slot = &slots_[pass];
+        return &slots_[pass];
+    }
+
+    const uint64_t number_ = next_number();
+    std::unique_ptr<Slot<Words>[]> slots_{};
+    size_t count_ = 0;
+    std::shared_ptr<FreePasses> free_{};
+    std::mutex sharing_{};
+};
+
+} // namespace inside
+
+} // namespace cefrodil
+
+#endif

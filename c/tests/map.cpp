@@ -1,0 +1,386 @@
+// A map answers as a plain map does, by one thread: it finds the value of a key's last put, or nothing if the key was evicted. Its hashes are
+// SipHash's, and keys that meet in the first hash are told apart by the second.
+#include "cefrodil_map.hpp"
+#include "must.h"
+#include "sip_vectors.h"
+#include <algorithm>
+#include <stdexcept>
+#include <sys/syscall.h>
+#include <unistd.h>
+#include <unordered_map>
+
+using cefrodil::Computed;
+using cefrodil::Found;
+using cefrodil::HashSecret;
+using cefrodil::map;
+using cefrodil::Status;
+using cefrodil::Stored;
+
+// The kernel's random numbers come through this function, which may refuse them, or give zeros.
+static enum { random_numbers, zeros, refused } kernel = random_numbers;
+static size_t drawn = 0;
+
+extern "C" ssize_t getrandom(void *block, size_t size, unsigned flags) {
+    drawn += size;
+    if (kernel == random_numbers) {
+        return syscall(SYS_getrandom, block, size, flags);
+    }
+    std::fill_n(static_cast<char *>(block), size, char(0));
+    return kernel == zeros ? static_cast<ssize_t>(size) : -1;
+}
+
+struct Seven {
+    uint64_t words[7];
+};
+struct Padded {
+    uint64_t owner;
+    uint32_t rate;
+};
+struct Copied {
+    int number = 0;
+    Copied() = default;
+    Copied(const Copied &other) : number(other.number) {}
+};
+static_assert(cefrodil::is_map_value<Seven> && cefrodil::is_map_value<bool> && cefrodil::is_map_value<double> && cefrodil::is_map_value<void *>);
+static_assert(cefrodil::is_map_value<std::array<char, 56>> && !cefrodil::is_map_value<std::array<char, 57>> && !cefrodil::is_map_value<char[8]>);
+static_assert(!cefrodil::is_map_value<Padded> && !cefrodil::is_map_value<Copied> && !cefrodil::is_map_value<std::string>);
+static_assert(!cefrodil::is_map_value<const int> && !cefrodil::is_map_value<std::unique_ptr<int>>);
+
+using Texts = map<std::string, uint64_t>;
+using Numbers = map<uint64_t, uint64_t>;
+static_assert(!std::is_copy_constructible_v<Texts> && !std::is_copy_assignable_v<Texts>);
+static_assert(std::is_nothrow_move_constructible_v<Texts> && std::is_nothrow_move_assignable_v<Texts>);
+static_assert(std::is_nothrow_default_constructible_v<Texts>);
+static_assert(std::is_same_v<Texts::Key, std::string_view> && std::is_same_v<Numbers::Key, const uint64_t &>);
+static_assert(std::is_same_v<map<std::string_view, int>::Key, std::string_view>);
+
+// With SipHash no call throws, but what a function of the user throws. A hash that may throw says so.
+struct Throwing {
+    uint64_t operator()(const int &key, uint64_t seed) const { return uint64_t(unsigned(key)) + seed; }
+};
+template <class Any> Any &any() noexcept;
+static_assert(noexcept(any<Texts>().find("")) && noexcept(any<Texts>().get("")) && noexcept(any<Texts>().contains("")));
+static_assert(noexcept(any<Texts>().insert("", 1)) && noexcept(any<Texts>().insert_or_assign("", 1)) && noexcept(any<Texts>().erase("")));
+static_assert(noexcept(any<Texts>().open({1})) && noexcept(any<Texts>().clear()) && noexcept(any<Texts>().close()) && noexcept(any<Texts>().meter()));
+static_assert(noexcept(any<const Texts>().size()) && noexcept(any<const Texts>().capacity()) && noexcept(any<const Texts>().is_open()));
+static_assert(!noexcept(any<map<int, int, Throwing>>().find(1)) && !noexcept(any<map<int, int, Throwing>>().erase(1)));
+
+// Each length of a text, from each place in memory.
+static void sip_hashes() {
+    unsigned char bytes[48];
+    for (size_t place = 0; place < 8; place++) {
+        for (size_t i = 0; i < 40; i++) {
+            bytes[place + i] = static_cast<unsigned char>(i);
+        }
+        for (size_t size = 0; size < 41; size++) {
+            MUST((cefrodil::inside::sip_hash<2, 4>(bytes + place, size, {0x0706050403020100, 0x0f0e0d0c0b0a0908}) == sip_2_4[size]));
+            MUST((cefrodil::inside::sip_hash<1, 3>(bytes + place, size, {0, 0}) == sip_1_3[size]));
+        }
+    }
+    const uint64_t number = 0x0706050403020100;
+    MUST(cefrodil::SipHash<uint64_t>()(number, {0, 0}) == sip_1_3[8] && cefrodil::SipHash<uint16_t>()(0x0100, {0, 0}) == sip_1_3[2]);
+    MUST(cefrodil::SipHash<std::string>()(std::string("\0\1\2", 3), {0, 0}) == sip_1_3[3]);
+}
+
+// Tells which secret it was asked with.
+struct Telling {
+    uint64_t operator()(const int &, const HashSecret &secret) const noexcept { return secret.first ^ secret.second; }
+};
+
+// The number of a key and its check word are of two secrets, which are drawn at each opening.
+static void secrets() {
+    cefrodil::inside::Identities<const int &, Telling> one(Telling{}), other(Telling{});
+    drawn = 0;
+    MUST(one.draw() && other.draw() && drawn == 64);
+    MUST(one.of(1).index != one.of(1).check && one.of(1).index != other.of(1).index && one.of(1).check != other.of(1).check);
+    MUST(one.of(1).index != 0 && one.of(1).check != 0);
+    kernel = zeros;
+    MUST(one.draw() && one.of(1).index == 0 && one.of(1).check == 0);
+    kernel = refused;
+    Numbers numbers;
+    MUST(numbers.open({100}) == Status::no_random && !numbers.is_open() && cefrodil::text(Status::no_random)[4] == 'k');
+    kernel = random_numbers;
+}
+
+static void openings() {
+    Numbers numbers;
+    MUST(numbers.open({0}) == Status::bad_items && numbers.open({100, 3}) == Status::bad_shards && numbers.open({100, 4, 0}) == Status::bad_readers);
+    MUST(numbers.open({100, 4, 1025}) == Status::bad_readers && !numbers.is_open() && numbers.capacity() == 0);
+    MUST(numbers.find(1) == std::nullopt && numbers.get(1).status == Status::closed && !numbers.contains(1) && numbers.size() == 0);
+    MUST(numbers.insert(1, 1).status == Status::closed && numbers.insert_or_assign(1, 1).status == Status::closed);
+    MUST(numbers.erase(1) == Status::closed && numbers.clear() == Status::closed && numbers.close() == Status::closed);
+    MUST(numbers.update(1, [](uint64_t n) { return n; }).status == Status::closed && numbers.meter().counts().hits == 0);
+    const Computed<uint64_t> computed = numbers.find_or_compute(1, [] { return uint64_t(7); });
+    MUST(computed.status == Status::closed && computed.value == 7 && computed.computed);
+    drawn = 0;
+    MUST(numbers.open({100, 4, 1024}) == Status::ok && drawn == 32 && numbers.open({100}) == Status::in_use && numbers.is_open());
+    cefrodil_shape shape{};
+    MUST(cefrodil_shape_for_shards(100, 4, &shape) == CEFRODIL_OK && numbers.capacity() == 4 * shape.items);
+    MUST(numbers.insert(1, 10).status == Status::ok && numbers.find(1) == 10u && !numbers.find(2));
+    const cefrodil::Counts counts = numbers.meter().counts();
+    MUST(counts.hits == 1 && counts.misses == 1 && counts.held == 0);
+    Numbers moved = std::move(numbers);
+    MUST(!numbers.is_open() && moved.find(1) == 10u && moved.close() == Status::ok && !moved.is_open());
+    MUST(moved.open({100, 1, 1}) == Status::ok && !moved.contains(1) && moved.insert(1, 11).status == Status::ok && moved.find(1) == 11u);
+}
+
+static void answers() {
+    map<int, double> rates;
+    MUST(rates.open({100}) == Status::ok && rates.size() == 0);
+    const Stored first = rates.insert(-1, 0.5), second = rates.insert(-1, 0.75), third = rates.insert_or_assign(-1, 1.5);
+    MUST(first.status == Status::ok && !first.renewed && !first.evicted && second.status == Status::present);
+    MUST(third.status == Status::ok && third.renewed && !third.evicted && rates.find(-1) == 1.5 && rates.size() == 1);
+    const Found<double> updated = rates.update(-1, [](const double &rate) { return rate + 1; });
+    MUST(updated.status == Status::ok && updated.value == 2.5 && rates.find(-1) == 2.5);
+    MUST(rates.update(2, [](double rate) { return rate; }).status == Status::absent && rates.get(2).status == Status::absent);
+    MUST(rates.erase(2) == Status::absent && rates.erase(-1) == Status::ok && rates.erase(-1) == Status::absent && rates.size() == 0);
+    map<uint8_t, Seven> wide;
+    MUST(wide.open({100}) == Status::ok && wide.insert(1, {{1, 2, 3, 4, 5, 6, 7}}).status == Status::ok);
+    const auto found = wide.find(1);
+    MUST(found && found->words[0] == 1 && found->words[3] == 4 && found->words[6] == 7);
+}
+
+static uint64_t next_random() {
+    static uint64_t state = 1;
+    state = state * 6364136223846793005u + 1442695040888963407u;
+    return state >> 33;
+}
+
+// A value that knows its key.
+struct Version {
+    uint64_t key;
+    uint64_t number;
+    uint32_t twice[2];
+};
+
+static bool is_of(uint64_t key, const Version &value) {
+    return value.key == key && value.twice[0] == uint32_t(2 * value.number) && value.twice[1] == uint32_t(key);
+}
+
+// A map beside a plain one. A key that the plain map has may be evicted; then the plain map forgets it.
+class Model {
+  public:
+    explicit Model(const cefrodil::MapOptions &options) { MUST(map_.open(options) == Status::ok); }
+
+    void call(uint64_t kind, uint64_t key) {
+        switch (kind % 16) {
+        case 0: return put(key, map_.insert(key, version(key)), true);
+        case 1:
+        case 2: return put(key, map_.insert_or_assign(key, version(key)), false);
+        case 3: return erase(key);
+        case 4: return update(key);
+        case 5: return compute(key);
+        case 6: MUST(map_.contains(key) == seen(key).has_value()); return;
+        case 7: return next_random() % 256 == 0 ? clear() : void();
+        default: (void)seen(key); return;
+        }
+    }
+    // Each key is found or was evicted, and none is counted twice.
+    void end(uint64_t keys) {
+        uint64_t found = 0;
+        for (uint64_t key = 0; key < keys; key++) {
+            found += seen(key).has_value();
+        }
+        MUST(found == map_.size() && found == size_ && found <= map_.capacity());
+    }
+    uint64_t evicted() const { return evicted_; }
+
+  private:
+    Version version(uint64_t key) {
+        number_++;
+        return {key, number_, {uint32_t(2 * number_), uint32_t(key)}};
+    }
+    // What the map has of a key, which is what the plain map has of it, or nothing.
+    std::optional<Version> seen(uint64_t key) {
+        const auto found = map_.find(key);
+        const auto known = plain_.find(key);
+        if (found) {
+            MUST(is_of(key, *found) && known != plain_.end() && known->second == found->number);
+        } else if (known != plain_.end()) {
+            forgotten_++;
+            plain_.erase(known);
+        }
+        MUST(forgotten_ <= evicted_ && map_.size() == size_);
+        return found;
+    }
+    void put(uint64_t key, const Stored &stored, bool if_absent) {
+        const bool there = stored.renewed || stored.status == Status::present;
+        MUST(stored.status == Status::ok || stored.status == Status::no_path || stored.status == Status::all_recent ||
+             (if_absent && stored.status == Status::present));
+        MUST(!there || plain_.count(key) != 0);
+        MUST(!if_absent || !stored.renewed);
+        evicted_ += stored.evicted;
+        size_ += stored.status == Status::ok && !stored.renewed && !stored.evicted;
+        if (!there && plain_.erase(key) != 0) {
+            forgotten_++;
+        }
+        if (stored.status == Status::ok) {
+            plain_[key] = number_;
+        }
+        MUST((stored.status == Status::ok || there) == seen(key).has_value());
+    }
+    void erase(uint64_t key) {
+        const bool there = seen(key).has_value();
+        MUST(map_.erase(key) == (there ? Status::ok : Status::absent));
+        size_ -= there;
+        plain_.erase(key);
+        MUST(!seen(key));
+    }
+    void update(uint64_t key) {
+        const auto before = seen(key);
+        uint64_t calls = 0;
+        const auto updated = map_.update(key, [&](const Version &old) {
+            calls++;
+            MUST(before && old.number == before->number);
+            return version(key);
+        });
+        MUST(calls == before.has_value() && updated.value.has_value() == before.has_value());
+        MUST(updated.status == (before ? Status::ok : Status::absent));
+        if (before) {
+            MUST(updated.value->number == number_);
+            plain_[key] = number_;
+        }
+        MUST(seen(key).has_value() == before.has_value());
+    }
+    void compute(uint64_t key) {
+        const auto before = seen(key);
+        const auto answer = map_.find_or_compute(key, [&] { return version(key); });
+        MUST(answer.computed == !before && answer.value.number == (before ? before->number : number_));
+        if (answer.computed && answer.status == Status::ok) {
+            // Whether it evicted another key is seen by the size alone.
+            evicted_ += map_.size() == size_;
+            size_ = map_.size();
+            plain_[key] = number_;
+        }
+    }
+    void clear() {
+        MUST(map_.clear() == Status::ok && map_.size() == 0);
+        plain_.clear();
+        size_ = 0;
+    }
+
+    map<uint64_t, Version> map_;
+    std::unordered_map<uint64_t, uint64_t> plain_;
+    uint64_t number_ = 0, size_ = 0, evicted_ = 0, forgotten_ = 0;
+};
+
+static uint64_t random_calls(const cefrodil::MapOptions &options, uint64_t keys, uint64_t calls) {
+    Model model(options);
+    for (uint64_t n = 0; n < calls; n++) {
+        model.call(next_random(), next_random() % keys);
+    }
+    model.end(keys);
+    return model.evicted();
+}
+
+// A hash by whose first secret all keys have one of four numbers.
+struct Narrow {
+    std::shared_ptr<uint64_t> first_seed = std::make_shared<uint64_t>(0);
+    uint64_t operator()(const uint64_t &key, uint64_t seed) const {
+        *first_seed = *first_seed == 0 ? seed : *first_seed;
+        return seed == *first_seed ? key % 4 : cefrodil::inside::sip_hash<1, 3>(&key, sizeof key, {seed, 0});
+    }
+};
+
+// An entry of one key is none of another key with its number.
+static void collisions() {
+    map<uint64_t, uint64_t, Narrow> narrow;
+    MUST(narrow.open({100}) == Status::ok && narrow.insert(1, 10).status == Status::ok && narrow.find(1) == 10u);
+    MUST(!narrow.find(5) && narrow.get(5).status == Status::absent && !narrow.contains(9));
+    MUST(narrow.erase(5) == Status::absent && narrow.find(1) == 10u && narrow.size() == 1);
+    MUST(narrow.update(5, [](uint64_t) { return uint64_t(0); }).status == Status::absent && narrow.find(1) == 10u);
+    const Stored taken = narrow.insert(5, 50);
+    MUST(taken.status == Status::ok && taken.evicted && !taken.renewed && narrow.find(5) == 50u && !narrow.find(1) && narrow.size() == 1);
+    MUST(narrow.insert_or_assign(9, 90).status == Status::ok && narrow.find(9) == 90u && !narrow.find(5) && narrow.size() == 1);
+    const Computed<uint64_t> computed = narrow.find_or_compute(1, [] { return uint64_t(11); });
+    MUST(computed.status == Status::ok && computed.computed && computed.value == 11 && narrow.find(1) == 11u && !narrow.find(9));
+    for (uint64_t key = 0; key < 1000; key++) {
+        MUST(narrow.insert(key, key).status == (key == 1 ? Status::present : Status::ok) && narrow.find(key) == (key == 1 ? 11u : key));
+    }
+    MUST(narrow.size() == 4 && narrow.clear() == Status::ok && narrow.size() == 0 && !narrow.contains(999));
+}
+
+// All lengths, with letters of any value. A text that differs by one letter is another key.
+static void texts() {
+    Texts texts;
+    MUST(texts.open({1000}) == Status::ok);
+    std::string text;
+    for (uint64_t size = 0; size <= 40; size++) {
+        MUST(texts.insert(text, size).status == Status::ok && texts.insert(std::string_view(text), 99).status == Status::present);
+        text += static_cast<char>(size % 5 == 4 ? 0 : 250 - 3 * size);
+    }
+    for (size_t size = 0; size <= 40; size++) {
+        MUST(texts.find(std::string_view(text.data(), size)) == size && texts.find(text.substr(0, size)) == size);
+        for (size_t place = 0; place < size; place++) {
+            std::string other = text.substr(0, size);
+            other[place] = static_cast<char>(other[place] ^ 64);
+            MUST(!texts.contains(other));
+        }
+    }
+    MUST(texts.size() == 41 && texts.find("") == 0u && texts.find(std::string_view()) == 0u && texts.erase("") == Status::ok && !texts.find(""));
+    MUST(texts.insert("name", 7).status == Status::ok && texts.find("name") == 7u && texts.find(std::string("name")) == 7u);
+    map<std::string_view, int> views;
+    MUST(views.open({10}) == Status::ok && views.insert(std::string("gone"), 1).status == Status::ok && views.find("gone") == 1);
+}
+
+static uint64_t fibonacci(Numbers &known, uint64_t n, uint64_t &calls) {
+    return known.find_or_compute(n, [&] {
+        calls++;
+        return n < 2 ? n : fibonacci(known, n - 1, calls) + fibonacci(known, n - 2, calls);
+    }).value;
+}
+
+// A function may call the map. If it changes its own key, what it computes is not put.
+static void computations() {
+    Numbers numbers;
+    MUST(numbers.open({1000}) == Status::ok);
+    uint64_t calls = 0;
+    MUST(fibonacci(numbers, 90, calls) == 2880067194370816120 && calls == 91 && numbers.size() == 91);
+    const auto outdated = [&](auto change) {
+        const auto answer = numbers.find_or_compute(100, [&] {
+            change();
+            return uint64_t(5);
+        });
+        return answer.status == Status::stale && answer.value == 5 && answer.computed;
+    };
+    MUST(outdated([&] { (void)numbers.erase(100); }) && !numbers.contains(100));
+    MUST(outdated([&] { (void)numbers.clear(); }) && !numbers.contains(100) && numbers.size() == 0);
+    MUST(outdated([&] { (void)numbers.insert(100, 6); }) && numbers.find(100) == 6u && numbers.erase(100) == Status::ok);
+    MUST(outdated([&] { (void)numbers.insert_or_assign(100, 6); (void)numbers.erase(100); }) && !numbers.contains(100));
+    MUST(outdated([&] { (void)numbers.update(100, [](uint64_t n) { return n; }); }) && !numbers.contains(100));
+    MUST(!outdated([&] { (void)numbers.erase(101); (void)numbers.insert(102, 1); }) && numbers.find(100) == 5u);
+#ifdef __cpp_exceptions
+    for (int round = 0; round < 2; round++) {
+        bool caught = false;
+        try {
+            (void)numbers.find_or_compute(200, []() -> uint64_t { throw std::runtime_error("no number"); });
+        } catch (const std::runtime_error &) {
+            caught = true;
+        }
+        MUST(caught && !numbers.contains(200));
+        try {
+            (void)numbers.update(100, [](uint64_t) -> uint64_t { throw std::runtime_error("no number"); });
+        } catch (const std::runtime_error &) {
+            caught = false;
+        }
+        MUST(!caught && numbers.find(100) == 5u);
+    }
+#endif
+    const Computed<uint64_t> computed = numbers.find_or_compute(200, [] { return uint64_t(8); });
+    MUST(computed.status == Status::ok && computed.computed && numbers.find(200) == 8u);
+}
+
+int main() {
+    alarm(120); // so that a flight which never ends fails the test
+    sip_hashes();
+    secrets();
+    openings();
+    answers();
+    MUST(random_calls({2000}, 200, 100000) == 0);
+    MUST(random_calls({60, 1}, 200, 100000) > 1000);
+    MUST(random_calls({1, 4, 1}, 200, 20000) > 1000);
+    collisions();
+    texts();
+    computations();
+    return outcome("map");
+}

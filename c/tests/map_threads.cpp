@@ -1,0 +1,378 @@
+// A map in threads: no value is torn or of another key, no update is lost, and what returned ok was done. Threads take passes and give them back,
+// whether they end before the map or after it.
+#include "cefrodil_map.hpp"
+#include "must.h"
+#include <algorithm>
+#include <chrono>
+#include <stdexcept>
+#include <unistd.h>
+
+using cefrodil::map;
+using cefrodil::Status;
+
+using Numbers = map<uint64_t, uint64_t>;
+
+// Runs a function in so many threads, which begin together. It gets the thread's number.
+template <class Function> static void in_threads(size_t count, Function function) {
+    std::atomic<size_t> waiting{count};
+    std::vector<std::thread> threads;
+    for (size_t i = 0; i < count; i++) {
+        threads.emplace_back([&, i] {
+            for (waiting--; waiting != 0;) {
+                std::this_thread::yield();
+            }
+            function(i);
+        });
+    }
+    for (std::thread &thread : threads) {
+        thread.join();
+    }
+}
+
+// Repeats a change until it is not held.
+template <class Change> static Status surely(Change change) {
+    for (;;) {
+        const Status status = change();
+        if (status != Status::held && status != Status::busy) {
+            return status;
+        }
+        std::this_thread::yield();
+    }
+}
+
+// A thread gives its pass back, so the next one has a pass of its own, too. A thread that finds none has the shared one, and has it alone.
+static void passes() {
+    cefrodil_shape shape{};
+    cefrodil::inside::Passes<1> two;
+    MUST(cefrodil_shape_for_shards(100, 1, &shape) == CEFRODIL_OK && two.open(shape, 1, 2) == Status::ok && two.free_count() == 1);
+    using Slot = cefrodil::inside::Slot<1>;
+    const auto is_own = [&](Slot &slot) { return &slot.pass != &two.shared(); };
+    for (int round = 0; round < 20; round++) {
+        std::thread([&] { MUST(two.call(is_own) && two.free_count() == 0 && two.call(is_own)); }).join();
+        MUST(two.free_count() == 1);
+    }
+    MUST(two.call(is_own) && two.free_count() == 0);
+    std::atomic<int> within{0}, at_once{0}, own{0};
+    in_threads(4, [&](size_t) {
+        for (int n = 0; n < 300; n++) {
+            two.call([&](Slot &slot) {
+                own += is_own(slot);
+                at_once += ++within != 1;
+                std::this_thread::yield();
+                within--;
+            });
+        }
+    });
+    MUST(at_once == 0 && own == 0 && two.call(is_own));
+}
+
+// A value of seven words, each of which says the same: its key, the thread that put it, and the number of that put.
+struct Told {
+    uint64_t words[7];
+};
+
+static Told told(uint64_t key, uint64_t thread, uint64_t number) {
+    const uint64_t all = key << 56 | thread << 48 | number;
+    return {{all, ~all, all + 1, all * 3, all ^ 5, all - 7, all * 11}};
+}
+
+static bool are_equal(const Told &one, const Told &other) { return std::equal(one.words, one.words + 7, other.words); }
+
+// What threads have put. A number is noted before its put.
+struct Notes {
+    static constexpr uint64_t keys = 40, threads = 4;
+    std::atomic<uint64_t> numbers[keys][threads]{};
+
+    Told next(uint64_t key, uint64_t thread) { return told(key, thread, numbers[key][thread] += 1); }
+    bool were_put(uint64_t key, const Told &value) const {
+        const uint64_t all = value.words[0], thread = all >> 48 & 255, number = all & 0xffffffffffff;
+        return all >> 56 == key && thread < threads && number != 0 && number <= numbers[key][thread] && are_equal(value, told(key, thread, number));
+    }
+};
+
+static void change(map<uint16_t, Told> &all, Notes &notes, uint64_t thread, uint64_t n) {
+    const uint64_t key = n * 2654435761 / 64 % Notes::keys;
+    const auto number = static_cast<uint16_t>(key);
+    const auto found = all.find(number);
+    MUST(!found || notes.were_put(key, *found));
+    switch (n % 5) {
+    case 0: MUST(all.insert_or_assign(number, notes.next(key, thread)).status != Status::busy); break;
+    case 1: MUST(all.insert(number, notes.next(key, thread)).status != Status::closed); break;
+    case 2: MUST(all.erase(number) != Status::changed); break;
+    case 3: {
+        const auto next = all.update(number, [&](const Told &old) {
+            MUST(notes.were_put(key, old));
+            return notes.next(key, thread);
+        });
+        MUST(!next.value || notes.were_put(key, *next.value));
+        break;
+    }
+    default: MUST(notes.were_put(key, all.find_or_compute(number, [&] { return notes.next(key, thread); }).value)); break;
+    }
+}
+
+// Threads read and write a map that is too small. `passes`: with fewer than threads, some share one.
+static void values(uint32_t passes) {
+    map<uint16_t, Told> all;
+    Notes notes;
+    MUST(all.open({1, 2, passes}) == Status::ok && all.capacity() < Notes::keys);
+    in_threads(Notes::threads, [&](size_t thread) {
+        for (uint64_t n = 0; n < 15000; n++) {
+            change(all, notes, thread, n + thread * 1000003);
+        }
+    });
+    uint64_t found = 0;
+    for (uint16_t key = 0; key < Notes::keys; key++) {
+        found += all.contains(key);
+    }
+    MUST(found == all.size() && found <= all.capacity() && all.meter().counts().evictions > 100);
+    MUST(all.clear() == Status::ok && all.size() == 0);
+}
+
+// A call whose turn another thread has is repeated, and then done.
+template <class Function> static bool counted(Numbers &numbers, uint64_t key, Function one_more) {
+    const Status updated = numbers.update(key, one_more).status;
+    MUST(updated == Status::ok || updated == Status::absent);
+    if (updated == Status::ok) {
+        return true;
+    }
+    const Status inserted = numbers.insert(key, 1).status;
+    MUST(inserted == Status::ok || inserted == Status::present);
+    return inserted == Status::ok;
+}
+
+// Each thread adds to the same keys. Within the function another thread has its turn.
+static void updates(uint32_t passes) {
+    Numbers numbers;
+    MUST(numbers.open({100, 1, passes}) == Status::ok);
+    in_threads(4, [&](size_t) {
+        for (uint64_t n = 0; n < 2000; n++) {
+            const uint64_t key = n % 3;
+            const auto one_more = [&](uint64_t old) {
+                if (n % 4 == 0) {
+                    std::this_thread::yield();
+                }
+                return old + 1;
+            };
+            while (!counted(numbers, key, one_more)) {
+            }
+        }
+    });
+    MUST(numbers.find(0).value_or(0) + numbers.find(1).value_or(0) + numbers.find(2).value_or(0) == 8000 && numbers.size() == 3);
+}
+
+// Threads whose calls are never repeated are held now and then. An erasure that returned held was not made, and one that returned ok was.
+static void held() {
+    Numbers numbers;
+    MUST(numbers.open({1000, 1, 8, 0}) == Status::ok);
+    const auto is_there = [&](uint64_t key) { return surely([&] { return numbers.get(key).status; }) == Status::ok; };
+    in_threads(3, [&](size_t key) {
+        for (int n = 0; n < 20000; n++) {
+            MUST(surely([&] { return numbers.insert_or_assign(key, 1).status; }) == Status::ok);
+            const Status status = numbers.erase(key);
+            MUST(status == Status::ok ? !is_there(key) : is_there(key) && (status == Status::held || status == Status::busy));
+        }
+    });
+    MUST(numbers.size() == uint64_t(is_there(0)) + is_there(1) + is_there(2));
+}
+
+// A hash by which all keys have one number in the index, and each has a check word of its own.
+struct Meeting {
+    std::shared_ptr<std::atomic<uint64_t>> first_seed = std::make_shared<std::atomic<uint64_t>>(0);
+    uint64_t operator()(const uint64_t &key, uint64_t seed) const noexcept {
+        uint64_t none = 0;
+        first_seed->compare_exchange_strong(none, seed);
+        return *first_seed == seed ? 0 : key;
+    }
+};
+
+// One thread erases a key while another puts a second key over it, under the same number.
+static void erasures_of_another_key() {
+    map<uint64_t, uint64_t, Meeting> meeting;
+    MUST(meeting.open({100, 1, 8}) == Status::ok && meeting.insert(1, 1).status == Status::ok);
+    std::atomic<int> lost{0};
+    std::atomic<bool> ends{false};
+    in_threads(2, [&](size_t thread) {
+        for (int n = 0; thread == 0 && n < 20000; n++) {
+            MUST(meeting.insert_or_assign(1, 1).status == Status::ok && meeting.insert_or_assign(2, 2).status == Status::ok);
+            lost += !meeting.contains(2);
+        }
+        while (thread == 1 && !ends) {
+            static_cast<void>(meeting.erase(1));
+        }
+        ends = true;
+    });
+    MUST(lost == 0);
+}
+
+// Of several threads that miss a key, one computes it.
+static void computations() {
+    Numbers numbers;
+    MUST(numbers.open({150000}) == Status::ok);
+    std::atomic<uint64_t> calls{0}, told_computed{0};
+    in_threads(6, [&](size_t) {
+        for (uint64_t key = 0; key < 50; key++) {
+            const auto answer = numbers.find_or_compute(key, [&] {
+                calls++;
+                std::this_thread::sleep_for(std::chrono::microseconds(300));
+                return key + 1;
+            });
+            MUST(answer.status == Status::ok && answer.value == key + 1);
+            told_computed += answer.computed;
+        }
+    });
+    MUST(calls == 50 && told_computed == 50);
+    // Nor does one that ended between a miss and the begin of the next one make that compute again.
+    calls = 0;
+    in_threads(4, [&](size_t) {
+        for (uint64_t key = 1000; key < 101000; key++) {
+            MUST(numbers.find_or_compute(key, [&] { return ++calls, key; }).value == key);
+        }
+    });
+    MUST(calls == 100000);
+    // While a key is computed, other keys are, too. An erasure meanwhile has the value not put.
+    std::atomic<bool> has_begun{false}, goes_on{false};
+    std::thread slow([&] {
+        const auto answer = numbers.find_or_compute(100, [&] {
+            for (has_begun = true; !goes_on;) {
+                std::this_thread::yield();
+            }
+            return uint64_t(1);
+        });
+        MUST(answer.status == Status::stale && answer.value == 1 && answer.computed);
+    });
+    while (!has_begun) {
+        std::this_thread::yield();
+    }
+    for (uint64_t key = 101; key < 200; key++) {
+        MUST(numbers.find_or_compute(key, [] { return uint64_t(2); }).status == Status::ok);
+    }
+    MUST(numbers.erase(100) == Status::absent);
+    goes_on = true;
+    slow.join();
+    MUST(!numbers.contains(100));
+}
+
+// Flights end in any order. The others are still told of changes.
+static void flights() {
+    using cefrodil::inside::Flight, cefrodil::inside::Identity;
+    cefrodil::inside::Flights flights;
+    std::optional<Flight> one, two;
+    one.emplace(flights, Identity{1, 1});
+    two.emplace(flights, Identity{2, 1});
+    Flight three(flights, {1, 2});
+    const auto ends = [](Flight &flight) { return flight.land([] { return Status::ok; }); };
+    MUST(one->has_begun() && two->has_begun() && three.has_begun() && ends(*one) == Status::ok);
+    one.reset();
+    flights.outdate({1, 1});
+    MUST(ends(*two) == Status::ok && ends(three) == Status::ok);
+    flights.outdate({1, 2});
+    MUST(ends(*two) == Status::ok && ends(three) == Status::stale);
+    flights.outdate_all();
+    MUST(ends(*two) == Status::stale);
+}
+
+// A function that throws does so to its caller alone, and then one of the others computes.
+static void exceptions() {
+#ifdef __cpp_exceptions
+    Numbers numbers;
+    MUST(numbers.open({1000}) == Status::ok);
+    std::atomic<int> calls[20]{}, caught{0}, got{0};
+    in_threads(6, [&](size_t) {
+        for (uint64_t key = 0; key < 20; key++) {
+            try {
+                const auto answer = numbers.find_or_compute(key, [&] {
+                    std::this_thread::sleep_for(std::chrono::microseconds(300));
+                    if (++calls[key] <= 2) {
+                        throw std::runtime_error("not now");
+                    }
+                    return key;
+                });
+                got += answer.value == key;
+            } catch (const std::runtime_error &) {
+                caught++;
+            }
+        }
+    });
+    MUST(caught == 40 && got == 80 && std::all_of(calls, calls + 20, [](int count) { return count == 3; }));
+#endif
+}
+
+// An object of a thread whose destructor calls the map: before the thread's passes are given back, or after.
+struct AtEnd {
+    Numbers *numbers = nullptr;
+    uint64_t key = 0;
+    ~AtEnd() { MUST(numbers == nullptr || numbers->insert(key, key).status == Status::ok); }
+};
+
+static void at_the_end(Numbers &numbers, uint64_t key, bool call_first) {
+    MUST(!call_first || !numbers.contains(key));
+    static thread_local AtEnd last;
+    last.numbers = &numbers;
+    last.key = key;
+    MUST(call_first || !numbers.contains(key));
+}
+
+static void ends_of_threads() {
+    Numbers numbers;
+    MUST(numbers.open({1000, 1, 2}) == Status::ok);
+    for (uint64_t key = 0; key < 40; key++) {
+        std::thread(at_the_end, std::ref(numbers), key, key % 2 == 0).join();
+        MUST(numbers.contains(key) && numbers.size() == key + 1);
+    }
+}
+
+// A thread outlives maps that it called, and goes on with others.
+static void ends_of_maps() {
+    auto first = std::make_unique<Numbers>();
+    MUST(first->open({100}) == Status::ok);
+    std::atomic<int> step{0};
+    std::thread longer([&] {
+        MUST(first->insert(1, 1).status == Status::ok);
+        step = 1;
+        while (step != 2) {
+            std::this_thread::yield();
+        }
+        for (uint64_t n = 0; n < 100; n++) {
+            Numbers one, other;
+            MUST(one.open({10, 1, 2}) == Status::ok && other.open({10, 1, 2}) == Status::ok);
+            MUST(one.insert(1, n).status == Status::ok && other.insert(2, n).status == Status::ok);
+            MUST(one.find(1) == n && !one.find(2) && other.find(2) == n && !other.find(1));
+        }
+    });
+    while (step != 1) {
+        std::this_thread::yield();
+    }
+    MUST(first->size() == 1 && first->find(1) == 1u);
+    first.reset();
+    step = 2;
+    longer.join();
+}
+
+// It ends after main's thread has given its passes back.
+static Numbers lasting;
+static struct Checked {
+    ~Checked() {
+        if (lasting.find(1) != 1u || lasting.insert(2, 2).status != Status::ok) {
+            _exit(1);
+        }
+    }
+} checked;
+
+int main() {
+    alarm(120); // so that a flight which never ends fails the test
+    passes();
+    values(8);
+    values(2);
+    updates(8);
+    updates(1);
+    held();
+    erasures_of_another_key();
+    computations();
+    flights();
+    exceptions();
+    ends_of_threads();
+    ends_of_maps();
+    MUST(lasting.open({10}) == Status::ok && lasting.insert(1, 1).status == Status::ok);
+    return outcome("map_threads");
+}
