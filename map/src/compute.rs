@@ -1,0 +1,109 @@
+//! A value that is computed where the map has none.
+use crate::error::GetError;
+use crate::flight::{Boarding, Leader};
+use crate::inner::{Found, Inner};
+use crate::map::Map;
+use crate::print::Print;
+use crate::stats::Kind;
+use std::borrow::Borrow;
+use std::convert::Infallible;
+use std::hash::{BuildHasher, Hash};
+
+impl<K: ?Sized, V: Copy + Send + Sync + 'static, S: BuildHasher> Map<K, V, S> {
+    /// The key's value, or else what `make` makes, which is put. Threads that want the same key meanwhile wait and get the same value. If
+    /// `make` panics, one of them calls its own.
+    ///
+    /// - If the key gets a value in another way meanwhile, that value stays and is returned.
+    /// - If the key is written or removed meanwhile, `make` may have read what was true before. Then its value is returned and not put.
+    ///   Calls that begin after the write don't wait for it, and compute anew.
+    /// - If the value finds no place, it is returned all the same. `refused` of [`stats`](Map::stats) counts it.
+    /// - If `make` calls this for the same key, the inner value is only returned. Two threads whose `make` wants what the other one computes
+    ///   wait forever.
+    pub fn get_or_insert_with<Q: Hash + ?Sized>(&self, key: &Q, make: impl FnOnce() -> V) -> V
+    where
+        K: Borrow<Q>,
+    {
+        let Ok(value) = self.get_or_try_insert_with(key, || Ok::<V, Infallible>(make()));
+        value
+    }
+
+    /// Like [`get_or_insert_with`](Map::get_or_insert_with), by a `make` that may fail. Then nothing is put, and of the threads that wait,
+    /// one calls its own.
+    ///
+    /// # Errors
+    ///
+    /// That of `make`.
+    pub fn get_or_try_insert_with<Q: Hash + ?Sized, E>(&self, key: &Q, make: impl FnOnce() -> Result<V, E>) -> Result<V, E>
+    where
+        K: Borrow<Q>,
+    {
+        let inner = &self.inner;
+        let print = inner.print(key);
+        if let Ok(Some(value)) = inner.get(print, inner.looks()) {
+            return Ok(value);
+        }
+        loop {
+            match inner.flights.board(print) {
+                Boarding::First(leader) => return inner.compute(print, leader, make),
+                Boarding::Within => return make(),
+                Boarding::Other(flight) => {
+                    if let Some(value) = flight.wait() {
+                        return Ok(value);
+                    }
+                }
+            }
+        }
+    }
+
+    /// Like [`get_or_insert_with`](Map::get_or_insert_with), and doesn't wait for another thread that computes the value.
+    ///
+    /// # Errors
+    ///
+    /// [`GetError::Computing`].
+    pub fn try_get_or_insert_with<Q: Hash + ?Sized>(&self, key: &Q, make: impl FnOnce() -> V) -> Result<V, GetError>
+    where
+        K: Borrow<Q>,
+    {
+        let inner = &self.inner;
+        let print = inner.print(key);
+        if let Ok(Some(value)) = inner.get(print, inner.looks()) {
+            return Ok(value);
+        }
+        match inner.flights.board(print) {
+            Boarding::First(leader) => {
+                let Ok(value) = inner.compute(print, leader, || Ok::<V, Infallible>(make()));
+                Ok(value)
+            }
+            Boarding::Within => Ok(make()),
+            Boarding::Other(_) => Err(GetError::Computing),
+        }
+    }
+}
+
+impl<V: Copy, S: BuildHasher> Inner<V, S> {
+    // Makes the value as the leader of a flight.
+    fn compute<E>(&self, print: Print, leader: Leader<V>, make: impl FnOnce() -> Result<V, E>) -> Result<V, E> {
+        // An earlier flight may have ended since this thread looked the key up.
+        if let Some(Found::Live(entry, _)) = self.look(print, self.looks()) {
+            return Ok(leader.end(entry.value, || entry.value));
+        }
+        let value = make()?;
+        Ok(leader.end(value, || self.fill(print, value)))
+    }
+
+    // Puts the value where the key has none. Returns the value that the key has then.
+    fn fill(&self, print: Print, value: V) -> V {
+        let mut kept = value;
+        let put = self.change(print, self.tries, |present| match present {
+            Some(present) => {
+                kept = present;
+                None
+            }
+            None => Some(value),
+        });
+        if put.is_err() {
+            self.slots.count(Kind::Refused);
+        }
+        kept
+    }
+}
