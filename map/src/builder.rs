@@ -16,10 +16,10 @@ use std::marker::PhantomData;
 use std::sync::Arc;
 use std::time::Duration;
 
-/// How many threads have a pass of their own, unless the builder is told.
+/// How many threads have a pass of their own, by default.
 const THREADS: usize = 64;
 
-/// Each shard has at least so many entries, unless the builder is told how many shards.
+/// How many entries a shard has at least, and how many shards there are at most, by default.
 const ENTRIES_OF_A_SHARD: usize = 1024;
 const MOST_SHARDS: usize = 16;
 
@@ -91,7 +91,7 @@ impl<K: ?Sized, V, S> Builder<K, V, S> {
 }
 
 impl<K: ?Sized, V: Copy + Send + Sync + 'static, S: BuildHasher> Builder<K, V, S> {
-    /// Opens the map. This takes all memory of the index; later only `clear` and the computing calls take any.
+    /// Opens the map. This takes all memory for its entries.
     ///
     /// # Errors
     ///

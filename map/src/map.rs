@@ -20,13 +20,14 @@ use std::time::Duration;
 /// let _ = cefrodil_map::Map::<u64, [u8; 57]>::new(100);
 /// ```
 ///
-/// A full map evicts an entry for each new key, one that was not used lately. So any entry but one just put may be gone.
+/// A full map evicts an entry for each new key, one that was not used lately. So an entry may be gone at any time.
 ///
-/// Calls wait for each other only briefly and a bounded number of times. Then they return an error, of which nothing was changed; [`get`]
-/// and [`contains_key`] report a miss. The forms with `try_` don't wait.
+/// If other threads disturb a call, it tries again, a bounded number of times: at first it spins, then it yields, then it sleeps. If all
+/// tries failed, a write returns an error and has changed nothing, and [`get`] and [`contains_key`] report a miss. The forms with `try_`
+/// try once.
 ///
-/// Once a write of a key has returned, no lookup that begins later finds an older value of the key: not even one that
-/// [`get_or_insert_with`] was computing when the write came.
+/// Once a write of a key has returned, no later lookup finds an older value of the key. That includes values that [`get_or_insert_with`]
+/// was computing when the write came.
 ///
 /// [`get`]: Map::get
 /// [`contains_key`]: Map::contains_key
@@ -100,7 +101,7 @@ impl<K: ?Sized, V: Copy + Send + Sync + 'static, S: BuildHasher> Map<K, V, S> {
     ///
     /// # Errors
     ///
-    /// [`InsertError`]: nothing was changed. If the value that is there must not stay, [`remove`](Map::remove) it.
+    /// [`InsertError`]: nothing was changed. An older value of the key stays: if it must not, [`remove`](Map::remove) it.
     pub fn insert<Q: Hash + ?Sized>(&self, key: &Q, value: V) -> Result<Inserted, InsertError>
     where
         K: Borrow<Q>,

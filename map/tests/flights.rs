@@ -40,12 +40,23 @@ impl Computation {
     }
 }
 
-// A thread that waits for a computation. There is no telling when it does, so it is given some time.
-fn waiting(map: &Numbers, made: u64) -> JoinHandle<u64> {
-    let map = map.clone();
-    let thread = thread::spawn(move || map.get_or_insert_with(&KEY, || made));
-    thread::sleep(Duration::from_millis(30));
-    thread
+/// A thread that waits for a computation.
+struct Waiting(Receiver<u64>);
+
+impl Waiting {
+    // There is no telling when it waits, so it is given some time.
+    fn begin(map: &Numbers, made: u64) -> Waiting {
+        let (send, receive) = channel();
+        let map = map.clone();
+        thread::spawn(move || send.send(map.get_or_insert_with(&KEY, || made)));
+        thread::sleep(Duration::from_millis(30));
+        Waiting(receive)
+    }
+
+    /// What the call returns.
+    fn end(self) -> u64 {
+        self.0.recv_timeout(Duration::from_secs(10)).expect("a thread waits for a computation that has ended")
+    }
 }
 
 #[test]
@@ -80,8 +91,8 @@ fn those_that_wait_get_the_value_and_those_that_try_do_not_wait() {
     assert_eq!(map.try_get_or_insert_with(&KEY, || 2), Err(GetError::Computing));
     assert_eq!(map.try_get_or_insert_with(&8, || 80), Ok(80));
     assert_eq!((map.get(&KEY), map.get(&8)), (None, Some(80)));
-    let second = waiting(&map, 3);
-    assert_eq!((first.end(), second.join().unwrap(), map.get(&KEY)), (1, 1, Some(1)));
+    let second = Waiting::begin(&map, 3);
+    assert_eq!((first.end(), second.end(), map.get(&KEY)), (1, 1, Some(1)));
     assert_eq!(map.try_get_or_insert_with(&KEY, || 4), Ok(1));
 }
 
@@ -105,10 +116,10 @@ fn a_panic_lets_another_thread_compute() {
         })
     };
     wait.recv().unwrap();
-    let second = waiting(&map, 2);
+    let second = Waiting::begin(&map, 2);
     go.send(()).unwrap();
     assert!(first.join().is_err());
-    assert_eq!((second.join().unwrap(), map.get(&KEY)), (2, Some(2)));
+    assert_eq!((second.end(), map.get(&KEY)), (2, Some(2)));
 }
 
 #[test]
@@ -136,15 +147,15 @@ fn a_computation_may_call_the_map() {
 fn detaches(write: impl FnOnce(&Numbers), then: Option<u64>) {
     let map = Numbers::new(100).unwrap();
     let old = Computation::begin(&map, 1);
-    let waiting = waiting(&map, 10);
+    let waiting = Waiting::begin(&map, 10);
     write(&map);
     assert_eq!(map.get(&KEY), then);
-    let new = map.get_or_insert_with(&KEY, || 2);
-    assert_eq!(new, then.unwrap_or(2));
+    let new = map.try_get_or_insert_with(&KEY, || 2);
+    assert_eq!(new, Ok(then.unwrap_or(2)), "a call waits for a value that is too old");
     if then.is_none() {
         map.remove(&KEY).unwrap();
     }
-    assert_eq!((old.end(), waiting.join().unwrap()), (1, 1));
+    assert_eq!((old.end(), waiting.end()), (1, 1));
     assert_eq!(map.get(&KEY), then, "the old value was put");
 }
 

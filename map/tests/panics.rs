@@ -1,5 +1,5 @@
 //! A panic in the caller's code leaves the map as it was, and usable in each thread.
-use cefrodil_map::Map;
+use cefrodil_map::{Inserted, Map, UpdateError};
 use std::hash::{Hash, Hasher};
 use std::panic::{catch_unwind, UnwindSafe};
 use std::thread;
@@ -60,6 +60,28 @@ fn a_closure_may_call_the_map() {
         old.unwrap_or(0) + map.get(&2).unwrap()
     });
     assert_eq!((changed, map.get(&1), map.stats().shared), (Ok(30), Some(30), 0));
+    // It is not called again if the key has gone.
+    let modified = map.modify(&1, |old| {
+        assert_eq!((old, map.remove(&1)), (30, Ok(Some(30))));
+        31
+    });
+    assert_eq!((modified, map.get(&1)), (Ok(None), None));
+}
+
+#[test]
+fn a_single_try_is_refused_if_another_write_comes_between() {
+    let map = Map::<u64, u64>::new(100).unwrap();
+    let changed = map.try_update(&1, |old| {
+        assert_eq!((old, map.insert(&1, 10)), (None, Ok(Inserted::New)));
+        11
+    });
+    assert_eq!((changed, map.get(&1)), (Err(UpdateError::Contended), Some(10)));
+    let changed = map.try_update(&1, |old| {
+        assert_eq!((old, map.insert(&1, 12)), (Some(10), Ok(Inserted::Renewed)));
+        13
+    });
+    assert_eq!((changed, map.get(&1), map.stats().refused), (Err(UpdateError::Contended), Some(12), 2));
+    assert_eq!(map.try_update(&1, |old| old.unwrap() + 1), Ok(13));
 }
 
 #[test]

@@ -133,20 +133,23 @@ thread_local!(static END: RefCell<Option<AtEnd>> = const { RefCell::new(None) })
 
 #[test]
 fn what_a_thread_keeps_may_call_the_map_at_its_end() {
+    let mut shared = 0;
     for first in [false, true] {
         let map = Map::<u64, u64>::builder(50).threads(1).open().unwrap();
         let other = map.clone();
-        thread::spawn(move || {
+        let thread = thread::spawn(move || {
             if first {
-                other.insert(&1, 1).unwrap(); // the pass is taken before, so it is given back after
+                other.insert(&1, 1).unwrap();
             }
             END.with(|end| *end.borrow_mut() = Some(AtEnd(other.clone())));
             other.insert(&1, 1).unwrap();
-        })
-        .join()
-        .unwrap();
-        assert_eq!((map.get(&19), map.len()), (Some(119), 20));
-        let shared = map.stats().shared;
-        assert!(map.get(&1).is_some() && map.stats().shared == shared, "the pass was given back");
+        });
+        thread.join().unwrap();
+        assert_eq!((map.len(), map.stats().hits), (20, 20));
+        shared += map.stats().shared;
+        let before = map.stats().shared;
+        assert_eq!((map.get(&19), map.stats().shared), (Some(119), before), "the pass was not given back");
     }
+    // One of the two threads has given its pass back before, and must not use it again.
+    assert_eq!(shared, 40);
 }

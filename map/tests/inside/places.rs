@@ -101,3 +101,16 @@ fn keys_with_the_same_first_hash_are_told_apart() {
     assert_eq!((map.insert(&6, 60), map.get(&4), map.remove(&6)), (Ok(Inserted::Renewed), None, Ok(Some(60))));
     assert_eq!((map.len(), map.get(&5)), (1, Some(50)));
 }
+
+#[test]
+fn keys_with_the_same_first_hash_are_computed_apart() {
+    let map: Map<u64, u64, BuildPoor> = Map::builder(100).hasher(BuildPoor).open().unwrap();
+    let value = map.get_or_insert_with(&2, || {
+        let other = map.get_or_insert_with(&4, || 40);
+        assert_eq!((other, map.get(&4)), (40, Some(40)));
+        // A write of this other key doesn't touch the computation.
+        map.insert(&6, 60).unwrap();
+        20
+    });
+    assert_eq!((value, map.get(&2), map.get(&6)), (20, Some(20), None));
+}
