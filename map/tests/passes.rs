@@ -2,6 +2,7 @@
 use cefrodil_map::Map;
 use std::cell::RefCell;
 use std::sync::mpsc::channel;
+use std::sync::Barrier;
 use std::thread;
 
 #[test]
@@ -45,12 +46,15 @@ fn a_thread_without_a_pass_takes_one_when_it_is_free() {
 
 #[test]
 fn a_map_may_have_the_shared_pass_alone() {
+    const ROUNDS: u64 = 5_000;
     let map = Map::<u64, u64>::builder(100).threads(0).open().unwrap();
+    let start = Barrier::new(4);
     thread::scope(|threads| {
         for n in 0..4 {
-            let map = &map;
+            let (map, start) = (&map, &start);
             threads.spawn(move || {
-                for number in 0..500 {
+                start.wait();
+                for number in 0..ROUNDS {
                     map.insert(&n, number).unwrap();
                     assert_eq!(map.get(&n), Some(number));
                 }
@@ -58,8 +62,8 @@ fn a_map_may_have_the_shared_pass_alone() {
         }
     });
     let stats = map.stats();
-    assert!(stats.shared >= 4_000, "{stats:?}");
-    assert_eq!((stats.hits, stats.added + stats.renewed), (2_000, 2_000));
+    assert!(stats.shared >= 8 * ROUNDS, "{stats:?}");
+    assert_eq!((stats.hits, stats.added + stats.renewed), (4 * ROUNDS, 4 * ROUNDS));
 }
 
 #[test]
@@ -73,6 +77,20 @@ fn a_thread_has_a_pass_of_each_map() {
             assert_eq!((map.get(&1), map.stats().shared), (Some(round * 100 + number as u64), 0));
         }
     }
+}
+
+#[test]
+fn a_thread_does_not_use_the_pass_of_another() {
+    let maps: Vec<Map<u64, u64>> = (0..2).map(|_| Map::builder(10).threads(1).open().unwrap()).collect();
+    maps[1].insert(&1, 10).unwrap();
+    thread::scope(|threads| {
+        threads.spawn(|| {
+            maps[0].insert(&1, 1).unwrap();
+            // This thread has a pass of the first map, and none of the second.
+            assert_eq!((maps[1].get(&1), maps[0].get(&1)), (Some(10), Some(1)));
+        });
+    });
+    assert_eq!((maps[0].stats().shared, maps[1].stats().shared), (0, 1));
 }
 
 #[test]

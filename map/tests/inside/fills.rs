@@ -1,5 +1,6 @@
-//! A computed value beside a put that began before the computation and came after the lookup.
+//! A computed value beside a write that begins or ends in the middle of the computation.
 use crate::clock::NEVER;
+use crate::flight::Boarding;
 use crate::Map;
 
 #[test]
@@ -13,4 +14,19 @@ fn a_value_that_came_meanwhile_stays_and_is_returned() {
         11
     });
     assert_eq!((value, map.get(&1)), (10, Some(10)));
+}
+
+#[test]
+fn a_value_begun_before_an_update_puts_is_not_put() {
+    let map = Map::<u64, u64>::new(100).unwrap();
+    let inner = &map.inner;
+    let mut leader = None;
+    let updated = map.update(&1, |_| {
+        if let Boarding::First(first) = inner.flights.board(inner.print(&1_u64)) {
+            leader = Some(first);
+        }
+        5
+    });
+    let value = leader.unwrap().end(4, || unreachable!("a value that is too old is put"));
+    assert_eq!((updated, value, map.get(&1)), (Ok(5), 4, Some(5)));
 }
