@@ -1,4 +1,5 @@
-//! No two calls use a pass at once, whether threads own one or share it.
+//! No two calls use a pass at once, whether threads own one or share it, and no count is lost.
+use crate::stats::Kind;
 use crate::Map;
 use std::collections::HashSet;
 use std::ptr;
@@ -36,4 +37,22 @@ fn passes_used(owners: usize) -> usize {
 #[test]
 fn no_two_calls_use_a_pass_at_once() {
     assert_eq!((passes_used(0), passes_used(2), passes_used(THREADS)), (1, 3, THREADS));
+}
+
+#[test]
+fn no_count_is_lost() {
+    const MANY: u64 = 20_000;
+    for owners in [0, 1, THREADS] {
+        let map: Map<u64, u64> = Map::builder(10).threads(owners).open().unwrap();
+        let start = Barrier::new(THREADS);
+        thread::scope(|threads| {
+            for _ in 0..THREADS {
+                threads.spawn(|| {
+                    start.wait();
+                    (0..MANY).for_each(|_| map.inner.slots.count(Kind::Hit));
+                });
+            }
+        });
+        assert_eq!(map.stats().hits, THREADS as u64 * MANY);
+    }
 }
