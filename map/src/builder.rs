@@ -23,7 +23,7 @@ const THREADS: usize = 64;
 const ENTRIES_OF_A_SHARD: usize = 1024;
 const MOST_SHARDS: usize = 16;
 
-/// A shard of fewer entries gets twice the buckets. Without them, up to one new key in a hundred finds no place.
+/// A shard of fewer entries gets four times the buckets. Without them, up to one new key in a hundred finds no place.
 const SMALL: u32 = 256;
 
 /// Chooses how a map is opened.
@@ -101,7 +101,7 @@ impl<K: ?Sized, V: Copy + Send + Sync + 'static, S: BuildHasher> Builder<K, V, S
         let capacity = u32::try_from(self.capacity).unwrap_or(u32::MAX);
         let mut shape = if shards == 1 { Shape::for_items(capacity)? } else { Shape::for_shards(capacity, shards)? };
         if shape.items < SMALL {
-            shape.buckets *= 2;
+            shape.buckets *= 4;
         }
         self.open_shaped(&shape, shards, TRIES)
     }
