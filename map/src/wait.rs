@@ -7,8 +7,8 @@ use std::time::Duration;
 /// How often a call tries before it returns an error. That takes over a second.
 pub(crate) const TRIES: u32 = 10_000;
 
-/// How often a lookup tries before it is a miss. That takes some 20 milliseconds.
-pub(crate) const LOOKS: u32 = 300;
+/// How often a lookup tries before it is a miss. That takes over a tenth of a second.
+pub(crate) const LOOKS: u32 = 1_000;
 
 // The first pauses spin, each twice as long as the one before. Then the thread yields, and at last it sleeps: the thread that has the turn
 // may have to wait for a processor.

@@ -40,56 +40,55 @@ impl Model {
         *(if value.is_some() { &mut self.hits } else { &mut self.misses }) += 1;
     }
 
-    fn put(&mut self, key: u64, value: u64) {
+    fn put(&mut self, key: u64, before: Option<u64>, value: u64) {
+        self.holds(key, before);
+        self.renewed += u64::from(before.is_some());
         self.values.insert(key, value);
     }
 }
 
-fn one_call(map: &Map<u64, u64>, model: &mut Model, seed: &mut u64, number: u64) {
-    let key = next(seed) % KEYS;
-    match next(seed) % 16 {
+fn look(map: &Map<u64, u64>, model: &mut Model, key: u64, number: u64, kind: u64) {
+    match kind {
         0..=4 => model.looked(key, map.get(&key)),
         5 => {
             let there = map.contains_key(&key);
-            model.looked(key, if there { model.values.get(&key).copied() } else { None });
-            assert!(!there || model.values.contains_key(&key));
+            let last = model.values.get(&key).copied();
+            assert!(!there || last.is_some());
+            model.looked(key, last.filter(|_| there));
         }
-        6..=9 => {
-            let inserted = map.insert(&key, number).unwrap();
-            let before = (inserted == Inserted::Renewed).then(|| model.values[&key]);
-            model.holds(key, before);
-            model.renewed += u64::from(before.is_some());
-            model.put(key, number);
-        }
-        10..=11 => {
-            let mut before = None;
-            let put = map.update(&key, |old| {
-                before = old;
-                old.unwrap_or(0) + number
-            });
-            model.holds(key, before);
-            model.renewed += u64::from(before.is_some());
-            assert_eq!(put, Ok(before.unwrap_or(0) + number));
-            model.put(key, put.unwrap());
-        }
-        12 => {
-            let put = map.modify(&key, |old| old + 1).unwrap();
-            model.holds(key, put.map(|new| new - 1));
-            if let Some(new) = put {
-                model.renewed += 1;
-                model.put(key, new);
-            }
-        }
-        13 => {
+        _ => {
             let mut made = false;
             let value = map.get_or_insert_with(&key, || {
                 made = true;
                 number
             });
-            model.looked(key, (!made).then_some(value));
-            model.put(key, value);
             assert!(!made || value == number);
+            model.looked(key, (!made).then_some(value));
+            model.values.insert(key, value);
         }
+    }
+}
+
+fn write(map: &Map<u64, u64>, model: &mut Model, key: u64, number: u64, kind: u64) {
+    match kind {
+        0..=3 => {
+            let inserted = map.insert(&key, number).unwrap();
+            let before = (inserted == Inserted::Renewed).then(|| model.values[&key]);
+            model.put(key, before, number);
+        }
+        4..=5 => {
+            let mut before = None;
+            let put = map.update(&key, |old| {
+                before = old;
+                old.unwrap_or(0) + number
+            });
+            assert_eq!(put, Ok(before.unwrap_or(0) + number));
+            model.put(key, before, put.unwrap());
+        }
+        6 => match map.modify(&key, |old| old + 1).unwrap() {
+            Some(new) => model.put(key, Some(new - 1), new),
+            None => model.holds(key, None),
+        },
         _ => {
             model.holds(key, map.remove(&key).unwrap());
             model.values.remove(&key);
@@ -100,7 +99,11 @@ fn one_call(map: &Map<u64, u64>, model: &mut Model, seed: &mut u64, number: u64)
 fn agrees(map: &Map<u64, u64>, evicts: bool) {
     let (mut model, mut seed) = (Model::default(), 88_172_645_463_325_252);
     for number in 0..CALLS {
-        one_call(map, &mut model, &mut seed, number);
+        let (key, kind) = (next(&mut seed) % KEYS, next(&mut seed) % 16);
+        match kind {
+            0..=6 => look(map, &mut model, key, number, kind),
+            _ => write(map, &mut model, key, number, kind - 7),
+        }
         if number % 7_919 == 0 {
             (0..KEYS).for_each(|key| model.looked(key, map.get(&key)));
             assert_eq!(map.len(), model.values.len());
