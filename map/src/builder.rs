@@ -63,15 +63,15 @@ impl<K: ?Sized, V, S> Builder<K, V, S> {
         self
     }
 
-    /// How many threads at a time have a pass of their own, at most 1,023. Further ones share one more pass, and wait for each other.
-    /// The default is 64.
+    /// How many threads at a time have a pass of their own, at most 1,023. A thread keeps its pass from its first call to its end. Further
+    /// threads share one more pass, and wait for each other. The default is 64.
     pub fn threads(mut self, threads: usize) -> Self {
         self.threads = threads;
         self
     }
 
-    /// What hashes the keys, twice with different prefixes. All 64 bits must be well spread: two keys with the same two hashes are one key
-    /// to the map. If keys may be chosen by an enemy, take a keyed hasher. The default is std's, which is keyed.
+    /// What hashes the keys. Each key is hashed twice, with different prefixes, and two keys with the same two hashes are one key to the map.
+    /// So all 64 bits must be well spread. If an enemy may choose keys, take a keyed hasher. The default is std's, which is keyed.
     pub fn hasher<T>(self, hasher: T) -> Builder<K, V, T> {
         let Builder { capacity, shards, threads, hasher: _, life, entries } = self;
         Builder { capacity, shards, threads, hasher, life, entries }

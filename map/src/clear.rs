@@ -10,7 +10,7 @@ use cefrodil::Removal;
 const LISTS: u32 = 100;
 
 impl<K: ?Sized, V: Copy, S> Map<K, V, S> {
-    /// Removes all entries. Once this has returned, no lookup finds a value that was put before the call, nor one that
+    /// Removes all entries. Once this has returned, no later lookup finds a value that was put before this call, nor one that
     /// [`get_or_insert_with`](Map::get_or_insert_with) began to compute before it. What other threads put meanwhile may stay or go.
     ///
     /// It lists all keys, so it takes memory and time for as many as the map holds.

@@ -10,15 +10,14 @@ use std::convert::Infallible;
 use std::hash::{BuildHasher, Hash};
 
 impl<K: ?Sized, V: Copy + Send + Sync + 'static, S: BuildHasher> Map<K, V, S> {
-    /// The key's value, or else what `make` makes, which is put. Threads that want the same key meanwhile wait and get the same value. If
-    /// `make` panics, one of them calls its own.
+    /// The key's value, or else the value that `make` makes, which is put. Threads that want the same key meanwhile wait, and get the same
+    /// value. If `make` panics, one of them calls its own.
     ///
-    /// - If the key gets a value in another way meanwhile, that value stays and is returned.
-    /// - If the key is written or removed meanwhile, `make` may have read what was true before. Then its value is returned and not put.
-    ///   Calls that begin after the write don't wait for it, and compute anew.
-    /// - If the value finds no place, it is returned all the same. `refused` of [`stats`](Map::stats) counts it.
-    /// - If `make` calls this for the same key, the inner value is only returned. Two threads whose `make` wants what the other one computes
-    ///   wait forever.
+    /// - If the key is written or removed while `make` runs, the map keeps that, and the value that was made isn't put: it may be older. The
+    ///   call returns it, or the value that was written. Calls that begin after the write don't wait for this one.
+    /// - If the value finds no place, the call returns it all the same. `refused` of [`stats`](Map::stats) counts this.
+    /// - If `make` calls this for the same key, the inner call only returns its value.
+    /// - Two threads wait forever if the `make` of each wants the value that the other one computes.
     pub fn get_or_insert_with<Q: Hash + ?Sized>(&self, key: &Q, make: impl FnOnce() -> V) -> V
     where
         K: Borrow<Q>,
@@ -27,8 +26,8 @@ impl<K: ?Sized, V: Copy + Send + Sync + 'static, S: BuildHasher> Map<K, V, S> {
         value
     }
 
-    /// Like [`get_or_insert_with`](Map::get_or_insert_with), by a `make` that may fail. Then nothing is put, and of the threads that wait,
-    /// one calls its own.
+    /// Like [`get_or_insert_with`](Map::get_or_insert_with), with a `make` that may fail. Then nothing is put, and one of the threads that
+    /// wait calls its own.
     ///
     /// # Errors
     ///
@@ -55,7 +54,7 @@ impl<K: ?Sized, V: Copy + Send + Sync + 'static, S: BuildHasher> Map<K, V, S> {
         }
     }
 
-    /// Like [`get_or_insert_with`](Map::get_or_insert_with), and doesn't wait for another thread that computes the value.
+    /// Like [`get_or_insert_with`](Map::get_or_insert_with), but doesn't wait for another thread that computes the value.
     ///
     /// # Errors
     ///

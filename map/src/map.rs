@@ -136,8 +136,8 @@ impl<K: ?Sized, V: Copy + Send + Sync + 'static, S: BuildHasher> Map<K, V, S> {
         }
     }
 
-    /// Removes the key's value and returns it. Once this has returned, no lookup finds that value, nor one that
-    /// [`get_or_insert_with`](Map::get_or_insert_with) began to compute before the removal.
+    /// Removes the key's value and returns it. Once this has returned, no later lookup finds that value, nor one that
+    /// [`get_or_insert_with`](Map::get_or_insert_with) began to compute before this call. So it invalidates a key whose source has changed.
     ///
     /// # Errors
     ///

@@ -12,13 +12,13 @@ pub struct Stats {
     pub hits: u64,
     /// Lookups that found no value.
     pub misses: u64,
-    /// Lookups that were disturbed by writes at each try. They say nothing of the map.
+    /// Lookups that writes disturbed at each try. They say nothing of the map.
     pub busy: u64,
     /// Misses whose value had expired.
     pub expired: u64,
     /// Misses that found the entry of another key with the same first hash.
     pub collided: u64,
-    /// Keys that were put and had no entry.
+    /// Keys that were put and are new.
     pub added: u64,
     /// Entries that were overwritten.
     pub renewed: u64,
@@ -28,7 +28,7 @@ pub struct Stats {
     pub removed: u64,
     /// Writes that failed.
     pub refused: u64,
-    /// Steps of calls that went through the shared pass. If there are many, take more threads.
+    /// Calls of the index by the shared pass. If there are many, open the map for more threads.
     pub shared: u64,
 }
 
