@@ -70,8 +70,8 @@ impl<K: ?Sized, V, S> Builder<K, V, S> {
         self
     }
 
-    /// What hashes the keys. Each key is hashed twice, with different prefixes, and two keys with the same two hashes are one key to the map.
-    /// So all 64 bits must be well spread. If an enemy may choose keys, take a keyed hasher. The default is std's, which is keyed.
+    /// What hashes the keys. Each key is hashed twice, with different prefixes. Two keys with the same two hashes are one key to the map, so
+    /// all 64 bits must be well spread. If an enemy may choose keys, take a keyed hasher. The default is std's, which is keyed.
     pub fn hasher<T>(self, hasher: T) -> Builder<K, V, T> {
         let Builder { capacity, shards, threads, hasher: _, life, entries } = self;
         Builder { capacity, shards, threads, hasher, life, entries }

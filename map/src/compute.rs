@@ -13,8 +13,8 @@ impl<K: ?Sized, V: Copy + Send + Sync + 'static, S: BuildHasher> Map<K, V, S> {
     /// The key's value, or else the value that `make` makes, which is put. Threads that want the same key meanwhile wait, and get the same
     /// value. If `make` panics, one of them calls its own.
     ///
-    /// - If the key is written or removed while `make` runs, the map keeps that, and the value that was made isn't put: it may be older. The
-    ///   call returns it, or the value that was written. Calls that begin after the write don't wait for this one.
+    /// - If the key is written or removed while `make` runs, the map keeps that, and the value that was made isn't put: it may be older.
+    ///   The call returns it, or the value that was written. Calls that begin after the write don't wait for this one.
     /// - If the value finds no place, the call returns it all the same. `refused` of [`stats`](Map::stats) counts this.
     /// - If `make` calls this for the same key, the inner call only returns its value.
     /// - Two threads wait forever if the `make` of each wants the value that the other one computes.
