@@ -29,10 +29,11 @@ struct Slot {
     counts: Counts,
 }
 
-// SAFETY: `counts` is `Sync`, and only `Slots::call` touches `pass`, of the slot whose index the calling thread has claimed (`mine`). At
-// most one thread has claimed a slot: an index begins in `free`, `Claims::claim` takes it out of there under the mutex, and it goes back
-// only when the thread that took it ends and won't use it again (`Claims::drop`). The mutex orders what two threads do with a slot one
-// after the other, and an `AnyPass` may move to another thread (`Send`).
+// SAFETY: `counts` is `Sync`, so this is about `pass`. Only `Slots::call` touches it, and only in the slot that the calling thread has
+// claimed (`mine`). At most one thread has claimed a slot: its index begins in `free`, `take_free` takes it out for the thread that claims
+// it, and it goes back at that thread's end (`Claims::drop`). The thread doesn't use it again: by then `LAST` is reset, and `CLAIMS` can
+// not be reached any more. `LAST` is never of another map, since ids differ. The mutex of `free` orders what two threads do with a slot
+// one after the other, and an `AnyPass` may move to another thread (`Send`).
 unsafe impl Sync for Slot {}
 
 // A call that panics leaves its pass usable.

@@ -75,10 +75,9 @@ fn write<V: Copy>(value: &V, words: &mut [u64]) {
     assert!(size_of::<V>() <= size_of_val(words), "opening refuses such a value");
     let bytes = words.as_mut_ptr().cast::<MaybeUninit<u8>>();
     // SAFETY: `value` can be read for its size, and `words` written for as much, by the assertion. They don't overlap, since `words` is
-    // borrowed as `&mut`. The copy is of bytes that need not be initialized: `value` may have padding. The instructions (there are none)
-    // may write what `bytes` points to, so the compiler must take each byte there for initialized by them, with a value that it doesn't
-    // know: the padding has some value from here on, and reading it as a `u64` is allowed. What they leave in the other bytes is what was
-    // there. They use no stack and no flag.
+    // borrowed as `&mut`. The copied bytes need not be initialized: `value` may have padding. The instructions (there are none) may write
+    // what `bytes` points to. So for all that the compiler knows, they initialize each byte there, and reading the words is allowed. They
+    // leave each byte as it was, and use no stack and no flag.
     unsafe {
         ptr::copy_nonoverlapping(ptr::from_ref(value).cast::<MaybeUninit<u8>>(), bytes, size_of::<V>());
         asm!("/* {0} */", in(reg) bytes, options(nostack, preserves_flags));
@@ -89,11 +88,11 @@ fn write<V: Copy>(value: &V, words: &mut [u64]) {
 fn read<V: Copy>(words: &mut [u64]) -> V {
     assert!(size_of::<V>() <= size_of_val(words), "opening refuses such a value");
     let bytes = words.as_mut_ptr();
-    // SAFETY: `words` can be read for the size of a `V`, by the assertion. Their bytes are a valid `V`: `Entry::of` gets words that the
-    // map's own index returned, only `Entry::words` of the same `V` makes what the map puts there, and the index returns the words of a
-    // put whole (that is proved). `V` is `Copy`, `Send` and `'static`, so a bitwise copy is a value of its own in any thread and at any
-    // time. If it has a pointer, the instructions here and in `write` are the way on which that keeps its provenance: for all that the
-    // compiler knows, they exposed the pointer there, and wrote it here. The words may be less aligned than a `V`.
+    // SAFETY: `words` can be read for the size of a `V`, by the assertion. They may be less aligned than a `V`. Their bytes are a valid `V`:
+    // `Entry::of` gets what the map's own index returned, only `Entry::words` of the same `V` makes what the map puts there, and the index
+    // returns the words of one put, whole (that is proved of it). `V` is `Copy`, `Send` and `'static`, so a copy of its bytes is a value of
+    // its own, in any thread and at any time. If it has a pointer, that keeps its provenance by the instructions here and in `write`: for
+    // all that the compiler knows, those exposed the pointer, and these write it.
     unsafe {
         asm!("/* {0} */", in(reg) bytes, options(nostack, preserves_flags));
         ptr::read_unaligned(bytes.cast())
