@@ -80,8 +80,8 @@ impl<K: ?Sized, V: Copy + Send + Sync + 'static, S: BuildHasher> Map<K, V, S> {
 }
 
 impl<V: Copy, S: BuildHasher> Inner<V, S> {
-    // Makes the value as the leader of a flight.
-    fn compute<E>(&self, print: Print, leader: Leader<V>, make: impl FnOnce() -> Result<V, E>) -> Result<V, E> {
+    /// Makes the value as the leader of a flight.
+    pub fn compute<E>(&self, print: Print, leader: Leader<V>, make: impl FnOnce() -> Result<V, E>) -> Result<V, E> {
         // An earlier flight may have ended since this thread looked the key up.
         if let Some(Found::Live(entry, _)) = self.look(print, self.looks()) {
             return Ok(leader.end(entry.value, || entry.value));
