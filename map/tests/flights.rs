@@ -12,6 +12,9 @@ type Numbers = Map<u64, u64>;
 
 const KEY: u64 = 7;
 
+// How long a thread may take to do what it must do at once.
+const LONG: Duration = Duration::from_secs(10);
+
 /// A thread that has begun to compute a value, and waits before it goes on.
 struct Computation {
     thread: JoinHandle<u64>,
@@ -30,7 +33,7 @@ impl Computation {
                 value
             })
         });
-        wait.recv().unwrap();
+        wait.recv_timeout(LONG).expect("the computation has not begun");
         Computation { thread, go }
     }
 
@@ -56,7 +59,7 @@ impl Waiting {
 
     /// What the call returns.
     fn end(self) -> u64 {
-        self.0.recv_timeout(Duration::from_secs(10)).expect("a thread waits for a computation that has ended")
+        self.0.recv_timeout(LONG).expect("a thread waits for a computation that has ended")
     }
 }
 
@@ -116,7 +119,7 @@ fn a_panic_lets_another_thread_compute() {
             })
         })
     };
-    wait.recv().unwrap();
+    wait.recv_timeout(LONG).expect("the computation has not begun");
     let second = Waiting::begin(&map, 2);
     go.send(()).unwrap();
     assert!(first.join().is_err());
