@@ -1,0 +1,47 @@
+//! The removal of all entries.
+use crate::error::ClearError;
+use crate::map::Map;
+use crate::pass::AnyPass;
+use crate::stats::Kind;
+use crate::wait::in_turn;
+use cefrodil::Removal;
+
+/// How often `clear` tries to list the keys. A list has a turn at each shard and takes memory, so these are few.
+const LISTS: u32 = 100;
+
+impl<K: ?Sized, V: Copy, S> Map<K, V, S> {
+    /// Removes all entries. Once this has returned, no later lookup finds a value that was put before this call, nor one that
+    /// [`get_or_insert_with`](Map::get_or_insert_with) began to compute before it. What other threads put meanwhile may stay or go.
+    ///
+    /// It lists all keys, so it takes memory and time for as many as the map holds.
+    ///
+    /// # Errors
+    ///
+    /// [`ClearError`]: entries may be left.
+    pub fn clear(&self) -> Result<(), ClearError> {
+        self.clear_within(LISTS, self.inner.tries)
+    }
+
+    /// Like [`clear`](Map::clear), with a single try at each step.
+    ///
+    /// # Errors
+    ///
+    /// [`ClearError`]: entries may be left.
+    pub fn try_clear(&self) -> Result<(), ClearError> {
+        self.clear_within(1, 1)
+    }
+
+    fn clear_within(&self, lists: u32, tries: u32) -> Result<(), ClearError> {
+        let slots = &self.inner.slots;
+        self.inner.flights.detach_all();
+        let remove_all = || -> Result<(), ClearError> {
+            for key in in_turn(lists, || slots.call(AnyPass::keys))? {
+                if let Removal::Removed { .. } = in_turn(tries, || slots.call(|pass| pass.remove(key)))? {
+                    slots.count(Kind::Removed);
+                }
+            }
+            Ok(())
+        };
+        remove_all().inspect_err(|_| slots.count(Kind::Refused))
+    }
+}

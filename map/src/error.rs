@@ -1,0 +1,208 @@
+//! Why a call failed.
+use cefrodil::{ListError, PutError, Spent, TurnError};
+use std::error::Error;
+use std::fmt::{self, Display, Formatter};
+
+/// Why no map was opened.
+#[derive(Clone, Copy, Debug, PartialEq, Eq, Hash)]
+#[non_exhaustive]
+pub enum OpenError {
+    /// The capacity must be at least 1, and at most some 3.7 million for each shard.
+    Capacity,
+    /// The number of shards must be a power of two, 1 to 256.
+    Shards,
+    /// At most 1,023 threads can have a pass of their own.
+    Threads,
+    /// Out of memory. Take a smaller capacity, or try later.
+    NoMemory,
+    /// The index can't be used here: the processor is too old, or the archive has another version.
+    Index(cefrodil::OpenError),
+}
+
+/// Why a lookup gave no answer.
+#[derive(Clone, Copy, Debug, PartialEq, Eq, Hash)]
+#[non_exhaustive]
+pub enum GetError {
+    /// Writes disturbed each try. This says nothing of the map: treat it as a miss, or call again.
+    Busy,
+    /// Another thread computes the value.
+    Computing,
+}
+
+/// Why a value was not put. The key has the value that it had before, if any.
+#[derive(Clone, Copy, Debug, PartialEq, Eq, Hash)]
+#[non_exhaustive]
+pub enum InsertError {
+    /// Other threads were writing to the key's shard at each try. Call again.
+    Held,
+    /// There is no place for the key: its buckets are full, and no moves free a slot. Go on without, or take a larger capacity.
+    NoPlace,
+    /// The shard is full, and lookups used each entry again while the call sought one to evict. Call again, or go on without.
+    AllRecent,
+    /// The map was opened without a time to live, so a value can't have one. See [`Builder::time_to_live`](crate::Builder::time_to_live).
+    NoTimeToLive,
+    /// The shard has made 2^62 changes of versions. Open a new map. It takes centuries to get there.
+    Spent,
+}
+
+/// Why a key was not removed. It may still have its value: call again, or don't rely on the map.
+#[derive(Clone, Copy, Debug, PartialEq, Eq, Hash)]
+#[non_exhaustive]
+pub enum RemoveError {
+    /// Writes disturbed each try to look the key up.
+    Busy,
+    /// Other threads were writing to the key's shard at each try.
+    Held,
+    /// Other threads changed the key's value between the lookup and the removal, each time.
+    Contended,
+    /// As [`InsertError::Spent`].
+    Spent,
+}
+
+/// Why a value was not changed. The key has the value that it had before, or that another thread gave it.
+#[derive(Clone, Copy, Debug, PartialEq, Eq, Hash)]
+#[non_exhaustive]
+pub enum UpdateError {
+    /// Writes disturbed each try to look the key up. Call again.
+    Busy,
+    /// Other threads changed the key's value between the lookup and the put, each time. Call again.
+    Contended,
+    /// The new value was not put.
+    Insert(InsertError),
+}
+
+/// Why the map was not cleared. Entries may be left: call again, or don't rely on the map.
+#[derive(Clone, Copy, Debug, PartialEq, Eq, Hash)]
+#[non_exhaustive]
+pub enum ClearError {
+    /// Other threads were writing to a shard at each try.
+    Held,
+    /// Out of memory for the list of keys.
+    NoMemory,
+    /// As [`InsertError::Spent`].
+    Spent,
+}
+
+impl From<cefrodil::OpenError> for OpenError {
+    fn from(why: cefrodil::OpenError) -> OpenError {
+        match why {
+            cefrodil::OpenError::Items => OpenError::Capacity,
+            cefrodil::OpenError::Shards => OpenError::Shards,
+            cefrodil::OpenError::Readers => OpenError::Threads,
+            cefrodil::OpenError::NoMemory => OpenError::NoMemory,
+            why => OpenError::Index(why),
+        }
+    }
+}
+
+impl From<TurnError<PutError>> for InsertError {
+    fn from(why: TurnError<PutError>) -> InsertError {
+        match why {
+            TurnError::Held => InsertError::Held,
+            TurnError::Call(PutError::NoPath) => InsertError::NoPlace,
+            TurnError::Call(PutError::AllRecent) => InsertError::AllRecent,
+            TurnError::Call(_) => InsertError::Spent,
+        }
+    }
+}
+
+impl From<InsertError> for UpdateError {
+    fn from(why: InsertError) -> UpdateError {
+        UpdateError::Insert(why)
+    }
+}
+
+impl From<TurnError<ListError>> for ClearError {
+    fn from(why: TurnError<ListError>) -> ClearError {
+        match why {
+            TurnError::Held => ClearError::Held,
+            TurnError::Call(_) => ClearError::NoMemory,
+        }
+    }
+}
+
+impl From<TurnError<Spent>> for ClearError {
+    fn from(why: TurnError<Spent>) -> ClearError {
+        match why {
+            TurnError::Held => ClearError::Held,
+            TurnError::Call(Spent) => ClearError::Spent,
+        }
+    }
+}
+
+const BUSY: &str = "writes disturbed each lookup";
+const HELD: &str = "other threads held the shard's turn";
+const CONTENDED: &str = "other threads changed the key each time";
+const NO_MEMORY: &str = "out of memory";
+const SPENT: &str = "the shard has made all its changes";
+
+impl Display for OpenError {
+    fn fmt(&self, text: &mut Formatter) -> fmt::Result {
+        text.write_str(match self {
+            OpenError::Capacity => "the capacity must be at least 1, and at most 3774873 for each shard",
+            OpenError::Shards => "the number of shards must be a power of two from 1 to 256",
+            OpenError::Threads => "at most 1023 threads can have a pass of their own",
+            OpenError::NoMemory => NO_MEMORY,
+            OpenError::Index(why) => return why.fmt(text),
+        })
+    }
+}
+
+impl Display for GetError {
+    fn fmt(&self, text: &mut Formatter) -> fmt::Result {
+        text.write_str(match self {
+            GetError::Busy => BUSY,
+            GetError::Computing => "another thread computes the value",
+        })
+    }
+}
+
+impl Display for InsertError {
+    fn fmt(&self, text: &mut Formatter) -> fmt::Result {
+        text.write_str(match self {
+            InsertError::Held => HELD,
+            InsertError::NoPlace => "there is no place for the key",
+            InsertError::AllRecent => "the shard is full, and each entry was used again",
+            InsertError::NoTimeToLive => "the map was opened without a time to live",
+            InsertError::Spent => SPENT,
+        })
+    }
+}
+
+impl Display for RemoveError {
+    fn fmt(&self, text: &mut Formatter) -> fmt::Result {
+        text.write_str(match self {
+            RemoveError::Busy => BUSY,
+            RemoveError::Held => HELD,
+            RemoveError::Contended => CONTENDED,
+            RemoveError::Spent => SPENT,
+        })
+    }
+}
+
+impl Display for UpdateError {
+    fn fmt(&self, text: &mut Formatter) -> fmt::Result {
+        match self {
+            UpdateError::Busy => text.write_str(BUSY),
+            UpdateError::Contended => text.write_str(CONTENDED),
+            UpdateError::Insert(why) => why.fmt(text),
+        }
+    }
+}
+
+impl Display for ClearError {
+    fn fmt(&self, text: &mut Formatter) -> fmt::Result {
+        text.write_str(match self {
+            ClearError::Held => HELD,
+            ClearError::NoMemory => NO_MEMORY,
+            ClearError::Spent => SPENT,
+        })
+    }
+}
+
+impl Error for OpenError {}
+impl Error for GetError {}
+impl Error for InsertError {}
+impl Error for RemoveError {}
+impl Error for UpdateError {}
+impl Error for ClearError {}

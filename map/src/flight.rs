@@ -1,0 +1,135 @@
+//! Values that are being computed: one thread computes, and others that want the same key wait for it.
+//!
+//! A computed value may be older than a write that came meanwhile. So each write first detaches the flight of its key, and a value whose
+//! flight was detached is not put. The value is put under the lock by which flights are detached.
+use crate::print::Print;
+use crate::slots::lock;
+use std::ptr;
+use std::sync::atomic::{AtomicUsize, Ordering::SeqCst};
+use std::sync::{Arc, Condvar, Mutex, PoisonError};
+
+const STRIPES: usize = 64;
+
+/// The flights of a map.
+pub(crate) struct Flights<V> {
+    // How many threads compute a value.
+    running: AtomicUsize,
+    // By the key in the index.
+    stripes: Box<[Stripe<V>]>,
+}
+
+// The flights of some keys that are not detached.
+type Stripe<V> = Mutex<Vec<Arc<Flight<V>>>>;
+
+/// A value that a thread computes.
+pub(crate) struct Flight<V> {
+    print: Print,
+    thread: usize,
+    outcome: Mutex<Outcome<V>>,
+    ended: Condvar,
+}
+
+#[derive(Clone, Copy)]
+enum Outcome<V> {
+    Running,
+    Value(V),
+    // The computation failed or panicked.
+    None,
+}
+
+/// What a thread that wants a key's value is to do.
+pub(crate) enum Boarding<'a, V: Copy> {
+    /// Compute it.
+    First(Leader<'a, V>),
+    /// Wait for another thread.
+    Other(Arc<Flight<V>>),
+    /// Compute it, for itself alone: this thread is computing it already, and was called by that computation.
+    Within,
+}
+
+/// The thread that computes the value of a flight. If it is dropped, the flight ends without a value.
+pub(crate) struct Leader<'a, V: Copy> {
+    flights: &'a Flights<V>,
+    flight: Arc<Flight<V>>,
+}
+
+// Differs for any two threads that live at the same time.
+fn this_thread() -> usize {
+    thread_local!(static PLACE: u8 = const { 0 });
+    PLACE.with(|place| ptr::from_ref(place) as usize)
+}
+
+impl<V: Copy> Flights<V> {
+    pub fn new() -> Flights<V> {
+        Flights { running: AtomicUsize::new(0), stripes: (0..STRIPES).map(|_| Mutex::default()).collect() }
+    }
+
+    fn stripe(&self, print: Print) -> &Stripe<V> {
+        &self.stripes[print.key as usize % STRIPES]
+    }
+
+    /// Joins the flight of this key, or begins one.
+    pub fn board(&self, print: Print) -> Boarding<'_, V> {
+        let thread = this_thread();
+        let mut stripe = lock(self.stripe(print));
+        if let Some(flight) = stripe.iter().find(|flight| flight.print == print) {
+            return if flight.thread == thread { Boarding::Within } else { Boarding::Other(Arc::clone(flight)) };
+        }
+        let flight = Arc::new(Flight { print, thread, outcome: Mutex::new(Outcome::Running), ended: Condvar::new() });
+        stripe.push(Arc::clone(&flight));
+        // Before the computation: a write that reads 0 began before the computation did.
+        self.running.fetch_add(1, SeqCst);
+        Boarding::First(Leader { flights: self, flight })
+    }
+
+    /// Detaches the flight of this key. What its thread computes is not put.
+    #[inline]
+    pub fn detach(&self, print: Print) {
+        if self.running.load(SeqCst) > 0 {
+            lock(self.stripe(print)).retain(|flight| flight.print != print);
+        }
+    }
+
+    /// Detaches all flights.
+    pub fn detach_all(&self) {
+        self.stripes.iter().for_each(|stripe| lock(stripe).clear());
+    }
+}
+
+impl<V: Copy> Flight<V> {
+    /// Waits until the flight has ended. Returns its value, if it has one.
+    pub fn wait(&self) -> Option<V> {
+        let running = |outcome: &mut Outcome<V>| matches!(outcome, Outcome::Running);
+        let outcome = self.ended.wait_while(lock(&self.outcome), running).unwrap_or_else(PoisonError::into_inner);
+        match *outcome {
+            Outcome::Value(value) => Some(value),
+            Outcome::Running | Outcome::None => None,
+        }
+    }
+}
+
+impl<V: Copy> Leader<'_, V> {
+    /// Ends the flight with this value, which is put first, unless a write has detached the flight. `put` returns the value that the key
+    /// has then.
+    pub fn end(self, value: V, put: impl FnOnce() -> V) -> V {
+        let stripe = lock(self.flights.stripe(self.flight.print));
+        let attached = stripe.iter().any(|flight| Arc::ptr_eq(flight, &self.flight));
+        let value = if attached { put() } else { value };
+        drop(stripe);
+        *lock(&self.flight.outcome) = Outcome::Value(value);
+        value
+    }
+}
+
+impl<V: Copy> Drop for Leader<'_, V> {
+    fn drop(&mut self) {
+        lock(self.flights.stripe(self.flight.print)).retain(|flight| !Arc::ptr_eq(flight, &self.flight));
+        self.flights.running.fetch_sub(1, SeqCst);
+        let mut outcome = lock(&self.flight.outcome);
+        if let Outcome::Running = *outcome {
+            *outcome = Outcome::None;
+        }
+        drop(outcome);
+        self.flight.ended.notify_all();
+    }
+}

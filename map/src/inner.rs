@@ -1,0 +1,180 @@
+//! What all clones of a map share: how a key is looked up, put and removed.
+use crate::clock::{Clock, NEVER};
+use crate::error::{GetError, InsertError, RemoveError};
+use crate::flight::Flights;
+use crate::map::Inserted;
+use crate::print::Print;
+use crate::slots::Slots;
+use crate::stats::Kind;
+use crate::wait::{in_turn, within, LOOKS};
+use crate::words::{Entry, Layout, Words, MOST};
+use cefrodil::{Put, PutIfError, Reply, TurnError};
+use std::hash::{BuildHasher, Hash};
+use std::sync::Arc;
+use std::time::Duration;
+
+pub(crate) struct Inner<V, S> {
+    pub slots: Arc<Slots>,
+    pub flights: Flights<V>,
+    pub clock: Clock,
+    pub hasher: S,
+    /// The time to live of what is put. Without one, entries have no deadline.
+    pub life: Option<Duration>,
+    pub capacity: usize,
+    /// How often a call tries.
+    pub tries: u32,
+}
+
+/// What there is under the first hash of a key.
+pub(crate) enum Found<V> {
+    /// The key's entry, and the moment when it was put.
+    Live(Entry<V>, u64),
+    /// The key's entry, which has expired.
+    Expired(u64),
+    /// The entry of another key.
+    Other(u64),
+    Absent,
+}
+
+impl<V: Copy, S: BuildHasher> Inner<V, S> {
+    #[inline]
+    pub fn print<Q: Hash + ?Sized>(&self, key: &Q) -> Print {
+        Print::of(&self.hasher, key)
+    }
+
+    /// How often a lookup tries that is a miss if it stays busy.
+    pub fn looks(&self) -> u32 {
+        self.tries.min(LOOKS)
+    }
+
+    fn layout(&self) -> Layout {
+        Layout::of(self.life)
+    }
+
+    /// The deadline of a value that is put now.
+    pub fn deadline(&self, life: Option<Duration>) -> u64 {
+        life.map_or(NEVER, |life| self.clock.deadline(life))
+    }
+
+    pub fn words(&self, print: Print, value: V, deadline: u64) -> Words {
+        Entry { check: print.check, deadline, value }.words(self.layout())
+    }
+
+    /// Looks the key up. `None`: each try was busy. It isn't counted.
+    #[inline]
+    pub fn look(&self, print: Print, tries: u32) -> Option<Found<V>> {
+        match self.slots.call(|pass| pass.get(print.key)) {
+            Reply::Busy => self.look_again(print, tries - 1),
+            reply => self.found(print, reply),
+        }
+    }
+
+    #[cold]
+    fn look_again(&self, print: Print, tries: u32) -> Option<Found<V>> {
+        within(tries, || self.found(print, self.slots.call(|pass| pass.get_or_desk(print.key))))
+    }
+
+    #[inline]
+    fn found(&self, print: Print, reply: Reply<MOST>) -> Option<Found<V>> {
+        let (words, since) = match reply {
+            Reply::Found { value, since, .. } => (value, since),
+            Reply::Absent { .. } => return Some(Found::Absent),
+            Reply::Busy => return None,
+        };
+        let entry: Entry<V> = Entry::of(words, self.layout());
+        Some(if entry.check != print.check {
+            Found::Other(since)
+        } else if self.clock.has_passed(entry.deadline) {
+            Found::Expired(since)
+        } else {
+            Found::Live(entry, since)
+        })
+    }
+
+    /// Looks the key up, and counts that.
+    #[inline]
+    pub fn get(&self, print: Print, tries: u32) -> Result<Option<V>, GetError> {
+        let kind = match self.look(print, tries) {
+            Some(Found::Live(entry, _)) => {
+                self.slots.count(Kind::Hit);
+                return Ok(Some(entry.value));
+            }
+            Some(Found::Absent) => Kind::Miss,
+            Some(Found::Expired(_)) => Kind::Expired,
+            Some(Found::Other(_)) => Kind::Collided,
+            None => {
+                self.slots.count(Kind::Busy);
+                return Err(GetError::Busy);
+            }
+        };
+        self.slots.count(Kind::Miss);
+        if !matches!(kind, Kind::Miss) {
+            self.slots.count(kind);
+        }
+        Ok(None)
+    }
+
+    /// Counts a write that failed.
+    pub fn refused<E>(&self, why: E) -> E {
+        self.slots.count(Kind::Refused);
+        why
+    }
+
+    /// Counts a put.
+    pub fn stored(&self, put: Put) -> Inserted {
+        let inserted = match put {
+            Put::Stored { evicted: None, .. } => Inserted::New,
+            Put::Stored { evicted: Some(_), .. } => Inserted::Evicted,
+            _ => Inserted::Renewed,
+        };
+        if let Inserted::Renewed = inserted {
+            self.slots.count(Kind::Renewed);
+        } else {
+            self.slots.count(Kind::Added);
+        }
+        if let Inserted::Evicted = inserted {
+            self.slots.count(Kind::Evicted);
+        }
+        inserted
+    }
+
+    pub fn insert<Q: Hash + ?Sized>(
+        &self,
+        key: &Q,
+        value: V,
+        life: Option<Duration>,
+        tries: u32,
+    ) -> Result<Inserted, InsertError> {
+        let print = self.print(key);
+        let words = self.words(print, value, self.deadline(life));
+        self.flights.detach(print);
+        match in_turn(tries, || self.slots.call(|pass| pass.put(print.key, &words))) {
+            Ok(put) => Ok(self.stored(put)),
+            Err(why) => Err(self.refused(why.into())),
+        }
+    }
+
+    pub fn remove<Q: Hash + ?Sized>(&self, key: &Q, tries: u32) -> Result<Option<V>, RemoveError> {
+        let print = self.print(key);
+        self.flights.detach(print);
+        for _ in 0..tries {
+            let (value, since) = match self.look(print, tries) {
+                Some(Found::Live(entry, since)) => (Some(entry.value), since),
+                Some(Found::Expired(since)) => (None, since),
+                Some(Found::Absent | Found::Other(_)) => return Ok(None),
+                None => return Err(self.refused(RemoveError::Busy)),
+            };
+            match in_turn(tries, || self.slots.call(|pass| pass.take_if(print.key, since))) {
+                Ok(_) => {
+                    self.slots.count(Kind::Removed);
+                    return Ok(value);
+                }
+                Err(TurnError::Call(PutIfError::NotThere { .. })) => return Ok(None),
+                Err(TurnError::Call(PutIfError::Changed { .. })) => {}
+                Err(TurnError::Call(_)) => return Err(self.refused(RemoveError::Spent)),
+                Err(TurnError::Held) => return Err(self.refused(RemoveError::Held)),
+            }
+        }
+        Err(self.refused(RemoveError::Contended))
+    }
+}

@@ -1,0 +1,27 @@
+#![doc = include_str!("../README.md")]
+#![deny(missing_docs, missing_debug_implementations, unsafe_op_in_unsafe_fn)]
+
+mod builder;
+mod clear;
+mod clock;
+mod compute;
+mod error;
+mod flight;
+mod inner;
+mod map;
+mod pass;
+mod print;
+mod slots;
+mod stats;
+mod update;
+mod wait;
+mod words;
+
+#[cfg(test)]
+#[path = "../tests/inside/mod.rs"]
+mod inside;
+
+pub use builder::Builder;
+pub use error::{ClearError, GetError, InsertError, OpenError, RemoveError, UpdateError};
+pub use map::{Inserted, Map};
+pub use stats::Stats;

@@ -1,0 +1,205 @@
+//! The map and its plain calls.
+use crate::error::{GetError, InsertError, OpenError, RemoveError};
+use crate::inner::Inner;
+use crate::stats::Stats;
+use crate::Builder;
+use std::borrow::Borrow;
+use std::collections::hash_map::RandomState;
+use std::fmt::{self, Debug, Formatter};
+use std::hash::{BuildHasher, Hash};
+use std::marker::PhantomData;
+use std::sync::Arc;
+use std::time::Duration;
+
+/// A bounded cache from keys `K` to copies of `V`, for any number of threads. A clone is the same map.
+///
+/// A key is hashed and not kept, so each call borrows it, and `K` may be unsized: `Map<str, u64>` works. A value has at most 56 bytes, or
+/// 48 in a map with a time to live; a larger one doesn't compile:
+///
+/// ```compile_fail,E0080
+/// let _ = cefrodil_map::Map::<u64, [u8; 57]>::new(100);
+/// ```
+///
+/// A full map evicts an entry for each new key, one that was not used lately. So an entry may be gone at any time.
+///
+/// If other threads disturb a call, it tries again, a bounded number of times: at first it spins, then it yields, then it sleeps. If all
+/// tries failed, a write returns an error and has changed nothing, and [`get`] and [`contains_key`] report a miss. The forms with `try_`
+/// try once.
+///
+/// Once a write of a key has returned, no later lookup finds an older value of the key. That includes values that [`get_or_insert_with`]
+/// was computing when the write came.
+///
+/// [`get`]: Map::get
+/// [`contains_key`]: Map::contains_key
+/// [`get_or_insert_with`]: Map::get_or_insert_with
+pub struct Map<K: ?Sized, V, S = RandomState> {
+    pub(crate) inner: Arc<Inner<V, S>>,
+    keys: PhantomData<fn(&K)>,
+}
+
+/// What a successful `insert` did.
+#[derive(Clone, Copy, Debug, PartialEq, Eq, Hash)]
+#[non_exhaustive]
+pub enum Inserted {
+    /// The key is new.
+    New,
+    /// The key was there, perhaps with an expired value. It was overwritten.
+    Renewed,
+    /// The key is new, and the entry of another key was evicted for it.
+    Evicted,
+}
+
+impl<K: ?Sized, V: Copy + Send + Sync + 'static> Map<K, V> {
+    /// Opens a map for at least this many entries, with the defaults of [`Builder`].
+    ///
+    /// # Errors
+    ///
+    /// [`OpenError`].
+    pub fn new(capacity: usize) -> Result<Map<K, V>, OpenError> {
+        Builder::new(capacity).open()
+    }
+
+    /// Chooses how to open a map for at least this many entries.
+    pub fn builder(capacity: usize) -> Builder<K, V> {
+        Builder::new(capacity)
+    }
+}
+
+impl<K: ?Sized, V: Copy + Send + Sync + 'static, S: BuildHasher> Map<K, V, S> {
+    /// The key's value. A value that is found counts as used lately.
+    #[inline]
+    #[must_use]
+    pub fn get<Q: Hash + ?Sized>(&self, key: &Q) -> Option<V>
+    where
+        K: Borrow<Q>,
+    {
+        self.inner.get(self.inner.print(key), self.inner.looks()).unwrap_or(None)
+    }
+
+    /// The key's value, by one lookup.
+    ///
+    /// # Errors
+    ///
+    /// [`GetError::Busy`].
+    pub fn try_get<Q: Hash + ?Sized>(&self, key: &Q) -> Result<Option<V>, GetError>
+    where
+        K: Borrow<Q>,
+    {
+        self.inner.get(self.inner.print(key), 1)
+    }
+
+    /// Whether the key has a value, which then counts as used lately.
+    #[must_use]
+    pub fn contains_key<Q: Hash + ?Sized>(&self, key: &Q) -> bool
+    where
+        K: Borrow<Q>,
+    {
+        self.get(key).is_some()
+    }
+
+    /// Puts the value. Its time to live is that of the map, if it has one.
+    ///
+    /// # Errors
+    ///
+    /// [`InsertError`]: nothing was changed. An older value of the key stays: if it must not, [`remove`](Map::remove) it.
+    pub fn insert<Q: Hash + ?Sized>(&self, key: &Q, value: V) -> Result<Inserted, InsertError>
+    where
+        K: Borrow<Q>,
+    {
+        self.inner.insert(key, value, self.inner.life, self.inner.tries)
+    }
+
+    /// Like [`insert`](Map::insert), with a single try.
+    ///
+    /// # Errors
+    ///
+    /// [`InsertError`]: nothing was changed.
+    pub fn try_insert<Q: Hash + ?Sized>(&self, key: &Q, value: V) -> Result<Inserted, InsertError>
+    where
+        K: Borrow<Q>,
+    {
+        self.inner.insert(key, value, self.inner.life, 1)
+    }
+
+    /// Like [`insert`](Map::insert), with a time to live of its own. One that is too long to be counted never ends.
+    ///
+    /// # Errors
+    ///
+    /// [`InsertError`]: nothing was changed. [`InsertError::NoTimeToLive`] if the map was opened without one.
+    pub fn insert_for<Q: Hash + ?Sized>(&self, key: &Q, value: V, life: Duration) -> Result<Inserted, InsertError>
+    where
+        K: Borrow<Q>,
+    {
+        match self.inner.life {
+            Some(_) => self.inner.insert(key, value, Some(life), self.inner.tries),
+            None => Err(self.inner.refused(InsertError::NoTimeToLive)),
+        }
+    }
+
+    /// Removes the key's value and returns it. Once this has returned, no later lookup finds that value, nor one that
+    /// [`get_or_insert_with`](Map::get_or_insert_with) began to compute before this call. So it invalidates a key whose source has changed.
+    ///
+    /// # Errors
+    ///
+    /// [`RemoveError`]: the value may still be there.
+    pub fn remove<Q: Hash + ?Sized>(&self, key: &Q) -> Result<Option<V>, RemoveError>
+    where
+        K: Borrow<Q>,
+    {
+        self.inner.remove(key, self.inner.tries)
+    }
+
+    /// Like [`remove`](Map::remove), with a single try.
+    ///
+    /// # Errors
+    ///
+    /// [`RemoveError`]: the value may still be there.
+    pub fn try_remove<Q: Hash + ?Sized>(&self, key: &Q) -> Result<Option<V>, RemoveError>
+    where
+        K: Borrow<Q>,
+    {
+        self.inner.remove(key, 1)
+    }
+}
+
+impl<K: ?Sized, V, S> Map<K, V, S> {
+    pub(crate) fn of(inner: Inner<V, S>) -> Map<K, V, S> {
+        Map { inner: Arc::new(inner), keys: PhantomData }
+    }
+
+    /// The most entries that the map holds: what was asked for, or more. Shards fill unevenly, so it may evict before it has so many.
+    #[must_use]
+    pub fn capacity(&self) -> usize {
+        self.inner.capacity
+    }
+
+    /// How many entries the map has, expired ones included. While other threads write it is an estimate.
+    #[must_use]
+    pub fn len(&self) -> usize {
+        self.stats().entries()
+    }
+
+    /// Whether [`len`](Map::len) is 0.
+    #[must_use]
+    pub fn is_empty(&self) -> bool {
+        self.len() == 0
+    }
+
+    /// What the calls of all threads came to.
+    #[must_use]
+    pub fn stats(&self) -> Stats {
+        self.inner.slots.stats()
+    }
+}
+
+impl<K: ?Sized, V, S> Clone for Map<K, V, S> {
+    fn clone(&self) -> Map<K, V, S> {
+        Map { inner: Arc::clone(&self.inner), keys: PhantomData }
+    }
+}
+
+impl<K: ?Sized, V, S> Debug for Map<K, V, S> {
+    fn fmt(&self, text: &mut Formatter) -> fmt::Result {
+        text.debug_struct("Map").field("len", &self.len()).field("capacity", &self.capacity()).finish_non_exhaustive()
+    }
+}

@@ -1,0 +1,165 @@
+//! A pass for each thread, from its first call to its end.
+//!
+//! A thread claims a slot, and keeps its index until it ends. If all slots are claimed, a thread uses the shared pass, under a mutex, and
+//! tries to claim a slot again at its next call.
+use crate::pass::AnyPass;
+use crate::stats::{Counts, Kind, Stats};
+use std::cell::{Cell, RefCell};
+use std::iter::once;
+use std::panic::RefUnwindSafe;
+use std::sync::atomic::{AtomicU64, AtomicUsize, Ordering::Relaxed};
+use std::sync::{Arc, Mutex, MutexGuard, PoisonError, Weak};
+
+/// The passes of a map.
+pub(crate) struct Slots {
+    // No two maps of a process have the same one.
+    id: u64,
+    slots: Box<[Slot]>,
+    // The indices of slots that no thread has claimed, and how many they are.
+    free: Mutex<Vec<usize>>,
+    free_count: AtomicUsize,
+    shared: Mutex<AnyPass>,
+    shared_counts: Counts,
+}
+
+/// What one thread uses. The alignment keeps slots of different threads in different cache lines.
+#[repr(align(128))]
+struct Slot {
+    pass: RefCell<AnyPass>,
+    counts: Counts,
+}
+
+// SAFETY: `counts` is `Sync`, so this is about `pass`. Only `Slots::call` touches it, and only in the slot that the calling thread has
+// claimed (`mine`). At most one thread has claimed a slot: its index begins in `free`, `take_free` takes it out for the thread that claims
+// it, and it goes back at that thread's end (`Claims::drop`). The thread doesn't use it again: by then `LAST` is reset, and `CLAIMS` can
+// not be reached any more. `LAST` is never of another map, since ids differ. The mutex of `free` orders what two threads do with a slot
+// one after the other, and an `AnyPass` may move to another thread (`Send`).
+unsafe impl Sync for Slot {}
+
+// A call that panics leaves its pass usable.
+impl RefUnwindSafe for Slot {}
+
+/// Locks the mutex, also if a thread panicked that had locked it. Nothing here is left half done by a panic.
+pub(crate) fn lock<T>(mutex: &Mutex<T>) -> MutexGuard<'_, T> {
+    mutex.lock().unwrap_or_else(PoisonError::into_inner)
+}
+
+impl Slots {
+    /// The last pass is the shared one; each other is in a slot. There must be one at least.
+    pub fn new(mut passes: Vec<AnyPass>) -> Slots {
+        static NEXT: AtomicU64 = AtomicU64::new(1);
+        let shared = passes.pop().expect("opening makes one pass at least");
+        let slots: Box<[Slot]> = passes.into_iter().map(Slot::new).collect();
+        Slots {
+            id: NEXT.fetch_add(1, Relaxed),
+            free: Mutex::new((0..slots.len()).rev().collect()),
+            free_count: AtomicUsize::new(slots.len()),
+            slots,
+            shared: Mutex::new(shared),
+            shared_counts: Counts::default(),
+        }
+    }
+
+    /// Makes one call by the thread's own pass, or by the shared one.
+    #[inline]
+    pub fn call<T>(self: &Arc<Self>, call: impl FnOnce(&mut AnyPass) -> T) -> T {
+        // A slot's pass is borrowed only if `call` were to call this: then the shared one is used.
+        match self.mine().and_then(|slot| slot.pass.try_borrow_mut().ok()) {
+            Some(mut pass) => call(&mut pass),
+            None => {
+                self.shared_counts.add(Kind::Shared);
+                call(&mut lock(&self.shared))
+            }
+        }
+    }
+
+    #[inline]
+    pub fn count(self: &Arc<Self>, kind: Kind) {
+        match self.mine() {
+            Some(slot) => slot.counts.add_alone(kind),
+            None => self.shared_counts.add(kind),
+        }
+    }
+
+    pub fn stats(&self) -> Stats {
+        Stats::sum(self.slots.iter().map(|slot| &slot.counts).chain(once(&self.shared_counts)))
+    }
+
+    /// The slot that this thread has claimed, or claims now.
+    #[inline]
+    fn mine(self: &Arc<Self>) -> Option<&Slot> {
+        let (id, index) = LAST.get();
+        let index = if id == self.id { index } else { self.find()? };
+        self.slots.get(index)
+    }
+
+    #[cold]
+    fn find(self: &Arc<Self>) -> Option<usize> {
+        // An error: the thread is ending, and has given its slots back.
+        let index = CLAIMS.try_with(|claims| claims.find(self)).ok()??;
+        LAST.set((self.id, index));
+        Some(index)
+    }
+
+    fn take_free(&self) -> Option<usize> {
+        if self.free_count.load(Relaxed) == 0 {
+            return None;
+        }
+        let mut free = lock(&self.free);
+        let index = free.pop();
+        self.free_count.store(free.len(), Relaxed);
+        index
+    }
+
+    fn give_back(&self, index: usize) {
+        let mut free = lock(&self.free);
+        free.push(index);
+        self.free_count.store(free.len(), Relaxed);
+    }
+}
+
+impl Slot {
+    fn new(pass: AnyPass) -> Slot {
+        Slot { pass: RefCell::new(pass), counts: Counts::default() }
+    }
+}
+
+/// A slot that this thread has claimed.
+struct Claim {
+    index: usize,
+    slots: Weak<Slots>,
+}
+
+/// All slots that this thread has claimed, of any map.
+struct Claims(RefCell<Vec<Claim>>);
+
+thread_local! {
+    // The map that the thread used last, and its slot there. No map has the id 0.
+    static LAST: Cell<(u64, usize)> = const { Cell::new((0, 0)) };
+    static CLAIMS: Claims = const { Claims(RefCell::new(Vec::new())) };
+}
+
+impl Claims {
+    fn find(&self, slots: &Arc<Slots>) -> Option<usize> {
+        let mut claims = self.0.try_borrow_mut().ok()?;
+        if let Some(claim) = claims.iter().find(|claim| claim.slots.as_ptr() == Arc::as_ptr(slots)) {
+            return Some(claim.index);
+        }
+        let index = slots.take_free()?;
+        // Claims of maps that are gone.
+        claims.retain(|claim| claim.slots.strong_count() > 0);
+        claims.push(Claim { index, slots: Arc::downgrade(slots) });
+        Some(index)
+    }
+}
+
+impl Drop for Claims {
+    fn drop(&mut self) {
+        LAST.set((0, 0));
+        for claim in self.0.take() {
+            if let Some(slots) = claim.slots.upgrade() {
+                slots.give_back(claim.index);
+            }
+        }
+    }
+}

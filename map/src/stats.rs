@@ -1,0 +1,84 @@
+//! What the calls of a map came to.
+use std::sync::atomic::{AtomicU64, Ordering::Relaxed};
+
+/// How many calls came to what, since the map was opened. The sums of all threads, each read at a moment of its own.
+///
+/// `hits`, `misses` and `busy` together are the lookups: one for each call of `get`, `contains_key` and `get_or_insert_with`, and of
+/// their other forms.
+#[derive(Clone, Copy, Debug, Default, PartialEq, Eq, Hash)]
+#[non_exhaustive]
+pub struct Stats {
+    /// Lookups that found a value.
+    pub hits: u64,
+    /// Lookups that found no value.
+    pub misses: u64,
+    /// Lookups that writes disturbed at each try. They say nothing of the map.
+    pub busy: u64,
+    /// Misses whose value had expired.
+    pub expired: u64,
+    /// Misses that found the entry of another key with the same first hash.
+    pub collided: u64,
+    /// Keys that were put and are new.
+    pub added: u64,
+    /// Entries that were overwritten.
+    pub renewed: u64,
+    /// Entries that gave way to a new key. If there are many, take a larger capacity.
+    pub evicted: u64,
+    /// Entries that were removed.
+    pub removed: u64,
+    /// Writes that failed.
+    pub refused: u64,
+    /// Calls of the index by the shared pass. If there are many, open the map for more threads.
+    pub shared: u64,
+}
+
+/// What is counted. The order is that of `NUMBERS`.
+#[derive(Clone, Copy)]
+pub(crate) enum Kind {
+    Hit,
+    Miss,
+    Busy,
+    Expired,
+    Collided,
+    Added,
+    Renewed,
+    Evicted,
+    Removed,
+    Refused,
+    Shared,
+}
+
+const NUMBERS: usize = Kind::Shared as usize + 1;
+
+/// The counts of one thread, or of those that share a pass.
+#[derive(Default)]
+pub(crate) struct Counts([AtomicU64; NUMBERS]);
+
+impl Counts {
+    /// Counts one more. Only one thread at a time may call it.
+    pub fn add_alone(&self, kind: Kind) {
+        let count = &self.0[kind as usize];
+        count.store(count.load(Relaxed) + 1, Relaxed);
+    }
+
+    /// Counts one more.
+    pub fn add(&self, kind: Kind) {
+        self.0[kind as usize].fetch_add(1, Relaxed);
+    }
+}
+
+impl Stats {
+    pub(crate) fn sum<'a>(all: impl Iterator<Item = &'a Counts>) -> Stats {
+        let mut sums = [0; NUMBERS];
+        for counts in all {
+            sums.iter_mut().zip(&counts.0).for_each(|(sum, count)| *sum += count.load(Relaxed));
+        }
+        let [hits, misses, busy, expired, collided, added, renewed, evicted, removed, refused, shared] = sums;
+        Stats { hits, misses, busy, expired, collided, added, renewed, evicted, removed, refused, shared }
+    }
+
+    /// How many entries these numbers leave.
+    pub(crate) fn entries(&self) -> usize {
+        self.added.saturating_sub(self.evicted + self.removed) as usize
+    }
+}

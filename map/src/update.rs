@@ -1,0 +1,125 @@
+//! Puts that depend on the value that is there.
+use crate::error::{InsertError, UpdateError};
+use crate::inner::{Found, Inner};
+use crate::map::Map;
+use crate::print::Print;
+use crate::stats::Kind;
+use crate::wait::in_turn;
+use crate::words::Words;
+use cefrodil::{PutIfAbsentError, PutIfError, TurnError};
+use std::borrow::Borrow;
+use std::hash::{BuildHasher, Hash};
+
+impl<K: ?Sized, V: Copy + Send + Sync + 'static, S: BuildHasher> Map<K, V, S> {
+    /// Puts what `change` makes of the key's value, and returns it. No other write of the key comes between: if another thread is first,
+    /// `change` is called again with what is there then. A value that is there keeps its deadline.
+    ///
+    /// If the entry is evicted, `change` begins anew with `None`. To count without loss, take a capacity well above the number of keys, and
+    /// treat `evicted` of [`stats`](Map::stats) as an error.
+    ///
+    /// # Errors
+    ///
+    /// [`UpdateError`]: this call changed nothing.
+    pub fn update<Q: Hash + ?Sized>(&self, key: &Q, change: impl FnMut(Option<V>) -> V) -> Result<V, UpdateError>
+    where
+        K: Borrow<Q>,
+    {
+        self.inner.update(key, self.inner.tries, change)
+    }
+
+    /// Like [`update`](Map::update), with a single try. So `change` is called once at most.
+    ///
+    /// # Errors
+    ///
+    /// [`UpdateError`]: this call changed nothing.
+    pub fn try_update<Q: Hash + ?Sized>(&self, key: &Q, change: impl FnMut(Option<V>) -> V) -> Result<V, UpdateError>
+    where
+        K: Borrow<Q>,
+    {
+        self.inner.update(key, 1, change)
+    }
+
+    /// Like [`update`](Map::update), if the key has a value. Returns the new value. `None`: the key has none, and nothing was put.
+    ///
+    /// # Errors
+    ///
+    /// [`UpdateError`]: this call changed nothing.
+    pub fn modify<Q: Hash + ?Sized>(&self, key: &Q, mut change: impl FnMut(V) -> V) -> Result<Option<V>, UpdateError>
+    where
+        K: Borrow<Q>,
+    {
+        self.inner.change_detached(self.inner.print(key), self.inner.tries, |old| old.map(&mut change))
+    }
+}
+
+impl<V: Copy, S: BuildHasher> Inner<V, S> {
+    fn update<Q: Hash + ?Sized>(&self, key: &Q, tries: u32, mut change: impl FnMut(Option<V>) -> V) -> Result<V, UpdateError> {
+        let new = self.change_detached(self.print(key), tries, |old| Some(change(old)))?;
+        Ok(new.expect("`change` always gives a value"))
+    }
+
+    // Like `change`, as a write of its own: it detaches the key's flight, and counts a refusal.
+    fn change_detached(
+        &self,
+        print: Print,
+        tries: u32,
+        mut change: impl FnMut(Option<V>) -> Option<V>,
+    ) -> Result<Option<V>, UpdateError> {
+        let changed = self.change(print, tries, |old| {
+            let new = change(old);
+            self.flights.detach(print);
+            new
+        });
+        changed.map_err(|why| self.refused(why))
+    }
+
+    /// Puts what `change` makes of the key's value, unless another thread puts the key meanwhile; then it begins again. Returns what was
+    /// put. If `change` gives nothing, nothing is put.
+    pub fn change(
+        &self,
+        print: Print,
+        tries: u32,
+        mut change: impl FnMut(Option<V>) -> Option<V>,
+    ) -> Result<Option<V>, UpdateError> {
+        for _ in 0..tries {
+            let (old, since) = match self.look(print, tries).ok_or(UpdateError::Busy)? {
+                Found::Live(entry, since) => (Some(entry), Some(since)),
+                Found::Expired(since) | Found::Other(since) => (None, Some(since)),
+                Found::Absent => (None, None),
+            };
+            let Some(new) = change(old.map(|entry| entry.value)) else { return Ok(None) };
+            let deadline = old.map_or_else(|| self.deadline(self.life), |entry| entry.deadline);
+            if self.put_over(print, since, &self.words(print, new, deadline), tries)? {
+                return Ok(Some(new));
+            }
+        }
+        Err(UpdateError::Contended)
+    }
+
+    // Puts the words if the key's last put was at the moment `since`, or if the key is absent. `false`: another thread was first.
+    fn put_over(&self, print: Print, since: Option<u64>, words: &Words, tries: u32) -> Result<bool, InsertError> {
+        let Some(since) = since else { return self.put_absent(print, words, tries) };
+        match in_turn(tries, || self.slots.call(|pass| pass.put_if(print.key, since, words))) {
+            Ok(_) => {
+                self.slots.count(Kind::Renewed);
+                Ok(true)
+            }
+            Err(TurnError::Call(PutIfError::NotThere { .. } | PutIfError::Changed { .. })) => Ok(false),
+            Err(TurnError::Call(_)) => Err(InsertError::Spent),
+            Err(TurnError::Held) => Err(InsertError::Held),
+        }
+    }
+
+    fn put_absent(&self, print: Print, words: &Words, tries: u32) -> Result<bool, InsertError> {
+        match in_turn(tries, || self.slots.call(|pass| pass.put_if_absent(print.key, words))) {
+            Ok(put) => {
+                self.stored(put);
+                Ok(true)
+            }
+            Err(TurnError::Call(PutIfAbsentError::Present { .. })) => Ok(false),
+            Err(TurnError::Call(PutIfAbsentError::Put(why))) => Err(TurnError::Call(why).into()),
+            Err(TurnError::Call(_)) => Err(InsertError::Spent),
+            Err(TurnError::Held) => Err(InsertError::Held),
+        }
+    }
+}

@@ -1,0 +1,50 @@
+//! Waiting that ends: a number of tries, with pauses between them.
+use cefrodil::TurnError;
+use std::hint::spin_loop;
+use std::thread::{sleep, yield_now};
+use std::time::Duration;
+
+/// How often a call tries before it returns an error. That takes over a second.
+pub(crate) const TRIES: u32 = 10_000;
+
+/// How often a lookup tries before it is a miss. That takes over a tenth of a second.
+pub(crate) const LOOKS: u32 = 1_000;
+
+// The first pauses spin, each twice as long as the one before. Then the thread yields, and at last it sleeps: the thread that has the turn
+// may have to wait for a processor.
+const SPINS: u32 = 7;
+const YIELDS: u32 = 200;
+const SLEEP: Duration = Duration::from_micros(100);
+
+/// Calls `attempt` until it returns something, at most so many times.
+pub(crate) fn within<T>(tries: u32, mut attempt: impl FnMut() -> Option<T>) -> Option<T> {
+    for tried in 0..tries {
+        if tried > 0 {
+            pause(tried - 1);
+        }
+        let done = attempt();
+        if done.is_some() {
+            return done;
+        }
+    }
+    None
+}
+
+/// Calls `attempt` until it gets the turn, at most so many times.
+pub(crate) fn in_turn<T, E>(tries: u32, mut attempt: impl FnMut() -> Result<T, TurnError<E>>) -> Result<T, TurnError<E>> {
+    let done = within(tries, || match attempt() {
+        Err(TurnError::Held) => None,
+        done => Some(done),
+    });
+    done.unwrap_or(Err(TurnError::Held))
+}
+
+fn pause(number: u32) {
+    if number < SPINS {
+        (0..1 << number).for_each(|_| spin_loop());
+    } else if number < YIELDS {
+        yield_now();
+    } else {
+        sleep(SLEEP);
+    }
+}

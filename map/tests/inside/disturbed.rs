@@ -1,0 +1,182 @@
+//! Calls that other threads disturb. With one try each, many fail. What fails says so, and has changed nothing.
+use crate::pass::AnyPass;
+use crate::{ClearError, GetError, InsertError, Map, RemoveError, UpdateError};
+use cefrodil::Shape;
+use std::sync::atomic::{AtomicBool, Ordering::SeqCst};
+use std::thread;
+use std::time::{Duration, Instant};
+
+// So many calls of a kind must fail.
+const FAILURES: usize = 10;
+
+// Ends other threads, also if an assertion fails.
+struct End<'a>(&'a AtomicBool);
+
+impl Drop for End<'_> {
+    fn drop(&mut self) {
+        self.0.store(true, SeqCst);
+    }
+}
+
+// Calls `round` until each of the calls has failed so often. Beside it `disturb` is called by other threads.
+fn beside<const CALLS: usize>(disturb: impl Fn() + Sync, round: impl Fn(u64) -> [bool; CALLS]) {
+    let (end, begin) = (AtomicBool::new(false), Instant::now());
+    thread::scope(|threads| {
+        for _ in 0..2 {
+            threads.spawn(|| {
+                while !end.load(SeqCst) {
+                    disturb();
+                }
+            });
+        }
+        let _end = End(&end);
+        let mut failures = [0; CALLS];
+        for number in 1.. {
+            failures.iter_mut().zip(round(number)).for_each(|(count, failed)| *count += usize::from(failed));
+            if failures.iter().all(|count| *count >= FAILURES) {
+                return;
+            }
+            assert!(begin.elapsed() < Duration::from_secs(200), "only so many calls failed: {failures:?}");
+        }
+    });
+}
+
+// A map of one shard, with so many entries, whose calls try once.
+fn hasty(entries: u64) -> Map<u64, u64> {
+    let map = Map::builder(1).open_shaped(&Shape::for_items(40_000).unwrap(), 1, 1).unwrap();
+    for key in 0..entries {
+        map.insert(&key, key).unwrap();
+    }
+    map
+}
+
+#[test]
+fn a_write_that_does_not_get_the_turn_says_so() {
+    let map = hasty(20_000);
+    let list = || drop(map.inner.slots.call(AnyPass::keys));
+    beside(list, |number| {
+        let key = number % 100;
+        let before = map.get(&key);
+        let inserted = map.insert(&key, number);
+        match inserted {
+            Ok(_) => assert_eq!(map.get(&key), Some(number)),
+            Err(why) => assert_eq!((why, map.get(&key)), (InsertError::Held, before)),
+        }
+        let before = map.get(&key);
+        let updated = map.update(&key, |old| old.map_or(0, |old| old + 1));
+        match updated {
+            Ok(new) => assert_eq!(map.get(&key), Some(new)),
+            Err(why) => assert_eq!((why, map.get(&key)), (UpdateError::Insert(InsertError::Held), before)),
+        }
+        let before = map.get(&key);
+        let removed = map.remove(&key);
+        match removed {
+            Ok(old) => assert_eq!((old, map.get(&key)), (before, None)),
+            Err(why) => assert_eq!((why, map.get(&key)), (RemoveError::Held, before)),
+        }
+        [inserted.is_err(), updated.is_err(), removed.is_err()]
+    });
+}
+
+#[test]
+fn each_refusal_is_counted() {
+    let map = hasty(20_000);
+    let list = || drop(map.inner.slots.call(AnyPass::keys));
+    beside(list, |number| {
+        let (number, before) = (number % 1_000, map.stats());
+        let failed = [
+            map.insert(&number, 1).is_err(),
+            map.update(&number, |_| 2).is_err(),
+            map.remove(&number).is_err(),
+            map.get_or_insert_with(&(number + 1_000_000), || 3) == 3 && map.get(&(number + 1_000_000)).is_none(),
+        ];
+        let refused = failed.iter().filter(|failed| **failed).count() as u64;
+        assert_eq!(map.stats().refused, before.refused + refused);
+        failed
+    });
+}
+
+#[test]
+fn a_clear_that_does_not_get_the_turn_says_so() {
+    let map = hasty(20_000);
+    let list = || drop(map.inner.slots.call(AnyPass::keys));
+    beside(list, |_| {
+        let cleared = map.try_clear();
+        match cleared {
+            Ok(()) => assert_eq!((map.len(), map.get(&1)), (0, None)),
+            Err(why) => assert_eq!(why, ClearError::Held),
+        }
+        [cleared.is_err()]
+    });
+}
+
+#[test]
+fn a_call_that_tries_more_often_is_not_refused() {
+    let map = Map::<u64, u64>::builder(20_000).shards(1).open().unwrap();
+    for key in 0..10_000 {
+        map.insert(&key, key).unwrap();
+    }
+    let list = || drop(map.inner.slots.call(AnyPass::keys));
+    let (end, begin) = (AtomicBool::new(false), Instant::now());
+    thread::scope(|threads| {
+        threads.spawn(|| {
+            while !end.load(SeqCst) {
+                list();
+            }
+        });
+        let _end = End(&end);
+        let mut failed = 0;
+        for number in 0..300 {
+            failed += u32::from(map.insert(&number, number).is_err());
+            failed += u32::from(map.update(&number, |old| old.unwrap_or(0) + 1).is_err());
+            failed += u32::from(map.remove(&number).is_err());
+        }
+        failed += u32::from(map.clear().is_err());
+        assert_eq!((failed, map.stats().refused, map.len()), (0, 0, 0), "after {:?}", begin.elapsed());
+    });
+}
+
+#[test]
+fn a_lookup_that_stays_busy_says_so_and_is_counted() {
+    let shape = Shape { stripes: 1, tries: 1, ..Shape::for_items(100).unwrap() };
+    let map: Map<u64, u64> = Map::builder(1).open_shaped(&shape, 1, 1).unwrap();
+    map.insert(&1, 10).unwrap();
+    let write = || {
+        let _ = map.insert(&2, 20);
+    };
+    beside(write, |_| {
+        let before = map.stats().busy;
+        let tried = map.try_get(&1);
+        assert!(matches!(tried, Ok(Some(10)) | Err(GetError::Busy)), "{tried:?}");
+        assert_eq!(map.stats().busy, before + u64::from(tried.is_err()));
+        let found = map.get(&1);
+        assert!(matches!(found, Some(10) | None));
+        let removed = map.remove(&1);
+        match removed {
+            Ok(old) => {
+                assert_eq!(old, Some(10));
+                while map.insert(&1, 10).is_err() {}
+            }
+            Err(why) => assert!(matches!(why, RemoveError::Busy | RemoveError::Held)),
+        }
+        [tried.is_err(), found.is_none(), removed == Err(RemoveError::Busy)]
+    });
+}
+
+#[test]
+fn a_lookup_that_tries_more_often_finds_its_key() {
+    let shape = Shape { stripes: 1, tries: 1, ..Shape::for_items(100).unwrap() };
+    let map: Map<u64, u64> = Map::builder(1).open_shaped(&shape, 1, crate::wait::TRIES).unwrap();
+    map.insert(&1, 10).unwrap();
+    let end = AtomicBool::new(false);
+    thread::scope(|threads| {
+        threads.spawn(|| {
+            while !end.load(SeqCst) {
+                map.insert(&2, 20).unwrap();
+            }
+        });
+        let _end = End(&end);
+        let lost = (0..5_000).filter(|_| map.get(&1).is_none()).count();
+        assert_eq!((lost, map.stats().busy), (0, 0));
+    });
+}

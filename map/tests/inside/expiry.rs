@@ -1,0 +1,100 @@
+//! Values expire by a clock that the tests turn.
+use crate::{InsertError, Inserted, Map};
+use std::time::Duration;
+
+const fn seconds(number: u64) -> Duration {
+    Duration::from_secs(number)
+}
+
+fn timed(life: Duration) -> Map<u64, u64> {
+    Map::builder(100).time_to_live(life).open().unwrap()
+}
+
+fn turn(map: &Map<u64, u64>, by: Duration) {
+    map.inner.clock.turn(by);
+}
+
+#[test]
+fn a_value_expires_at_its_deadline() {
+    let map = timed(seconds(100));
+    map.insert(&1, 10).unwrap();
+    turn(&map, seconds(50));
+    map.insert(&2, 20).unwrap();
+    turn(&map, seconds(49));
+    assert_eq!((map.get(&1), map.get(&2), map.stats().expired), (Some(10), Some(20), 0));
+    turn(&map, seconds(1));
+    assert_eq!((map.get(&1), map.get(&2), map.contains_key(&1)), (None, Some(20), false));
+    turn(&map, seconds(50));
+    assert_eq!((map.get(&1), map.get(&2)), (None, None));
+    let stats = map.stats();
+    assert_eq!((stats.hits, stats.misses, stats.expired, map.len()), (3, 4, 4, 2));
+}
+
+#[test]
+fn a_put_begins_the_time_anew_and_an_update_does_not() {
+    let map = timed(seconds(100));
+    for key in 1..=3 {
+        map.insert(&key, 10).unwrap();
+    }
+    turn(&map, seconds(60));
+    assert_eq!(map.insert(&1, 11), Ok(Inserted::Renewed));
+    assert_eq!(map.update(&2, |old| old.unwrap() + 1), Ok(11));
+    assert_eq!(map.modify(&3, |old| old + 1), Ok(Some(11)));
+    turn(&map, seconds(60));
+    assert_eq!((map.get(&1), map.get(&2), map.get(&3)), (Some(11), None, None));
+    // What has expired is not there for an update.
+    assert_eq!((map.modify(&3, |old| old + 1), map.update(&2, |old| old.unwrap_or(7))), (Ok(None), Ok(7)));
+    turn(&map, seconds(60));
+    assert_eq!((map.get(&1), map.get(&2)), (None, Some(7)));
+}
+
+#[test]
+fn a_value_may_have_a_time_of_its_own() {
+    let map = timed(seconds(100));
+    map.insert_for(&1, 10, seconds(5)).unwrap();
+    map.insert_for(&2, 20, seconds(1_000)).unwrap();
+    map.insert_for(&3, 30, Duration::MAX).unwrap();
+    map.insert_for(&4, 40, Duration::ZERO).unwrap();
+    assert_eq!((map.get(&1), map.get(&2), map.get(&3), map.get(&4)), (Some(10), Some(20), Some(30), None));
+    turn(&map, seconds(6));
+    assert_eq!((map.get(&1), map.get(&2), map.get(&3)), (None, Some(20), Some(30)));
+    turn(&map, seconds(1_000_000_000));
+    assert_eq!((map.get(&2), map.get(&3)), (None, Some(30)));
+    let map = timed(Duration::MAX);
+    map.insert(&1, 10).unwrap();
+    turn(&map, seconds(1_000_000_000));
+    assert_eq!(map.get(&1), Some(10));
+}
+
+#[test]
+fn what_has_expired_is_computed_anew() {
+    let map = timed(seconds(100));
+    assert_eq!((map.get_or_insert_with(&1, || 10), map.get_or_insert_with(&1, || 11)), (10, 10));
+    turn(&map, seconds(101));
+    assert_eq!((map.get_or_insert_with(&1, || 12), map.get(&1)), (12, Some(12)));
+    turn(&map, seconds(99));
+    assert_eq!(map.get(&1), Some(12));
+    turn(&map, seconds(2));
+    assert_eq!((map.get(&1), map.len()), (None, 1));
+}
+
+#[test]
+fn what_has_expired_is_removed_but_not_returned() {
+    let map = timed(seconds(100));
+    map.insert(&1, 10).unwrap();
+    map.insert(&2, 20).unwrap();
+    turn(&map, seconds(50));
+    assert_eq!(map.remove(&1), Ok(Some(10)));
+    turn(&map, seconds(51));
+    assert_eq!((map.remove(&2), map.len(), map.stats().removed), (Ok(None), 0, 2));
+}
+
+#[test]
+fn a_map_without_a_time_to_live_has_no_deadlines() {
+    let map = Map::<u64, u64>::new(100).unwrap();
+    map.insert(&1, 10).unwrap();
+    turn(&map, seconds(1_000_000_000));
+    assert_eq!(map.get(&1), Some(10));
+    assert_eq!((map.insert_for(&1, 11, seconds(1)), map.stats().refused), (Err(InsertError::NoTimeToLive), 1));
+    assert_eq!(map.get(&1), Some(10));
+}

@@ -1,0 +1,6 @@
+//! Tests that need what the map doesn't show: its clock, shapes and tries, and its passes.
+mod disturbed;
+mod expiry;
+mod fills;
+mod places;
+mod slots;

@@ -1,0 +1,116 @@
+//! A map that has no place for a key, or no changes left, says so. Keys with the same first hash are told apart.
+use crate::words::Layout;
+use crate::{GetError, InsertError, Inserted, Map, RemoveError, UpdateError};
+use cefrodil::Shape;
+use std::hash::{BuildHasher, Hasher};
+
+#[test]
+fn an_insert_without_a_place_says_so() {
+    let shape = Shape { buckets: 2, items: 8, stripes: 1, depth: 2, ..Shape::for_items(8).unwrap() };
+    let map: Map<u64, u64> = Map::builder(1).open_shaped(&shape, 1, 10).unwrap();
+    let (mut there, mut refused) = (0, 0);
+    for key in 0..50 {
+        match map.insert(&key, key) {
+            Ok(Inserted::New) => there += 1,
+            Err(InsertError::NoPlace) => {
+                refused += 1;
+                assert_eq!((map.get(&key), map.stats().refused), (None, refused));
+            }
+            other => panic!("{other:?}"),
+        }
+    }
+    assert_eq!((there, refused, map.len(), map.capacity()), (8, 42, 8, 8));
+    assert_eq!((0..50).filter(|key| map.get(key) == Some(*key)).count(), 8);
+    assert_eq!(map.update(&99, |_| 1), Err(UpdateError::Insert(InsertError::NoPlace)));
+    assert_eq!((map.get_or_insert_with(&99, || 7), map.get(&99), map.stats().refused), (7, None, 44));
+    // A key that is there has a place.
+    assert_eq!(map.insert(&0, 1), Ok(Inserted::Renewed));
+}
+
+#[test]
+fn a_map_without_changes_left_says_so() {
+    // Enough for one insert and one update.
+    let shape = Shape { limit: 4, depth: 0, ..Shape::for_items(8).unwrap() };
+    let map: Map<u64, u64> = Map::builder(1).open_shaped(&shape, 1, 10).unwrap();
+    assert_eq!((map.insert(&1, 10), map.update(&1, |_| 11)), (Ok(Inserted::New), Ok(11)));
+    assert_eq!(map.insert(&1, 12), Err(InsertError::Spent));
+    assert_eq!(map.update(&1, |_| 12), Err(UpdateError::Insert(InsertError::Spent)));
+    assert_eq!(map.update(&2, |_| 12), Err(UpdateError::Insert(InsertError::Spent)));
+    assert_eq!((map.remove(&1), map.remove(&2)), (Err(RemoveError::Spent), Ok(None)));
+    assert_eq!((map.clear(), map.get(&1)), (Err(crate::ClearError::Spent), Some(11)));
+    assert_eq!(map.stats().refused, 5);
+}
+
+#[test]
+fn an_entry_has_as_few_words_as_it_needs() {
+    assert_eq!((Layout::Plain.width::<()>(), Layout::Timed.width::<()>()), (1, 2));
+    assert_eq!((Layout::Plain.width::<u8>(), Layout::Plain.width::<u64>(), Layout::Timed.width::<[u8; 9]>()), (2, 2, 4));
+    assert_eq!((Layout::Plain.width::<[u64; 7]>(), Layout::Timed.width::<[u64; 6]>()), (8, 8));
+}
+
+/// Of a key's two hashes, the first is 0 or 1. The second is the key.
+#[derive(Default)]
+struct Poor {
+    first: Option<u64>,
+    key: u64,
+}
+
+impl Hasher for Poor {
+    fn write(&mut self, _: &[u8]) {
+        unreachable!("the keys are numbers")
+    }
+
+    fn write_u64(&mut self, number: u64) {
+        match self.first {
+            None => self.first = Some(number),
+            Some(_) => self.key = number,
+        }
+    }
+
+    fn finish(&self) -> u64 {
+        if self.first == Some(0) {
+            self.key & 1
+        } else {
+            self.key
+        }
+    }
+}
+
+struct BuildPoor;
+
+impl BuildHasher for BuildPoor {
+    type Hasher = Poor;
+
+    fn build_hasher(&self) -> Poor {
+        Poor::default()
+    }
+}
+
+#[test]
+fn keys_with_the_same_first_hash_are_told_apart() {
+    let map: Map<u64, u64, BuildPoor> = Map::builder(100).hasher(BuildPoor).open().unwrap();
+    map.insert(&2, 20).unwrap();
+    map.insert(&3, 30).unwrap();
+    assert_eq!((map.get(&4), map.try_get(&4), map.contains_key(&6)), (None, Ok::<_, GetError>(None), false));
+    assert_eq!((map.stats().collided, map.stats().misses), (3, 3));
+    // No call takes another key's entry out, but a put overwrites it.
+    assert_eq!((map.remove(&4), map.modify(&4, |_| 0), map.get(&2)), (Ok(None), Ok(None), Some(20)));
+    assert_eq!(map.update(&4, |old| old.unwrap_or(40)), Ok(40));
+    assert_eq!((map.get(&2), map.get(&4), map.get(&3)), (None, Some(40), Some(30)));
+    assert_eq!((map.get_or_insert_with(&5, || 50), map.get(&5), map.get(&3)), (50, Some(50), None));
+    assert_eq!((map.insert(&6, 60), map.get(&4), map.remove(&6)), (Ok(Inserted::Renewed), None, Ok(Some(60))));
+    assert_eq!((map.len(), map.get(&5)), (1, Some(50)));
+}
+
+#[test]
+fn keys_with_the_same_first_hash_are_computed_apart() {
+    let map: Map<u64, u64, BuildPoor> = Map::builder(100).hasher(BuildPoor).open().unwrap();
+    let value = map.get_or_insert_with(&2, || {
+        let other = map.get_or_insert_with(&4, || 40);
+        assert_eq!((other, map.get(&4)), (40, Some(40)));
+        // A write of this other key doesn't touch the computation.
+        map.insert(&6, 60).unwrap();
+        20
+    });
+    assert_eq!((value, map.get(&2), map.get(&6)), (20, Some(20), None));
+}

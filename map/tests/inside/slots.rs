@@ -1,0 +1,58 @@
+//! No two calls use a pass at once, whether threads own one or share it, and no count is lost.
+use crate::stats::Kind;
+use crate::Map;
+use std::collections::HashSet;
+use std::ptr;
+use std::sync::{Barrier, Mutex};
+use std::thread;
+
+const THREADS: usize = 6;
+
+// How many passes are used by threads of which so many may own one.
+fn passes_used(owners: usize) -> usize {
+    let map: Map<u64, u64> = Map::builder(10).threads(owners).open().unwrap();
+    let (in_use, seen, all_called) = (Mutex::new(HashSet::new()), Mutex::new(HashSet::new()), Barrier::new(THREADS));
+    thread::scope(|threads| {
+        for _ in 0..THREADS {
+            threads.spawn(|| {
+                // No thread ends before each has called.
+                let _ = map.get(&1);
+                all_called.wait();
+                for _ in 0..200 {
+                    map.inner.slots.call(|pass| {
+                        let place = ptr::from_mut(pass) as usize;
+                        assert!(in_use.lock().unwrap().insert(place), "two calls use a pass at once");
+                        thread::yield_now();
+                        assert!(in_use.lock().unwrap().remove(&place));
+                        seen.lock().unwrap().insert(place);
+                    });
+                }
+            });
+        }
+    });
+    let seen = seen.into_inner().unwrap();
+    seen.len()
+}
+
+#[test]
+fn no_two_calls_use_a_pass_at_once() {
+    assert_eq!((passes_used(0), passes_used(2), passes_used(THREADS)), (1, 3, THREADS));
+}
+
+#[test]
+fn no_count_is_lost() {
+    const MANY: u64 = 20_000;
+    for owners in [0, 1, THREADS] {
+        let map: Map<u64, u64> = Map::builder(10).threads(owners).open().unwrap();
+        let start = Barrier::new(THREADS);
+        thread::scope(|threads| {
+            for _ in 0..THREADS {
+                threads.spawn(|| {
+                    start.wait();
+                    (0..MANY).for_each(|_| map.inner.slots.count(Kind::Hit));
+                });
+            }
+        });
+        assert_eq!(map.stats().hits, THREADS as u64 * MANY);
+    }
+}

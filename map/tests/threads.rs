@@ -1,0 +1,199 @@
+//! Threads at once: no value is torn, none is another key's, none is older than a write that has returned, and no update is lost.
+use cefrodil_map::{GetError, InsertError, Map, RemoveError, UpdateError};
+use std::panic::UnwindSafe;
+use std::sync::Barrier;
+use std::thread;
+
+const THREADS: u64 = 4;
+
+fn next(seed: &mut u64) -> u64 {
+    *seed ^= *seed << 13;
+    *seed ^= *seed >> 7;
+    *seed ^= *seed << 17;
+    *seed
+}
+
+fn in_threads(work: impl Fn(u64) + Sync) {
+    let start = Barrier::new(THREADS as usize);
+    thread::scope(|threads| {
+        for thread in 0..THREADS {
+            let (work, start) = (&work, &start);
+            threads.spawn(move || {
+                start.wait();
+                work(thread);
+            });
+        }
+    });
+}
+
+type Values = Map<u64, [u64; 7]>;
+
+// Calls of all kinds with keys that all threads use. A value is seven times the same number, which says its key.
+struct Caller<'a> {
+    map: &'a Values,
+    keys: u64,
+}
+
+impl Caller<'_> {
+    fn made(&self, key: u64, number: u64) -> [u64; 7] {
+        [number * self.keys + key; 7]
+    }
+
+    fn is_right(&self, key: u64, value: Option<[u64; 7]>) {
+        if let Some(value) = value {
+            assert!(value == [value[0]; 7] && value[0] % self.keys == key, "{value:?} of key {key}");
+        }
+    }
+
+    fn call(&self, kind: u64, key: u64, number: u64) {
+        let (map, made) = (self.map, self.made(key, number));
+        match kind {
+            0..=6 => self.is_right(key, map.get(&key)),
+            7 => match map.try_get(&key) {
+                Ok(found) => self.is_right(key, found),
+                Err(why) => assert_eq!(why, GetError::Busy),
+            },
+            8..=10 => assert!(map.insert(&key, made).is_ok()),
+            11 => assert!(matches!(map.try_insert(&key, made), Ok(_) | Err(InsertError::Held))),
+            12 => {
+                let change = |old| {
+                    self.is_right(key, old);
+                    made
+                };
+                assert_eq!(map.update(&key, change), Ok(made));
+            }
+            13 => self.is_right(key, Some(map.get_or_insert_with(&key, || made))),
+            14 => self.is_right(key, map.remove(&key).unwrap()),
+            _ => match map.try_remove(&key) {
+                Ok(removed) => self.is_right(key, removed),
+                Err(why) => assert!(matches!(why, RemoveError::Held | RemoveError::Busy | RemoveError::Contended)),
+            },
+        }
+    }
+}
+
+fn no_value_is_wrong(map: &Values, keys: u64, calls: u64, mut seed: u64) {
+    let caller = Caller { map, keys };
+    for number in 0..calls {
+        let key = next(&mut seed) % keys;
+        caller.call(next(&mut seed) % 16, key, number);
+    }
+}
+
+#[test]
+fn a_map_may_go_anywhere() {
+    fn anywhere<T: Clone + Send + Sync + UnwindSafe + 'static>() {}
+    anywhere::<Map<std::rc::Rc<str>, u64>>();
+    anywhere::<Map<[u8], &'static str>>();
+}
+
+#[test]
+fn no_value_is_torn_or_of_another_key() {
+    let map = Map::new(1_000).unwrap();
+    in_threads(|thread| no_value_is_wrong(&map, 5, 15_000, thread + 1));
+    assert_eq!(map.stats().collided, 0);
+}
+
+#[test]
+fn nor_beside_evictions() {
+    let map = Map::builder(100).shards(2).threads(THREADS as usize).open().unwrap();
+    in_threads(|thread| no_value_is_wrong(&map, 1_000, 15_000, thread + 1));
+    let stats = map.stats();
+    assert!(stats.evicted > 0 && stats.shared == 0, "{stats:?}");
+    assert!(map.len() <= map.capacity());
+    let there = (0..1_000).filter(|key| map.contains_key(key)).count();
+    assert_eq!(map.len(), there);
+}
+
+#[test]
+fn forty_threads_share_four_passes() {
+    const MANY: usize = 40;
+    let map = Map::builder(1_000).threads(3).open().unwrap();
+    let start = Barrier::new(MANY);
+    thread::scope(|threads| {
+        for thread in 0..MANY {
+            let (map, start) = (&map, &start);
+            threads.spawn(move || {
+                // Three of these calls take a pass, and no thread ends before all have called.
+                assert_eq!(map.get(&50), None);
+                start.wait();
+                no_value_is_wrong(map, 50, 400, thread as u64 + 1);
+                // Keys of this thread alone.
+                let mine = 1_000 + thread as u64;
+                for number in 0..100 {
+                    map.insert(&mine, [number; 7]).unwrap();
+                    assert_eq!(map.get(&mine), Some([number; 7]));
+                }
+            });
+        }
+    });
+    let stats = map.stats();
+    assert!(stats.shared >= 37, "{stats:?}");
+    assert_eq!(stats.collided, 0);
+}
+
+// Each thread writes keys of its own, and looks up those of the others.
+#[test]
+fn no_lookup_is_older_than_a_write_that_has_returned() {
+    const KEYS: u64 = 8;
+    let map = Map::<(u64, u64), u64>::new(1_000).unwrap();
+    in_threads(|thread| {
+        let (mut seed, mut seen) = (thread + 1, [[0; KEYS as usize]; THREADS as usize]);
+        for number in 1..4_000 {
+            let key = next(&mut seed) % KEYS;
+            map.insert(&(thread, key), number).unwrap();
+            assert_eq!(map.get(&(thread, key)), Some(number));
+            let (other, key) = (next(&mut seed) % THREADS, next(&mut seed) % KEYS);
+            let found = map.get(&(other, key)).unwrap_or(0);
+            let last = &mut seen[other as usize][key as usize];
+            assert!(found >= *last, "{found} after {last}");
+            *last = found;
+        }
+    });
+    assert_eq!(map.stats().evicted, 0);
+}
+
+#[test]
+fn no_update_is_lost() {
+    const KEYS: u64 = 3;
+    const UPDATES: u64 = 4_000;
+    let map = Map::<u64, u64>::new(1_000).unwrap();
+    in_threads(|_| {
+        let mut last = [0; KEYS as usize];
+        for number in 0..UPDATES {
+            let key = number % KEYS;
+            let count = map.update(&key, |count| count.unwrap_or(0) + 1).unwrap();
+            let before = std::mem::replace(&mut last[key as usize], count);
+            assert!(count > before, "{count} after {before}");
+        }
+    });
+    let sum: u64 = (0..KEYS).filter_map(|key| map.get(&key)).sum();
+    assert_eq!((sum, map.stats().evicted), (THREADS * UPDATES, 0));
+}
+
+#[test]
+fn no_modification_or_single_try_is_lost() {
+    let map = Map::<u64, u64>::new(1_000).unwrap();
+    map.insert(&1, 0).unwrap();
+    let lost: Vec<u64> = thread::scope(|threads| {
+        let each = || {
+            let mut refused = 0;
+            for number in 0..4_000 {
+                if number % 2 == 0 {
+                    map.modify(&1, |count| count + 1).unwrap().unwrap();
+                    continue;
+                }
+                match map.try_update(&1, |count| count.unwrap() + 1) {
+                    Ok(_) => {}
+                    Err(UpdateError::Busy | UpdateError::Contended | UpdateError::Insert(InsertError::Held)) => refused += 1,
+                    Err(why) => panic!("{why}"),
+                }
+            }
+            refused
+        };
+        let all: Vec<_> = (0..THREADS).map(|_| threads.spawn(each)).collect();
+        all.into_iter().map(|thread| thread.join().unwrap()).collect()
+    });
+    let refused: u64 = lost.iter().sum();
+    assert_eq!((map.get(&1), map.stats().refused), (Some(THREADS * 4_000 - refused), refused));
+}
