@@ -1,6 +1,6 @@
 //! A program keeps objects behind the cache: the value of a key is the number of its object. Each object that it makes is in the cache, or was
 //! returned to be dropped, and none twice.
-use cefrodil::{Cache, Desk, Entry, PutIfError, Shape, Shards, Take, TurnError};
+use cefrodil::{Cache, Desk, Entry, PutIfError, Reply, Shape, Shards, Take, TurnError};
 
 const OBJECTS: u64 = 1_000;
 const KEYS: u64 = 300;
