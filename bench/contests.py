@@ -161,7 +161,7 @@ def measure(built, run, huge, name, number, each, core):
         sys.exit(f'contests.py: {" ".join(words)}: {done.stderr}')
     told = json.loads(done.stdout)
     if told.get('torn'):
-        sys.exit(f'contests.py: {" ".join(words)}: a lookup gave a torn value')
+        sys.exit(f'contests.py: {" ".join(words)}: a lookup gave a torn or wrong value')
     ratio = {'hit': 1, 'mixed': 1, 'miss': 0}.get(run.split()[1])
     if ratio is not None and abs(told.get('hit_ratio', ratio) - ratio) > 0.001:
         sys.exit(f'contests.py: {" ".join(words)}: {told["hit_ratio"]} of the lookups are hits')
