@@ -5,7 +5,7 @@ Each round runs each workload by each contestant, in a new order, each time in a
 to one core, and measured by the thread's processor time. A cell is the median of the rounds, in the unit of its row. `~` marks one whose
 quartiles are further apart than a tenth of it. `-` is for a contestant that has no such call.
 
-usage: bench/contests.py run BENCH,.. BUILT FILE    BUILT: a folder of bench/build; FILE: gets a line of JSON for each run
+usage: bench/contests.py run BENCH,.. BUILT FILE    BUILT: a folder of bench/build, or of bench/maps.sh; FILE: gets a line of JSON for each run
        bench/contests.py table BENCH FILE           prints the table of what the file has
 
 ROUNDS: none: 21    SECONDS_EACH: how long a run measures; none: 0.05    CORE: where one thread runs; none: the last that is allowed
@@ -21,6 +21,10 @@ from typing import NamedTuple
 SHOWN = {'door': 'Cefrodil from C', 'cefrodil': 'in Rattle', 'libcuckoo': 'libcuckoo', 'tbb': 'TBB', 'urcu': 'urcu', 'ck': '`ck_ht`',
          'dashmap': 'dashmap', 'locked': '`RwLock<HashMap>`', 'lru': '`Mutex<LruCache>`', 'twin': 'unproved twin'}
 ALL = tuple(SHOWN)
+# Those of the bench of maps: the language of the program, and the contestant's name there.
+MAPS = {'rust_cefrodil': '`cefrodil-map`', 'rust_dashmap': 'dashmap', 'rust_locked': SHOWN['locked'], 'rust_lru': SHOWN['lru'],
+        'cpp_cefrodil': '`cefrodil::map`', 'cpp_libcuckoo': 'libcuckoo', 'cpp_tbb': 'TBB'}
+SHOWN.update(MAPS)
 WRITERS = ('cefrodil', 'libcuckoo', 'tbb', 'dashmap', 'locked', 'lru')
 MANY = 32
 LARGEST = 3_774_873
@@ -28,11 +32,14 @@ SIZES = (64, 1000, 10_000, 100_000, 1_000_000, LARGEST)
 # Programs that have several contestants, or options of their own.
 PROGRAMS = {'cefrodil': ('mcbench',), 'many': ('mcbench', '--many', str(MANY)), 'shards16': ('mcbench', '--shards', '16'),
             'shards64': ('mcbench', '--shards', '64'), 'door_many': ('door', '--many', str(MANY)), 'twin': ('contest', 'twin'),
-            'dashmap': ('contest', 'dashmap'), 'locked': ('contest', 'locked'), 'lru': ('contest', 'lru')}
+            'dashmap': ('contest', 'dashmap'), 'locked': ('contest', 'locked'), 'lru': ('contest', 'lru'),
+            **{name: ('maps_' + name.split('_')[0], name.split('_')[1]) for name in MAPS}}
 # The figures: their units, and how they are shown.
-UNITS = {'ns_lookup': ', ns', 'lookups_s': ', M/s', 'writes_s': ', M/s', 'load_factor': '', 'bytes_key': ''}
+UNITS = {'ns_lookup': ', ns', 'lookups_s': ', M/s', 'writes_s': ', M/s', 'load_factor': '', 'bytes_key': '', 'ns_call': ', ns',
+         'calls_s': ', M/s', 'hit_ratio': ''}
 SHOW = {'ns_lookup': '{:.0f}'.format, 'load_factor': '{:.3f}'.format, 'bytes_key': '{:.0f}'.format,
-        'lookups_s': lambda number: f'{number / 1e6:.1f}', 'writes_s': lambda number: f'{number / 1e6:.1f}'}
+        'lookups_s': lambda number: f'{number / 1e6:.1f}', 'writes_s': lambda number: f'{number / 1e6:.1f}',
+        'ns_call': '{:.0f}'.format, 'calls_s': lambda number: f'{number / 1e6:.1f}', 'hit_ratio': '{:.3f}'.format}
 
 
 class Row(NamedTuple):
@@ -104,11 +111,34 @@ def threads():
     return rows + [Row(f'{n} writers', 'writes_s', f'{run} --writers {n}', WRITERS) for n in range(1, 5)]
 
 
+def maps():
+    """Maps of a program's own types. Keys are numbers and values have 32 bytes, unless the row says otherwise."""
+    rows = []
+    for keys, every in (1000, (1, 3, 4)), (100_000, (1, 2, 3, 4)), (1_000_000, (1, 4)):
+        rows += [calls(f'hit, {keys:,} keys', options('hit', keys), n) for n in every]
+    rows += [calls(f'miss, {keys:,} keys', options('miss', keys), 1) for keys in (1000, 100_000)]
+    for label, more, every in ('8 bytes', ' --words 1', (1,)), ('56 bytes', ' --words 7', (1, 4)), ('strings', ' --letters 16', (1, 4)):
+        rows += [calls(f'hit, 100,000 keys, {label}', options('hit', 100_000, more), n) for n in every]
+    rows += [calls(f'hit, {keys:,} keys, quick hash', options('hit', keys, ' --quick 1'), 1) for keys in (1000, 100_000)]
+    for keys, n in (1000, 4), (100_000, 1), (100_000, 4):
+        rows.append(calls(f'one write in ten, {keys:,} keys', options('mixed', keys, ' --write-every 10'), n, '--readers 0 --writers'))
+    full = [calls('full cache of 100,000 keys', '--workload cache --keys 200000 --capacity 100000', n) for n in (1, 4)]
+    full.append(full[-1]._replace(label='the same: hit ratio', figure='hit_ratio'))
+    return rows + [row._replace(names=('rust_cefrodil', 'rust_lru', 'cpp_cefrodil')) for row in full]
+
+
+def calls(label, run, threads, role='--readers'):
+    """A row of the bench of maps: what a call of one thread takes, or how many calls several threads make."""
+    by, figure = ('one thread', 'ns_call') if threads == 1 else (f'{threads} threads', 'calls_s')
+    return Row(f'{label}, {by}', figure, f'{run} {role} {threads}', tuple(MAPS))
+
+
 def sizes():
     return [lookups('hit', keys)[0] for keys in SIZES]
 
 
-BENCHES = {'peers': peers(), 'large': large(False), 'huge': large(True), 'turns': turns(), 'threads': threads(), 'sizes': sizes()}
+BENCHES = {'peers': peers(), 'large': large(False), 'huge': large(True), 'turns': turns(), 'threads': threads(), 'sizes': sizes(),
+           'maps': maps()}
 
 
 def alone(run):
@@ -131,7 +161,10 @@ def measure(built, run, huge, name, number, each, core):
         sys.exit(f'contests.py: {" ".join(words)}: {done.stderr}')
     told = json.loads(done.stdout)
     if told.get('torn'):
-        sys.exit(f'contests.py: {" ".join(words)}: a lookup gave a torn value')
+        sys.exit(f'contests.py: {" ".join(words)}: a lookup gave a torn or wrong value')
+    ratio = {'hit': 1, 'mixed': 1, 'miss': 0}.get(run.split()[1])
+    if ratio is not None and abs(told.get('hit_ratio', ratio) - ratio) > 0.001:
+        sys.exit(f'contests.py: {" ".join(words)}: {told["hit_ratio"]} of the lookups are hits')
     return told
 
 
@@ -179,7 +212,7 @@ def cell(told, row, name):
 
 
 def table(bench, told):
-    names = WRITERS if bench == 'turns' else ALL
+    names = {'turns': WRITERS, 'maps': tuple(MAPS)}.get(bench, ALL)
     lines = ['| | ' + ' | '.join(SHOWN[name] for name in names) + ' |', '|---' * (len(names) + 1) + '|']
     for row in BENCHES[bench]:
         lines.append(f'| {row.title()} | ' + ' | '.join(cell(told, row, name) for name in names) + ' |')

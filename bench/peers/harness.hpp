@@ -56,14 +56,16 @@ struct Draw {
 struct Options {
     std::string workload = "hit";
     uint64_t readers = 1, writers = 0, keys = 1000, capacity = 1000, write_every = 1, seed = 1, many = 1;
+    // Only the bench of maps has a choice here: how many letters a key has, or 0 for a number; how many words a value has; and 1 for a quick hash.
+    uint64_t letters = 0, words = 4, quick = 0;
     double seconds = 0.3;
 
-    Options(int count, char **words) {
+    Options(int count, char **given) {
         for (int n = 1; n + 1 < count; n += 2) {
-            std::string name = words[n];
-            if (name == "--workload") workload = words[n + 1];
-            else if (name == "--seconds") seconds = atof(words[n + 1]);
-            else number(name) = strtoull(words[n + 1], nullptr, 10);
+            std::string name = given[n];
+            if (name == "--workload") workload = given[n + 1];
+            else if (name == "--seconds") seconds = atof(given[n + 1]);
+            else number(name) = strtoull(given[n + 1], nullptr, 10);
         }
     }
 
@@ -75,6 +77,9 @@ struct Options {
         if (name == "--write-every") return write_every;
         if (name == "--seed") return seed;
         if (name == "--many") return many;
+        if (name == "--letters") return letters;
+        if (name == "--words") return words;
+        if (name == "--quick") return quick;
         fprintf(stderr, "no option %s\n", name.c_str());
         exit(2);
     }
