@@ -7,6 +7,8 @@ items, which are never asked for again. Hits are counted among the lookups of dr
 
 mcstep plays all calls. A model of its hand says which of them are puts, and every answer of mcstep is compared with it.
 
+Then it draws the plot docs/plots/hits.svg: the hits at skew 0.99 without scans, over the number of items.
+
 usage: bench/hit_ratios.py [PROGRAM]     PROGRAM: the mcstep to ask; none: crates/mcstep/out/mcstep
 """
 import itertools
@@ -16,7 +18,10 @@ import subprocess
 import sys
 from collections import OrderedDict, deque
 
+import plots
+
 KEYS = 100_000
+SIZES = (500, 1000, 2000, 5000, 10_000, 20_000, 50_000)
 LOOKUPS = 1_000_000
 TOP = os.path.join(os.path.dirname(os.path.abspath(__file__)), '..')
 
@@ -137,6 +142,24 @@ def ratio(model, skew, items, scans):
     return hits / (LOOKUPS - LOOKUPS // 10)
 
 
+def ratios(program, skew, items, scans):
+    """The hits of each kind of replacement, of which those of the cache are compared with mcstep."""
+    models = {'Cefrodil': Cache(items), 'LRU': Lru(items), 'FIFO': Fifo(items), 'random': Random(items)}
+    found = {name: ratio(model, skew, items, scans) for name, model in models.items()}
+    models['Cefrodil'].check(program)
+    return found
+
+
+def draw(program):
+    lines = {}
+    for items in SIZES:
+        for name, found in ratios(program, 0.99, items, False).items():
+            lines.setdefault(name, []).append((items, 100 * found))
+    plot = plots.Plot('hits', f'Lookups that find their key, of {KEYS:,} keys (Zipf, 0.99)', 'items', '% of lookups', '', is_wide=True)
+    with open(os.path.join(TOP, 'docs/plots/hits.svg'), 'w', encoding='utf-8') as file:
+        file.write(plots.draw(plot, lines))
+
+
 def main(arguments):
     if len(arguments) > 1 or (arguments and arguments[0].startswith('-')):
         sys.exit(__doc__)
@@ -146,11 +169,9 @@ def main(arguments):
     print('| skew | items | scans | Cefrodil | LRU | FIFO | random |')
     print('|---|---|---|---|---|---|---|')
     for skew, items, scans in itertools.product((0.7, 0.99), (KEYS // 100, KEYS // 10), (False, True)):
-        cache = Cache(items)
-        found = [ratio(model, skew, items, scans) for model in (cache, Lru(items), Fifo(items), Random(items))]
-        cache.check(program)
-        cells = ' | '.join(f'{100 * each:.1f} %' for each in found)
+        cells = ' | '.join(f'{100 * each:.1f} %' for each in ratios(program, skew, items, scans).values())
         print(f'| {skew} | {items} | {"yes" if scans else "no"} | {cells} |', flush=True)
+    draw(program)
 
 
 if __name__ == '__main__':

@@ -38,7 +38,7 @@ class Plot(NamedTuple):
     up: str
     figure: str
     # What the rows are, from left to right: the place across, and the row.
-    rows: tuple
+    rows: tuple = ()
     is_wide: bool = False
 
 
@@ -88,7 +88,7 @@ def short(number):
 
 
 def label_of(name):
-    label = 'Cefrodil in Rattle' if name == 'cefrodil' else contests.SHOWN[name].strip('`')
+    label = 'Cefrodil in Rattle' if name == 'cefrodil' else contests.SHOWN.get(name, name).strip('`')
     return label.replace('<', '&lt;').replace('>', '&gt;')
 
 
@@ -112,7 +112,7 @@ def draw(plot, lines):
     for number, (name, line) in enumerate(lines.items()):
         places = [(across.at(x), up.at(y)) for x, y in line]
         dashes = DASHES[number % len(DASHES)]
-        css = 'line ours' if name in ('door', 'cefrodil') else 'line'
+        css = 'line ours' if name in ('door', 'cefrodil', 'Cefrodil') else 'line'
         made.append(f'<path class="{css}" stroke-dasharray="{dashes or "none"}" d="M{"L".join(f"{x} {y}" for x, y in places)}"/>')
         made += [mark(MARKS[number % len(MARKS)], x, y) for x, y in places]
         x, label = places[-1][0], label_of(name)
