@@ -26,14 +26,18 @@ use std::time::Duration;
 /// A full map evicts an entry for each new key, one that was not used lately. That is rough: in a map that has just become full, a key in
 /// use may go, too. So an entry may be gone at any time.
 ///
-/// If other threads disturb a call, it tries again, a bounded number of times. If all tries failed, a write returns an error and has
-/// changed nothing, and [`get`] and [`contains_key`] report a miss. The forms with `try_` try once, but for
-/// [`try_get_or_insert_with`](Map::try_get_or_insert_with).
+/// If other threads disturb a call, it tries again, a bounded number of times: at first it spins, then it yields, then it sleeps. If all
+/// tries failed, a write returns an error and has changed nothing, and [`get`] and [`contains_key`] report a miss. The forms with `try_`
+/// try once, but for [`try_get_or_insert_with`](Map::try_get_or_insert_with).
+///
+/// Once a write of a key has returned, no later lookup finds an older value of the key. That includes values that [`get_or_insert_with`]
+/// was computing when the write came.
 ///
 /// A process that was forked makes no call of a map that its parent opened, and drops none: it ends by `_exit` or `exec`.
 ///
 /// [`get`]: Map::get
 /// [`contains_key`]: Map::contains_key
+/// [`get_or_insert_with`]: Map::get_or_insert_with
 pub struct Map<K: ?Sized, V, S = RandomState> {
     pub(crate) inner: Arc<Inner<V, S>>,
     keys: PhantomData<fn(&K)>,

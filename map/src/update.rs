@@ -19,8 +19,9 @@ impl<K: ?Sized, V: Copy + Send + Sync + 'static, S: BuildHasher> Map<K, V, S> {
     ///   between, and the call ends with [`UpdateError::Contended`].
     /// - If the entry is evicted, `change` begins anew with `None`. To count without loss, take a capacity well above the number of keys,
     ///   and treat `evicted` of [`stats`](Map::stats) as an error.
-    /// - Don't put the time into the key of a counter, as in `(user, minute)`: the keys of past minutes fill any capacity, and from then on
-    ///   each new key evicts one. Take the user as the key and `{ minute, count }` as the value, and begin anew when the minute differs.
+    /// - Don't put the time into the key of a counter, as in `(user, minute)`: the keys of past minutes fill any capacity. Then each new key
+    ///   evicts one, so `evicted` says nothing. Take the user as the key and `{ minute, count }` as the value, and begin anew when the minute
+    ///   differs.
     ///
     /// # Errors
     ///
