@@ -85,7 +85,7 @@ impl<K: ?Sized, V, S> Builder<K, V, S> {
     ///
     /// | what is called | the deadline |
     /// |---|---|
-    /// | `insert`, also over a value | begins anew |
+    /// | `insert`, also over a value; `get_or_insert_with` that puts one | begins anew |
     /// | `update` and `modify` of a value | stays |
     /// | `update` where the value has expired | begins anew: `change` gets `None` |
     /// | `insert_for`, `modify_for` | begins anew, with the time that the call says |
