@@ -1,26 +1,30 @@
-//! Threads count the words of a text. No count is lost: `update` begins again if another thread was first.
-use cefrodil_map::Map;
-use std::error::Error;
-use std::thread;
+//! A rate limiter: a user may make so many requests a minute. The minute is in the value, not in the key, so a user has one entry.
+use cefrodil_map::{Map, UpdateError};
+use std::{error::Error, thread};
 
-const TEXT: &str = "the cat saw the dog and the dog saw the cat and the cat ran";
+// By user: the minute of the last request, and how many came in it.
+type Windows = Map<str, (u64, u32)>;
 
-fn main() -> Result<(), Box<dyn Error>> {
-    // Far more entries than words, so none is evicted.
-    let counts = Map::<str, u64>::new(1_000)?;
-    thread::scope(|threads| {
-        let counters: Vec<_> = (0..4).map(|_| threads.spawn(|| count(&counts))).collect();
-        counters.into_iter().try_for_each(|counter| counter.join().expect("it doesn't panic"))
+const MOST: u32 = 100;
+
+fn may_pass(windows: &Windows, user: &str, now: u64) -> Result<bool, UpdateError> {
+    let (_, count) = windows.update(user, |last| match last {
+        Some((minute, count)) if minute >= now => (minute, count.saturating_add(1)), // another thread's clock may be ahead
+        _ => (now, 1),
     })?;
-    assert_eq!((counts.get("the"), counts.get("ran")), (Some(20_000), Some(4_000)));
-    assert_eq!(counts.stats().evicted, 0);
-    println!("{:?}", counts.get("cat"));
-    Ok(())
+    Ok(count <= MOST)
 }
 
-fn count(counts: &Map<str, u64>) -> Result<(), cefrodil_map::UpdateError> {
-    for word in (0..1_000).flat_map(|_| TEXT.split(' ')) {
-        counts.update(word, |count| count.unwrap_or(0) + 1)?;
+fn main() -> Result<(), Box<dyn Error>> {
+    let windows = Windows::new(1_000)?;
+    for minute in 0..3 {
+        let requests = || (0..50).map(|_| may_pass(&windows, "Ann", minute).map(u32::from)).sum::<Result<u32, _>>();
+        let passed: Result<u32, UpdateError> = thread::scope(|scope| {
+            let threads: Vec<_> = (0..4).map(|_| scope.spawn(requests)).collect();
+            threads.into_iter().map(|thread| thread.join().expect("it doesn't panic")).sum()
+        });
+        assert_eq!((passed?, windows.len()), (MOST, 1));
     }
+    println!("{:?}", windows.stats());
     Ok(())
 }

@@ -23,6 +23,7 @@ fn main() -> Result<(), Box<dyn Error>> {
             });
         }
     });
+    assert_eq!(COMPUTED.load(SeqCst), 998);
     println!("{} computed for {:?}", COMPUTED.load(SeqCst), known.stats());
     Ok(())
 }

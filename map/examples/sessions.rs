@@ -1,4 +1,4 @@
-//! Sessions that end after a while. Each request of a user begins the time anew.
+//! Sessions that end after a while, or by a logout. Each request of a user begins the time anew.
 use cefrodil_map::Map;
 use std::error::Error;
 use std::thread::sleep;
@@ -17,14 +17,15 @@ fn main() -> Result<(), Box<dyn Error>> {
     sessions.insert_for("token of Bob", Session { user: 2, may_write: false }, Duration::from_secs(3600))?;
     for _ in 0..3 {
         sleep(life / 4);
-        if let Some(ann) = sessions.get("token of Ann") {
-            sessions.insert("token of Ann", ann)?;
-        }
+        // Never by `get` and `insert`: those would undo a logout that comes between.
+        sessions.modify_for("token of Ann", life, |session| session)?;
     }
     sleep(life);
     println!("Ann: {:?}, Bob: {:?}", sessions.get("token of Ann"), sessions.get("token of Bob"));
     assert!(!sessions.contains_key("token of Ann") && sessions.contains_key("token of Bob"));
-    sessions.remove("token of Bob")?;
+    // A removal that fails has to be called again.
+    while sessions.remove("token of Bob").is_err() {}
     assert!(!sessions.contains_key("token of Bob"));
+    assert_eq!(sessions.modify_for("token of Bob", life, |session| session)?, None);
     Ok(())
 }

@@ -78,7 +78,17 @@ impl<K: ?Sized, V, S> Builder<K, V, S> {
     }
 
     /// How long a value lives, unless it is put with another time. Each entry then keeps a deadline, so a value has at most 48 bytes; a
-    /// larger one doesn't compile. `Duration::MAX` never ends. The default is a map without deadlines.
+    /// larger one doesn't compile. `Duration::MAX` never ends, and `Duration::ZERO` is over at once. The default is a map without deadlines.
+    ///
+    /// The clock is that of [`Instant`](std::time::Instant), which is monotonic. It stops while the machine is suspended, so an entry then
+    /// lives longer by that time.
+    ///
+    /// | what is called | the deadline |
+    /// |---|---|
+    /// | `insert`, also over a value; `get_or_insert_with` that puts one | begins anew |
+    /// | `update` and `modify` of a value | stays |
+    /// | `update` where the value has expired | begins anew: `change` gets `None` |
+    /// | `insert_for`, `modify_for` | begins anew, with the time that the call says |
     ///
     /// ```compile_fail,E0080
     /// let _ = cefrodil_map::Map::<u64, [u8; 49]>::builder(100).time_to_live(std::time::Duration::MAX);
@@ -99,7 +109,8 @@ impl<K: ?Sized, V: Copy + Send + Sync + 'static, S: BuildHasher> Builder<K, V, S
     pub fn open(self) -> Result<Map<K, V, S>, OpenError> {
         let shards = self.shards.unwrap_or_else(|| shards_for(self.capacity));
         let capacity = u32::try_from(self.capacity).unwrap_or(u32::MAX);
-        let mut shape = if shards == 1 { Shape::for_items(capacity)? } else { Shape::for_shards(capacity, shards)? };
+        let shape = if shards == 1 { Shape::for_items(capacity) } else { Shape::for_shards(capacity, shards) };
+        let mut shape = shape.map_err(OpenError::of)?;
         if shape.items < SMALL {
             shape.buckets *= 4;
         }
@@ -110,7 +121,7 @@ impl<K: ?Sized, V: Copy + Send + Sync + 'static, S: BuildHasher> Builder<K, V, S
     pub(crate) fn open_shaped(self, shape: &Shape, shards: u32, tries: u32) -> Result<Map<K, V, S>, OpenError> {
         const { assert!(Layout::Plain.width::<V>() <= MOST, "a value has at most 56 bytes") };
         let width = Layout::of(self.life).width::<V>();
-        let mut passes = AnyPass::open(width, shape, shards, self.threads.saturating_add(1))?;
+        let mut passes = AnyPass::open(width, shape, shards, self.threads.saturating_add(1)).map_err(OpenError::of)?;
         Ok(Map::of(Inner {
             capacity: passes[0].capacity(),
             slots: Arc::new(Slots::new(passes)),

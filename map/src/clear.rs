@@ -35,8 +35,9 @@ impl<K: ?Sized, V: Copy, S> Map<K, V, S> {
         let slots = &self.inner.slots;
         self.inner.flights.detach_all();
         let remove_all = || -> Result<(), ClearError> {
-            for key in in_turn(lists, || slots.call(AnyPass::keys))? {
-                if let Removal::Removed { .. } = in_turn(tries, || slots.call(|pass| pass.remove(key)))? {
+            for key in in_turn(lists, || slots.call(AnyPass::keys)).map_err(ClearError::of_list)? {
+                let removed = in_turn(tries, || slots.call(|pass| pass.remove(key)));
+                if let Removal::Removed { .. } = removed.map_err(ClearError::of_removal)? {
                     slots.count(Kind::Removed);
                 }
             }

@@ -54,7 +54,8 @@ impl<K: ?Sized, V: Copy + Send + Sync + 'static, S: BuildHasher> Map<K, V, S> {
         }
     }
 
-    /// Like [`get_or_insert_with`](Map::get_or_insert_with), but doesn't wait for another thread that computes the value.
+    /// Like [`get_or_insert_with`](Map::get_or_insert_with), but doesn't wait for another thread that computes the value. It looks the key up
+    /// and puts the value with as many tries.
     ///
     /// # Errors
     ///
@@ -93,7 +94,7 @@ impl<V: Copy, S: BuildHasher> Inner<V, S> {
     // Puts the value where the key has none. Returns the value that the key has then.
     fn fill(&self, print: Print, value: V) -> V {
         let mut kept = value;
-        let put = self.change(print, self.tries, |present| match present {
+        let put = self.change(print, self.tries, None, |present| match present {
             Some(present) => {
                 kept = present;
                 None

@@ -15,7 +15,8 @@ pub enum OpenError {
     Threads,
     /// Out of memory. Take a smaller capacity, or try later.
     NoMemory,
-    /// The index can't be used here: the processor is too old, or the archive has another version.
+    /// The index can't be used here: the processor is too old, or the archive has another version. The error is one of the crate
+    /// `cefrodil`: [`cefrodil::OpenError`].
     Index(cefrodil::OpenError),
 }
 
@@ -45,7 +46,7 @@ pub enum InsertError {
     Spent,
 }
 
-/// Why a key was not removed. It may still have its value: call again, or don't rely on the map.
+/// Why a key was not removed. It may still have its value: call again. [`Map::remove`](crate::Map::remove) says what to do until then.
 #[derive(Clone, Copy, Debug, PartialEq, Eq, Hash)]
 #[non_exhaustive]
 pub enum RemoveError {
@@ -65,7 +66,7 @@ pub enum RemoveError {
 pub enum UpdateError {
     /// Writes disturbed each try to look the key up. Call again.
     Busy,
-    /// Other threads changed the key's value between the lookup and the put, each time. Call again.
+    /// The key's value was changed between the lookup and the put, each time. Call again, unless `change` itself writes the key.
     Contended,
     /// The new value was not put.
     Insert(InsertError),
@@ -83,8 +84,8 @@ pub enum ClearError {
     Spent,
 }
 
-impl From<cefrodil::OpenError> for OpenError {
-    fn from(why: cefrodil::OpenError) -> OpenError {
+impl OpenError {
+    pub(crate) fn of(why: cefrodil::OpenError) -> OpenError {
         match why {
             cefrodil::OpenError::Items => OpenError::Capacity,
             cefrodil::OpenError::Shards => OpenError::Shards,
@@ -95,8 +96,8 @@ impl From<cefrodil::OpenError> for OpenError {
     }
 }
 
-impl From<TurnError<PutError>> for InsertError {
-    fn from(why: TurnError<PutError>) -> InsertError {
+impl InsertError {
+    pub(crate) fn of(why: TurnError<PutError>) -> InsertError {
         match why {
             TurnError::Held => InsertError::Held,
             TurnError::Call(PutError::NoPath) => InsertError::NoPlace,
@@ -112,17 +113,15 @@ impl From<InsertError> for UpdateError {
     }
 }
 
-impl From<TurnError<ListError>> for ClearError {
-    fn from(why: TurnError<ListError>) -> ClearError {
+impl ClearError {
+    pub(crate) fn of_list(why: TurnError<ListError>) -> ClearError {
         match why {
             TurnError::Held => ClearError::Held,
             TurnError::Call(_) => ClearError::NoMemory,
         }
     }
-}
 
-impl From<TurnError<Spent>> for ClearError {
-    fn from(why: TurnError<Spent>) -> ClearError {
+    pub(crate) fn of_removal(why: TurnError<Spent>) -> ClearError {
         match why {
             TurnError::Held => ClearError::Held,
             TurnError::Call(Spent) => ClearError::Spent,

@@ -150,7 +150,7 @@ impl<V: Copy, S: BuildHasher> Inner<V, S> {
         self.flights.detach(print);
         match in_turn(tries, || self.slots.call(|pass| pass.put(print.key, &words))) {
             Ok(put) => Ok(self.stored(put)),
-            Err(why) => Err(self.refused(why.into())),
+            Err(why) => Err(self.refused(InsertError::of(why))),
         }
     }
 

@@ -20,14 +20,20 @@ use std::time::Duration;
 /// let _ = cefrodil_map::Map::<u64, [u8; 57]>::new(100);
 /// ```
 ///
-/// A full map evicts an entry for each new key, one that was not used lately. So an entry may be gone at any time.
+/// A key that is a tuple with a borrowed string can't be looked up by reference: by the rules of [`Borrow`], a `Map<(String, u64), V>`
+/// takes no `(&str, u64)`. Make a `String` for each call, or take an id as the key.
+///
+/// A full map evicts an entry for each new key, one that was not used lately. That is rough: in a map that has just become full, a key in
+/// use may go, too. So an entry may be gone at any time.
 ///
 /// If other threads disturb a call, it tries again, a bounded number of times: at first it spins, then it yields, then it sleeps. If all
 /// tries failed, a write returns an error and has changed nothing, and [`get`] and [`contains_key`] report a miss. The forms with `try_`
-/// try once.
+/// try once, but for [`try_get_or_insert_with`](Map::try_get_or_insert_with).
 ///
 /// Once a write of a key has returned, no later lookup finds an older value of the key. That includes values that [`get_or_insert_with`]
 /// was computing when the write came.
+///
+/// A process that was forked makes no call of a map that its parent opened, and drops none: it ends by `_exit` or `exec`.
 ///
 /// [`get`]: Map::get
 /// [`contains_key`]: Map::contains_key
@@ -67,6 +73,9 @@ impl<K: ?Sized, V: Copy + Send + Sync + 'static> Map<K, V> {
 
 impl<K: ?Sized, V: Copy + Send + Sync + 'static, S: BuildHasher> Map<K, V, S> {
     /// The key's value. A value that is found counts as used lately.
+    ///
+    /// `None`: the key is absent, expired or evicted, or writes disturbed the lookup for a tenth of a second, which `busy` of
+    /// [`stats`](Map::stats) counts. [`try_get`](Map::try_get) tells the last from the others, but it tries once.
     #[inline]
     #[must_use]
     pub fn get<Q: Hash + ?Sized>(&self, key: &Q) -> Option<V>
@@ -76,7 +85,7 @@ impl<K: ?Sized, V: Copy + Send + Sync + 'static, S: BuildHasher> Map<K, V, S> {
         self.inner.get(self.inner.print(key), self.inner.looks()).unwrap_or(None)
     }
 
-    /// The key's value, by one lookup.
+    /// The key's value, by one lookup. `None`: the key is absent, expired or evicted.
     ///
     /// # Errors
     ///
@@ -97,7 +106,9 @@ impl<K: ?Sized, V: Copy + Send + Sync + 'static, S: BuildHasher> Map<K, V, S> {
         self.get(key).is_some()
     }
 
-    /// Puts the value. Its time to live is that of the map, if it has one.
+    /// Puts the value. Its time to live is that of the map, if it has one, and begins now, also over a value that was there.
+    ///
+    /// Don't renew an entry by `get` and `insert`: a removal in between would be undone. Use [`modify_for`](Map::modify_for).
     ///
     /// # Errors
     ///
@@ -121,7 +132,8 @@ impl<K: ?Sized, V: Copy + Send + Sync + 'static, S: BuildHasher> Map<K, V, S> {
         self.inner.insert(key, value, self.inner.life, 1)
     }
 
-    /// Like [`insert`](Map::insert), with a time to live of its own. One that is too long to be counted never ends.
+    /// Like [`insert`](Map::insert), with a time to live of its own. One that is too long to be counted never ends, and `Duration::ZERO` is
+    /// over at once.
     ///
     /// # Errors
     ///
@@ -138,6 +150,10 @@ impl<K: ?Sized, V: Copy + Send + Sync + 'static, S: BuildHasher> Map<K, V, S> {
 
     /// Removes the key's value and returns it. Once this has returned, no later lookup finds that value, nor one that
     /// [`get_or_insert_with`](Map::get_or_insert_with) began to compute before this call. So it invalidates a key whose source has changed.
+    /// `Ok(None)`: it is gone too.
+    ///
+    /// Where a removal must take effect (a logout), call again until it is `Ok`. Until then refuse the key by a set of your own that each
+    /// lookup checks.
     ///
     /// # Errors
     ///

@@ -9,13 +9,19 @@ use crate::words::Words;
 use cefrodil::{PutIfAbsentError, PutIfError, TurnError};
 use std::borrow::Borrow;
 use std::hash::{BuildHasher, Hash};
+use std::time::Duration;
 
 impl<K: ?Sized, V: Copy + Send + Sync + 'static, S: BuildHasher> Map<K, V, S> {
     /// Puts what `change` makes of the key's value, and returns it. No other write of the key comes between: if another thread is first,
-    /// `change` is called again with what is there then. A value that is there keeps its deadline.
+    /// `change` is called again with what is there then. A value that is there keeps its deadline. The entry counts as used lately.
     ///
-    /// If the entry is evicted, `change` begins anew with `None`. To count without loss, take a capacity well above the number of keys, and
-    /// treat `evicted` of [`stats`](Map::stats) as an error.
+    /// - `change` may run several times. It may use other keys of the map. It must not write its own key: then another write always comes
+    ///   between, and the call ends with [`UpdateError::Contended`].
+    /// - If the entry is evicted, `change` begins anew with `None`. To count without loss, take a capacity well above the number of keys,
+    ///   and treat `evicted` of [`stats`](Map::stats) as an error.
+    /// - Don't put the time into the key of a counter, as in `(user, minute)`: the keys of past minutes fill any capacity. Then each new key
+    ///   evicts one, so `evicted` says nothing. Take the user as the key and `{ minute, count }` as the value, and begin anew when the minute
+    ///   differs.
     ///
     /// # Errors
     ///
@@ -39,7 +45,8 @@ impl<K: ?Sized, V: Copy + Send + Sync + 'static, S: BuildHasher> Map<K, V, S> {
         self.inner.update(key, 1, change)
     }
 
-    /// Like [`update`](Map::update), if the key has a value. Returns the new value. `None`: the key has none, and nothing was put.
+    /// Like [`update`](Map::update), if the key has a value. Returns the new value. `None`: the key has none, and nothing was put. The
+    /// deadline stays: [`modify_for`](Map::modify_for) moves it.
     ///
     /// # Errors
     ///
@@ -48,13 +55,48 @@ impl<K: ?Sized, V: Copy + Send + Sync + 'static, S: BuildHasher> Map<K, V, S> {
     where
         K: Borrow<Q>,
     {
-        self.inner.change_detached(self.inner.print(key), self.inner.tries, |old| old.map(&mut change))
+        self.inner.change_detached(self.inner.print(key), self.inner.tries, None, |old| old.map(&mut change))
+    }
+
+    /// Like [`modify`](Map::modify), and the entry's time to live begins anew with `life`. This renews an entry: a removal that comes
+    /// between is not undone.
+    ///
+    /// ```
+    /// use cefrodil_map::Map;
+    /// use std::time::Duration;
+    ///
+    /// let hour = Duration::from_secs(3600);
+    /// let users = Map::<str, u64>::builder(1_000).time_to_live(hour).open()?;
+    /// users.insert("token", 7)?;
+    /// assert_eq!(users.modify_for("token", hour, |user| user)?, Some(7));
+    /// users.remove("token")?;
+    /// assert_eq!(users.modify_for("token", hour, |user| user)?, None);
+    /// # Ok::<(), Box<dyn std::error::Error>>(())
+    /// ```
+    ///
+    /// # Errors
+    ///
+    /// [`UpdateError`]: this call changed nothing. [`InsertError::NoTimeToLive`] in it if the map was opened without one.
+    pub fn modify_for<Q: Hash + ?Sized>(
+        &self,
+        key: &Q,
+        life: Duration,
+        mut change: impl FnMut(V) -> V,
+    ) -> Result<Option<V>, UpdateError>
+    where
+        K: Borrow<Q>,
+    {
+        let inner = &self.inner;
+        match inner.life {
+            Some(_) => inner.change_detached(inner.print(key), inner.tries, Some(life), |old| old.map(&mut change)),
+            None => Err(inner.refused(InsertError::NoTimeToLive.into())),
+        }
     }
 }
 
 impl<V: Copy, S: BuildHasher> Inner<V, S> {
     fn update<Q: Hash + ?Sized>(&self, key: &Q, tries: u32, mut change: impl FnMut(Option<V>) -> V) -> Result<V, UpdateError> {
-        let new = self.change_detached(self.print(key), tries, |old| Some(change(old)))?;
+        let new = self.change_detached(self.print(key), tries, None, |old| Some(change(old)))?;
         Ok(new.expect("`change` always gives a value"))
     }
 
@@ -63,9 +105,10 @@ impl<V: Copy, S: BuildHasher> Inner<V, S> {
         &self,
         print: Print,
         tries: u32,
+        anew: Option<Duration>,
         mut change: impl FnMut(Option<V>) -> Option<V>,
     ) -> Result<Option<V>, UpdateError> {
-        let changed = self.change(print, tries, |old| {
+        let changed = self.change(print, tries, anew, |old| {
             let new = change(old);
             self.flights.detach(print);
             new
@@ -74,11 +117,12 @@ impl<V: Copy, S: BuildHasher> Inner<V, S> {
     }
 
     /// Puts what `change` makes of the key's value, unless another thread puts the key meanwhile; then it begins again. Returns what was
-    /// put. If `change` gives nothing, nothing is put.
+    /// put. If `change` gives nothing, nothing is put. A value that is there keeps its deadline, or lives `anew` for so long.
     pub fn change(
         &self,
         print: Print,
         tries: u32,
+        anew: Option<Duration>,
         mut change: impl FnMut(Option<V>) -> Option<V>,
     ) -> Result<Option<V>, UpdateError> {
         for _ in 0..tries {
@@ -88,7 +132,10 @@ impl<V: Copy, S: BuildHasher> Inner<V, S> {
                 Found::Absent => (None, None),
             };
             let Some(new) = change(old.map(|entry| entry.value)) else { return Ok(None) };
-            let deadline = old.map_or_else(|| self.deadline(self.life), |entry| entry.deadline);
+            let deadline = match (anew, old) {
+                (None, Some(entry)) => entry.deadline,
+                _ => self.deadline(anew.or(self.life)),
+            };
             if self.put_over(print, since, &self.words(print, new, deadline), tries)? {
                 return Ok(Some(new));
             }
@@ -117,7 +164,7 @@ impl<V: Copy, S: BuildHasher> Inner<V, S> {
                 Ok(true)
             }
             Err(TurnError::Call(PutIfAbsentError::Present { .. })) => Ok(false),
-            Err(TurnError::Call(PutIfAbsentError::Put(why))) => Err(TurnError::Call(why).into()),
+            Err(TurnError::Call(PutIfAbsentError::Put(why))) => Err(InsertError::of(TurnError::Call(why))),
             Err(TurnError::Call(_)) => Err(InsertError::Spent),
             Err(TurnError::Held) => Err(InsertError::Held),
         }

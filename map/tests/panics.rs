@@ -69,6 +69,16 @@ fn a_closure_may_call_the_map() {
 }
 
 #[test]
+fn a_closure_that_writes_its_own_key_each_time_is_refused() {
+    let map = Map::<u64, u64>::new(100).unwrap();
+    let changed = map.update(&1, |old| {
+        map.insert(&1, 10).unwrap();
+        old.unwrap_or(0) + 1
+    });
+    assert_eq!((changed, map.get(&1)), (Err(UpdateError::Contended), Some(10)));
+}
+
+#[test]
 fn a_single_try_is_refused_if_another_write_comes_between() {
     let map = Map::<u64, u64>::new(100).unwrap();
     let changed = map.try_update(&1, |old| {

@@ -1,8 +1,11 @@
 //! Threads at once: no value is torn, none is another key's, none is older than a write that has returned, and no update is lost.
 use cefrodil_map::{GetError, InsertError, Map, RemoveError, UpdateError};
+use std::hint::spin_loop;
 use std::panic::UnwindSafe;
+use std::sync::atomic::{AtomicBool, AtomicU64, Ordering::SeqCst};
 use std::sync::Barrier;
 use std::thread;
+use std::time::Duration;
 
 const THREADS: u64 = 4;
 
@@ -169,6 +172,36 @@ fn no_update_is_lost() {
     });
     let sum: u64 = (0..KEYS).filter_map(|key| map.get(&key)).sum();
     assert_eq!((sum, map.stats().evicted), (THREADS * UPDATES, 0));
+}
+
+// Threads renew an entry as fast as they can, and this one removes it.
+#[test]
+fn a_removal_beside_renewals_is_not_undone() {
+    const LIFE: Duration = Duration::from_secs(1_000);
+    let map = Map::<u64, u64>::builder(1_000).time_to_live(LIFE).open().unwrap();
+    let (end, renewed) = (AtomicBool::new(false), AtomicU64::new(0));
+    let undone = thread::scope(|threads| {
+        for _ in 0..2 {
+            threads.spawn(|| {
+                while !end.load(SeqCst) {
+                    if map.modify_for(&1, LIFE, |value| value).is_ok_and(|value| value.is_some()) {
+                        renewed.fetch_add(1, SeqCst);
+                    }
+                }
+            });
+        }
+        let undone = (0..10_000).filter(|number| {
+            map.insert(&1, *number).unwrap();
+            (0..number % 64).for_each(|_| spin_loop());
+            map.remove(&1).unwrap();
+            (0..3).any(|_| map.contains_key(&1))
+        });
+        let undone = undone.count();
+        end.store(true, SeqCst);
+        undone
+    });
+    assert_eq!((undone, map.get(&1), map.len()), (0, None, 0));
+    assert!(renewed.load(SeqCst) > 100, "only {renewed:?} renewals");
 }
 
 #[test]

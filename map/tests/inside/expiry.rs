@@ -1,5 +1,5 @@
 //! Values expire by a clock that the tests turn.
-use crate::{InsertError, Inserted, Map};
+use crate::{InsertError, Inserted, Map, UpdateError};
 use std::time::Duration;
 
 const fn seconds(number: u64) -> Duration {
@@ -46,6 +46,33 @@ fn a_put_begins_the_time_anew_and_an_update_does_not() {
     assert_eq!((map.modify(&3, |old| old + 1), map.update(&2, |old| old.unwrap_or(7))), (Ok(None), Ok(7)));
     turn(&map, seconds(60));
     assert_eq!((map.get(&1), map.get(&2)), (None, Some(7)));
+}
+
+#[test]
+fn a_renewal_moves_the_deadline() {
+    let map = timed(seconds(100));
+    for key in 1..=4 {
+        map.insert(&key, 10).unwrap();
+    }
+    turn(&map, seconds(60));
+    assert_eq!(map.modify_for(&1, seconds(100), |old| old + 1), Ok(Some(11)));
+    assert_eq!(map.modify_for(&2, seconds(5), |old| old), Ok(Some(10)));
+    assert_eq!(map.modify_for(&3, Duration::MAX, |old| old), Ok(Some(10)));
+    assert_eq!(map.modify_for(&4, Duration::ZERO, |old| old), Ok(Some(10)));
+    assert_eq!((map.get(&1), map.get(&2), map.get(&3), map.get(&4)), (Some(11), Some(10), Some(10), None));
+    turn(&map, seconds(6));
+    assert_eq!((map.get(&1), map.get(&2), map.get(&3)), (Some(11), None, Some(10)));
+    // Past the first deadline, and then past the second one.
+    turn(&map, seconds(93));
+    assert_eq!(map.get(&1), Some(11));
+    turn(&map, seconds(1));
+    assert_eq!((map.get(&1), map.get(&3)), (None, Some(10)));
+    // What has expired, and what was removed, is not renewed.
+    map.remove(&3).unwrap();
+    for key in 1..=5 {
+        assert_eq!(map.modify_for(&key, seconds(100), |_| unreachable!("it is not there")), Ok(None));
+        assert_eq!(map.get(&key), None);
+    }
 }
 
 #[test]
@@ -96,5 +123,7 @@ fn a_map_without_a_time_to_live_has_no_deadlines() {
     turn(&map, seconds(1_000_000_000));
     assert_eq!(map.get(&1), Some(10));
     assert_eq!((map.insert_for(&1, 11, seconds(1)), map.stats().refused), (Err(InsertError::NoTimeToLive), 1));
+    let renewed = map.modify_for(&1, seconds(1), |_| 11);
+    assert_eq!((renewed, map.stats().refused), (Err(UpdateError::Insert(InsertError::NoTimeToLive)), 2));
     assert_eq!(map.get(&1), Some(10));
 }
