@@ -95,16 +95,19 @@ static void change(map<uint16_t, Told> &all, Notes &notes, uint64_t thread, uint
     const auto number = static_cast<uint16_t>(key);
     const auto found = all.find(number);
     MUST(!found || notes.were_put(key, *found));
-    switch (n % 5) {
+    switch (n % 6) {
     case 0: MUST(all.insert_or_assign(number, notes.next(key, thread)).status != Status::busy); break;
     case 1: MUST(all.insert(number, notes.next(key, thread)).status != Status::closed); break;
     case 2: MUST(all.erase(number) != Status::changed); break;
-    case 3: {
-        const auto next = all.update(number, [&](const Told &old) {
+    case 3:
+    case 4: {
+        const auto next = [&](const Told &old) {
             MUST(notes.were_put(key, old));
             return notes.next(key, thread);
-        });
-        MUST(!next.value || notes.were_put(key, *next.value));
+        };
+        const auto made = n % 6 == 3 ? all.update(number, next) : all.update_or_insert(number, notes.next(key, thread), next);
+        MUST(!made.value || notes.were_put(key, *made.value));
+        MUST(made.value ? made.status == Status::ok : made.status != Status::present && (n % 6 == 3 || made.status != Status::absent));
         break;
     }
     default: MUST(notes.were_put(key, all.find_or_compute(number, [&] { return notes.next(key, thread); }).value)); break;
@@ -141,10 +144,10 @@ template <class Function> static bool counted(Numbers &numbers, uint64_t key, Fu
     return inserted == Status::ok;
 }
 
-// Each thread adds to the same keys. Within the function another thread has its turn.
+// Each thread adds to the same keys, by update and by update_or_insert. Within the function another thread has its turn.
 static void updates(uint32_t passes) {
     Numbers numbers;
-    MUST(numbers.open({100, 1, passes}) == Status::ok);
+    MUST(numbers.open({1000, 1, passes}) == Status::ok);
     in_threads(4, [&](size_t) {
         for (uint64_t n = 0; n < 2000; n++) {
             const uint64_t key = n % 3;
@@ -156,9 +159,15 @@ static void updates(uint32_t passes) {
             };
             while (!counted(numbers, key, one_more)) {
             }
+            MUST(numbers.update_or_insert(3 + n / 7, 1, one_more).status == Status::ok);
         }
     });
-    MUST(numbers.find(0).value_or(0) + numbers.find(1).value_or(0) + numbers.find(2).value_or(0) == 8000 && numbers.size() == 3);
+    MUST(numbers.find(0).value_or(0) + numbers.find(1).value_or(0) + numbers.find(2).value_or(0) == 8000);
+    uint64_t sum = 0;
+    for (uint64_t key = 3; key < 3 + 286; key++) {
+        sum += numbers.find(key).value_or(0);
+    }
+    MUST(sum == 8000 && numbers.size() == 3 + 286);
 }
 
 // Threads whose calls are never repeated are held now and then. An erasure that returned held was not made, and one that returned ok was.
