@@ -106,8 +106,8 @@ static void change(map<uint16_t, Told> &all, Notes &notes, uint64_t thread, uint
             return notes.next(key, thread);
         };
         const auto made = n % 6 == 3 ? all.update(number, next) : all.update_or_insert(number, notes.next(key, thread), next);
-        MUST(!made.value || notes.were_put(key, *made.value));
-        MUST(made.value ? made.status == Status::ok : made.status != Status::present && (n % 6 == 3 || made.status != Status::absent));
+        MUST(made.value ? made.status == Status::ok && notes.were_put(key, *made.value) : made.status != Status::present);
+        MUST(n % 6 == 3 || made.status != Status::absent);
         break;
     }
     default: MUST(notes.were_put(key, all.find_or_compute(number, [&] { return notes.next(key, thread); }).value)); break;
@@ -147,27 +147,38 @@ template <class Function> static bool counted(Numbers &numbers, uint64_t key, Fu
 // Each thread adds to the same keys, by update and by update_or_insert. Within the function another thread has its turn.
 static void updates(uint32_t passes) {
     Numbers numbers;
-    MUST(numbers.open({1000, 1, passes}) == Status::ok);
+    MUST(numbers.open({100, 1, passes}) == Status::ok);
     in_threads(4, [&](size_t) {
         for (uint64_t n = 0; n < 2000; n++) {
             const uint64_t key = n % 3;
             const auto one_more = [&](uint64_t old) {
-                if (n % 4 == 0) {
-                    std::this_thread::yield();
-                }
+                n % 4 == 0 ? std::this_thread::yield() : void();
                 return old + 1;
             };
             while (!counted(numbers, key, one_more)) {
             }
-            MUST(numbers.update_or_insert(3 + n / 7, 1, one_more).status == Status::ok);
+            MUST(numbers.update_or_insert(3, 1, one_more).status == Status::ok);
         }
     });
     MUST(numbers.find(0).value_or(0) + numbers.find(1).value_or(0) + numbers.find(2).value_or(0) == 8000);
-    uint64_t sum = 0;
-    for (uint64_t key = 3; key < 3 + 286; key++) {
-        sum += numbers.find(key).value_or(0);
-    }
-    MUST(sum == 8000 && numbers.size() == 3 + 286);
+    MUST(numbers.find(3) == 8000u && numbers.size() == 4);
+}
+
+// Two threads count a new key at the same time, and neither count is lost.
+static void first_counts() {
+    Numbers numbers;
+    MUST(numbers.open({300000}) == Status::ok);
+    std::atomic<uint64_t> begun{0}, sum{0};
+    in_threads(2, [&](size_t) {
+        for (uint64_t key = 0; key < 200000; key++) {
+            begun++;
+            for (int spins = 0; begun < 2 * (key + 1); spins++) {
+                spins > 1000 ? std::this_thread::yield() : void();
+            }
+            sum += numbers.update_or_insert(key, 1, [](uint64_t old) { return old + 1; }).value.value_or(0);
+        }
+    });
+    MUST(sum == 3 * 200000 && numbers.size() == 200000);
 }
 
 // Threads whose calls are never repeated are held now and then. An erasure that returned held was not made, and one that returned ok was.
@@ -375,6 +386,7 @@ int main() {
     values(2);
     updates(8);
     updates(1);
+    first_counts();
     held();
     erasures_of_another_key();
     computations();
