@@ -84,13 +84,18 @@ template <class Key> inline constexpr bool is_string = std::is_same_v<Key, std::
 
 } // namespace inside
 
-// The hash of a map, unless the program gives it another: SipHash-1-3 of a string's letters, or of the bytes of any other key.
+// The hash of a map, unless the program gives it another: SipHash-1-3 of a string's letters, or of the bytes of any other key. So a key is
+// - a std::string or a std::string_view. A `const char *` as the key's type is a pointer: its address is the key, not its letters.
+// - an integer, an enum or a pointer, or a std::array of them.
+// - a trivially copyable struct without padding, whose bytes are its value. No float is: 0.0 and -0.0 are equal, but have other bytes.
+// No std::pair and no std::tuple is such a struct: write one with the same members, or a hash of your own.
 template <class Key> struct SipHash {
-    static_assert(std::has_unique_object_representations_v<Key>,
-                  "equal keys need equal bytes, so no padding, float or pointer inside a class: give the map a hash for this key");
     uint64_t operator()(const Key &key, const HashSecret &secret) const noexcept {
         return inside::sip_hash<1, 3>(std::addressof(key), sizeof key, secret);
     }
+    static_assert(std::has_unique_object_representations_v<Key>,
+                  "equal keys need equal bytes, so no padding or float, nor std::pair or std::tuple: write a struct, or give the map a hash for "
+                  "this key");
 };
 template <> struct SipHash<std::string> {
     uint64_t operator()(std::string_view key, const HashSecret &secret) const noexcept {

@@ -1,18 +1,33 @@
-// A cache as a map of a program's own types, for any number of threads. Keys are hashed, and values have up to 56 bytes. A new key evicts another one
-// when its shard is full.
+// A cache as a map of a program's own types, for any number of threads. A new key evicts another one when its shard is full.
+//
+//     #include "cefrodil_map.hpp"
+//     int main() {
+//         cefrodil::map<std::string, uint64_t> ages;
+//         if (ages.open({1000}) != cefrodil::Status::ok) { return 1; }
+//         const cefrodil::Stored stored = ages.insert("ann", 41); // stored.status: ok, or why not
+//         const std::optional<uint64_t> age = ages.find("ann");   // none: it was not put, or was evicted
+//         const cefrodil::Status erased = ages.erase("ann");      // neither ok nor absent: call again
+//         return stored.status == cefrodil::Status::ok && age == 41u && erased == cefrodil::Status::ok ? 0 : 1;
+//     }
+//
+// Compile it over the folder that c/build made: g++ -std=c++17 -I FOLDER/include program.cpp FOLDER/lib/libcefrodil.a -lpthread
+//
+// Values are trivially copyable, without padding, up to 56 bytes. Keys that need no hash of yours are strings, integers, enums, pointers, and structs
+// without padding whose bytes are their value; cefrodil_hash.hpp says more. std::pair and std::tuple are not among them: write a struct.
 //
 // This header is plain C++ and is not proved. The index below it is: a lookup of a 64-bit number returns what was put under it last, at one moment
 // of the call, and never parts of two values.
 //
 // The map stores no keys. One keyed hash of a key is its number in the index. A second one, with a secret of its own, is stored with the value. Each
 // lookup compares it, and a mismatch is a miss. So two keys are confused only if both hashes agree. With SipHash that is, as far as is known, a
-// chance of 2^-128 for a pair. A hash of yours must give independent hashes for two seeds.
+// chance of 2^-128 for a pair.
 //
 // What you promise: no other call runs during open, close, a move or the destructor. All other calls may come from any thread at any time. No call
-// comes from a signal handler or a forked child. Promises 5 and 6 of cefrodil.h hold, too.
+// comes from a signal handler or a forked child. malloc, realloc and free belong to one allocator, whose blocks are aligned to 16 bytes. The program
+// is linked with the archive that belongs to this header.
 //
 // No call throws, but what your hash and your functions throw. A call that other threads keep from its turn is repeated, up to `tries` times. Then
-// it returns `held`, or `busy`, and has changed nothing; `clear` may have removed some keys.
+// it returns `held` or `busy`. A call that fails has changed no key and no value; only `clear` may have removed some keys.
 #ifndef CEFRODIL_MAP_HPP
 #define CEFRODIL_MAP_HPP
 
@@ -21,7 +36,9 @@
 #include "cefrodil_hash.hpp"
 #include "cefrodil_passes.hpp"
 #include <algorithm>
-#include <thread>
+#include <memory>
+#include <optional>
+#include <vector>
 
 namespace cefrodil {
 
@@ -31,10 +48,11 @@ template <class V> inline constexpr bool is_map_value = is_value<V> && words_of<
 // How a map is opened. A thread takes a pass at its first call, and gives it back at its end. One pass is shared behind a lock by all threads that
 // find no other: they are slower.
 struct MapOptions {
-    uint32_t entries;       // the map has room for so many; `capacity` is more
+    uint32_t entries;       // 1 or more: the map has room for so many; `capacity` is more
     uint32_t shards = 16;   // a power of two, 1 to 256: so many threads can write at once
     uint32_t passes = 64;   // 1 to 1,024, with the shared one
-    uint32_t tries = 20000; // how often a call is repeated that other threads keep from its turn
+    uint32_t tries = 20000; // how often a call is repeated that other threads keep from its turn: this takes about 10 ms, or longer if the
+                            // processors have other work, since a thread lets others run between two tries
 };
 
 // The answer of a lookup, and of an update. `value` is there if the status is ok.
@@ -59,21 +77,11 @@ template <class V> struct Computed {
 
 namespace inside {
 
-// Waits before a call is repeated for this time: some steps of the processor at first, then a turn of the scheduler.
-inline void wait_before(uint32_t repeat) noexcept {
-    if (repeat >= 6) {
-        std::this_thread::yield();
-        return;
-    }
-    for (uint32_t step = 0; step < uint32_t(1) << repeat; step++) {
-        __builtin_ia32_pause();
-    }
-}
-
 // The entries of a map. Each has the key's check word before its value.
 template <class V> class Table {
   public:
-    static constexpr size_t words = 1 + words_of<V>;
+    // A larger value has no map, and gets no second message from the index.
+    static constexpr size_t words = std::min<size_t>(8, 1 + words_of<V>);
     using Words = std::array<uint64_t, words>;
 
     // What is under a key's number. ok: the key's value, and the moment of its put. absent: if `since` is not 0, another key's entry is there.
@@ -84,22 +92,12 @@ template <class V> class Table {
     };
 
     [[nodiscard]] Status open(const MapOptions &options) noexcept {
-        if (!same_version()) {
-            return Status::other_version;
-        }
-        cefrodil_shape shape{};
-        const auto status = static_cast<Status>(cefrodil_shape_for_shards(options.entries, options.shards, &shape));
-        if (status != Status::ok) {
-            return status;
-        }
-        tries_ = options.tries;
-        capacity_ = uint64_t(shape.items) * options.shards;
-        return passes_.open(shape, options.shards, options.passes);
+        return turns_.open(options.entries, options.shards, options.passes, options.tries);
     }
 
     Entry look(const Identity &key) noexcept {
         bool again = false;
-        const Answer<words> found = repeated([&](Slot<words> &slot) {
+        const Answer<words> found = turns_.repeated([&](Slot<words> &slot) {
             return std::exchange(again, true) ? slot.pass.get_or_desk(key.index) : slot.pass.get(key.index);
         });
         if (found.status != Status::ok) {
@@ -129,25 +127,26 @@ template <class V> class Table {
                 return {entry.status == Status::ok ? Status::present : entry.status, false, false};
             }
             const Status status = entry.since != 0 ? put_over(key, entry.since, packed) : Status::changed;
-            if (!is_lost(status) || repeat >= tries_) {
+            if (!is_lost(status) || repeat >= turns_.tries()) {
                 return {is_lost(status) ? Status::changed : status, false, status == Status::ok};
             }
         }
     }
 
-    template <class Function> Found<V> update(const Identity &key, Function &function) {
+    // Puts what the function makes of the key's value. If the key is absent, puts `first`, or nothing if that is null.
+    template <class Function> Found<V> update(const Identity &key, const V *first, Function &function) {
         for (uint32_t repeat = 0;; repeat++) {
             const Entry entry = look(key);
-            if (entry.status != Status::ok) {
+            if (entry.status != Status::ok && (entry.status != Status::absent || first == nullptr)) {
                 return {entry.status, std::nullopt};
             }
-            const V value = function(*entry.value);
-            const Status status = put_over(key, entry.since, pack(key, value));
-            if (status == Status::ok) {
-                return {status, value};
+            const Found<V> tried = entry.value ? renew(key, entry, function) : Found<V>{put_if_absent(key, *first).status, *first};
+            if (tried.status == Status::ok) {
+                return tried;
             }
-            if (!is_lost(status) || repeat >= tries_) {
-                return {status, std::nullopt};
+            const bool is_late = is_lost(tried.status) || tried.status == Status::present;
+            if (!is_late || repeat >= turns_.tries()) {
+                return {is_late ? Status::changed : tried.status, std::nullopt};
             }
         }
     }
@@ -158,8 +157,8 @@ template <class V> class Table {
             if (entry.status != Status::ok) {
                 return entry.status;
             }
-            const Status status = removal([&](Pass<words> &pass) { return pass.try_take_if(key.index, entry.since).status; });
-            if (status != Status::changed || repeat >= tries_) {
+            const Status status = turns_.removal([&](Pass<words> &pass) { return pass.try_take_if(key.index, entry.since).status; });
+            if (status != Status::changed || repeat >= turns_.tries()) {
                 return status;
             }
         }
@@ -168,80 +167,54 @@ template <class V> class Table {
     // Each shard is listed at a moment of its own, and each key that is listed is removed.
     Status clear() noexcept {
         std::vector<uint64_t> list;
-        Status status = repeated([&](Slot<words> &slot) { return slot.pass.try_entries(list); });
+        Status status = turns_.repeated([&](Slot<words> &slot) { return slot.pass.try_entries(list); });
         for (size_t at = 0; at < list.size() && status == Status::ok; at += 1 + words) {
-            status = removal([&](Pass<words> &pass) { return pass.try_remove(list[at]).status; });
+            status = turns_.removal([&](Pass<words> &pass) { return pass.try_remove(list[at]).status; });
             status = status == Status::absent ? Status::ok : status;
         }
         return status;
     }
 
-    uint64_t size() const noexcept { return static_cast<uint64_t>(std::max<int64_t>(0, passes_.keys())); }
-    uint64_t capacity() const noexcept { return capacity_; }
-    Meter meter() const noexcept { return passes_.shared().meter(); }
+    const Turns<words> &turns() const noexcept { return turns_; }
 
   private:
     static Words pack(const Identity &key, const V &value) noexcept {
         Words packed{key.check};
-        const auto own = to_words(value);
+        const auto own = words_from(value);
         std::copy(own.begin(), own.end(), packed.begin() + 1);
         return packed;
     }
     static V unpacked(const Words &packed) noexcept {
         std::array<uint64_t, words_of<V>> own;
         std::copy(packed.begin() + 1, packed.end(), own.begin());
-        return from_words<V>(own);
+        return object_from<V>(own);
     }
 
     // Whether the entry is another one than was looked up.
     static bool is_lost(Status status) noexcept { return status == Status::changed || status == Status::absent; }
 
-    // Makes a call by this thread's slot, or by the shared one, until it is neither busy nor held.
-    template <class Call> auto repeated(Call call) noexcept {
-        auto answer = passes_.call(call);
-        for (uint32_t repeat = 0; repeat < tries_; repeat++) {
-            const Status status = status_of(answer);
-            if (status != Status::busy && status != Status::held) {
-                break;
-            }
-            wait_before(repeat);
-            answer = passes_.call(call);
-        }
-        return answer;
-    }
     template <class Write> Stored write(Write make) noexcept {
-        const Written written = repeated([&](Slot<words> &slot) {
-            const Written tried = make(slot.pass);
-            slot.add(tried.status == Status::ok && !tried.renewed && !tried.evicted ? 1 : 0);
-            return tried;
-        });
+        const Written written = turns_.write(make);
         return {written.status, written.renewed, written.evicted.has_value()};
-    }
-    template <class Removal> Status removal(Removal make) noexcept {
-        return repeated([&](Slot<words> &slot) {
-            const Status status = make(slot.pass);
-            slot.add(status == Status::ok ? -1 : 0);
-            return status;
-        });
     }
     Status put_over(const Identity &key, uint64_t since, const Words &packed) noexcept {
         return write([&](Pass<words> &pass) { return pass.try_put_if(key.index, since, packed); }).status;
     }
+    // Puts what the function makes of an entry's value, if the entry is still the same.
+    template <class Function> Found<V> renew(const Identity &key, const Entry &entry, Function &function) {
+        const V value = function(*entry.value);
+        return {put_over(key, entry.since, pack(key, value)), value};
+    }
 
-    Passes<words> passes_{};
-    uint32_t tries_ = 0;
-    uint64_t capacity_ = 0;
+    Turns<words> turns_{};
 };
 
 } // namespace inside
 
-// A map of K to V. A hash of yours is `uint64_t operator()(const K &key, uint64_t seed) const`: for two seeds it gives two independent hashes. Several
-// threads call it at once.
+// A map of K to V. A hash of yours is `uint64_t operator()(const K &key, uint64_t seed) const`. Several threads call it at once, each with two seeds.
+// Two keys are confused if both hashes agree, so two seeds must give two independent hashes. SipHash does. Here is one of a key's name:
+//     return cefrodil::SipHash<std::string_view>()(key.name, {seed, 0});
 template <class K, class V, class Hash = SipHash<K>> class map {
-    static_assert(std::is_trivially_copyable_v<V>, "a map's value is trivially copyable: keep an index or a pointer of other objects");
-    static_assert(words_of<V> <= 7, "a map's value has up to 56 bytes");
-    static_assert(is_map_value<V>, "a map's value is default-constructible, is no array, and has no padding; see has_no_padding");
-    static_assert(inside::hashes<Hash, inside::Taken<K, Hash>>, "a map's hash has a call `uint64_t operator()(const K &, uint64_t seed) const`");
     static constexpr bool never_throws = inside::Identities<inside::Taken<K, Hash>, Hash>::never_throws;
 
   public:
@@ -250,7 +223,9 @@ template <class K, class V, class Hash = SipHash<K>> class map {
 
     map() noexcept {}
 
-    // Opens the map, empty. in_use: it is open. no_random: the kernel gave no secret. Other statuses are those of open_shards, and bad_items.
+    // Opens the map, empty. Unless ok, nothing was done. in_use: it is open. no_memory. no_random: the kernel gave no secret. other_version: the
+    // archive is another version's. processor: it is older than x86-64-v2. bad_shards, bad_readers: `shards` or `passes` is out of range. bad_items:
+    // no entries, as by open({0}), or too many: a shard holds up to 3,774,873.
     [[nodiscard]] Status open(const MapOptions &options, Hash hash = Hash()) noexcept {
         if (inner_) {
             return Status::in_use;
@@ -272,7 +247,7 @@ template <class K, class V, class Hash = SipHash<K>> class map {
     // Closes the map and frees its memory.
     Status close() noexcept { return std::exchange(inner_, nullptr) ? Status::ok : Status::closed; }
 
-    // The key's value. None if the key is absent, or the lookup was busy each time.
+    // The key's value. None if the key is absent, the lookup was busy each time, or the map is not open.
     [[nodiscard]] std::optional<V> find(Key key) const noexcept(never_throws) { return get(key).value; }
     // The same, with the status: ok, absent, busy or closed.
     [[nodiscard]] Found<V> get(Key key) const noexcept(never_throws) {
@@ -284,24 +259,33 @@ template <class K, class V, class Hash = SipHash<K>> class map {
     }
     [[nodiscard]] bool contains(Key key) const noexcept(never_throws) { return get(key).status == Status::ok; }
 
-    // Puts a key that is absent. present: it is there. no_path, all_recent, spent: it is absent, and was not put. held, busy, changed: other threads
-    // were first each time, and nothing was done.
+    // Puts a key that is absent. present: it is there, and keeps its value. no_path, all_recent, spent: it is absent, and was not put. held, busy,
+    // changed: other threads were first each time, and nothing was done: call again. closed.
     [[nodiscard]] Stored insert(Key key, const V &value) noexcept(never_throws) {
         return change(key, Stored{Status::closed, false, false}, [&](const auto &known) { return inner_->table.put_if_absent(known, value); });
     }
-    // Puts a key, whether it is there or not. no_path, all_recent: it is absent, and was not put. spent, held: an earlier value is still there.
+    // Puts a key, whether it is there or not. no_path, all_recent: it is absent, and was not put. spent, held: nothing was put; an earlier value, if
+    // any, is still there.
     [[nodiscard]] Stored insert_or_assign(Key key, const V &value) noexcept(never_throws) {
         return change(key, Stored{Status::closed, false, false}, [&](const auto &known) { return inner_->table.put(known, value); });
     }
-    // Removes a key. Unless ok or absent, it may still be there. If a store is behind the map, change the store first: then no older value is put
-    // afterwards by find_or_compute.
+    // Removes a key. ok or absent: it is gone. Otherwise nothing was done, and the key may still be there. held, busy, changed: other threads were
+    // first each time: call again until it is ok or absent. If nobody may get the key until then, keep it in a set of your own and refuse it, as in
+    // map_sessions.cpp. spent: open a new map. If a store is behind the map, change the store first: then no older value is put afterwards by
+    // find_or_compute.
     [[nodiscard]] Status erase(Key key) noexcept(never_throws) {
         return change(key, Status::closed, [&](const auto &known) { return inner_->table.erase(known); });
     }
-    // Replaces the key's value by what the function makes of it, `V function(const V &)`, and returns that. No other change is lost: if another
-    // thread is first, the function is called again, with the newer value. Unless ok, nothing was done.
+    // Replaces the value of a key that is there by what the function makes of it, `V function(const V &)`, and returns that. No other change is
+    // lost: if another thread is first, the function is called again, with the newer value. Unless ok, nothing was put. absent: the key is not there,
+    // and the function was not called, unless another thread removed the key meanwhile. held, busy, changed: as by `insert`. spent, closed.
     template <class Function> [[nodiscard]] Found<V> update(Key key, Function function) {
-        return change(key, Found<V>{Status::closed, std::nullopt}, [&](const auto &known) { return inner_->table.update(known, function); });
+        return change(key, Found<V>{Status::closed, std::nullopt}, [&](const auto &known) { return inner_->table.update(known, nullptr, function); });
+    }
+    // The same, but if the key is absent, puts `first`, and returns that. If another thread puts the key meanwhile, the function is called with the
+    // value of that thread. Unless ok, nothing was put. The statuses are those of `update` and `insert`, without absent and present.
+    template <class Function> [[nodiscard]] Found<V> update_or_insert(Key key, const V &first, Function function) {
+        return change(key, Found<V>{Status::closed, std::nullopt}, [&](const auto &known) { return inner_->table.update(known, &first, function); });
     }
 
     // The key's value, or what the function computes, `V function()`, which is then put. Of several callers that miss the key one computes, and
@@ -342,11 +326,12 @@ template <class K, class V, class Hash = SipHash<K>> class map {
     }
 
     // How many keys there are. Calls that run meanwhile count or not.
-    uint64_t size() const noexcept { return inner_ ? inner_->table.size() : 0; }
+    uint64_t size() const noexcept { return inner_ ? inner_->table.turns().keys() : 0; }
     // How many keys all shards hold together. Each evicts for itself, so the first eviction comes before the map is full.
-    uint64_t capacity() const noexcept { return inner_ ? inner_->table.capacity() : 0; }
-    // What the calls of the index came to, repeated ones included.
-    Meter meter() const noexcept { return inner_ ? inner_->table.meter() : Meter(nullptr); }
+    uint64_t capacity() const noexcept { return inner_ ? inner_->table.turns().capacity() : 0; }
+    // What the calls of the index came to. A repeated call counts each time, and a call of the map may make several, so no exact hit rate follows:
+    // for that, count the answers of your own calls.
+    Meter meter() const noexcept { return inner_ ? inner_->table.turns().meter() : Meter(nullptr); }
 
   private:
     struct Inner {
@@ -369,6 +354,18 @@ template <class K, class V, class Hash = SipHash<K>> class map {
     }
 
     std::unique_ptr<Inner> inner_{};
+
+    // Each fault has one message. A type that is too large or not trivial gets no second one. Clang skips the members after a failed assertion, so
+    // these come last.
+    static constexpr bool is_plain = std::is_trivially_copyable_v<V> && words_of<V> <= 7;
+    static_assert(std::is_trivially_copyable_v<V>, "a map's value is trivially copyable: keep an index or a pointer of other objects");
+    static_assert(!std::is_trivially_copyable_v<V> || is_plain, "a map's value has up to 56 bytes");
+    static_assert(!is_plain || has_no_padding<V>,
+                  "a map's value has no padding: make the padding a member, or see has_no_padding in cefrodil_values.hpp");
+    static_assert(!is_plain || std::is_default_constructible_v<V>, "a map's value is default-constructible");
+    static_assert(!is_plain || !std::is_default_constructible_v<V> || !has_no_padding<V> || is_map_value<V>,
+                  "a map's value can be copied and assigned: it is no array, but may be a std::array, and is not const");
+    static_assert(inside::hashes<Hash, inside::Taken<K, Hash>>, "a map's hash has a call `uint64_t operator()(const K &, uint64_t seed) const`");
 };
 
 } // namespace cefrodil

@@ -1,5 +1,5 @@
 // Passes that threads take by themselves, for cefrodil_map.hpp. A thread takes one at its first call, and gives it back at its end. A thread
-// that finds none shares one with others, behind a lock.
+// that finds none shares one with others, behind a lock. Calls by them are repeated until they have their turn.
 #ifndef CEFRODIL_PASSES_HPP
 #define CEFRODIL_PASSES_HPP
 
@@ -9,6 +9,7 @@
 #include <memory>
 #include <mutex>
 #include <numeric>
+#include <thread>
 #include <utility>
 #include <vector>
 
@@ -207,6 +208,75 @@ template <size_t Words> class Passes {
     size_t count_ = 0;
     std::shared_ptr<FreePasses> free_{};
     std::mutex sharing_{};
+};
+
+// Waits before a call is repeated for this time: some steps of the processor at first, then a turn of the scheduler.
+inline void wait_before(uint32_t repeat) noexcept {
+    if (repeat >= 6) {
+        std::this_thread::yield();
+        return;
+    }
+    for (uint32_t step = 0; step < uint32_t(1) << repeat; step++) {
+        __builtin_ia32_pause();
+    }
+}
+
+// Calls by the passes of shards. A call that other threads keep from its turn is repeated.
+template <size_t Words> class Turns {
+  public:
+    [[nodiscard]] Status open(uint32_t entries, uint32_t shards, uint32_t passes, uint32_t tries) noexcept {
+        if (!same_version()) {
+            return Status::other_version;
+        }
+        cefrodil_shape shape{};
+        const auto status = static_cast<Status>(cefrodil_shape_for_shards(entries, shards, &shape));
+        if (status != Status::ok) {
+            return status;
+        }
+        tries_ = tries;
+        capacity_ = uint64_t(shape.items) * shards;
+        return passes_.open(shape, shards, passes);
+    }
+
+    // Makes a call by this thread's slot, or by the shared one, until it is neither busy nor held.
+    template <class Call> auto repeated(Call call) noexcept {
+        auto answer = passes_.call(call);
+        for (uint32_t repeat = 0; repeat < tries_; repeat++) {
+            const Status status = status_of(answer);
+            if (status != Status::busy && status != Status::held) {
+                break;
+            }
+            wait_before(repeat);
+            answer = passes_.call(call);
+        }
+        return answer;
+    }
+    // Makes a put, and counts a new key.
+    template <class Write> Written write(Write make) noexcept {
+        return repeated([&](Slot<Words> &slot) {
+            const Written tried = make(slot.pass);
+            slot.add(tried.status == Status::ok && !tried.renewed && !tried.evicted ? 1 : 0);
+            return tried;
+        });
+    }
+    // Makes a removal, and counts it.
+    template <class Removal> Status removal(Removal make) noexcept {
+        return repeated([&](Slot<Words> &slot) {
+            const Status status = make(slot.pass);
+            slot.add(status == Status::ok ? -1 : 0);
+            return status;
+        });
+    }
+
+    uint32_t tries() const noexcept { return tries_; }
+    uint64_t keys() const noexcept { return static_cast<uint64_t>(std::max<int64_t>(0, passes_.keys())); }
+    uint64_t capacity() const noexcept { return capacity_; }
+    Meter meter() const noexcept { return passes_.shared().meter(); }
+
+  private:
+    Passes<Words> passes_{};
+    uint32_t tries_ = 0;
+    uint64_t capacity_ = 0;
 };
 
 } // namespace inside

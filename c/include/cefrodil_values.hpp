@@ -30,21 +30,42 @@ template <class Type>
 inline constexpr bool is_value =
     std::is_trivially_copyable_v<Type> && std::is_default_constructible_v<Type> && words_of<Type> <= 8 && has_no_padding<Type>;
 
+namespace inside {
+
+// The bytes of a type as words, and back. Nothing is asked of the type.
+template <class Type> std::array<uint64_t, words_of<Type>> words_from(const Type &value) noexcept {
+    std::array<uint64_t, words_of<Type>> words{};
+    std::memcpy(words.data(), static_cast<const void *>(&value), sizeof value);
+    return words;
+}
+template <class Type> Type object_from(const std::array<uint64_t, words_of<Type>> &words) noexcept {
+    Type value;
+    std::memcpy(static_cast<void *>(&value), words.data(), sizeof value);
+    return value;
+}
+
+// Each fault of a value's type has one message. A type that is too large or not trivial gets no second one.
+template <class Type> struct Checked {
+    static constexpr bool done = true;
+    static constexpr bool is_trivial = std::is_trivially_copyable_v<Type>, is_small = words_of<Type> <= 8;
+    static_assert(is_trivial, "a value is trivially copyable");
+    static_assert(!is_trivial || is_small, "a value has up to 64 bytes");
+    static_assert(!is_trivial || !is_small || has_no_padding<Type>,
+                  "a value has no padding; specialize has_no_padding for a struct with a float and no padding");
+    static_assert(!is_trivial || !is_small || std::is_default_constructible_v<Type>, "a value is default-constructible");
+};
+
+} // namespace inside
+
 // The bytes of such a type as the words of a value, and back. Bytes after the type are 0. Floats are copied bit by bit: 0.0 and -0.0 are
 // different words.
 template <class Type> std::array<uint64_t, words_of<Type>> to_words(const Type &value) noexcept {
-    static_assert(has_no_padding<Type>, "a value has no padding; specialize has_no_padding for a struct with a float and no padding");
-    static_assert(is_value<Type>, "a value is trivially copyable, default-constructible, and of up to 64 bytes");
-    std::array<uint64_t, words_of<Type>> words{};
-    std::memcpy(words.data(), &value, sizeof value);
-    return words;
+    static_assert(inside::Checked<Type>::done);
+    return inside::words_from(value);
 }
 template <class Type> Type from_words(const std::array<uint64_t, words_of<Type>> &words) noexcept {
-    static_assert(has_no_padding<Type>, "a value has no padding; specialize has_no_padding for a struct with a float and no padding");
-    static_assert(is_value<Type>, "a value is trivially copyable, default-constructible, and of up to 64 bytes");
-    Type value;
-    std::memcpy(&value, words.data(), sizeof value);
-    return value;
+    static_assert(inside::Checked<Type>::done);
+    return inside::object_from<Type>(words);
 }
 
 } // namespace cefrodil

@@ -110,6 +110,7 @@ static void openings() {
     MUST(numbers.insert(1, 1).status == Status::closed && numbers.insert_or_assign(1, 1).status == Status::closed);
     MUST(numbers.erase(1) == Status::closed && numbers.clear() == Status::closed && numbers.close() == Status::closed);
     MUST(numbers.update(1, [](uint64_t n) { return n; }).status == Status::closed && numbers.meter().counts().hits == 0);
+    MUST(numbers.update_or_insert(1, 1, [](uint64_t n) { return n; }).status == Status::closed);
     const Computed<uint64_t> computed = numbers.find_or_compute(1, [] { return uint64_t(7); });
     MUST(computed.status == Status::closed && computed.value == 7 && computed.computed);
     drawn = 0;
@@ -133,6 +134,9 @@ static void answers() {
     const Found<double> updated = rates.update(-1, [](const double &rate) { return rate + 1; });
     MUST(updated.status == Status::ok && updated.value == 2.5 && rates.find(-1) == 2.5);
     MUST(rates.update(2, [](double rate) { return rate; }).status == Status::absent && rates.get(2).status == Status::absent);
+    const auto doubled = [](const double &rate) { return 2 * rate; };
+    const Found<double> begun = rates.update_or_insert(3, 0.5, doubled), renewed = rates.update_or_insert(3, 0.5, doubled);
+    MUST(begun.status == Status::ok && begun.value == 0.5 && renewed.value == 1.0 && rates.find(3) == 1.0 && rates.erase(3) == Status::ok);
     MUST(rates.erase(2) == Status::absent && rates.erase(-1) == Status::ok && rates.erase(-1) == Status::absent && rates.size() == 0);
     map<uint8_t, Seven> wide;
     MUST(wide.open({100}) == Status::ok && wide.insert(1, {{1, 2, 3, 4, 5, 6, 7}}).status == Status::ok);
@@ -168,7 +172,8 @@ class Model {
         case 1:
         case 2: return put(key, map_.insert_or_assign(key, version(key)), false);
         case 3: return erase(key);
-        case 4: return update(key);
+        case 4: return update(key, false);
+        case 8: return update(key, true);
         case 5: return compute(key);
         case 6: MUST(map_.contains(key) == seen(key).has_value()); return;
         case 7: return next_random() % 256 == 0 ? clear() : void();
@@ -226,32 +231,36 @@ class Model {
         plain_.erase(key);
         MUST(!seen(key));
     }
-    void update(uint64_t key) {
+    void update(uint64_t key, bool or_insert) {
         const auto before = seen(key);
         uint64_t calls = 0;
-        const auto updated = map_.update(key, [&](const Version &old) {
+        const auto next = [&](const Version &old) {
             calls++;
             MUST(before && old.number == before->number);
             return version(key);
-        });
-        MUST(calls == before.has_value() && updated.value.has_value() == before.has_value());
-        MUST(updated.status == (before ? Status::ok : Status::absent));
-        if (before) {
+        };
+        const auto updated = or_insert ? map_.update_or_insert(key, version(key), next) : map_.update(key, next);
+        MUST(calls == before.has_value() && (!before || updated.value) && updated.value.has_value() == (updated.status == Status::ok));
+        MUST(before || !or_insert ? updated.status == (before ? Status::ok : Status::absent) : updated.status != Status::absent);
+        if (updated.value) {
             MUST(updated.value->number == number_);
-            plain_[key] = number_;
+            before ? void(plain_[key] = number_) : added(key);
         }
-        MUST(seen(key).has_value() == before.has_value());
+        MUST(seen(key).has_value() == updated.value.has_value());
     }
     void compute(uint64_t key) {
         const auto before = seen(key);
         const auto answer = map_.find_or_compute(key, [&] { return version(key); });
         MUST(answer.computed == !before && answer.value.number == (before ? before->number : number_));
         if (answer.computed && answer.status == Status::ok) {
-            // Whether it evicted another key is seen by the size alone.
-            evicted_ += map_.size() == size_;
-            size_ = map_.size();
-            plain_[key] = number_;
+            added(key);
         }
+    }
+    // Whether a new key evicted another one is seen by the size alone.
+    void added(uint64_t key) {
+        evicted_ += map_.size() == size_;
+        size_ = map_.size();
+        plain_[key] = number_;
     }
     void clear() {
         MUST(map_.clear() == Status::ok && map_.size() == 0);
@@ -291,6 +300,8 @@ static void collisions() {
     MUST(narrow.update(5, [](uint64_t) { return uint64_t(0); }).status == Status::absent && narrow.find(1) == 10u);
     const Stored taken = narrow.insert(5, 50);
     MUST(taken.status == Status::ok && taken.evicted && !taken.renewed && narrow.find(5) == 50u && !narrow.find(1) && narrow.size() == 1);
+    const auto never = [](uint64_t) { return uint64_t(0); };
+    MUST(narrow.update_or_insert(1, 10, never).value == 10u && narrow.find(1) == 10u && !narrow.find(5) && narrow.size() == 1);
     MUST(narrow.insert_or_assign(9, 90).status == Status::ok && narrow.find(9) == 90u && !narrow.find(5) && narrow.size() == 1);
     const Computed<uint64_t> computed = narrow.find_or_compute(1, [] { return uint64_t(11); });
     MUST(computed.status == Status::ok && computed.computed && computed.value == 11 && narrow.find(1) == 11u && !narrow.find(9));
@@ -348,6 +359,7 @@ static void computations() {
     MUST(outdated([&] { (void)numbers.insert(100, 6); }) && numbers.find(100) == 6u && numbers.erase(100) == Status::ok);
     MUST(outdated([&] { (void)numbers.insert_or_assign(100, 6); (void)numbers.erase(100); }) && !numbers.contains(100));
     MUST(outdated([&] { (void)numbers.update(100, [](uint64_t n) { return n; }); }) && !numbers.contains(100));
+    MUST(outdated([&] { (void)numbers.update_or_insert(100, 6, [](uint64_t n) { return n; }); }) && numbers.erase(100) == Status::ok);
     MUST(!outdated([&] { (void)numbers.erase(101); (void)numbers.insert(102, 1); }) && numbers.find(100) == 5u);
 #ifdef __cpp_exceptions
     for (int round = 0; round < 2; round++) {

@@ -95,16 +95,19 @@ static void change(map<uint16_t, Told> &all, Notes &notes, uint64_t thread, uint
     const auto number = static_cast<uint16_t>(key);
     const auto found = all.find(number);
     MUST(!found || notes.were_put(key, *found));
-    switch (n % 5) {
+    switch (n % 6) {
     case 0: MUST(all.insert_or_assign(number, notes.next(key, thread)).status != Status::busy); break;
     case 1: MUST(all.insert(number, notes.next(key, thread)).status != Status::closed); break;
     case 2: MUST(all.erase(number) != Status::changed); break;
-    case 3: {
-        const auto next = all.update(number, [&](const Told &old) {
+    case 3:
+    case 4: {
+        const auto next = [&](const Told &old) {
             MUST(notes.were_put(key, old));
             return notes.next(key, thread);
-        });
-        MUST(!next.value || notes.were_put(key, *next.value));
+        };
+        const auto made = n % 6 == 3 ? all.update(number, next) : all.update_or_insert(number, notes.next(key, thread), next);
+        MUST(made.value ? made.status == Status::ok && notes.were_put(key, *made.value) : made.status != Status::present);
+        MUST(n % 6 == 3 || made.status != Status::absent);
         break;
     }
     default: MUST(notes.were_put(key, all.find_or_compute(number, [&] { return notes.next(key, thread); }).value)); break;
@@ -141,7 +144,7 @@ template <class Function> static bool counted(Numbers &numbers, uint64_t key, Fu
     return inserted == Status::ok;
 }
 
-// Each thread adds to the same keys. Within the function another thread has its turn.
+// Each thread adds to the same keys, by update and by update_or_insert. Within the function another thread has its turn.
 static void updates(uint32_t passes) {
     Numbers numbers;
     MUST(numbers.open({100, 1, passes}) == Status::ok);
@@ -149,16 +152,33 @@ static void updates(uint32_t passes) {
         for (uint64_t n = 0; n < 2000; n++) {
             const uint64_t key = n % 3;
             const auto one_more = [&](uint64_t old) {
-                if (n % 4 == 0) {
-                    std::this_thread::yield();
-                }
+                n % 4 == 0 ? std::this_thread::yield() : void();
                 return old + 1;
             };
             while (!counted(numbers, key, one_more)) {
             }
+            MUST(numbers.update_or_insert(3, 1, one_more).status == Status::ok);
         }
     });
-    MUST(numbers.find(0).value_or(0) + numbers.find(1).value_or(0) + numbers.find(2).value_or(0) == 8000 && numbers.size() == 3);
+    MUST(numbers.find(0).value_or(0) + numbers.find(1).value_or(0) + numbers.find(2).value_or(0) == 8000);
+    MUST(numbers.find(3) == 8000u && numbers.size() == 4);
+}
+
+// Two threads count a new key at the same time, and neither count is lost.
+static void first_counts() {
+    Numbers numbers;
+    MUST(numbers.open({300000}) == Status::ok);
+    std::atomic<uint64_t> begun{0}, sum{0};
+    in_threads(2, [&](size_t) {
+        for (uint64_t key = 0; key < 200000; key++) {
+            begun++;
+            for (int spins = 0; begun < 2 * (key + 1); spins++) {
+                spins > 1000 ? std::this_thread::yield() : void();
+            }
+            sum += numbers.update_or_insert(key, 1, [](uint64_t old) { return old + 1; }).value.value_or(0);
+        }
+    });
+    MUST(sum == 3 * 200000 && numbers.size() == 200000);
 }
 
 // Threads whose calls are never repeated are held now and then. An erasure that returned held was not made, and one that returned ok was.
@@ -366,6 +386,7 @@ int main() {
     values(2);
     updates(8);
     updates(1);
+    first_counts();
     held();
     erasures_of_another_key();
     computations();
