@@ -106,7 +106,7 @@ template <> struct SipHash<std::string_view> : SipHash<std::string> {};
 
 namespace inside {
 
-// What stands for a key in the index: the number under which its entry is, and a word of the entry which tells it from another key's.
+// A key in the index: the number by which it is looked up, and a word in its entry by which a lookup knows another key with that number.
 struct Identity {
     uint64_t index;
     uint64_t check;

@@ -343,7 +343,7 @@ template <class K, class V, class Hash = SipHash<K>> class map {
         std::array<inside::Flights, 16> flights{};
     };
 
-    // Makes a change of a key, after its flight is told. `closed`: the answer of a map that is not open.
+    // Changes a key's entry by `make`, and detaches its flight first. `closed`: the answer of a map that is not open.
     template <class Result, class Change> Result change(Key key, Result closed, Change make) {
         if (!inner_) {
             return closed;

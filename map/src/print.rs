@@ -1,4 +1,4 @@
-//! Two hashes of a key, which stand for it in the index.
+//! The two hashes by which the index knows a key.
 use std::hash::{BuildHasher, Hash, Hasher};
 
 /// A key's two hashes. The map keeps no keys, so two keys with the same print are one key to it.

@@ -254,7 +254,7 @@ impl<const WORDS: usize> Writer<WORDS> {
     }
 
     /// Removes the key as [`take`](Writer::take) does, if its last put was at the moment `since`, as a lookup of the key returned it.
-    /// So whoever found an entry too old removes that one, and no later one.
+    /// So a program that found an entry too old removes that one, and no later one.
     ///
     /// # Errors
     ///

@@ -1,4 +1,4 @@
-//! The place of a shard's writer. Whoever wins the place's word borrows the writer in place, so no turn moves it.
+//! The place of a shard's writer. A pass that wins the place's word borrows the writer in place, so no turn moves it.
 ghost use Rattle.std.specs.Prelude.{◌≡◌, ⊤, IfSome};
 ghost use Rattle.mc_shards.specs.Lending.{HasTaken, IsKept};
 

@@ -3,8 +3,8 @@ ghost use Rattle.std.specs.Prelude.{◌≡◌, ℕ, []};
 
 use crate::seats::WriterSeat;
 
-/// Where the version of the running deed's key is, and its value now. Whoever opens a deed hands it on to the close: no seat keeps
-/// it, so nothing but the deed's own words is stored between the open and the close.
+/// Where the version of the running deed's key is, and its value now. The caller keeps it from the open to the close of a deed. No seat
+/// does, so nothing but the deed's own words is stored in between.
 #[derive(Clone, Copy)]
 pub struct Running {
     pub place: usize,

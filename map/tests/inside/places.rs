@@ -1,4 +1,4 @@
-//! A map that has no place for a key, or no changes left, says so. Keys with the same first hash are told apart.
+//! An insert fails if no entry can give way or no changes are left. A key never has the value of another with the same first hash.
 use crate::words::Layout;
 use crate::{GetError, InsertError, Inserted, Map, RemoveError, UpdateError};
 use cefrodil::Shape;
