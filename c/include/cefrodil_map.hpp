@@ -18,9 +18,9 @@
 // This header is plain C++ and is not proved. The index below it is: a lookup of a 64-bit number returns what was put under it last, at one moment
 // of the call, and never parts of two values.
 //
-// The map stores no keys. One keyed hash of a key is its number in the index. A second one, with a secret of its own, is stored with the value. Each
-// lookup compares it, and a mismatch is a miss. So two keys are confused only if both hashes agree. With SipHash that is, as far as is known, a
-// chance of 2^-128 for a pair.
+// The map stores no keys. It hashes a key to 128 bits, with a secret. Half of them are the key's number in the index. The others are stored with the
+// value. Each lookup compares them, and a mismatch is a miss. So two keys are confused only if all 128 bits agree. With SipHash that is, as far as is
+// known, a chance of 2^-128 for a pair.
 //
 // What you promise: no other call runs during open, close, a move or the destructor. All other calls may come from any thread at any time. No call
 // comes from a signal handler or a forked child. malloc, realloc and free belong to one allocator, whose blocks are aligned to 16 bytes. The program
@@ -211,9 +211,11 @@ template <class V> class Table {
 
 } // namespace inside
 
-// A map of K to V. A hash of yours is `uint64_t operator()(const K &key, uint64_t seed) const`. Several threads call it at once, each with two seeds.
-// Two keys are confused if both hashes agree, so two seeds must give two independent hashes. SipHash does. Here is one of a key's name:
-//     return cefrodil::SipHash<std::string_view>()(key.name, {seed, 0});
+// A map of K to V. A hash of yours is `HashPair operator()(const K &key, const HashSecret &secret) const`. Several threads call it at once. Two keys
+// are confused if both words agree, so they must be independent. SipHash's are. Here is one of a key's name:
+//     return cefrodil::SipHash<std::string_view>()(key.name, secret);
+// Or it has 64 bits: `uint64_t operator()(const K &key, uint64_t seed) const`. Then it is called twice, with two seeds, which must give independent
+// hashes.
 template <class K, class V, class Hash = SipHash<K>> class map {
     static constexpr bool never_throws = inside::Identities<inside::Taken<K, Hash>, Hash>::never_throws;
 
@@ -365,7 +367,9 @@ template <class K, class V, class Hash = SipHash<K>> class map {
     static_assert(!is_plain || std::is_default_constructible_v<V>, "a map's value is default-constructible");
     static_assert(!is_plain || !std::is_default_constructible_v<V> || !has_no_padding<V> || is_map_value<V>,
                   "a map's value can be copied and assigned: it is no array, but may be a std::array, and is not const");
-    static_assert(inside::hashes<Hash, inside::Taken<K, Hash>>, "a map's hash has a call `uint64_t operator()(const K &, uint64_t seed) const`");
+    static_assert(inside::hashes<Hash, inside::Taken<K, Hash>>,
+                  "a map's hash has a call `HashPair operator()(const K &, const HashSecret &) const`, or `uint64_t operator()(const K &, "
+                  "uint64_t seed) const`");
 };
 
 } // namespace cefrodil
