@@ -3,7 +3,7 @@ use crate::clock::{Clock, NEVER};
 use crate::error::{GetError, InsertError, RemoveError};
 use crate::flight::Flights;
 use crate::map::Inserted;
-use crate::print::Print;
+use crate::print::{Print, Printer};
 use crate::slots::Slots;
 use crate::stats::Kind;
 use crate::wait::{in_turn, within, LOOKS};
@@ -17,7 +17,7 @@ pub(crate) struct Inner<V, S> {
     pub slots: Arc<Slots>,
     pub flights: Flights<V>,
     pub clock: Clock,
-    pub hasher: S,
+    pub printer: Printer<S>,
     /// The time to live of what is put. Without one, entries have no deadline.
     pub life: Option<Duration>,
     pub capacity: usize,
@@ -39,7 +39,7 @@ pub(crate) enum Found<V> {
 impl<V: Copy, S: BuildHasher> Inner<V, S> {
     #[inline]
     pub fn print<Q: Hash + ?Sized>(&self, key: &Q) -> Print {
-        Print::of(&self.hasher, key)
+        self.printer.print(key)
     }
 
     /// How often a lookup tries that is a miss if it stays busy.
