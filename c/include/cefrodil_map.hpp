@@ -26,8 +26,9 @@
 // comes from a signal handler or a forked child. malloc, realloc and free belong to one allocator, whose blocks are aligned to 16 bytes. The program
 // is linked with the archive that belongs to this header.
 //
-// No call throws, but what your hash and your functions throw. A call that other threads keep from its turn is repeated, up to `tries` times. Then
-// it returns `held` or `busy`. A call that fails has changed no key and no value; only `clear` may have removed some keys.
+// No call throws, but what your hash and your functions throw. A call that other threads keep from its turn is repeated, up to `tries` times. At
+// first it spins, then it yields, then it sleeps. At last it returns `held` or `busy`. A call that fails has changed no key and no value; only
+// `clear` may have removed some keys.
 #ifndef CEFRODIL_MAP_HPP
 #define CEFRODIL_MAP_HPP
 
@@ -51,8 +52,8 @@ struct MapOptions {
     uint32_t entries;       // 1 or more: the map has room for so many; `capacity` is more
     uint32_t shards = 16;   // a power of two, 1 to 256: so many threads can write at once
     uint32_t passes = 64;   // 1 to 1,024, with the shared one
-    uint32_t tries = 20000; // how often a call is repeated that other threads keep from its turn: this takes about 10 ms, or longer if the
-                            // processors have other work, since a thread lets others run between two tries
+    uint32_t tries = 10000; // how often a call is repeated that other threads keep from its turn. This takes over a second. A lookup is repeated
+                            // 1,000 times at most, which takes over a tenth of a second.
 };
 
 // The answer of a lookup, and of an update. `value` is there if the status is ok.
@@ -95,19 +96,10 @@ template <class V> class Table {
         return turns_.open(options.entries, options.shards, options.passes, options.tries);
     }
 
-    Entry look(const Identity &key) noexcept {
-        bool again = false;
-        const Answer<words> found = turns_.repeated([&](Slot<words> &slot) {
-            return std::exchange(again, true) ? slot.pass.get_or_desk(key.index) : slot.pass.get(key.index);
-        });
-        if (found.status != Status::ok) {
-            return {found.status, std::nullopt, 0};
-        }
-        if ((*found.value)[0] != key.check) {
-            return {Status::absent, std::nullopt, found.since};
-        }
-        return {Status::ok, unpacked(*found.value), found.since};
-    }
+    // A lookup for its value. If it stays busy, that is a miss.
+    Entry find(const Identity &key) noexcept { return looked(key, turns_.looks()); }
+    // A lookup for a write, which is repeated as often as a put.
+    Entry look(const Identity &key) noexcept { return looked(key, turns_.tries()); }
 
     Stored put(const Identity &key, const V &value) noexcept {
         const Words packed = pack(key, value);
@@ -178,6 +170,20 @@ template <class V> class Table {
     const Turns<words> &turns() const noexcept { return turns_; }
 
   private:
+    Entry looked(const Identity &key, uint32_t most) noexcept {
+        bool again = false;
+        const auto get = [&](Slot<words> &slot) {
+            return std::exchange(again, true) ? slot.pass.get_or_desk(key.index) : slot.pass.get(key.index);
+        };
+        const Answer<words> found = turns_.repeated(get, most);
+        if (found.status != Status::ok) {
+            return {found.status, std::nullopt, 0};
+        }
+        if ((*found.value)[0] != key.check) {
+            return {Status::absent, std::nullopt, found.since};
+        }
+        return {Status::ok, unpacked(*found.value), found.since};
+    }
     static Words pack(const Identity &key, const V &value) noexcept {
         Words packed{key.check};
         const auto own = words_from(value);
@@ -256,7 +262,7 @@ template <class K, class V, class Hash = SipHash<K>> class map {
         if (!inner_) {
             return {Status::closed, std::nullopt};
         }
-        const auto entry = inner_->table.look(inner_->identities.of(key));
+        const auto entry = inner_->table.find(inner_->identities.of(key));
         return {entry.status, entry.value};
     }
     [[nodiscard]] bool contains(Key key) const noexcept(never_throws) { return get(key).status == Status::ok; }
@@ -299,7 +305,7 @@ template <class K, class V, class Hash = SipHash<K>> class map {
         }
         const inside::Identity known = inner_->identities.of(key);
         for (;;) {
-            if (const auto entry = inner_->table.look(known); entry.value) {
+            if (const auto entry = inner_->table.find(known); entry.value) {
                 return {Status::ok, *entry.value, false};
             }
             inside::Flight flight(inner_->flights_of(known), known);
@@ -307,7 +313,7 @@ template <class K, class V, class Hash = SipHash<K>> class map {
                 continue;
             }
             // Another flight may have ended between the lookup and the begin of this one.
-            if (const auto entry = inner_->table.look(known); entry.value) {
+            if (const auto entry = inner_->table.find(known); entry.value) {
                 return {Status::ok, *entry.value, false};
             }
             const V value = function();
