@@ -28,7 +28,7 @@ use std::time::Duration;
 ///
 /// If other threads disturb a call, it tries again, a bounded number of times: at first it spins, then it yields, then it sleeps. If all
 /// tries failed, a write returns an error and has changed nothing, and [`get`] and [`contains_key`] report a miss. The forms with `try_`
-/// try once, but for [`try_get_or_insert_with`](Map::try_get_or_insert_with).
+/// try once.
 ///
 /// Once a write of a key has returned, no later lookup finds an older value of the key. That includes values that [`get_or_insert_with`]
 /// was computing when the write came.
