@@ -213,7 +213,8 @@ fn a_lookup_that_tries_more_often_finds_its_key() {
             }
         });
         let _end = End(&end);
-        let lost = (0..5_000).filter(|_| map.get(&1).is_none()).count();
+        let is_lost = |_: &i32| map.get(&1).is_none() || map.get_many(&[1; 40]) != [Some(10); 40];
+        let lost = (0..5_000).filter(is_lost).count();
         assert_eq!((lost, map.stats().busy), (0, 0));
     });
 }
