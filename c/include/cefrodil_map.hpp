@@ -35,6 +35,7 @@
 #include "cefrodil.hpp"
 #include "cefrodil_flights.hpp"
 #include "cefrodil_hash.hpp"
+#include "cefrodil_packing.hpp"
 #include "cefrodil_passes.hpp"
 #include <algorithm>
 #include <memory>
@@ -78,13 +79,12 @@ template <class V> struct Computed {
 
 namespace inside {
 
-// The entries of a map. Each has the key's check word before its value.
-template <class V> class Table {
-  public:
-    // A larger value has no map, and gets no second message from the index.
-    static constexpr size_t words = std::min<size_t>(8, 1 + words_of<V>);
-    using Words = std::array<uint64_t, words>;
+// The entries of a map.
+template <class V> class Table : private Packing<V> {
+    using Packing<V>::words, Packing<V>::pack, Packing<V>::value_of;
+    using typename Packing<V>::Words;
 
+  public:
     // What is under a key's number. ok: the key's value, and the moment of its put. absent: if `since` is not 0, another key's entry is there.
     struct Entry {
         Status status;
@@ -98,6 +98,23 @@ template <class V> class Table {
 
     // A lookup for its value. If it stays busy, that is a miss.
     Entry find(const Identity &key) noexcept { return looked(key, turns_.looks()); }
+    // The same for a few keys, by one call of the index. Sets the values that are there. A key that is busy is looked up again by itself.
+    static constexpr size_t few = 32;
+    void find_few(const Identity *keys, size_t count, std::optional<V> *values) noexcept {
+        std::array<uint64_t, few> indices;
+        std::array<Words, few> found;
+        std::array<cefrodil_answer, few> answers;
+        std::transform(keys, keys + count, indices.begin(), [](const Identity &key) { return key.index; });
+        // An open pass has an answer for each key.
+        static_cast<void>(turns_.call([&](Slot<words> &slot) { return slot.pass.get_many(indices.data(), count, found.data(), answers.data()); }));
+        for (size_t i = 0; i < count; i++) {
+            if (answers[i].status == CEFRODIL_OK) {
+                values[i] = value_of(keys[i], found[i]);
+            } else if (answers[i].status == CEFRODIL_BUSY) {
+                values[i] = find(keys[i]).value;
+            }
+        }
+    }
     // A lookup for a write, which is repeated as often as a put.
     Entry look(const Identity &key) noexcept { return looked(key, turns_.tries()); }
 
@@ -179,21 +196,8 @@ template <class V> class Table {
         if (found.status != Status::ok) {
             return {found.status, std::nullopt, 0};
         }
-        if ((*found.value)[0] != key.check) {
-            return {Status::absent, std::nullopt, found.since};
-        }
-        return {Status::ok, unpacked(*found.value), found.since};
-    }
-    static Words pack(const Identity &key, const V &value) noexcept {
-        Words packed{key.check};
-        const auto own = words_from(value);
-        std::copy(own.begin(), own.end(), packed.begin() + 1);
-        return packed;
-    }
-    static V unpacked(const Words &packed) noexcept {
-        std::array<uint64_t, words_of<V>> own;
-        std::copy(packed.begin() + 1, packed.end(), own.begin());
-        return object_from<V>(own);
+        const std::optional<V> value = value_of(key, *found.value);
+        return {value ? Status::ok : Status::absent, value, found.since};
     }
 
     // Whether the entry is another one than was looked up.
@@ -266,6 +270,18 @@ template <class K, class V, class Hash = SipHash<K>> class map {
         return {entry.status, entry.value};
     }
     [[nodiscard]] bool contains(Key key) const noexcept(never_throws) { return get(key).status == Status::ok; }
+    // Writes to `values` what `find` returns for each of `count` keys, with fewer calls of the index. `Each` is what a call takes as a key: of a map
+    // of strings, std::string or std::string_view. Returns how many keys were found.
+    template <class Each> size_t find_many(const Each *keys, size_t count, std::optional<V> *values) const noexcept(never_throws) {
+        std::array<inside::Identity, inside::Table<V>::few> known;
+        std::fill_n(values, count, std::nullopt);
+        for (size_t begin = 0; inner_ && begin < count; begin += known.size()) {
+            const size_t few = std::min(count - begin, known.size());
+            std::transform(keys + begin, keys + begin + few, known.begin(), [&](const Each &key) { return inner_->identities.of(key); });
+            inner_->table.find_few(known.data(), few, values + begin);
+        }
+        return static_cast<size_t>(std::count_if(values, values + count, [](const std::optional<V> &value) { return value.has_value(); }));
+    }
 
     // Puts a key that is absent. present: it is there, and keeps its value. no_path, all_recent, spent: it is absent, and was not put. held, busy,
     // changed: other threads were first each time, and nothing was done: call again. closed.

@@ -242,7 +242,9 @@ template <size_t Words> class Turns {
         return passes_.open(shape, shards, passes);
     }
 
-    // Makes a call by this thread's slot, or by the shared one, until it is neither busy nor held.
+    // Makes a call by this thread's slot, or by the shared one.
+    template <class Call> auto call(Call made) noexcept { return passes_.call(made); }
+    // The same, until it is neither busy nor held.
     template <class Call> auto repeated(Call call) noexcept { return repeated(call, tries_); }
     template <class Call> auto repeated(Call call, uint32_t most) noexcept {
         auto answer = passes_.call(call);

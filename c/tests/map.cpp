@@ -45,6 +45,8 @@ struct Throwing {
 };
 template <class Any> Any &any() noexcept;
 static_assert(noexcept(any<Texts>().find("")) && noexcept(any<Texts>().get("")) && noexcept(any<Texts>().contains("")));
+static_assert(noexcept(any<Texts>().find_many(&any<std::string>(), 1, &any<std::optional<uint64_t>>())));
+static_assert(!noexcept(any<map<int, int, Throwing>>().find_many(&any<int>(), 1, &any<std::optional<int>>())));
 static_assert(noexcept(any<Texts>().insert("", 1)) && noexcept(any<Texts>().insert_or_assign("", 1)) && noexcept(any<Texts>().erase("")));
 static_assert(noexcept(any<Texts>().open({1})) && noexcept(any<Texts>().clear()) && noexcept(any<Texts>().close()) && noexcept(any<Texts>().meter()));
 static_assert(noexcept(any<const Texts>().size()) && noexcept(any<const Texts>().capacity()) && noexcept(any<const Texts>().is_open()));
@@ -56,6 +58,9 @@ static void openings() {
     MUST(numbers.open({100, 4, 1025}) == Status::bad_readers && !numbers.is_open() && numbers.capacity() == 0);
     MUST(numbers.find(1) == std::nullopt && numbers.get(1).status == Status::closed && !numbers.contains(1) && numbers.size() == 0);
     MUST(numbers.insert(1, 1).status == Status::closed && numbers.insert_or_assign(1, 1).status == Status::closed);
+    std::optional<uint64_t> found[2] = {1, 2};
+    const uint64_t keys[2] = {1, 2};
+    MUST(numbers.find_many(keys, 2, found) == 0 && !found[0] && !found[1]);
     MUST(numbers.erase(1) == Status::closed && numbers.clear() == Status::closed && numbers.close() == Status::closed);
     MUST(numbers.update(1, [](uint64_t n) { return n; }).status == Status::closed && numbers.meter().counts().hits == 0);
     MUST(numbers.update_or_insert(1, 1, [](uint64_t n) { return n; }).status == Status::closed);
@@ -123,6 +128,7 @@ class Model {
         case 8: return update(key, true);
         case 5: return compute(key);
         case 6: MUST(map_.contains(key) == seen(key).has_value()); return;
+        case 9: return find_many(key, next_random() % 100);
         case 7: return next_random() % 256 == 0 ? clear() : void();
         default: (void)seen(key); return;
         }
@@ -170,6 +176,23 @@ class Model {
             plain_[key] = number_;
         }
         MUST((stored.status == Status::ok || there) == seen(key).has_value());
+    }
+    // Each value is that of its key, and no value is written behind them.
+    void find_many(uint64_t key, size_t count) {
+        uint64_t keys[100];
+        std::optional<Version> values[101];
+        for (uint64_t i = 0; i < count; i++) {
+            keys[i] = (key + i * i) % 200;
+        }
+        std::fill_n(values, 101, Version{99, 98, {97, 96}});
+        size_t found = 0;
+        MUST(map_.find_many(keys, count, values) <= count);
+        for (size_t i = 0; i < count; i++) {
+            const auto one = seen(keys[i]);
+            found += one.has_value();
+            MUST(one.has_value() == values[i].has_value() && (!one || (is_of(keys[i], *values[i]) && values[i]->number == one->number)));
+        }
+        MUST(map_.find_many(keys, count, values) == found && values[count]->key == 99);
     }
     void erase(uint64_t key) {
         const bool there = seen(key).has_value();
@@ -247,6 +270,9 @@ template <class Hash> static void collisions() {
     map<uint64_t, uint64_t, Hash> narrow;
     MUST(narrow.open({100}) == Status::ok && narrow.insert(1, 10).status == Status::ok && narrow.find(1) == 10u);
     MUST(!narrow.find(5) && narrow.get(5).status == Status::absent && !narrow.contains(9));
+    const uint64_t keys[3] = {5, 1, 9};
+    std::optional<uint64_t> found[3];
+    MUST(narrow.find_many(keys, 3, found) == 1 && !found[0] && found[1] == 10u && !found[2]);
     MUST(narrow.erase(5) == Status::absent && narrow.find(1) == 10u && narrow.size() == 1);
     MUST(narrow.update(5, [](uint64_t) { return uint64_t(0); }).status == Status::absent && narrow.find(1) == 10u);
     const Stored taken = narrow.insert(5, 50);
@@ -282,6 +308,11 @@ static void texts() {
     MUST(texts.size() == 41 && texts.find("") == 0u && texts.find(std::string_view()) == 0u && texts.erase("") == Status::ok && !texts.find(""));
     MUST(texts.insert("name", 7).status == Status::ok && texts.find("name") == 7u && texts.find(std::string("name")) == 7u);
     map<std::string_view, int> views;
+    const std::string_view names[3] = {"name", "none", std::string_view(text.data(), 40)};
+    const std::string strings[2] = {"none", "name"};
+    std::optional<uint64_t> found[3];
+    MUST(texts.find_many(names, 3, found) == 2 && found[0] == 7u && !found[1] && found[2] == 40u);
+    MUST(texts.find_many(strings, 2, found) == 1 && !found[0] && found[1] == 7u && texts.find_many(strings, 0, found) == 0 && found[1] == 7u);
     MUST(views.open({10}) == Status::ok && views.insert(std::string("gone"), 1).status == Status::ok && views.find("gone") == 1);
 }
 

@@ -24,9 +24,19 @@ static cefrodil_status some_put(cefrodil_handle *pass, uint64_t key, const uint6
     *reply = cefrodil_reply{};
     return is_disturbed() ? cefrodil_status(CEFRODIL_HELD) : cefrodil_put_of_width(pass, key, value, words, reply);
 }
+// Each key counts as a call.
+static cefrodil_status some_get_many(cefrodil_handle *pass, const uint64_t *keys, size_t count, uint64_t *values, size_t words,
+                                     cefrodil_answer *answers, size_t answer_count) {
+    const cefrodil_status status = cefrodil_get_many_or_none(pass, keys, count, values, words, answers, answer_count);
+    for (size_t i = 0; i < count; i++) {
+        answers[i].status = is_disturbed() ? uint32_t(CEFRODIL_BUSY) : answers[i].status;
+    }
+    return status;
+}
 #define cefrodil_get_of_width some_get
 #define cefrodil_get_or_desk_of_width some_get_or_desk
 #define cefrodil_put_of_width some_put
+#define cefrodil_get_many_or_none some_get_many
 #include "cefrodil_map.hpp"
 
 using cefrodil::Status;
@@ -90,10 +100,29 @@ static void lookups() {
     MUST(map.erase(1) == Status::busy && made == 10001 && waited(193, 9800) && map.find(1) == 10);
 }
 
+// Of many keys, those that are busy are looked up again.
+static void many_keys() {
+    cefrodil::map<int, int> map;
+    MUST(map.open({100}) == Status::ok && map.insert(1, 10).status == Status::ok && map.insert(2, 20).status == Status::ok);
+    int keys[50];
+    std::optional<int> values[50];
+    for (int i = 0; i < 50; i++) {
+        keys[i] = 1 + i % 3;
+    }
+    for (uint32_t busy : {0, 1, 31, 32}) {
+        disturb(busy);
+        MUST(map.find_many(keys, 50, values) == 34 && made == 50 + busy && waited(0, 0));
+        for (int i = 0; i < 50; i++) {
+            MUST(keys[i] == 3 ? !values[i] : values[i] == 10 * keys[i]);
+        }
+    }
+}
+
 int main() {
     waits();
     calls({100}, 10000, 193, 9800);
     calls({100, 16, 64, 50}, 50, 43, 0);
     lookups();
+    many_keys();
     return outcome("waits");
 }
