@@ -5,6 +5,7 @@ use crate::flight::Flights;
 use crate::inner::Inner;
 use crate::map::Map;
 use crate::pass::AnyPass;
+use crate::print::Printer;
 use crate::slots::Slots;
 use crate::wait::TRIES;
 use crate::words::{Layout, MOST};
@@ -42,7 +43,7 @@ pub struct Builder<K: ?Sized, V, S = RandomState> {
     capacity: usize,
     shards: Option<u32>,
     threads: usize,
-    hasher: S,
+    printer: Printer<S>,
     life: Option<Duration>,
     entries: PhantomData<fn(&K) -> V>,
 }
@@ -50,8 +51,8 @@ pub struct Builder<K: ?Sized, V, S = RandomState> {
 impl<K: ?Sized, V> Builder<K, V> {
     /// For a map of at least this many entries.
     pub fn new(capacity: usize) -> Builder<K, V> {
-        let hasher = RandomState::new();
-        Builder { capacity, shards: None, threads: THREADS, hasher, life: None, entries: PhantomData }
+        let printer = Printer::once(RandomState::new());
+        Builder { capacity, shards: None, threads: THREADS, printer, life: None, entries: PhantomData }
     }
 }
 
@@ -71,10 +72,11 @@ impl<K: ?Sized, V, S> Builder<K, V, S> {
     }
 
     /// What hashes the keys. Each key is hashed twice, with different prefixes. Two keys with the same two hashes are one key to the map, so
-    /// all 64 bits must be well spread. If an enemy may choose keys, take a keyed hasher. The default is std's, which is keyed.
+    /// all 64 bits must be well spread. If an enemy may choose keys, take a keyed hasher. The default is std's, which is keyed, and hashes each
+    /// key once.
     pub fn hasher<T>(self, hasher: T) -> Builder<K, V, T> {
-        let Builder { capacity, shards, threads, hasher: _, life, entries } = self;
-        Builder { capacity, shards, threads, hasher, life, entries }
+        let Builder { capacity, shards, threads, printer: _, life, entries } = self;
+        Builder { capacity, shards, threads, printer: Printer::twice(hasher), life, entries }
     }
 
     /// How long a value lives, unless it is put with another time. Each entry then keeps a deadline, so a value has at most 48 bytes; a
@@ -127,7 +129,7 @@ impl<K: ?Sized, V: Copy + Send + Sync + 'static, S: BuildHasher> Builder<K, V, S
             slots: Arc::new(Slots::new(passes)),
             flights: Flights::new(),
             clock: Clock::new(),
-            hasher: self.hasher,
+            printer: self.printer,
             life: self.life,
             tries,
         }))

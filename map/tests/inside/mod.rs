@@ -3,4 +3,5 @@ mod disturbed;
 mod expiry;
 mod fills;
 mod places;
+mod prints;
 mod slots;
