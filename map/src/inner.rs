@@ -3,6 +3,7 @@ use crate::clock::{Clock, NEVER};
 use crate::error::{GetError, InsertError, RemoveError};
 use crate::flight::Flights;
 use crate::map::Inserted;
+use crate::pass::AnyPass;
 use crate::print::Print;
 use crate::slots::Slots;
 use crate::stats::Kind;
@@ -14,7 +15,7 @@ use std::sync::Arc;
 use std::time::Duration;
 
 pub(crate) struct Inner<V, S> {
-    pub slots: Arc<Slots>,
+    pub slots: Arc<Slots<AnyPass>>,
     pub flights: Flights<V>,
     pub clock: Clock,
     pub hasher: S,

@@ -11,6 +11,7 @@ mod inner;
 mod map;
 mod pass;
 mod print;
+mod settings;
 mod slots;
 mod stats;
 mod update;
