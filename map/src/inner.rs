@@ -9,7 +9,7 @@ use crate::slots::Slots;
 use crate::stats::Kind;
 use crate::wait::{in_turn, within, LOOKS};
 use crate::words::{Entry, Layout, Words, MOST};
-use cefrodil::{Put, PutIfError, Reply, TurnError};
+use cefrodil::{PutIfError, Reply, TurnError};
 use std::hash::{BuildHasher, Hash};
 use std::sync::Arc;
 use std::time::Duration;
@@ -121,24 +121,6 @@ impl<V: Copy, S: BuildHasher> Inner<V, S> {
         why
     }
 
-    /// Counts a put.
-    pub fn stored(&self, put: Put) -> Inserted {
-        let inserted = match put {
-            Put::Stored { evicted: None, .. } => Inserted::New,
-            Put::Stored { evicted: Some(_), .. } => Inserted::Evicted,
-            _ => Inserted::Renewed,
-        };
-        if let Inserted::Renewed = inserted {
-            self.slots.count(Kind::Renewed);
-        } else {
-            self.slots.count(Kind::Added);
-        }
-        if let Inserted::Evicted = inserted {
-            self.slots.count(Kind::Evicted);
-        }
-        inserted
-    }
-
     pub fn insert<Q: Hash + ?Sized>(
         &self,
         key: &Q,
@@ -150,7 +132,7 @@ impl<V: Copy, S: BuildHasher> Inner<V, S> {
         let words = self.words(print, value, self.deadline(life));
         self.flights.detach(print);
         match in_turn(tries, || self.slots.call(|pass| pass.put(print.key, &words))) {
-            Ok(put) => Ok(self.stored(put)),
+            Ok(put) => Ok(self.slots.count_put(put)),
             Err(why) => Err(self.refused(InsertError::of(why))),
         }
     }

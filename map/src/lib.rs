@@ -9,6 +9,8 @@ mod error;
 mod flight;
 mod inner;
 mod map;
+#[cfg(feature = "objects")]
+mod objects;
 mod pass;
 mod print;
 mod settings;
@@ -25,4 +27,6 @@ mod inside;
 pub use builder::Builder;
 pub use error::{ClearError, GetError, InsertError, OpenError, RemoveError, UpdateError};
 pub use map::{Inserted, Map};
+#[cfg(feature = "objects")]
+pub use objects::{AbsentError, IfError, Look, ObjectBuilder, ObjectMap, Put, Reason, Refused};
 pub use stats::Stats;

@@ -18,6 +18,12 @@ impl Print {
     pub fn of<Q: Hash + ?Sized>(hasher: &impl BuildHasher, key: &Q) -> Print {
         Print { key: hash(hasher, KEY, key), check: hash(hasher, CHECK, key) }
     }
+
+    /// That of all keys with this hash, in a map that compares keys.
+    #[cfg(feature = "objects")]
+    pub fn of_hash(hash: u64) -> Print {
+        Print { key: hash, check: 0 }
+    }
 }
 
 fn hash<Q: Hash + ?Sized>(hasher: &impl BuildHasher, prefix: u64, key: &Q) -> u64 {

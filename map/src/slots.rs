@@ -2,7 +2,9 @@
 //!
 //! A thread claims a slot, and keeps its index until it ends. If all slots are claimed, a thread uses the shared pass, under a mutex, and
 //! tries to claim a slot again at its next call.
+use crate::map::Inserted;
 use crate::stats::{Counts, Kind, Stats};
+use cefrodil::Put;
 use std::cell::{Cell, RefCell};
 use std::iter::once;
 use std::panic::RefUnwindSafe;
@@ -78,6 +80,20 @@ impl<P: 'static> Slots<P> {
             Some(slot) => slot.counts.add_alone(kind),
             None => self.shared_counts.add(kind),
         }
+    }
+
+    /// Counts a put.
+    pub fn count_put(self: &Arc<Self>, put: Put) -> Inserted {
+        let inserted = match put {
+            Put::Stored { evicted: None, .. } => Inserted::New,
+            Put::Stored { evicted: Some(_), .. } => Inserted::Evicted,
+            _ => Inserted::Renewed,
+        };
+        self.count(if let Inserted::Renewed = inserted { Kind::Renewed } else { Kind::Added });
+        if let Inserted::Evicted = inserted {
+            self.count(Kind::Evicted);
+        }
+        inserted
     }
 
     pub fn stats(&self) -> Stats {
