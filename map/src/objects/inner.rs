@@ -81,7 +81,8 @@ impl<K, V, S> ObjectInner<K, V, S> {
             // it when no call is pinned that may have found the object. So nothing borrows it, and nothing else makes a `Box` of it.
             let object = unsafe { Box::from_raw(Object::<K, V>::pointer(word)) };
             if let Err(panic) = catch_unwind(AssertUnwindSafe(|| drop(object))) {
-                mem::forget(panic); // its own destructor might panic
+                // What it panicked with may panic when it is dropped, too.
+                mem::forget(catch_unwind(AssertUnwindSafe(|| drop(panic))));
             }
         }
     }

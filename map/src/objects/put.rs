@@ -106,8 +106,8 @@ where
         Err(inner.refuse(*object, AbsentError::Contended))
     }
 
-    /// Replaces the key's value if its last put was at the moment `since`, as a lookup of this key returned it. Returns the moment of the
-    /// new put. `life`: a time to live of its own.
+    /// Replaces the key's value if its last put was at the moment `since`, as a lookup of this key returned it. `life`: a time to live of its
+    /// own.
     ///
     /// # Errors
     ///

@@ -1,5 +1,9 @@
 //! Values that are counted: what was made, and how often each was dropped.
 use std::sync::atomic::{AtomicU32, AtomicU64, Ordering::SeqCst};
+use std::sync::Mutex;
+
+// All ledgers, for tools that look for leaks.
+static ALL: Mutex<Vec<&Ledger>> = Mutex::new(Vec::new());
 
 /// The values of a test, by number. It is never freed, so a value that is dropped twice is counted, too.
 pub struct Ledger {
@@ -20,7 +24,9 @@ pub struct Owned {
 impl Ledger {
     pub fn new(most: usize) -> &'static Ledger {
         let drops = (0..most).map(|_| AtomicU32::new(0)).collect();
-        Box::leak(Box::new(Ledger { drops, made: AtomicU64::new(0), wrong: AtomicU64::new(0) }))
+        let ledger: &Ledger = Box::leak(Box::new(Ledger { drops, made: AtomicU64::new(0), wrong: AtomicU64::new(0) }));
+        ALL.lock().unwrap().push(ledger);
+        ledger
     }
 
     pub fn make(&'static self, key: u64) -> Owned {
