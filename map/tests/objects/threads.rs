@@ -146,21 +146,21 @@ fn what_is_added_replaces_nothing() {
         }
     };
     let map = ObjectMap::<u64, u64>::builder(1_000).listener(hear).open().unwrap();
-    let added = AtomicU64::new(0);
-    in_threads(THREADS, |thread| {
-        let mut seed = thread + 1;
-        for number in 0..15_000 {
-            let key = next(&mut seed) % 2;
-            match next(&mut seed) % 3 {
-                0 => done(map.insert(key, number).unwrap()),
-                1 => done(map.remove(&key).unwrap()),
-                _ => {
-                    ADDS.set(true);
-                    let put = map.insert_if_absent(key, number).map_err(|refused| refused.why);
-                    ADDS.set(false);
-                    assert!(put != Ok(Inserted::Renewed));
-                    added.fetch_add(u64::from(put.is_ok()), SeqCst);
-                }
+    let (added, end) = (AtomicU64::new(0), Instant::now() + Duration::from_millis(700));
+    in_threads(2 * THREADS, |thread| {
+        for number in 0.. {
+            if thread % 2 == 0 {
+                map.insert(1, number).unwrap();
+                map.remove(&1).unwrap();
+            } else {
+                ADDS.set(true);
+                let put = map.insert_if_absent(1, number).map_err(|refused| refused.why);
+                ADDS.set(false);
+                assert!(put != Ok(Inserted::Renewed));
+                added.fetch_add(u64::from(put.is_ok()), SeqCst);
+            }
+            if number % 64 == 0 && Instant::now() > end {
+                break;
             }
         }
     });
