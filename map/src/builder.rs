@@ -6,6 +6,7 @@ use crate::inner::Inner;
 use crate::map::Map;
 use crate::pass::AnyPass;
 use crate::print::Printer;
+use crate::settings::Settings;
 use crate::slots::Slots;
 use crate::wait::TRIES;
 use crate::words::{Layout, MOST};
@@ -16,16 +17,6 @@ use std::hash::BuildHasher;
 use std::marker::PhantomData;
 use std::sync::Arc;
 use std::time::Duration;
-
-/// How many threads have a pass of their own, by default.
-const THREADS: usize = 64;
-
-/// How many entries a shard has at least, and how many shards there are at most, by default.
-const ENTRIES_OF_A_SHARD: usize = 1024;
-const MOST_SHARDS: usize = 16;
-
-/// A shard of fewer entries gets four times the buckets. Without them, up to one new key in a hundred finds no place.
-const SMALL: u32 = 256;
 
 /// Chooses how a map is opened.
 ///
@@ -40,19 +31,14 @@ const SMALL: u32 = 256;
 /// ```
 #[must_use = "a builder opens nothing before `open`"]
 pub struct Builder<K: ?Sized, V, S = RandomState> {
-    capacity: usize,
-    shards: Option<u32>,
-    threads: usize,
-    printer: Printer<S>,
-    life: Option<Duration>,
+    settings: Settings<S>,
     entries: PhantomData<fn(&K) -> V>,
 }
 
 impl<K: ?Sized, V> Builder<K, V> {
     /// For a map of at least this many entries.
     pub fn new(capacity: usize) -> Builder<K, V> {
-        let printer = Printer::once(RandomState::new());
-        Builder { capacity, shards: None, threads: THREADS, printer, life: None, entries: PhantomData }
+        Builder { settings: Settings::new(capacity), entries: PhantomData }
     }
 }
 
@@ -60,14 +46,14 @@ impl<K: ?Sized, V, S> Builder<K, V, S> {
     /// How many shards: a power of two, 1 to 256. Threads that write to different shards don't wait for each other. Each shard evicts for
     /// itself, and several shards together have more room than was asked for. The default is one for each 1,024 entries, 16 at most.
     pub fn shards(mut self, shards: u32) -> Self {
-        self.shards = Some(shards);
+        self.settings.shards = Some(shards);
         self
     }
 
     /// How many threads at a time have a pass of their own, at most 1,023. A thread keeps its pass from its first call to its end. Further
     /// threads share one more pass, and wait for each other. The default is 64.
     pub fn threads(mut self, threads: usize) -> Self {
-        self.threads = threads;
+        self.settings.threads = threads;
         self
     }
 
@@ -75,8 +61,7 @@ impl<K: ?Sized, V, S> Builder<K, V, S> {
     /// all 64 bits must be well spread. If an enemy may choose keys, take a keyed hasher. The default is std's, which is keyed, and hashes each
     /// key once.
     pub fn hasher<T>(self, hasher: T) -> Builder<K, V, T> {
-        let Builder { capacity, shards, threads, printer: _, life, entries } = self;
-        Builder { capacity, shards, threads, printer: Printer::twice(hasher), life, entries }
+        Builder { settings: self.settings.hasher(hasher), entries: PhantomData }
     }
 
     /// How long a value lives, unless it is put with another time. Each entry then keeps a deadline, so a value has at most 48 bytes; a
@@ -97,7 +82,7 @@ impl<K: ?Sized, V, S> Builder<K, V, S> {
     /// ```
     pub fn time_to_live(mut self, life: Duration) -> Self {
         const { assert!(Layout::Timed.width::<V>() <= MOST, "in a map with a time to live, a value has at most 48 bytes") };
-        self.life = Some(life);
+        self.settings.life = Some(life);
         self
     }
 }
@@ -109,45 +94,31 @@ impl<K: ?Sized, V: Copy + Send + Sync + 'static, S: BuildHasher> Builder<K, V, S
     ///
     /// The first [`OpenError`] that applies.
     pub fn open(self) -> Result<Map<K, V, S>, OpenError> {
-        let shards = self.shards.unwrap_or_else(|| shards_for(self.capacity));
-        let capacity = u32::try_from(self.capacity).unwrap_or(u32::MAX);
-        let shape = if shards == 1 { Shape::for_items(capacity) } else { Shape::for_shards(capacity, shards) };
-        let mut shape = shape.map_err(OpenError::of)?;
-        if shape.items < SMALL {
-            shape.buckets *= 4;
-        }
+        let (shape, shards) = self.settings.shape()?;
         self.open_shaped(&shape, shards, TRIES)
     }
 
     /// Opens the map with shards of this shape, and calls that try so often.
     pub(crate) fn open_shaped(self, shape: &Shape, shards: u32, tries: u32) -> Result<Map<K, V, S>, OpenError> {
         const { assert!(Layout::Plain.width::<V>() <= MOST, "a value has at most 56 bytes") };
-        let width = Layout::of(self.life).width::<V>();
-        let mut passes = AnyPass::open(width, shape, shards, self.threads.saturating_add(1)).map_err(OpenError::of)?;
+        let count = self.settings.passes();
+        let Settings { hasher, once, life, .. } = self.settings;
+        let width = Layout::of(life).width::<V>();
+        let mut passes = AnyPass::open(width, shape, shards, count).map_err(OpenError::of)?;
         Ok(Map::of(Inner {
             capacity: passes[0].capacity(),
             slots: Arc::new(Slots::new(passes)),
             flights: Flights::new(),
             clock: Clock::new(),
-            printer: self.printer,
-            life: self.life,
+            printer: if once { Printer::once(hasher) } else { Printer::twice(hasher) },
+            life,
             tries,
         }))
     }
 }
 
-fn shards_for(capacity: usize) -> u32 {
-    let shards = (capacity / ENTRIES_OF_A_SHARD).clamp(1, MOST_SHARDS);
-    1 << shards.ilog2()
-}
-
 impl<K: ?Sized, V, S> Debug for Builder<K, V, S> {
     fn fmt(&self, text: &mut Formatter) -> fmt::Result {
-        text.debug_struct("Builder")
-            .field("capacity", &self.capacity)
-            .field("shards", &self.shards)
-            .field("threads", &self.threads)
-            .field("time_to_live", &self.life)
-            .finish_non_exhaustive()
+        self.settings.fmt("Builder", text)
     }
 }

@@ -129,11 +129,11 @@ impl ClearError {
     }
 }
 
-const BUSY: &str = "writes disturbed each lookup";
-const HELD: &str = "other threads held the shard's turn";
-const CONTENDED: &str = "other threads changed the key each time";
+pub(crate) const BUSY: &str = "writes disturbed each lookup";
+pub(crate) const HELD: &str = "other threads held the shard's turn";
+pub(crate) const CONTENDED: &str = "other threads changed the key each time";
 const NO_MEMORY: &str = "out of memory";
-const SPENT: &str = "the shard has made all its changes";
+pub(crate) const SPENT: &str = "the shard has made all its changes";
 
 impl Display for OpenError {
     fn fmt(&self, text: &mut Formatter) -> fmt::Result {

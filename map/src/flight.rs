@@ -112,12 +112,16 @@ impl<V: Copy> Leader<'_, V> {
     /// Ends the flight with this value, which is put first, unless a write has detached the flight. `put` returns the value that the key
     /// has then.
     pub fn end(self, value: V, put: impl FnOnce() -> V) -> V {
-        let stripe = lock(self.flights.stripe(self.flight.print));
-        let attached = stripe.iter().any(|flight| Arc::ptr_eq(flight, &self.flight));
-        let value = if attached { put() } else { value };
-        drop(stripe);
+        let value = self.put(put).unwrap_or(value);
         *lock(&self.flight.outcome) = Outcome::Value(value);
         value
+    }
+
+    /// Makes this put, unless a write has detached the flight. No write can detach it meanwhile.
+    pub fn put<T>(&self, put: impl FnOnce() -> T) -> Option<T> {
+        let stripe = lock(self.flights.stripe(self.flight.print));
+        let attached = stripe.iter().any(|flight| Arc::ptr_eq(flight, &self.flight));
+        attached.then(put)
     }
 }
 

@@ -3,19 +3,19 @@ use crate::clock::{Clock, NEVER};
 use crate::error::{GetError, InsertError, RemoveError};
 use crate::flight::Flights;
 use crate::map::Inserted;
-use crate::pass::MANY;
+use crate::pass::{AnyPass, MANY};
 use crate::print::{Print, Printer};
 use crate::slots::Slots;
 use crate::stats::Kind;
 use crate::wait::{in_turn, within, LOOKS};
 use crate::words::{Entry, Layout, Words, MOST};
-use cefrodil::{Put, PutIfError, Reply, TurnError};
+use cefrodil::{PutIfError, Reply, TurnError};
 use std::hash::{BuildHasher, Hash};
 use std::sync::Arc;
 use std::time::Duration;
 
 pub(crate) struct Inner<V, S> {
-    pub slots: Arc<Slots>,
+    pub slots: Arc<Slots<AnyPass>>,
     pub flights: Flights<V>,
     pub clock: Clock,
     pub printer: Printer<S>,
@@ -138,24 +138,6 @@ impl<V: Copy, S: BuildHasher> Inner<V, S> {
         why
     }
 
-    /// Counts a put.
-    pub fn stored(&self, put: Put) -> Inserted {
-        let inserted = match put {
-            Put::Stored { evicted: None, .. } => Inserted::New,
-            Put::Stored { evicted: Some(_), .. } => Inserted::Evicted,
-            _ => Inserted::Renewed,
-        };
-        if let Inserted::Renewed = inserted {
-            self.slots.count(Kind::Renewed);
-        } else {
-            self.slots.count(Kind::Added);
-        }
-        if let Inserted::Evicted = inserted {
-            self.slots.count(Kind::Evicted);
-        }
-        inserted
-    }
-
     pub fn insert<Q: Hash + ?Sized>(
         &self,
         key: &Q,
@@ -167,7 +149,7 @@ impl<V: Copy, S: BuildHasher> Inner<V, S> {
         let words = self.words(print, value, self.deadline(life));
         self.flights.detach(print);
         match in_turn(tries, || self.slots.call(|pass| pass.put(print.key, &words))) {
-            Ok(put) => Ok(self.stored(put)),
+            Ok(put) => Ok(self.slots.count_put(put)),
             Err(why) => Err(self.refused(InsertError::of(why))),
         }
     }

@@ -9,8 +9,11 @@ mod error;
 mod flight;
 mod inner;
 mod map;
+#[cfg(feature = "objects")]
+mod objects;
 mod pass;
 mod print;
+mod settings;
 mod slots;
 mod stats;
 mod update;
@@ -24,4 +27,6 @@ mod inside;
 pub use builder::Builder;
 pub use error::{ClearError, GetError, InsertError, OpenError, RemoveError, UpdateError};
 pub use map::{Inserted, Map};
+#[cfg(feature = "objects")]
+pub use objects::{AbsentError, IfError, Look, ObjectBuilder, ObjectMap, Put, Reason, Refused};
 pub use stats::Stats;

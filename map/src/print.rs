@@ -10,6 +10,14 @@ pub(crate) struct Print {
     pub check: u64,
 }
 
+#[cfg(feature = "objects")]
+impl Print {
+    /// That of all keys with this hash, in a map that compares keys.
+    pub fn of_hash(hash: u64) -> Print {
+        Print { key: hash, check: 0 }
+    }
+}
+
 /// How keys are hashed.
 pub(crate) struct Printer<S> {
     hasher: S,

@@ -2,8 +2,9 @@
 //!
 //! A thread claims a slot, and keeps its index until it ends. If all slots are claimed, a thread uses the shared pass, under a mutex, and
 //! tries to claim a slot again at its next call.
-use crate::pass::AnyPass;
+use crate::map::Inserted;
 use crate::stats::{Counts, Kind, Stats};
+use cefrodil::Put;
 use std::cell::{Cell, RefCell};
 use std::iter::once;
 use std::panic::RefUnwindSafe;
@@ -11,21 +12,21 @@ use std::sync::atomic::{AtomicU64, AtomicUsize, Ordering::Relaxed};
 use std::sync::{Arc, Mutex, MutexGuard, PoisonError, Weak};
 
 /// The passes of a map.
-pub(crate) struct Slots {
+pub(crate) struct Slots<P> {
     // No two maps of a process have the same one.
     id: u64,
-    slots: Box<[Slot]>,
+    slots: Box<[Slot<P>]>,
     // The indices of slots that no thread has claimed, and how many they are.
     free: Mutex<Vec<usize>>,
     free_count: AtomicUsize,
-    shared: Mutex<AnyPass>,
+    shared: Mutex<P>,
     shared_counts: Counts,
 }
 
 /// What one thread uses. The alignment keeps slots of different threads in different cache lines.
 #[repr(align(128))]
-struct Slot {
-    pass: RefCell<AnyPass>,
+struct Slot<P> {
+    pass: RefCell<P>,
     counts: Counts,
 }
 
@@ -33,23 +34,23 @@ struct Slot {
 // claimed (`mine`). At most one thread has claimed a slot: its index begins in `free`, `take_free` takes it out for the thread that claims
 // it, and it goes back at that thread's end (`Claims::drop`). The thread doesn't use it again: by then `LAST` is reset, and `CLAIMS` can
 // not be reached any more. `LAST` is never of another map, since ids differ. The mutex of `free` orders what two threads do with a slot
-// one after the other, and an `AnyPass` may move to another thread (`Send`).
-unsafe impl Sync for Slot {}
+// one after the other, and the pass may move to another thread (`Send`).
+unsafe impl<P: Send> Sync for Slot<P> {}
 
 // A call that panics leaves its pass usable.
-impl RefUnwindSafe for Slot {}
+impl<P> RefUnwindSafe for Slot<P> {}
 
 /// Locks the mutex, also if a thread panicked that had locked it. Nothing here is left half done by a panic.
 pub(crate) fn lock<T>(mutex: &Mutex<T>) -> MutexGuard<'_, T> {
     mutex.lock().unwrap_or_else(PoisonError::into_inner)
 }
 
-impl Slots {
+impl<P: 'static> Slots<P> {
     /// The last pass is the shared one; each other is in a slot. There must be one at least.
-    pub fn new(mut passes: Vec<AnyPass>) -> Slots {
+    pub fn new(mut passes: Vec<P>) -> Slots<P> {
         static NEXT: AtomicU64 = AtomicU64::new(1);
         let shared = passes.pop().expect("opening makes one pass at least");
-        let slots: Box<[Slot]> = passes.into_iter().map(Slot::new).collect();
+        let slots: Box<[Slot<P>]> = passes.into_iter().map(Slot::new).collect();
         Slots {
             id: NEXT.fetch_add(1, Relaxed),
             free: Mutex::new((0..slots.len()).rev().collect()),
@@ -62,7 +63,7 @@ impl Slots {
 
     /// Makes one call by the thread's own pass, or by the shared one.
     #[inline]
-    pub fn call<T>(self: &Arc<Self>, call: impl FnOnce(&mut AnyPass) -> T) -> T {
+    pub fn call<T>(self: &Arc<Self>, call: impl FnOnce(&mut P) -> T) -> T {
         // A slot's pass is borrowed only if `call` were to call this: then the shared one is used.
         match self.mine().and_then(|slot| slot.pass.try_borrow_mut().ok()) {
             Some(mut pass) => call(&mut pass),
@@ -81,16 +82,39 @@ impl Slots {
         }
     }
 
+    /// Counts a put.
+    pub fn count_put(self: &Arc<Self>, put: Put) -> Inserted {
+        let inserted = match put {
+            Put::Stored { evicted: None, .. } => Inserted::New,
+            Put::Stored { evicted: Some(_), .. } => Inserted::Evicted,
+            _ => Inserted::Renewed,
+        };
+        self.count(if let Inserted::Renewed = inserted { Kind::Renewed } else { Kind::Added });
+        if let Inserted::Evicted = inserted {
+            self.count(Kind::Evicted);
+        }
+        inserted
+    }
+
     pub fn stats(&self) -> Stats {
         Stats::sum(self.slots.iter().map(|slot| &slot.counts).chain(once(&self.shared_counts)))
     }
 
     /// The slot that this thread has claimed, or claims now.
     #[inline]
-    fn mine(self: &Arc<Self>) -> Option<&Slot> {
+    fn mine(self: &Arc<Self>) -> Option<&Slot<P>> {
+        self.slots.get(self.index()?)
+    }
+
+    /// The index of that slot. No two threads have the same one at a time.
+    #[inline]
+    pub fn index(self: &Arc<Self>) -> Option<usize> {
         let (id, index) = LAST.get();
-        let index = if id == self.id { index } else { self.find()? };
-        self.slots.get(index)
+        if id == self.id {
+            Some(index)
+        } else {
+            self.find()
+        }
     }
 
     #[cold]
@@ -100,7 +124,9 @@ impl Slots {
         LAST.set((self.id, index));
         Some(index)
     }
+}
 
+impl<P> Slots<P> {
     fn take_free(&self) -> Option<usize> {
         if self.free_count.load(Relaxed) == 0 {
             return None;
@@ -110,7 +136,14 @@ impl Slots {
         self.free_count.store(free.len(), Relaxed);
         index
     }
+}
 
+/// Slots of any kind of passes.
+trait Home {
+    fn give_back(&self, index: usize);
+}
+
+impl<P> Home for Slots<P> {
     fn give_back(&self, index: usize) {
         let mut free = lock(&self.free);
         free.push(index);
@@ -118,16 +151,17 @@ impl Slots {
     }
 }
 
-impl Slot {
-    fn new(pass: AnyPass) -> Slot {
+impl<P> Slot<P> {
+    fn new(pass: P) -> Slot<P> {
         Slot { pass: RefCell::new(pass), counts: Counts::default() }
     }
 }
 
 /// A slot that this thread has claimed.
 struct Claim {
+    id: u64,
     index: usize,
-    slots: Weak<Slots>,
+    slots: Weak<dyn Home>,
 }
 
 /// All slots that this thread has claimed, of any map.
@@ -140,15 +174,17 @@ thread_local! {
 }
 
 impl Claims {
-    fn find(&self, slots: &Arc<Slots>) -> Option<usize> {
+    fn find<P: 'static>(&self, slots: &Arc<Slots<P>>) -> Option<usize> {
         let mut claims = self.0.try_borrow_mut().ok()?;
-        if let Some(claim) = claims.iter().find(|claim| claim.slots.as_ptr() == Arc::as_ptr(slots)) {
+        if let Some(claim) = claims.iter().find(|claim| claim.id == slots.id) {
             return Some(claim.index);
         }
         let index = slots.take_free()?;
         // Claims of maps that are gone.
         claims.retain(|claim| claim.slots.strong_count() > 0);
-        claims.push(Claim { index, slots: Arc::downgrade(slots) });
+        // In two steps, since only a `Weak` of a known type becomes one of any type.
+        let home: Weak<Slots<P>> = Arc::downgrade(slots);
+        claims.push(Claim { id: slots.id, index, slots: home });
         Some(index)
     }
 }

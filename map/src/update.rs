@@ -160,7 +160,7 @@ impl<V: Copy, S: BuildHasher> Inner<V, S> {
     fn put_absent(&self, print: Print, words: &Words, tries: u32) -> Result<bool, InsertError> {
         match in_turn(tries, || self.slots.call(|pass| pass.put_if_absent(print.key, words))) {
             Ok(put) => {
-                self.stored(put);
+                self.slots.count_put(put);
                 Ok(true)
             }
             Err(TurnError::Call(PutIfAbsentError::Present { .. })) => Ok(false),

@@ -2,6 +2,8 @@
 mod disturbed;
 mod expiry;
 mod fills;
+#[cfg(feature = "objects")]
+mod objects;
 mod places;
 mod prints;
 mod slots;

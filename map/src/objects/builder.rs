@@ -1,0 +1,152 @@
+//! How a map of objects is opened, and who hears of the objects that leave it.
+use super::epochs::Epochs;
+use super::inner::{ObjectInner, Stripe};
+use super::map::ObjectMap;
+use crate::clock::Clock;
+use crate::error::OpenError;
+use crate::flight::Flights;
+use crate::settings::Settings;
+use crate::slots::Slots;
+use crate::wait::TRIES;
+use cefrodil::{Shape, Shards};
+use std::collections::hash_map::RandomState;
+use std::fmt::{self, Debug, Formatter};
+use std::hash::{BuildHasher, Hash};
+use std::marker::PhantomData;
+use std::sync::Arc;
+use std::time::Duration;
+
+pub(crate) const STRIPES: usize = 64;
+
+/// Why an object left the map.
+#[derive(Clone, Copy, Debug, PartialEq, Eq, Hash)]
+#[non_exhaustive]
+pub enum Reason {
+    /// It gave way to a new key.
+    Evicted,
+    /// Another value was put in its place: of its own key, or of one with the same hash.
+    Replaced,
+    /// A call removed it.
+    Removed,
+    /// It had expired before one of these happened.
+    Expired,
+}
+
+/// Who hears of each object that leaves.
+pub(crate) struct Listener<K, V>(Box<Call<K, V>>);
+
+type Call<K, V> = dyn Fn(&K, &V, Reason) + Send + Sync;
+
+impl<K, V> Listener<K, V> {
+    pub fn call(&self, key: &K, value: &V, reason: Reason) {
+        (self.0)(key, value, reason);
+    }
+}
+
+/// Chooses how a map of objects is opened.
+///
+/// ```
+/// use cefrodil_map::ObjectMap;
+///
+/// let names = ObjectMap::<String, Vec<u8>>::builder(10_000)
+///     .listener(|key, _, reason| println!("{key} has left: {reason:?}"))
+///     .open()?;
+/// names.insert("one".into(), vec![1])?;
+/// assert_eq!(names.get("one"), Some(vec![1]));
+/// # Ok::<(), Box<dyn std::error::Error>>(())
+/// ```
+#[must_use = "a builder opens nothing before `open`"]
+pub struct ObjectBuilder<K, V, S = RandomState> {
+    settings: Settings<S>,
+    listener: Option<Listener<K, V>>,
+}
+
+impl<K, V> ObjectBuilder<K, V> {
+    /// For a map of at least this many entries.
+    pub fn new(capacity: usize) -> ObjectBuilder<K, V> {
+        ObjectBuilder { settings: Settings::new(capacity), listener: None }
+    }
+}
+
+impl<K, V, S> ObjectBuilder<K, V, S> {
+    /// As [`Builder::shards`](crate::Builder::shards).
+    pub fn shards(mut self, shards: u32) -> Self {
+        self.settings.shards = Some(shards);
+        self
+    }
+
+    /// As [`Builder::threads`](crate::Builder::threads).
+    pub fn threads(mut self, threads: usize) -> Self {
+        self.settings.threads = threads;
+        self
+    }
+
+    /// What hashes the keys, once each. Of two keys with the same hash the map holds one, so all 64 bits must be well spread. If an enemy
+    /// may choose keys, take a keyed hasher. The default is std's, which is keyed.
+    pub fn hasher<T>(self, hasher: T) -> ObjectBuilder<K, V, T> {
+        ObjectBuilder { settings: self.settings.hasher(hasher), listener: self.listener }
+    }
+
+    /// How long a value lives, unless it is put with another time. `Duration::MAX` never ends, and `Duration::ZERO` is over at once. By
+    /// default a value lives for ever. The clock is as [`Builder::time_to_live`](crate::Builder::time_to_live) says.
+    ///
+    /// A put begins the time anew. [`update`](ObjectMap::update) and [`modify`](ObjectMap::modify) of a value don't.
+    pub fn time_to_live(mut self, life: Duration) -> Self {
+        self.settings.life = Some(life);
+        self
+    }
+
+    /// Who hears of each object that leaves the map, once. The thread whose call made it leave calls `listener` before that call returns. It
+    /// hears nothing when the map is dropped.
+    ///
+    /// `listener` may call the map. A put by it may make another object leave, and then it is called again. A listener that owns a clone of
+    /// the map keeps it for ever. If `listener` panics, so does the call, which has made its change.
+    pub fn listener(mut self, listener: impl Fn(&K, &V, Reason) + Send + Sync + 'static) -> Self {
+        self.listener = Some(Listener(Box::new(listener)));
+        self
+    }
+}
+
+impl<K, V, S> ObjectBuilder<K, V, S>
+where
+    K: Hash + Eq + Send + Sync + 'static,
+    V: Send + Sync + 'static,
+    S: BuildHasher,
+{
+    /// Opens the map. This takes all memory for its index. Each object takes its own when it is put.
+    ///
+    /// # Errors
+    ///
+    /// The first [`OpenError`] that applies.
+    pub fn open(self) -> Result<ObjectMap<K, V, S>, OpenError> {
+        let (shape, shards) = self.settings.shape()?;
+        self.open_shaped(&shape, shards, TRIES)
+    }
+
+    /// Opens the map with shards of this shape, and calls that try so often.
+    pub(crate) fn open_shaped(self, shape: &Shape, shards: u32, tries: u32) -> Result<ObjectMap<K, V, S>, OpenError> {
+        let count = self.settings.passes();
+        let mut passes = Shards::open(shape, shards, count).map_err(OpenError::of)?;
+        let Settings { hasher, life, threads, .. } = self.settings;
+        let inner = ObjectInner {
+            capacity: passes[0].capacity(),
+            slots: Arc::new(Slots::new(passes)),
+            epochs: Epochs::new(threads),
+            flights: Flights::new(),
+            stripes: (0..STRIPES).map(|_| Stripe::default()).collect(),
+            clock: Clock::new(),
+            hasher,
+            life,
+            tries,
+            listener: self.listener,
+            objects: PhantomData,
+        };
+        Ok(ObjectMap { inner: Arc::new(inner) })
+    }
+}
+
+impl<K, V, S> Debug for ObjectBuilder<K, V, S> {
+    fn fmt(&self, text: &mut Formatter) -> fmt::Result {
+        self.settings.fmt("ObjectBuilder", text)
+    }
+}

@@ -1,0 +1,113 @@
+//! Puts that depend on the value that is there.
+use super::inner::ObjectInner;
+use super::map::ObjectMap;
+use super::object::Object;
+use super::put::{Fail, Put};
+use crate::error::UpdateError;
+use std::borrow::Borrow;
+use std::hash::{BuildHasher, Hash};
+use std::time::Duration;
+
+impl<K, V, S> ObjectMap<K, V, S>
+where
+    K: Hash + Eq + Send + Sync + 'static,
+    V: Send + Sync + 'static,
+    S: BuildHasher,
+{
+    /// Puts what `change` makes of the key's value. No other write of the key comes between: if another thread is first, `change` is called
+    /// again with what is there then. A value that is there keeps its deadline. The entry counts as used lately.
+    ///
+    /// `change` may run several times. It may use other keys of the map. It must not write its own key: then another write always comes
+    /// between, and the call ends with [`UpdateError::Contended`]. If the entry is evicted, `change` begins anew with `None`.
+    ///
+    /// # Errors
+    ///
+    /// [`UpdateError`]: this call changed nothing.
+    pub fn update(&self, key: K, change: impl FnMut(Option<&V>) -> V) -> Result<Put, UpdateError> {
+        self.inner.update(key, change).map_err(|why| self.inner.refused(why))
+    }
+
+    /// Like [`update`](Self::update), if the key has a value. `None`: it has none, and nothing was put. The deadline stays.
+    ///
+    /// # Errors
+    ///
+    /// [`UpdateError`]: this call changed nothing.
+    pub fn modify<Q: Hash + Eq + ?Sized>(&self, key: &Q, change: impl FnMut(&V) -> V) -> Result<Option<Put>, UpdateError>
+    where
+        K: Borrow<Q> + Clone,
+    {
+        self.inner.modify(key, None, change).map_err(|why| self.inner.refused(why))
+    }
+
+    /// Like [`modify`](Self::modify), and the entry's time to live begins anew with `life`. A removal that comes between is not undone. If
+    /// the value stays the same, [`touch`](Self::touch) is quicker.
+    ///
+    /// # Errors
+    ///
+    /// [`UpdateError`]: this call changed nothing.
+    pub fn modify_for<Q: Hash + Eq + ?Sized>(
+        &self,
+        key: &Q,
+        life: Duration,
+        change: impl FnMut(&V) -> V,
+    ) -> Result<Option<Put>, UpdateError>
+    where
+        K: Borrow<Q> + Clone,
+    {
+        self.inner.modify(key, Some(life), change).map_err(|why| self.inner.refused(why))
+    }
+}
+
+impl<K: Hash + Eq, V, S: BuildHasher> ObjectInner<K, V, S> {
+    fn update(&self, mut key: K, mut change: impl FnMut(Option<&V>) -> V) -> Result<Put, UpdateError> {
+        let hash = self.hash(&key);
+        for _ in 0..self.tries {
+            let pinned = self.pin();
+            let (seen, over) = pinned.place(hash, &key).ok_or(UpdateError::Busy)?;
+            let value = change(seen.map(|seen| &seen.object.value));
+            let object = Object::new(key, value, self.deadline(None));
+            self.detach(hash);
+            let put = match seen {
+                Some(seen) => self.put_over_seen(&pinned, hash, object, seen),
+                None => self.put_over(hash, object, over),
+            };
+            drop(pinned);
+            match put {
+                Ok(done) => return Ok(self.end(done)),
+                Err((_, Fail::Insert(why))) => return Err(why.into()),
+                Err((object, _)) => key = object.key,
+            }
+        }
+        Err(UpdateError::Contended)
+    }
+
+    fn modify<Q: Hash + Eq + ?Sized>(
+        &self,
+        key: &Q,
+        anew: Option<Duration>,
+        mut change: impl FnMut(&V) -> V,
+    ) -> Result<Option<Put>, UpdateError>
+    where
+        K: Borrow<Q> + Clone,
+    {
+        let hash = self.hash(key);
+        for _ in 0..self.tries {
+            let pinned = self.pin();
+            let (Some(seen), over) = pinned.place(hash, key).ok_or(UpdateError::Busy)? else { return Ok(None) };
+            let value = change(&seen.object.value);
+            let object = Object::new(seen.object.key.clone(), value, self.deadline(anew));
+            self.detach(hash);
+            let put = match anew {
+                Some(_) => self.put_over(hash, object, over),
+                None => self.put_over_seen(&pinned, hash, object, seen),
+            };
+            drop(pinned);
+            match put {
+                Ok(done) => return Ok(Some(self.end(done))),
+                Err((_, Fail::Insert(why))) => return Err(why.into()),
+                Err(_) => {}
+            }
+        }
+        Err(UpdateError::Contended)
+    }
+}

@@ -1,0 +1,152 @@
+//! A value that is computed where the map has none.
+use super::inner::ObjectInner;
+use super::map::ObjectMap;
+use super::object::Object;
+use super::put::Fail;
+use crate::error::GetError;
+use crate::flight::{Boarding, Leader};
+use crate::print::Print;
+use crate::stats::Kind;
+use std::borrow::Borrow;
+use std::convert::Infallible;
+use std::hash::{BuildHasher, Hash};
+
+impl<K, V, S> ObjectMap<K, V, S>
+where
+    K: Hash + Eq + Send + Sync + 'static,
+    V: Clone + Send + Sync + 'static,
+    S: BuildHasher,
+{
+    /// The key's value, or else the value that `make` makes, of which a clone is put. Threads that want the same key meanwhile wait, and
+    /// then look it up again. If they don't find it, one of them calls its own `make`.
+    ///
+    /// - If the key is written or removed while `make` runs, the map keeps that, and the value that was made isn't put: it may be older.
+    ///   The call returns the value that was written, or if there is none, the one that was made. Calls that begin after the write don't wait
+    ///   for this one.
+    /// - If the value finds no place, the call returns it all the same. `refused` of [`stats`](Self::stats) counts this.
+    /// - If `make` calls this for the same key, or one with the same hash, the inner call only returns its value.
+    /// - Two threads wait forever if the `make` of each wants the value that the other one computes.
+    pub fn get_or_insert_with<Q>(&self, key: &Q, make: impl FnOnce() -> V) -> V
+    where
+        K: Borrow<Q>,
+        Q: Hash + Eq + ToOwned<Owned = K> + ?Sized,
+    {
+        let Ok(value) = self.get_or_try_insert_with(key, || Ok::<V, Infallible>(make()));
+        value
+    }
+
+    /// Like [`get_or_insert_with`](Self::get_or_insert_with), with a `make` that may fail. Then nothing is put, and one of the threads that
+    /// wait calls its own.
+    ///
+    /// # Errors
+    ///
+    /// That of `make`.
+    pub fn get_or_try_insert_with<Q, E>(&self, key: &Q, make: impl FnOnce() -> Result<V, E>) -> Result<V, E>
+    where
+        K: Borrow<Q>,
+        Q: Hash + Eq + ToOwned<Owned = K> + ?Sized,
+    {
+        let inner = &self.inner;
+        let hash = inner.hash(key);
+        let mut found = inner.get(hash, key);
+        loop {
+            if let Some(value) = found {
+                return Ok(value);
+            }
+            match inner.flights.board(Print::of_hash(hash)) {
+                Boarding::First(leader) => return inner.compute(hash, key, &leader, make),
+                Boarding::Within => return make(),
+                Boarding::Other(flight) => {
+                    let _ = flight.wait();
+                    found = inner.find(hash, key);
+                }
+            }
+        }
+    }
+
+    /// Like [`get_or_insert_with`](Self::get_or_insert_with), but doesn't wait for another thread that computes the value. It looks the key
+    /// up and puts the value with as many tries.
+    ///
+    /// # Errors
+    ///
+    /// [`GetError::Computing`].
+    pub fn try_get_or_insert_with<Q>(&self, key: &Q, make: impl FnOnce() -> V) -> Result<V, GetError>
+    where
+        K: Borrow<Q>,
+        Q: Hash + Eq + ToOwned<Owned = K> + ?Sized,
+    {
+        let inner = &self.inner;
+        let hash = inner.hash(key);
+        if let Some(value) = inner.get(hash, key) {
+            return Ok(value);
+        }
+        match inner.flights.board(Print::of_hash(hash)) {
+            Boarding::First(leader) => {
+                let Ok(value) = inner.compute(hash, key, &leader, || Ok::<V, Infallible>(make()));
+                Ok(value)
+            }
+            Boarding::Within => Ok(make()),
+            Boarding::Other(_) => Err(GetError::Computing),
+        }
+    }
+}
+
+impl<K: Eq, V: Clone, S> ObjectInner<K, V, S> {
+    // A lookup that is counted.
+    fn get<Q: Eq + ?Sized>(&self, hash: u64, key: &Q) -> Option<V>
+    where
+        K: Borrow<Q>,
+    {
+        let pinned = self.pin();
+        self.count(pinned.look(hash, key, self.looks()))?.value().found().cloned()
+    }
+
+    // A lookup that isn't.
+    fn find<Q: Eq + ?Sized>(&self, hash: u64, key: &Q) -> Option<V>
+    where
+        K: Borrow<Q>,
+    {
+        self.pin().look(hash, key, self.looks())?.value().found().cloned()
+    }
+
+    /// Makes the value as the leader of a flight.
+    pub fn compute<Q, E>(&self, hash: u64, key: &Q, leader: &Leader<()>, make: impl FnOnce() -> Result<V, E>) -> Result<V, E>
+    where
+        K: Borrow<Q>,
+        Q: Eq + ToOwned<Owned = K> + ?Sized,
+    {
+        // An earlier flight may have ended since this thread looked the key up.
+        if let Some(value) = self.find(hash, key) {
+            return Ok(value);
+        }
+        let value = make()?;
+        let object = Object::new(key.to_owned(), value.clone(), self.deadline(None));
+        Ok(self.fill(hash, object, leader).unwrap_or(value))
+    }
+
+    // Puts the object where its key has none, unless a write has detached the flight. If the key has another by now, returns its value.
+    // The lock under which flights are detached is held for the put alone, while no code of the caller runs.
+    fn fill(&self, hash: u64, mut object: Box<Object<K, V>>, leader: &Leader<()>) -> Option<V> {
+        for _ in 0..self.tries {
+            let pinned = self.pin();
+            let over = match pinned.place(hash, &object.key) {
+                Some((Some(seen), _)) => return Some(seen.object.value.clone()),
+                Some((None, over)) => over,
+                None => break,
+            };
+            drop(pinned);
+            let mut offered = Some(object);
+            let put = leader.put(|| self.put_over(hash, offered.take().expect("it is put once"), over))?;
+            match put {
+                Ok(done) => {
+                    self.end(done);
+                    return None;
+                }
+                Err((_, Fail::Insert(_))) => break,
+                Err((back, _)) => object = back,
+            }
+        }
+        self.slots.count(Kind::Refused);
+        None
+    }
+}

@@ -1,0 +1,128 @@
+//! What all clones of a map of objects share, and how an object leaves.
+use super::builder::{Listener, Reason};
+use super::epochs::Epochs;
+use super::object::Object;
+use crate::clock::{Clock, NEVER};
+use crate::flight::Flights;
+use crate::print::Print;
+use crate::slots::Slots;
+use crate::stats::Kind;
+use crate::wait::{in_turn, LOOKS};
+use cefrodil::Pass;
+use std::hash::{BuildHasher, Hash};
+use std::marker::PhantomData;
+use std::mem;
+use std::panic::{catch_unwind, AssertUnwindSafe};
+use std::sync::{Arc, Mutex};
+use std::time::Duration;
+
+/// How often the last clone tries to list the objects that it frees. Nobody else has the turn then.
+const LISTS: u32 = 100;
+
+pub(crate) struct ObjectInner<K, V, S> {
+    pub slots: Arc<Slots<Pass<'static, 1>>>,
+    pub epochs: Epochs,
+    pub flights: Flights<()>,
+    /// A call locks its key's stripe if it puts a key whatever is there, if it puts one that must be absent, or if it moves or keeps a
+    /// deadline.
+    pub stripes: Box<[Stripe]>,
+    pub clock: Clock,
+    pub hasher: S,
+    /// The time to live of what is put.
+    pub life: Option<Duration>,
+    pub capacity: usize,
+    /// How often a call tries.
+    pub tries: u32,
+    pub listener: Option<Listener<K, V>>,
+    pub objects: PhantomData<Object<K, V>>,
+}
+
+/// Some keys, by their hash. Each is in a cache line of its own.
+#[derive(Default)]
+#[repr(align(64))]
+pub(crate) struct Stripe(pub Mutex<()>);
+
+impl<K, V, S> ObjectInner<K, V, S> {
+    /// How often a lookup tries that is a miss if it stays busy.
+    pub fn looks(&self) -> u32 {
+        self.tries.min(LOOKS)
+    }
+
+    /// The deadline of a value that is put now.
+    pub fn deadline(&self, life: Option<Duration>) -> u64 {
+        life.or(self.life).map_or(NEVER, |life| self.clock.deadline(life))
+    }
+
+    /// Counts a write that failed.
+    pub fn refused<E>(&self, why: E) -> E {
+        self.slots.count(Kind::Refused);
+        why
+    }
+
+    /// Detaches the flight of the keys with this hash. A key is compared, so it needs no check word.
+    pub fn detach(&self, hash: u64) {
+        self.flights.detach(Print::of_hash(hash));
+    }
+
+    /// An object has left the index, by a call that returned its word. The listener hears of it, and it is retired.
+    pub fn left(&self, word: u64, reason: Reason) {
+        let left = Left { inner: self, word };
+        if let Some(listener) = &self.listener {
+            let object = left.object();
+            let reason = if self.clock.has_passed(object.deadline()) { Reason::Expired } else { reason };
+            listener.call(&object.key, &object.value, reason);
+        }
+    }
+
+    /// Frees these objects, which `Epochs` returned. A destructor that panics ends there: the call may be of another key, or a panic itself.
+    pub fn free(&self, words: Vec<u64>) {
+        for word in words {
+            // SAFETY: the word is one of `into_word` of these types, since it was in this map's index. `Epochs` returns a word once for each
+            // time that it was retired. That is once: an object is retired when it leaves the index, and is never put again. `Epochs` returns
+            // it when no call is pinned that may have found the object. So nothing borrows it, and nothing else makes a `Box` of it.
+            let object = unsafe { Box::from_raw(Object::<K, V>::pointer(word)) };
+            if let Err(panic) = catch_unwind(AssertUnwindSafe(|| drop(object))) {
+                // What it panicked with may panic when it is dropped, too.
+                mem::forget(catch_unwind(AssertUnwindSafe(|| drop(panic))));
+            }
+        }
+    }
+}
+
+impl<K, V, S: BuildHasher> ObjectInner<K, V, S> {
+    #[inline]
+    pub fn hash<Q: Hash + ?Sized>(&self, key: &Q) -> u64 {
+        self.hasher.hash_one(key)
+    }
+}
+
+/// An object that has left the index. It is retired when this is dropped, also by a panic.
+struct Left<'a, K, V, S> {
+    inner: &'a ObjectInner<K, V, S>,
+    word: u64,
+}
+
+impl<K, V, S> Left<'_, K, V, S> {
+    fn object(&self) -> &Object<K, V> {
+        // SAFETY: the word was in this map's index, so it is one of `into_word` of these types. It is not retired before this is dropped, so
+        // no `Box` is made of it.
+        unsafe { &*Object::pointer(self.word) }
+    }
+}
+
+impl<K, V, S> Drop for Left<'_, K, V, S> {
+    fn drop(&mut self) {
+        self.inner.free(self.inner.epochs.retire(self.word));
+    }
+}
+
+impl<K, V, S> Drop for ObjectInner<K, V, S> {
+    // No call runs any more. What is in the index is retired like what has left it, since nothing will look it up again.
+    fn drop(&mut self) {
+        let listed = in_turn(LISTS, || self.slots.call(Pass::try_entries));
+        for (_, [word]) in listed.into_iter().flatten() {
+            self.free(self.epochs.retire(word));
+        }
+        self.free(self.epochs.free_now());
+    }
+}

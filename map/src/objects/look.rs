@@ -1,0 +1,231 @@
+//! Lookups of objects.
+use super::inner::ObjectInner;
+use super::map::ObjectMap;
+use super::pinned::State;
+use crate::error::GetError;
+use crate::stats::Kind;
+use crate::wait::in_turn;
+use cefrodil::{Reply, TurnError};
+use std::borrow::Borrow;
+use std::hash::{BuildHasher, Hash};
+use std::time::Duration;
+
+/// How many keys one call of the index gets.
+const MANY: usize = 32;
+
+/// What a lookup or a removal found. `at` and `since` count the changes of the key's shard: never compare those of two keys.
+#[derive(Clone, Copy, Debug, PartialEq, Eq, Hash)]
+#[non_exhaustive]
+pub enum Look<R> {
+    /// The key has a value, and this came of it.
+    Found {
+        /// What the closure made of the value.
+        result: R,
+        /// The moment when that was true; of a removal, the moment of the removal.
+        at: u64,
+        /// The moment of the key's last put: the token for [`replace_if`](ObjectMap::replace_if) and [`remove_if`](ObjectMap::remove_if).
+        since: u64,
+    },
+    /// The key's value has expired, but it is still in the map.
+    Expired {
+        /// As in `Found`.
+        at: u64,
+        /// As in `Found`.
+        since: u64,
+    },
+    /// The key is absent.
+    Absent {
+        /// The moment when that was true.
+        at: u64,
+    },
+}
+
+impl<R> Look<R> {
+    /// What came of the value, if the key was found.
+    #[must_use]
+    pub fn found(self) -> Option<R> {
+        match self {
+            Look::Found { result, .. } => Some(result),
+            Look::Expired { .. } | Look::Absent { .. } => None,
+        }
+    }
+
+    /// With what `change` makes of what came of the value.
+    pub(crate) fn map<T>(self, change: impl FnOnce(R) -> T) -> Look<T> {
+        match self {
+            Look::Found { result, at, since } => Look::Found { result: change(result), at, since },
+            Look::Expired { at, since } => Look::Expired { at, since },
+            Look::Absent { at } => Look::Absent { at },
+        }
+    }
+}
+
+impl<K, V, S> ObjectMap<K, V, S>
+where
+    K: Hash + Eq + Send + Sync + 'static,
+    V: Send + Sync + 'static,
+    S: BuildHasher,
+{
+    /// A clone of the key's value. A value that is found counts as used lately. If a clone costs much, take [`get_with`](Self::get_with), or
+    /// an `Arc` as the value.
+    ///
+    /// `None`: the key is absent, expired or evicted, or writes disturbed the lookup for a tenth of a second, which `busy` of
+    /// [`stats`](Self::stats) counts.
+    #[inline]
+    #[must_use]
+    pub fn get<Q: Hash + Eq + ?Sized>(&self, key: &Q) -> Option<V>
+    where
+        K: Borrow<Q>,
+        V: Clone,
+    {
+        self.get_with(key, V::clone)
+    }
+
+    /// Calls `look` with the key's value, and returns what it returns. `None`: as [`get`](Self::get).
+    ///
+    /// While `look` runs, no object that leaves the map is freed, in any thread: so be quick. It may call the map.
+    #[inline]
+    pub fn get_with<Q: Hash + Eq + ?Sized, R>(&self, key: &Q, look: impl FnOnce(&V) -> R) -> Option<R>
+    where
+        K: Borrow<Q>,
+    {
+        match self.inner.look(key, self.inner.looks(), look) {
+            Ok(Look::Found { result, .. }) => Some(result),
+            _ => None,
+        }
+    }
+
+    /// Whether the key has a value, which then counts as used lately.
+    #[must_use]
+    pub fn contains_key<Q: Hash + Eq + ?Sized>(&self, key: &Q) -> bool
+    where
+        K: Borrow<Q>,
+    {
+        self.get_with(key, |_| ()).is_some()
+    }
+
+    /// Like [`get_with`](Self::get_with), with the moments of the answer. So it gives the token for a write that must not overwrite a later
+    /// one.
+    ///
+    /// # Errors
+    ///
+    /// [`GetError::Busy`], after a tenth of a second.
+    pub fn look<Q: Hash + Eq + ?Sized, R>(&self, key: &Q, look: impl FnOnce(&V) -> R) -> Result<Look<R>, GetError>
+    where
+        K: Borrow<Q>,
+    {
+        self.inner.look(key, self.inner.looks(), look)
+    }
+
+    /// Looks the keys up in order, and calls `look` with the index and the value of each that is found. Equivalent to calling
+    /// [`get_with`](Self::get_with) for each key. No object that leaves the map is freed before the call ends.
+    pub fn get_many_with<Q: Hash + Eq + ?Sized>(&self, keys: &[&Q], mut look: impl FnMut(usize, &V))
+    where
+        K: Borrow<Q>,
+    {
+        self.look_many(keys, |index, found| {
+            if let Ok(Look::Found { result, .. }) = found {
+                look(index, result);
+            }
+        });
+    }
+
+    /// Like [`look`](Self::look) of each key in order. `look` gets the index of each key and what was found.
+    pub fn look_many<Q: Hash + Eq + ?Sized>(&self, keys: &[&Q], look: impl FnMut(usize, Result<Look<&V>, GetError>))
+    where
+        K: Borrow<Q>,
+    {
+        self.inner.look_many(keys, look);
+    }
+
+    /// Begins the value's time to live anew with `life`, in place: no token changes, and nothing is copied. A removal that comes between is
+    /// not undone. `false`: the key has no value, or other threads disturbed each try.
+    pub fn touch<Q: Hash + Eq + ?Sized>(&self, key: &Q, life: Duration) -> bool
+    where
+        K: Borrow<Q>,
+    {
+        self.inner.touch(key, life)
+    }
+}
+
+impl<K: Eq, V, S: BuildHasher> ObjectInner<K, V, S> {
+    fn look<Q: Hash + Eq + ?Sized, R>(&self, key: &Q, tries: u32, look: impl FnOnce(&V) -> R) -> Result<Look<R>, GetError>
+    where
+        K: Borrow<Q>,
+    {
+        let hash = self.hash(key);
+        let pinned = self.pin();
+        let state = self.count(pinned.look(hash, key, tries)).ok_or(GetError::Busy)?;
+        Ok(state.value().map(look))
+    }
+
+    fn look_many<Q: Hash + Eq + ?Sized>(&self, keys: &[&Q], mut look: impl FnMut(usize, Result<Look<&V>, GetError>))
+    where
+        K: Borrow<Q>,
+    {
+        let pinned = self.pin();
+        for (chunk, keys) in keys.chunks(MANY).enumerate() {
+            let mut hashes = [0; MANY];
+            hashes.iter_mut().zip(keys).for_each(|(hash, key)| *hash = self.hash(*key));
+            let mut replies = [Reply::Busy; MANY];
+            self.slots.call(|pass| pass.get_many(&hashes[..keys.len()], &mut replies[..keys.len()]));
+            for (index, ((key, hash), reply)) in keys.iter().zip(hashes).zip(replies).enumerate() {
+                let state = pinned.state_or_look(hash, *key, reply, self.looks());
+                look(chunk * MANY + index, self.count(state).map(State::value).ok_or(GetError::Busy));
+            }
+        }
+    }
+
+    // The lock keeps the deadline still while another call makes an object that keeps it. No code of the caller runs under it.
+    fn touch<Q: Hash + Eq + ?Sized>(&self, key: &Q, life: Duration) -> bool
+    where
+        K: Borrow<Q>,
+    {
+        let hash = self.hash(key);
+        let pinned = self.pin();
+        for _ in 0..self.tries {
+            let Some(State::Live(seen)) = pinned.look(hash, key, self.looks()) else { return false };
+            let touched = in_turn(self.tries, || {
+                self.in_stripe(hash, |pass| match pass.get_or_desk(hash) {
+                    Reply::Found { since, .. } if since == seen.since => {
+                        seen.object.set_deadline(self.clock.deadline(life));
+                        Ok(true)
+                    }
+                    Reply::Found { .. } | Reply::Absent { .. } => Ok(false),
+                    Reply::Busy => Err(TurnError::<()>::Held),
+                })
+            });
+            match touched {
+                Ok(true) => return true,
+                Ok(false) => {}
+                Err(_) => return false,
+            }
+        }
+        false
+    }
+}
+
+impl<K, V, S> ObjectInner<K, V, S> {
+    /// Counts a lookup.
+    #[inline]
+    pub fn count<'a>(&self, state: Option<State<'a, K, V>>) -> Option<State<'a, K, V>> {
+        let kind = match &state {
+            Some(State::Live(_)) => {
+                self.slots.count(Kind::Hit);
+                return state;
+            }
+            Some(State::Absent { .. }) => Kind::Miss,
+            Some(State::Expired(_)) => Kind::Expired,
+            Some(State::Other(_)) => Kind::Collided,
+            None => {
+                self.slots.count(Kind::Busy);
+                return None;
+            }
+        };
+        self.slots.count(Kind::Miss);
+        if !matches!(kind, Kind::Miss) {
+            self.slots.count(kind);
+        }
+        state
+    }
+}

@@ -1,0 +1,113 @@
+//! The map of objects.
+use super::builder::ObjectBuilder;
+use super::inner::ObjectInner;
+use crate::error::OpenError;
+use crate::stats::Stats;
+use std::borrow::Borrow;
+use std::collections::hash_map::RandomState;
+use std::fmt::{self, Debug, Formatter};
+use std::hash::{BuildHasher, Hash};
+use std::panic::{RefUnwindSafe, UnwindSafe};
+use std::sync::Arc;
+
+/// A bounded cache from keys `K` to values `V` of any type, for any number of threads. A clone is the same map. It needs the feature
+/// `objects`.
+///
+/// The map owns its keys and values. Each pair is an object on the heap, so a lookup follows a pointer, and a put allocates. For small
+/// values that are `Copy`, a [`Map`](crate::Map) is quicker.
+///
+/// A full map evicts an entry for each new key, roughly one that was not used lately. If other threads disturb a call, it tries again, a
+/// bounded number of times. If all tries failed, a write returns an error and has changed nothing, and a put gives its key and value back.
+///
+/// Keys are compared. Of two keys with the same 64-bit hash the map holds the one that was put last. A lookup of the other is a miss, and a
+/// removal of the other removes nothing.
+///
+/// # When objects are freed
+///
+/// An object that leaves the map is freed when no call can use it any more. The destructors of keys and values run in calls that write, in
+/// any thread, and in the drop of the last clone, but never in a lookup. Up to 32 objects wait for a call that frees them: see
+/// [`free_unused`](ObjectMap::free_unused). More wait while a closure of a lookup runs. So the map's memory has no bound while a closure
+/// sleeps. A panic in a destructor ends there.
+pub struct ObjectMap<K, V, S = RandomState> {
+    pub(crate) inner: Arc<ObjectInner<K, V, S>>,
+}
+
+impl<K, V> ObjectMap<K, V>
+where
+    K: Hash + Eq + Send + Sync + 'static,
+    V: Send + Sync + 'static,
+{
+    /// Opens a map for at least this many entries, with the defaults of [`ObjectBuilder`].
+    ///
+    /// # Errors
+    ///
+    /// [`OpenError`].
+    pub fn new(capacity: usize) -> Result<ObjectMap<K, V>, OpenError> {
+        ObjectBuilder::new(capacity).open()
+    }
+
+    /// Chooses how to open a map for at least this many entries.
+    pub fn builder(capacity: usize) -> ObjectBuilder<K, V> {
+        ObjectBuilder::new(capacity)
+    }
+}
+
+impl<K, V, S> ObjectMap<K, V, S> {
+    /// The most entries that the map holds: what was asked for, or more. Shards fill unevenly, so it may evict before it has so many.
+    #[must_use]
+    pub fn capacity(&self) -> usize {
+        self.inner.capacity
+    }
+
+    /// How many entries the map has, expired ones included. While other threads write it is an estimate.
+    #[must_use]
+    pub fn len(&self) -> usize {
+        self.stats().entries()
+    }
+
+    /// Whether [`len`](Self::len) is 0.
+    #[must_use]
+    pub fn is_empty(&self) -> bool {
+        self.len() == 0
+    }
+
+    /// What the calls of all threads came to.
+    #[must_use]
+    pub fn stats(&self) -> Stats {
+        self.inner.slots.stats()
+    }
+
+    /// Frees the objects that have left the map and that no call uses. Returns how many still wait. A program whose objects are large calls
+    /// this after it has removed some.
+    pub fn free_unused(&self) -> usize {
+        self.inner.free(self.inner.epochs.free_now());
+        self.inner.epochs.waiting()
+    }
+}
+
+impl<K, V, S: BuildHasher> ObjectMap<K, V, S> {
+    /// The hash by which the map knows the key, for [`remove_stamped`](Self::remove_stamped) and for logs.
+    #[must_use]
+    pub fn hash_of<Q: Hash + ?Sized>(&self, key: &Q) -> u64
+    where
+        K: Borrow<Q>,
+    {
+        self.inner.hash(key)
+    }
+}
+
+// A call that panics leaves the map usable.
+impl<K, V, S> UnwindSafe for ObjectMap<K, V, S> {}
+impl<K, V, S> RefUnwindSafe for ObjectMap<K, V, S> {}
+
+impl<K, V, S> Clone for ObjectMap<K, V, S> {
+    fn clone(&self) -> ObjectMap<K, V, S> {
+        ObjectMap { inner: Arc::clone(&self.inner) }
+    }
+}
+
+impl<K, V, S> Debug for ObjectMap<K, V, S> {
+    fn fmt(&self, text: &mut Formatter) -> fmt::Result {
+        text.debug_struct("ObjectMap").field("len", &self.len()).field("capacity", &self.capacity()).finish_non_exhaustive()
+    }
+}

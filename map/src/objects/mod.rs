@@ -1,0 +1,23 @@
+//! Objects of any type behind the index: the map's entry is the address of an object on the heap.
+mod builder;
+mod change;
+mod compute;
+mod epochs;
+mod error;
+mod inner;
+mod look;
+mod map;
+mod object;
+mod pinned;
+mod put;
+mod remove;
+mod sweep;
+
+pub use builder::{ObjectBuilder, Reason};
+pub use error::{AbsentError, IfError, Refused};
+pub use look::Look;
+pub use map::ObjectMap;
+pub use put::Put;
+
+#[cfg(test)]
+pub(crate) use pinned::State;

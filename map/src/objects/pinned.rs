@@ -1,0 +1,151 @@
+//! A pinned call: the only way to an object in the index.
+use super::epochs::Guard;
+use super::inner::ObjectInner;
+use super::look::Look;
+use super::object::Object;
+use crate::wait::within;
+use cefrodil::Reply;
+use std::borrow::Borrow;
+
+/// No object that is found while this lives is freed before it ends.
+pub(crate) struct Pinned<'a, K, V, S> {
+    inner: &'a ObjectInner<K, V, S>,
+    _guard: Guard<'a>,
+}
+
+/// An object that was found. It was in the index at the moment `at`.
+pub(crate) struct Seen<'a, K, V> {
+    pub object: &'a Object<K, V>,
+    pub at: u64,
+    pub since: u64,
+}
+
+/// What there is under the hash of a key.
+pub(crate) enum State<'a, K, V> {
+    /// The key's object.
+    Live(Seen<'a, K, V>),
+    /// The key's object, which has expired.
+    Expired(Seen<'a, K, V>),
+    /// The object of another key with the same hash.
+    Other(Seen<'a, K, V>),
+    Absent {
+        at: u64,
+    },
+}
+
+/// Over what an object is put.
+#[derive(Clone, Copy)]
+pub(crate) enum Over {
+    /// Whatever is there.
+    Any,
+    /// Nothing.
+    Absent,
+    /// What was put at this moment.
+    At(u64),
+}
+
+impl<K, V> Clone for Seen<'_, K, V> {
+    fn clone(&self) -> Self {
+        *self
+    }
+}
+
+impl<K, V> Copy for Seen<'_, K, V> {}
+
+impl<'a, K, V> State<'a, K, V> {
+    pub fn value(self) -> Look<&'a V> {
+        match self {
+            State::Live(Seen { object, at, since }) => Look::Found { result: &object.value, at, since },
+            State::Expired(Seen { at, since, .. }) => Look::Expired { at, since },
+            State::Other(Seen { at, .. }) | State::Absent { at } => Look::Absent { at },
+        }
+    }
+}
+
+impl<K, V, S> ObjectInner<K, V, S> {
+    #[inline]
+    pub fn pin(&self) -> Pinned<'_, K, V, S> {
+        Pinned { inner: self, _guard: self.epochs.pin(self.slots.index()) }
+    }
+}
+
+impl<K, V, S> Pinned<'_, K, V, S> {
+    /// Looks the key up under its hash. `None`: each try was busy. It isn't counted.
+    #[inline]
+    pub fn look<Q: Eq + ?Sized>(&self, hash: u64, key: &Q, tries: u32) -> Option<State<'_, K, V>>
+    where
+        K: Borrow<Q>,
+    {
+        self.state_or_look(hash, key, self.inner.slots.call(|pass| pass.get(hash)), tries)
+    }
+
+    /// What the reply of a first try says; if it is busy, the key is looked up again. This must have been pinned before that try.
+    #[inline]
+    pub fn state_or_look<Q: Eq + ?Sized>(&self, hash: u64, key: &Q, first: Reply<1>, tries: u32) -> Option<State<'_, K, V>>
+    where
+        K: Borrow<Q>,
+    {
+        match first {
+            Reply::Busy => self.look_again(hash, key, tries - 1),
+            reply => self.state(reply, key),
+        }
+    }
+
+    /// The key's object, if it has one, and over what the next one of the key is put.
+    pub fn place<Q: Eq + ?Sized>(&self, hash: u64, key: &Q) -> Option<(Option<Seen<'_, K, V>>, Over)>
+    where
+        K: Borrow<Q>,
+    {
+        Some(match self.look(hash, key, self.inner.tries)? {
+            State::Live(seen) => (Some(seen), Over::At(seen.since)),
+            State::Expired(seen) | State::Other(seen) => (None, Over::At(seen.since)),
+            State::Absent { .. } => (None, Over::Absent),
+        })
+    }
+
+    /// Whether the object has expired. The word is one that the index returned to this call.
+    pub fn has_expired(&self, word: u64) -> bool {
+        self.inner.clock.has_passed(self.object(word).deadline())
+    }
+
+    #[cold]
+    fn look_again<Q: Eq + ?Sized>(&self, hash: u64, key: &Q, tries: u32) -> Option<State<'_, K, V>>
+    where
+        K: Borrow<Q>,
+    {
+        let reply = within(tries, || match self.inner.slots.call(|pass| pass.get_or_desk(hash)) {
+            Reply::Busy => None,
+            reply => Some(reply),
+        });
+        self.state(reply?, key)
+    }
+
+    #[inline]
+    fn state<Q: Eq + ?Sized>(&self, reply: Reply<1>, key: &Q) -> Option<State<'_, K, V>>
+    where
+        K: Borrow<Q>,
+    {
+        let seen = match reply {
+            Reply::Found { value: [word], at, since } => Seen { object: self.object(word), at, since },
+            Reply::Absent { at } => return Some(State::Absent { at }),
+            Reply::Busy => return None,
+        };
+        Some(if seen.object.key.borrow() != key {
+            State::Other(seen)
+        } else if self.inner.clock.has_passed(seen.object.deadline()) {
+            State::Expired(seen)
+        } else {
+            State::Live(seen)
+        })
+    }
+
+    /// The word is one that the index returned to this call after it was pinned, or one that this call puts.
+    #[inline]
+    pub fn object(&self, word: u64) -> &Object<K, V> {
+        // SAFETY: the index of this map has only words of `into_word` of the same types. So this is an object, and all others borrow it as
+        // shared. It is made a `Box` again in two places. One gets it back from a put that failed, so it was never in the index. The other
+        // (`free`) gets it when no call is pinned since before it left the index. This call was pinned before it found the object there,
+        // and stays so while `self` is borrowed. SAFETY.md has the argument in full.
+        unsafe { &*Object::pointer(word) }
+    }
+}

@@ -1,0 +1,284 @@
+//! Puts of objects.
+use super::builder::Reason;
+use super::error::{AbsentError, IfError, Refused};
+use super::inner::ObjectInner;
+use super::map::ObjectMap;
+use super::object::Object;
+use super::pinned::{Over, Pinned, Seen};
+use crate::error::InsertError;
+use crate::map::Inserted;
+use crate::wait::in_turn;
+use cefrodil::{Pass, PutError, PutIfError, Replaced, Reply, Swapped, TurnError};
+use std::hash::{BuildHasher, Hash};
+use std::sync::TryLockError;
+use std::time::Duration;
+
+/// What a put did.
+#[derive(Clone, Copy, Debug, PartialEq, Eq, Hash)]
+#[non_exhaustive]
+pub struct Put {
+    /// What it did.
+    pub did: Inserted,
+    /// The moment of the put: the `since` of later lookups.
+    pub at: u64,
+}
+
+impl<K, V, S> ObjectMap<K, V, S>
+where
+    K: Hash + Eq + Send + Sync + 'static,
+    V: Send + Sync + 'static,
+    S: BuildHasher,
+{
+    /// Puts the value. Its time to live is that of the map, if it has one, and begins now, also over a value that was there.
+    ///
+    /// # Errors
+    ///
+    /// [`Refused`]: nothing was changed, and the key and the value come back. An older value of the key stays: if it must not,
+    /// [`remove`](Self::remove) it.
+    pub fn insert(&self, key: K, value: V) -> Result<Inserted, Refused<K, V>> {
+        Ok(self.put(key, value, None)?.did)
+    }
+
+    /// Like [`insert`](Self::insert), with a time to live of its own. One that is too long to be counted never ends, and `Duration::ZERO` is
+    /// over at once.
+    ///
+    /// # Errors
+    ///
+    /// As [`insert`](Self::insert).
+    pub fn insert_for(&self, key: K, value: V, life: Duration) -> Result<Inserted, Refused<K, V>> {
+        Ok(self.put(key, value, Some(life))?.did)
+    }
+
+    /// Puts the value if the key has none, or one that has expired.
+    ///
+    /// # Errors
+    ///
+    /// [`Refused`], with an [`AbsentError`]: nothing was changed.
+    pub fn insert_if_absent(&self, key: K, value: V) -> Result<Inserted, Refused<K, V, AbsentError>> {
+        Ok(self.put_if_absent(key, value, None)?.did)
+    }
+
+    /// Like [`insert`](Self::insert), and returns the moment of the put. `life`: a time to live of its own.
+    ///
+    /// # Errors
+    ///
+    /// As [`insert`](Self::insert).
+    pub fn put(&self, key: K, value: V, life: Option<Duration>) -> Result<Put, Refused<K, V>> {
+        let inner = &self.inner;
+        let hash = inner.hash(&key);
+        let object = Object::new(key, value, inner.deadline(life));
+        inner.detach(hash);
+        match inner.put_over(hash, object, Over::Any) {
+            Ok(done) => Ok(inner.end(done)),
+            Err((object, Fail::Insert(why))) => Err(inner.refuse(*object, why)),
+            Err(_) => unreachable!("this put does not ask what is there"),
+        }
+    }
+
+    /// Like [`insert_if_absent`](Self::insert_if_absent), and returns the moment of the put. `life`: a time to live of its own.
+    ///
+    /// # Errors
+    ///
+    /// As [`insert_if_absent`](Self::insert_if_absent).
+    pub fn put_if_absent(&self, key: K, value: V, life: Option<Duration>) -> Result<Put, Refused<K, V, AbsentError>> {
+        let inner = &self.inner;
+        let hash = inner.hash(&key);
+        let mut object = Object::new(key, value, inner.deadline(life));
+        for _ in 0..inner.tries {
+            let pinned = inner.pin();
+            let over = match pinned.place(hash, &object.key) {
+                None => Err(AbsentError::Busy),
+                Some((Some(seen), _)) => Err(AbsentError::Present { since: seen.since }),
+                Some((None, over)) => Ok(over),
+            };
+            drop(pinned);
+            let over = match over {
+                Ok(over) => over,
+                Err(why) => return Err(inner.refuse(*object, why)),
+            };
+            inner.detach(hash);
+            match inner.put_over(hash, object, over) {
+                Ok(done) => return Ok(inner.end(done)),
+                Err((back, Fail::Insert(why))) => return Err(inner.refuse(*back, why.into())),
+                Err((back, _)) => object = back,
+            }
+        }
+        Err(inner.refuse(*object, AbsentError::Contended))
+    }
+
+    /// Replaces the key's value if its last put was at the moment `since`, as a lookup of this key returned it. `life`: a time to live of its
+    /// own.
+    ///
+    /// # Errors
+    ///
+    /// [`Refused`], with an [`IfError`]: nothing was changed.
+    pub fn replace_if(&self, key: K, since: u64, value: V, life: Option<Duration>) -> Result<Put, Refused<K, V, IfError>> {
+        let inner = &self.inner;
+        let hash = inner.hash(&key);
+        let object = Object::new(key, value, inner.deadline(life));
+        inner.detach(hash);
+        match inner.put_over(hash, object, Over::At(since)) {
+            Ok(done) => Ok(inner.end(done)),
+            Err((object, why)) => Err(inner.refuse(*object, why.of_moment())),
+        }
+    }
+}
+
+/// A put that was made. `end` must follow, or the object that gave way is never freed.
+#[must_use]
+pub(crate) struct Done {
+    put: Put,
+    old: Option<(u64, Reason)>,
+}
+
+/// A put, or the object that comes back.
+pub(crate) type Offered<K, V> = Result<Done, (Box<Object<K, V>>, Fail)>;
+
+/// Why no put was made.
+pub(crate) enum Fail {
+    Insert(InsertError),
+    /// The key must be absent, and is not.
+    Present,
+    NotThere {
+        at: u64,
+    },
+    Changed {
+        since: u64,
+    },
+}
+
+impl Fail {
+    fn of_moment(self) -> IfError {
+        match self {
+            Fail::NotThere { at } => IfError::NotThere { at },
+            Fail::Changed { since } => IfError::Changed { since },
+            Fail::Insert(InsertError::Spent) => IfError::Spent,
+            Fail::Insert(_) | Fail::Present => IfError::Held,
+        }
+    }
+}
+
+impl<K, V, S> ObjectInner<K, V, S> {
+    /// Puts the object over what is there now. On failure the object comes back.
+    pub fn put_over(&self, hash: u64, object: Box<Object<K, V>>, over: Over) -> Offered<K, V> {
+        self.offer(object, |word| match over {
+            Over::Any => self.put_any(hash, word),
+            Over::Absent => self.put_absent(hash, word),
+            Over::At(since) => self.put_at(hash, word, since),
+        })
+    }
+
+    /// Like `put_over`, over an object that was seen, whose deadline the new one keeps. The lock keeps renewals from coming between.
+    pub fn put_over_seen(
+        &self,
+        pinned: &Pinned<K, V, S>,
+        hash: u64,
+        object: Box<Object<K, V>>,
+        seen: Seen<K, V>,
+    ) -> Offered<K, V> {
+        self.offer(object, |word| {
+            let put = in_turn(self.tries, || {
+                self.in_stripe(hash, |pass| {
+                    pinned.object(word).set_deadline(seen.object.deadline());
+                    pass.try_swap_if(hash, seen.since, &[word])
+                })
+            });
+            self.replaced(put)
+        })
+    }
+
+    // `put` puts the word, as the last that it does with it, unless it fails.
+    fn offer(&self, object: Box<Object<K, V>>, put: impl FnOnce(u64) -> Result<Done, Fail>) -> Offered<K, V> {
+        let word = object.into_word();
+        put(word).map_err(|why| {
+            // SAFETY: `into_word` made the word of this very object. A call of the index that returns an error has put nothing, and each `put`
+            // here fails only if its last call did. So no other thread has seen the word.
+            (unsafe { Box::from_raw(Object::pointer(word)) }, why)
+        })
+    }
+
+    fn put_any(&self, hash: u64, word: u64) -> Result<Done, Fail> {
+        let put = in_turn(self.tries, || self.in_stripe(hash, |pass| pass.try_swap(hash, &[word]).map_err(failed)));
+        put.map(|swapped| self.swapped(swapped)).map_err(Fail::of)
+    }
+
+    // The lock keeps other threads from putting the key between the two calls.
+    fn put_absent(&self, hash: u64, word: u64) -> Result<Done, Fail> {
+        let put = in_turn(self.tries, || {
+            self.in_stripe(hash, |pass| match pass.get_or_desk(hash) {
+                Reply::Found { .. } => Err(TurnError::Call(Fail::Present)),
+                Reply::Busy => Err(TurnError::Held),
+                Reply::Absent { .. } => pass.try_swap(hash, &[word]).map_err(failed),
+            })
+        });
+        put.map(|swapped| self.swapped(swapped)).map_err(Fail::of)
+    }
+
+    fn put_at(&self, hash: u64, word: u64, since: u64) -> Result<Done, Fail> {
+        self.replaced(in_turn(self.tries, || self.slots.call(|pass| pass.try_swap_if(hash, since, &[word]))))
+    }
+
+    fn replaced(&self, put: Result<Replaced<1>, TurnError<PutIfError>>) -> Result<Done, Fail> {
+        match put {
+            Ok(Replaced { at, old }) => {
+                let put = Put { did: self.slots.count_put(cefrodil::Put::Renewed { at }), at };
+                Ok(Done { put, old: Some((old.value[0], Reason::Replaced)) })
+            }
+            Err(TurnError::Call(PutIfError::NotThere { at })) => Err(Fail::NotThere { at }),
+            Err(TurnError::Call(PutIfError::Changed { since })) => Err(Fail::Changed { since }),
+            Err(TurnError::Call(_)) => Err(Fail::Insert(InsertError::Spent)),
+            Err(TurnError::Held) => Err(Fail::Insert(InsertError::Held)),
+        }
+    }
+
+    /// Makes a call while no other thread makes one for a key of the same stripe.
+    pub fn in_stripe<T, E>(
+        &self,
+        hash: u64,
+        call: impl FnOnce(&mut Pass<'static, 1>) -> Result<T, TurnError<E>>,
+    ) -> Result<T, TurnError<E>> {
+        let stripe = &self.stripes[hash as usize % self.stripes.len()];
+        let _locked = match stripe.0.try_lock() {
+            Ok(locked) => locked,
+            Err(TryLockError::Poisoned(locked)) => locked.into_inner(),
+            Err(TryLockError::WouldBlock) => return Err(TurnError::Held),
+        };
+        self.slots.call(call)
+    }
+
+    fn swapped(&self, Swapped { put, old }: Swapped<1>) -> Done {
+        let (at, did) = (put.at(), self.slots.count_put(put));
+        let reason = if let Inserted::Evicted = did { Reason::Evicted } else { Reason::Replaced };
+        Done { put: Put { did, at }, old: old.map(|old| (old.value[0], reason)) }
+    }
+
+    /// Ends a put: what gave way is retired.
+    pub fn end(&self, Done { put, old }: Done) -> Put {
+        if let Some((word, reason)) = old {
+            self.left(word, reason);
+        }
+        put
+    }
+
+    /// Counts a refusal, and gives the object's parts back.
+    fn refuse<E>(&self, object: Object<K, V>, why: E) -> Refused<K, V, E> {
+        let Object { key, value, .. } = object;
+        Refused { why: self.refused(why), key, value }
+    }
+}
+
+impl Fail {
+    fn of(why: TurnError<Fail>) -> Fail {
+        match why {
+            TurnError::Held => Fail::Insert(InsertError::Held),
+            TurnError::Call(why) => why,
+        }
+    }
+}
+
+fn failed(why: TurnError<PutError>) -> TurnError<Fail> {
+    match why {
+        TurnError::Held => TurnError::Held,
+        why => TurnError::Call(Fail::Insert(InsertError::of(why))),
+    }
+}

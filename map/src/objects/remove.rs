@@ -1,0 +1,137 @@
+//! Removals of objects. Each takes out the very object that it looked at.
+use super::builder::Reason;
+use super::error::IfError;
+use super::inner::ObjectInner;
+use super::look::Look;
+use super::map::ObjectMap;
+use super::pinned::State;
+use crate::error::RemoveError;
+use crate::stats::Kind;
+use crate::wait::in_turn;
+use cefrodil::{PutIfError, TurnError};
+use std::borrow::Borrow;
+use std::hash::{BuildHasher, Hash};
+
+impl<K, V, S> ObjectMap<K, V, S>
+where
+    K: Hash + Eq + Send + Sync + 'static,
+    V: Send + Sync + 'static,
+    S: BuildHasher,
+{
+    /// Removes the key's value. Returns whether it had one. Once this has returned, no later lookup finds that value, nor one that
+    /// [`get_or_insert_with`](Self::get_or_insert_with) began to compute before this call.
+    ///
+    /// Where a removal must take effect (a logout), call again until it is `Ok`. Until then refuse the key by a set of your own that each
+    /// lookup checks.
+    ///
+    /// # Errors
+    ///
+    /// [`RemoveError`]: the value may still be there.
+    pub fn remove<Q: Hash + Eq + ?Sized>(&self, key: &Q) -> Result<bool, RemoveError>
+    where
+        K: Borrow<Q>,
+    {
+        Ok(self.remove_with(key, |_| ())?.found().is_some())
+    }
+
+    /// Like [`remove`](Self::remove). Calls `look` with the value that was removed, and returns what it returns, with the moments. An
+    /// expired value is removed, too.
+    ///
+    /// # Errors
+    ///
+    /// As [`remove`](Self::remove).
+    pub fn remove_with<Q: Hash + Eq + ?Sized, R>(&self, key: &Q, look: impl FnOnce(&V) -> R) -> Result<Look<R>, RemoveError>
+    where
+        K: Borrow<Q>,
+    {
+        self.inner.remove(key, look)
+    }
+
+    /// Removes the key's value if its last put was at the moment `since`, as a lookup of the key returned it. Returns the moment of the
+    /// removal.
+    ///
+    /// # Errors
+    ///
+    /// [`IfError`]: this call removed nothing.
+    pub fn remove_if<Q: Hash + Eq + ?Sized>(&self, key: &Q, since: u64) -> Result<u64, IfError>
+    where
+        K: Borrow<Q>,
+    {
+        self.inner.remove_if(key, since)
+    }
+
+    /// Like [`remove_if`](Self::remove_if), by the hash of the key: for a program that keeps a list of what it may evict. `hash` is from
+    /// [`hash_of`](Self::hash_of), and `since` from a lookup or put of the same key.
+    ///
+    /// # Errors
+    ///
+    /// [`IfError`]: this call removed nothing.
+    pub fn remove_stamped(&self, hash: u64, since: u64) -> Result<u64, IfError> {
+        self.inner.remove_stamped(hash, since)
+    }
+}
+
+impl<K, V, S> ObjectInner<K, V, S> {
+    /// Takes out the object under this hash if it was put at the moment `since`, and retires it. Returns the moment of the removal.
+    pub fn take_if(&self, hash: u64, since: u64, reason: Reason) -> Result<u64, TurnError<PutIfError>> {
+        let taken = in_turn(self.tries, || self.slots.call(|pass| pass.try_take_if(hash, since)))?;
+        self.slots.count(Kind::Removed);
+        self.left(taken.old.value[0], reason);
+        Ok(taken.at)
+    }
+
+    fn remove_stamped(&self, hash: u64, since: u64) -> Result<u64, IfError> {
+        self.detach(hash);
+        self.take_if(hash, since, Reason::Removed).map_err(|why| match why {
+            TurnError::Call(PutIfError::NotThere { at }) => IfError::NotThere { at },
+            TurnError::Call(PutIfError::Changed { since }) => IfError::Changed { since },
+            TurnError::Call(_) => self.refused(IfError::Spent),
+            TurnError::Held => self.refused(IfError::Held),
+        })
+    }
+}
+
+impl<K: Eq, V, S: BuildHasher> ObjectInner<K, V, S> {
+    fn remove<Q: Hash + Eq + ?Sized, R>(&self, key: &Q, look: impl FnOnce(&V) -> R) -> Result<Look<R>, RemoveError>
+    where
+        K: Borrow<Q>,
+    {
+        let hash = self.hash(key);
+        self.detach(hash);
+        for _ in 0..self.tries {
+            let pinned = self.pin();
+            let (seen, live) = match pinned.look(hash, key, self.tries) {
+                Some(State::Live(seen)) => (seen, true),
+                Some(State::Expired(seen)) => (seen, false),
+                Some(State::Other(seen)) => return Ok(Look::Absent { at: seen.at }),
+                Some(State::Absent { at }) => return Ok(Look::Absent { at }),
+                None => return Err(self.refused(RemoveError::Busy)),
+            };
+            let since = seen.since;
+            match self.take_if(hash, since, Reason::Removed) {
+                Ok(at) if live => return Ok(Look::Found { result: look(&seen.object.value), at, since }),
+                Ok(at) => return Ok(Look::Expired { at, since }),
+                Err(TurnError::Call(PutIfError::NotThere { at })) => return Ok(Look::Absent { at }),
+                Err(TurnError::Call(PutIfError::Changed { .. })) => {}
+                Err(TurnError::Call(_)) => return Err(self.refused(RemoveError::Spent)),
+                Err(TurnError::Held) => return Err(self.refused(RemoveError::Held)),
+            }
+        }
+        Err(self.refused(RemoveError::Contended))
+    }
+
+    fn remove_if<Q: Hash + Eq + ?Sized>(&self, key: &Q, since: u64) -> Result<u64, IfError>
+    where
+        K: Borrow<Q>,
+    {
+        let hash = self.hash(key);
+        match self.pin().look(hash, key, self.tries) {
+            Some(State::Live(seen) | State::Expired(seen)) if seen.since == since => {}
+            Some(State::Live(seen) | State::Expired(seen)) => return Err(IfError::Changed { since: seen.since }),
+            Some(State::Other(seen)) => return Err(IfError::NotThere { at: seen.at }),
+            Some(State::Absent { at }) => return Err(IfError::NotThere { at }),
+            None => return Err(self.refused(IfError::Busy)),
+        }
+        self.remove_stamped(hash, since)
+    }
+}

@@ -1,0 +1,73 @@
+//! Removals of many objects.
+use super::builder::Reason;
+use super::map::ObjectMap;
+use crate::error::ClearError;
+use crate::stats::Kind;
+use crate::wait::in_turn;
+use cefrodil::{Pass, PutIfError, Reply, Take, TurnError};
+
+/// How often a call tries to list the entries. A list has a turn at each shard and takes memory, so these are few.
+const LISTS: u32 = 100;
+
+impl<K, V, S> ObjectMap<K, V, S> {
+    /// Removes all entries. Once this has returned, no later lookup finds a value that was put before this call, nor one that
+    /// [`get_or_insert_with`](Self::get_or_insert_with) began to compute before it. What other threads put meanwhile may stay or go.
+    ///
+    /// It lists all entries, so it takes memory and time for as many as the map holds.
+    ///
+    /// # Errors
+    ///
+    /// [`ClearError`]: entries may be left.
+    pub fn clear(&self) -> Result<(), ClearError> {
+        self.clear_all().inspect_err(|_| self.inner.slots.count(Kind::Refused))
+    }
+
+    /// Removes the entries that have expired. Returns how many. It takes memory and time as [`clear`](Self::clear).
+    ///
+    /// # Errors
+    ///
+    /// [`ClearError`]: expired entries may be left.
+    pub fn remove_expired(&self) -> Result<usize, ClearError> {
+        self.expire_all().inspect_err(|_| self.inner.slots.count(Kind::Refused))
+    }
+
+    fn clear_all(&self) -> Result<(), ClearError> {
+        let inner = &self.inner;
+        inner.flights.detach_all();
+        for (hash, _) in self.list()? {
+            let taken = in_turn(inner.tries, || inner.slots.call(|pass| pass.try_take(hash)));
+            if let Take::Taken { old, .. } = taken.map_err(ClearError::of_removal)? {
+                inner.slots.count(Kind::Removed);
+                inner.left(old.value[0], Reason::Removed);
+            }
+        }
+        Ok(())
+    }
+
+    fn expire_all(&self) -> Result<usize, ClearError> {
+        let inner = &self.inner;
+        let pinned = inner.pin();
+        let mut removed = 0;
+        for (hash, [word]) in self.list()? {
+            if !pinned.has_expired(word) {
+                continue;
+            }
+            // The list has no moments, so the entry is looked up, and looked at again.
+            let Reply::Found { value: [word], since, .. } = inner.slots.call(|pass| pass.get(hash)) else { continue };
+            if !pinned.has_expired(word) {
+                continue;
+            }
+            match inner.take_if(hash, since, Reason::Expired) {
+                Ok(_) => removed += 1,
+                Err(TurnError::Call(PutIfError::Spent)) => return Err(ClearError::Spent),
+                Err(TurnError::Call(_)) => {}
+                Err(TurnError::Held) => return Err(ClearError::Held),
+            }
+        }
+        Ok(removed)
+    }
+
+    fn list(&self) -> Result<Vec<(u64, [u64; 1])>, ClearError> {
+        in_turn(LISTS, || self.inner.slots.call(Pass::try_entries)).map_err(ClearError::of_list)
+    }
+}

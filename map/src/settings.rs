@@ -1,0 +1,71 @@
+//! What the builders of all maps choose.
+use crate::error::OpenError;
+use cefrodil::Shape;
+use std::collections::hash_map::RandomState;
+use std::fmt::{self, Formatter};
+use std::time::Duration;
+
+/// How many threads have a pass of their own, by default.
+const THREADS: usize = 64;
+
+/// How many entries a shard has at least, and how many shards there are at most, by default.
+const ENTRIES_OF_A_SHARD: usize = 1024;
+const MOST_SHARDS: usize = 16;
+
+/// A shard of fewer entries gets four times the buckets. Without them, up to one new key in a hundred finds no place.
+const SMALL: u32 = 256;
+
+pub(crate) struct Settings<S> {
+    pub capacity: usize,
+    pub shards: Option<u32>,
+    pub threads: usize,
+    pub hasher: S,
+    /// Whether a key may be hashed once for two hashes: not by a hasher of the user's.
+    pub once: bool,
+    pub life: Option<Duration>,
+}
+
+impl Settings<RandomState> {
+    pub fn new(capacity: usize) -> Settings<RandomState> {
+        Settings { capacity, shards: None, threads: THREADS, hasher: RandomState::new(), once: true, life: None }
+    }
+}
+
+impl<S> Settings<S> {
+    pub fn hasher<T>(self, hasher: T) -> Settings<T> {
+        let Settings { capacity, shards, threads, life, .. } = self;
+        Settings { capacity, shards, threads, hasher, once: false, life }
+    }
+
+    /// How many shards to open, and the shape of each.
+    pub fn shape(&self) -> Result<(Shape, u32), OpenError> {
+        let shards = self.shards.unwrap_or_else(|| shards_for(self.capacity));
+        let capacity = u32::try_from(self.capacity).unwrap_or(u32::MAX);
+        let shape = if shards == 1 { Shape::for_items(capacity) } else { Shape::for_shards(capacity, shards) };
+        let mut shape = shape.map_err(OpenError::of)?;
+        if shape.items < SMALL {
+            shape.buckets *= 4;
+        }
+        Ok((shape, shards))
+    }
+
+    /// How many passes to open: one for each thread, and one that all others share.
+    pub fn passes(&self) -> usize {
+        self.threads.saturating_add(1)
+    }
+
+    /// Writes the builder of this name.
+    pub fn fmt(&self, name: &str, text: &mut Formatter) -> fmt::Result {
+        text.debug_struct(name)
+            .field("capacity", &self.capacity)
+            .field("shards", &self.shards)
+            .field("threads", &self.threads)
+            .field("time_to_live", &self.life)
+            .finish_non_exhaustive()
+    }
+}
+
+fn shards_for(capacity: usize) -> u32 {
+    let shards = (capacity / ENTRIES_OF_A_SHARD).clamp(1, MOST_SHARDS);
+    1 << shards.ilog2()
+}
