@@ -9,24 +9,27 @@ static cefrodil_shape shape;
 /* What is done with a key before another one is evicted. */
 enum touch { NOTHING, PEEK, GET };
 
-/* Fills a cache, finds which key the next one evicts, and fills another cache in the same way. There it touches that key, and returns the key
- * that is evicted then. */
+static void put_new(cefrodil_handle *writer, uint64_t key, uint32_t put, cefrodil_reply *reply) {
+    MUST(cefrodil_put(writer, key, &key, 1, reply) == CEFRODIL_OK && reply->put == put);
+}
+
+/* Fills a cache and evicts one key, which leaves no other key used. Touches this key, and returns the key that another put evicts. */
 static uint64_t evicted_after(enum touch touch, uint64_t key) {
     cefrodil_handle writer = CEFRODIL_EMPTY, reader = CEFRODIL_EMPTY;
-    cefrodil_reply reply = {0};
+    cefrodil_reply reply;
+    uint64_t value = 0;
     MUST(cefrodil_open(&shape, 1, &writer, &reader, 1) == CEFRODIL_OK && cefrodil_close(&reader) == CEFRODIL_OK);
     for (uint64_t n = 1; n <= ITEMS; n++) {
-        MUST(cefrodil_put(&writer, n, &n, 1, &reply) == CEFRODIL_OK && reply.put == CEFRODIL_PUT_STORED);
+        put_new(&writer, n, CEFRODIL_PUT_STORED, &reply);
     }
-    uint64_t value = 0;
+    put_new(&writer, ITEMS + 1, CEFRODIL_PUT_EVICTED, &reply);
     if (touch == PEEK) {
-        MUST(cefrodil_peek(&writer, key, &value, 1, &reply) == CEFRODIL_OK && value == key && reply.at == ITEMS && reply.since == key);
+        MUST(cefrodil_peek(&writer, key, &value, 1, &reply) == CEFRODIL_OK && value == key && reply.at == ITEMS + 2 && reply.since == key);
     }
     if (touch == GET) {
         MUST(cefrodil_get(&writer, key, &value, 1, &reply) == CEFRODIL_OK && value == key);
     }
-    value = 99;
-    MUST(cefrodil_put(&writer, 99, &value, 1, &reply) == CEFRODIL_OK && reply.put == CEFRODIL_PUT_EVICTED);
+    put_new(&writer, ITEMS + 2, CEFRODIL_PUT_EVICTED, &reply);
     MUST(cefrodil_close(&writer) == CEFRODIL_OK);
     return reply.evicted;
 }
