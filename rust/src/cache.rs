@@ -4,6 +4,7 @@ use crate::error::{ListError, OpenError, PutError, PutIfAbsentError, PutIfError,
 use crate::handle::{same_version, Handle};
 use crate::memory::room;
 use crate::raw;
+use crate::reader::Reader;
 use crate::reply::{self, Entry, Put, Removal, Replaced, Reply, Swapped, Take};
 use crate::shape::Shape;
 use crate::width::Value;
@@ -34,9 +35,6 @@ pub struct Cache<const WORDS: usize>(());
 /// }
 /// ```
 pub struct Writer<const WORDS: usize>(pub(crate) Handle);
-
-/// A reader of a cache. It may move to another thread. Each call takes `&mut self`, so one thread at a time looks up by it.
-pub struct Reader<const WORDS: usize>(pub(crate) Handle);
 
 /// A cache that was opened with entries, with its writer and readers.
 #[derive(Debug)]
@@ -139,12 +137,6 @@ impl<const WORDS: usize> Cache<WORDS> {
 impl<const WORDS: usize> Debug for Writer<WORDS> {
     fn fmt(&self, text: &mut Formatter) -> fmt::Result {
         text.debug_struct("Writer").finish_non_exhaustive()
-    }
-}
-
-impl<const WORDS: usize> Debug for Reader<WORDS> {
-    fn fmt(&self, text: &mut Formatter) -> fmt::Result {
-        text.debug_struct("Reader").finish_non_exhaustive()
     }
 }
 
@@ -386,49 +378,5 @@ impl<const WORDS: usize> Writer<WORDS> {
     #[must_use]
     pub fn meter(&self) -> Meter {
         self.0.meter()
-    }
-}
-
-impl<const WORDS: usize> Reader<WORDS> {
-    /// Looks the key up. A hit marks the key as recently used.
-    #[must_use]
-    pub fn get(&mut self, key: u64) -> Reply<WORDS> {
-        let mut value = [0; WORDS];
-        let told = self.0.get(key, &mut value);
-        Reply::of(told, value)
-    }
-
-    /// Looks the keys up. Equivalent to calling [`get`](Reader::get) for each key in order: each reply has a moment of its own.
-    ///
-    /// # Panics
-    ///
-    /// If there are not as many replies as keys.
-    ///
-    /// # Examples
-    ///
-    /// ```
-    /// use cefrodil::{Cache, Reply, Shape};
-    ///
-    /// let (mut writer, mut readers) = Cache::<1>::open(&Shape::for_items(100)?, 1)?;
-    /// writer.put(7, &[70])?;
-    /// let mut replies = [Reply::Busy; 2];
-    /// readers[0].get_many(&[6, 7], &mut replies);
-    /// assert_eq!(replies, [Reply::Absent { at: 1 }, Reply::Found { value: [70], at: 1, since: 1 }]);
-    /// # Ok::<(), Box<dyn std::error::Error>>(())
-    /// ```
-    pub fn get_many(&mut self, keys: &[u64], replies: &mut [Reply<WORDS>]) {
-        reply::many(&mut self.0, keys, replies);
-    }
-
-    /// Reads what the calls by all handles of this cache came to.
-    #[must_use]
-    pub fn meter(&self) -> Meter {
-        self.0.meter()
-    }
-
-    /// The number of keys that the cache holds at most: the `items` of its shape.
-    #[must_use]
-    pub fn capacity(&mut self) -> usize {
-        reply::number(self.0.capacity()) as usize
     }
 }

@@ -1,8 +1,9 @@
 //! Why a call failed.
-use crate::cache::{Reader, Writer};
+use crate::cache::Writer;
 use crate::desk::Desk;
 use crate::memory::NoMemory;
 use crate::raw;
+use crate::reader::Reader;
 use std::error::Error;
 use std::fmt::{self, Display, Formatter};
 

@@ -19,8 +19,10 @@ mod error;
 mod filler;
 mod handle;
 mod memory;
+mod pass;
 mod pool;
 mod raw;
+mod reader;
 mod reply;
 mod shape;
 mod shards;
@@ -28,15 +30,17 @@ mod width;
 mod within;
 
 pub use audit::AuditLog;
-pub use cache::{Cache, Opened, Reader, Writer};
+pub use cache::{Cache, Opened, Writer};
 pub use counts::{prometheus, Counts, Meter};
-pub use desk::{Desk, Pass};
+pub use desk::Desk;
 pub use error::{
     EndError, ListError, NoDesk, NotEnded, OpenError, PutError, PutIfAbsentError, PutIfError, Spent, TurnError, Why,
 };
 pub use filler::{FillError, Filler, Ticket, Tickets};
 pub use handle::version;
+pub use pass::Pass;
 pub use pool::{Lent, Pool};
+pub use reader::Reader;
 pub use reply::{Entry, Put, Removal, Replaced, Reply, Swapped, Take};
 pub use shape::{Mix, Shape};
 pub use shards::Shards;

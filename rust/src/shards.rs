@@ -1,7 +1,7 @@
 //! A cache for several threads that write often.
-use crate::desk::Pass;
 use crate::error::OpenError;
 use crate::handle::Handle;
+use crate::pass::Pass;
 use crate::shape::Shape;
 use crate::width::Value;
 

@@ -1,6 +1,6 @@
 //! Calls that are made again while another thread has the turn.
-use crate::desk::Pass;
 use crate::error::TurnError;
+use crate::pass::Pass;
 
 impl<const WORDS: usize> Pass<'_, WORDS> {
     /// Makes a call again while it is held: at most `tries` times, at least once, without a pause. So do this with whatever must not be lost, as
