@@ -171,7 +171,11 @@ fn a_call_that_tries_more_often_is_not_refused() {
             failed += u32::from(map.insert(&number, number).is_err());
             failed += u32::from(map.update(&number, |old| old.unwrap_or(0) + 1).is_err());
             failed += u32::from(map.remove(&number).is_err());
-            map.get_or_insert_with(&(number + 1_000_000), || 3);
+            // The put comes some time after a turn.
+            map.get_or_insert_with(&(number + 1_000_000), || {
+                thread::sleep(Duration::from_micros(number));
+                3
+            });
             failed += u32::from(map.remove(&(number + 1_000_000)) != Ok(Some(3)));
         }
         failed += u32::from(map.clear().is_err());
