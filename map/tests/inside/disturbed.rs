@@ -1,9 +1,9 @@
 //! Calls that other threads disturb. With one try each, many fail. What fails says so, and has changed nothing.
 use crate::flight::Boarding;
-use crate::pass::AnyPass;
+use crate::pass::{AnyPass, MANY};
 use crate::wait::TRIES;
 use crate::{ClearError, GetError, InsertError, Map, RemoveError, UpdateError};
-use cefrodil::Shape;
+use cefrodil::{Reply, Shape};
 use std::sync::atomic::{AtomicBool, Ordering::SeqCst};
 use std::thread;
 use std::time::{Duration, Instant};
@@ -209,6 +209,22 @@ fn a_lookup_that_stays_busy_says_so_and_is_counted() {
 }
 
 #[test]
+fn a_busy_key_of_many_is_looked_up_again() {
+    let map = restless(TRIES);
+    let key = map.inner.print(&1_u64).key;
+    let write = || {
+        let _ = map.insert(&2, 20);
+    };
+    beside(write, |_| {
+        let mut replies = [Reply::Busy; MANY];
+        map.inner.slots.call(|pass| pass.get_many(&[key; MANY], &mut replies));
+        assert_eq!(map.get_many(&[1; 40]), [Some(10); 40]);
+        [replies.contains(&Reply::Busy)]
+    });
+    assert_eq!(map.stats().busy, 0);
+}
+
+#[test]
 fn a_lookup_that_tries_more_often_finds_its_key() {
     let map = restless(TRIES);
     let end = AtomicBool::new(false);
@@ -219,8 +235,7 @@ fn a_lookup_that_tries_more_often_finds_its_key() {
             }
         });
         let _end = End(&end);
-        let is_lost = |_: &i32| map.get(&1).is_none() || map.get_many(&[1; 40]) != [Some(10); 40];
-        let lost = (0..5_000).filter(is_lost).count();
+        let lost = (0..5_000).filter(|_| map.get(&1).is_none()).count();
         assert_eq!((lost, map.stats().busy), (0, 0));
     });
 }
