@@ -380,7 +380,7 @@ static struct Checked {
 } checked;
 
 int main() {
-    alarm(120); // so that a flight which never ends fails the test
+    alarm(240); // so that a flight which never ends fails the test
     passes();
     values(8);
     values(2);
