@@ -1,0 +1,76 @@
+//! What is stored under a key.
+use crate::clock::Clock;
+use std::sync::atomic::{AtomicBool, AtomicU64, Ordering::Relaxed};
+
+/// The value of a key, and what belongs to it.
+#[derive(Debug)]
+pub struct Item {
+    /// The client's flags.
+    pub flags: u32,
+    /// The value.
+    pub data: Box<[u8]>,
+    /// When it was stored.
+    born: u64,
+    deadline: AtomicU64,
+    is_used: AtomicBool,
+}
+
+/// Which items `flush_all` has made invalid: those that are no younger than one of these times, once it has come.
+#[derive(Debug, Default)]
+pub struct Flushes {
+    past: AtomicU64,
+    next: AtomicU64,
+}
+
+impl Item {
+    /// An item that is stored now.
+    #[must_use]
+    pub fn new(clock: &Clock, flags: u32, deadline: u64, data: Box<[u8]>) -> Item {
+        Item { flags, data, born: clock.now(), deadline: AtomicU64::new(deadline), is_used: AtomicBool::new(false) }
+    }
+
+    /// When it expires.
+    #[must_use]
+    pub fn deadline(&self) -> u64 {
+        self.deadline.load(Relaxed)
+    }
+
+    /// Moves the deadline.
+    pub fn touch(&self, deadline: u64) {
+        self.deadline.store(deadline, Relaxed);
+    }
+
+    /// Whether it has neither expired nor been flushed.
+    #[must_use]
+    pub fn is_live(&self, now: u64, flushes: &Flushes) -> bool {
+        now < self.deadline() && !flushes.have_hit(self.born, now)
+    }
+
+    /// Notes that it was read.
+    pub fn mark_used(&self) {
+        if !self.is_used.load(Relaxed) {
+            self.is_used.store(true, Relaxed);
+        }
+    }
+
+    /// Whether it was read since the last call of this.
+    pub fn take_used(&self) -> bool {
+        self.is_used.swap(false, Relaxed)
+    }
+}
+
+impl Flushes {
+    fn have_hit(&self, born: u64, now: u64) -> bool {
+        let next = self.next.load(Relaxed);
+        born <= self.past.load(Relaxed) || (next <= now && born <= next)
+    }
+
+    /// Flushes at this time. It replaces a flush that is still to come.
+    pub fn flush(&self, time: u64, now: u64) {
+        let next = self.next.load(Relaxed);
+        if next <= now {
+            self.past.fetch_max(next, Relaxed);
+        }
+        self.next.store(time, Relaxed);
+    }
+}

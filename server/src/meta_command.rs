@@ -1,0 +1,152 @@
+//! Carries meta commands out.
+use crate::command::{block, count_change, count_comparison, line, text, NOT_NUMERIC};
+use crate::counts::Count;
+use crate::meta::{Meta, Verb};
+use crate::request::{words, Change, How};
+use crate::store::{Changed, Deleted, Fault, Order, Store, Stored};
+use std::io::Write;
+
+/// What the answer's flags say of the item.
+#[derive(Default)]
+struct Facts {
+    token: Option<u64>,
+    flags: Option<u32>,
+    size: Option<usize>,
+    left: Option<i64>,
+}
+
+fn with(token: u64) -> Facts {
+    Facts { token: Some(token), ..Facts::default() }
+}
+
+/// Carries out a command whose block is this, if it has one.
+pub fn run(store: &Store, meta: &Meta, data: &[u8], out: &mut Vec<u8>) {
+    store.counts.add(Count::MetaCommands);
+    match meta.verb {
+        Verb::Get => get(store, meta, out),
+        Verb::Set => set(store, meta, data, out),
+        Verb::Delete => delete(store, meta, out),
+        Verb::Arithmetic => change(store, meta, out),
+    }
+}
+
+fn get(store: &Store, meta: &Meta, out: &mut Vec<u8>) {
+    let deadline = meta.expiry.map(|expiry| store.clock.deadline(expiry));
+    let mut is_found = false;
+    store.look(&[meta.key], deadline, |_, item, token| {
+        is_found = true;
+        let size = Some(item.data.len());
+        let facts = Facts { token: Some(token), flags: Some(item.flags), size, left: Some(store.clock.left(item.deadline())) };
+        if meta.with_value {
+            text!(out, "VA {}", item.data.len());
+            write_flags(meta, &facts, out);
+            block(out, &item.data);
+        } else {
+            answer(meta, "HD", &facts, out);
+        }
+        true
+    });
+    if !is_found && !meta.is_quiet {
+        answer(meta, "EN", &Facts::default(), out);
+    }
+}
+
+fn set(store: &Store, meta: &Meta, data: &[u8], out: &mut Vec<u8>) {
+    let Meta { how, compare, key, flags, .. } = *meta;
+    let deadline = store.clock.deadline(meta.expiry.unwrap_or(0));
+    let stored = store.store(&Order { how, compare, key, flags, deadline, data });
+    if compare.is_some() {
+        count_comparison(store, stored);
+    }
+    match stored {
+        Ok(Stored::Stored(_)) if meta.is_quiet => {}
+        Ok(Stored::Stored(token)) => answer(meta, "HD", &with(token), out),
+        Ok(Stored::NotStored) => answer(meta, "NS", &with(0), out),
+        Ok(Stored::Exists) => answer(meta, "EX", &with(0), out),
+        Ok(Stored::NotFound) => answer(meta, "NF", &with(0), out),
+        Err(why) => line(out, why.text()),
+    }
+}
+
+fn delete(store: &Store, meta: &Meta, out: &mut Vec<u8>) {
+    match store.delete(meta.key, meta.compare) {
+        Ok(Deleted::Deleted) if meta.is_quiet => {}
+        Ok(Deleted::Deleted) => answer(meta, "HD", &Facts::default(), out),
+        Ok(Deleted::NotFound) => answer(meta, "NF", &Facts::default(), out),
+        Ok(Deleted::Exists) => answer(meta, "EX", &Facts::default(), out),
+        Err(why) => line(out, why.text()),
+    }
+}
+
+fn change(store: &Store, meta: &Meta, out: &mut Vec<u8>) {
+    let deadline = meta.expiry.map(|expiry| store.clock.deadline(expiry));
+    let change = if meta.subtracts { Change::Subtract(meta.delta) } else { Change::Add(meta.delta) };
+    let mut changed = store.change(meta.key, change, meta.compare, deadline);
+    count_change(store, change, changed);
+    if let (Ok(Changed::NotFound), Some(create)) = (changed, meta.create) {
+        changed = make(store, meta, create, change);
+    }
+    match changed {
+        Ok(Changed::Changed(..)) if meta.is_quiet => {}
+        Ok(Changed::Changed(number, token, deadline)) => {
+            let facts = Facts { left: Some(store.clock.left(deadline)), ..with(token) };
+            answer_number(meta, number, &facts, out);
+        }
+        Ok(Changed::NotFound) => answer(meta, "NF", &Facts::default(), out),
+        Ok(Changed::Exists) => answer(meta, "EX", &Facts::default(), out),
+        Ok(Changed::NotNumeric) => line(out, NOT_NUMERIC),
+        Err(why) => line(out, why.text()),
+    }
+}
+
+/// Makes the number that was missing. If another client makes it first, that one is changed.
+fn make(store: &Store, meta: &Meta, create: i64, change: Change) -> Result<Changed, Fault> {
+    let (deadline, data) = (store.clock.deadline(create), meta.initial.to_string());
+    let order = Order { how: How::Add, compare: None, key: meta.key, flags: 0, deadline, data: data.as_bytes() };
+    match store.store(&order)? {
+        Stored::Stored(token) => Ok(Changed::Changed(meta.initial, token, deadline)),
+        _ => store.change(meta.key, change, meta.compare, None),
+    }
+}
+
+fn answer_number(meta: &Meta, number: u64, facts: &Facts, out: &mut Vec<u8>) {
+    if !meta.with_value {
+        return answer(meta, "HD", facts, out);
+    }
+    let digits = number.to_string();
+    text!(out, "VA {}", digits.len());
+    write_flags(meta, facts, out);
+    block(out, digits.as_bytes());
+}
+
+fn answer(meta: &Meta, code: &str, facts: &Facts, out: &mut Vec<u8>) {
+    out.extend_from_slice(code.as_bytes());
+    write_flags(meta, facts, out);
+    out.extend_from_slice(b"\r\n");
+}
+
+/// Writes the flags of the answer, in the order of the command's.
+fn write_flags(meta: &Meta, facts: &Facts, out: &mut Vec<u8>) {
+    for word in words(meta.words) {
+        let number = match word[0] {
+            b'O' => {
+                out.push(b' ');
+                out.extend_from_slice(word);
+                None
+            }
+            b'k' => {
+                out.extend_from_slice(b" k");
+                out.extend_from_slice(meta.key);
+                None
+            }
+            b'c' => facts.token.map(|token| token.to_string()),
+            b'f' => facts.flags.map(|flags| flags.to_string()),
+            b's' => facts.size.map(|size| size.to_string()),
+            b't' => facts.left.map(|left| left.to_string()),
+            _ => None,
+        };
+        if let Some(number) = number {
+            text!(out, " {}{number}", char::from(word[0]));
+        }
+    }
+}

@@ -1,0 +1,206 @@
+//! What commands do with items, whatever their protocol.
+use crate::clock::Clock;
+use crate::counts::{Count, Counts};
+use crate::index::{Index, Refused, Token};
+use crate::item::{Flushes, Item};
+use crate::request::How;
+use crate::room::{Queue, Room};
+use crate::seat::Seats;
+use std::fmt::{self, Debug, Formatter};
+use std::sync::Arc;
+
+/// The items, and all that is counted of them.
+pub struct Store {
+    /// The items.
+    pub index: Box<dyn Index>,
+    /// What the requests came to.
+    pub counts: Counts,
+    /// The time.
+    pub clock: Clock,
+    /// The memory that items take.
+    pub room: Arc<Room>,
+    pub(crate) queue: Queue,
+    flushes: Flushes,
+    /// The limits of the server.
+    pub limits: Limits,
+    /// Who is connected.
+    pub seats: Arc<Seats>,
+}
+
+/// What the server may take.
+#[derive(Clone, Copy, Debug)]
+pub struct Limits {
+    /// The most connections.
+    pub connections: usize,
+    /// How many threads answer.
+    pub threads: usize,
+    /// The most bytes of items and the index.
+    pub memory: usize,
+    /// The longest value.
+    pub longest: usize,
+}
+
+/// Why a command was not carried out.
+#[derive(Clone, Copy, Debug, PartialEq, Eq)]
+pub enum Fault {
+    /// There is no place for the item. If the command was to overwrite an older one whatever it was, that one is gone.
+    NoRoom,
+    /// The value is too long. The older one is gone, as above.
+    TooLong,
+    /// The item was not stored, and the older one could not be removed.
+    Stale,
+    /// Others disturbed the command all the time. Nothing was changed.
+    Disturbed,
+}
+
+/// What came of a command that stores.
+#[derive(Clone, Copy, Debug, PartialEq, Eq)]
+pub enum Stored {
+    /// The item has this token now.
+    Stored(Token),
+    /// The condition was not met.
+    NotStored,
+    /// The item has another token.
+    Exists,
+    /// There is no item to compare.
+    NotFound,
+}
+
+/// What came of a deletion.
+#[derive(Clone, Copy, Debug, PartialEq, Eq)]
+pub enum Deleted {
+    /// The key has no value any more.
+    Deleted,
+    /// It had none.
+    NotFound,
+    /// The item has another token.
+    Exists,
+}
+
+/// What came of arithmetic.
+#[derive(Clone, Copy, Debug, PartialEq, Eq)]
+pub enum Changed {
+    /// The new number, its token and its deadline.
+    Changed(u64, Token, u64),
+    /// The key has no value.
+    NotFound,
+    /// The item has another token.
+    Exists,
+    /// The value is no number.
+    NotNumeric,
+}
+
+/// An item to store.
+#[derive(Clone, Copy, Debug)]
+pub struct Order<'a> {
+    /// Under what condition.
+    pub how: How,
+    /// The token that the item must have.
+    pub compare: Option<Token>,
+    /// Its key.
+    pub key: &'a [u8],
+    /// Its flags.
+    pub flags: u32,
+    /// When it expires.
+    pub deadline: u64,
+    /// Its value.
+    pub data: &'a [u8],
+}
+
+/// What is under a key.
+pub(crate) enum Found<T> {
+    Live(T, Token),
+    Dead(Token),
+    Absent,
+}
+
+impl Debug for Store {
+    fn fmt(&self, text: &mut Formatter) -> fmt::Result {
+        text.debug_struct("Store").field("limits", &self.limits).field("room", &self.room).finish_non_exhaustive()
+    }
+}
+
+impl Store {
+    /// A store over this index.
+    #[must_use]
+    pub fn new(index: Box<dyn Index>, room: Arc<Room>, limits: Limits) -> Store {
+        // The last place is that of the thread that accepts connections.
+        let counts = Counts::new(limits.threads + 1);
+        let (clock, queue, flushes) = (Clock::new(), Queue::default(), Flushes::default());
+        Store { index, counts, clock, room, queue, flushes, limits, seats: Seats::new(limits.connections) }
+    }
+
+    /// Looks the keys up in order, and calls `each` with the position of each that has a value. It returns whether it goes on: if not, the
+    /// keys behind are not looked at. What is found gets the deadline, if there is one. Returns how many keys were looked at.
+    pub fn look(&self, keys: &[&[u8]], deadline: Option<u64>, mut each: impl FnMut(usize, &Item, Token) -> bool) -> usize {
+        let (now, mut looked, mut goes_on) = (self.clock.now(), 0, true);
+        self.index.look(keys, &mut |position, seen| {
+            if !goes_on {
+                return;
+            }
+            looked += 1;
+            match seen {
+                Ok(Some((item, token))) if item.is_live(now, &self.flushes) => {
+                    item.mark_used();
+                    if let Some(deadline) = deadline {
+                        item.touch(deadline);
+                    }
+                    self.counts.add(Count::GetHits);
+                    goes_on = each(position, item, token);
+                }
+                seen => self.count_miss(seen.is_err()),
+            }
+        });
+        self.counts.add_many(Count::Gets, looked as u64);
+        looked
+    }
+
+    fn count_miss(&self, is_busy: bool) {
+        self.counts.add(Count::GetMisses);
+        if is_busy {
+            self.counts.add(Count::Busy);
+        }
+    }
+
+    pub(crate) fn find<T>(&self, key: &[u8], see: impl FnOnce(&Item) -> T) -> Result<Found<T>, Fault> {
+        let (now, mut see, mut found) = (self.clock.now(), Some(see), Err(Fault::Disturbed));
+        self.index.look(&[key], &mut |_, seen| {
+            found = match (seen, see.take()) {
+                (Ok(Some((item, token))), Some(see)) if item.is_live(now, &self.flushes) => Ok(Found::Live(see(item), token)),
+                (Ok(Some((_, token))), _) => Ok(Found::Dead(token)),
+                (Ok(None), _) => Ok(Found::Absent),
+                (Err(why), _) => Err(self.disturbed(why)),
+            }
+        });
+        found
+    }
+
+    pub(crate) fn disturbed(&self, why: Refused) -> Fault {
+        self.counts.add(if why == Refused::Held { Count::Held } else { Count::Refused });
+        Fault::Disturbed
+    }
+
+    /// Gives the key's item a new deadline. Returns whether the key has a value.
+    ///
+    /// # Errors
+    ///
+    /// [`Fault::Disturbed`].
+    pub fn touch(&self, key: &[u8], deadline: u64) -> Result<bool, Fault> {
+        let found = self.find(key, |item| {
+            item.mark_used();
+            item.touch(deadline);
+        })?;
+        Ok(matches!(found, Found::Live(..)))
+    }
+
+    /// Makes all items invalid that are stored by then: now, or after so many seconds.
+    pub fn flush(&self, delay: i64) {
+        let now = self.clock.now();
+        let time = if delay > 0 { self.clock.deadline(delay).max(now) } else { now };
+        self.flushes.flush(time, now);
+    }
+
+    pub(crate) fn is_live(&self, item: &Item) -> bool {
+        item.is_live(self.clock.now(), &self.flushes)
+    }
+}

@@ -1,0 +1,227 @@
+//! Commands that change what a key has.
+use crate::counts::Count;
+use crate::index::{Key, Outcome, Refused, Token};
+use crate::item::Item;
+use crate::number;
+use crate::request::{Change, How, Request};
+use crate::room::cost;
+use crate::store::{Changed, Deleted, Fault, Found, Order, Store, Stored};
+
+/// How often a call tries again that others' changes of its key disturbed.
+const TRIES: u32 = 1000;
+
+/// An item from this size on is freed as soon as it can be. Of smaller ones some wait.
+const LARGE: usize = 1 << 15;
+
+/// What is to be put instead of what was found.
+struct Next {
+    flags: u32,
+    deadline: u64,
+    data: Box<[u8]>,
+}
+
+impl Store {
+    /// Stores an item.
+    ///
+    /// # Errors
+    ///
+    /// [`Fault`].
+    pub fn store(&self, order: &Order) -> Result<Stored, Fault> {
+        self.counts.add(Count::Sets);
+        let stored = match (order.how, order.compare) {
+            _ if order.data.len() > self.limits.longest => Err(Fault::TooLong),
+            (How::Set, None) => self.set(order),
+            _ => self.store_if(order),
+        };
+        match stored {
+            Err(Fault::NoRoom | Fault::TooLong) => self.counts.add(Count::NoMemory),
+            Ok(Stored::Stored(_)) => self.counts.add(Count::Stored),
+            _ => {}
+        }
+        stored.map_err(|why| self.refuse(order.how, order.compare, order.key, why))
+    }
+
+    /// An older value must not outlive a failed `set`.
+    fn refuse(&self, how: How, compare: Option<Token>, key: &[u8], why: Fault) -> Fault {
+        if how == How::Set && compare.is_none() && self.unlink(key).is_err() {
+            return Fault::Stale;
+        }
+        why
+    }
+
+    /// Refuses a command whose value is too long, before the value has come.
+    pub fn refuse_long(&self, request: &Request) -> Fault {
+        self.counts.add(Count::TooLarge);
+        match request {
+            Request::Store(order) => self.refuse(order.how, order.compare, order.key, Fault::TooLong),
+            Request::Meta(meta) => self.refuse(meta.how, meta.compare, meta.key, Fault::TooLong),
+            _ => Fault::TooLong,
+        }
+    }
+
+    fn set(&self, order: &Order) -> Result<Stored, Fault> {
+        let next = Next { flags: order.flags, deadline: order.deadline, data: order.data.into() };
+        let put = self.put(order.key, next, |key, item| self.index.put(key, item).map(Outcome::Done))?;
+        Ok(put.map_or(Stored::NotStored, Stored::Stored))
+    }
+
+    fn store_if(&self, order: &Order) -> Result<Stored, Fault> {
+        for _ in 0..TRIES {
+            let found = self.find(order.key, |item| order.next(item))?;
+            let (next, since) = match (found, order.how, order.compare) {
+                (Found::Absent | Found::Dead(_), How::Set, Some(_)) => return Ok(Stored::NotFound),
+                (Found::Live(_, token), How::Set | How::Append | How::Prepend, Some(compare)) if token != compare => {
+                    return Ok(Stored::Exists);
+                }
+                (Found::Live(..), How::Add, _) => return Ok(Stored::NotStored),
+                (Found::Absent | Found::Dead(_), How::Replace | How::Append | How::Prepend, _) => return Ok(Stored::NotStored),
+                (Found::Absent, ..) => (order.fresh(), None),
+                (Found::Dead(token), ..) => (order.fresh(), Some(token)),
+                (Found::Live(next, token), ..) => (next, Some(token)),
+            };
+            if next.data.len() > self.limits.longest {
+                return Err(Fault::TooLong);
+            }
+            if let Some(token) = self.put_over(order.key, since, next)? {
+                return Ok(Stored::Stored(token));
+            }
+        }
+        Err(Fault::Disturbed)
+    }
+
+    /// Puts an item over the one with this token, or where there is none. `None`: it is not so any more.
+    fn put_over(&self, key: &[u8], since: Option<Token>, next: Next) -> Result<Option<Token>, Fault> {
+        self.put(key, next, |key, item| match since {
+            Some(token) => self.index.put_if(key, token, item),
+            None => self.index.put_new(key, item),
+        })
+    }
+
+    fn put(
+        &self,
+        key: &[u8],
+        next: Next,
+        put: impl FnOnce(&Key, Item) -> Result<Outcome, Refused>,
+    ) -> Result<Option<Token>, Fault> {
+        let (bytes, is_large) = (cost(key.len(), next.data.len()), next.data.len() >= LARGE);
+        self.make_room(bytes)?;
+        let key = Key::from(key);
+        let outcome = put(&key, Item::new(&self.clock, next.flags, next.deadline, next.data));
+        if is_large {
+            self.index.sweep();
+        }
+        if let Ok(Outcome::Done(token)) = outcome {
+            self.enqueue(key, token);
+            return Ok(Some(token));
+        }
+        self.room.give_back(bytes);
+        match outcome {
+            Err(why) => {
+                self.disturbed(why);
+                Err(Fault::NoRoom)
+            }
+            Ok(_) => Ok(None),
+        }
+    }
+
+    /// Removes whatever the key has.
+    fn unlink(&self, key: &[u8]) -> Result<(), Fault> {
+        match self.delete_if(key, |_| true)? {
+            Found::Live(..) | Found::Dead(_) | Found::Absent => Ok(()),
+        }
+    }
+
+    /// Deletes the key's value, if it has this token.
+    ///
+    /// # Errors
+    ///
+    /// [`Fault::Disturbed`]: it may still have it.
+    pub fn delete(&self, key: &[u8], compare: Option<Token>) -> Result<Deleted, Fault> {
+        Ok(match self.delete_if(key, |token| compare.is_none_or(|compare| compare == token))? {
+            Found::Live(true, _) => Deleted::Deleted,
+            Found::Live(false, _) => Deleted::Exists,
+            Found::Dead(_) | Found::Absent => Deleted::NotFound,
+        })
+    }
+
+    /// Removes the key, and returns what it was: if it was live, whether its token was to be deleted.
+    fn delete_if(&self, key: &[u8], is_meant: impl Fn(Token) -> bool) -> Result<Found<bool>, Fault> {
+        for _ in 0..TRIES {
+            let found = self.find(key, |_| ())?;
+            let token = match found {
+                Found::Absent => return Ok(Found::Absent),
+                Found::Live((), token) if !is_meant(token) => return Ok(Found::Live(false, token)),
+                Found::Live((), token) | Found::Dead(token) => token,
+            };
+            match (self.index.remove_if(key, token), found) {
+                (Ok(Outcome::Done(_)), Found::Live(..)) => return Ok(Found::Live(true, token)),
+                (Ok(Outcome::Done(_)), _) => return Ok(Found::Dead(token)),
+                (Ok(Outcome::Absent), _) => return Ok(Found::Absent),
+                (Ok(Outcome::Changed), _) => {}
+                (Err(why), _) => return Err(self.disturbed(why)),
+            }
+        }
+        Err(Fault::Disturbed)
+    }
+
+    /// Adds to the key's number or subtracts from it. The item gets the deadline, if there is one.
+    ///
+    /// # Errors
+    ///
+    /// [`Fault`].
+    pub fn change(&self, key: &[u8], change: Change, compare: Option<Token>, deadline: Option<u64>) -> Result<Changed, Fault> {
+        for _ in 0..TRIES {
+            let found = self.find(key, |item| {
+                item.mark_used();
+                let number = change.of(number::unsigned(&item.data)?);
+                let next = Next {
+                    flags: item.flags,
+                    deadline: deadline.unwrap_or(item.deadline()),
+                    data: padded(number, item.data.len()),
+                };
+                Some((next, number))
+            })?;
+            let (next, number, token) = match found {
+                Found::Absent | Found::Dead(_) => return Ok(Changed::NotFound),
+                Found::Live(_, token) if compare.is_some_and(|compare| compare != token) => return Ok(Changed::Exists),
+                Found::Live(None, _) => return Ok(Changed::NotNumeric),
+                Found::Live(Some((next, number)), token) => (next, number, token),
+            };
+            let deadline = next.deadline;
+            if let Some(token) = self.put_over(key, Some(token), next)? {
+                return Ok(Changed::Changed(number, token, deadline));
+            }
+        }
+        Err(Fault::Disturbed)
+    }
+}
+
+impl Order<'_> {
+    fn fresh(&self) -> Next {
+        Next { flags: self.flags, deadline: self.deadline, data: self.data.into() }
+    }
+
+    /// What is to be put over an item that is there.
+    fn next(&self, item: &Item) -> Next {
+        let data = match self.how {
+            How::Append => [&item.data, self.data].concat(),
+            How::Prepend => [self.data, &item.data].concat(),
+            _ => return self.fresh(),
+        };
+        Next { flags: item.flags, deadline: item.deadline(), data: data.into() }
+    }
+}
+
+impl Change {
+    fn of(self, number: u64) -> u64 {
+        match self {
+            Change::Add(delta) => number.wrapping_add(delta),
+            Change::Subtract(delta) => number.saturating_sub(delta),
+        }
+    }
+}
+
+/// The number as text, with spaces behind it if the older text was longer: memcached overwrites that in its place.
+fn padded(number: u64, length: usize) -> Box<[u8]> {
+    format!("{number:<length$}").into_bytes().into()
+}
