@@ -102,14 +102,22 @@ impl<'a> Meta<'a> {
     }
 
     fn read_flags(&mut self) -> Result<(), Refusal> {
-        let mut seen = 0u128;
+        let (mut seen, mut mode) = (0u128, None);
         for word in words(self.words) {
             let bit = 1u128.checked_shl(u32::from(word[0])).unwrap_or(0);
             if seen & bit != 0 {
                 return Err(self.duplicate());
             }
             seen |= bit;
-            self.read_flag(word[0], &word[1..])?;
+            match word[0] {
+                b'M' if matches!(self.verb, Verb::Set | Verb::Arithmetic) => mode = Some(&word[1..]),
+                flag => self.read_flag(flag, &word[1..])?,
+            }
+        }
+        match (self.verb, mode) {
+            (Verb::Set, Some(mode)) => self.how = how(mode)?,
+            (_, Some(mode)) => self.subtracts = subtracts(mode)?,
+            _ => {}
         }
         Ok(())
     }
@@ -124,8 +132,6 @@ impl<'a> Meta<'a> {
             (b'T', _) => self.expiry = Some(number::integer(token).ok_or(self.bad_token())?),
             (b'C', _) => self.compare = Some(number::unsigned(token).ok_or(self.bad_token())?),
             (b'F', Verb::Set) => self.flags = number::flags(token).ok_or(FORMAT)?,
-            (b'M', Verb::Set) => self.how = how(token)?,
-            (b'M', Verb::Arithmetic) => self.subtracts = subtracts(token)?,
             (b'D', Verb::Arithmetic) => self.delta = number::unsigned(token).ok_or(self.bad_token())?,
             (b'J', Verb::Arithmetic) => self.initial = number::unsigned(token).ok_or(self.bad_token())?,
             (b'N', Verb::Arithmetic) => self.create = Some(number::integer(token).ok_or(self.bad_token())?),

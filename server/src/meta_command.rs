@@ -83,11 +83,13 @@ fn change(store: &Store, meta: &Meta, out: &mut Vec<u8>) {
     let change = if meta.subtracts { Change::Subtract(meta.delta) } else { Change::Add(meta.delta) };
     let mut changed = store.change(meta.key, change, meta.compare, deadline);
     count_change(store, change, changed);
+    let mut is_quiet = meta.is_quiet;
     if let (Ok(Changed::NotFound), Some(create)) = (changed, meta.create) {
         changed = make(store, meta, create, change);
+        is_quiet = false;
     }
     match changed {
-        Ok(Changed::Changed(..)) if meta.is_quiet => {}
+        Ok(Changed::Changed(..)) if is_quiet => {}
         Ok(Changed::Changed(number, token, deadline)) => {
             let facts = Facts { left: Some(store.clock.left(deadline)), ..with(token) };
             answer_number(meta, number, &facts, out);

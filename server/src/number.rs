@@ -30,10 +30,10 @@ pub fn flags(text: &[u8]) -> Option<u32> {
     u32::try_from(unsigned(text)?).ok()
 }
 
-/// A number with a sign: a time to live, or a delay. One that is too large is the largest.
+/// A number with a sign: a time to live, or a delay.
 pub fn integer(text: &[u8]) -> Option<i64> {
     let (negative, magnitude) = signed(text)?;
-    let magnitude = i64::try_from(magnitude).unwrap_or(i64::MAX);
+    let magnitude = i64::try_from(magnitude).ok()?;
     Some(if negative { -magnitude } else { magnitude })
 }
 

@@ -123,10 +123,19 @@ pub fn parse(line: &[u8]) -> (Result<Request<'_>, Refusal>, bool) {
     if name.len() == 2 && name[0] == b'm' {
         return (meta::parse(name[1], line), false);
     }
-    let is_quiet = words.last() == Some(&b"noreply".as_slice());
+    let is_quiet = words.last() == Some(&b"noreply".as_slice()) && can_be_quiet(name, count);
     let request = classic(name, words, line, is_quiet);
-    let is_answered = matches!(request, Err(ERROR) | Ok(Request::Version));
-    (request, is_quiet && !is_answered)
+    let is_known = request != Err(ERROR);
+    (request, is_quiet && is_known)
+}
+
+/// Whether the last of so many words can be `noreply`.
+fn can_be_quiet(name: &[u8], count: usize) -> bool {
+    match name {
+        b"set" | b"add" | b"replace" | b"append" | b"prepend" | b"cas" | b"incr" | b"decr" | b"touch" => true,
+        b"flush_all" | b"verbosity" => true,
+        _ => name == b"delete" && count > 2,
+    }
 }
 
 fn classic<'a>(name: &[u8], words: &[&'a [u8]], line: &'a [u8], is_quiet: bool) -> Result<Request<'a>, Refusal> {

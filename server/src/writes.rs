@@ -177,7 +177,7 @@ impl Store {
                 let next = Next {
                     flags: item.flags,
                     deadline: deadline.unwrap_or(item.deadline()),
-                    data: padded(number, item.data.len()),
+                    data: number.to_string().into_bytes().into(),
                 };
                 Some((next, number))
             })?;
@@ -219,9 +219,4 @@ impl Change {
             Change::Subtract(delta) => number.saturating_sub(delta),
         }
     }
-}
-
-/// The number as text, with spaces behind it if the older text was longer: memcached overwrites that in its place.
-fn padded(number: u64, length: usize) -> Box<[u8]> {
-    format!("{number:<length$}").into_bytes().into()
 }

@@ -58,9 +58,13 @@ fn commands_without_a_key() {
 
 #[test]
 fn who_wants_no_answer() {
-    for (line, is_quiet) in
-        [("set k 0 0 1 noreply", true), ("set noreply 0 0 1", false), ("delete k noreply", true), ("version noreply", false)]
-    {
+    for (line, is_quiet) in [
+        ("set k 0 0 1 noreply", true),
+        ("set noreply 0 0 1", false),
+        ("delete k noreply", true),
+        ("version noreply", false),
+        ("delete noreply", false),
+    ] {
         assert_eq!(parse(line.as_bytes()).1, is_quiet, "{line}");
     }
 }

@@ -14,9 +14,12 @@ pub struct Faults {
     pub looks: AtomicBool,
 }
 
+/// The items, and the last token.
+type Items = (HashMap<Key, (Item, Token)>, Token);
+
 /// A map under a mutex.
 pub struct Plain {
-    items: Mutex<(HashMap<Key, (Item, Token)>, Token)>,
+    items: Mutex<Items>,
     room: Arc<Room>,
     faults: Arc<Faults>,
 }
