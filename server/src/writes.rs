@@ -69,11 +69,9 @@ impl Store {
         for _ in 0..TRIES {
             let found = self.find(order.key, |item| order.next(item))?;
             let (next, since) = match (found, order.how, order.compare) {
-                (Found::Absent | Found::Dead(_), How::Set, Some(_)) => return Ok(Stored::NotFound),
-                (Found::Live(_, token), How::Set | How::Append | How::Prepend, Some(compare)) if token != compare => {
-                    return Ok(Stored::Exists);
-                }
+                (Found::Absent | Found::Dead(_), How::Set | How::Replace, Some(_)) => return Ok(Stored::NotFound),
                 (Found::Live(..), How::Add, _) => return Ok(Stored::NotStored),
+                (Found::Live(_, token), _, Some(compare)) if token != compare => return Ok(Stored::Exists),
                 (Found::Absent | Found::Dead(_), How::Replace | How::Append | How::Prepend, _) => return Ok(Stored::NotStored),
                 (Found::Absent, ..) => (order.fresh(), None),
                 (Found::Dead(token), ..) => (order.fresh(), Some(token)),

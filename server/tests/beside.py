@@ -115,8 +115,8 @@ def wrong(draw, key):
     return [draw.choice([b' ', b'  ']).join(words) + draw.choice([b'\r\n', b'\n'])]
 
 
-# Drawn lines that the two answer differently: the time that is left of what has just expired, or before it is changed.
-DIFFERENT = re.compile(rb'^m[ga] .*(T-1.* t| t.* [TN])')
+# Drawn lines that the two answer differently: the time that is left, asked for before it is changed, and a new one for a number.
+DIFFERENT = re.compile(rb'^mg .* t.* T|^ma .*( T| t.* N)')
 
 
 def is_known(parts):
