@@ -21,7 +21,8 @@ where
     /// then look it up again. If they don't find it, one of them calls its own `make`.
     ///
     /// - If the key is written or removed while `make` runs, the map keeps that, and the value that was made isn't put: it may be older.
-    ///   The call returns it, or the value that was written. Calls that begin after the write don't wait for this one.
+    ///   The call returns the value that was written, or if there is none, the one that was made. Calls that begin after the write don't wait
+    ///   for this one.
     /// - If the value finds no place, the call returns it all the same. `refused` of [`stats`](Self::stats) counts this.
     /// - If `make` calls this for the same key, or one with the same hash, the inner call only returns its value.
     /// - Two threads wait forever if the `make` of each wants the value that the other one computes.

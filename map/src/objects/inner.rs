@@ -76,11 +76,13 @@ impl<K, V, S> ObjectInner<K, V, S> {
     /// Frees these objects, which `Epochs` returned. A destructor that panics ends there: the call may be of another key, or a panic itself.
     pub fn free(&self, words: Vec<u64>) {
         for word in words {
-            // SAFETY: the word is of this map, whose objects have these types. `Epochs` returns a word once for each time that it was
-            // retired, which is once (`Left`), and only when no call is pinned that may have found the object. So nothing borrows it.
-            let object = unsafe { Object::<K, V>::take_back(word) };
+            // SAFETY: the word is one of `into_word` of these types, since it was in this map's index. `Epochs` returns a word once for each
+            // time that it was retired. That is once: an object is retired when it leaves the index, and is never put again. `Epochs` returns
+            // it when no call is pinned that may have found the object. So nothing borrows it, and nothing else makes a `Box` of it.
+            let object = unsafe { Box::from_raw(Object::<K, V>::pointer(word)) };
             if let Err(panic) = catch_unwind(AssertUnwindSafe(|| drop(object))) {
-                mem::forget(panic); // its own destructor might panic
+                // What it panicked with may panic when it is dropped, too.
+                mem::forget(catch_unwind(AssertUnwindSafe(|| drop(panic))));
             }
         }
     }
@@ -101,8 +103,9 @@ struct Left<'a, K, V, S> {
 
 impl<K, V, S> Left<'_, K, V, S> {
     fn object(&self) -> &Object<K, V> {
-        // SAFETY: the index held this word of the map, and it is not retired before this is dropped, so it isn't taken back.
-        unsafe { Object::at(self.word) }
+        // SAFETY: the word was in this map's index, so it is one of `into_word` of these types. It is not retired before this is dropped, so
+        // no `Box` is made of it.
+        unsafe { &*Object::pointer(self.word) }
     }
 }
 

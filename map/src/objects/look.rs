@@ -22,7 +22,7 @@ pub enum Look<R> {
         result: R,
         /// The moment when that was true; of a removal, the moment of the removal.
         at: u64,
-        /// The moment of the key's last put: the token for [`put_if`](ObjectMap::put_if) and [`remove_if`](ObjectMap::remove_if).
+        /// The moment of the key's last put: the token for [`replace_if`](ObjectMap::replace_if) and [`remove_if`](ObjectMap::remove_if).
         since: u64,
     },
     /// The key's value has expired, but it is still in the map.
@@ -117,7 +117,7 @@ where
     }
 
     /// Looks the keys up in order, and calls `look` with the index and the value of each that is found. Equivalent to calling
-    /// [`get_with`](Self::get_with) for each key, but quicker.
+    /// [`get_with`](Self::get_with) for each key. No object that leaves the map is freed before the call ends.
     pub fn get_many_with<Q: Hash + Eq + ?Sized>(&self, keys: &[&Q], mut look: impl FnMut(usize, &V))
     where
         K: Borrow<Q>,

@@ -3,6 +3,7 @@ use super::builder::ObjectBuilder;
 use super::inner::ObjectInner;
 use crate::error::OpenError;
 use crate::stats::Stats;
+use std::borrow::Borrow;
 use std::collections::hash_map::RandomState;
 use std::fmt::{self, Debug, Formatter};
 use std::hash::{BuildHasher, Hash};
@@ -87,7 +88,10 @@ impl<K, V, S> ObjectMap<K, V, S> {
 impl<K, V, S: BuildHasher> ObjectMap<K, V, S> {
     /// The hash by which the map knows the key, for [`remove_stamped`](Self::remove_stamped) and for logs.
     #[must_use]
-    pub fn hash_of<Q: Hash + ?Sized>(&self, key: &Q) -> u64 {
+    pub fn hash_of<Q: Hash + ?Sized>(&self, key: &Q) -> u64
+    where
+        K: Borrow<Q>,
+    {
         self.inner.hash(key)
     }
 }

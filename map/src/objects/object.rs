@@ -27,26 +27,14 @@ impl<K, V> Object<K, V> {
         let _ = self.deadline.compare_exchange(from, to, SeqCst, SeqCst);
     }
 
-    /// The object's address. It stays allocated until `take_back`.
+    /// The object's address. It stays allocated until a `Box` is made of it again.
     pub fn into_word(self: Box<Object<K, V>>) -> u64 {
         Box::into_raw(self) as usize as u64
     }
 
-    /// # Safety
-    ///
-    /// `into_word` of the same types returned this word, and the object is not taken back for as long as `'a`.
+    /// The object of which `into_word` made this word. The cast there exposed the pointer that this one gives back.
     #[inline]
-    pub unsafe fn at<'a>(word: u64) -> &'a Object<K, V> {
-        // SAFETY: the address is that of a `Box`, which the caller says is still allocated. It was exposed by the cast in `into_word`. All
-        // others have shared borrows of it, too, since none has the `Box`.
-        unsafe { &*(word as usize as *const Object<K, V>) }
-    }
-
-    /// # Safety
-    ///
-    /// `into_word` of the same types returned this word, nothing borrows the object now or later, and it is taken back once.
-    pub unsafe fn take_back(word: u64) -> Box<Object<K, V>> {
-        // SAFETY: the address is that of a `Box`, which the caller says nobody else has or uses.
-        unsafe { Box::from_raw(word as usize as *mut Object<K, V>) }
+    pub fn pointer(word: u64) -> *mut Object<K, V> {
+        word as usize as *mut Object<K, V>
     }
 }

@@ -153,10 +153,10 @@ impl<K, V, S> Pinned<'_, K, V, S> {
     // The word is one that the index returned to this call, or that this call put, after it was pinned.
     #[inline]
     fn object(&self, word: u64) -> &Object<K, V> {
-        // SAFETY: the map puts only words of `into_word` into its own index, and an object is taken back in three cases. One whose put failed
-        // was never in the index. One that was retired is taken back when no call is pinned since before it left the index; but this call
-        // was pinned before it found the object there, and is so as long as `self` is borrowed. The last clone of the map takes back the
-        // rest, and a call borrows a clone. SAFETY.md has the argument in full.
-        unsafe { Object::at(word) }
+        // SAFETY: the index of this map has only words of `into_word` of the same types. So this is an object, and all others borrow it as
+        // shared. It is made a `Box` again in two places. One gets it back from a put that failed, so it was never in the index. The other
+        // (`free`) gets it when no call is pinned since before it left the index. This call was pinned before it found the object there,
+        // and stays so while `self` is borrowed. SAFETY.md has the argument in full.
+        unsafe { &*Object::pointer(word) }
     }
 }

@@ -106,8 +106,8 @@ where
         Err(inner.refuse(*object, AbsentError::Contended))
     }
 
-    /// Replaces the key's value if its last put was at the moment `since`, as a lookup of this key returned it. Returns the moment of the
-    /// new put. `life`: a time to live of its own.
+    /// Replaces the key's value if its last put was at the moment `since`, as a lookup of this key returned it. `life`: a time to live of its
+    /// own.
     ///
     /// # Errors
     ///
@@ -170,9 +170,9 @@ impl<K, V, S> ObjectInner<K, V, S> {
             Over::At(since) => self.put_at(hash, word, since),
         };
         put.map_err(|why| {
-            // SAFETY: a call of the index that returns an error has not put the word, and each of the three puts it by its last call alone.
-            // So nobody else knows the object.
-            (unsafe { Object::take_back(word) }, why)
+            // SAFETY: `into_word` made the word of this very object. Each of the three puts it by its last call of the index alone, and a
+            // call that returns an error has put nothing. So no other thread has seen the word.
+            (unsafe { Box::from_raw(Object::pointer(word)) }, why)
         })
     }
 

@@ -2,5 +2,7 @@
 mod disturbed;
 mod expiry;
 mod fills;
+#[cfg(feature = "objects")]
+mod objects;
 mod places;
 mod slots;

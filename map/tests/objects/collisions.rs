@@ -1,0 +1,145 @@
+//! Two keys with the same hash: the map holds one of them, and never takes it for the other.
+use crate::ledger::{done, Ledger, Owned};
+use cefrodil_map::{AbsentError, IfError, Inserted, Look, ObjectMap, Reason};
+use std::hash::{BuildHasher, Hasher};
+use std::sync::{Arc, Mutex};
+
+/// A key's hash is 0 or 1.
+#[derive(Default)]
+struct Poor(u64);
+
+struct BuildPoor;
+
+impl Hasher for Poor {
+    fn write(&mut self, _: &[u8]) {
+        unreachable!("the keys are numbers")
+    }
+
+    fn write_u64(&mut self, number: u64) {
+        self.0 = number & 1;
+    }
+
+    fn finish(&self) -> u64 {
+        self.0
+    }
+}
+
+impl BuildHasher for BuildPoor {
+    type Hasher = Poor;
+
+    fn build_hasher(&self) -> Poor {
+        Poor::default()
+    }
+}
+
+fn open() -> ObjectMap<u64, Owned, BuildPoor> {
+    ObjectMap::builder(100).hasher(BuildPoor).open().unwrap()
+}
+
+#[test]
+fn the_later_key_replaces_the_earlier() {
+    let (map, ledger) = (open(), Ledger::new(100));
+    map.insert(2, ledger.make(2)).unwrap();
+    map.insert(3, ledger.make(3)).unwrap();
+    assert_eq!(map.insert(4, ledger.make(4)).unwrap(), Inserted::Renewed);
+    assert!(map.get(&2).is_none() && !map.contains_key(&2));
+    assert!(matches!(map.look(&2, |_| ()), Ok(Look::Absent { .. })));
+    assert_eq!((map.get_with(&4, |value| value.key), map.get_with(&3, |value| value.key)), (Some(4), Some(3)));
+    let mut found = Vec::new();
+    map.get_many_with(&[&2, &3, &4, &5, &6], |index, value| found.push((index, value.key)));
+    assert_eq!(found, [(1, 3), (2, 4)]);
+    assert_eq!((map.stats().collided, map.len()), (6, 2));
+    drop(map);
+    ledger.each_once();
+}
+
+#[test]
+fn a_removal_takes_its_own_key_alone() {
+    let (map, ledger) = (open(), Ledger::new(100));
+    let since = map.put(2, ledger.make(2), None).unwrap().at;
+    assert!(!map.remove(&4).unwrap());
+    assert!(matches!(map.remove_with(&4, |_| ()), Ok(Look::Absent { .. })));
+    assert!(matches!(map.remove_if(&4, since), Err(IfError::NotThere { .. })));
+    assert!(!map.touch(&4, std::time::Duration::ZERO));
+    assert!(map.modify(&4, |_| unreachable!("it is not there")).unwrap().is_none());
+    assert_eq!((map.get_with(&2, |value| value.number), map.len()), (Some(0), 1));
+    assert!(map.remove(&2).unwrap());
+    assert_eq!((map.free_unused(), ledger.dropped(), map.len()), (0, 1, 0));
+}
+
+#[test]
+fn a_put_on_a_condition_sees_its_own_key_alone() {
+    let heard = Arc::new(Mutex::new(Vec::new()));
+    let hears = Arc::clone(&heard);
+    let hear = move |key: &u64, value: &Owned, reason| hears.lock().unwrap().push((*key, value.key, reason));
+    let ledger = Ledger::new(100);
+    let map = ObjectMap::<u64, Owned>::builder(100).hasher(BuildPoor).listener(hear).open().unwrap();
+    map.insert(2, ledger.make(2)).unwrap();
+    assert_eq!(map.insert_if_absent(4, ledger.make(4)).unwrap(), Inserted::Renewed);
+    let refused = map.insert_if_absent(4, ledger.make(4)).unwrap_err();
+    assert!(matches!(refused.why, AbsentError::Present { .. }));
+    let made = |old: Option<&Owned>| {
+        assert!(old.is_none());
+        ledger.make(6)
+    };
+    map.update(6, made).unwrap();
+    assert_eq!(map.get_or_insert_with(&8, || ledger.make(8)).key, 8);
+    assert_eq!(map.get_with(&8, |value| value.key), Some(8));
+    assert_eq!((map.contains_key(&2), map.contains_key(&4), map.contains_key(&6), map.len()), (false, false, false, 1));
+    let expected = [2, 4, 6].map(|key| (key, key, Reason::Replaced));
+    assert_eq!(*heard.lock().unwrap(), expected);
+    drop((map, refused));
+    ledger.each_once();
+}
+
+#[test]
+fn keys_with_the_same_hash_are_computed_apart() {
+    let (map, ledger) = (open(), Ledger::new(100));
+    let value = map.get_or_insert_with(&2, || {
+        assert_eq!(map.get_or_insert_with(&4, || ledger.make(4)).key, 4);
+        ledger.make(2)
+    });
+    assert_eq!((value.key, map.get_with(&2, |value| value.key)), (2, Some(2)));
+    // Threads that wait for another key's value don't get it.
+    std::thread::scope(|threads| {
+        for thread in 0..4_u64 {
+            let map = &map;
+            threads.spawn(move || {
+                for round in 0..200 {
+                    let key = 10 + 2 * ((round + thread) % 4);
+                    assert_eq!(map.get_or_insert_with(&key, || ledger_of(thread).make(key)).key, key);
+                }
+            });
+        }
+    });
+}
+
+fn ledger_of(_: u64) -> &'static Ledger {
+    use std::sync::OnceLock;
+    static LEDGER: OnceLock<&'static Ledger> = OnceLock::new();
+    LEDGER.get_or_init(|| Ledger::new(10_000))
+}
+
+#[test]
+fn threads_do_not_mix_them_up() {
+    const THREADS: u64 = 4;
+    let (map, ledger) = (open(), Ledger::new(200_000));
+    std::thread::scope(|threads| {
+        for thread in 0..THREADS {
+            let map = &map;
+            threads.spawn(move || {
+                for number in 0..5_000 {
+                    let key = (number * 7 + thread) % 6;
+                    match number % 5 {
+                        0 | 1 => done(map.insert(key, ledger.make(key)).unwrap()),
+                        2 => done(map.remove_with(&key, |value| value.is_right(key)).unwrap()),
+                        _ => done(map.get_with(&key, |value| value.is_right(key))),
+                    }
+                }
+            });
+        }
+    });
+    assert!(map.stats().collided > 0);
+    drop(map);
+    ledger.each_once();
+}

@@ -1,0 +1,201 @@
+//! An object that left the map is freed when no call can use it any more: not before, and not much later.
+use crate::ledger::{done, Ledger, Owned};
+use cefrodil_map::ObjectMap;
+use std::sync::mpsc::{channel, Receiver, Sender};
+use std::thread::{self, JoinHandle};
+use std::time::Duration;
+
+type Values = ObjectMap<u64, Owned>;
+
+// How long a thread may take to do what it must do at once.
+const LONG: Duration = Duration::from_secs(10);
+
+// At most so many objects wait that no call uses.
+const WAIT: u64 = 32;
+
+fn open(threads: usize) -> Values {
+    ObjectMap::builder(100).shards(1).threads(threads).open().unwrap()
+}
+
+/// A thread that looks at a value until it is told to end.
+struct Holder {
+    thread: JoinHandle<u64>,
+    end: Sender<()>,
+}
+
+impl Holder {
+    fn begin(map: &Values, key: u64) -> Holder {
+        let (begun, wait): (Sender<()>, Receiver<()>) = channel();
+        let (end, ended) = channel();
+        let map = map.clone();
+        let look = move |value: &Owned| {
+            begun.send(()).unwrap();
+            ended.recv().unwrap();
+            value.is_right(key);
+            value.number
+        };
+        let thread = thread::spawn(move || map.get_with(&key, look).expect("the key is there"));
+        wait.recv_timeout(LONG).expect("the lookup has not begun");
+        Holder { thread, end }
+    }
+
+    // The number of the value that it looked at.
+    fn end(self) -> u64 {
+        self.end.send(()).unwrap();
+        self.thread.join().unwrap()
+    }
+}
+
+// Each way in which the object of key 1 leaves a map of 100 entries.
+fn leave(map: &Values, ledger: &'static Ledger, way: usize) {
+    let since = || match map.look(&1, |_| ()) {
+        Ok(cefrodil_map::Look::Found { since, .. }) => since,
+        other => panic!("{other:?}"),
+    };
+    match way {
+        0 => done(map.insert(1, ledger.make(1)).unwrap()),
+        1 => assert!(map.remove(&1).unwrap()),
+        2 => done(map.remove_if(&1, since()).unwrap()),
+        3 => done(map.remove_stamped(map.hash_of(&1), since()).unwrap()),
+        4 => done(map.replace_if(1, since(), ledger.make(1), None).unwrap()),
+        5 => done(map.update(1, |_| ledger.make(1)).unwrap()),
+        6 => done(map.modify(&1, |_| ledger.make(1)).unwrap().unwrap()),
+        7 => map.clear().unwrap(),
+        // No lookup uses key 1 meanwhile, so it is evicted.
+        _ => (2..400).for_each(|key| done(map.insert(key, ledger.make(key)).unwrap())),
+    }
+}
+
+const WAYS: usize = 9;
+
+#[test]
+fn an_object_stays_while_the_same_thread_uses_it() {
+    for threads in [0, 1] {
+        for way in 0..WAYS {
+            let (map, ledger) = (open(threads), Ledger::new(2_000));
+            map.insert(1, ledger.make(1)).unwrap();
+            map.get_with(&1, |value| {
+                leave(&map, ledger, way);
+                // A lookup within this one doesn't end it.
+                map.get_with(&2, |_| ());
+                (100..200).for_each(|key| done(map.insert(key, ledger.make(key)).unwrap()));
+                assert!(map.free_unused() > 0);
+                value.is_right(1);
+            });
+            assert_eq!((map.free_unused(), ledger.has_dropped(0)), (0, true), "way {way}");
+            drop(map);
+            ledger.each_once();
+        }
+    }
+}
+
+#[test]
+fn an_object_stays_while_another_thread_uses_it() {
+    for threads in [0, 1, 2] {
+        for way in 0..WAYS {
+            let (map, ledger) = (open(threads), Ledger::new(2_000));
+            map.insert(1, ledger.make(1)).unwrap();
+            let holder = Holder::begin(&map, 1);
+            leave(&map, ledger, way);
+            (100..200).for_each(|key| done(map.insert(key, ledger.make(key)).unwrap()));
+            assert!(map.free_unused() > 0);
+            assert!(!ledger.has_dropped(0), "way {way}");
+            assert_eq!(holder.end(), 0);
+            assert_eq!((map.free_unused(), ledger.has_dropped(0)), (0, true), "way {way}");
+            drop(map);
+            ledger.each_once();
+        }
+    }
+}
+
+#[test]
+fn an_object_that_left_before_a_lookup_does_not_wait_for_it() {
+    for threads in [0, 1, 3] {
+        let (map, ledger) = (open(threads), Ledger::new(10));
+        map.insert(1, ledger.make(1)).unwrap();
+        let first = Holder::begin(&map, 1);
+        map.insert(1, ledger.make(1)).unwrap();
+        let second = Holder::begin(&map, 1);
+        map.insert(1, ledger.make(1)).unwrap();
+        assert_eq!((map.free_unused(), ledger.dropped()), (2, 0));
+        assert_eq!(first.end(), 0);
+        assert_eq!((map.free_unused(), ledger.has_dropped(0), ledger.has_dropped(1)), (1, true, false));
+        assert_eq!(second.end(), 1);
+        assert_eq!((map.free_unused(), ledger.has_dropped(1), ledger.has_dropped(2)), (0, true, false));
+    }
+}
+
+#[test]
+fn the_older_of_two_lookups_keeps_its_object() {
+    for threads in [0, 1, 3] {
+        let (map, ledger) = (open(threads), Ledger::new(10));
+        map.insert(1, ledger.make(1)).unwrap();
+        let first = Holder::begin(&map, 1);
+        map.insert(1, ledger.make(1)).unwrap();
+        let second = Holder::begin(&map, 1);
+        map.insert(1, ledger.make(1)).unwrap();
+        assert_eq!(second.end(), 1);
+        map.free_unused();
+        assert!(!ledger.has_dropped(0));
+        assert_eq!(first.end(), 0);
+        assert_eq!((map.free_unused(), ledger.dropped()), (0, 2));
+    }
+}
+
+#[test]
+fn few_objects_wait_that_no_call_uses() {
+    let (map, ledger) = (open(1), Ledger::new(2_000));
+    for _ in 0..1_000 {
+        map.insert(1, ledger.make(1)).unwrap();
+        assert!(ledger.made() - ledger.dropped() <= 1 + WAIT);
+    }
+    assert_eq!((map.free_unused(), ledger.dropped()), (0, 999));
+}
+
+#[test]
+fn no_lookup_runs_a_destructor() {
+    let (map, ledger) = (open(1), Ledger::new(100));
+    (0..20).for_each(|_| done(map.insert(1, ledger.make(1)).unwrap()));
+    let before = ledger.dropped();
+    for _ in 0..1_000 {
+        map.get_with(&1, |value| value.is_right(1)).unwrap();
+        map.get_many_with(&[&1, &2], |_, value| value.is_right(1));
+        assert!(map.contains_key(&1) && map.touch(&1, Duration::MAX));
+    }
+    assert_eq!(ledger.dropped(), before);
+    assert_eq!((map.free_unused(), ledger.dropped()), (0, 19));
+}
+
+#[test]
+fn the_last_clone_frees_all_objects_though_their_threads_go_on() {
+    let (map, ledger) = (open(2), Ledger::new(1_000));
+    let (end, ended) = channel::<()>();
+    let (used, wait) = channel();
+    let worker = {
+        let map = map.clone();
+        thread::spawn(move || {
+            (0..150).for_each(|key| done(map.insert(key, ledger.make(key)).unwrap()));
+            drop(map);
+            used.send(()).unwrap();
+            ended.recv().unwrap();
+        })
+    };
+    wait.recv_timeout(LONG).unwrap();
+    (100..250).for_each(|key| done(map.insert(key, ledger.make(key)).unwrap()));
+    assert!(ledger.dropped() < ledger.made());
+    drop(map);
+    ledger.each_once();
+    end.send(()).unwrap();
+    worker.join().unwrap();
+}
+
+#[test]
+fn keys_are_freed_with_their_values() {
+    let map = ObjectMap::<String, Vec<String>>::new(50).unwrap();
+    for round in 0..500 {
+        let key = format!("a key that is on the heap {}", round % 120);
+        map.insert(key.clone(), vec![key.clone(); 3]).unwrap();
+        assert_eq!(map.get(&key), Some(vec![key.clone(); 3]));
+        assert_eq!(map.get_with(key.as_str(), |value| value[2].clone()), Some(key));
+    }
+}

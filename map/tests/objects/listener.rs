@@ -1,0 +1,71 @@
+//! The listener hears of each object that leaves, once, and of no other.
+use crate::ledger::{done, next, Ledger, Owned};
+use cefrodil_map::{ObjectMap, Reason};
+use std::sync::atomic::{AtomicU32, AtomicU64, Ordering::SeqCst};
+use std::sync::{Arc, OnceLock};
+use std::thread;
+
+#[test]
+fn it_hears_of_each_object_once_beside_other_threads() {
+    const CALLS: u64 = 20_000;
+    let ledger = Ledger::new(8 * CALLS as usize);
+    let heard: Arc<Vec<AtomicU32>> = Arc::new((0..8 * CALLS).map(|_| AtomicU32::new(0)).collect());
+    let (hears, refused) = (Arc::clone(&heard), AtomicU64::new(0));
+    let hear = move |key: &u64, value: &Owned, _| {
+        value.is_right(*key);
+        hears[value.number as usize].fetch_add(1, SeqCst);
+    };
+    let map = ObjectMap::<u64, Owned>::builder(300).shards(4).threads(3).listener(hear).open().unwrap();
+    thread::scope(|threads| {
+        for thread in 1..=4_u64 {
+            let (map, refused) = (&map, &refused);
+            threads.spawn(move || {
+                let mut seed = thread * 0x9e37_79b9;
+                for _ in 0..CALLS {
+                    let key = next(&mut seed) % 600;
+                    match next(&mut seed) % 8 {
+                        0..=3 => done(map.insert(key, ledger.make(key)).unwrap()),
+                        4 => {
+                            let put = map.insert_if_absent(key, ledger.make(key));
+                            refused.fetch_add(u64::from(put.is_err()), SeqCst);
+                        }
+                        5 => done(map.remove(&key).unwrap()),
+                        _ => done(map.get_with(&key, |value| value.is_right(key))),
+                    }
+                }
+            });
+        }
+    });
+    let left = heard.iter().map(|heard| u64::from(heard.load(SeqCst))).sum::<u64>();
+    assert!(heard.iter().all(|heard| heard.load(SeqCst) <= 1));
+    assert_eq!(left + map.len() as u64 + refused.load(SeqCst), ledger.made());
+    (0..600).for_each(|key| done(map.get_with(&key, |value| assert_eq!(heard[value.number as usize].load(SeqCst), 0))));
+    drop(map);
+    ledger.each_once();
+    assert_eq!(heard.iter().map(|heard| u64::from(heard.load(SeqCst))).sum::<u64>(), left, "it heard of the drop of the map");
+}
+
+// The listener puts what was evicted into another map, and looks it up in the first.
+#[test]
+fn it_may_call_the_map() {
+    static MAP: OnceLock<ObjectMap<u64, u64>> = OnceLock::new();
+    let second = ObjectMap::<u64, u64>::new(2_000).unwrap();
+    let behind = second.clone();
+    let hear = move |key: &u64, value: &u64, reason| {
+        let map = MAP.get().unwrap();
+        assert_eq!(map.contains_key(key), reason == Reason::Replaced);
+        behind.insert(*key, *value).unwrap();
+        if *key == 7 {
+            assert!(!map.remove(&7).unwrap() || reason == Reason::Replaced);
+            map.insert(1_007, *value).unwrap();
+        }
+    };
+    let map = MAP.get_or_init(|| ObjectMap::builder(200).listener(hear).open().unwrap());
+    (0..1_000).for_each(|key| done(map.insert(key, 10 * key).unwrap()));
+    assert_eq!(map.len(), 200);
+    for key in 0..1_000 {
+        let (here, there) = (map.get(&key), second.get(&key));
+        assert_eq!(here.or(there), Some(10 * key));
+        assert!(here.is_none() || there.is_none());
+    }
+}

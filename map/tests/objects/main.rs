@@ -1,0 +1,12 @@
+//! Maps of objects.
+mod collisions;
+mod fills;
+mod frees;
+mod ledger;
+mod listener;
+mod model;
+mod panics;
+mod passes;
+mod stamps;
+mod texts;
+mod threads;

@@ -1,0 +1,48 @@
+//! What a map of objects says of itself, and where it may go.
+use cefrodil_map::{AbsentError, IfError, InsertError, ObjectBuilder, ObjectMap, OpenError, Refused};
+use std::cell::Cell;
+use std::error::Error;
+use std::panic::UnwindSafe;
+use std::time::Duration;
+
+#[test]
+fn a_map_may_go_anywhere() {
+    fn anywhere<T: Clone + Send + Sync + UnwindSafe + 'static>() {}
+    anywhere::<ObjectMap<String, Vec<Box<str>>>>();
+}
+
+#[test]
+fn what_can_not_be_opened_says_why() {
+    let open = |builder: ObjectBuilder<u64, u64>| builder.open().map(|map| map.capacity());
+    assert_eq!(open(ObjectBuilder::new(0)), Err(OpenError::Capacity));
+    assert_eq!(open(ObjectBuilder::new(100).shards(3)), Err(OpenError::Shards));
+    assert_eq!(open(ObjectBuilder::new(100).threads(usize::MAX)), Err(OpenError::Threads));
+    assert_eq!(open(ObjectBuilder::new(100).threads(1_023)), Ok(100));
+}
+
+#[test]
+fn each_error_has_a_text() {
+    let refused = Refused { why: InsertError::NoPlace, key: Cell::new(1), value: Cell::new(2) };
+    assert_eq!(refused.to_string(), "there is no place for the key");
+    assert_eq!(format!("{refused:?}"), "Refused { why: NoPlace, .. }");
+    let all: [Box<dyn Error>; 5] = [
+        Box::new(AbsentError::Present { since: 1 }),
+        Box::new(AbsentError::Insert(InsertError::Held)),
+        Box::new(AbsentError::Contended),
+        Box::new(IfError::Changed { since: 1 }),
+        Box::new(IfError::NotThere { at: 1 }),
+    ];
+    let texts: std::collections::HashSet<String> = all.iter().map(ToString::to_string).collect();
+    assert_eq!(texts.len(), 5);
+    assert_eq!(IfError::Held.to_string(), InsertError::Held.to_string());
+}
+
+#[test]
+fn a_map_shows_its_size_and_a_builder_what_it_was_told() {
+    let map = ObjectBuilder::<u64, Cell<u64>>::new(10).shards(2).threads(3).time_to_live(Duration::from_secs(4));
+    let expected = "ObjectBuilder { capacity: 10, shards: Some(2), threads: 3, time_to_live: Some(4s), .. }";
+    assert_eq!(format!("{map:?}"), expected);
+    let map = ObjectMap::<u64, String>::new(100).unwrap();
+    map.insert(1, "a".into()).unwrap();
+    assert_eq!(format!("{:?}", map.clone()), "ObjectMap { len: 1, capacity: 100, .. }");
+}
