@@ -21,7 +21,6 @@ struct State {
 }
 
 /// What the log says of an item.
-#[must_use]
 pub fn digest(item: &Item) -> u64 {
     let mut hasher = DefaultHasher::new();
     (item.flags, &item.data).hash(&mut hasher);
@@ -30,10 +29,6 @@ pub fn digest(item: &Item) -> u64 {
 
 impl Audit {
     /// Begins a log in this file.
-    ///
-    /// # Errors
-    ///
-    /// The file can't be written.
     pub fn create(path: &str) -> io::Result<Audit> {
         let audit = Audit(Mutex::new(State { out: BufWriter::new(File::create(path)?), fault: None }));
         audit.line(format_args!("words 1"));
@@ -49,10 +44,6 @@ impl Audit {
     }
 
     /// Ends the log.
-    ///
-    /// # Errors
-    ///
-    /// Not all of it could be written.
     pub fn end(&self) -> io::Result<()> {
         let mut state = self.0.lock().unwrap_or_else(PoisonError::into_inner);
         match state.fault.take() {

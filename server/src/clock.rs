@@ -17,26 +17,22 @@ pub struct Clock {
 
 impl Clock {
     /// Starts now.
-    #[must_use]
     pub fn new() -> Clock {
         Clock { started: Instant::now() }
     }
 
     /// Nanoseconds since the start, 1 at least.
-    #[must_use]
     pub fn now(&self) -> u64 {
         self.started.elapsed().as_nanos() as u64 + 1
     }
 
     /// Whole seconds since the start.
-    #[must_use]
     pub fn uptime(&self) -> u64 {
         self.started.elapsed().as_secs()
     }
 
     /// When something ends that has this time to live, by the protocol: 0 is never, a negative number at once, up to 30 days counts from
     /// now, and more is seconds since 1970.
-    #[must_use]
     pub fn deadline(&self, seconds: i64) -> u64 {
         let left = match seconds {
             0 => return NEVER,
@@ -50,7 +46,6 @@ impl Clock {
     }
 
     /// The seconds that are left until the deadline, or -1 if it never comes.
-    #[must_use]
     pub fn left(&self, deadline: u64) -> i64 {
         if deadline == NEVER {
             return -1;
@@ -66,7 +61,6 @@ impl Default for Clock {
 }
 
 /// Seconds since 1970.
-#[must_use]
 pub fn unix_time() -> u64 {
     SystemTime::now().duration_since(UNIX_EPOCH).unwrap_or(Duration::ZERO).as_secs()
 }

@@ -22,7 +22,6 @@ const NOT_FOUND: Text = "NOT_FOUND";
 
 impl Fault {
     /// What the client is told.
-    #[must_use]
     pub fn text(self) -> Text {
         match self {
             Fault::NoRoom => "SERVER_ERROR out of memory storing object",

@@ -49,7 +49,6 @@ struct Input {
 
 impl Connection {
     /// A client that has just connected.
-    #[must_use]
     pub fn new(stream: TcpStream, seat: Seat) -> Connection {
         let (dialogue, input, output) = (Dialogue::default(), Input::default(), Vec::new());
         Connection { stream, dialogue, input, needs: 1, output, is_ending: false, _seat: seat }
@@ -61,16 +60,11 @@ impl Connection {
     }
 
     /// Whether no command has begun, and all answers are sent.
-    #[must_use]
     pub fn is_idle(&self) -> bool {
         self.output.is_empty() && self.input.len() == 0 && !self.dialogue.is_within()
     }
 
     /// Reads, carries commands out and sends answers, as far as that is possible at once and not too much.
-    ///
-    /// # Errors
-    ///
-    /// The connection is broken.
     pub fn turn(&mut self, store: &Store) -> io::Result<Next> {
         for _ in 0..ROUNDS {
             self.send(store)?;

@@ -66,7 +66,6 @@ pub struct Counts(Box<[Place]>);
 
 impl Counts {
     /// Counts for so many threads.
-    #[must_use]
     pub fn new(threads: usize) -> Counts {
         Counts((0..threads).map(|_| Place(std::array::from_fn(|_| AtomicU64::new(0)))).collect())
     }

@@ -66,7 +66,6 @@ impl Dialogue {
     }
 
     /// Whether a command has begun and not ended.
-    #[must_use]
     pub fn is_within(&self) -> bool {
         !matches!(self.state, State::Line)
     }

@@ -37,31 +37,15 @@ pub trait Index: Send + Sync {
     fn look(&self, keys: &[&[u8]], each: &mut dyn FnMut(usize, Seen<'_>));
 
     /// Puts the item, whatever the key has.
-    ///
-    /// # Errors
-    ///
-    /// Nothing was changed.
     fn put(&self, key: &Key, item: Item) -> Result<Token, Refused>;
 
     /// Puts the item if the key is absent.
-    ///
-    /// # Errors
-    ///
-    /// Nothing was changed.
     fn put_new(&self, key: &Key, item: Item) -> Result<Outcome, Refused>;
 
     /// Puts the item if the key has this token.
-    ///
-    /// # Errors
-    ///
-    /// Nothing was changed.
     fn put_if(&self, key: &Key, token: Token, item: Item) -> Result<Outcome, Refused>;
 
     /// Removes the key if it has this token.
-    ///
-    /// # Errors
-    ///
-    /// Nothing was changed.
     fn remove_if(&self, key: &[u8], token: Token) -> Result<Outcome, Refused>;
 
     /// Frees the memory of items that have left the index, as far as nobody reads them any more.

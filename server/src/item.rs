@@ -1,6 +1,7 @@
 //! What is stored under a key.
 use crate::clock::Clock;
-use std::sync::atomic::{AtomicBool, AtomicU64, Ordering::Relaxed};
+use std::sync::atomic::{AtomicBool, AtomicU64, Ordering::Acquire, Ordering::Relaxed, Ordering::Release, Ordering::SeqCst};
+use std::sync::Mutex;
 
 /// The value of a key, and what belongs to it.
 #[derive(Debug)]
@@ -20,28 +21,27 @@ pub struct Item {
 pub struct Flushes {
     past: AtomicU64,
     next: AtomicU64,
+    /// One at a time flushes.
+    turn: Mutex<()>,
 }
 
 impl Item {
     /// An item that is stored now.
-    #[must_use]
     pub fn new(clock: &Clock, flags: u32, deadline: u64, data: Box<[u8]>) -> Item {
         Item { flags, data, born: clock.now(), deadline: AtomicU64::new(deadline), is_used: AtomicBool::new(false) }
     }
 
     /// When it expires.
-    #[must_use]
     pub fn deadline(&self) -> u64 {
-        self.deadline.load(Relaxed)
+        self.deadline.load(Acquire)
     }
 
     /// Moves the deadline.
     pub fn touch(&self, deadline: u64) {
-        self.deadline.store(deadline, Relaxed);
+        self.deadline.store(deadline, Release);
     }
 
     /// Whether it has neither expired nor been flushed.
-    #[must_use]
     pub fn is_live(&self, now: u64, flushes: &Flushes) -> bool {
         now < self.deadline() && !flushes.have_hit(self.born, now)
     }
@@ -61,16 +61,18 @@ impl Item {
 
 impl Flushes {
     fn have_hit(&self, born: u64, now: u64) -> bool {
-        let next = self.next.load(Relaxed);
-        born <= self.past.load(Relaxed) || (next <= now && born <= next)
+        // If this is a new one, `past` has the old one already.
+        let next = self.next.load(Acquire);
+        born <= self.past.load(Acquire) || (next <= now && born <= next)
     }
 
     /// Flushes at this time. It replaces a flush that is still to come.
     pub fn flush(&self, time: u64, now: u64) {
-        let next = self.next.load(Relaxed);
+        let _turn = self.turn.lock();
+        let next = self.next.load(Acquire);
         if next <= now {
-            self.past.fetch_max(next, Relaxed);
+            self.past.fetch_max(next, SeqCst);
         }
-        self.next.store(time, Relaxed);
+        self.next.store(time, SeqCst);
     }
 }

@@ -1,5 +1,5 @@
 #![doc = include_str!("../README.md")]
-#![deny(missing_docs, missing_debug_implementations, unsafe_op_in_unsafe_fn)]
+#![deny(missing_debug_implementations, unsafe_op_in_unsafe_fn)]
 
 pub mod audit;
 pub mod clock;

@@ -24,10 +24,6 @@ thread_local! {
 
 impl Objects {
     /// Opens an index for at least so many items. What leaves it gives its bytes back to `room`.
-    ///
-    /// # Errors
-    ///
-    /// As of the map.
     pub fn open(items: usize, threads: usize, room: &Arc<Room>, audit: Option<Arc<Audit>>) -> Result<Objects, OpenError> {
         let (room, is_logged) = (Arc::clone(room), audit.is_some());
         let listener = move |key: &Key, item: &Item, reason| {
@@ -45,7 +41,6 @@ impl Objects {
     }
 
     /// The most items that it holds.
-    #[must_use]
     pub fn capacity(&self) -> usize {
         self.map.capacity()
     }

@@ -73,10 +73,6 @@ const NAMES: [(char, &str, bool); 11] = [
 ];
 
 /// Reads the words of the command line, without the program's name.
-///
-/// # Errors
-///
-/// What is wrong with it, for the user.
 pub fn parse(words: impl IntoIterator<Item = String>) -> Result<Asked, String> {
     let mut words = words.into_iter();
     let (mut port, mut address) = (11211, IpAddr::V4(Ipv4Addr::LOCALHOST));

@@ -24,32 +24,27 @@ pub struct Room {
 pub struct Queue(Mutex<VecDeque<(Key, Token)>>);
 
 /// The bytes of an item.
-#[must_use]
 pub fn cost(key: usize, value: usize) -> u64 {
     key as u64 + value as u64 + OVERHEAD
 }
 
 impl Room {
     /// Room for this many bytes.
-    #[must_use]
     pub fn new(limit: u64) -> Room {
         Room { limit, used: AtomicU64::new(0), items: AtomicU64::new(0) }
     }
 
     /// The most bytes.
-    #[must_use]
     pub fn limit(&self) -> u64 {
         self.limit
     }
 
     /// The bytes of all items, with those that are about to be put.
-    #[must_use]
     pub fn used(&self) -> u64 {
         self.used.load(Relaxed)
     }
 
     /// How many items these are.
-    #[must_use]
     pub fn items(&self) -> u64 {
         self.items.load(Relaxed)
     }
@@ -67,7 +62,6 @@ impl Room {
     }
 
     /// Whether an item must give way.
-    #[must_use]
     pub fn is_over(&self) -> bool {
         self.used() > self.limit
     }

@@ -15,7 +15,6 @@ pub struct Seat(Arc<Seats>);
 
 impl Seats {
     /// For so many clients at a time.
-    #[must_use]
     pub fn new(most: usize) -> Arc<Seats> {
         Arc::new(Seats { most, taken: AtomicUsize::new(0) })
     }
@@ -30,7 +29,6 @@ impl Seats {
     }
 
     /// How many are taken.
-    #[must_use]
     pub fn taken(&self) -> usize {
         self.taken.load(Relaxed)
     }

@@ -31,10 +31,6 @@ pub struct Server {
 
 impl Server {
     /// Listens, and ends at SIGTERM or SIGINT, when what clients have sent is answered. `is_ready` gets the address.
-    ///
-    /// # Errors
-    ///
-    /// That of the system.
     pub fn run(store: Arc<Store>, address: SocketAddr, is_ready: impl FnOnce(SocketAddr)) -> io::Result<()> {
         let signal = signal::file()?;
         counts::take_place(store.limits.threads);

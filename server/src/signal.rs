@@ -6,10 +6,6 @@ use std::os::fd::{FromRawFd, OwnedFd};
 use std::ptr;
 
 /// Blocks SIGTERM and SIGINT in this thread and those that it starts later. The file can be read when one has come.
-///
-/// # Errors
-///
-/// That of the system.
 pub fn file() -> io::Result<File> {
     let mut signals = MaybeUninit::<libc::sigset_t>::uninit();
     // SAFETY: the pointers are to `signals`, which the first call initializes before the others use it, and null where that is allowed.

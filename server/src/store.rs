@@ -122,7 +122,6 @@ impl Debug for Store {
 
 impl Store {
     /// A store over this index.
-    #[must_use]
     pub fn new(index: Box<dyn Index>, room: Arc<Room>, limits: Limits) -> Store {
         // The last place is that of the thread that accepts connections.
         let counts = Counts::new(limits.threads + 1);
@@ -181,10 +180,6 @@ impl Store {
     }
 
     /// Gives the key's item a new deadline. Returns whether the key has a value.
-    ///
-    /// # Errors
-    ///
-    /// [`Fault::Disturbed`].
     pub fn touch(&self, key: &[u8], deadline: u64) -> Result<bool, Fault> {
         let found = self.find(key, |item| {
             item.mark_used();

@@ -44,10 +44,6 @@ pub struct Worker {
 
 impl Inbox {
     /// Hands a client over.
-    ///
-    /// # Errors
-    ///
-    /// The worker has not been woken.
     pub fn hand(&self, client: Connection) -> io::Result<()> {
         self.clients.send(client).map_err(|_| ErrorKind::BrokenPipe)?;
         self.waker.wake()
@@ -66,10 +62,6 @@ impl Drop for Inbox {
 
 impl Worker {
     /// A worker, and its inbox.
-    ///
-    /// # Errors
-    ///
-    /// The system has no more of what events need.
     pub fn new(store: Arc<Store>) -> io::Result<(Worker, Inbox)> {
         let poll = Poll::new()?;
         let waker = Arc::new(Waker::new(poll.registry(), WAKE)?);
@@ -80,10 +72,6 @@ impl Worker {
     }
 
     /// Answers clients until the inbox is dropped.
-    ///
-    /// # Errors
-    ///
-    /// The system can't wait for events.
     pub fn run(mut self, index: usize) -> io::Result<()> {
         counts::take_place(index);
         let mut events = Events::with_capacity(EVENTS);

@@ -22,10 +22,6 @@ struct Next {
 
 impl Store {
     /// Stores an item.
-    ///
-    /// # Errors
-    ///
-    /// [`Fault`].
     pub fn store(&self, order: &Order) -> Result<Stored, Fault> {
         self.counts.add(Count::Sets);
         let stored = match (order.how, order.compare) {
@@ -130,10 +126,6 @@ impl Store {
     }
 
     /// Deletes the key's value, if it has this token.
-    ///
-    /// # Errors
-    ///
-    /// [`Fault::Disturbed`]: it may still have it.
     pub fn delete(&self, key: &[u8], compare: Option<Token>) -> Result<Deleted, Fault> {
         Ok(match self.delete_if(key, |token| compare.is_none_or(|compare| compare == token))? {
             Found::Live(true, _) => Deleted::Deleted,
@@ -163,10 +155,6 @@ impl Store {
     }
 
     /// Adds to the key's number or subtracts from it. The item gets the deadline, if there is one.
-    ///
-    /// # Errors
-    ///
-    /// [`Fault`].
     pub fn change(&self, key: &[u8], change: Change, compare: Option<Token>, deadline: Option<u64>) -> Result<Changed, Fault> {
         for _ in 0..TRIES {
             let found = self.find(key, |item| {

@@ -139,6 +139,8 @@ def main():
     words.add_argument('--seed', type=int, default=1)
     given = words.parse_args()
     draw, peers, asked = random.Random(given.seed), [Peer(port) for port in given.ports], 0
+    for peer in peers:
+        peer.ask([b'flush_all\r\n'])
     while asked < given.lines:
         batch = [parts for parts in (command(draw) for _ in range(BATCH)) if is_known(parts)]
         parts = [part for command in batch for part in command]
