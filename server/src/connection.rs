@@ -3,6 +3,7 @@ use crate::counts::Count;
 use crate::dialogue::{Dialogue, Turn, MOST_WAITING};
 use crate::seat::Seat;
 use crate::store::Store;
+use mio::event::Event;
 use mio::net::TcpStream;
 use std::io::{self, ErrorKind, Read, Write};
 
@@ -36,6 +37,10 @@ pub struct Connection {
     needs: usize,
     output: Vec<u8>,
     is_ending: bool,
+    /// Nothing more had come when it was read last. What comes later is an event.
+    is_dry: bool,
+    /// The client sends no more. That event may have come with the last bytes.
+    is_half_closed: bool,
     _seat: Seat,
 }
 
@@ -51,12 +56,24 @@ impl Connection {
     /// A client that has just connected.
     pub fn new(stream: TcpStream, seat: Seat) -> Connection {
         let (dialogue, input, output) = (Dialogue::default(), Input::default(), Vec::new());
-        Connection { stream, dialogue, input, needs: 1, output, is_ending: false, _seat: seat }
+        let (is_ending, is_dry, is_half_closed) = (false, false, false);
+        Connection { stream, dialogue, input, needs: 1, output, is_ending, is_dry, is_half_closed, _seat: seat }
     }
 
     /// The connection, for registering it.
     pub fn stream(&mut self) -> &mut TcpStream {
         &mut self.stream
+    }
+
+    /// Notes an event of the connection.
+    pub fn note(&mut self, event: &Event) {
+        self.is_half_closed |= event.is_read_closed();
+        self.read_again();
+    }
+
+    /// Reads again, though nothing had come before.
+    pub fn read_again(&mut self) {
+        self.is_dry = false;
     }
 
     /// Whether no command has begun, and all answers are sent.
@@ -95,10 +112,14 @@ impl Connection {
 
     /// Reads once. Returns whether that changed anything.
     fn receive(&mut self, store: &Store) -> io::Result<bool> {
+        if self.is_dry && !self.is_half_closed {
+            return Ok(false);
+        }
         let room = self.input.room(self.needs);
         match retry(|| self.stream.read(room))? {
             Some(0) => self.is_ending = true,
             Some(count) => {
+                self.is_dry = count < room.len();
                 self.input.end += count;
                 store.counts.add_many(Count::BytesRead, count as u64);
             }

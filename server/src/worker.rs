@@ -81,7 +81,12 @@ impl Worker {
                 _ => {}
             }
             let mut ready = mem::take(&mut self.ready);
-            ready.extend(events.iter().map(|event| event.token()));
+            for event in &events {
+                if let Some(connection) = self.connections.get_mut(&event.token()) {
+                    connection.note(event);
+                }
+                ready.push(event.token());
+            }
             ready.sort_unstable();
             ready.dedup();
             ready.into_iter().for_each(|token| self.serve(token));
@@ -124,6 +129,7 @@ impl Worker {
         if self.end.is_none() {
             self.end = Some(Instant::now() + GRACE);
             // Each has a last turn, for what it has sent.
+            self.connections.values_mut().for_each(Connection::read_again);
             self.ready.extend(self.connections.keys());
         }
     }
