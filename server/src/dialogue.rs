@@ -1,5 +1,6 @@
 //! What a client sends and is answered, byte by byte, without its connection.
 use crate::command::{line, run, value};
+use crate::item::Item;
 use crate::meta::Verb;
 use crate::request::{parse, refusal, words, Keys, Refusal, Request, FORMAT, LONGEST_KEY};
 use crate::store::Store;
@@ -169,11 +170,14 @@ impl Dialogue {
     /// Looks some keys up, the first of what is left of the line.
     fn keys(&mut self, keys: Keys, store: &Store, input: &[u8], out: &mut Vec<u8>) -> Step {
         let batch = Batch::of(input);
-        let deadline = keys.expiry.map(|expiry| store.clock.deadline(expiry));
-        let looked = store.look(&batch.keys, deadline, |position, item, token| {
+        let each = |position: usize, item: &Item, token| {
             value(out, batch.keys[position], item, keys.with_token.then_some(token));
             out.len() < MOST_WAITING
-        });
+        };
+        let looked = match keys.expiry {
+            Some(expiry) => store.look_and_touch(&batch.keys, store.clock.deadline(expiry), each),
+            None => store.look(&batch.keys, each),
+        };
         if looked < batch.keys.len() {
             return Step(batch.ends[looked - 1], None);
         }

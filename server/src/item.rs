@@ -1,5 +1,4 @@
 //! What is stored under a key.
-use crate::clock::Clock;
 use std::sync::atomic::{AtomicBool, AtomicU64, Ordering::Acquire, Ordering::Relaxed, Ordering::Release, Ordering::SeqCst};
 use std::sync::Mutex;
 
@@ -10,7 +9,7 @@ pub struct Item {
     pub flags: u32,
     /// The value.
     pub data: Box<[u8]>,
-    /// When it was stored.
+    /// When it was made. What is made of an older item, or because there is one, was made when that was found: so a flush in between hits it.
     born: u64,
     deadline: AtomicU64,
     is_used: AtomicBool,
@@ -26,9 +25,9 @@ pub struct Flushes {
 }
 
 impl Item {
-    /// An item that is stored now.
-    pub fn new(clock: &Clock, flags: u32, deadline: u64, data: Box<[u8]>) -> Item {
-        Item { flags, data, born: clock.now(), deadline: AtomicU64::new(deadline), is_used: AtomicBool::new(false) }
+    /// An item that was made at this time.
+    pub fn new(born: u64, flags: u32, deadline: u64, data: Box<[u8]>) -> Item {
+        Item { flags, data, born, deadline: AtomicU64::new(deadline), is_used: AtomicBool::new(false) }
     }
 
     /// When it expires.

@@ -22,5 +22,6 @@ pub mod server;
 mod signal;
 mod stats;
 pub mod store;
+mod turn;
 pub mod worker;
 mod writes;

@@ -1,6 +1,7 @@
 //! Carries meta commands out.
 use crate::command::{block, count_change, count_comparison, line, text, NOT_NUMERIC};
 use crate::counts::Count;
+use crate::item::Item;
 use crate::meta::{Meta, Verb};
 use crate::request::{words, Change, How};
 use crate::store::{Changed, Deleted, Fault, Order, Store, Stored};
@@ -31,12 +32,11 @@ pub fn run(store: &Store, meta: &Meta, data: &[u8], out: &mut Vec<u8>) {
 }
 
 fn get(store: &Store, meta: &Meta, out: &mut Vec<u8>) {
-    let deadline = meta.expiry.map(|expiry| store.clock.deadline(expiry));
     let mut is_found = false;
-    store.look(&[meta.key], deadline, |_, item, token| {
+    let each = |_, item: &Item, token| {
         is_found = true;
-        let size = Some(item.data.len());
-        let facts = Facts { token: Some(token), flags: Some(item.flags), size, left: Some(store.clock.left(item.deadline())) };
+        let left = Some(store.clock.left(item.deadline()));
+        let facts = Facts { flags: Some(item.flags), size: Some(item.data.len()), left, ..with(token) };
         if meta.with_value {
             text!(out, "VA {}", item.data.len());
             write_flags(meta, &facts, out);
@@ -45,7 +45,11 @@ fn get(store: &Store, meta: &Meta, out: &mut Vec<u8>) {
             answer(meta, "HD", &facts, out);
         }
         true
-    });
+    };
+    match meta.expiry {
+        Some(expiry) => store.look_and_touch(&[meta.key], store.clock.deadline(expiry), each),
+        None => store.look(&[meta.key], each),
+    };
     if !is_found && !meta.is_quiet {
         answer(meta, "EN", &Facts::default(), out);
     }

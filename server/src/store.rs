@@ -6,6 +6,7 @@ use crate::item::{Flushes, Item};
 use crate::request::How;
 use crate::room::{Queue, Room};
 use crate::seat::Seats;
+use crate::turn::Turns;
 use std::fmt::{self, Debug, Formatter};
 use std::sync::Arc;
 
@@ -20,6 +21,7 @@ pub struct Store {
     /// The memory that items take.
     pub room: Arc<Room>,
     pub(crate) queue: Queue,
+    pub(crate) turns: Turns,
     flushes: Flushes,
     /// The limits of the server.
     pub limits: Limits,
@@ -125,13 +127,13 @@ impl Store {
     pub fn new(index: Box<dyn Index>, room: Arc<Room>, limits: Limits) -> Store {
         // The last place is that of the thread that accepts connections.
         let counts = Counts::new(limits.threads + 1);
-        let (clock, queue, flushes) = (Clock::new(), Queue::default(), Flushes::default());
-        Store { index, counts, clock, room, queue, flushes, limits, seats: Seats::new(limits.connections) }
+        let (clock, queue, turns, flushes) = (Clock::new(), Queue::default(), Turns::default(), Flushes::default());
+        Store { index, counts, clock, room, queue, turns, flushes, limits, seats: Seats::new(limits.connections) }
     }
 
     /// Looks the keys up in order, and calls `each` with the position of each that has a value. It returns whether it goes on: if not, the
-    /// keys behind are not looked at. What is found gets the deadline, if there is one. Returns how many keys were looked at.
-    pub fn look(&self, keys: &[&[u8]], deadline: Option<u64>, mut each: impl FnMut(usize, &Item, Token) -> bool) -> usize {
+    /// keys behind are not looked at. Returns how many keys were looked at.
+    pub fn look(&self, keys: &[&[u8]], mut each: impl FnMut(usize, &Item, Token) -> bool) -> usize {
         let (now, mut looked, mut goes_on) = (self.clock.now(), 0, true);
         self.index.look(keys, &mut |position, seen| {
             if !goes_on {
@@ -141,9 +143,6 @@ impl Store {
             match seen {
                 Ok(Some((item, token))) if item.is_live(now, &self.flushes) => {
                     item.mark_used();
-                    if let Some(deadline) = deadline {
-                        item.touch(deadline);
-                    }
                     self.counts.add(Count::GetHits);
                     goes_on = each(position, item, token);
                 }
@@ -154,6 +153,25 @@ impl Store {
         looked
     }
 
+    /// Does the same, and gives what is found this deadline.
+    pub fn look_and_touch(&self, keys: &[&[u8]], deadline: u64, mut each: impl FnMut(usize, &Item, Token) -> bool) -> usize {
+        for (position, key) in keys.iter().enumerate() {
+            let _turn = self.turns.wait(key);
+            let mut goes_on = true;
+            self.look(&[key], |_, item, token| {
+                item.touch(deadline);
+                self.counts.add(Count::Touches);
+                self.counts.add(Count::TouchHits);
+                goes_on = each(position, item, token);
+                goes_on
+            });
+            if !goes_on {
+                return position + 1;
+            }
+        }
+        keys.len()
+    }
+
     fn count_miss(&self, is_busy: bool) {
         self.counts.add(Count::GetMisses);
         if is_busy {
@@ -161,11 +179,13 @@ impl Store {
         }
     }
 
-    pub(crate) fn find<T>(&self, key: &[u8], see: impl FnOnce(&Item) -> T) -> Result<Found<T>, Fault> {
+    pub(crate) fn find<T>(&self, key: &[u8], see: impl FnOnce(&Item, u64) -> T) -> Result<Found<T>, Fault> {
         let (now, mut see, mut found) = (self.clock.now(), Some(see), Err(Fault::Disturbed));
         self.index.look(&[key], &mut |_, seen| {
             found = match (seen, see.take()) {
-                (Ok(Some((item, token))), Some(see)) if item.is_live(now, &self.flushes) => Ok(Found::Live(see(item), token)),
+                (Ok(Some((item, token))), Some(see)) if item.is_live(now, &self.flushes) => {
+                    Ok(Found::Live(see(item, now), token))
+                }
                 (Ok(Some((_, token))), _) => Ok(Found::Dead(token)),
                 (Ok(None), _) => Ok(Found::Absent),
                 (Err(why), _) => Err(self.disturbed(why)),
@@ -181,7 +201,8 @@ impl Store {
 
     /// Gives the key's item a new deadline. Returns whether the key has a value.
     pub fn touch(&self, key: &[u8], deadline: u64) -> Result<bool, Fault> {
-        let found = self.find(key, |item| {
+        let _turn = self.turns.wait(key);
+        let found = self.find(key, |item, _| {
             item.mark_used();
             item.touch(deadline);
         })?;

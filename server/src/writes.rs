@@ -15,6 +15,7 @@ const LARGE: usize = 1 << 15;
 
 /// What is to be put instead of what was found.
 struct Next {
+    born: u64,
     flags: u32,
     deadline: u64,
     data: Box<[u8]>,
@@ -56,21 +57,21 @@ impl Store {
     }
 
     fn set(&self, order: &Order) -> Result<Stored, Fault> {
-        let next = Next { flags: order.flags, deadline: order.deadline, data: order.data.into() };
-        let put = self.put(order.key, next, |key, item| self.index.put(key, item).map(Outcome::Done))?;
+        let put = self.put(order.key, order.fresh(self.clock.now()), |key, item| self.index.put(key, item).map(Outcome::Done))?;
         Ok(put.map_or(Stored::NotStored, Stored::Stored))
     }
 
     fn store_if(&self, order: &Order) -> Result<Stored, Fault> {
+        let _turn = matches!(order.how, How::Append | How::Prepend).then(|| self.turns.wait(order.key));
         for _ in 0..TRIES {
-            let found = self.find(order.key, |item| order.next(item))?;
+            let found = self.find(order.key, |item, now| order.next(item, now))?;
             let (next, since) = match (found, order.how, order.compare) {
                 (Found::Absent | Found::Dead(_), How::Set | How::Replace, Some(_)) => return Ok(Stored::NotFound),
                 (Found::Live(..), How::Add, _) => return Ok(Stored::NotStored),
                 (Found::Live(_, token), _, Some(compare)) if token != compare => return Ok(Stored::Exists),
                 (Found::Absent | Found::Dead(_), How::Replace | How::Append | How::Prepend, _) => return Ok(Stored::NotStored),
-                (Found::Absent, ..) => (order.fresh(), None),
-                (Found::Dead(token), ..) => (order.fresh(), Some(token)),
+                (Found::Absent, ..) => (order.fresh(self.clock.now()), None),
+                (Found::Dead(token), ..) => (order.fresh(self.clock.now()), Some(token)),
                 (Found::Live(next, token), ..) => (next, Some(token)),
             };
             if next.data.len() > self.limits.longest {
@@ -100,7 +101,7 @@ impl Store {
         let (bytes, is_large) = (cost(key.len(), next.data.len()), next.data.len() >= LARGE);
         self.make_room(bytes)?;
         let key = Key::from(key);
-        let outcome = put(&key, Item::new(&self.clock, next.flags, next.deadline, next.data));
+        let outcome = put(&key, Item::new(next.born, next.flags, next.deadline, next.data));
         if is_large {
             self.index.sweep();
         }
@@ -137,7 +138,7 @@ impl Store {
     /// Removes the key, and returns what it was: if it was live, whether its token was to be deleted.
     fn delete_if(&self, key: &[u8], is_meant: impl Fn(Token) -> bool) -> Result<Found<bool>, Fault> {
         for _ in 0..TRIES {
-            let found = self.find(key, |_| ())?;
+            let found = self.find(key, |_, _| ())?;
             let token = match found {
                 Found::Absent => return Ok(Found::Absent),
                 Found::Live((), token) if !is_meant(token) => return Ok(Found::Live(false, token)),
@@ -156,15 +157,13 @@ impl Store {
 
     /// Adds to the key's number or subtracts from it. The item gets the deadline, if there is one.
     pub fn change(&self, key: &[u8], change: Change, compare: Option<Token>, deadline: Option<u64>) -> Result<Changed, Fault> {
+        let _turn = self.turns.wait(key);
         for _ in 0..TRIES {
-            let found = self.find(key, |item| {
+            let found = self.find(key, |item, born| {
                 item.mark_used();
                 let number = change.of(number::unsigned(&item.data)?);
-                let next = Next {
-                    flags: item.flags,
-                    deadline: deadline.unwrap_or(item.deadline()),
-                    data: number.to_string().into_bytes().into(),
-                };
+                let (deadline, data) = (deadline.unwrap_or(item.deadline()), number.to_string().into_bytes().into());
+                let next = Next { born, flags: item.flags, deadline, data };
                 Some((next, number))
             })?;
             let (next, number, token) = match found {
@@ -183,18 +182,18 @@ impl Store {
 }
 
 impl Order<'_> {
-    fn fresh(&self) -> Next {
-        Next { flags: self.flags, deadline: self.deadline, data: self.data.into() }
+    fn fresh(&self, born: u64) -> Next {
+        Next { born, flags: self.flags, deadline: self.deadline, data: self.data.into() }
     }
 
-    /// What is to be put over an item that is there.
-    fn next(&self, item: &Item) -> Next {
+    /// What is to be put over an item that was found at this time.
+    fn next(&self, item: &Item, born: u64) -> Next {
         let data = match self.how {
             How::Append => [&item.data, self.data].concat(),
             How::Prepend => [self.data, &item.data].concat(),
-            _ => return self.fresh(),
+            _ => return self.fresh(born),
         };
-        Next { flags: item.flags, deadline: item.deadline(), data: data.into() }
+        Next { born, flags: item.flags, deadline: item.deadline(), data: data.into() }
     }
 }
 
