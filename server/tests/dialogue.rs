@@ -159,3 +159,58 @@ fn tokens() {
     assert_eq!(client.ask(&format!("touch a 100\ncas a 0 0 1 {token}\n2\n")), "TOUCHED\nSTORED\n");
     assert_eq!(client.ask(&format!("cas a 0 0 1 {token}\n2\ncas b 0 0 1 1\n2\n")), "EXISTS\nNOT_FOUND\n");
 }
+
+/// Drawn numbers, the same in each run.
+struct Draw(u64);
+
+impl Draw {
+    fn below(&mut self, limit: usize) -> usize {
+        self.0 = self.0.wrapping_mul(6364136223846793005).wrapping_add(1442695040888963407);
+        (self.0 >> 33) as usize % limit
+    }
+}
+
+const PARTS: [&[u8]; 25] = [
+    b"get a b\r\n",
+    b"gets a\r\n",
+    b"gat 5 a b a\n",
+    b"set a 0 0 3\r\nabc\r\n",
+    b"set b 0 0 10 noreply\r\n",
+    b"append a 0 0 1\r\nx\r\n",
+    b"cas a 0 0 1 3\r\n1\r\n",
+    b"incr a 1\r\n",
+    b"ms a 4\r\nget \r\n",
+    b"ms b 3 MX\r\n",
+    b"mg a v k\r\n",
+    b"ma b N0\r\n",
+    b"md a q\r\n",
+    b"delete b\r\n",
+    b"flush_all\r\n",
+    b"set c 0 0 2000000\r\n",
+    b"set c 0 0 -1\r\n",
+    b"\r\n",
+    b"\n",
+    b"\r",
+    b" ",
+    b"get ",
+    b"set ",
+    b"\xff\x00\x01",
+    b"kkkkkkkkkkkkkkkkkkkkkkkkkkkkkkkkkkkkkkkkkkkkkkkkkkkkkkkkkkkkkkkkkkkkkkkkkkkkkkkkkkkkkkkkkkkkkkkkkkkkkkkkkkkkkkkkkkkkkkkkkkkk",
+];
+
+#[test]
+fn it_does_not_matter_how_bytes_are_cut() {
+    let mut draw = Draw(1);
+    for _ in 0..3_000 {
+        let script: Vec<u8> = (0..draw.below(12)).flat_map(|_| PARTS[draw.below(PARTS.len())]).copied().collect();
+        let (mut whole, mut cut) = (Client::new(MEGABYTE), Client::new(MEGABYTE));
+        let (expected, _) = whole.ask_bytes(&script);
+        let (mut answers, mut rest) = (Vec::new(), &script[..]);
+        while !rest.is_empty() {
+            let (piece, behind) = rest.split_at(1 + draw.below(rest.len()));
+            answers.extend(cut.ask_bytes(piece).0);
+            rest = behind;
+        }
+        assert_eq!(answers, expected, "{:?}", String::from_utf8_lossy(&script));
+    }
+}
