@@ -6,7 +6,7 @@
 //! usage: load ADDRESS [NAME=NUMBER]..
 //!
 //! clients=8 seconds=5 keys=100000 value=32 gets=9 (of ten requests) batch=1 (keys of a get) fill=1 (puts each key first) mixed=0 (1: also
-//! deletes, appends and compares)
+//! deletes, appends and compares, and values of all sizes up to that)
 use std::collections::HashMap;
 use std::env;
 use std::io::{self, BufRead, BufReader, Read, Write};
@@ -143,7 +143,8 @@ impl Client {
     }
 
     fn write_set(&mut self, verb: &str, key: u64, token: &str) {
-        let length = self.numbers["value"] as usize;
+        let most = self.numbers["value"];
+        let length = if self.numbers["mixed"] == 1 { 1 + self.draw(most) } else { most } as usize;
         let value = format!("key:{key} ").repeat(length / 6 + 1);
         write!(self.text, "{verb} key:{key} 0 0 {length}{token}\r\n{}\r\n", &value[..length]).expect("a vector takes all");
     }

@@ -4,7 +4,7 @@ use crate::item::Item;
 use crate::meta_command;
 use crate::request::{Change, Request, Store as Order};
 use crate::stats;
-use crate::store::{self, Changed, Deleted, Fault, Store, Stored};
+use crate::store::{self, Answer, Changed, Fault, Store};
 use std::io::Write;
 
 /// An answer, without its end.
@@ -96,19 +96,19 @@ fn store_item(store: &Store, order: &Order, data: &[u8]) -> Text {
         count_comparison(store, stored);
     }
     match stored {
-        Ok(Stored::Stored(_)) => "STORED",
-        Ok(Stored::NotStored) => "NOT_STORED",
-        Ok(Stored::Exists) => "EXISTS",
-        Ok(Stored::NotFound) => NOT_FOUND,
+        Ok(Answer::Done(_)) => "STORED",
+        Ok(Answer::NotStored) => "NOT_STORED",
+        Ok(Answer::Exists) => "EXISTS",
+        Ok(Answer::NotFound) => NOT_FOUND,
         Err(why) => why.text(),
     }
 }
 
 /// Counts a `cas`.
-pub fn count_comparison(store: &Store, stored: Result<Stored, Fault>) {
+pub fn count_comparison(store: &Store, stored: Result<Answer, Fault>) {
     match stored {
-        Ok(Stored::Stored(_)) => store.counts.add(Count::CasHits),
-        Ok(Stored::Exists) => store.counts.add(Count::CasBadValue),
+        Ok(Answer::Done(_)) => store.counts.add(Count::CasHits),
+        Ok(Answer::Exists) => store.counts.add(Count::CasBadValue),
         Ok(_) => store.counts.add(Count::CasMisses),
         Err(_) => {}
     }
@@ -117,10 +117,10 @@ pub fn count_comparison(store: &Store, stored: Result<Stored, Fault>) {
 fn delete(store: &Store, key: &[u8]) -> Text {
     let deleted = store.delete(key, None);
     if let Ok(deleted) = deleted {
-        store.counts.add_if(deleted == Deleted::Deleted, Count::DeleteHits, Count::DeleteMisses);
+        store.counts.add_if(matches!(deleted, Answer::Done(_)), Count::DeleteHits, Count::DeleteMisses);
     }
     match deleted {
-        Ok(Deleted::Deleted) => "DELETED",
+        Ok(Answer::Done(_)) => "DELETED",
         Ok(_) => NOT_FOUND,
         Err(why) => why.text(),
     }

@@ -136,7 +136,7 @@ impl Dialogue {
         out: &mut Vec<u8>,
     ) -> Step {
         let whole = length + END.len();
-        if length > store.limits.longest {
+        if length > store.options.longest {
             self.refuse(Refusal { text: store.refuse_long(request).text(), block: whole }, is_quiet, out);
             return Step(0, None);
         }

@@ -4,7 +4,7 @@ use cefrodild::objects::{Objects, BYTES_OF_AN_ENTRY};
 use cefrodild::options::{parse, Asked, Options, HELP};
 use cefrodild::room::Room;
 use cefrodild::server::Server;
-use cefrodild::store::{Limits, Store};
+use cefrodild::store::Store;
 use std::env;
 use std::error::Error;
 use std::process::ExitCode;
@@ -29,12 +29,11 @@ fn main() -> ExitCode {
 }
 
 fn serve(options: Options) -> Result<(), Box<dyn Error>> {
-    let Options { listen, threads, memory, items, connections, longest, audit } = options;
-    let log = audit.as_deref().map(Audit::create).transpose()?.map(Arc::new);
+    let Options { listen, threads, memory, items, .. } = options;
+    let log = options.audit.as_deref().map(Audit::create).transpose()?.map(Arc::new);
     let room = Arc::new(Room::new((memory - items * BYTES_OF_AN_ENTRY) as u64));
     let index = Objects::open(items, threads, &room, log.clone())?;
-    let limits = Limits { connections, threads, memory, longest };
-    let store = Arc::new(Store::new(Box::new(index), room, limits));
+    let store = Arc::new(Store::new(Box::new(index), room, options));
     Server::run(store, listen, |address| println!("cefrodild: listening on {address}"))?;
     log.map_or(Ok(()), |log| log.end()).map_err(Into::into)
 }

@@ -4,7 +4,7 @@ use crate::counts::Count;
 use crate::item::Item;
 use crate::meta::{Meta, Verb};
 use crate::request::{words, Change, How};
-use crate::store::{Changed, Deleted, Fault, Order, Store, Stored};
+use crate::store::{Answer, Changed, Fault, Order, Store};
 use std::io::Write;
 
 /// What the answer's flags say of the item.
@@ -62,24 +62,24 @@ fn set(store: &Store, meta: &Meta, data: &[u8], out: &mut Vec<u8>) {
     if compare.is_some() {
         count_comparison(store, stored);
     }
-    match stored {
-        Ok(Stored::Stored(_)) if meta.is_quiet => {}
-        Ok(Stored::Stored(token)) => answer(meta, "HD", &with(token), out),
-        Ok(Stored::NotStored) => answer(meta, "NS", &with(0), out),
-        Ok(Stored::Exists) => answer(meta, "EX", &with(0), out),
-        Ok(Stored::NotFound) => answer(meta, "NF", &with(0), out),
-        Err(why) => line(out, why.text()),
-    }
+    tell(meta, stored, out);
 }
 
 fn delete(store: &Store, meta: &Meta, out: &mut Vec<u8>) {
-    match store.delete(meta.key, meta.compare) {
-        Ok(Deleted::Deleted) if meta.is_quiet => {}
-        Ok(Deleted::Deleted) => answer(meta, "HD", &Facts::default(), out),
-        Ok(Deleted::NotFound) => answer(meta, "NF", &Facts::default(), out),
-        Ok(Deleted::Exists) => answer(meta, "EX", &Facts::default(), out),
-        Err(why) => line(out, why.text()),
-    }
+    tell(meta, store.delete(meta.key, meta.compare), out);
+}
+
+fn tell(meta: &Meta, answered: Result<Answer, Fault>, out: &mut Vec<u8>) {
+    let (code, token) = match answered {
+        Ok(Answer::Done(_)) if meta.is_quiet => return,
+        Ok(Answer::Done(token)) => ("HD", token),
+        Ok(Answer::NotStored) => ("NS", 0),
+        Ok(Answer::Exists) => ("EX", 0),
+        Ok(Answer::NotFound) => ("NF", 0),
+        Err(why) => return line(out, why.text()),
+    };
+    let facts = if meta.verb == Verb::Set { with(token) } else { Facts::default() };
+    answer(meta, code, &facts, out);
 }
 
 fn change(store: &Store, meta: &Meta, out: &mut Vec<u8>) {
@@ -110,7 +110,7 @@ fn make(store: &Store, meta: &Meta, create: i64, change: Change) -> Result<Chang
     let (deadline, data) = (store.clock.deadline(create), meta.initial.to_string());
     let order = Order { how: How::Add, compare: None, key: meta.key, flags: 0, deadline, data: data.as_bytes() };
     match store.store(&order)? {
-        Stored::Stored(token) => Ok(Changed::Changed(meta.initial, token, deadline)),
+        Answer::Done(token) => Ok(Changed::Changed(meta.initial, token, deadline)),
         _ => store.change(meta.key, change, meta.compare, None),
     }
 }

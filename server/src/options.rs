@@ -30,9 +30,7 @@ const PART_OF_INDEX: usize = 2;
 /// What the server is to do.
 #[derive(Clone, Debug, PartialEq, Eq)]
 pub struct Options {
-    /// The address to listen on.
     pub listen: SocketAddr,
-    /// How many threads answer.
     pub threads: usize,
     /// The most bytes for items and the index.
     pub memory: usize,
@@ -49,11 +47,8 @@ pub struct Options {
 /// What the command line asks for.
 #[derive(Debug, PartialEq, Eq)]
 pub enum Asked {
-    /// Serve.
     Serve(Options),
-    /// Print the help.
     Help,
-    /// Print the version.
     Version,
 }
 

@@ -15,7 +15,6 @@ pub enum Request<'a> {
     Keys(Keys, usize),
     /// `set` and its kin. A block follows.
     Store(Store<'a>),
-    /// `delete`.
     Delete(&'a [u8]),
     /// `incr`, `decr`.
     Change(&'a [u8], Change),
@@ -25,11 +24,9 @@ pub enum Request<'a> {
     Flush(i64),
     /// `stats`, with what it is asked for.
     Stats(&'a [u8]),
-    /// `version`.
     Version,
-    /// `verbosity`, which changes nothing.
+    /// It changes nothing.
     Verbosity,
-    /// `quit`.
     Quit,
     /// `mg`, `ms`, `md` and `ma`.
     Meta(Meta<'a>),
@@ -64,13 +61,9 @@ pub enum How {
 /// What is to be stored.
 #[derive(Clone, Copy, Debug, PartialEq, Eq)]
 pub struct Store<'a> {
-    /// Under what condition.
     pub how: How,
-    /// Its key.
     pub key: &'a [u8],
-    /// Its flags.
     pub flags: u32,
-    /// Its time to live.
     pub expiry: i64,
     /// How many bytes its block has.
     pub length: usize,

@@ -33,13 +33,13 @@ impl Server {
     /// Listens, and ends at SIGTERM or SIGINT, when what clients have sent is answered. `is_ready` gets the address.
     pub fn run(store: Arc<Store>, address: SocketAddr, is_ready: impl FnOnce(SocketAddr)) -> io::Result<()> {
         let signal = signal::file()?;
-        counts::take_place(store.limits.threads);
+        counts::take_place(store.options.threads);
         let mut poll = Poll::new()?;
         let mut listener = TcpListener::bind(address)?;
         poll.registry().register(&mut listener, LISTENER, Interest::READABLE)?;
         poll.registry().register(&mut SourceFd(&signal.as_raw_fd()), SIGNAL, Interest::READABLE)?;
         let (mut inboxes, mut threads) = (Vec::new(), Vec::new());
-        for index in 0..store.limits.threads {
+        for index in 0..store.options.threads {
             let (worker, inbox) = Worker::new(Arc::clone(&store))?;
             inboxes.push(inbox);
             threads.push(thread::Builder::new().name(format!("worker {index}")).spawn(move || worker.run(index))?);

@@ -25,19 +25,19 @@ fn general(store: &Store, out: &mut Vec<u8>) {
     let version = version!();
     text!(out, "STAT pid {}\r\nSTAT uptime {}\r\n", process::id(), store.clock.uptime());
     text!(out, "STAT time {}\r\nSTAT version {version}\r\nSTAT pointer_size 64\r\n", unix_time());
-    text!(out, "STAT max_connections {}\r\n", store.limits.connections);
-    text!(out, "STAT curr_connections {}\r\nSTAT threads {}\r\n", store.seats.taken(), store.limits.threads);
+    text!(out, "STAT max_connections {}\r\n", store.options.connections);
+    text!(out, "STAT curr_connections {}\r\nSTAT threads {}\r\n", store.seats.taken(), store.options.threads);
     for (name, sum) in store.counts.sums() {
         text!(out, "STAT {name} {sum}\r\n");
     }
     text!(out, "STAT bytes {}\r\nSTAT curr_items {}\r\n", store.room.used(), store.room.items());
-    text!(out, "STAT limit_maxbytes {}\r\n", store.limits.memory);
+    text!(out, "STAT limit_maxbytes {}\r\n", store.options.memory);
     line(out, "END");
 }
 
 fn settings(store: &Store, out: &mut Vec<u8>) {
-    text!(out, "STAT maxbytes {}\r\nSTAT maxconns {}\r\n", store.limits.memory, store.limits.connections);
-    text!(out, "STAT item_size_max {}\r\nSTAT num_threads {}\r\n", store.limits.longest, store.limits.threads);
+    text!(out, "STAT maxbytes {}\r\nSTAT maxconns {}\r\n", store.options.memory, store.options.connections);
+    text!(out, "STAT item_size_max {}\r\nSTAT num_threads {}\r\n", store.options.longest, store.options.threads);
     text!(out, "STAT evictions on\r\nSTAT cas_enabled yes\r\nSTAT udpport 0\r\n");
     line(out, "END");
 }

@@ -3,6 +3,7 @@ use crate::clock::Clock;
 use crate::counts::{Count, Counts};
 use crate::index::{Index, Refused, Token};
 use crate::item::{Flushes, Item};
+use crate::options::Options;
 use crate::request::How;
 use crate::room::{Queue, Room};
 use crate::seat::Seats;
@@ -12,34 +13,15 @@ use std::sync::Arc;
 
 /// The items, and all that is counted of them.
 pub struct Store {
-    /// The items.
     pub index: Box<dyn Index>,
-    /// What the requests came to.
     pub counts: Counts,
-    /// The time.
     pub clock: Clock,
-    /// The memory that items take.
     pub room: Arc<Room>,
     pub(crate) queue: Queue,
     pub(crate) turns: Turns,
     flushes: Flushes,
-    /// The limits of the server.
-    pub limits: Limits,
-    /// Who is connected.
+    pub options: Options,
     pub seats: Arc<Seats>,
-}
-
-/// What the server may take.
-#[derive(Clone, Copy, Debug)]
-pub struct Limits {
-    /// The most connections.
-    pub connections: usize,
-    /// How many threads answer.
-    pub threads: usize,
-    /// The most bytes of items and the index.
-    pub memory: usize,
-    /// The longest value.
-    pub longest: usize,
 }
 
 /// Why a command was not carried out.
@@ -55,28 +37,16 @@ pub enum Fault {
     Disturbed,
 }
 
-/// What came of a command that stores.
+/// What came of a command that stores or deletes.
 #[derive(Clone, Copy, Debug, PartialEq, Eq)]
-pub enum Stored {
-    /// The item has this token now.
-    Stored(Token),
-    /// The condition was not met.
+pub enum Answer {
+    /// It is done. The token is that of the item that was stored.
+    Done(Token),
+    /// The condition on whether there is an item was not met.
     NotStored,
     /// The item has another token.
     Exists,
-    /// There is no item to compare.
     NotFound,
-}
-
-/// What came of a deletion.
-#[derive(Clone, Copy, Debug, PartialEq, Eq)]
-pub enum Deleted {
-    /// The key has no value any more.
-    Deleted,
-    /// It had none.
-    NotFound,
-    /// The item has another token.
-    Exists,
 }
 
 /// What came of arithmetic.
@@ -84,28 +54,21 @@ pub enum Deleted {
 pub enum Changed {
     /// The new number, its token and its deadline.
     Changed(u64, Token, u64),
-    /// The key has no value.
     NotFound,
     /// The item has another token.
     Exists,
-    /// The value is no number.
     NotNumeric,
 }
 
 /// An item to store.
 #[derive(Clone, Copy, Debug)]
 pub struct Order<'a> {
-    /// Under what condition.
     pub how: How,
     /// The token that the item must have.
     pub compare: Option<Token>,
-    /// Its key.
     pub key: &'a [u8],
-    /// Its flags.
     pub flags: u32,
-    /// When it expires.
     pub deadline: u64,
-    /// Its value.
     pub data: &'a [u8],
 }
 
@@ -118,17 +81,17 @@ pub(crate) enum Found<T> {
 
 impl Debug for Store {
     fn fmt(&self, text: &mut Formatter) -> fmt::Result {
-        text.debug_struct("Store").field("limits", &self.limits).field("room", &self.room).finish_non_exhaustive()
+        text.debug_struct("Store").field("options", &self.options).field("room", &self.room).finish_non_exhaustive()
     }
 }
 
 impl Store {
     /// A store over this index.
-    pub fn new(index: Box<dyn Index>, room: Arc<Room>, limits: Limits) -> Store {
+    pub fn new(index: Box<dyn Index>, room: Arc<Room>, options: Options) -> Store {
         // The last place is that of the thread that accepts connections.
-        let counts = Counts::new(limits.threads + 1);
+        let counts = Counts::new(options.threads + 1);
         let (clock, queue, turns, flushes) = (Clock::new(), Queue::default(), Turns::default(), Flushes::default());
-        Store { index, counts, clock, room, queue, turns, flushes, limits, seats: Seats::new(limits.connections) }
+        Store { index, counts, clock, room, queue, turns, flushes, seats: Seats::new(options.connections), options }
     }
 
     /// Looks the keys up in order, and calls `each` with the position of each that has a value. It returns whether it goes on: if not, the

@@ -5,7 +5,7 @@ use crate::item::Item;
 use crate::number;
 use crate::request::{Change, How, Request};
 use crate::room::cost;
-use crate::store::{Changed, Deleted, Fault, Found, Order, Store, Stored};
+use crate::store::{Answer, Changed, Fault, Found, Order, Store};
 
 /// How often a call tries again that others' changes of its key disturbed.
 const TRIES: u32 = 1000;
@@ -23,16 +23,16 @@ struct Next {
 
 impl Store {
     /// Stores an item.
-    pub fn store(&self, order: &Order) -> Result<Stored, Fault> {
+    pub fn store(&self, order: &Order) -> Result<Answer, Fault> {
         self.counts.add(Count::Sets);
         let stored = match (order.how, order.compare) {
-            _ if order.data.len() > self.limits.longest => Err(Fault::TooLong),
+            _ if order.data.len() > self.options.longest => Err(Fault::TooLong),
             (How::Set, None) => self.set(order),
             _ => self.store_if(order),
         };
         match stored {
             Err(Fault::NoRoom | Fault::TooLong) => self.counts.add(Count::NoMemory),
-            Ok(Stored::Stored(_)) => self.counts.add(Count::Stored),
+            Ok(Answer::Done(_)) => self.counts.add(Count::Stored),
             _ => {}
         }
         stored.map_err(|why| self.refuse(order.how, order.compare, order.key, why))
@@ -56,29 +56,29 @@ impl Store {
         }
     }
 
-    fn set(&self, order: &Order) -> Result<Stored, Fault> {
+    fn set(&self, order: &Order) -> Result<Answer, Fault> {
         let put = self.put(order.key, order.fresh(self.clock.now()), |key, item| self.index.put(key, item).map(Outcome::Done))?;
-        Ok(put.map_or(Stored::NotStored, Stored::Stored))
+        Ok(put.map_or(Answer::NotStored, Answer::Done))
     }
 
-    fn store_if(&self, order: &Order) -> Result<Stored, Fault> {
+    fn store_if(&self, order: &Order) -> Result<Answer, Fault> {
         let _turn = matches!(order.how, How::Append | How::Prepend).then(|| self.turns.wait(order.key));
         for _ in 0..TRIES {
             let found = self.find(order.key, |item, now| order.next(item, now))?;
             let (next, since) = match (found, order.how, order.compare) {
-                (Found::Absent | Found::Dead(_), How::Set | How::Replace, Some(_)) => return Ok(Stored::NotFound),
-                (Found::Live(..), How::Add, _) => return Ok(Stored::NotStored),
-                (Found::Live(_, token), _, Some(compare)) if token != compare => return Ok(Stored::Exists),
-                (Found::Absent | Found::Dead(_), How::Replace | How::Append | How::Prepend, _) => return Ok(Stored::NotStored),
+                (Found::Absent | Found::Dead(_), How::Set | How::Replace, Some(_)) => return Ok(Answer::NotFound),
+                (Found::Live(..), How::Add, _) => return Ok(Answer::NotStored),
+                (Found::Live(_, token), _, Some(compare)) if token != compare => return Ok(Answer::Exists),
+                (Found::Absent | Found::Dead(_), How::Replace | How::Append | How::Prepend, _) => return Ok(Answer::NotStored),
                 (Found::Absent, ..) => (order.fresh(self.clock.now()), None),
                 (Found::Dead(token), ..) => (order.fresh(self.clock.now()), Some(token)),
                 (Found::Live(next, token), ..) => (next, Some(token)),
             };
-            if next.data.len() > self.limits.longest {
+            if next.data.len() > self.options.longest {
                 return Err(Fault::TooLong);
             }
             if let Some(token) = self.put_over(order.key, since, next)? {
-                return Ok(Stored::Stored(token));
+                return Ok(Answer::Done(token));
             }
         }
         Err(Fault::Disturbed)
@@ -127,11 +127,11 @@ impl Store {
     }
 
     /// Deletes the key's value, if it has this token.
-    pub fn delete(&self, key: &[u8], compare: Option<Token>) -> Result<Deleted, Fault> {
+    pub fn delete(&self, key: &[u8], compare: Option<Token>) -> Result<Answer, Fault> {
         Ok(match self.delete_if(key, |token| compare.is_none_or(|compare| compare == token))? {
-            Found::Live(true, _) => Deleted::Deleted,
-            Found::Live(false, _) => Deleted::Exists,
-            Found::Dead(_) | Found::Absent => Deleted::NotFound,
+            Found::Live(true, token) => Answer::Done(token),
+            Found::Live(false, _) => Answer::Exists,
+            Found::Dead(_) | Found::Absent => Answer::NotFound,
         })
     }
 

@@ -1,8 +1,9 @@
 //! Dialogues over a plain index: what is answered, also when the index refuses.
 mod plain;
 use cefrodild::dialogue::{Dialogue, Turn, MOST_WAITING};
+use cefrodild::options::{parse, Asked};
 use cefrodild::room::Room;
-use cefrodild::store::{Limits, Store};
+use cefrodild::store::Store;
 use plain::{Faults, Plain};
 use std::sync::atomic::Ordering::SeqCst;
 use std::sync::Arc;
@@ -19,8 +20,8 @@ struct Client {
 impl Client {
     fn new(memory: usize) -> Client {
         let (room, faults) = (Arc::new(Room::new(memory as u64)), Arc::new(Faults::default()));
-        let limits = Limits { connections: 1, threads: 1, memory, longest: MEGABYTE };
-        let store = Store::new(Box::new(Plain::new(&room, &faults)), room, limits);
+        let Ok(Asked::Serve(options)) = parse(["-t1".to_owned()]) else { panic!("these are options") };
+        let store = Store::new(Box::new(Plain::new(&room, &faults)), room, options);
         Client { store, faults, dialogue: Dialogue::default(), input: Vec::new() }
     }
 
