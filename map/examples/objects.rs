@@ -1,5 +1,5 @@
-//! Pages by their path, of which readers share what they found. The listener counts the bytes that the map holds.
-use cefrodil_map::ObjectMap;
+//! Pages by their path, which threads render and share. A listener counts the bytes of the pages that gave way to others.
+use cefrodil_map::{ObjectMap, Reason};
 use std::error::Error;
 use std::sync::atomic::{AtomicUsize, Ordering::SeqCst};
 use std::sync::Arc;
@@ -11,27 +11,25 @@ fn render(path: &str) -> Arc<str> {
 
 fn main() -> Result<(), Box<dyn Error>> {
     let bytes = Arc::new(AtomicUsize::new(0));
-    let gone = Arc::clone(&bytes);
-    let pages = ObjectMap::<String, Arc<str>>::builder(100)
-        .listener(move |_, page, _| {
-            gone.fetch_sub(page.len(), SeqCst);
-        })
-        .open()?;
+    let evicted = Arc::clone(&bytes);
+    let hear = move |_: &String, page: &Arc<str>, reason| {
+        if reason == Reason::Evicted {
+            evicted.fetch_add(page.len(), SeqCst);
+        }
+    };
+    let pages = ObjectMap::builder(100).listener(hear).open()?;
     thread::scope(|threads| {
         for _ in 0..4 {
             threads.spawn(|| {
                 for number in 0..300 {
-                    let path = format!("/page/{number}");
-                    let page = pages.get_or_insert_with(path.as_str(), || {
-                        let page = render(&path);
-                        bytes.fetch_add(page.len(), SeqCst);
-                        page
-                    });
+                    let path = format!("/page/{number:03}");
+                    let page = pages.get_or_insert_with(path.as_str(), || render(&path));
                     assert!(page.contains(&path));
                 }
             });
         }
     });
-    println!("{} pages of {} bytes, {:?}", pages.len(), bytes.load(SeqCst), pages.stats());
+    assert_eq!(bytes.load(SeqCst), pages.stats().evicted as usize * render("/page/000").len());
+    println!("{} pages, {} bytes gave way, {:?}", pages.len(), bytes.load(SeqCst), pages.stats());
     Ok(())
 }

@@ -65,9 +65,12 @@ impl<K: Hash + Eq, V, S: BuildHasher> ObjectInner<K, V, S> {
             let pinned = self.pin();
             let (seen, over) = pinned.place(hash, &key).ok_or(UpdateError::Busy)?;
             let value = change(seen.map(|seen| &seen.object.value));
-            let object = Object::new(key, value, seen.map_or_else(|| self.deadline(None), |seen| seen.object.deadline()));
+            let object = Object::new(key, value, self.deadline(None));
             self.detach(hash);
-            let put = pinned.put_over(hash, object, over, seen);
+            let put = match seen {
+                Some(seen) => self.put_over_seen(&pinned, hash, object, seen),
+                None => self.put_over(hash, object, over),
+            };
             drop(pinned);
             match put {
                 Ok(done) => return Ok(self.end(done)),
@@ -92,11 +95,11 @@ impl<K: Hash + Eq, V, S: BuildHasher> ObjectInner<K, V, S> {
             let pinned = self.pin();
             let (Some(seen), over) = pinned.place(hash, key).ok_or(UpdateError::Busy)? else { return Ok(None) };
             let value = change(&seen.object.value);
-            let key = seen.object.key.clone();
+            let object = Object::new(seen.object.key.clone(), value, self.deadline(anew));
             self.detach(hash);
             let put = match anew {
-                Some(life) => self.put_over(hash, Object::new(key, value, self.clock.deadline(life)), over),
-                None => pinned.put_over(hash, Object::new(key, value, seen.object.deadline()), over, Some(seen)),
+                Some(_) => self.put_over(hash, object, over),
+                None => self.put_over_seen(&pinned, hash, object, seen),
             };
             drop(pinned);
             match put {

@@ -23,7 +23,8 @@ pub(crate) struct ObjectInner<K, V, S> {
     pub slots: Arc<Slots<Pass<'static, 1>>>,
     pub epochs: Epochs,
     pub flights: Flights<()>,
-    /// A put that doesn't look what is there locks its key's stripe. So does a put of a key that must be absent.
+    /// A call locks its key's stripe if it puts a key whatever is there, if it puts one that must be absent, or if it moves or keeps a
+    /// deadline.
     pub stripes: Box<[Stripe]>,
     pub clock: Clock,
     pub hasher: S,

@@ -4,7 +4,8 @@ use super::map::ObjectMap;
 use super::pinned::State;
 use crate::error::GetError;
 use crate::stats::Kind;
-use cefrodil::Reply;
+use crate::wait::in_turn;
+use cefrodil::{Reply, TurnError};
 use std::borrow::Borrow;
 use std::hash::{BuildHasher, Hash};
 use std::time::Duration;
@@ -137,8 +138,8 @@ where
         self.inner.look_many(keys, look);
     }
 
-    /// Begins the value's time to live anew with `life`, in place: no token changes, and nothing is copied. Returns whether the key has a
-    /// value. A removal that comes between is not undone.
+    /// Begins the value's time to live anew with `life`, in place: no token changes, and nothing is copied. A removal that comes between is
+    /// not undone. `false`: the key has no value, or other threads disturbed each try.
     pub fn touch<Q: Hash + Eq + ?Sized>(&self, key: &Q, life: Duration) -> bool
     where
         K: Borrow<Q>,
@@ -175,22 +176,29 @@ impl<K: Eq, V, S: BuildHasher> ObjectInner<K, V, S> {
         }
     }
 
-    // Another thread may replace the object while its deadline is moved. So this looks again whether it is still there.
+    // The lock keeps the deadline still while another call makes an object that keeps it. No code of the caller runs under it.
     fn touch<Q: Hash + Eq + ?Sized>(&self, key: &Q, life: Duration) -> bool
     where
         K: Borrow<Q>,
     {
         let hash = self.hash(key);
         let pinned = self.pin();
-        let mut touched = None;
         for _ in 0..self.tries {
-            match pinned.look(hash, key, self.looks()) {
-                Some(State::Live(seen) | State::Expired(seen)) if touched == Some(seen.since) => return true,
-                Some(State::Live(seen)) => {
-                    seen.object.set_deadline(self.clock.deadline(life));
-                    touched = Some(seen.since);
-                }
-                _ => return false,
+            let Some(State::Live(seen)) = pinned.look(hash, key, self.looks()) else { return false };
+            let touched = in_turn(self.tries, || {
+                self.in_stripe(hash, |pass| match pass.get_or_desk(hash) {
+                    Reply::Found { since, .. } if since == seen.since => {
+                        seen.object.set_deadline(self.clock.deadline(life));
+                        Ok(true)
+                    }
+                    Reply::Found { .. } | Reply::Absent { .. } => Ok(false),
+                    Reply::Busy => Err(TurnError::<()>::Held),
+                })
+            });
+            match touched {
+                Ok(true) => return true,
+                Ok(false) => {}
+                Err(_) => return false,
             }
         }
         false

@@ -18,3 +18,6 @@ pub use error::{AbsentError, IfError, Refused};
 pub use look::Look;
 pub use map::ObjectMap;
 pub use put::Put;
+
+#[cfg(test)]
+pub(crate) use pinned::State;

@@ -22,11 +22,6 @@ impl<K, V> Object<K, V> {
         self.deadline.store(deadline, SeqCst);
     }
 
-    /// Moves the deadline, if it is still this one.
-    pub fn move_deadline(&self, from: u64, to: u64) {
-        let _ = self.deadline.compare_exchange(from, to, SeqCst, SeqCst);
-    }
-
     /// The object's address. It stays allocated until a `Box` is made of it again.
     pub fn into_word(self: Box<Object<K, V>>) -> u64 {
         Box::into_raw(self) as usize as u64

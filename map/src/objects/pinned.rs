@@ -3,7 +3,6 @@ use super::epochs::Guard;
 use super::inner::ObjectInner;
 use super::look::Look;
 use super::object::Object;
-use super::put::Offered;
 use crate::wait::within;
 use cefrodil::Reply;
 use std::borrow::Borrow;
@@ -104,16 +103,6 @@ impl<K, V, S> Pinned<'_, K, V, S> {
         })
     }
 
-    /// Puts an object that has the deadline of the one that was seen. If a renewal moves that one meanwhile, it moves this one.
-    pub fn put_over(&self, hash: u64, object: Box<Object<K, V>>, over: Over, seen: Option<Seen<'_, K, V>>) -> Offered<K, V> {
-        let deadline = object.deadline();
-        let done = self.inner.put_over(hash, object, over)?;
-        if let Some(last) = seen.map(|seen| seen.object.deadline()).filter(|last| *last != deadline) {
-            self.object(done.word).move_deadline(deadline, last);
-        }
-        Ok(done)
-    }
-
     /// Whether the object has expired. The word is one that the index returned to this call.
     pub fn has_expired(&self, word: u64) -> bool {
         self.inner.clock.has_passed(self.object(word).deadline())
@@ -150,9 +139,9 @@ impl<K, V, S> Pinned<'_, K, V, S> {
         })
     }
 
-    // The word is one that the index returned to this call, or that this call put, after it was pinned.
+    /// The word is one that the index returned to this call after it was pinned, or one that this call puts.
     #[inline]
-    fn object(&self, word: u64) -> &Object<K, V> {
+    pub fn object(&self, word: u64) -> &Object<K, V> {
         // SAFETY: the index of this map has only words of `into_word` of the same types. So this is an object, and all others borrow it as
         // shared. It is made a `Box` again in two places. One gets it back from a put that failed, so it was never in the index. The other
         // (`free`) gets it when no call is pinned since before it left the index. This call was pinned before it found the object there,

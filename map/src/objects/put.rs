@@ -4,7 +4,7 @@ use super::error::{AbsentError, IfError, Refused};
 use super::inner::ObjectInner;
 use super::map::ObjectMap;
 use super::object::Object;
-use super::pinned::Over;
+use super::pinned::{Over, Pinned, Seen};
 use crate::error::InsertError;
 use crate::map::Inserted;
 use crate::wait::in_turn;
@@ -128,8 +128,6 @@ where
 #[must_use]
 pub(crate) struct Done {
     put: Put,
-    /// The word of the object that was put.
-    pub word: u64,
     old: Option<(u64, Reason)>,
 }
 
@@ -163,22 +161,45 @@ impl Fail {
 impl<K, V, S> ObjectInner<K, V, S> {
     /// Puts the object over what is there now. On failure the object comes back.
     pub fn put_over(&self, hash: u64, object: Box<Object<K, V>>, over: Over) -> Offered<K, V> {
-        let word = object.into_word();
-        let put = match over {
+        self.offer(object, |word| match over {
             Over::Any => self.put_any(hash, word),
             Over::Absent => self.put_absent(hash, word),
             Over::At(since) => self.put_at(hash, word, since),
-        };
-        put.map_err(|why| {
-            // SAFETY: `into_word` made the word of this very object. Each of the three puts it by its last call of the index alone, and a
-            // call that returns an error has put nothing. So no other thread has seen the word.
+        })
+    }
+
+    /// Like `put_over`, over an object that was seen, whose deadline the new one keeps. The lock keeps renewals from coming between.
+    pub fn put_over_seen(
+        &self,
+        pinned: &Pinned<K, V, S>,
+        hash: u64,
+        object: Box<Object<K, V>>,
+        seen: Seen<K, V>,
+    ) -> Offered<K, V> {
+        self.offer(object, |word| {
+            let put = in_turn(self.tries, || {
+                self.in_stripe(hash, |pass| {
+                    pinned.object(word).set_deadline(seen.object.deadline());
+                    pass.try_swap_if(hash, seen.since, &[word])
+                })
+            });
+            self.replaced(put)
+        })
+    }
+
+    // `put` puts the word, as the last that it does with it, unless it fails.
+    fn offer(&self, object: Box<Object<K, V>>, put: impl FnOnce(u64) -> Result<Done, Fail>) -> Offered<K, V> {
+        let word = object.into_word();
+        put(word).map_err(|why| {
+            // SAFETY: `into_word` made the word of this very object. A call of the index that returns an error has put nothing, and each `put`
+            // here fails only if its last call did. So no other thread has seen the word.
             (unsafe { Box::from_raw(Object::pointer(word)) }, why)
         })
     }
 
     fn put_any(&self, hash: u64, word: u64) -> Result<Done, Fail> {
         let put = in_turn(self.tries, || self.in_stripe(hash, |pass| pass.try_swap(hash, &[word]).map_err(failed)));
-        put.map(|swapped| self.swapped(word, swapped)).map_err(Fail::of)
+        put.map(|swapped| self.swapped(swapped)).map_err(Fail::of)
     }
 
     // The lock keeps other threads from putting the key between the two calls.
@@ -190,14 +211,18 @@ impl<K, V, S> ObjectInner<K, V, S> {
                 Reply::Absent { .. } => pass.try_swap(hash, &[word]).map_err(failed),
             })
         });
-        put.map(|swapped| self.swapped(word, swapped)).map_err(Fail::of)
+        put.map(|swapped| self.swapped(swapped)).map_err(Fail::of)
     }
 
     fn put_at(&self, hash: u64, word: u64, since: u64) -> Result<Done, Fail> {
-        match in_turn(self.tries, || self.slots.call(|pass| pass.try_swap_if(hash, since, &[word]))) {
+        self.replaced(in_turn(self.tries, || self.slots.call(|pass| pass.try_swap_if(hash, since, &[word]))))
+    }
+
+    fn replaced(&self, put: Result<Replaced<1>, TurnError<PutIfError>>) -> Result<Done, Fail> {
+        match put {
             Ok(Replaced { at, old }) => {
                 let put = Put { did: self.slots.count_put(cefrodil::Put::Renewed { at }), at };
-                Ok(Done { put, word, old: Some((old.value[0], Reason::Replaced)) })
+                Ok(Done { put, old: Some((old.value[0], Reason::Replaced)) })
             }
             Err(TurnError::Call(PutIfError::NotThere { at })) => Err(Fail::NotThere { at }),
             Err(TurnError::Call(PutIfError::Changed { since })) => Err(Fail::Changed { since }),
@@ -206,8 +231,8 @@ impl<K, V, S> ObjectInner<K, V, S> {
         }
     }
 
-    // Makes a call while no other thread puts a key of the same stripe without looking at what is there.
-    fn in_stripe<T, E>(
+    /// Makes a call while no other thread makes one for a key of the same stripe.
+    pub fn in_stripe<T, E>(
         &self,
         hash: u64,
         call: impl FnOnce(&mut Pass<'static, 1>) -> Result<T, TurnError<E>>,
@@ -221,14 +246,14 @@ impl<K, V, S> ObjectInner<K, V, S> {
         self.slots.call(call)
     }
 
-    fn swapped(&self, word: u64, Swapped { put, old }: Swapped<1>) -> Done {
+    fn swapped(&self, Swapped { put, old }: Swapped<1>) -> Done {
         let (at, did) = (put.at(), self.slots.count_put(put));
         let reason = if let Inserted::Evicted = did { Reason::Evicted } else { Reason::Replaced };
-        Done { put: Put { did, at }, word, old: old.map(|old| (old.value[0], reason)) }
+        Done { put: Put { did, at }, old: old.map(|old| (old.value[0], reason)) }
     }
 
     /// Ends a put: what gave way is retired.
-    pub fn end(&self, Done { put, old, .. }: Done) -> Put {
+    pub fn end(&self, Done { put, old }: Done) -> Put {
         if let Some((word, reason)) = old {
             self.left(word, reason);
         }

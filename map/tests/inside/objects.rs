@@ -1,9 +1,14 @@
 //! Objects expire by a clock that the tests turn. What is refused comes back.
+use crate::clock::NEVER;
+use crate::objects::State;
 use crate::{
     AbsentError, ClearError, IfError, InsertError, Inserted, Look, ObjectBuilder, ObjectMap, Reason, RemoveError, UpdateError,
 };
 use cefrodil::Shape;
+use std::hint::spin_loop;
+use std::sync::atomic::{AtomicBool, Ordering::SeqCst};
 use std::sync::{Arc, Mutex};
+use std::thread;
 use std::time::Duration;
 
 const fn seconds(number: u64) -> Duration {
@@ -96,6 +101,35 @@ fn a_touch_changes_no_token_and_is_not_lost_by_a_change() {
     .unwrap();
     turn(&map, seconds(700));
     assert_eq!((map.get(&1), map.touch(&1, Duration::ZERO), map.get(&1)), (Some(text("b")), true, None));
+}
+
+// Threads change a value as fast as they can. Once a renewal has returned, no later value has the old deadline.
+#[test]
+fn no_renewal_is_lost_beside_changes() {
+    let map = ObjectMap::<u64, u64>::new(100).unwrap();
+    let (hash, end) = (map.hash_of(&1), AtomicBool::new(false));
+    map.insert(1, 0).unwrap();
+    let lost = thread::scope(|threads| {
+        for _ in 0..4 {
+            threads.spawn(|| {
+                while !end.load(SeqCst) {
+                    map.modify(&1, |old| old + 1).unwrap();
+                }
+            });
+        }
+        let lost = (0..10_000).filter(|round| {
+            let put = map.insert_for(1, 0, seconds(1_000));
+            (0..round % 64).for_each(|_| spin_loop());
+            let touched = map.touch(&1, Duration::MAX);
+            let pinned = map.inner.pin();
+            let live = matches!(pinned.look(hash, &1, 1_000), Some(State::Live(seen)) if seen.object.deadline() == NEVER);
+            put.is_err() || !touched || !live
+        });
+        let lost = lost.count();
+        end.store(true, SeqCst);
+        lost
+    });
+    assert_eq!((lost, map.stats().evicted), (0, 0));
 }
 
 type Heard = Arc<Mutex<Vec<(u64, Reason)>>>;

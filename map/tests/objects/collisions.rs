@@ -94,7 +94,7 @@ fn a_put_on_a_condition_sees_its_own_key_alone() {
 
 #[test]
 fn keys_with_the_same_hash_are_computed_apart() {
-    let (map, ledger) = (open(), Ledger::new(100));
+    let (map, ledger) = (open(), Ledger::new(10_000));
     let value = map.get_or_insert_with(&2, || {
         assert_eq!(map.get_or_insert_with(&4, || ledger.make(4)).key, 4);
         ledger.make(2)
@@ -107,17 +107,11 @@ fn keys_with_the_same_hash_are_computed_apart() {
             threads.spawn(move || {
                 for round in 0..200 {
                     let key = 10 + 2 * ((round + thread) % 4);
-                    assert_eq!(map.get_or_insert_with(&key, || ledger_of(thread).make(key)).key, key);
+                    assert_eq!(map.get_or_insert_with(&key, || ledger.make(key)).key, key);
                 }
             });
         }
     });
-}
-
-fn ledger_of(_: u64) -> &'static Ledger {
-    use std::sync::OnceLock;
-    static LEDGER: OnceLock<&'static Ledger> = OnceLock::new();
-    LEDGER.get_or_init(|| Ledger::new(10_000))
 }
 
 #[test]

@@ -106,9 +106,12 @@ fn a_computation_may_call_the_map() {
 
 // A write comes while a thread computes. Then its value is not put, and a call that begins later doesn't wait for it.
 fn detaches(write: impl FnOnce(&Names), then: Option<&str>) {
-    let map = Names::new(100).unwrap();
-    let old = Computation::begin(&map, "old");
-    write(&map);
+    detaches_in(&Names::new(100).unwrap(), write, then);
+}
+
+fn detaches_in(map: &Names, write: impl FnOnce(&Names), then: Option<&str>) {
+    let old = Computation::begin(map, "old");
+    write(map);
     assert_eq!(map.get("key").as_deref(), then);
     let new = map.try_get_or_insert_with("key", || text("new"));
     assert_eq!(new.as_deref(), Ok(then.unwrap_or("new")), "a call waits for a value that is too old");
@@ -134,13 +137,40 @@ fn a_value_computed_before_a_write_is_not_put() {
         },
         None,
     );
-    detaches(
+    type Write = fn(&Names);
+    let writes: [Write; 4] = [
+        |map| done(map.insert(text("key"), text("a")).unwrap()),
+        |map| done(map.insert_if_absent(text("key"), text("a")).unwrap()),
+        |map| done(map.update(text("key"), |_| text("a")).unwrap()),
         |map| {
             let since = map.put(text("key"), text("a"), None).unwrap().at;
-            map.remove_stamped(map.hash_of("key"), since).unwrap();
+            map.replace_if(text("key"), since, text("b"), None).unwrap();
         },
-        None,
-    );
+    ];
+    for write in writes {
+        detaches(
+            |map| {
+                write(map);
+                // It is evicted.
+                (0..400).for_each(|number| done(map.insert(number.to_string(), text("other")).unwrap()));
+            },
+            None,
+        );
+    }
+}
+
+#[test]
+fn nor_one_computed_before_an_expired_value_is_removed() {
+    for way in 0..3 {
+        let map = Names::new(100).unwrap();
+        let since = map.put(text("key"), text("expired"), Some(Duration::ZERO)).unwrap().at;
+        let remove = |map: &Names| match way {
+            0 => assert!(!map.remove("key").unwrap()),
+            1 => done(map.remove_if("key", since).unwrap()),
+            _ => done(map.remove_stamped(map.hash_of("key"), since).unwrap()),
+        };
+        detaches_in(&map, remove, None);
+    }
 }
 
 #[test]

@@ -10,6 +10,9 @@ use std::time::{Duration, Instant};
 
 const THREADS: u64 = 4;
 
+// How long a test waits for other threads to do enough.
+const LONG: Duration = Duration::from_secs(30);
+
 fn in_threads(count: u64, work: impl Fn(u64) + Sync) {
     let start = Barrier::new(count as usize);
     thread::scope(|threads| {
@@ -157,7 +160,10 @@ fn what_is_added_replaces_nothing() {
                 let put = map.insert_if_absent(1, number).map_err(|refused| refused.why);
                 ADDS.set(false);
                 assert!(put != Ok(Inserted::Renewed));
-                added.fetch_add(u64::from(put.is_ok()), SeqCst);
+                if put.is_ok() {
+                    added.fetch_add(1, SeqCst);
+                    map.remove(&1).unwrap();
+                }
             }
             if number % 64 == 0 && Instant::now() > end {
                 break;
@@ -189,9 +195,12 @@ fn a_removal_is_not_undone() {
                 }
             });
         }
-        let undone = (0..8_000).filter(|number| {
-            map.insert(1, *number).unwrap();
-            (0..number % 64).for_each(|_| spin_loop());
+        let begin = Instant::now();
+        // There must be enough renewals, too, for which the other threads need a processor.
+        let rounds = (0..).take_while(|round| (*round < 5_000 || renewed.load(SeqCst) < 100) && begin.elapsed() < LONG);
+        let undone = rounds.filter(|round| {
+            map.insert(1, *round).unwrap();
+            (0..round % 64).for_each(|_| spin_loop());
             map.remove(&1).unwrap();
             (0..3).any(|_| map.contains_key(&1))
         });
@@ -200,7 +209,7 @@ fn a_removal_is_not_undone() {
         undone
     });
     assert_eq!((undone, map.get(&1), map.len()), (0, None, 0));
-    assert!(renewed.load(SeqCst) > 100, "only {renewed:?} renewals");
+    assert!(renewed.load(SeqCst) >= 100, "only {renewed:?} renewals");
 }
 
 // What a thread removes by a token is the value that it looked at.
@@ -222,19 +231,26 @@ fn a_removal_by_a_token_takes_no_later_value() {
                     return;
                 }
                 map.insert(1, number).unwrap();
+                if number % 8 == 0 {
+                    thread::yield_now();
+                }
             }
         });
-        let mut done = 0;
-        for _ in 0..20_000 {
-            let Ok(Look::Found { result, since, .. }) = map.look(&1, |value| *value) else { continue };
-            if map.remove_if(&1, since).is_ok() {
-                assert_eq!(removed.load(SeqCst), result);
-                done += 1;
+        let (mut taken, mut wrong, begin) = (0, 0, Instant::now());
+        while taken < 1_000 && begin.elapsed() < LONG {
+            if let Ok(Look::Found { result, since, .. }) = map.look(&1, |value| *value) {
+                if map.remove_if(&1, since).is_ok() {
+                    taken += 1;
+                    wrong += u64::from(removed.load(SeqCst) != result);
+                }
             }
-            let Ok(Look::Found { result, .. }) = map.remove_with(&1, |value| *value) else { continue };
-            assert_eq!(removed.load(SeqCst), result);
+            if let Ok(Look::Found { result, .. }) = map.remove_with(&1, |value| *value) {
+                taken += 1;
+                wrong += u64::from(removed.load(SeqCst) != result);
+            }
+            thread::yield_now();
         }
         end.store(true, SeqCst);
-        assert!(done > 0);
+        assert_eq!((taken >= 1_000, wrong), (true, 0), "{taken} were taken");
     });
 }
