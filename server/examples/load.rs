@@ -21,6 +21,9 @@ use std::time::{Duration, Instant};
 const PARTS: u64 = 16;
 const BUCKETS: usize = 64 * PARTS as usize;
 
+/// So long is a value that tells its whole key, so that it still does when something is appended.
+const SHORTEST: u64 = 16;
+
 type Numbers = HashMap<String, u64>;
 
 struct Client {
@@ -144,7 +147,7 @@ impl Client {
 
     fn write_set(&mut self, verb: &str, key: u64, token: &str) {
         let most = self.numbers["value"];
-        let length = if self.numbers["mixed"] == 1 { 1 + self.draw(most) } else { most } as usize;
+        let length = if self.numbers["mixed"] == 1 { SHORTEST + self.draw(most) } else { most } as usize;
         let value = format!("key:{key} ").repeat(length / 6 + 1);
         write!(self.text, "{verb} key:{key} 0 0 {length}{token}\r\n{}\r\n", &value[..length]).expect("a vector takes all");
     }

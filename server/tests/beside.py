@@ -32,7 +32,7 @@ class Peer:
 
     def ask(self, commands):
         """The answers to the commands, up to that of a `mn` that ends them. Tokens are left out."""
-        data = b''.join(part if isinstance(part, bytes) else str(self.tokens.get(part, 1)).encode() for part in commands)
+        data = b''.join(part if isinstance(part, bytes) else str(self.tokens.get(part, 1 << 50)).encode() for part in commands)
         self.socket.sendall(data + b'mn\r\n')
         answers = []
         while True:
@@ -102,7 +102,7 @@ def meta(draw, key, counter, value):
         flags += [b'D%s' % draw.choice(NUMBERS), b'M%s' % draw.choice(b'I D + - X'.split()), b'J3', b'N%s' % draw.choice([b'0', b'60'])]
     chosen = draw.sample(flags, draw.randint(0, 5))
     if draw.random() < 0.03:
-        chosen.append(draw.choice([b'?', b'C1', b'Cx', b'Tx', b'k']))
+        chosen.append(draw.choice([b'?', b'C1125899906842624', b'Cx', b'Tx', b'k']))
     length = b' %d' % len(value) if verb == b'ms' else b''
     block = value + b'\r\n' if verb == b'ms' else b''
     return [b' '.join([b'%s %s%s' % (verb, key, length), *chosen]) + b'\r\n' + block]
