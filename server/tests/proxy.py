@@ -113,9 +113,10 @@ def main():
     with tempfile.TemporaryDirectory() as folder:
         config = os.path.join(folder, 'nutcracker.yml')
         with open(config, 'w', encoding='utf-8') as file:
-            file.write(f'pool:\n  listen: 127.0.0.1:{listen}\n  hash: fnv1a_64\n  distribution: ketama\n  timeout: 400\n')
+            file.write(f'pool:\n  listen: 127.0.0.1:{listen}\n  hash: md5\n  distribution: ketama\n  timeout: 400\n')
             file.write('  auto_eject_hosts: false\n  server_retry_timeout: 200\n  servers:\n')
-            file.writelines(f'   - 127.0.0.1:{port}:1 server{port}\n' for port in ports)
+            # By these names, and not by the ports, ketama places the servers.
+            file.writelines(f'   - 127.0.0.1:{port}:1 {name}\n' for port, name in zip(ports, ['one', 'two']))
         processes = [start(program, port) for port in ports]
         try:
             proxy = ['nutcracker', '-c', config, '-o', f'{folder}/log', '-p', f'{folder}/pid', '-a', '127.0.0.1', '-s', str(stats)]
