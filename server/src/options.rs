@@ -10,7 +10,7 @@ cefrodild: a cache server that speaks memcached's text protocol
 -l, --listen=ADDRESS   address to listen on (127.0.0.1)
 -U, --udp-port=0       there is no UDP, so only 0 is allowed
 -t, --threads=N        worker threads, 1 to 64 (4)
--m, --memory-limit=N   megabytes for keys, values and index, at least 8 (64)
+-m, --memory-limit=N   megabytes for keys, values and index, at least 16 (64)
 -n, --items=N          most items (one for each 256 bytes of the memory limit)
 -c, --conn-limit=N     most connections at a time (1024)
 -I, --max-item-size=N  longest value in bytes, or with k or m behind it, 1k to 128m (1m)
@@ -79,7 +79,7 @@ pub fn parse(words: impl IntoIterator<Item = String>) -> Result<Asked, String> {
             'l' => address = value.parse().map_err(|_| format!("{word}: '{value}' is no address"))?,
             'U' => drop(within(&word, &value, 0..=0)?),
             't' => threads = within(&word, &value, 1..=64)?,
-            'm' => megabytes = within(&word, &value, 8..=1 << 20)?,
+            'm' => megabytes = within(&word, &value, 16..=1 << 20)?,
             'n' => items = Some(within(&word, &value, 1..=1 << 29)?),
             'c' => connections = within(&word, &value, 1..=1 << 20)?,
             'I' => longest = size(&word, &value)?,

@@ -14,7 +14,7 @@ const SPARE: usize = 1024;
 /// The bytes that items may take, and those that they do take.
 #[derive(Debug)]
 pub struct Room {
-    limit: u64,
+    limit: AtomicU64,
     used: AtomicU64,
     items: AtomicU64,
 }
@@ -31,12 +31,17 @@ pub fn cost(key: usize, value: usize) -> u64 {
 impl Room {
     /// Room for this many bytes.
     pub fn new(limit: u64) -> Room {
-        Room { limit, used: AtomicU64::new(0), items: AtomicU64::new(0) }
+        Room { limit: AtomicU64::new(limit), used: AtomicU64::new(0), items: AtomicU64::new(0) }
+    }
+
+    /// Leaves room for so many bytes from now on.
+    pub fn set_limit(&self, limit: u64) {
+        self.limit.store(limit, Relaxed);
     }
 
     /// The most bytes.
     pub fn limit(&self) -> u64 {
-        self.limit
+        self.limit.load(Relaxed)
     }
 
     /// The bytes of all items, with those that are about to be put.
@@ -63,7 +68,7 @@ impl Room {
 
     /// Whether an item must give way.
     pub fn is_over(&self) -> bool {
-        self.used() > self.limit
+        self.used() > self.limit()
     }
 }
 

@@ -31,7 +31,8 @@ impl Store {
             _ => self.store_if(order),
         };
         match stored {
-            Err(Fault::NoRoom | Fault::TooLong) => self.counts.add(Count::NoMemory),
+            Err(Fault::NoRoom) => self.counts.add(Count::NoMemory),
+            Err(Fault::TooLong) => self.counts.add(Count::TooLarge),
             Ok(Answer::Done(_)) => self.counts.add(Count::Stored),
             _ => {}
         }

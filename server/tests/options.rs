@@ -42,7 +42,7 @@ fn faults() {
         ("-p 65536", "65535"),
         ("-U 1", "-U"),
         ("-t 0", "-t"),
-        ("-m 7", "-m"),
+        ("-m 15", "-m"),
         ("-l nowhere", "'nowhere' is no address"),
         ("-I 1", "-I"),
         ("-hx", "-hx takes no value"),
