@@ -35,7 +35,6 @@ counts! {
     TooLarge "store_too_large",
     NoMemory "store_no_memory",
     Stored "total_items",
-    Evictions "evictions",
     Busy "busy",
     Held "held",
     Refused "refused",

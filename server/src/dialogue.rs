@@ -8,10 +8,10 @@ use crate::store::Store;
 /// While so many bytes of answers wait, no command is carried out, and nothing is read.
 pub const MOST_WAITING: usize = 1 << 16;
 
-/// The longest command line. A line of keys may be longer, since its keys are answered as they come.
+/// The longest command line, with its end. A line of keys may be longer, since its keys are answered as they come.
 const LONGEST_LINE: usize = 2048;
 
-/// How many commands, or keys, are carried out before other clients have their turn.
+/// How many commands, or batches of keys, are carried out before other clients have their turn.
 const COMMANDS: u32 = 64;
 
 /// How many keys are looked up together.
@@ -81,7 +81,8 @@ impl Dialogue {
     }
 
     fn line(&mut self, store: &Store, input: &[u8], out: &mut Vec<u8>) -> Step {
-        let Some(end) = input.iter().position(|byte| *byte == b'\n') else { return self.part_of_line(input, out) };
+        let end = input.iter().take(LONGEST_LINE).position(|byte| *byte == b'\n');
+        let Some(end) = end else { return self.part_of_line(input, out) };
         let (text, rest) = (input[..end].strip_suffix(b"\r").unwrap_or(&input[..end]), &input[end + 1..]);
         let end = end + 1;
         let (request, is_quiet) = parse(text);
@@ -101,9 +102,9 @@ impl Dialogue {
         Step(end, None)
     }
 
-    /// The line has not ended yet.
+    /// The line has not ended yet, or is too long.
     fn part_of_line(&mut self, input: &[u8], out: &mut Vec<u8>) -> Step {
-        if input.len() <= LONGEST_LINE {
+        if input.len() < LONGEST_LINE {
             return Step(0, Some(Turn::Needs(input.len() + 1)));
         }
         // The last word may be a part of one.

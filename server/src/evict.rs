@@ -1,5 +1,4 @@
 //! Items that give way: those in the queue for longest that were not read lately.
-use crate::counts::Count;
 use crate::index::{Key, Outcome, Token};
 use crate::store::{Fault, Store};
 use std::thread::yield_now;
@@ -58,7 +57,7 @@ impl Store {
                 Entry::Spared => drop(self.queue.push(key, token, 0)),
                 Entry::Victim => match self.index.remove_if(&key, token) {
                     Ok(Outcome::Done(_)) => {
-                        self.counts.add(Count::Evictions);
+                        self.room.count_eviction();
                         return true;
                     }
                     Ok(_) => {}

@@ -28,8 +28,9 @@ impl Objects {
         let (room, is_logged) = (Arc::clone(room), audit.is_some());
         let listener = move |key: &Key, item: &Item, reason| {
             room.give_back(cost(key.len(), item.data.len()));
-            if is_logged && reason == Reason::Evicted {
-                EVICTED.set(Some(Arc::clone(key)));
+            if reason == Reason::Evicted {
+                room.count_eviction();
+                EVICTED.set(is_logged.then(|| Arc::clone(key)));
             }
         };
         let mut builder = ObjectMap::builder(items).threads(threads).listener(listener);

@@ -17,6 +17,7 @@ pub struct Room {
     limit: AtomicU64,
     used: AtomicU64,
     items: AtomicU64,
+    evicted: AtomicU64,
 }
 
 /// The items in the order in which they were stored or last spared. An entry whose item has another token by now is old.
@@ -31,7 +32,7 @@ pub fn cost(key: usize, value: usize) -> u64 {
 impl Room {
     /// Room for this many bytes.
     pub fn new(limit: u64) -> Room {
-        Room { limit: AtomicU64::new(limit), used: AtomicU64::new(0), items: AtomicU64::new(0) }
+        Room { limit: AtomicU64::new(limit), used: AtomicU64::new(0), items: AtomicU64::new(0), evicted: AtomicU64::new(0) }
     }
 
     /// Leaves room for so many bytes from now on.
@@ -64,6 +65,16 @@ impl Room {
     pub fn give_back(&self, bytes: u64) {
         self.used.fetch_sub(bytes, Relaxed);
         self.items.fetch_sub(1, Relaxed);
+    }
+
+    /// Counts an item that gave way, to the limit or to a new key in a full index.
+    pub fn count_eviction(&self) {
+        self.evicted.fetch_add(1, Relaxed);
+    }
+
+    /// How many gave way.
+    pub fn evicted(&self) -> u64 {
+        self.evicted.load(Relaxed)
     }
 
     /// Whether an item must give way.

@@ -135,8 +135,11 @@ fn keys_of_a_long_line_are_answered_as_they_come() {
 #[test]
 fn a_line_that_does_not_end() {
     let mut client = Client::new(MEGABYTE);
-    let (answers, ends) = client.ask_bytes(&[b'x'; 3000]);
-    assert_eq!((&answers[..], ends), (&b"CLIENT_ERROR line too long\r\n"[..], true));
+    for line in [vec![b'x'; 3000], [vec![b'x'; 3000], b"\r\n".to_vec()].concat()] {
+        let (answers, ends) = Client::new(MEGABYTE).ask_bytes(&line);
+        assert_eq!((&answers[..], ends), (&b"CLIENT_ERROR line too long\r\n"[..], true));
+    }
+    assert_eq!(client.ask(&format!("{}\n", "x".repeat(2046))), "ERROR\n");
     let mut client = Client::new(MEGABYTE);
     let (answers, ends) = client.ask_bytes(format!("get a {}", "x".repeat(3000)).as_bytes());
     assert_eq!((&answers[..], ends), (&b"CLIENT_ERROR bad command line format\r\n"[..], false));
