@@ -171,15 +171,16 @@ impl Dialogue {
     /// Looks some keys up, the first of what is left of the line.
     fn keys(&mut self, keys: Keys, store: &Store, input: &[u8], out: &mut Vec<u8>) -> Step {
         let batch = Batch::of(input);
+        let found = &batch.keys[..batch.count];
         let each = |position: usize, item: &Item, token| {
-            value(out, batch.keys[position], item, keys.with_token.then_some(token));
+            value(out, found[position], item, keys.with_token.then_some(token));
             out.len() < MOST_WAITING
         };
         let looked = match keys.expiry {
-            Some(expiry) => store.look_and_touch(&batch.keys, store.clock.deadline(expiry), each),
-            None => store.look(&batch.keys, each),
+            Some(expiry) => store.look_and_touch(found, store.clock.deadline(expiry), each),
+            None => store.look(found, each),
         };
-        if looked < batch.keys.len() {
+        if looked < batch.count {
             return Step(batch.ends[looked - 1], None);
         }
         match batch.stop {
@@ -222,9 +223,10 @@ fn block_of(request: &Request) -> Option<usize> {
 
 /// Keys of a line.
 struct Batch<'a> {
-    keys: Vec<&'a [u8]>,
+    keys: [&'a [u8]; KEYS],
     /// Where each key ends.
-    ends: Vec<usize>,
+    ends: [usize; KEYS],
+    count: usize,
     /// Where the batch ends.
     end: usize,
     stop: Stop,
@@ -240,8 +242,8 @@ enum Stop {
 
 impl<'a> Batch<'a> {
     fn of(input: &'a [u8]) -> Batch<'a> {
-        let mut batch = Batch { keys: Vec::new(), ends: Vec::new(), end: 0, stop: Stop::Full };
-        while batch.keys.len() < KEYS {
+        let mut batch = Batch { keys: [b""; KEYS], ends: [0; KEYS], count: 0, end: 0, stop: Stop::Full };
+        while batch.count < KEYS {
             let rest = &input[batch.end..];
             let Some(length) = rest.iter().position(|byte| matches!(byte, b' ' | b'\n')) else {
                 batch.stop = if rest.len() > LONGEST_KEY + 1 { Stop::LongKey } else { Stop::Input };
@@ -254,8 +256,9 @@ impl<'a> Batch<'a> {
                 break;
             }
             if !key.is_empty() {
-                batch.keys.push(key);
-                batch.ends.push(batch.end + key.len());
+                batch.keys[batch.count] = key;
+                batch.ends[batch.count] = batch.end + key.len();
+                batch.count += 1;
             }
             batch.end += length + 1;
             if ends_line {
