@@ -2,9 +2,9 @@
 use crate::counts::Count;
 use crate::item::Item;
 use crate::meta_command;
-use crate::request::{Change, Request, Store as Order};
+use crate::request::{Change, Order, Request};
 use crate::stats;
-use crate::store::{self, Answer, Changed, Fault, Store};
+use crate::store::{Answer, Changed, Fault, Store};
 use std::io::Write;
 
 /// An answer, without its end.
@@ -89,10 +89,8 @@ pub fn run(store: &Store, request: &Request, data: &[u8], is_quiet: bool, out: &
 }
 
 fn store_item(store: &Store, order: &Order, data: &[u8]) -> Text {
-    let Order { how, key, flags, expiry, compare, .. } = *order;
-    let deadline = store.clock.deadline(expiry);
-    let stored = store.store(&store::Order { how, compare, key, flags, deadline, data });
-    if compare.is_some() {
+    let stored = store.store(order, data);
+    if order.compare.is_some() {
         count_comparison(store, stored);
     }
     match stored {

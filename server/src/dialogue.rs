@@ -1,9 +1,10 @@
 //! What a client sends and is answered, byte by byte, without its connection.
 use crate::command::{line, run, value};
+use crate::counts::Count;
 use crate::item::Item;
 use crate::meta::Verb;
-use crate::request::{parse, refusal, words, Keys, Refusal, Request, FORMAT, LONGEST_KEY};
-use crate::store::Store;
+use crate::request::{parse, refusal, words, Keys, Order, Refusal, Request, FORMAT, LONGEST_KEY};
+use crate::store::{Fault, Store};
 
 /// While so many bytes of answers wait, no command is carried out, and nothing is read.
 pub const MOST_WAITING: usize = 1 << 16;
@@ -93,8 +94,8 @@ impl Dialogue {
                 return Step(start, None);
             }
             Ok(Request::Keys(..)) => line(out, FORMAT.text),
-            Ok(request) => match block_of(&request) {
-                Some(length) => return self.block(store, &request, is_quiet, length, rest, out).behind(end),
+            Ok(request) => match order_of(&request) {
+                Some(order) => return self.block(store, &request, is_quiet, &order, rest, out).behind(end),
                 None => run(store, &request, b"", is_quiet, out),
             },
             Err(why) => self.refuse(why, is_quiet, out),
@@ -126,19 +127,20 @@ impl Dialogue {
         }
     }
 
-    /// Carries out a command whose block has so many bytes, if they are there: the input is what follows the line.
+    /// Carries out a command with a block, if that is there: the input is what follows the line.
     fn block(
         &mut self,
         store: &Store,
         request: &Request,
         is_quiet: bool,
-        length: usize,
+        order: &Order,
         input: &[u8],
         out: &mut Vec<u8>,
     ) -> Step {
-        let whole = length + END.len();
+        let (length, whole) = (order.length, order.length + END.len());
         if length > store.options.longest {
-            self.refuse(Refusal { text: store.refuse_long(request).text(), block: whole }, is_quiet, out);
+            store.counts.add(Count::TooLarge);
+            self.refuse(Refusal { text: store.refuse(order, Fault::TooLong).text(), block: whole }, is_quiet, out);
             return Step(0, None);
         }
         if input.len() < whole {
@@ -212,11 +214,11 @@ impl Step {
     }
 }
 
-/// How many bytes follow the line, without the end of the block.
-fn block_of(request: &Request) -> Option<usize> {
+/// What is to be stored, if a block follows the line.
+fn order_of<'a>(request: &Request<'a>) -> Option<Order<'a>> {
     match request {
-        Request::Store(order) => Some(order.length),
-        Request::Meta(meta) if meta.verb == Verb::Set => Some(meta.length),
+        Request::Store(order) => Some(*order),
+        Request::Meta(meta) if meta.verb == Verb::Set => Some(meta.order),
         _ => None,
     }
 }

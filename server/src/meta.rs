@@ -1,6 +1,6 @@
 //! Meta commands: what their words ask for.
 use crate::number;
-use crate::request::{key, refusal, words, How, Refusal, Request, ERROR, FORMAT};
+use crate::request::{key, refusal, words, How, Order, Refusal, Request, ERROR, FORMAT};
 
 /// The longest opaque token, its flag included.
 const LONGEST_OPAQUE: usize = 33;
@@ -23,10 +23,8 @@ pub enum Verb {
 pub struct Meta<'a> {
     /// What it does.
     pub verb: Verb,
-    /// Its key.
-    pub key: &'a [u8],
-    /// How many bytes its block has, if it is `ms`.
-    pub length: usize,
+    /// Its key, and what `ms` stores: `F`, `M`, `C`, `T` and the length of its block.
+    pub order: Order<'a>,
     /// Its flags, as they were sent. The answer has them in this order.
     pub words: &'a [u8],
     /// `q`: whether the usual answer is left out.
@@ -35,12 +33,6 @@ pub struct Meta<'a> {
     pub with_value: bool,
     /// `T`: the new time to live.
     pub expiry: Option<i64>,
-    /// `C`: the token that the item must have.
-    pub compare: Option<u64>,
-    /// `F`: the item's flags.
-    pub flags: u32,
-    /// `M` of `ms`.
-    pub how: How,
     /// `M` of `ma`: whether it subtracts.
     pub subtracts: bool,
     /// `D`: what is added or subtracted.
@@ -80,25 +72,9 @@ pub fn parse(letter: u8, line: &[u8]) -> Result<Request<'_>, Refusal> {
 
 impl<'a> Meta<'a> {
     fn new(verb: Verb, key: &'a [u8], length: usize, words: &'a [u8]) -> Meta<'a> {
-        let (expiry, compare, create) = (None, None, None);
+        let order = Order { how: How::Set, key, flags: 0, expiry: 0, length, compare: None };
         let (is_quiet, with_value, subtracts) = (false, false, false);
-        let how = How::Set;
-        Meta {
-            verb,
-            key,
-            length,
-            words,
-            is_quiet,
-            with_value,
-            expiry,
-            compare,
-            flags: 0,
-            how,
-            subtracts,
-            delta: 1,
-            create,
-            initial: 0,
-        }
+        Meta { verb, order, words, is_quiet, with_value, expiry: None, subtracts, delta: 1, create: None, initial: 0 }
     }
 
     fn read_flags(&mut self) -> Result<(), Refusal> {
@@ -115,7 +91,7 @@ impl<'a> Meta<'a> {
             }
         }
         match (self.verb, mode) {
-            (Verb::Set, Some(mode)) => self.how = how(mode)?,
+            (Verb::Set, Some(mode)) => self.order.how = how(mode)?,
             (_, Some(mode)) => self.subtracts = subtracts(mode)?,
             _ => {}
         }
@@ -129,9 +105,12 @@ impl<'a> Meta<'a> {
             (b'k' | b'c' | b'f' | b's' | b't' | b'P' | b'L', _) => {}
             (b'O', _) if token.len() < LONGEST_OPAQUE => {}
             (b'O', _) => return Err(refusal("CLIENT_ERROR opaque token too long")),
-            (b'T', _) => self.expiry = Some(number::integer(token).ok_or(self.bad_token())?),
-            (b'C', _) => self.compare = Some(number::unsigned(token).ok_or(self.bad_token())?),
-            (b'F', Verb::Set) => self.flags = number::flags(token).ok_or(FORMAT)?,
+            (b'T', _) => {
+                self.order.expiry = number::integer(token).ok_or(self.bad_token())?;
+                self.expiry = Some(self.order.expiry);
+            }
+            (b'C', _) => self.order.compare = Some(number::unsigned(token).ok_or(self.bad_token())?),
+            (b'F', Verb::Set) => self.order.flags = number::flags(token).ok_or(FORMAT)?,
             (b'D', Verb::Arithmetic) => self.delta = number::unsigned(token).ok_or(self.bad_token())?,
             (b'J', Verb::Arithmetic) => self.initial = number::unsigned(token).ok_or(self.bad_token())?,
             (b'N', Verb::Arithmetic) => self.create = Some(number::integer(token).ok_or(self.bad_token())?),

@@ -3,8 +3,8 @@ use crate::command::{block, count_change, count_comparison, line, text, NOT_NUME
 use crate::counts::Count;
 use crate::item::Item;
 use crate::meta::{Meta, Verb};
-use crate::request::{words, Change, How};
-use crate::store::{Answer, Changed, Fault, Order, Store};
+use crate::request::{words, Change, How, Order};
+use crate::store::{Answer, Changed, Fault, Store};
 use std::io::Write;
 
 /// What the answer's flags say of the item.
@@ -47,8 +47,8 @@ fn get(store: &Store, meta: &Meta, out: &mut Vec<u8>) {
         true
     };
     match meta.expiry {
-        Some(expiry) => store.look_and_touch(&[meta.key], store.clock.deadline(expiry), each),
-        None => store.look(&[meta.key], each),
+        Some(expiry) => store.look_and_touch(&[meta.order.key], store.clock.deadline(expiry), each),
+        None => store.look(&[meta.order.key], each),
     };
     if !is_found && !meta.is_quiet {
         answer(meta, "EN", &Facts::default(), out);
@@ -56,17 +56,15 @@ fn get(store: &Store, meta: &Meta, out: &mut Vec<u8>) {
 }
 
 fn set(store: &Store, meta: &Meta, data: &[u8], out: &mut Vec<u8>) {
-    let Meta { how, compare, key, flags, .. } = *meta;
-    let deadline = store.clock.deadline(meta.expiry.unwrap_or(0));
-    let stored = store.store(&Order { how, compare, key, flags, deadline, data });
-    if compare.is_some() {
+    let stored = store.store(&meta.order, data);
+    if meta.order.compare.is_some() {
         count_comparison(store, stored);
     }
     tell(meta, stored, out);
 }
 
 fn delete(store: &Store, meta: &Meta, out: &mut Vec<u8>) {
-    tell(meta, store.delete(meta.key, meta.compare), out);
+    tell(meta, store.delete(meta.order.key, meta.order.compare), out);
 }
 
 fn tell(meta: &Meta, answered: Result<Answer, Fault>, out: &mut Vec<u8>) {
@@ -85,7 +83,7 @@ fn tell(meta: &Meta, answered: Result<Answer, Fault>, out: &mut Vec<u8>) {
 fn change(store: &Store, meta: &Meta, out: &mut Vec<u8>) {
     let deadline = meta.expiry.map(|expiry| store.clock.deadline(expiry));
     let change = if meta.subtracts { Change::Subtract(meta.delta) } else { Change::Add(meta.delta) };
-    let mut changed = store.change(meta.key, change, meta.compare, deadline);
+    let mut changed = store.change(meta.order.key, change, meta.order.compare, deadline);
     count_change(store, change, changed);
     let mut is_quiet = meta.is_quiet;
     if let (Ok(Changed::NotFound), Some(create)) = (changed, meta.create) {
@@ -107,11 +105,11 @@ fn change(store: &Store, meta: &Meta, out: &mut Vec<u8>) {
 
 /// Makes the number that was missing. If another client makes it first, that one is changed.
 fn make(store: &Store, meta: &Meta, create: i64, change: Change) -> Result<Changed, Fault> {
-    let (deadline, data) = (store.clock.deadline(create), meta.initial.to_string());
-    let order = Order { how: How::Add, compare: None, key: meta.key, flags: 0, deadline, data: data.as_bytes() };
-    match store.store(&order)? {
+    let (deadline, number) = (store.clock.deadline(create), meta.initial.to_string());
+    let order = Order { how: How::Add, compare: None, flags: 0, expiry: create, ..meta.order };
+    match store.store(&order, number.as_bytes())? {
         Answer::Done(token) => Ok(Changed::Changed(meta.initial, token, deadline)),
-        _ => store.change(meta.key, change, meta.compare, None),
+        _ => store.change(meta.order.key, change, meta.order.compare, None),
     }
 }
 
@@ -142,7 +140,7 @@ fn write_flags(meta: &Meta, facts: &Facts, out: &mut Vec<u8>) {
             }
             b'k' => {
                 out.extend_from_slice(b" k");
-                out.extend_from_slice(meta.key);
+                out.extend_from_slice(meta.order.key);
                 None
             }
             b'c' => facts.token.map(|token| token.to_string()),

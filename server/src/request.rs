@@ -14,7 +14,7 @@ pub enum Request<'a> {
     /// `get` and its kin. The keys are what follows this many bytes of the line.
     Keys(Keys, usize),
     /// `set` and its kin. A block follows.
-    Store(Store<'a>),
+    Store(Order<'a>),
     Delete(&'a [u8]),
     /// `incr`, `decr`.
     Change(&'a [u8], Change),
@@ -60,7 +60,7 @@ pub enum How {
 
 /// What is to be stored.
 #[derive(Clone, Copy, Debug, PartialEq, Eq)]
-pub struct Store<'a> {
+pub struct Order<'a> {
     pub how: How,
     pub key: &'a [u8],
     pub flags: u32,
@@ -171,11 +171,11 @@ pub fn key(word: &[u8]) -> Result<&[u8], Refusal> {
     Some(word).filter(|word| word.len() <= LONGEST_KEY).ok_or(FORMAT)
 }
 
-fn stored<'a>(how: How, words: &[&'a [u8]]) -> Option<Store<'a>> {
+fn stored<'a>(how: How, words: &[&'a [u8]]) -> Option<Order<'a>> {
     let flags = number::flags(words[2])?;
     let expiry = number::integer(words[3])?;
     let length = number::length(words[4])?;
-    Some(Store { how, key: key(words[1]).ok()?, flags, expiry, length, compare: None })
+    Some(Order { how, key: key(words[1]).ok()?, flags, expiry, length, compare: None })
 }
 
 fn store<'a>(how: How, words: &[&'a [u8]]) -> Result<Request<'a>, Refusal> {
@@ -183,9 +183,9 @@ fn store<'a>(how: How, words: &[&'a [u8]]) -> Result<Request<'a>, Refusal> {
 }
 
 fn compare<'a>(words: &[&'a [u8]]) -> Result<Request<'a>, Refusal> {
-    let store = stored(How::Set, words).ok_or(FORMAT)?;
+    let order = stored(How::Set, words).ok_or(FORMAT)?;
     let token = number::unsigned(words[5]).ok_or(FORMAT)?;
-    Ok(Request::Store(Store { compare: Some(token), ..store }))
+    Ok(Request::Store(Order { compare: Some(token), ..order }))
 }
 
 fn change<'a>(words: &[&'a [u8]], change: fn(u64) -> Change) -> Result<Request<'a>, Refusal> {

@@ -4,7 +4,6 @@ use crate::counts::{Count, Counts};
 use crate::index::{Index, Refused, Token};
 use crate::item::{Flushes, Item};
 use crate::options::Options;
-use crate::request::How;
 use crate::room::{Queue, Room};
 use crate::seat::Seats;
 use crate::turn::Turns;
@@ -58,18 +57,6 @@ pub enum Changed {
     /// The item has another token.
     Exists,
     NotNumeric,
-}
-
-/// An item to store.
-#[derive(Clone, Copy, Debug)]
-pub struct Order<'a> {
-    pub how: How,
-    /// The token that the item must have.
-    pub compare: Option<Token>,
-    pub key: &'a [u8],
-    pub flags: u32,
-    pub deadline: u64,
-    pub data: &'a [u8],
 }
 
 /// What is under a key.

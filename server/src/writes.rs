@@ -3,9 +3,9 @@ use crate::counts::Count;
 use crate::index::{Key, Outcome, Refused, Token};
 use crate::item::Item;
 use crate::number;
-use crate::request::{Change, How, Request};
+use crate::request::{Change, How, Order};
 use crate::room::cost;
-use crate::store::{Answer, Changed, Fault, Found, Order, Store};
+use crate::store::{Answer, Changed, Fault, Found, Store};
 
 /// How often a call tries again that others' changes of its key disturbed.
 const TRIES: u32 = 1000;
@@ -22,57 +22,58 @@ struct Next {
 }
 
 impl Store {
-    /// Stores an item.
-    pub fn store(&self, order: &Order) -> Result<Answer, Fault> {
+    /// Stores this value as it is ordered.
+    pub fn store(&self, order: &Order, data: &[u8]) -> Result<Answer, Fault> {
         self.counts.add(Count::Sets);
-        let stored = match (order.how, order.compare) {
-            _ if order.data.len() > self.options.longest => Err(Fault::TooLong),
-            (How::Set, None) => self.set(order),
-            _ => self.store_if(order),
-        };
+        let stored = if order.is_plain() { self.set(order, data) } else { self.store_if(order, data) };
         match stored {
             Err(Fault::NoRoom) => self.counts.add(Count::NoMemory),
             Err(Fault::TooLong) => self.counts.add(Count::TooLarge),
             Ok(Answer::Done(_)) => self.counts.add(Count::Stored),
             _ => {}
         }
-        stored.map_err(|why| self.refuse(order.how, order.compare, order.key, why))
+        stored.map_err(|why| self.refuse(order, why))
     }
 
-    /// An older value must not outlive a failed `set`.
-    fn refuse(&self, how: How, compare: Option<Token>, key: &[u8], why: Fault) -> Fault {
-        if how == How::Set && compare.is_none() && self.unlink(key).is_err() {
+    /// Refuses an order. An older value must not outlive a failed `set`.
+    pub fn refuse(&self, order: &Order, why: Fault) -> Fault {
+        if order.is_plain() && self.delete_if(order.key, |_| true).is_err() {
             return Fault::Stale;
         }
         why
     }
 
-    /// Refuses a command whose value is too long, before the value has come.
-    pub fn refuse_long(&self, request: &Request) -> Fault {
-        self.counts.add(Count::TooLarge);
-        match request {
-            Request::Store(order) => self.refuse(order.how, order.compare, order.key, Fault::TooLong),
-            Request::Meta(meta) => self.refuse(meta.how, meta.compare, meta.key, Fault::TooLong),
-            _ => Fault::TooLong,
-        }
-    }
-
-    fn set(&self, order: &Order) -> Result<Answer, Fault> {
-        let put = self.put(order.key, order.fresh(self.clock.now()), |key, item| self.index.put(key, item).map(Outcome::Done))?;
+    fn set(&self, order: &Order, data: &[u8]) -> Result<Answer, Fault> {
+        let next = self.fresh(order, self.clock.now(), data);
+        let put = self.put(order.key, next, |key, item| self.index.put(key, item).map(Outcome::Done))?;
         Ok(put.map_or(Answer::NotStored, Answer::Done))
     }
 
-    fn store_if(&self, order: &Order) -> Result<Answer, Fault> {
+    fn fresh(&self, order: &Order, born: u64, data: &[u8]) -> Next {
+        Next { born, flags: order.flags, deadline: self.clock.deadline(order.expiry), data: data.into() }
+    }
+
+    /// What is to be put over an item that was found at this time.
+    fn over(&self, order: &Order, data: &[u8], item: &Item, born: u64) -> Next {
+        let data = match order.how {
+            How::Append => [&item.data, data].concat(),
+            How::Prepend => [data, &item.data].concat(),
+            _ => return self.fresh(order, born, data),
+        };
+        Next { born, flags: item.flags, deadline: item.deadline(), data: data.into() }
+    }
+
+    fn store_if(&self, order: &Order, data: &[u8]) -> Result<Answer, Fault> {
         let _turn = matches!(order.how, How::Append | How::Prepend).then(|| self.turns.wait(order.key));
         for _ in 0..TRIES {
-            let found = self.find(order.key, |item, now| order.next(item, now))?;
+            let found = self.find(order.key, |item, now| self.over(order, data, item, now))?;
             let (next, since) = match (found, order.how, order.compare) {
                 (Found::Absent | Found::Dead(_), How::Set | How::Replace, Some(_)) => return Ok(Answer::NotFound),
                 (Found::Live(..), How::Add, _) => return Ok(Answer::NotStored),
                 (Found::Live(_, token), _, Some(compare)) if token != compare => return Ok(Answer::Exists),
                 (Found::Absent | Found::Dead(_), How::Replace | How::Append | How::Prepend, _) => return Ok(Answer::NotStored),
-                (Found::Absent, ..) => (order.fresh(self.clock.now()), None),
-                (Found::Dead(token), ..) => (order.fresh(self.clock.now()), Some(token)),
+                (Found::Absent, ..) => (self.fresh(order, self.clock.now(), data), None),
+                (Found::Dead(token), ..) => (self.fresh(order, self.clock.now(), data), Some(token)),
                 (Found::Live(next, token), ..) => (next, Some(token)),
             };
             if next.data.len() > self.options.longest {
@@ -117,13 +118,6 @@ impl Store {
                 Err(Fault::NoRoom)
             }
             Ok(_) => Ok(None),
-        }
-    }
-
-    /// Removes whatever the key has.
-    fn unlink(&self, key: &[u8]) -> Result<(), Fault> {
-        match self.delete_if(key, |_| true)? {
-            Found::Live(..) | Found::Dead(_) | Found::Absent => Ok(()),
         }
     }
 
@@ -183,18 +177,9 @@ impl Store {
 }
 
 impl Order<'_> {
-    fn fresh(&self, born: u64) -> Next {
-        Next { born, flags: self.flags, deadline: self.deadline, data: self.data.into() }
-    }
-
-    /// What is to be put over an item that was found at this time.
-    fn next(&self, item: &Item, born: u64) -> Next {
-        let data = match self.how {
-            How::Append => [&item.data, self.data].concat(),
-            How::Prepend => [self.data, &item.data].concat(),
-            _ => return self.fresh(born),
-        };
-        Next { born, flags: item.flags, deadline: item.deadline(), data: data.into() }
+    /// Whether it is a `set`, which overwrites whatever there is.
+    fn is_plain(&self) -> bool {
+        self.how == How::Set && self.compare.is_none()
     }
 }
 

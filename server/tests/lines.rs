@@ -1,6 +1,6 @@
 //! Command lines, as memcached's protocol.txt describes them.
 use cefrodild::meta::Verb;
-use cefrodild::request::{parse, Change, How, Keys, Request, Store};
+use cefrodild::request::{parse, Change, How, Keys, Order, Request};
 
 fn read(line: &str) -> Request<'_> {
     parse(line.as_bytes()).0.unwrap_or_else(|why| panic!("{line}: {}", why.text))
@@ -11,7 +11,7 @@ fn refused(line: &str) -> &'static str {
 }
 
 fn stored<'a>(how: How, compare: Option<u64>) -> Request<'a> {
-    Request::Store(Store { how, key: b"key", flags: 7, expiry: -1, length: 5, compare })
+    Request::Store(Order { how, key: b"key", flags: 7, expiry: -1, length: 5, compare })
 }
 
 #[test]
@@ -123,14 +123,17 @@ fn words_that_are_wrong() {
 #[test]
 fn meta_commands() {
     let Request::Meta(get) = read("mg key v q k Oabc T30") else { panic!() };
-    assert_eq!((get.verb, get.key, get.is_quiet, get.with_value, get.expiry), (Verb::Get, &b"key"[..], true, true, Some(30)));
+    assert_eq!(
+        (get.verb, get.order.key, get.is_quiet, get.with_value, get.expiry),
+        (Verb::Get, &b"key"[..], true, true, Some(30))
+    );
     let Request::Meta(set) = read("ms key 5 F7 T-1 MA C9") else { panic!() };
     assert_eq!(
-        (set.verb, set.length, set.flags, set.expiry, set.how, set.compare),
-        (Verb::Set, 5, 7, Some(-1), How::Append, Some(9))
+        (set.verb, set.order.length, set.order.flags, set.order.expiry, set.order.how, set.order.compare),
+        (Verb::Set, 5, 7, -1, How::Append, Some(9))
     );
     let Request::Meta(delete) = read("md key C9 q") else { panic!() };
-    assert_eq!((delete.verb, delete.compare, delete.is_quiet), (Verb::Delete, Some(9), true));
+    assert_eq!((delete.verb, delete.order.compare, delete.is_quiet), (Verb::Delete, Some(9), true));
     let Request::Meta(sum) = read("ma key N60 J5 D3 M- T90") else { panic!() };
     assert_eq!((sum.create, sum.initial, sum.delta, sum.subtracts, sum.expiry), (Some(60), 5, 3, true, Some(90)));
 }
