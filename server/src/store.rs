@@ -138,7 +138,10 @@ impl Store {
                 }
                 (Ok(Some((_, token))), _) => Ok(Found::Dead(token)),
                 (Ok(None), _) => Ok(Found::Absent),
-                (Err(why), _) => Err(self.disturbed(why)),
+                (Err(_), _) => {
+                    self.counts.add(Count::Busy);
+                    Err(Fault::Disturbed)
+                }
             }
         });
         found
