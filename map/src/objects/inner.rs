@@ -23,7 +23,7 @@ pub(crate) struct ObjectInner<K, V, S> {
     pub slots: Arc<Slots<Pass<'static, 1>>>,
     pub epochs: Epochs,
     pub flights: Flights<()>,
-    /// A call locks its key's stripe if it puts a key whatever is there, if it puts one that must be absent, or if it moves or keeps a
+    /// A call locks its key's stripe if it puts the key whatever is there, or only where it is absent. So does a call that moves or keeps a
     /// deadline.
     pub stripes: Box<[Stripe]>,
     pub clock: Clock,

@@ -13,8 +13,8 @@ use std::sync::Arc;
 /// A bounded cache from keys `K` to values `V` of any type, for any number of threads. A clone is the same map. It needs the feature
 /// `objects`.
 ///
-/// The map owns its keys and values. Each pair is an object on the heap, so a lookup follows a pointer, and a put allocates. For small
-/// values that are `Copy`, a [`Map`](crate::Map) is quicker.
+/// The map owns its keys and values. Each pair is an object on the heap, so a lookup follows a pointer, and a put allocates. A
+/// [`Map`](crate::Map) keeps small values that are `Copy` in its table instead.
 ///
 /// A full map evicts an entry for each new key, roughly one that was not used lately. If other threads disturb a call, it tries again, a
 /// bounded number of times. If all tries failed, a write returns an error and has changed nothing, and a put gives its key and value back.
@@ -25,7 +25,7 @@ use std::sync::Arc;
 /// # When objects are freed
 ///
 /// An object that leaves the map is freed when no call can use it any more. The destructors of keys and values run in calls that write, in
-/// any thread, and in the drop of the last clone, but never in a lookup. Up to 32 objects wait for a call that frees them: see
+/// any thread, and in the drop of the last clone. They never run in a lookup. Up to 32 objects wait for a call that frees them: see
 /// [`free_unused`](ObjectMap::free_unused). More wait while a closure of a lookup runs. So the map's memory has no bound while a closure
 /// sleeps. A panic in a destructor ends there.
 pub struct ObjectMap<K, V, S = RandomState> {
