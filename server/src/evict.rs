@@ -3,7 +3,7 @@ use crate::index::{Key, Outcome, Token};
 use crate::store::{Fault, Store};
 use std::thread::yield_now;
 
-/// How many entries are looked at for one item that gives way, at most. If so many were read lately, the next one goes all the same.
+/// After so many entries, the next item gives way even if it was read lately.
 const LOOKS: u32 = 1000;
 
 /// How often no item could be removed before there is no room. Other threads may be about to add to the queue.
@@ -50,7 +50,7 @@ impl Store {
 
     /// Removes one item. Returns whether there was one that could be removed.
     fn evict(&self) -> bool {
-        for looked in 0.. {
+        for looked in 0..2 * LOOKS {
             let Some((key, token)) = self.queue.pop() else { return false };
             match self.judge(&key, token, looked < LOOKS) {
                 Entry::Old => {}

@@ -4,6 +4,7 @@
 pub mod audit;
 pub mod clock;
 pub mod command;
+mod complain;
 pub mod connection;
 pub mod counts;
 pub mod dialogue;

@@ -1,4 +1,5 @@
 //! Accepts clients, and hands them to the workers in turn.
+use crate::complain::complain;
 use crate::connection::Connection;
 use crate::counts::{self, Count};
 use crate::signal;
@@ -73,7 +74,7 @@ impl Server {
                 Err(why) if why.kind() == ErrorKind::WouldBlock => return false,
                 Err(why) if matches!(why.kind(), ErrorKind::Interrupted | ErrorKind::ConnectionAborted) => {}
                 Err(why) => {
-                    eprintln!("cefrodild: a client can't be accepted: {why}");
+                    complain(format_args!("a client can't be accepted: {why}"));
                     return true;
                 }
             }
@@ -92,7 +93,7 @@ impl Server {
         let inbox = &self.inboxes[self.handed % self.inboxes.len()];
         let handed = stream.set_nodelay(true).and_then(|()| inbox.hand(Connection::new(stream, seat)));
         if let Err(why) = handed {
-            eprintln!("cefrodild: a client is lost: {why}");
+            complain(format_args!("a client is lost: {why}"));
         }
     }
 }

@@ -1,4 +1,5 @@
 //! A thread that answers some of the clients.
+use crate::complain::complain;
 use crate::connection::{Connection, Next};
 use crate::counts;
 use crate::store::Store;
@@ -55,7 +56,7 @@ impl Drop for Inbox {
         // Dropping the sender first lets the worker see it when it wakes.
         self.clients = channel().0;
         if let Err(why) = self.waker.wake() {
-            eprintln!("cefrodild: a worker can't be woken: {why}");
+            complain(format_args!("a worker can't be woken: {why}"));
         }
     }
 }
@@ -140,7 +141,7 @@ impl Worker {
         let interest = Interest::READABLE | Interest::WRITABLE;
         match self.poll.registry().register(client.stream(), token, interest) {
             Ok(()) => drop(self.connections.insert(token, client)),
-            Err(why) => eprintln!("cefrodild: a client can't be registered: {why}"),
+            Err(why) => complain(format_args!("a client can't be registered: {why}")),
         }
     }
 }
