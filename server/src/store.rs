@@ -165,8 +165,12 @@ impl Store {
     /// Makes all items invalid that are stored by then: now, or after so many seconds.
     pub fn flush(&self, delay: i64) {
         let now = self.clock.now();
-        let time = if delay > 0 { self.clock.deadline(delay).max(now) } else { now };
-        self.flushes.flush(time, now);
+        self.flushes.flush(if delay > 0 { self.clock.deadline(delay).max(now) } else { now }, now);
+        if delay <= 0 {
+            // A command that did not see that flush looked at the time before it was there, so before this time.
+            let now = self.clock.now();
+            self.flushes.flush(now, now);
+        }
     }
 
     pub(crate) fn is_live(&self, item: &Item) -> bool {
