@@ -1,5 +1,6 @@
 /* The memory of the archive: the three functions by which the cache allocates, over malloc, realloc and free. The toolchain's own hand each
- * call to these as it is. Here large blocks are placed so that a lookup needs few cache lines and few entries of page tables.
+ * call to these as it is. Here large blocks are placed so that a lookup needs few cache lines and few entries of page tables. Small ones share
+ * no cache line: each put changes words of the writer's, and lookups read the blocks beside it.
  *
  * A block of at least 4,096 bytes begins 56 bytes after the start of a cache line. A table's slots begin at its word 1 + stripes, and
  * stripes are a power of two. So from 8 stripes on they begin on a cache line, and no bucket of four slots crosses one.
@@ -30,7 +31,7 @@ struct block rattle_alloc(size_t size, size_t align);
 struct block rattle_realloc(void *at, size_t kept, size_t size, size_t align);
 void rattle_dealloc(void *at);
 
-enum { LINE = 64, BEHIND = 56, PLACED = 4096, CUT = 128 << 10, HUGE_PAGE = 2 << 20, REGION = 32 << 20 };
+enum { LINE = 64, APART = 2 * LINE, BEHIND = 56, PLACED = 4096, CUT = 128 << 10, HUGE_PAGE = 2 << 20, REGION = 32 << 20 };
 
 /* It is at the start of its region. */
 struct region {
@@ -58,6 +59,17 @@ static bool is_placed(const void *at) { return (uintptr_t)at % 16 == 8; }
 static char *aligned(char *block, size_t align) { return block + (align - (uintptr_t)block % align) % align; }
 
 static size_t whole(size_t size) { return size < 16 ? 16 : size; }
+
+/* A small block with so many bytes before it and after it that it shares no cache line, and no pair of them, since a processor loads both. */
+static void *alone(size_t size) {
+    char *block = malloc(APART + sizeof(void *) + size + APART);
+    if (block == NULL) {
+        return NULL;
+    }
+    char *at = block + APART + sizeof(void *);
+    ((void **)at)[-1] = block;
+    return at;
+}
 
 /* If the system has no huge pages, the pages stay as they are. */
 static void ask_for_huge_pages(char *first, size_t size) { (void)madvise(first, size / HUGE_PAGE * HUGE_PAGE, MADV_HUGEPAGE); }
@@ -141,10 +153,11 @@ static void *at_line(size_t size) {
     return at != NULL ? at : placed(size);
 }
 
-static bool is_to_be_placed(size_t size, size_t align) { return size >= PLACED && align <= 8; }
-
 struct block rattle_alloc(size_t size, size_t align) {
-    return told(is_to_be_placed(size, align) ? at_line(size) : malloc(whole(size)));
+    if (align > sizeof(void *)) {
+        return told(malloc(whole(size)));
+    }
+    return told(size < PLACED ? alone(size) : at_line(size));
 }
 
 void rattle_dealloc(void *at) {
@@ -161,7 +174,7 @@ void rattle_dealloc(void *at) {
 }
 
 struct block rattle_realloc(void *at, size_t kept, size_t size, size_t align) {
-    if (!is_placed(at) && !is_to_be_placed(size, align)) {
+    if (!is_placed(at) && align > sizeof(void *)) {
         return told(realloc(at, whole(size)));
     }
     struct block moved = rattle_alloc(size, align);

@@ -1,5 +1,5 @@
 // Maps of a program's own types, side by side: the same work as in `maps/src/main.rs`. The contestants are cefrodil::map, libcuckoo and TBB. All of
-// them hash by the SipHash-1-3 of cefrodil_hash.hpp with a secret, or all by two multiplications.
+// them hash by the SipHash-1-3 of cefrodil_hash.hpp, or all by two multiplications.
 #include "harness.hpp"
 #include "cefrodil_map.hpp"
 #include <libcuckoo/cuckoohash_map.hh>
@@ -32,17 +32,14 @@ struct Quick {
     uint64_t operator()(uint64_t key, uint64_t seed) const { return mix(key ^ seed); }
 };
 
-// The two hashes with the secret of this process, as libcuckoo and TBB call them.
-static cefrodil::HashSecret secret;
+// The two hashes with the seed of this process, as libcuckoo and TBB call them.
+static uint64_t seed_of_all;
 
 template <class K, class Hash> struct Seeded {
     typedef void is_transparent;
     typedef typename cefrodil::inside::Taken<K, Hash> Key;
     size_t operator()(Key key) const { return hash(key); }
-    size_t hash(Key key) const {
-        if constexpr (std::is_same_v<Hash, Quick>) return Hash()(key, secret.first);
-        else return Hash()(key, secret);
-    }
+    size_t hash(Key key) const { return Hash()(key, seed_of_all); }
     bool equal(Key one, Key other) const { return one == other; }
 };
 
@@ -186,7 +183,7 @@ template <class K, size_t N, class Hash = cefrodil::SipHash<K>> void choose(cons
 int main(int count, char **words) {
     const Options options(count, words);
     const std::string name = words[count - 1];
-    secret = {mix(options.seed), mix(~options.seed)};
+    seed_of_all = mix(options.seed);
     if (options.letters == 16 && options.words == 4 && !options.quick) choose<std::string, 4>(options, name);
     if (options.letters == 0 && options.words == 1 && !options.quick) choose<uint64_t, 1>(options, name);
     if (options.letters == 0 && options.words == 4 && !options.quick) choose<uint64_t, 4>(options, name);

@@ -1,13 +1,16 @@
-/* Threads that write by turns: each adds to counters of the cache, and no addition is lost. Reads as C and as C++. */
+/* Threads that write by turns: each adds to counters of the cache, and no addition is lost. Reads as C and as C++.
+ *
+ * usage: desk [ADDITIONS]     how many each thread makes; none: 20000 */
 #include "cefrodil.h"
 #include <pthread.h>
 #include <sched.h>
 #include <stdio.h>
 #include <stdlib.h>
 
-enum { THREADS = 4, COUNTERS = 8, ADDITIONS = 20000 };
+enum { THREADS = 4, COUNTERS = 8 };
 
 static cefrodil_handle passes[THREADS];
+static uint64_t additions = 20000;
 
 static void must(uint32_t status, const char *what) {
     if (status != CEFRODIL_OK) {
@@ -30,7 +33,7 @@ static uint32_t add_one(cefrodil_handle *pass, uint64_t key) {
 
 static void *add_many(void *handle) {
     cefrodil_handle *pass = (cefrodil_handle *)handle;
-    for (uint64_t i = 0; i < ADDITIONS; i++) {
+    for (uint64_t i = 0; i < additions; i++) {
         uint32_t status = add_one(pass, i % COUNTERS);
         while (status == CEFRODIL_BUSY || status == CEFRODIL_HELD || status == CEFRODIL_CHANGED) {
             sched_yield();
@@ -41,11 +44,14 @@ static void *add_many(void *handle) {
     return NULL;
 }
 
-int main(void) {
+int main(int argc, char **argv) {
     cefrodil_shape shape;
     cefrodil_reply reply;
     pthread_t threads[THREADS];
     uint64_t sum = 0;
+    if (argc > 1) {
+        additions = strtoull(argv[1], NULL, 10);
+    }
     must(cefrodil_shape_for_items(100, &shape), "shape");
     must(cefrodil_open_desk(&shape, 1, passes, THREADS), "open");
     for (uint64_t key = 0; key < COUNTERS; key++) {
@@ -69,5 +75,5 @@ int main(void) {
         must(cefrodil_close(&passes[i]), "close");
     }
     printf("%llu additions\n", (unsigned long long)sum);
-    return sum != (uint64_t)THREADS * ADDITIONS;
+    return sum != THREADS * additions;
 }

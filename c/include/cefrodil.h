@@ -13,7 +13,7 @@
  *      the earlier calls before the later ones. Calls with different handles of one cache need no synchronization.
  *   3. Pointers are to memory of yours, aligned for their types and valid for the whole call. None of it overlaps. They
  *      are never null, but for a handle of cefrodil_close, a reply of cefrodil_get, and an array of cefrodil_open_with,
- *      cefrodil_get_many, cefrodil_entries or cefrodil_stamped_entries whose count is 0.
+ *      cefrodil_get_many, cefrodil_put_many, cefrodil_entries or cefrodil_stamped_entries whose count is 0.
  *      `value` has `words` words; an array has as many elements as its count says.
  *   4. No call comes from a signal handler. A handle is used in the process that opened it: no call comes from a forked
  *      child, which ends by _exit or exec, since exit would run the destructors of C++ objects, and so close handles.
@@ -114,6 +114,13 @@ typedef struct cefrodil_answer {
     uint32_t unused; /* always 0 */
 } cefrodil_answer;
 
+/* One answer of cefrodil_put_many. */
+typedef struct cefrodil_put_answer {
+    cefrodil_reply reply; /* same as that of cefrodil_put */
+    uint32_t status;      /* as cefrodil_put returns it */
+    uint32_t unused;      /* always 0 */
+} cefrodil_put_answer;
+
 /* What a put did. */
 enum {
     CEFRODIL_PUT_NOTHING = 0, /* nothing was put */
@@ -126,6 +133,7 @@ CEFRODIL_SAME_SIZE(sizeof(cefrodil_handle) == 16, "as the library lays it out");
 CEFRODIL_SAME_SIZE(sizeof(cefrodil_shape) == 32, "as the library lays it out");
 CEFRODIL_SAME_SIZE(sizeof(cefrodil_reply) == 32, "as the library lays it out");
 CEFRODIL_SAME_SIZE(sizeof(cefrodil_answer) == 24, "as the library lays it out");
+CEFRODIL_SAME_SIZE(sizeof(cefrodil_put_answer) == 40, "as the library lays it out");
 
 /* The status that a call returns. After any status but OK, no key and no value was changed by the call. */
 typedef enum cefrodil_status {
@@ -234,6 +242,13 @@ CEFRODIL_CHECKED CEFRODIL_NO_NULL cefrodil_status cefrodil_get_many(cefrodil_han
 CEFRODIL_CHECKED CEFRODIL_NO_NULL cefrodil_status cefrodil_get_or_desk(cefrodil_handle *pass, uint64_t key, uint64_t *value, size_t words,
                                                                        cefrodil_reply *reply);
 
+/* Looks the key up by the writer, or by a pass, which tries once for the turn. It doesn't count as a use of the key, so it is for reports and
+ * decisions, not for reads.
+ * OK, ABSENT: as for cefrodil_get, and the answer is true now. HELD: the try did not win. Otherwise CLOSED, KIND (by a reader), WIDTH.
+ * Unless OK, `value` is unchanged. */
+CEFRODIL_CHECKED CEFRODIL_NO_NULL cefrodil_status cefrodil_peek(cefrodil_handle *handle, uint64_t key, uint64_t *value, size_t words,
+                                                                cefrodil_reply *reply);
+
 /* A write is by the writer, or by a pass, which tries once for the turn. HELD: the try did not win, and nothing was changed but the reply, so
  * a value that should be removed is still there. Try again, or note the key. KIND: by a reader.
  *
@@ -259,30 +274,38 @@ CEFRODIL_CHECKED CEFRODIL_NO_NULL cefrodil_status cefrodil_put_if_absent(cefrodi
  * OK and ABSENT: `at` is set. SPENT, HELD, CLOSED, KIND. */
 CEFRODIL_CHECKED CEFRODIL_NO_NULL cefrodil_status cefrodil_remove(cefrodil_handle *handle, uint64_t key, cefrodil_reply *reply);
 
+/* Puts `key_count` keys. Equivalent to calling cefrodil_put for each key in order; but in a large table the processor waits for the words of
+ * several keys at once. `values` has one value after the other, so `value_words` must be `key_count` times the words of a value.
+ * OK: answer i is that of key i. CLOSED; BAD_COUNT: `answer_count` is not `key_count`; WIDTH: `value_words` does not match. With these
+ * nothing was done, and nothing is written. */
+CEFRODIL_CHECKED CEFRODIL_NO_NULL cefrodil_status cefrodil_put_many(cefrodil_handle *handle, const uint64_t *keys, size_t key_count,
+                                                                    const uint64_t *values, size_t value_words,
+                                                                    cefrodil_put_answer *answers, size_t answer_count);
+
 /* Like cefrodil_put; a pass tries up to `tries` times for the turn, at least once, one try after the other without a pause. HELD: none of
  * them won. */
 CEFRODIL_CHECKED CEFRODIL_NO_NULL cefrodil_status cefrodil_put_within(cefrodil_handle *handle, uint32_t tries, uint64_t key,
                                                                       const uint64_t *value, size_t words, cefrodil_reply *reply);
 
 /* Like cefrodil_put, cefrodil_put_if and cefrodil_remove, and they also return the entry that gives way: the key's earlier one, or that
- * of the key that was evicted. So a program that keeps objects behind the cache knows which to free. `former` has `former_words` words.
- * OK: as for cefrodil_put, cefrodil_put_if and cefrodil_remove. If an entry gave way, `former` is its value, and `since` the `at` of its last
- * put. If a new key evicted none, `former` is unchanged, and `since` is 0. HELD: the try of a pass did not win. WIDTH: `words` or
- * `former_words` does not match.
- * Other statuses are theirs. Unless OK, `former` is unchanged. */
+ * of the key that was evicted. So a program that keeps objects behind the cache knows which to free. `old` has `old_words` words.
+ * OK: as for cefrodil_put, cefrodil_put_if and cefrodil_remove. If an entry gave way, `old` is its value, and `since` the `at` of its last
+ * put. If a new key evicted none, `old` is unchanged, and `since` is 0. HELD: the try of a pass did not win. WIDTH: `words` or
+ * `old_words` does not match.
+ * Other statuses are theirs. Unless OK, `old` is unchanged. */
 CEFRODIL_CHECKED CEFRODIL_NO_NULL cefrodil_status cefrodil_swap(cefrodil_handle *handle, uint64_t key, const uint64_t *value, size_t words,
-                                                                uint64_t *former, size_t former_words, cefrodil_reply *reply);
+                                                                uint64_t *old, size_t old_words, cefrodil_reply *reply);
 CEFRODIL_CHECKED CEFRODIL_NO_NULL cefrodil_status cefrodil_swap_if(cefrodil_handle *handle, uint64_t key, uint64_t since,
-                                                                   const uint64_t *value, size_t words, uint64_t *former,
-                                                                   size_t former_words, cefrodil_reply *reply);
-CEFRODIL_CHECKED CEFRODIL_NO_NULL cefrodil_status cefrodil_take(cefrodil_handle *handle, uint64_t key, uint64_t *former,
-                                                                size_t former_words, cefrodil_reply *reply);
+                                                                   const uint64_t *value, size_t words, uint64_t *old,
+                                                                   size_t old_words, cefrodil_reply *reply);
+CEFRODIL_CHECKED CEFRODIL_NO_NULL cefrodil_status cefrodil_take(cefrodil_handle *handle, uint64_t key, uint64_t *old,
+                                                                size_t old_words, cefrodil_reply *reply);
 
 /* Like cefrodil_take, if the key's last put was at `since`, as a lookup of the key returned it. So a program that found an entry too old
  * removes that one, and no later one.
  * OK: as for cefrodil_take. CHANGED: `since` is that of the key's last put. Otherwise ABSENT, SPENT, HELD, CLOSED, KIND, WIDTH. */
-CEFRODIL_CHECKED CEFRODIL_NO_NULL cefrodil_status cefrodil_take_if(cefrodil_handle *handle, uint64_t key, uint64_t since, uint64_t *former,
-                                                                   size_t former_words, cefrodil_reply *reply);
+CEFRODIL_CHECKED CEFRODIL_NO_NULL cefrodil_status cefrodil_take_if(cefrodil_handle *handle, uint64_t key, uint64_t since, uint64_t *old,
+                                                                   size_t old_words, cefrodil_reply *reply);
 
 /* Ends a pass's turns: its handle becomes a reader's. The last pass of a desk gets the writer back, so a program can continue with
  * one writer. For that, every pass of the desk leaves or is closed, in any order and in any thread. If the last one is closed, the writer
@@ -483,6 +506,15 @@ CEFRODIL_CHECKED CEFRODIL_INLINE cefrodil_status cefrodil_get_many_or_none(cefro
                              answer_count != 0 ? answers : &no_answer, answer_count);
 }
 
+CEFRODIL_CHECKED CEFRODIL_INLINE cefrodil_status cefrodil_put_many_or_none(cefrodil_handle *handle, const uint64_t *keys, size_t key_count,
+                                                                           const uint64_t *values, size_t value_words,
+                                                                           cefrodil_put_answer *answers, size_t answer_count) {
+    uint64_t no_key = 0, no_value = 0;
+    cefrodil_put_answer no_answer;
+    return cefrodil_put_many(handle, key_count != 0 ? keys : &no_key, key_count, value_words != 0 ? values : &no_value, value_words,
+                             answer_count != 0 ? answers : &no_answer, answer_count);
+}
+
 /* Counts the entries for a list that has no room, by the writer or a pass of a desk, and makes no list. KIND: by another handle. */
 CEFRODIL_CHECKED CEFRODIL_INLINE cefrodil_status cefrodil_list_without_room(cefrodil_handle *handle, uint64_t *count) {
     const cefrodil_status status = cefrodil_len(handle, count);
@@ -520,6 +552,7 @@ CEFRODIL_CHECKED CEFRODIL_INLINE cefrodil_status cefrodil_stamped_entries_or_non
 #define cefrodil_close cefrodil_close_unless_null
 #define cefrodil_open_with cefrodil_open_with_or_none
 #define cefrodil_get_many cefrodil_get_many_or_none
+#define cefrodil_put_many cefrodil_put_many_or_none
 #define cefrodil_entries cefrodil_entries_or_none
 #define cefrodil_stamped_entries cefrodil_stamped_entries_or_none
 #endif

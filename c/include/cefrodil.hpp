@@ -60,6 +60,12 @@ template <size_t Words> class Writer : public Handle {
         const cefrodil_status status = cefrodil_get_of_width(raw(), key, value.data(), Words, &reply);
         return looked<Words>(status, reply, value);
     }
+    // Equivalent to put for each key in order. In a large table it waits less for memory.
+    [[nodiscard]] Status put_many(const uint64_t *keys, size_t count, const Value *values, cefrodil_put_answer *answers) noexcept {
+        return put_words<Words>(keys, count, values, answers);
+    }
+    // Looks the key up, but doesn't count as a use of it.
+    [[nodiscard]] Answer<Words> peek(uint64_t key) noexcept { return peek_words<Words>(key); }
     [[nodiscard]] Status moment(uint64_t &number) noexcept { return static_cast<Status>(cefrodil_moment(raw(), &number)); }
     [[nodiscard]] Status len(uint64_t &number) noexcept { return static_cast<Status>(cefrodil_len(raw(), &number)); }
     [[nodiscard]] Status capacity(uint64_t &number) noexcept { return static_cast<Status>(cefrodil_capacity(raw(), &number)); }
@@ -118,10 +124,16 @@ template <size_t Words> class Pass : public Lookups<Words> {
         const cefrodil_status status = cefrodil_get_or_desk_of_width(this->raw(), key, value.data(), Words, &reply);
         return this->template looked<Words>(status, reply, value);
     }
+    // Like Writer::peek, in a turn. It is held if the try does not win.
+    [[nodiscard]] Answer<Words> try_peek(uint64_t key) noexcept { return this->template peek_words<Words>(key); }
     [[nodiscard]] Written try_put(uint64_t key, const Value &value) noexcept {
         cefrodil_reply reply;
         const cefrodil_status status = cefrodil_put_of_width(this->raw(), key, value.data(), Words, &reply);
         return this->wrote(status, reply);
+    }
+    // Equivalent to try_put for each key in order, each in a turn of its own.
+    [[nodiscard]] Status try_put_many(const uint64_t *keys, size_t count, const Value *values, cefrodil_put_answer *answers) noexcept {
+        return this->template put_words<Words>(keys, count, values, answers);
     }
     [[nodiscard]] Written put_within(uint32_t tries, uint64_t key, const Value &value) noexcept {
         cefrodil_reply reply;

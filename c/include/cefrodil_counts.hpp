@@ -26,7 +26,7 @@ struct Counts {
     uint64_t hits = 0;      // lookups that found their key
     uint64_t misses = 0;    // lookups of a key that was absent
     uint64_t busy = 0;      // lookups that were busy
-    uint64_t held = 0;      // writes and lists by a pass whose try for the turn did not win
+    uint64_t held = 0;      // writes, lists and peeks by a pass whose try for the turn did not win
     uint64_t evictions = 0; // puts that evicted another key
     uint64_t refusals = 0;  // writes that were refused: no_path, all_recent or spent
 };

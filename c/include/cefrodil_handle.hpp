@@ -211,6 +211,31 @@ class Handle {
         return static_cast<Status>(status);
     }
 
+    template <size_t Words>
+    Status put_words(const uint64_t *keys, size_t count, const std::array<uint64_t, Words> *values, cefrodil_put_answer *answers) noexcept {
+        static_assert(sizeof(*values) == Words * sizeof(uint64_t), "values lie one after the other");
+        const uint64_t *words = count != 0 ? values->data() : nullptr;
+        const cefrodil_status status = cefrodil_put_many_or_none(&raw_, keys, count, words, Words * count, answers, count);
+        for (size_t i = 0; status == CEFRODIL_OK && i < count; i++) {
+            counter_.wrote(static_cast<cefrodil_status>(answers[i].status), answers[i].reply);
+        }
+        return static_cast<Status>(status);
+    }
+
+    // It is no use of the key, so it isn't counted as a lookup.
+    template <size_t Words> Answer<Words> peek_words(uint64_t key) noexcept {
+        cefrodil_reply reply;
+        Answer<Words> told{};
+        std::array<uint64_t, Words> value;
+        told.status = tried(cefrodil_peek(&raw_, key, value.data(), Words, &reply));
+        told.at = reply.at;
+        told.since = reply.since;
+        if (told.status == Status::ok) {
+            told.value = value;
+        }
+        return told;
+    }
+
     // The calls by the writer or a pass that return the entry which gives way.
     template <size_t Words> Swapped<Words> swap_words(uint64_t key, const std::array<uint64_t, Words> &value) noexcept {
         cefrodil_reply reply;

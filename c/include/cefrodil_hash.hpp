@@ -22,27 +22,55 @@ struct HashSecret {
     uint64_t second;
 };
 
+// A hash of 128 bits.
+struct HashPair {
+    uint64_t first;
+    uint64_t second;
+};
+
 namespace inside {
 
 // The four words of SipHash, as its paper names them.
 class SipState {
   public:
-    explicit SipState(const HashSecret &secret) noexcept
-        : v0_(secret.first ^ 0x736f6d6570736575), v1_(secret.second ^ 0x646f72616e646f6d), v2_(secret.first ^ 0x6c7967656e657261),
+    // `begin`: what tells hashes of 64 bits from those of 128.
+    SipState(const HashSecret &secret, uint64_t begin) noexcept
+        : v0_(secret.first ^ 0x736f6d6570736575), v1_(secret.second ^ 0x646f72616e646f6d ^ begin), v2_(secret.first ^ 0x6c7967656e657261),
           v3_(secret.second ^ 0x7465646279746573) {}
 
-    template <int Rounds> void take(uint64_t word) noexcept {
-        v3_ ^= word;
-        rounds<Rounds>();
-        v0_ ^= word;
+    // Takes the bytes as words, the last of which has the number of bytes, modulo 256, in its highest byte.
+    template <int Rounds> void take(const void *data, size_t size) noexcept {
+        const auto *bytes = static_cast<const unsigned char *>(data);
+        size_t left = size;
+        for (; left >= sizeof(uint64_t); left -= sizeof(uint64_t), bytes += sizeof(uint64_t)) {
+            uint64_t word;
+            std::memcpy(&word, bytes, sizeof word);
+            take_word<Rounds>(word);
+        }
+        uint64_t last = 0;
+        if (left != 0) {
+            std::memcpy(&last, bytes, left);
+        }
+        take_word<Rounds>(last | uint64_t(size) << 56);
     }
-    template <int Rounds> uint64_t finish() noexcept {
-        v2_ ^= 0xff;
+    // The first word of the hash, and then the second one.
+    template <int Rounds> uint64_t first(uint64_t end) noexcept {
+        v2_ ^= end;
+        rounds<Rounds>();
+        return v0_ ^ v1_ ^ v2_ ^ v3_;
+    }
+    template <int Rounds> uint64_t second() noexcept {
+        v1_ ^= 0xdd;
         rounds<Rounds>();
         return v0_ ^ v1_ ^ v2_ ^ v3_;
     }
 
   private:
+    template <int Rounds> void take_word(uint64_t word) noexcept {
+        v3_ ^= word;
+        rounds<Rounds>();
+        v0_ ^= word;
+    }
     static uint64_t rotated(uint64_t word, int bits) noexcept { return word << bits | word >> (64 - bits); }
 
     template <int Rounds> void rounds() noexcept {
@@ -62,44 +90,47 @@ class SipState {
     uint64_t v0_, v1_, v2_, v3_;
 };
 
-// SipHash with so many rounds for each word and at the end.
+// SipHash of 64 bits, with so many rounds for each word and at the end.
 template <int Rounds, int FinalRounds> uint64_t sip_hash(const void *data, size_t size, const HashSecret &secret) noexcept {
-    SipState state(secret);
-    const auto *bytes = static_cast<const unsigned char *>(data);
-    size_t left = size;
-    for (; left >= sizeof(uint64_t); left -= sizeof(uint64_t), bytes += sizeof(uint64_t)) {
-        uint64_t word;
-        std::memcpy(&word, bytes, sizeof word);
-        state.take<Rounds>(word);
-    }
-    uint64_t last = 0;
-    if (left != 0) {
-        std::memcpy(&last, bytes, left);
-    }
-    state.take<Rounds>(last | uint64_t(size) << 56);
-    return state.finish<FinalRounds>();
+    SipState state(secret, 0);
+    state.take<Rounds>(data, size);
+    return state.first<FinalRounds>(0xff);
+}
+// SipHash of 128 bits: another hash than the one above.
+template <int Rounds, int FinalRounds> HashPair sip_hash_pair(const void *data, size_t size, const HashSecret &secret) noexcept {
+    SipState state(secret, 0xee);
+    state.take<Rounds>(data, size);
+    const uint64_t first = state.first<FinalRounds>(0xee);
+    return {first, state.second<FinalRounds>()};
 }
 
 template <class Key> inline constexpr bool is_string = std::is_same_v<Key, std::string> || std::is_same_v<Key, std::string_view>;
 
 } // namespace inside
 
-// The hash of a map, unless the program gives it another: SipHash-1-3 of a string's letters, or of the bytes of any other key. So a key is
+// The hash of a map, unless the program gives it another: SipHash-1-3 of a string's letters, or of the bytes of any other key. With a secret it
+// has 128 bits. With a seed it has 64: for hashes of yours. A key is
 // - a std::string or a std::string_view. A `const char *` as the key's type is a pointer: its address is the key, not its letters.
 // - an integer, an enum or a pointer, or a std::array of them.
 // - a trivially copyable struct without padding, whose bytes are its value. No float is: 0.0 and -0.0 are equal, but have other bytes.
 // No std::pair and no std::tuple is such a struct: write one with the same members, or a hash of your own.
 template <class Key> struct SipHash {
-    uint64_t operator()(const Key &key, const HashSecret &secret) const noexcept {
-        return inside::sip_hash<1, 3>(std::addressof(key), sizeof key, secret);
+    HashPair operator()(const Key &key, const HashSecret &secret) const noexcept {
+        return inside::sip_hash_pair<1, 3>(std::addressof(key), sizeof key, secret);
+    }
+    uint64_t operator()(const Key &key, uint64_t seed) const noexcept {
+        return inside::sip_hash<1, 3>(std::addressof(key), sizeof key, {seed, 0});
     }
     static_assert(std::has_unique_object_representations_v<Key>,
                   "equal keys need equal bytes, so no padding or float, nor std::pair or std::tuple: write a struct, or give the map a hash for "
                   "this key");
 };
 template <> struct SipHash<std::string> {
-    uint64_t operator()(std::string_view key, const HashSecret &secret) const noexcept {
-        return inside::sip_hash<1, 3>(key.data(), key.size(), secret);
+    HashPair operator()(std::string_view key, const HashSecret &secret) const noexcept {
+        return inside::sip_hash_pair<1, 3>(key.data(), key.size(), secret);
+    }
+    uint64_t operator()(std::string_view key, uint64_t seed) const noexcept {
+        return inside::sip_hash<1, 3>(key.data(), key.size(), {seed, 0});
     }
 };
 template <> struct SipHash<std::string_view> : SipHash<std::string> {};
@@ -114,39 +145,38 @@ struct Identity {
 
 inline bool is_same(const Identity &one, const Identity &other) noexcept { return one.index == other.index && one.check == other.check; }
 
-// Whether a hash takes all of the secret, or its first word as a seed.
-template <class Hash, class Key> inline constexpr bool takes_secret = std::is_invocable_r_v<uint64_t, const Hash &, Key, const HashSecret &>;
+// Whether a hash gives both words in one call, or one for each seed.
+template <class Hash, class Key> inline constexpr bool gives_pair = std::is_invocable_r_v<HashPair, const Hash &, Key, const HashSecret &>;
 template <class Hash, class Key> inline constexpr bool takes_seed = std::is_invocable_r_v<uint64_t, const Hash &, Key, uint64_t>;
-template <class Hash, class Key> inline constexpr bool hashes = takes_secret<Hash, Key> || takes_seed<Hash, Key>;
+template <class Hash, class Key> inline constexpr bool hashes = gives_pair<Hash, Key> || takes_seed<Hash, Key>;
 
 // How a call takes a key. A string that the hash takes as a view is never copied.
 template <class Key, class Hash>
 using Taken = std::conditional_t<is_string<Key> && hashes<Hash, std::string_view>, std::string_view, const Key &>;
 
-// The two hashes of a map, each with a secret of its own.
+// What a map knows a key by: the two words of one hash, or two hashes with different seeds.
 template <class Key, class Hash> class Identities {
   public:
-    static constexpr bool never_throws = takes_secret<Hash, Key> ? std::is_nothrow_invocable_v<const Hash &, Key, const HashSecret &>
-                                                                 : std::is_nothrow_invocable_v<const Hash &, Key, uint64_t>;
+    static constexpr bool never_throws = gives_pair<Hash, Key> ? std::is_nothrow_invocable_v<const Hash &, Key, const HashSecret &>
+                                                               : std::is_nothrow_invocable_v<const Hash &, Key, uint64_t>;
 
     explicit Identities(Hash &&hash) : hash_(std::move(hash)) {}
 
-    // Draws the secrets. Returns whether the kernel gave them. It gives up to 256 bytes at once.
-    [[nodiscard]] bool draw() noexcept { return getrandom(secrets_, sizeof secrets_, 0) == static_cast<ssize_t>(sizeof secrets_); }
+    // Draws the secret. Returns whether the kernel gave it. It gives up to 256 bytes at once.
+    [[nodiscard]] bool draw() noexcept { return getrandom(&secret_, sizeof secret_, 0) == static_cast<ssize_t>(sizeof secret_); }
 
-    Identity of(Key key) const noexcept(never_throws) { return {hashed(key, secrets_[0]), hashed(key, secrets_[1])}; }
-
-  private:
-    uint64_t hashed(Key key, const HashSecret &secret) const noexcept(never_throws) {
-        if constexpr (takes_secret<Hash, Key>) {
-            return hash_(key, secret);
+    Identity of(Key key) const noexcept(never_throws) {
+        if constexpr (gives_pair<Hash, Key>) {
+            const HashPair pair = hash_(key, secret_);
+            return {pair.first, pair.second};
         } else {
-            return hash_(key, secret.first);
+            return {hash_(key, secret_.first), hash_(key, secret_.second)};
         }
     }
 
+  private:
     Hash hash_;
-    HashSecret secrets_[2] = {};
+    HashSecret secret_{};
 };
 
 } // namespace inside

@@ -18,22 +18,24 @@
 // This header is plain C++ and is not proved. The index below it is: a lookup of a 64-bit number returns what was put under it last, at one moment
 // of the call, and never parts of two values.
 //
-// The map stores no keys. One keyed hash of a key is its number in the index. A second one, with a secret of its own, is stored with the value. Each
-// lookup compares it, and a mismatch is a miss. So two keys are confused only if both hashes agree. With SipHash that is, as far as is known, a
-// chance of 2^-128 for a pair.
+// The map stores no keys. It hashes a key to 128 bits, with a secret. Half of them are the key's number in the index. The others are stored with the
+// value. Each lookup compares them, and a mismatch is a miss. So two keys are confused only if all 128 bits agree. With SipHash that is, as far as is
+// known, a chance of 2^-128 for a pair.
 //
 // What you promise: no other call runs during open, close, a move or the destructor. All other calls may come from any thread at any time. No call
 // comes from a signal handler or a forked child. malloc, realloc and free belong to one allocator, whose blocks are aligned to 16 bytes. The program
 // is linked with the archive that belongs to this header.
 //
-// No call throws, but what your hash and your functions throw. A call that other threads keep from its turn is repeated, up to `tries` times. Then
-// it returns `held` or `busy`. A call that fails has changed no key and no value; only `clear` may have removed some keys.
+// No call throws, but what your hash and your functions throw. A call that other threads keep from its turn is repeated, up to `tries` times. At
+// first it spins, then it yields, then it sleeps. At last it returns `held` or `busy`. A call that fails has changed no key and no value; only
+// `clear` may have removed some keys.
 #ifndef CEFRODIL_MAP_HPP
 #define CEFRODIL_MAP_HPP
 
 #include "cefrodil.hpp"
 #include "cefrodil_flights.hpp"
 #include "cefrodil_hash.hpp"
+#include "cefrodil_packing.hpp"
 #include "cefrodil_passes.hpp"
 #include <algorithm>
 #include <memory>
@@ -51,8 +53,8 @@ struct MapOptions {
     uint32_t entries;       // 1 or more: the map has room for so many; `capacity` is more
     uint32_t shards = 16;   // a power of two, 1 to 256: so many threads can write at once
     uint32_t passes = 64;   // 1 to 1,024, with the shared one
-    uint32_t tries = 20000; // how often a call is repeated that other threads keep from its turn: this takes about 10 ms, or longer if the
-                            // processors have other work, since a thread lets others run between two tries
+    uint32_t tries = 10000; // how often a call is repeated that other threads keep from its turn. This takes over a second. A lookup is repeated
+                            // 1,000 times at most, which takes over a tenth of a second.
 };
 
 // The answer of a lookup, and of an update. `value` is there if the status is ok.
@@ -77,13 +79,12 @@ template <class V> struct Computed {
 
 namespace inside {
 
-// The entries of a map. Each has the key's check word before its value.
-template <class V> class Table {
-  public:
-    // A larger value has no map, and gets no second message from the index.
-    static constexpr size_t words = std::min<size_t>(8, 1 + words_of<V>);
-    using Words = std::array<uint64_t, words>;
+// The entries of a map.
+template <class V> class Table : private Packing<V> {
+    using Packing<V>::words, Packing<V>::pack, Packing<V>::value_of;
+    using typename Packing<V>::Words;
 
+  public:
     // What is under a key's number. ok: the key's value, and the moment of its put. absent: if `since` is not 0, another key's entry is there.
     struct Entry {
         Status status;
@@ -95,19 +96,27 @@ template <class V> class Table {
         return turns_.open(options.entries, options.shards, options.passes, options.tries);
     }
 
-    Entry look(const Identity &key) noexcept {
-        bool again = false;
-        const Answer<words> found = turns_.repeated([&](Slot<words> &slot) {
-            return std::exchange(again, true) ? slot.pass.get_or_desk(key.index) : slot.pass.get(key.index);
-        });
-        if (found.status != Status::ok) {
-            return {found.status, std::nullopt, 0};
+    // A lookup for its value. If it stays busy, that is a miss.
+    Entry find(const Identity &key) noexcept { return looked(key, turns_.looks()); }
+    // The same for a few keys, by one call of the index. Sets the values that are there. A key that is busy is looked up again by itself.
+    static constexpr size_t few = 32;
+    void find_few(const Identity *keys, size_t count, std::optional<V> *values) noexcept {
+        std::array<uint64_t, few> indices;
+        std::array<Words, few> found;
+        std::array<cefrodil_answer, few> answers;
+        std::transform(keys, keys + count, indices.begin(), [](const Identity &key) { return key.index; });
+        // An open pass has an answer for each key.
+        static_cast<void>(turns_.call([&](Slot<words> &slot) { return slot.pass.get_many(indices.data(), count, found.data(), answers.data()); }));
+        for (size_t i = 0; i < count; i++) {
+            if (answers[i].status == CEFRODIL_OK) {
+                values[i] = value_of(keys[i], found[i]);
+            } else if (answers[i].status == CEFRODIL_BUSY) {
+                values[i] = find(keys[i]).value;
+            }
         }
-        if ((*found.value)[0] != key.check) {
-            return {Status::absent, std::nullopt, found.since};
-        }
-        return {Status::ok, unpacked(*found.value), found.since};
     }
+    // A lookup for a write, which is repeated as often as a put.
+    Entry look(const Identity &key) noexcept { return looked(key, turns_.tries()); }
 
     Stored put(const Identity &key, const V &value) noexcept {
         const Words packed = pack(key, value);
@@ -178,16 +187,17 @@ template <class V> class Table {
     const Turns<words> &turns() const noexcept { return turns_; }
 
   private:
-    static Words pack(const Identity &key, const V &value) noexcept {
-        Words packed{key.check};
-        const auto own = words_from(value);
-        std::copy(own.begin(), own.end(), packed.begin() + 1);
-        return packed;
-    }
-    static V unpacked(const Words &packed) noexcept {
-        std::array<uint64_t, words_of<V>> own;
-        std::copy(packed.begin() + 1, packed.end(), own.begin());
-        return object_from<V>(own);
+    Entry looked(const Identity &key, uint32_t most) noexcept {
+        bool again = false;
+        const auto get = [&](Slot<words> &slot) {
+            return std::exchange(again, true) ? slot.pass.get_or_desk(key.index) : slot.pass.get(key.index);
+        };
+        const Answer<words> found = turns_.repeated(get, most);
+        if (found.status != Status::ok) {
+            return {found.status, std::nullopt, 0};
+        }
+        const std::optional<V> value = value_of(key, *found.value);
+        return {value ? Status::ok : Status::absent, value, found.since};
     }
 
     // Whether the entry is another one than was looked up.
@@ -211,9 +221,11 @@ template <class V> class Table {
 
 } // namespace inside
 
-// A map of K to V. A hash of yours is `uint64_t operator()(const K &key, uint64_t seed) const`. Several threads call it at once, each with two seeds.
-// Two keys are confused if both hashes agree, so two seeds must give two independent hashes. SipHash does. Here is one of a key's name:
-//     return cefrodil::SipHash<std::string_view>()(key.name, {seed, 0});
+// A map of K to V. A hash of yours is `HashPair operator()(const K &key, const HashSecret &secret) const`. Several threads call it at once. Two keys
+// are confused if both words agree, so they must be independent. SipHash's are. Here is one of a key's name:
+//     return cefrodil::SipHash<std::string_view>()(key.name, secret);
+// Or it has 64 bits: `uint64_t operator()(const K &key, uint64_t seed) const`. Then it is called twice, with two seeds, which must give independent
+// hashes.
 template <class K, class V, class Hash = SipHash<K>> class map {
     static constexpr bool never_throws = inside::Identities<inside::Taken<K, Hash>, Hash>::never_throws;
 
@@ -254,10 +266,22 @@ template <class K, class V, class Hash = SipHash<K>> class map {
         if (!inner_) {
             return {Status::closed, std::nullopt};
         }
-        const auto entry = inner_->table.look(inner_->identities.of(key));
+        const auto entry = inner_->table.find(inner_->identities.of(key));
         return {entry.status, entry.value};
     }
     [[nodiscard]] bool contains(Key key) const noexcept(never_throws) { return get(key).status == Status::ok; }
+    // Writes to `values` what `find` returns for each of `count` keys, with fewer calls of the index. `Each` is what a call takes as a key: of a map
+    // of strings, std::string or std::string_view. Returns how many keys were found.
+    template <class Each> size_t find_many(const Each *keys, size_t count, std::optional<V> *values) const noexcept(never_throws) {
+        std::array<inside::Identity, inside::Table<V>::few> known;
+        std::fill_n(values, count, std::nullopt);
+        for (size_t begin = 0; inner_ && begin < count; begin += known.size()) {
+            const size_t few = std::min(count - begin, known.size());
+            std::transform(keys + begin, keys + begin + few, known.begin(), [&](const Each &key) { return inner_->identities.of(key); });
+            inner_->table.find_few(known.data(), few, values + begin);
+        }
+        return static_cast<size_t>(std::count_if(values, values + count, [](const std::optional<V> &value) { return value.has_value(); }));
+    }
 
     // Puts a key that is absent. present: it is there, and keeps its value. no_path, all_recent, spent: it is absent, and was not put. held, busy,
     // changed: other threads were first each time, and nothing was done: call again. closed.
@@ -297,7 +321,7 @@ template <class K, class V, class Hash = SipHash<K>> class map {
         }
         const inside::Identity known = inner_->identities.of(key);
         for (;;) {
-            if (const auto entry = inner_->table.look(known); entry.value) {
+            if (const auto entry = inner_->table.find(known); entry.value) {
                 return {Status::ok, *entry.value, false};
             }
             inside::Flight flight(inner_->flights_of(known), known);
@@ -305,7 +329,7 @@ template <class K, class V, class Hash = SipHash<K>> class map {
                 continue;
             }
             // Another flight may have ended between the lookup and the begin of this one.
-            if (const auto entry = inner_->table.look(known); entry.value) {
+            if (const auto entry = inner_->table.find(known); entry.value) {
                 return {Status::ok, *entry.value, false};
             }
             const V value = function();
@@ -365,7 +389,9 @@ template <class K, class V, class Hash = SipHash<K>> class map {
     static_assert(!is_plain || std::is_default_constructible_v<V>, "a map's value is default-constructible");
     static_assert(!is_plain || !std::is_default_constructible_v<V> || !has_no_padding<V> || is_map_value<V>,
                   "a map's value can be copied and assigned: it is no array, but may be a std::array, and is not const");
-    static_assert(inside::hashes<Hash, inside::Taken<K, Hash>>, "a map's hash has a call `uint64_t operator()(const K &, uint64_t seed) const`");
+    static_assert(inside::hashes<Hash, inside::Taken<K, Hash>>,
+                  "a map's hash has a call `HashPair operator()(const K &, const HashSecret &) const`, or `uint64_t operator()(const K &, "
+                  "uint64_t seed) const`");
 };
 
 } // namespace cefrodil

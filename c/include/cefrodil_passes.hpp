@@ -6,6 +6,7 @@
 #include "cefrodil.hpp"
 #include <algorithm>
 #include <atomic>
+#include <chrono>
 #include <memory>
 #include <mutex>
 #include <numeric>
@@ -210,14 +211,17 @@ template <size_t Words> class Passes {
     std::mutex sharing_{};
 };
 
-// Waits before a call is repeated for this time: some steps of the processor at first, then a turn of the scheduler.
+// Waits before a call is repeated for this time. At first it spins, each time twice as long. Then it yields, and at last it sleeps: the thread that
+// has the turn may have to wait for a processor.
 inline void wait_before(uint32_t repeat) noexcept {
-    if (repeat >= 6) {
+    if (repeat < 7) {
+        for (uint32_t step = 0; step < uint32_t(1) << repeat; step++) {
+            __builtin_ia32_pause();
+        }
+    } else if (repeat < 200) {
         std::this_thread::yield();
-        return;
-    }
-    for (uint32_t step = 0; step < uint32_t(1) << repeat; step++) {
-        __builtin_ia32_pause();
+    } else {
+        std::this_thread::sleep_for(std::chrono::microseconds(100));
     }
 }
 
@@ -238,10 +242,13 @@ template <size_t Words> class Turns {
         return passes_.open(shape, shards, passes);
     }
 
-    // Makes a call by this thread's slot, or by the shared one, until it is neither busy nor held.
-    template <class Call> auto repeated(Call call) noexcept {
+    // Makes a call by this thread's slot, or by the shared one.
+    template <class Call> auto call(Call made) noexcept { return passes_.call(made); }
+    // The same, until it is neither busy nor held.
+    template <class Call> auto repeated(Call call) noexcept { return repeated(call, tries_); }
+    template <class Call> auto repeated(Call call, uint32_t most) noexcept {
         auto answer = passes_.call(call);
-        for (uint32_t repeat = 0; repeat < tries_; repeat++) {
+        for (uint32_t repeat = 0; repeat < most; repeat++) {
             const Status status = status_of(answer);
             if (status != Status::busy && status != Status::held) {
                 break;
@@ -269,6 +276,8 @@ template <size_t Words> class Turns {
     }
 
     uint32_t tries() const noexcept { return tries_; }
+    // How often a lookup is repeated that is a miss if it stays busy.
+    uint32_t looks() const noexcept { return std::min<uint32_t>(tries_, 1000); }
     uint64_t keys() const noexcept { return static_cast<uint64_t>(std::max<int64_t>(0, passes_.keys())); }
     uint64_t capacity() const noexcept { return capacity_; }
     Meter meter() const noexcept { return passes_.shared().meter(); }

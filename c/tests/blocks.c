@@ -68,10 +68,13 @@ static int holds(const struct full *full, size_t kept) {
 
 static int lies_right(const struct full *full) {
     uintptr_t at = (uintptr_t)full->at;
-    if (full->size >= 4096 && full->align <= 8) {
-        return at % (full->size < 2 << 20 ? 64 : 2 << 20) == 56;
+    if (full->align > 8) {
+        return at % 16 == 0;
     }
-    return at % 16 == 0;
+    if (full->size < 4096) {
+        return at % 16 == 8;
+    }
+    return at % (full->size < 2 << 20 ? 64 : 2 << 20) == 56;
 }
 
 static void make(struct full *full, size_t size, size_t align) {
@@ -99,6 +102,28 @@ static void every_size(void) {
             MUST(holds(&full, size));
             rattle_dealloc(full.at);
         }
+    }
+}
+
+/* No two small blocks share a pair of cache lines, and none shares one with a block of malloc. */
+static void small_blocks_are_alone(void) {
+    struct full full[BLOCKS];
+    void *others[BLOCKS];
+    for (int n = 0; n < BLOCKS; n++) {
+        others[n] = malloc((size_t)n + 1);
+        make(&full[n], (size_t)n * 7 + 1, 8);
+    }
+    for (int n = 0; n < BLOCKS; n++) {
+        const uintptr_t first = (uintptr_t)full[n].at / 128, last = ((uintptr_t)full[n].at + full[n].size - 1) / 128;
+        for (int m = 0; m < BLOCKS; m++) {
+            const uintptr_t other = (uintptr_t)full[m].at / 128, beside = (uintptr_t)others[m] / 128;
+            MUST(m == n || other < first || other > last);
+            MUST(beside < first || beside > last);
+        }
+    }
+    for (int n = 0; n < BLOCKS; n++) {
+        rattle_dealloc(full[n].at);
+        free(others[n]);
     }
 }
 
@@ -205,6 +230,7 @@ static void refused(void) {
 
 int main(void) {
     every_size();
+    small_blocks_are_alone();
     large_sizes();
     many_at_once();
     threads_at_once();

@@ -1,33 +1,18 @@
-// A map answers as a plain map does, by one thread: it finds the value of a key's last put, or nothing if the key was evicted. Its hashes are
-// SipHash's, and keys that meet in the first hash are told apart by the second.
+// A map answers as a plain map does, by one thread: it finds the value of a key's last put, or nothing if the key was evicted. Keys that meet in the
+// first word of their hash are told apart by the second.
 #include "cefrodil_map.hpp"
 #include "must.h"
-#include "sip_vectors.h"
-#include <algorithm>
 #include <stdexcept>
-#include <sys/syscall.h>
 #include <unistd.h>
 #include <unordered_map>
 
 using cefrodil::Computed;
 using cefrodil::Found;
+using cefrodil::HashPair;
 using cefrodil::HashSecret;
 using cefrodil::map;
 using cefrodil::Status;
 using cefrodil::Stored;
-
-// The kernel's random numbers come through this function, which may refuse them, or give zeros.
-static enum { random_numbers, zeros, refused } kernel = random_numbers;
-static size_t drawn = 0;
-
-extern "C" ssize_t getrandom(void *block, size_t size, unsigned flags) {
-    drawn += size;
-    if (kernel == random_numbers) {
-        return syscall(SYS_getrandom, block, size, flags);
-    }
-    std::fill_n(static_cast<char *>(block), size, char(0));
-    return kernel == zeros ? static_cast<ssize_t>(size) : -1;
-}
 
 struct Seven {
     uint64_t words[7];
@@ -60,47 +45,12 @@ struct Throwing {
 };
 template <class Any> Any &any() noexcept;
 static_assert(noexcept(any<Texts>().find("")) && noexcept(any<Texts>().get("")) && noexcept(any<Texts>().contains("")));
+static_assert(noexcept(any<Texts>().find_many(&any<std::string>(), 1, &any<std::optional<uint64_t>>())));
+static_assert(!noexcept(any<map<int, int, Throwing>>().find_many(&any<int>(), 1, &any<std::optional<int>>())));
 static_assert(noexcept(any<Texts>().insert("", 1)) && noexcept(any<Texts>().insert_or_assign("", 1)) && noexcept(any<Texts>().erase("")));
 static_assert(noexcept(any<Texts>().open({1})) && noexcept(any<Texts>().clear()) && noexcept(any<Texts>().close()) && noexcept(any<Texts>().meter()));
 static_assert(noexcept(any<const Texts>().size()) && noexcept(any<const Texts>().capacity()) && noexcept(any<const Texts>().is_open()));
 static_assert(!noexcept(any<map<int, int, Throwing>>().find(1)) && !noexcept(any<map<int, int, Throwing>>().erase(1)));
-
-// Each length of a text, from each place in memory.
-static void sip_hashes() {
-    unsigned char bytes[48];
-    for (size_t place = 0; place < 8; place++) {
-        for (size_t i = 0; i < 40; i++) {
-            bytes[place + i] = static_cast<unsigned char>(i);
-        }
-        for (size_t size = 0; size < 41; size++) {
-            MUST((cefrodil::inside::sip_hash<2, 4>(bytes + place, size, {0x0706050403020100, 0x0f0e0d0c0b0a0908}) == sip_2_4[size]));
-            MUST((cefrodil::inside::sip_hash<1, 3>(bytes + place, size, {0, 0}) == sip_1_3[size]));
-        }
-    }
-    const uint64_t number = 0x0706050403020100;
-    MUST(cefrodil::SipHash<uint64_t>()(number, {0, 0}) == sip_1_3[8] && cefrodil::SipHash<uint16_t>()(0x0100, {0, 0}) == sip_1_3[2]);
-    MUST(cefrodil::SipHash<std::string>()(std::string("\0\1\2", 3), {0, 0}) == sip_1_3[3]);
-}
-
-// Tells which secret it was asked with.
-struct Telling {
-    uint64_t operator()(const int &, const HashSecret &secret) const noexcept { return secret.first ^ secret.second; }
-};
-
-// The number of a key and its check word are of two secrets, which are drawn at each opening.
-static void secrets() {
-    cefrodil::inside::Identities<const int &, Telling> one(Telling{}), other(Telling{});
-    drawn = 0;
-    MUST(one.draw() && other.draw() && drawn == 64);
-    MUST(one.of(1).index != one.of(1).check && one.of(1).index != other.of(1).index && one.of(1).check != other.of(1).check);
-    MUST(one.of(1).index != 0 && one.of(1).check != 0);
-    kernel = zeros;
-    MUST(one.draw() && one.of(1).index == 0 && one.of(1).check == 0);
-    kernel = refused;
-    Numbers numbers;
-    MUST(numbers.open({100}) == Status::no_random && !numbers.is_open() && cefrodil::text(Status::no_random)[4] == 'k');
-    kernel = random_numbers;
-}
 
 static void openings() {
     Numbers numbers;
@@ -108,13 +58,15 @@ static void openings() {
     MUST(numbers.open({100, 4, 1025}) == Status::bad_readers && !numbers.is_open() && numbers.capacity() == 0);
     MUST(numbers.find(1) == std::nullopt && numbers.get(1).status == Status::closed && !numbers.contains(1) && numbers.size() == 0);
     MUST(numbers.insert(1, 1).status == Status::closed && numbers.insert_or_assign(1, 1).status == Status::closed);
+    std::optional<uint64_t> found[2] = {1, 2};
+    const uint64_t keys[2] = {1, 2};
+    MUST(numbers.find_many(keys, 2, found) == 0 && !found[0] && !found[1]);
     MUST(numbers.erase(1) == Status::closed && numbers.clear() == Status::closed && numbers.close() == Status::closed);
     MUST(numbers.update(1, [](uint64_t n) { return n; }).status == Status::closed && numbers.meter().counts().hits == 0);
     MUST(numbers.update_or_insert(1, 1, [](uint64_t n) { return n; }).status == Status::closed);
     const Computed<uint64_t> computed = numbers.find_or_compute(1, [] { return uint64_t(7); });
     MUST(computed.status == Status::closed && computed.value == 7 && computed.computed);
-    drawn = 0;
-    MUST(numbers.open({100, 4, 1024}) == Status::ok && drawn == 32 && numbers.open({100}) == Status::in_use && numbers.is_open());
+    MUST(numbers.open({100, 4, 1024}) == Status::ok && numbers.open({100}) == Status::in_use && numbers.is_open());
     cefrodil_shape shape{};
     MUST(cefrodil_shape_for_shards(100, 4, &shape) == CEFRODIL_OK && numbers.capacity() == 4 * shape.items);
     MUST(numbers.insert(1, 10).status == Status::ok && numbers.find(1) == 10u && !numbers.find(2));
@@ -176,6 +128,7 @@ class Model {
         case 8: return update(key, true);
         case 5: return compute(key);
         case 6: MUST(map_.contains(key) == seen(key).has_value()); return;
+        case 9: return find_many(key, next_random() % 100);
         case 7: return next_random() % 256 == 0 ? clear() : void();
         default: (void)seen(key); return;
         }
@@ -223,6 +176,23 @@ class Model {
             plain_[key] = number_;
         }
         MUST((stored.status == Status::ok || there) == seen(key).has_value());
+    }
+    // Each value is that of its key, and no value is written behind them.
+    void find_many(uint64_t key, size_t count) {
+        uint64_t keys[100];
+        std::optional<Version> values[101];
+        for (uint64_t i = 0; i < count; i++) {
+            keys[i] = (key + i * i) % 200;
+        }
+        std::fill_n(values, 101, Version{99, 98, {97, 96}});
+        size_t found = 0;
+        MUST(map_.find_many(keys, count, values) <= count);
+        for (size_t i = 0; i < count; i++) {
+            const auto one = seen(keys[i]);
+            found += one.has_value();
+            MUST(one.has_value() == values[i].has_value() && (!one || (is_of(keys[i], *values[i]) && values[i]->number == one->number)));
+        }
+        MUST(map_.find_many(keys, count, values) == found && values[count]->key == 99);
     }
     void erase(uint64_t key) {
         const bool there = seen(key).has_value();
@@ -282,7 +252,7 @@ static uint64_t random_calls(const cefrodil::MapOptions &options, uint64_t keys,
     return model.evicted();
 }
 
-// A hash by whose first secret all keys have one of four numbers.
+// Hashes by which all keys have one of four numbers.
 struct Narrow {
     std::shared_ptr<uint64_t> first_seed = std::make_shared<uint64_t>(0);
     uint64_t operator()(const uint64_t &key, uint64_t seed) const {
@@ -291,11 +261,18 @@ struct Narrow {
     }
 };
 
+struct NarrowPair {
+    HashPair operator()(const uint64_t &key, const HashSecret &secret) const noexcept { return {key % 4, key ^ secret.second}; }
+};
+
 // An entry of one key is none of another key with its number.
-static void collisions() {
-    map<uint64_t, uint64_t, Narrow> narrow;
+template <class Hash> static void collisions() {
+    map<uint64_t, uint64_t, Hash> narrow;
     MUST(narrow.open({100}) == Status::ok && narrow.insert(1, 10).status == Status::ok && narrow.find(1) == 10u);
     MUST(!narrow.find(5) && narrow.get(5).status == Status::absent && !narrow.contains(9));
+    const uint64_t keys[3] = {5, 1, 9};
+    std::optional<uint64_t> found[3];
+    MUST(narrow.find_many(keys, 3, found) == 1 && !found[0] && found[1] == 10u && !found[2]);
     MUST(narrow.erase(5) == Status::absent && narrow.find(1) == 10u && narrow.size() == 1);
     MUST(narrow.update(5, [](uint64_t) { return uint64_t(0); }).status == Status::absent && narrow.find(1) == 10u);
     const Stored taken = narrow.insert(5, 50);
@@ -331,6 +308,11 @@ static void texts() {
     MUST(texts.size() == 41 && texts.find("") == 0u && texts.find(std::string_view()) == 0u && texts.erase("") == Status::ok && !texts.find(""));
     MUST(texts.insert("name", 7).status == Status::ok && texts.find("name") == 7u && texts.find(std::string("name")) == 7u);
     map<std::string_view, int> views;
+    const std::string_view names[3] = {"name", "none", std::string_view(text.data(), 40)};
+    const std::string strings[2] = {"none", "name"};
+    std::optional<uint64_t> found[3];
+    MUST(texts.find_many(names, 3, found) == 2 && found[0] == 7u && !found[1] && found[2] == 40u);
+    MUST(texts.find_many(strings, 2, found) == 1 && !found[0] && found[1] == 7u && texts.find_many(strings, 0, found) == 0 && found[1] == 7u);
     MUST(views.open({10}) == Status::ok && views.insert(std::string("gone"), 1).status == Status::ok && views.find("gone") == 1);
 }
 
@@ -384,14 +366,13 @@ static void computations() {
 
 int main() {
     alarm(120); // so that a flight which never ends fails the test
-    sip_hashes();
-    secrets();
     openings();
     answers();
     MUST(random_calls({2000}, 200, 100000) == 0);
     MUST(random_calls({60, 1}, 200, 100000) > 1000);
     MUST(random_calls({1, 4, 1}, 200, 20000) > 1000);
-    collisions();
+    collisions<Narrow>();
+    collisions<NarrowPair>();
     texts();
     computations();
     return outcome("map");

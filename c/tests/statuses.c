@@ -165,16 +165,16 @@ static void evictions(void) {
 
 /* A turn whose call is refused gives the writer back: no call after it is held. */
 static void refused_by(cefrodil_handle *pass) {
-    uint64_t value[2] = {7, 8}, former[2];
+    uint64_t value[2] = {7, 8}, old[2];
     MUST(cefrodil_put(pass, 1, value, 2, &reply) == CEFRODIL_SPENT);
     MUST(cefrodil_put_within(pass, 3, 1, value, 2, &reply) == CEFRODIL_SPENT);
     MUST(cefrodil_put_if(pass, 1, 0, value, 2, &reply) == CEFRODIL_SPENT);
     MUST(cefrodil_put_if_absent(pass, 1, value, 2, &reply) == CEFRODIL_SPENT);
     MUST(cefrodil_remove(pass, 1, &reply) == CEFRODIL_SPENT);
-    MUST(cefrodil_swap(pass, 1, value, 2, former, 2, &reply) == CEFRODIL_SPENT);
-    MUST(cefrodil_swap_if(pass, 1, 0, value, 2, former, 2, &reply) == CEFRODIL_SPENT);
-    MUST(cefrodil_take(pass, 1, former, 2, &reply) == CEFRODIL_SPENT);
-    MUST(cefrodil_take_if(pass, 1, 1, former, 2, &reply) == CEFRODIL_SPENT);
+    MUST(cefrodil_swap(pass, 1, value, 2, old, 2, &reply) == CEFRODIL_SPENT);
+    MUST(cefrodil_swap_if(pass, 1, 0, value, 2, old, 2, &reply) == CEFRODIL_SPENT);
+    MUST(cefrodil_take(pass, 1, old, 2, &reply) == CEFRODIL_SPENT);
+    MUST(cefrodil_take_if(pass, 1, 1, old, 2, &reply) == CEFRODIL_SPENT);
 }
 
 static void spent(void) {

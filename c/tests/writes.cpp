@@ -14,6 +14,10 @@ struct ByWriter {
     Swapped<1> swap_if(uint64_t key, uint64_t since, uint64_t value) { return writer.swap_if(key, since, {value}); }
     Swapped<1> take(uint64_t key) { return writer.take(key); }
     Swapped<1> take_if(uint64_t key, uint64_t since) { return writer.take_if(key, since); }
+    Answer<1> peek(uint64_t key) { return writer.peek(key); }
+    Status put_many(const uint64_t *keys, const std::array<uint64_t, 1> *values, cefrodil_put_answer *answers) {
+        return writer.put_many(keys, 3, values, answers);
+    }
 };
 struct ByPass {
     Pass<1> &pass;
@@ -24,6 +28,10 @@ struct ByPass {
     Swapped<1> swap_if(uint64_t key, uint64_t since, uint64_t value) { return pass.try_swap_if(key, since, {value}); }
     Swapped<1> take(uint64_t key) { return pass.try_take(key); }
     Swapped<1> take_if(uint64_t key, uint64_t since) { return pass.try_take_if(key, since); }
+    Answer<1> peek(uint64_t key) { return pass.try_peek(key); }
+    Status put_many(const uint64_t *keys, const std::array<uint64_t, 1> *values, cefrodil_put_answer *answers) {
+        return pass.try_put_many(keys, 3, values, answers);
+    }
 };
 
 // A key that is there has its token in `since`, and its earlier entry gives way to the next put.
@@ -63,10 +71,26 @@ template <class Calls> static void a_key_that_is_evicted(Calls calls) {
     MUST(fresh.status == Status::ok && !fresh.renewed && !fresh.evicted && fresh.at == 12);
 }
 
-template <class Calls> static void writes(Calls calls) {
+// Three puts in one call: over a key that is there, over another, and of a new key that evicts one. Each answer is counted.
+template <class Calls> static void keys_of_one_call(Calls calls, const Meter &meter) {
+    const Answer<1> found = calls.peek(5), absent = calls.peek(4);
+    MUST(found.status == Status::ok && found.value && (*found.value)[0] == 50 && found.at == 12 && found.since == 12);
+    MUST(absent.status == Status::absent && !absent.value && absent.at == 12 && absent.since == 0);
+    const uint64_t other = calls.peek(3).value ? 3 : 2, keys[3] = {5, other, 6}, evictions = meter.counts().evictions;
+    const std::array<uint64_t, 1> values[3] = {{{51}}, {{31}}, {{60}}};
+    cefrodil_put_answer answers[3];
+    MUST(calls.put_many(keys, values, answers) == Status::ok);
+    MUST(answers[0].status == CEFRODIL_OK && answers[0].reply.put == CEFRODIL_PUT_RENEWED && answers[0].reply.at == 13);
+    MUST(answers[1].reply.put == CEFRODIL_PUT_RENEWED && answers[1].reply.at == 14);
+    MUST(answers[2].reply.put == CEFRODIL_PUT_EVICTED && answers[2].reply.at == 16 && calls.peek(answers[2].reply.evicted).status == Status::absent);
+    MUST(calls.peek(6).value && meter.counts().evictions == evictions + 1);
+}
+
+template <class Calls> static void writes(Calls calls, const Meter &meter) {
     a_key_that_is_there(calls);
     a_key_that_is_taken(calls);
     a_key_that_is_evicted(calls);
+    keys_of_one_call(calls, meter);
 }
 
 // A handle that takes another's place closes its own cache. One that takes its own place stays open.
@@ -91,10 +115,10 @@ int main() {
     std::vector<Reader<1>> readers;
     std::vector<Pass<1>> passes;
     MUST(open(shape, 1, writer, readers) == Status::ok && open_desk(shape, 1, passes) == Status::ok);
-    writes(ByWriter{writer});
-    writes(ByPass{passes[0]});
+    writes(ByWriter{writer}, writer.meter());
+    writes(ByPass{passes[0]}, passes[0].meter());
     uint64_t len = 9;
-    MUST(passes[0].try_remove(5).status == Status::ok && passes[0].try_len(len) == Status::ok && len == 1);
+    MUST(passes[0].try_remove(6).status == Status::ok && passes[0].try_len(len) == Status::ok && len == 1);
     moves(shape, writer);
     MUST(!shape_for_shards(0, 4) && open_desk(shape, 1024, passes) == Status::ok && passes.size() == 1024);
     return outcome("writes");

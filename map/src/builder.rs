@@ -5,6 +5,7 @@ use crate::flight::Flights;
 use crate::inner::Inner;
 use crate::map::Map;
 use crate::pass::AnyPass;
+use crate::print::Printer;
 use crate::settings::Settings;
 use crate::slots::Slots;
 use crate::wait::TRIES;
@@ -57,7 +58,8 @@ impl<K: ?Sized, V, S> Builder<K, V, S> {
     }
 
     /// What hashes the keys. Each key is hashed twice, with different prefixes. Two keys with the same two hashes are one key to the map, so
-    /// all 64 bits must be well spread. If an enemy may choose keys, take a keyed hasher. The default is std's, which is keyed.
+    /// all 64 bits must be well spread. If an enemy may choose keys, take a keyed hasher. The default is std's, which is keyed, and hashes each
+    /// key once.
     pub fn hasher<T>(self, hasher: T) -> Builder<K, V, T> {
         Builder { settings: self.settings.hasher(hasher), entries: PhantomData }
     }
@@ -100,7 +102,7 @@ impl<K: ?Sized, V: Copy + Send + Sync + 'static, S: BuildHasher> Builder<K, V, S
     pub(crate) fn open_shaped(self, shape: &Shape, shards: u32, tries: u32) -> Result<Map<K, V, S>, OpenError> {
         const { assert!(Layout::Plain.width::<V>() <= MOST, "a value has at most 56 bytes") };
         let count = self.settings.passes();
-        let Settings { hasher, life, .. } = self.settings;
+        let Settings { hasher, once, life, .. } = self.settings;
         let width = Layout::of(life).width::<V>();
         let mut passes = AnyPass::open(width, shape, shards, count).map_err(OpenError::of)?;
         Ok(Map::of(Inner {
@@ -108,7 +110,7 @@ impl<K: ?Sized, V: Copy + Send + Sync + 'static, S: BuildHasher> Builder<K, V, S
             slots: Arc::new(Slots::new(passes)),
             flights: Flights::new(),
             clock: Clock::new(),
-            hasher,
+            printer: if once { Printer::once(hasher) } else { Printer::twice(hasher) },
             life,
             tries,
         }))

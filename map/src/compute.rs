@@ -5,6 +5,7 @@ use crate::inner::{Found, Inner};
 use crate::map::Map;
 use crate::print::Print;
 use crate::stats::Kind;
+use crate::wait::LOOKS;
 use std::borrow::Borrow;
 use std::convert::Infallible;
 use std::hash::{BuildHasher, Hash};
@@ -43,7 +44,7 @@ impl<K: ?Sized, V: Copy + Send + Sync + 'static, S: BuildHasher> Map<K, V, S> {
         }
         loop {
             match inner.flights.board(print) {
-                Boarding::First(leader) => return inner.compute(print, leader, make),
+                Boarding::First(leader) => return inner.compute(print, leader, inner.tries, make),
                 Boarding::Within => return make(),
                 Boarding::Other(flight) => {
                     if let Some(value) = flight.wait() {
@@ -54,24 +55,24 @@ impl<K: ?Sized, V: Copy + Send + Sync + 'static, S: BuildHasher> Map<K, V, S> {
         }
     }
 
-    /// Like [`get_or_insert_with`](Map::get_or_insert_with), but doesn't wait for another thread that computes the value. It looks the key up
-    /// and puts the value with as many tries.
+    /// Like [`get_or_insert_with`](Map::get_or_insert_with), with a single try to look the key up, and one to put the value. It doesn't wait
+    /// for another thread that computes the value.
     ///
     /// # Errors
     ///
-    /// [`GetError::Computing`].
+    /// [`GetError`]: `make` was not called.
     pub fn try_get_or_insert_with<Q: Hash + ?Sized>(&self, key: &Q, make: impl FnOnce() -> V) -> Result<V, GetError>
     where
         K: Borrow<Q>,
     {
         let inner = &self.inner;
         let print = inner.print(key);
-        if let Ok(Some(value)) = inner.get(print, inner.looks()) {
+        if let Some(value) = inner.get(print, 1)? {
             return Ok(value);
         }
         match inner.flights.board(print) {
             Boarding::First(leader) => {
-                let Ok(value) = inner.compute(print, leader, || Ok::<V, Infallible>(make()));
+                let Ok(value) = inner.compute(print, leader, 1, || Ok::<V, Infallible>(make()));
                 Ok(value)
             }
             Boarding::Within => Ok(make()),
@@ -82,19 +83,19 @@ impl<K: ?Sized, V: Copy + Send + Sync + 'static, S: BuildHasher> Map<K, V, S> {
 
 impl<V: Copy, S: BuildHasher> Inner<V, S> {
     /// Makes the value as the leader of a flight.
-    pub fn compute<E>(&self, print: Print, leader: Leader<V>, make: impl FnOnce() -> Result<V, E>) -> Result<V, E> {
+    pub fn compute<E>(&self, print: Print, leader: Leader<V>, tries: u32, make: impl FnOnce() -> Result<V, E>) -> Result<V, E> {
         // An earlier flight may have ended since this thread looked the key up.
-        if let Some(Found::Live(entry, _)) = self.look(print, self.looks()) {
+        if let Some(Found::Live(entry, _)) = self.look(print, tries.min(LOOKS)) {
             return Ok(leader.end(entry.value, || entry.value));
         }
         let value = make()?;
-        Ok(leader.end(value, || self.fill(print, value)))
+        Ok(leader.end(value, || self.fill(print, value, tries)))
     }
 
     // Puts the value where the key has none. Returns the value that the key has then.
-    fn fill(&self, print: Print, value: V) -> V {
+    fn fill(&self, print: Print, value: V, tries: u32) -> V {
         let mut kept = value;
-        let put = self.change(print, self.tries, None, |present| match present {
+        let put = self.change(print, tries, None, |present| match present {
             Some(present) => {
                 kept = present;
                 None

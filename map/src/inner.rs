@@ -3,8 +3,8 @@ use crate::clock::{Clock, NEVER};
 use crate::error::{GetError, InsertError, RemoveError};
 use crate::flight::Flights;
 use crate::map::Inserted;
-use crate::pass::AnyPass;
-use crate::print::Print;
+use crate::pass::{AnyPass, MANY};
+use crate::print::{Print, Printer};
 use crate::slots::Slots;
 use crate::stats::Kind;
 use crate::wait::{in_turn, within, LOOKS};
@@ -18,7 +18,7 @@ pub(crate) struct Inner<V, S> {
     pub slots: Arc<Slots<AnyPass>>,
     pub flights: Flights<V>,
     pub clock: Clock,
-    pub hasher: S,
+    pub printer: Printer<S>,
     /// The time to live of what is put. Without one, entries have no deadline.
     pub life: Option<Duration>,
     pub capacity: usize,
@@ -40,7 +40,7 @@ pub(crate) enum Found<V> {
 impl<V: Copy, S: BuildHasher> Inner<V, S> {
     #[inline]
     pub fn print<Q: Hash + ?Sized>(&self, key: &Q) -> Print {
-        Print::of(&self.hasher, key)
+        self.printer.print(key)
     }
 
     /// How often a lookup tries that is a miss if it stays busy.
@@ -95,7 +95,24 @@ impl<V: Copy, S: BuildHasher> Inner<V, S> {
     /// Looks the key up, and counts that.
     #[inline]
     pub fn get(&self, print: Print, tries: u32) -> Result<Option<V>, GetError> {
-        let kind = match self.look(print, tries) {
+        self.counted(self.look(print, tries))
+    }
+
+    /// Looks up to `MANY` keys up by one call of the index, and counts each. A key that is busy is looked up again by itself.
+    pub fn get_many(&self, prints: &[Print], values: &mut Vec<Option<V>>) {
+        let (mut keys, mut replies) = ([0; MANY], [Reply::Busy; MANY]);
+        let (keys, replies) = (&mut keys[..prints.len()], &mut replies[..prints.len()]);
+        keys.iter_mut().zip(prints).for_each(|(key, print)| *key = print.key);
+        self.slots.call(|pass| pass.get_many(keys, replies));
+        values.extend(prints.iter().zip(replies).map(|(print, reply)| {
+            let found = self.found(*print, *reply).or_else(|| self.look_again(*print, self.looks() - 1));
+            self.counted(found).unwrap_or(None)
+        }));
+    }
+
+    #[inline]
+    fn counted(&self, found: Option<Found<V>>) -> Result<Option<V>, GetError> {
+        let kind = match found {
             Some(Found::Live(entry, _)) => {
                 self.slots.count(Kind::Hit);
                 return Ok(Some(entry.value));

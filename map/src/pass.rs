@@ -5,6 +5,9 @@ use cefrodil::{
     Spent, TurnError,
 };
 
+/// How many keys one call looks up at most.
+pub(crate) const MANY: usize = 32;
+
 /// A pass by the width of its entries.
 pub(crate) enum AnyPass {
     One(Pass<'static, 1>),
@@ -62,6 +65,11 @@ impl AnyPass {
         any!(self, pass => wide_reply(pass.get(key)))
     }
 
+    /// Looks these keys up, `MANY` at most. There must be as many replies.
+    pub fn get_many(&mut self, keys: &[u64], replies: &mut [Reply<MOST>]) {
+        any!(self, pass => wide_replies(pass, keys, replies))
+    }
+
     pub fn get_or_desk(&mut self, key: u64) -> Reply<MOST> {
         any!(self, pass => wide_reply(pass.get_or_desk(key)))
     }
@@ -109,6 +117,13 @@ fn wide_reply<const WIDTH: usize>(reply: Reply<WIDTH>) -> Reply<MOST> {
         Reply::Absent { at } => Reply::Absent { at },
         Reply::Busy => Reply::Busy,
     }
+}
+
+fn wide_replies<const WIDTH: usize>(pass: &mut Pass<'static, WIDTH>, keys: &[u64], replies: &mut [Reply<MOST>]) {
+    let mut narrow = [Reply::Busy; MANY];
+    let narrow = &mut narrow[..keys.len()];
+    pass.get_many(keys, narrow);
+    replies.iter_mut().zip(narrow).for_each(|(wide, narrow)| *wide = wide_reply(*narrow));
 }
 
 fn wide_replaced<const WIDTH: usize>(replaced: Replaced<WIDTH>) -> Replaced<MOST> {

@@ -20,19 +20,21 @@ pub(crate) struct Settings<S> {
     pub shards: Option<u32>,
     pub threads: usize,
     pub hasher: S,
+    /// Whether a key may be hashed once for two hashes: not by a hasher of the user's.
+    pub once: bool,
     pub life: Option<Duration>,
 }
 
 impl Settings<RandomState> {
     pub fn new(capacity: usize) -> Settings<RandomState> {
-        Settings { capacity, shards: None, threads: THREADS, hasher: RandomState::new(), life: None }
+        Settings { capacity, shards: None, threads: THREADS, hasher: RandomState::new(), once: true, life: None }
     }
 }
 
 impl<S> Settings<S> {
     pub fn hasher<T>(self, hasher: T) -> Settings<T> {
-        let Settings { capacity, shards, threads, hasher: _, life } = self;
-        Settings { capacity, shards, threads, hasher, life }
+        let Settings { capacity, shards, threads, life, .. } = self;
+        Settings { capacity, shards, threads, hasher, once: false, life }
     }
 
     /// How many shards to open, and the shape of each.

@@ -49,7 +49,13 @@ impl Model {
 
 fn look(map: &Map<u64, u64>, model: &mut Model, key: u64, number: u64, kind: u64) {
     match kind {
-        0..=4 => model.looked(key, map.get(&key)),
+        0..=3 => model.looked(key, map.get(&key)),
+        4 => {
+            let keys: Vec<u64> = (0..number % 100).map(|place| (key + place * place) % KEYS).collect();
+            let values = map.get_many(&keys);
+            assert_eq!(values.len(), keys.len());
+            keys.iter().zip(values).for_each(|(key, value)| model.looked(*key, value));
+        }
         5 => {
             let there = map.contains_key(&key);
             let last = model.values.get(&key).copied();
@@ -161,6 +167,7 @@ fn keys_of_any_type_are_looked_up_by_what_they_borrow() {
     let map = Map::<[u8], u8>::new(100).unwrap();
     map.insert(&[1, 2][..], 3).unwrap();
     assert_eq!((map.get(&[1, 2][..]), map.get(&[2, 1][..])), (Some(3), None));
+    assert_eq!(map.get_many([&[2, 1][..], &[1, 2]]), [None, Some(3)]);
     let map = Map::<(u32, bool), u8>::new(100).unwrap();
     map.insert(&(1, true), 3).unwrap();
     assert_eq!((map.get(&(1, true)), map.get(&(1, false))), (Some(3), None));

@@ -180,6 +180,26 @@ impl<const WORDS: usize> Writer<WORDS> {
         reply::put_if(self.0.put_if(key, since, value))
     }
 
+    /// Puts the entries in order, each as [`put`](Writer::put) does. In a large table the processor waits for the words of several entries
+    /// at once.
+    ///
+    /// # Panics
+    ///
+    /// If there are not as many answers as entries.
+    ///
+    /// ```
+    /// use cefrodil::{Cache, PutError, Shape};
+    ///
+    /// let (mut writer, _readers) = Cache::<1>::open(&Shape::for_items(100)?, 1)?;
+    /// let mut answers = [Err(PutError::Spent); 2];
+    /// writer.put_many(&[(7, [70]), (8, [80])], &mut answers);
+    /// assert_eq!(answers.map(|put| put.map(|put| put.at())), [Ok(1), Ok(2)]);
+    /// # Ok::<(), Box<dyn std::error::Error>>(())
+    /// ```
+    pub fn put_many(&mut self, entries: &[(u64, [u64; WORDS])], answers: &mut [Result<Put, PutError>]) {
+        reply::put_many(&mut self.0, entries, answers, Put::of);
+    }
+
     /// Puts the key only if it is absent. Never returns [`Put::Renewed`].
     ///
     /// # Errors
@@ -270,6 +290,14 @@ impl<const WORDS: usize> Writer<WORDS> {
     pub fn get(&mut self, key: u64) -> Reply<WORDS> {
         let mut value = [0; WORDS];
         let told = self.0.get(key, &mut value);
+        Reply::of(told, value)
+    }
+
+    /// Looks the key up as [`get`](Writer::get) does, but marks nothing: it doesn't count as a use of the key.
+    #[must_use]
+    pub fn peek(&mut self, key: u64) -> Reply<WORDS> {
+        let mut value = [0; WORDS];
+        let told = self.0.peek(key, &mut value);
         Reply::of(told, value)
     }
 

@@ -245,6 +245,16 @@ impl<const WORDS: usize> Pass<'_, WORDS> {
         Reply::of(told, value)
     }
 
+    /// Tries once for the turn, and with it looks the key up as [`Writer::peek`](crate::Writer::peek) does. `None`: the try did not win.
+    #[must_use]
+    pub fn try_peek(&mut self, key: u64) -> Option<Reply<WORDS>> {
+        let mut value = [0; WORDS];
+        match self.handle().peek(key, &mut value) {
+            (raw::HELD, _) => None,
+            told => Some(Reply::of(told, value)),
+        }
+    }
+
     /// Tries once for the turn, and with it puts the key with this value, as [`Writer::put`](crate::Writer::put) does.
     ///
     /// # Errors
@@ -262,6 +272,15 @@ impl<const WORDS: usize> Pass<'_, WORDS> {
     /// [`TurnError`]: no key and no value was changed.
     pub fn put_within(&mut self, tries: u32, key: u64, value: &[u64; WORDS]) -> Result<Put, TurnError<PutError>> {
         reply::turn(self.handle().put_within(tries, key, value), Put::of)
+    }
+
+    /// Puts the entries in order, each as [`try_put`](Pass::try_put) does, in a turn of its own.
+    ///
+    /// # Panics
+    ///
+    /// If there are not as many answers as entries.
+    pub fn try_put_many(&mut self, entries: &[(u64, [u64; WORDS])], answers: &mut [Result<Put, TurnError<PutError>>]) {
+        reply::put_many(self.handle(), entries, answers, |told| reply::turn(told, Put::of));
     }
 
     /// Like [`try_put`](Pass::try_put), with [`Writer::put_if`](crate::Writer::put_if).

@@ -9,7 +9,7 @@
 use crate::counts::{Counter, Meter};
 use crate::error::OpenError;
 use crate::memory::{room, NoMemory};
-use crate::raw::{self, RawAnswer, RawHandle, RawReply, RawShape};
+use crate::raw::{self, RawAnswer, RawHandle, RawPut, RawReply, RawShape};
 use std::ptr;
 
 /// The most readers or passes of a cache.
@@ -248,6 +248,15 @@ impl Handle {
         (status, reply)
     }
 
+    // It is no use of the key, so it isn't counted as a lookup.
+    pub fn peek(&mut self, key: u64, value: &mut [u64]) -> (u32, RawReply) {
+        let mut reply = RawReply::default();
+        // SAFETY: as in `get`.
+        let status = unsafe { raw::cefrodil_peek(&mut self.raw, key, value.as_mut_ptr(), value.len(), &mut reply) };
+        self.counter.tried(status);
+        (status, reply)
+    }
+
     // A write by this call of the archive, which is counted.
     fn write(&mut self, call: impl FnOnce(*mut RawHandle, *mut RawReply) -> u32) -> (u32, RawReply) {
         let mut reply = RawReply::default();
@@ -265,6 +274,28 @@ impl Handle {
                 5 cefrodil_put_5, 6 cefrodil_put_6, 7 cefrodil_put_7, 8 cefrodil_put_8
             })
         })
+    }
+
+    pub fn put_many(&mut self, keys: &[u64], values: &[u64], answers: &mut [RawPut]) -> u32 {
+        let answer_count = answers.len();
+        // SAFETY: as in `get`; the lengths of the three arrays are passed with them.
+        let status = unsafe {
+            raw::cefrodil_put_many(
+                &mut self.raw,
+                keys.as_ptr(),
+                keys.len(),
+                values.as_ptr(),
+                values.len(),
+                answers.as_mut_ptr(),
+                answer_count,
+            )
+        };
+        if status == raw::OK {
+            for answer in answers {
+                self.counter.wrote(answer.status, &answer.reply);
+            }
+        }
+        status
     }
 
     pub fn put_if(&mut self, key: u64, since: u64, value: &[u64]) -> (u32, RawReply) {

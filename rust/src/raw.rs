@@ -38,6 +38,14 @@ pub struct RawAnswer {
     pub unused: u32,
 }
 
+#[repr(C)]
+#[derive(Clone, Copy, Default)]
+pub struct RawPut {
+    pub reply: RawReply,
+    pub status: u32,
+    pub unused: u32,
+}
+
 pub const OK: u32 = 0;
 pub const ABSENT: u32 = 1;
 pub const BUSY: u32 = 2;
@@ -122,6 +130,7 @@ unsafe extern "C" {
     pub fn cefrodil_get_or_desk_6(pass: *mut RawHandle, key: u64, value: *mut u64, reply: *mut RawReply) -> u32;
     pub fn cefrodil_get_or_desk_7(pass: *mut RawHandle, key: u64, value: *mut u64, reply: *mut RawReply) -> u32;
     pub fn cefrodil_get_or_desk_8(pass: *mut RawHandle, key: u64, value: *mut u64, reply: *mut RawReply) -> u32;
+    pub fn cefrodil_peek(handle: *mut RawHandle, key: u64, value: *mut u64, words: usize, reply: *mut RawReply) -> u32;
     pub fn cefrodil_put(handle: *mut RawHandle, key: u64, value: *const u64, words: usize, reply: *mut RawReply) -> u32;
     pub fn cefrodil_put_1(handle: *mut RawHandle, key: u64, value: *const u64, reply: *mut RawReply) -> u32;
     pub fn cefrodil_put_2(handle: *mut RawHandle, key: u64, value: *const u64, reply: *mut RawReply) -> u32;
@@ -142,6 +151,15 @@ unsafe extern "C" {
     pub fn cefrodil_put_if_absent(handle: *mut RawHandle, key: u64, value: *const u64, words: usize, reply: *mut RawReply)
         -> u32;
     pub fn cefrodil_remove(handle: *mut RawHandle, key: u64, reply: *mut RawReply) -> u32;
+    pub fn cefrodil_put_many(
+        handle: *mut RawHandle,
+        keys: *const u64,
+        key_count: usize,
+        values: *const u64,
+        value_words: usize,
+        answers: *mut RawPut,
+        answer_count: usize,
+    ) -> u32;
     pub fn cefrodil_put_within(
         handle: *mut RawHandle,
         tries: u32,
@@ -155,8 +173,8 @@ unsafe extern "C" {
         key: u64,
         value: *const u64,
         words: usize,
-        former: *mut u64,
-        former_words: usize,
+        old: *mut u64,
+        old_words: usize,
         reply: *mut RawReply,
     ) -> u32;
     pub fn cefrodil_swap_if(
@@ -165,17 +183,17 @@ unsafe extern "C" {
         since: u64,
         value: *const u64,
         words: usize,
-        former: *mut u64,
-        former_words: usize,
+        old: *mut u64,
+        old_words: usize,
         reply: *mut RawReply,
     ) -> u32;
-    pub fn cefrodil_take(handle: *mut RawHandle, key: u64, former: *mut u64, former_words: usize, reply: *mut RawReply) -> u32;
+    pub fn cefrodil_take(handle: *mut RawHandle, key: u64, old: *mut u64, old_words: usize, reply: *mut RawReply) -> u32;
     pub fn cefrodil_take_if(
         handle: *mut RawHandle,
         key: u64,
         since: u64,
-        former: *mut u64,
-        former_words: usize,
+        old: *mut u64,
+        old_words: usize,
         reply: *mut RawReply,
     ) -> u32;
     pub fn cefrodil_leave_desk(pass: *mut RawHandle, writer: *mut RawHandle) -> u32;

@@ -2,7 +2,7 @@
 use crate::error::{ListError, PutError, PutIfAbsentError, PutIfError, Spent, TurnError};
 use crate::handle::Handle;
 use crate::memory::room;
-use crate::raw::{self, RawAnswer, RawReply};
+use crate::raw::{self, RawAnswer, RawPut, RawReply};
 
 /// The answer of a lookup. `at` is its moment: the number of changes to the table when the answer was true. A count, not a time.
 #[derive(Clone, Copy, Debug, Default, PartialEq, Eq, Hash)]
@@ -162,6 +162,32 @@ pub(crate) fn many<const WORDS: usize>(handle: &mut Handle, keys: &[u64], replie
         }
         for ((reply, answer), value) in replies.iter_mut().zip(answers).zip(values) {
             *reply = Reply::of((answer.status, RawReply { at: answer.at, since: answer.since, ..RawReply::default() }), value);
+        }
+    }
+}
+
+/// Puts the entries in order. `of` makes an answer of what was told.
+pub(crate) fn put_many<T, const WORDS: usize>(
+    handle: &mut Handle,
+    entries: &[(u64, [u64; WORDS])],
+    answers: &mut [T],
+    of: impl Fn(Told) -> T,
+) {
+    assert_eq!(entries.len(), answers.len(), "there must be as many answers as entries");
+    for (entries, answers) in entries.chunks(KEYS_A_CALL).zip(answers.chunks_mut(KEYS_A_CALL)) {
+        let mut keys = [0; KEYS_A_CALL];
+        let mut values = [[0; WORDS]; KEYS_A_CALL];
+        for ((key, value), entry) in keys.iter_mut().zip(&mut values).zip(entries) {
+            (*key, *value) = *entry;
+        }
+        let mut told = [RawPut::default(); KEYS_A_CALL];
+        let count = entries.len();
+        let status = handle.put_many(&keys[..count], values[..count].as_flattened(), &mut told[..count]);
+        if status != raw::OK {
+            not_told(status);
+        }
+        for (answer, told) in answers.iter_mut().zip(told) {
+            *answer = of((told.status, told.reply));
         }
     }
 }

@@ -4,6 +4,7 @@ pub mod Filling
 pub mod Loaded
 pub mod Gives
 pub mod ManyLookups
+pub mod ManyPuts
 pub mod OntoDesk
 pub mod Opened
 pub mod GivenSides

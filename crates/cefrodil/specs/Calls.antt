@@ -4,6 +4,7 @@ use Rattle.std.specs.Prelude.{ℕ, ◌≡◌, List}
 use mathlib.Core.Option.{Option, none, some}
 use Rattle.mc_door.specs.Held.{role_in, width_of}
 use Rattle.mc_door.specs.Means.{GetOrDeskTells, GetTells}
+use Rattle.mc_door.specs.Peeks.{PeekTells}
 use Rattle.mc_door.specs.Roles.{Role}
 use Rattle.mc_door.specs.Swaps.{SwapTells}
 use Rattle.mc_door.specs.Tellings.{plain}
@@ -29,6 +30,9 @@ GetGives b b' key old new told = TellsBy b b' (new ≡ old) (λ V role role' Sam
 
 abbrev pub GetOrDeskGives : Option Held → Option Held → ℕ → List ℕ → List ℕ → Told → Type 0
 GetOrDeskGives b b' key old new told = TellsBy b b' (new ≡ old) (λ V role role' Same told. GetOrDeskTells V role role' Same key old new told) told
+
+abbrev pub PeekGives : Option Held → Option Held → ℕ → List ℕ → List ℕ → Told → Type 0
+PeekGives b b' key old new told = TellsBy b b' (new ≡ old) (λ V role role' Same told. PeekTells V role role' Same key old new told) told
 
 abbrev pub WriteGives : Option Held → Option Held → ℕ → Write → List ℕ → Told → Type 0
 WriteGives b b' key call v told = TellsBy b b' (Unit {0}) (λ V role role' Same told. WriteTells V role role' Same key call v told) told

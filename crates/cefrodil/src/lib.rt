@@ -2,6 +2,7 @@
 //! and what its caller promises.
 #![tactic(auto)]
 
+mod batches;
 mod closing;
 mod counts;
 mod desk_gets_by_width;

@@ -1,6 +1,6 @@
 //! Lookups, as C calls them.
 ghost use Rattle.std.specs.Prelude.{◌≡◌};
-ghost use Rattle.cefrodil.specs.Calls.{GetGives, GetOrDeskGives};
+ghost use Rattle.cefrodil.specs.Calls.{GetGives, GetOrDeskGives, PeekGives};
 ghost use Rattle.cefrodil.specs.Open.{kept};
 
 use crate::slot::{Slot, told_of_handle};
@@ -34,4 +34,19 @@ pub extern "C" fn cefrodil_get_or_desk(
     ensures told { GetOrDeskGives (kept pass.old) (kept pass.new) key value.old value.new (record { status = result; reply = reply.new }) }
 {
     told_of_handle!(pass, reply, held => held.get_or_desk(key, value, reply))
+}
+
+/// What the map holds of the key now, by the writer's handle, or by a pass in a turn. It marks nothing.
+#[tactic(auto, using(crate::proofs::Gives::gives_open, crate::proofs::Gives::gives_closed))]
+#[unsafe(no_mangle)]
+pub extern "C" fn cefrodil_peek(
+    handle: &mut Slot,
+    key: u64,
+    value: &mut [u64],
+    reply: &mut RawReply,
+) -> u32
+    ensures open { handle.new.live ≡ handle.old.live }
+    ensures told { PeekGives (kept handle.old) (kept handle.new) key value.old value.new (record { status = result; reply = reply.new }) }
+{
+    told_of_handle!(handle, reply, held => held.peek(key, value, reply))
 }

@@ -6,20 +6,20 @@ ghost use Rattle.cefrodil.specs.Open.{kept};
 use crate::slot::{Slot, told_of_handle};
 use mc_door::{RawReply, Swap};
 
-/// Puts a key, and returns the entry that gives way, by the writer's handle or a pass. Its value is written to `former`.
+/// Puts a key, and returns the entry that gives way, by the writer's handle or a pass. Its value is written to `old`.
 #[tactic(auto, using(crate::proofs::Gives::gives_open, crate::proofs::Gives::gives_closed))]
 #[unsafe(no_mangle)]
 pub extern "C" fn cefrodil_swap(
     handle: &mut Slot,
     key: u64,
     value: &[u64],
-    former: &mut [u64],
+    old: &mut [u64],
     reply: &mut RawReply,
 ) -> u32
     ensures open { handle.new.live ≡ handle.old.live }
-    ensures told { SwapGives (kept handle.old) (kept handle.new) key Swap.Put value.now former.old former.new (record { status = result; reply = reply.new }) }
+    ensures told { SwapGives (kept handle.old) (kept handle.new) key Swap.Put value.now old.old old.new (record { status = result; reply = reply.new }) }
 {
-    told_of_handle!(handle, reply, held => held.swap(key, Swap::Put, value, former, reply))
+    told_of_handle!(handle, reply, held => held.swap(key, Swap::Put, value, old, reply))
 }
 
 /// Puts a key anew, if its last put was at the moment `since`, and returns the earlier entry, by the writer's handle or a pass.
@@ -30,13 +30,13 @@ pub extern "C" fn cefrodil_swap_if(
     key: u64,
     since: u64,
     value: &[u64],
-    former: &mut [u64],
+    old: &mut [u64],
     reply: &mut RawReply,
 ) -> u32
     ensures open { handle.new.live ≡ handle.old.live }
-    ensures told { SwapGives (kept handle.old) (kept handle.new) key (Swap.PutIf since) value.now former.old former.new (record { status = result; reply = reply.new }) }
+    ensures told { SwapGives (kept handle.old) (kept handle.new) key (Swap.PutIf since) value.now old.old old.new (record { status = result; reply = reply.new }) }
 {
-    told_of_handle!(handle, reply, held => held.swap(key, Swap::PutIf(since), value, former, reply))
+    told_of_handle!(handle, reply, held => held.swap(key, Swap::PutIf(since), value, old, reply))
 }
 
 /// Takes a key out, if its last put was at the moment `since`, and returns its entry, by the writer's handle or a pass.
@@ -46,13 +46,13 @@ pub extern "C" fn cefrodil_take_if(
     handle: &mut Slot,
     key: u64,
     since: u64,
-    former: &mut [u64],
+    old: &mut [u64],
     reply: &mut RawReply,
 ) -> u32
     ensures open { handle.new.live ≡ handle.old.live }
-    ensures told { SwapGives (kept handle.old) (kept handle.new) key (Swap.RemoveIf since) [] former.old former.new (record { status = result; reply = reply.new }) }
+    ensures told { SwapGives (kept handle.old) (kept handle.new) key (Swap.RemoveIf since) [] old.old old.new (record { status = result; reply = reply.new }) }
 {
-    told_of_handle!(handle, reply, held => held.swap(key, Swap::RemoveIf(since), &[], former, reply))
+    told_of_handle!(handle, reply, held => held.swap(key, Swap::RemoveIf(since), &[], old, reply))
 }
 
 /// Takes a key out, and returns its entry, by the writer's handle or a pass.
@@ -61,11 +61,11 @@ pub extern "C" fn cefrodil_take_if(
 pub extern "C" fn cefrodil_take(
     handle: &mut Slot,
     key: u64,
-    former: &mut [u64],
+    old: &mut [u64],
     reply: &mut RawReply,
 ) -> u32
     ensures open { handle.new.live ≡ handle.old.live }
-    ensures told { SwapGives (kept handle.old) (kept handle.new) key Swap.Remove [] former.old former.new (record { status = result; reply = reply.new }) }
+    ensures told { SwapGives (kept handle.old) (kept handle.new) key Swap.Remove [] old.old old.new (record { status = result; reply = reply.new }) }
 {
-    told_of_handle!(handle, reply, held => held.swap(key, Swap::Remove, &[], former, reply))
+    told_of_handle!(handle, reply, held => held.swap(key, Swap::Remove, &[], old, reply))
 }

@@ -9,3 +9,4 @@ pub mod LoadedEntries
 pub mod HistoryLaws
 pub mod Sent
 pub mod Turns
+pub mod InOrder

@@ -1,3 +1,4 @@
+pub mod Batches
 pub mod Beside
 pub mod Failing
 pub mod Openings

@@ -1,7 +1,7 @@
 -- What the calls of a cache mean for whoever uses it: the clauses `plain`. They name no word of the table: they speak of two
 -- histories, which are lists of changes of a map. The writer's has every change that was made. A reader's is the part of it that
 -- the reader is known to have seen.
-use Rattle.std.specs.Prelude.{ℕ, ◌≡◌, ◌≢◌, ◌+◌, ◌⊎◌, List, [], ◌∷◌, ◌++◌, length, Some, None, IsSome, Result, Ok, Err}
+use Rattle.std.specs.Prelude.{ℕ, ◌≡◌, ◌≢◌, ◌+◌, ◌⊎◌, List, [], ◌∷◌, ◌++◌, length, Option, Some, None, IsSome, Result, Ok, Err}
 pub use Rattle.mc_words.specs.History.{map_value, IsLegal, IsTrueAnswer}
 pub use Rattle.mc_theory.specs.Plain.{IsBetween}
 pub use Rattle.mc_search.specs.Entries.{AreEntriesOf}
@@ -116,6 +116,12 @@ pub record HasAnswered (V : ℕ) (h h' : List (Change V)) (k : ℕ) (reply : Rep
   pub begins : Begins h h'
   pub true : IsTrueAnswer h' k reply
   pub between : IsBetween (length h) (length h') reply
+
+-- what a try for the turn, to look a key up, means for what its pass has seen: all is seen now, and the reply is what the map holds of the
+-- key. If it was held, nothing was seen
+abbrev pub PeekMeans : (V : ℕ) → List (Change V) → List (Change V) → ℕ → Option (Reply V) → Type 0
+PeekMeans V h h' k (Some reply) = Begins h h' × TellsNow h' k reply
+PeekMeans V h h' k None = h' ≡ h
 
 -- a reader has met the writer: what it had seen begins the writer's history, all of which it has seen now
 pub record HasMet (V : ℕ) (h h' : List (Change V)) (all : List (Change V)) : Type 0 where

@@ -1,5 +1,5 @@
 -- What a try for the turn does, at the desk that has the writer.
-use Rattle.std.specs.Prelude.{ℕ, ◌≡◌, ◌⊎◌, List, length, Result, Ok, Err}
+use Rattle.std.specs.Prelude.{ℕ, ◌≡◌, ◌⊎◌, List, length, Option, Some, None, Result, Ok, Err}
 use Rattle.mc_words.specs.declared.history.Reply.{Reply}
 use Rattle.mc_words.specs.declared.history.Reply.TheVariants.{Busy}
 use Rattle.mc_words.specs.declared.shape.Shape.{Shape}
@@ -73,6 +73,11 @@ abbrev pub HasTriedToList : {T E : Type 0} (V : ℕ) → ReaderRecord → Reader
 HasTriedToList V old new (Ok listed) = HasMetAtDesk V old new
 HasTriedToList V old new (Err desk.Held) = new ≡ old
 HasTriedToList V old new (Err (desk.Call why)) = HasMetAtDesk V old new
+
+-- a try for the turn, to look a key up without a mark: if it was held, nothing was done with the pass
+abbrev pub HasTriedToPeek : (V : ℕ) → ReaderRecord → ReaderRecord → Option (Reply V) → Type 0
+HasTriedToPeek V old new (Some reply) = HasMetAtDesk V old new
+HasTriedToPeek V old new None = new ≡ old
 
 -- a lookup was busy, and then the key was looked up beside the writer, which was laid down and is unchanged
 pub record HasFallenBack (V : ℕ) (sh : Shape) (k : ℕ) (old new : ReaderRecord) (reply : Reply V) : Type 0 where

@@ -2,20 +2,19 @@
 ghost use Rattle.std.specs.Prelude.{◌≡◌, IfNone, IfOk, IfSome};
 ghost use Rattle.mc_cache.specs.Resting.{IsAtRest, IsFit};
 
+mod looking;
+
 use crate::cache::Cache;
 use crate::calls::{
     Putting, PuttingIf, PuttingIfAbsent, Removing, Swapping, SwappingIf, Taking, TakingIf,
 };
 use crate::reader::Reader;
-use crate::turn::{
-    TurnCall, count_in_turn, get_in_turn, list_in_turn, list_stamped_in_turn, make_in_turn,
-};
+use crate::turn::{TurnCall, get_in_turn, make_in_turn};
 use crate::writer::Writer;
 use counted_slot::{Counted, Fits, TAKEN};
 use mc_plan::{AbsentError, IfError, Put, PutError, Remove, Spent};
-use mc_words::{NoMemory, Reply};
-use mc_writer::{Entry, Replaced, Swapped, Take};
-use std::alloc::Global;
+use mc_words::Reply;
+use mc_writer::{Replaced, Swapped, Take};
 use std::marker::Model;
 use std::snapshot::Snapshot;
 
@@ -126,11 +125,9 @@ impl<const V: usize> Desk<V> {
 
 impl<const V: usize> Desk<V> {
     ghost use Rattle.mc_cache.specs.Failing.{PutFails, PutIfAbsentFails, PutIfFails, RemovalFails, SwapFails, SwapIfFails, TakeFails, TakeIfFails, TurnFails, versions_seen};
-    ghost use Rattle.mc_cache.specs.Stamped.{AreStampedEntriesOf};
     ghost use Rattle.mc_cache.specs.Taking.{SwapIfMeans, SwapMeans, TakeIfMeans, TakeMeans, swap_answer, swap_if_answer, take_answer};
-    ghost use Rattle.mc_cache.specs.Plain.{AreEntriesOf, Begins, PutIfAbsentMeans, PutIfMeans, PutMeans, RemovalMeans, TurnMeans, seen};
-    ghost use Rattle.mc_cache.specs.Turns.{HasMetAtDesk, HasTried, HasTriedIfAbsent, HasTriedTakeIf, HasTriedToList};
-    ghost use Rattle.mc_words.specs.History.{key_count};
+    ghost use Rattle.mc_cache.specs.Plain.{PutIfAbsentMeans, PutIfMeans, PutMeans, RemovalMeans, TurnMeans, seen};
+    ghost use Rattle.mc_cache.specs.Turns.{HasTried, HasTriedIfAbsent, HasTriedTakeIf};
     ghost use Rattle.mc_plan.specs.WholeCalls.{PutCall, PutIfCall, RemoveCall};
     ghost use Rattle.mc_plan.specs.declared.answer.Answer.TheVariants as answer;
 
@@ -287,65 +284,6 @@ impl<const V: usize> Desk<V> {
         ensures fails { TurnFails (TakeIfFails cache.now.layout.shape (seen V pass.new) (versions_seen V pass.new)) result }
     {
         self.try_call(cache, pass, TakingIf(key, since))
-    }
-
-    /// Tries once for the turn, and with it lists each key with its value, in the order of their items. The pass has then seen all
-    /// changes that led to this list. Condition: desk and pass belong to this cache.
-    pub fn try_entries(
-        &self,
-        alloc: Global,
-        cache: &Cache<V>,
-        pass: &mut Reader<V>,
-    ) -> Result<Vec<(u64, [u64; V])>, DeskError<NoMemory>>
-        requires of { (self.now ≡ cache.now) × (pass.old.of ≡ cache.now) }
-        ensures of { pass.new.of ≡ pass.old.of }
-        ensures met { HasTriedToList V pass.old pass.new result }
-        ensures begins { Begins (seen V pass.old) (seen V pass.new) }
-        ensures plain { IfOk result (λ es. AreEntriesOf V (seen V pass.new) es.items) }
-    {
-        let Some(mut turn) = self.take() else {
-            return Err(DeskError::Held);
-        };
-        let listed = list_in_turn(alloc, cache, pass, &mut turn.writer);
-        self.give(turn);
-        listed
-    }
-
-    /// Like `try_entries`, with `Writer::stamped_entries`.
-    pub fn try_stamped_entries(
-        &self,
-        alloc: Global,
-        cache: &Cache<V>,
-        pass: &mut Reader<V>,
-    ) -> Result<Vec<Entry<V>>, DeskError<NoMemory>>
-        requires of { (self.now ≡ cache.now) × (pass.old.of ≡ cache.now) }
-        ensures of { pass.new.of ≡ pass.old.of }
-        ensures met { HasTriedToList V pass.old pass.new result }
-        ensures begins { Begins (seen V pass.old) (seen V pass.new) }
-        ensures plain { IfOk result (λ es. AreStampedEntriesOf V (seen V pass.new) es.items) }
-    {
-        let Some(mut turn) = self.take() else {
-            return Err(DeskError::Held);
-        };
-        let listed = list_stamped_in_turn(alloc, cache, pass, &mut turn.writer);
-        self.give(turn);
-        listed
-    }
-
-    /// Tries once for the turn, and with it counts the keys that the cache holds. `None` if the try did not win. The pass has then seen all
-    /// changes that led to this number. Condition: desk and pass belong to this cache.
-    pub fn try_len(&self, cache: &Cache<V>, pass: &mut Reader<V>) -> Option<usize>
-        requires of { (self.now ≡ cache.now) × (pass.old.of ≡ cache.now) }
-        ensures of { pass.new.of ≡ pass.old.of }
-        ensures held { IfNone result (pass.new ≡ pass.old) }
-        ensures met { IfSome result (λ _. HasMetAtDesk V pass.old pass.new) }
-        ensures begins { Begins (seen V pass.old) (seen V pass.new) }
-        ensures plain { IfSome result (λ many. many ≡ key_count (seen V pass.new)) }
-    {
-        let mut turn = self.take()?;
-        let many = count_in_turn(cache, pass, &mut turn.writer);
-        self.give(turn);
-        Some(many)
     }
 
     /// Takes the writer off the desk. `None` if a turn could not give it back.

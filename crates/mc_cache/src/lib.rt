@@ -21,6 +21,7 @@
 //! ```
 #![tactic(auto)]
 
+mod batches;
 mod cache;
 pub mod calls;
 mod closing;

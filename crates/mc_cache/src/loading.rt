@@ -13,11 +13,13 @@ ghost use Rattle.mc_cache.specs.Openings.{RefusesOpening};
 ghost use Rattle.mc_cache.specs.Plain.{IsLegal, TakesOrNames, history, seen};
 ghost use Rattle.mc_cache.specs.Resting.{IsAtRest};
 
+use crate::batches::touch_entries;
 use crate::cache::Cache;
 use crate::opening::{OpenError, open};
 use crate::reader::Reader;
 use crate::writer::Writer;
 use mc_plan::Why;
+use mc_reader::GROUP;
 use mc_words::Shape;
 use std::alloc::Global;
 
@@ -56,6 +58,9 @@ fn load<const V: usize>(
         Loads V cache.now.layout.shape (state_of V cache.now.layout.shape writer.old.acts) 0 entries.now made changes left.new.items }
 {
     for index in 0..entries.len() {
+        if index % GROUP == 0 {
+            touch_entries(cache, &entries[index..]);
+        }
         let entry = entries[index];
         if let Err(why) = writer.put_kept(cache, entry.0, entry.1) {
             name(left, index, why);

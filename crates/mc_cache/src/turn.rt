@@ -1,12 +1,12 @@
 //! A turn with the writer in hand: the reader that is its pass meets the writer, the call is made, and they meet once more.
-ghost use Rattle.std.specs.Prelude.{◌≡◌, IfOk};
+ghost use Rattle.std.specs.Prelude.{◌≡◌, IfOk, Some};
 ghost use Rattle.mc_cache.specs.Stamped.{AreStampedEntriesOf};
 ghost use Rattle.mc_cache.specs.TurnCalls.{CanMake, HasMade};
 ghost use Rattle.mc_cache.specs.Failing.{TurnFails, versions_seen};
 ghost use Rattle.mc_cache.specs.Inside.Turned.{HasBegunWith, HasEnded, turned};
-ghost use Rattle.mc_cache.specs.Plain.{AreEntriesOf, Begins, HasMet, TurnMeans, history, seen};
+ghost use Rattle.mc_cache.specs.Plain.{AreEntriesOf, Begins, HasMet, PeekMeans, TurnMeans, history, seen};
 ghost use Rattle.mc_cache.specs.Resting.{IsAtRest};
-ghost use Rattle.mc_cache.specs.Turns.{HasLookedInTurn, HasMetAtDesk, HasTriedTo, HasTriedToList};
+ghost use Rattle.mc_cache.specs.Turns.{HasLookedInTurn, HasMetAtDesk, HasTriedTo, HasTriedToList, HasTriedToPeek};
 ghost use Rattle.mc_words.specs.History.{key_count};
 
 use crate::cache::Cache;
@@ -106,6 +106,23 @@ pub fn get_in_turn<const V: usize>(
 {
     writer.known();
     pass.get_beside(cache, writer, key)
+}
+
+/// A turn that looks a key up, and marks nothing.
+pub fn peek_in_turn<const V: usize>(
+    cache: &Cache<V>,
+    pass: &mut Reader<V>,
+    writer: &mut Writer<V>,
+    key: u64,
+) -> Reply<V>
+    requires of { (pass.old.of ≡ cache.now) × (writer.old.of ≡ cache.now) }
+    ensures writer { (writer.new ≡ writer.old) × IsAtRest V writer.new }
+    ensures of { pass.new.of ≡ pass.old.of }
+    ensures turn { HasTriedToPeek V pass.old pass.new (Some result) }
+    ensures plain { PeekMeans V (seen V pass.old) (seen V pass.new) key (Some result) }
+{
+    begin(cache, pass, writer);
+    writer.peek(cache, key)
 }
 
 /// A turn that lists the entries.

@@ -15,7 +15,7 @@ use crate::cache::Cache;
 use mc_plan::{AbsentError, Books, IfError, Put, PutError, Remove, Spent, Why};
 use mc_shared::WriterSeat;
 use mc_words::Reply;
-use mc_writer::{get, put, put_if, put_if_absent, put_kept, remove};
+use mc_writer::{get, look, put, put_if, put_if_absent, put_kept, remove};
 use std::marker::Model;
 
 /// The one writer of a cache. In contracts it is its record: the acts that it has made.
@@ -165,6 +165,23 @@ impl<const V: usize> Writer<V> {
         ensures plain { TellsNow (history V self.old) key result × (history V self.new ≡ history V self.old) }
     {
         get(&cache.cells, &mut self.seat, &self.books, key)
+    }
+
+    /// Looks the key up as `get` does, but marks nothing: it doesn't count as a use of the key.
+    pub fn peek(&mut self, cache: &Cache<V>, key: u64) -> Reply<V>
+        requires of { self.old.of ≡ cache.now }
+        ensures writer { self.new ≡ self.old }
+        ensures plain { TellsNow (history V self.old) key result }
+    {
+        let at = self.moment;
+        match look(&cache.cells, &mut self.seat, &self.books, key) {
+            Some(held) => {
+                let value = held.value;
+                let since = held.since;
+                Reply::Found { value, at, since }
+            }
+            None => Reply::Absent { at },
+        }
     }
 
     /// The number of changes made to the map: the length of the history.

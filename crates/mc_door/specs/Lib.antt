@@ -4,6 +4,7 @@ pub mod Tellings
 pub mod Tells
 pub mod AtShards
 pub mod Means
+pub mod Peeks
 pub mod Writes
 pub mod Swaps
 pub mod Held

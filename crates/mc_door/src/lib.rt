@@ -15,6 +15,7 @@ mod new_passes;
 mod new_sides;
 mod onto_desk;
 mod pass_side;
+mod peeking;
 mod reader_side;
 mod rest;
 mod shard_rest;

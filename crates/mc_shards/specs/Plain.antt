@@ -1,7 +1,7 @@
 -- What the calls of shards mean for whoever uses them: the clauses `plain`. What a pass has seen is a list of histories, one of each
 -- shard. They are those of one map, whose part of a key is kept by the key's shard.
 use Rattle.std.specs.Prelude.{ℕ, ◌≡◌, ◌≢◌, ◌==◌, List, [], ◌∷◌, ◌++◌, AllPairs, EachIndex, Option, Some, None, length, map, slice_index, slice_index_or}
-pub use Rattle.mc_cache.specs.Plain.{Begins, HasAnswered, PutIfAbsentMeans, PutIfMeans, PutMeans, RemovalMeans, TurnMeans}
+pub use Rattle.mc_cache.specs.Plain.{Begins, HasAnswered, PeekMeans, PutIfAbsentMeans, PutIfMeans, PutMeans, RemovalMeans, TurnMeans}
 pub use Rattle.mc_cache.specs.Taking.{SwapIfMeans, SwapMeans, TakeIfMeans, TakeMeans}
 use Rattle.std.specs.Map.{lookup}
 use Rattle.mc_cache.specs.Plain.{seen, map_value}

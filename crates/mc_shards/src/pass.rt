@@ -3,10 +3,10 @@ ghost use Rattle.std.specs.Prelude.{◌≡◌, length};
 ghost use Rattle.mc_plan.specs.WholeCalls.{PutCall, PutIfCall, RemoveCall};
 ghost use Rattle.mc_plan.specs.declared.answer.Answer.TheVariants as answer;
 ghost use Rattle.mc_reader.specs.Records.{HasLooked};
-ghost use Rattle.mc_cache.specs.Turns.{HasLookedOrMet, HasTried, HasTriedIfAbsent, HasTriedTo};
+ghost use Rattle.mc_cache.specs.Turns.{HasLookedOrMet, HasTried, HasTriedIfAbsent, HasTriedTo, HasTriedToPeek};
 ghost use Rattle.mc_cache.specs.Failing.{PutFails, PutIfAbsentFails, PutIfFails, RemovalFails, TurnFails, versions_seen};
 ghost use Rattle.mc_cache.specs.Plain.{seen};
-ghost use Rattle.mc_shards.specs.Plain.{AllAnswered, AllBegin, HasAnswered, PutIfAbsentMeans, PutIfMeans, PutMeans, RemovalMeans, TurnMeans, seens};
+ghost use Rattle.mc_shards.specs.Plain.{AllAnswered, AllBegin, HasAnswered, PeekMeans, PutIfAbsentMeans, PutIfMeans, PutMeans, RemovalMeans, TurnMeans, seens};
 ghost use Rattle.mc_shards.specs.Sharded.{ArePassOf, ChangesAt, shard_in};
 
 use crate::shards::Shards;
@@ -58,6 +58,21 @@ impl<const V: usize> Pass<V> {
         let lender = shards.lender(n);
         let reader = &mut self.readers[n];
         lender.get_or_lend(cache, reader, key)
+    }
+
+    /// Tries once for the turn of the key's shard, and with it looks the key up, as `Desk::try_peek` does. Condition: the pass belongs to
+    /// these shards.
+    pub fn try_peek(&mut self, shards: &Shards<V>, key: u64) -> Option<Reply<V>>
+        requires of { ArePassOf shards.now self.old }
+        ensures of { ArePassOf shards.now self.new }
+        ensures turn { ChangesAt (shard_in shards.now key) self.old self.new (λ r r'. HasTriedToPeek V r r' result) }
+        ensures plain { ChangesAt (shard_in shards.now key) (seens V self.old) (seens V self.new) (λ h h'. PeekMeans V h h' key result) }
+    {
+        let n = shards.shard_of(key);
+        let cache = shards.cache(n);
+        let lender = shards.lender(n);
+        let reader = &mut self.readers[n];
+        lender.try_peek(cache, reader, key)
     }
 
     // Tries once for the turn of the key's shard, and with it makes the call.

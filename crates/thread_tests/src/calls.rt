@@ -19,6 +19,7 @@ pub enum Call {
     SwapIf(u64, u64, u64),
     Take(u64),
     Get(u64),
+    Peek(u64),
     Look(u64),
     LookBeside(u64),
     CatchUp,
@@ -170,6 +171,7 @@ pub fn make(cache: &Cache<1>, writer: &mut Writer<1>, reader: &mut Reader<1>, ca
         }
         Call::Take(key) => Told::of_take(writer.take(cache, key)),
         Call::Get(key) => Told::of_reply(writer.get(cache, key)),
+        Call::Peek(key) => Told::of_reply(writer.peek(cache, key)),
         Call::Look(key) => Told::of_reply(reader.get(cache, key)),
         Call::LookBeside(key) => Told::of_reply(reader.get_beside(cache, writer, key)),
         Call::CatchUp => Told::Moment(reader.catch_up(cache, writer)),

@@ -102,15 +102,15 @@ fn a_key_without_a_path_is_refused(rt: HostRuntime) -> Result<(), Fail> {
     check_rows(rt.alloc(), small(), &rows)
 }
 
-// Three items, of which this call uses the first that would be evicted next.
-fn check_use(alloc: Global, get: Call) -> Result<(), Fail> {
+// Three items, of which this call looks up the first that would be evicted next, key 1. After it this key is evicted.
+fn check_use(alloc: Global, look: Call, evicted: u64) -> Result<(), Fail> {
     let rows = [
         (Call::Put(0, 0), Told::Stored(1)),
         (Call::Put(1, 1), Told::Stored(2)),
         (Call::Put(2, 2), Told::Stored(3)),
         (Call::Put(3, 3), Told::StoredAfter(0, 5)),
-        (get, Told::Found(1, 5, 2)),
-        (Call::Put(4, 4), Told::StoredAfter(2, 7)),
+        (look, Told::Found(1, 5, 2)),
+        (Call::Put(4, 4), Told::StoredAfter(evicted, 7)),
     ];
     check_rows(alloc, with_items(3), &rows)
 }
@@ -127,9 +127,9 @@ fn the_hand_evicts_what_was_not_used(rt: HostRuntime) -> Result<(), Fail> {
     let alloc = rt.alloc();
     check_rows(alloc, with_items(2), &NOT_USED)?;
     for get in [Call::Get(1), Call::Look(1), Call::LookBeside(1)] {
-        check_use(alloc, get)?;
+        check_use(alloc, get, 2)?;
     }
-    Ok(())
+    check_use(alloc, Call::Peek(1), 1)
 }
 
 #[test]

@@ -6,7 +6,7 @@ use crate::calls::{Call, Told};
 use crate::opened::open_for_one;
 use crate::rows::{check_rows, small, with_items};
 use mc_cache::{
-    Cache, Desk, DeskError, Entry, IfError, Mix, Put, Reader, Replaced, Shape, Swapped, Take,
+    Cache, Desk, DeskError, Entry, IfError, Mix, Put, Reader, Replaced, Reply, Shape, Swapped, Take,
     Writer,
 };
 use mc_shards::{Pass, Shards, open_shards};
@@ -83,9 +83,19 @@ fn returns_entries(cache: &Cache<1>, desk: &Desk<1>, pass: &mut Reader<1>) -> bo
         && desk.try_swap_if(cache, pass, 6, 2, [9]) == Ok(Replaced { at, old })
         && desk.try_swap_if(cache, pass, 6, 2, [10]) == changed
         && desk.try_len(cache, pass) == Some(1)
+        && desk.try_peek(cache, pass, 6) == Some(found())
         && desk.try_take(cache, pass, 6) == Ok(taken())
         && desk.try_take(cache, pass, 6) == Ok(Take::NotThere { at: 4 })
         && desk.try_len(cache, pass) == Some(0)
+}
+
+// What the key has after the third change.
+fn found() -> Reply<1> {
+    Reply::Found {
+        value: [9],
+        at: 3,
+        since: 3,
+    }
 }
 
 // The key is taken out by the fourth change.
@@ -114,6 +124,7 @@ fn returns_entries_in_shards(shards: &Shards<1>, pass: &mut Pass<1>) -> bool
         && pass.try_swap(shards, 6, [8]) == Ok(second(entry(6, 7, 1)))
         && pass.try_swap_if(shards, 6, 2, [9]) == Ok(Replaced { at, old })
         && pass.try_swap_if(shards, 6, 2, [10]) == changed
+        && pass.try_peek(shards, 6) == Some(found())
         && pass.try_take(shards, 6) == Ok(taken())
         && pass.try_take(shards, 6) == Ok(Take::NotThere { at: 4 })
 }

@@ -63,13 +63,13 @@ impl<K: Hash + Eq, V, S: BuildHasher> ObjectInner<K, V, S> {
         let hash = self.hash(&key);
         for _ in 0..self.tries {
             let pinned = self.pin();
-            let (seen, over) = pinned.place(hash, &key).ok_or(UpdateError::Busy)?;
+            let (seen, over) = pinned.place(hash, &key, self.tries).ok_or(UpdateError::Busy)?;
             let value = change(seen.map(|seen| &seen.object.value));
             let object = Object::new(key, value, self.deadline(None));
             self.detach(hash);
             let put = match seen {
                 Some(seen) => self.put_over_seen(&pinned, hash, object, seen),
-                None => self.put_over(hash, object, over),
+                None => self.put_over(hash, object, over, self.tries),
             };
             drop(pinned);
             match put {
@@ -93,12 +93,12 @@ impl<K: Hash + Eq, V, S: BuildHasher> ObjectInner<K, V, S> {
         let hash = self.hash(key);
         for _ in 0..self.tries {
             let pinned = self.pin();
-            let (Some(seen), over) = pinned.place(hash, key).ok_or(UpdateError::Busy)? else { return Ok(None) };
+            let (Some(seen), over) = pinned.place(hash, key, self.tries).ok_or(UpdateError::Busy)? else { return Ok(None) };
             let value = change(&seen.object.value);
             let object = Object::new(seen.object.key.clone(), value, self.deadline(anew));
             self.detach(hash);
             let put = match anew {
-                Some(_) => self.put_over(hash, object, over),
+                Some(_) => self.put_over(hash, object, over, self.tries),
                 None => self.put_over_seen(&pinned, hash, object, seen),
             };
             drop(pinned);

@@ -7,6 +7,7 @@ use crate::error::GetError;
 use crate::flight::{Boarding, Leader};
 use crate::print::Print;
 use crate::stats::Kind;
+use crate::wait::LOOKS;
 use std::borrow::Borrow;
 use std::convert::Infallible;
 use std::hash::{BuildHasher, Hash};
@@ -48,28 +49,28 @@ where
     {
         let inner = &self.inner;
         let hash = inner.hash(key);
-        let mut found = inner.get(hash, key);
+        let mut found = inner.get(hash, key, inner.looks()).unwrap_or(None);
         loop {
             if let Some(value) = found {
                 return Ok(value);
             }
             match inner.flights.board(Print::of_hash(hash)) {
-                Boarding::First(leader) => return inner.compute(hash, key, &leader, make),
+                Boarding::First(leader) => return inner.compute(hash, key, &leader, inner.tries, make),
                 Boarding::Within => return make(),
                 Boarding::Other(flight) => {
                     let _ = flight.wait();
-                    found = inner.find(hash, key);
+                    found = inner.find(hash, key, inner.looks());
                 }
             }
         }
     }
 
-    /// Like [`get_or_insert_with`](Self::get_or_insert_with), but doesn't wait for another thread that computes the value. It looks the key
-    /// up and puts the value with as many tries.
+    /// Like [`get_or_insert_with`](Self::get_or_insert_with), with a single try to look the key up, and one to put the value. It doesn't wait
+    /// for another thread that computes the value.
     ///
     /// # Errors
     ///
-    /// [`GetError::Computing`].
+    /// [`GetError`]: `make` was not called.
     pub fn try_get_or_insert_with<Q>(&self, key: &Q, make: impl FnOnce() -> V) -> Result<V, GetError>
     where
         K: Borrow<Q>,
@@ -77,12 +78,12 @@ where
     {
         let inner = &self.inner;
         let hash = inner.hash(key);
-        if let Some(value) = inner.get(hash, key) {
+        if let Some(value) = inner.get(hash, key, 1)? {
             return Ok(value);
         }
         match inner.flights.board(Print::of_hash(hash)) {
             Boarding::First(leader) => {
-                let Ok(value) = inner.compute(hash, key, &leader, || Ok::<V, Infallible>(make()));
+                let Ok(value) = inner.compute(hash, key, &leader, 1, || Ok::<V, Infallible>(make()));
                 Ok(value)
             }
             Boarding::Within => Ok(make()),
@@ -93,50 +94,58 @@ where
 
 impl<K: Eq, V: Clone, S> ObjectInner<K, V, S> {
     // A lookup that is counted.
-    fn get<Q: Eq + ?Sized>(&self, hash: u64, key: &Q) -> Option<V>
+    fn get<Q: Eq + ?Sized>(&self, hash: u64, key: &Q, tries: u32) -> Result<Option<V>, GetError>
     where
         K: Borrow<Q>,
     {
         let pinned = self.pin();
-        self.count(pinned.look(hash, key, self.looks()))?.value().found().cloned()
+        let state = self.count(pinned.look(hash, key, tries)).ok_or(GetError::Busy)?;
+        Ok(state.value().found().cloned())
     }
 
     // A lookup that isn't.
-    fn find<Q: Eq + ?Sized>(&self, hash: u64, key: &Q) -> Option<V>
+    fn find<Q: Eq + ?Sized>(&self, hash: u64, key: &Q, tries: u32) -> Option<V>
     where
         K: Borrow<Q>,
     {
-        self.pin().look(hash, key, self.looks())?.value().found().cloned()
+        self.pin().look(hash, key, tries)?.value().found().cloned()
     }
 
     /// Makes the value as the leader of a flight.
-    pub fn compute<Q, E>(&self, hash: u64, key: &Q, leader: &Leader<()>, make: impl FnOnce() -> Result<V, E>) -> Result<V, E>
+    pub fn compute<Q, E>(
+        &self,
+        hash: u64,
+        key: &Q,
+        leader: &Leader<()>,
+        tries: u32,
+        make: impl FnOnce() -> Result<V, E>,
+    ) -> Result<V, E>
     where
         K: Borrow<Q>,
         Q: Eq + ToOwned<Owned = K> + ?Sized,
     {
         // An earlier flight may have ended since this thread looked the key up.
-        if let Some(value) = self.find(hash, key) {
+        if let Some(value) = self.find(hash, key, tries.min(LOOKS)) {
             return Ok(value);
         }
         let value = make()?;
         let object = Object::new(key.to_owned(), value.clone(), self.deadline(None));
-        Ok(self.fill(hash, object, leader).unwrap_or(value))
+        Ok(self.fill(hash, object, leader, tries).unwrap_or(value))
     }
 
     // Puts the object where its key has none, unless a write has detached the flight. If the key has another by now, returns its value.
     // The lock under which flights are detached is held for the put alone, while no code of the caller runs.
-    fn fill(&self, hash: u64, mut object: Box<Object<K, V>>, leader: &Leader<()>) -> Option<V> {
-        for _ in 0..self.tries {
+    fn fill(&self, hash: u64, mut object: Box<Object<K, V>>, leader: &Leader<()>, tries: u32) -> Option<V> {
+        for _ in 0..tries {
             let pinned = self.pin();
-            let over = match pinned.place(hash, &object.key) {
+            let over = match pinned.place(hash, &object.key, tries) {
                 Some((Some(seen), _)) => return Some(seen.object.value.clone()),
                 Some((None, over)) => over,
                 None => break,
             };
             drop(pinned);
             let mut offered = Some(object);
-            let put = leader.put(|| self.put_over(hash, offered.take().expect("it is put once"), over))?;
+            let put = leader.put(|| self.put_over(hash, offered.take().expect("it is put once"), over, tries))?;
             match put {
                 Ok(done) => {
                     self.end(done);

@@ -92,11 +92,11 @@ impl<K, V, S> Pinned<'_, K, V, S> {
     }
 
     /// The key's object, if it has one, and over what the next one of the key is put.
-    pub fn place<Q: Eq + ?Sized>(&self, hash: u64, key: &Q) -> Option<(Option<Seen<'_, K, V>>, Over)>
+    pub fn place<Q: Eq + ?Sized>(&self, hash: u64, key: &Q, tries: u32) -> Option<(Option<Seen<'_, K, V>>, Over)>
     where
         K: Borrow<Q>,
     {
-        Some(match self.look(hash, key, self.inner.tries)? {
+        Some(match self.look(hash, key, tries)? {
             State::Live(seen) => (Some(seen), Over::At(seen.since)),
             State::Expired(seen) | State::Other(seen) => (None, Over::At(seen.since)),
             State::Absent { .. } => (None, Over::Absent),

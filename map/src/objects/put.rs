@@ -68,7 +68,7 @@ where
         let hash = inner.hash(&key);
         let object = Object::new(key, value, inner.deadline(life));
         inner.detach(hash);
-        match inner.put_over(hash, object, Over::Any) {
+        match inner.put_over(hash, object, Over::Any, inner.tries) {
             Ok(done) => Ok(inner.end(done)),
             Err((object, Fail::Insert(why))) => Err(inner.refuse(*object, why)),
             Err(_) => unreachable!("this put does not ask what is there"),
@@ -86,7 +86,7 @@ where
         let mut object = Object::new(key, value, inner.deadline(life));
         for _ in 0..inner.tries {
             let pinned = inner.pin();
-            let over = match pinned.place(hash, &object.key) {
+            let over = match pinned.place(hash, &object.key, inner.tries) {
                 None => Err(AbsentError::Busy),
                 Some((Some(seen), _)) => Err(AbsentError::Present { since: seen.since }),
                 Some((None, over)) => Ok(over),
@@ -97,7 +97,7 @@ where
                 Err(why) => return Err(inner.refuse(*object, why)),
             };
             inner.detach(hash);
-            match inner.put_over(hash, object, over) {
+            match inner.put_over(hash, object, over, inner.tries) {
                 Ok(done) => return Ok(inner.end(done)),
                 Err((back, Fail::Insert(why))) => return Err(inner.refuse(*back, why.into())),
                 Err((back, _)) => object = back,
@@ -117,7 +117,7 @@ where
         let hash = inner.hash(&key);
         let object = Object::new(key, value, inner.deadline(life));
         inner.detach(hash);
-        match inner.put_over(hash, object, Over::At(since)) {
+        match inner.put_over(hash, object, Over::At(since), inner.tries) {
             Ok(done) => Ok(inner.end(done)),
             Err((object, why)) => Err(inner.refuse(*object, why.of_moment())),
         }
@@ -160,11 +160,11 @@ impl Fail {
 
 impl<K, V, S> ObjectInner<K, V, S> {
     /// Puts the object over what is there now. On failure the object comes back.
-    pub fn put_over(&self, hash: u64, object: Box<Object<K, V>>, over: Over) -> Offered<K, V> {
+    pub fn put_over(&self, hash: u64, object: Box<Object<K, V>>, over: Over, tries: u32) -> Offered<K, V> {
         self.offer(object, |word| match over {
-            Over::Any => self.put_any(hash, word),
-            Over::Absent => self.put_absent(hash, word),
-            Over::At(since) => self.put_at(hash, word, since),
+            Over::Any => self.put_any(hash, word, tries),
+            Over::Absent => self.put_absent(hash, word, tries),
+            Over::At(since) => self.put_at(hash, word, since, tries),
         })
     }
 
@@ -197,14 +197,14 @@ impl<K, V, S> ObjectInner<K, V, S> {
         })
     }
 
-    fn put_any(&self, hash: u64, word: u64) -> Result<Done, Fail> {
-        let put = in_turn(self.tries, || self.in_stripe(hash, |pass| pass.try_swap(hash, &[word]).map_err(failed)));
+    fn put_any(&self, hash: u64, word: u64, tries: u32) -> Result<Done, Fail> {
+        let put = in_turn(tries, || self.in_stripe(hash, |pass| pass.try_swap(hash, &[word]).map_err(failed)));
         put.map(|swapped| self.swapped(swapped)).map_err(Fail::of)
     }
 
     // The lock keeps other threads from putting the key between the two calls.
-    fn put_absent(&self, hash: u64, word: u64) -> Result<Done, Fail> {
-        let put = in_turn(self.tries, || {
+    fn put_absent(&self, hash: u64, word: u64, tries: u32) -> Result<Done, Fail> {
+        let put = in_turn(tries, || {
             self.in_stripe(hash, |pass| match pass.get_or_desk(hash) {
                 Reply::Found { .. } => Err(TurnError::Call(Fail::Present)),
                 Reply::Busy => Err(TurnError::Held),
@@ -214,8 +214,8 @@ impl<K, V, S> ObjectInner<K, V, S> {
         put.map(|swapped| self.swapped(swapped)).map_err(Fail::of)
     }
 
-    fn put_at(&self, hash: u64, word: u64, since: u64) -> Result<Done, Fail> {
-        self.replaced(in_turn(self.tries, || self.slots.call(|pass| pass.try_swap_if(hash, since, &[word]))))
+    fn put_at(&self, hash: u64, word: u64, since: u64, tries: u32) -> Result<Done, Fail> {
+        self.replaced(in_turn(tries, || self.slots.call(|pass| pass.try_swap_if(hash, since, &[word]))))
     }
 
     fn replaced(&self, put: Result<Replaced<1>, TurnError<PutIfError>>) -> Result<Done, Fail> {

@@ -1,5 +1,7 @@
 //! Calls that other threads disturb. With one try each, many fail. What fails says so, and has changed nothing.
+use crate::flight::Boarding;
 use crate::pass::AnyPass;
+use crate::wait::TRIES;
 use crate::{ClearError, GetError, InsertError, Map, RemoveError, UpdateError};
 use cefrodil::Shape;
 use std::sync::atomic::{AtomicBool, Ordering::SeqCst};
@@ -41,18 +43,26 @@ fn beside<const CALLS: usize>(disturb: impl Fn() + Sync, round: impl Fn(u64) -> 
     });
 }
 
-// A map of one shard, with so many entries, whose calls try once.
-fn hasty(entries: u64) -> Map<u64, u64> {
-    let map = Map::builder(1).open_shaped(&Shape::for_items(40_000).unwrap(), 1, 1).unwrap();
+// A map of one shard, with so many entries, whose calls try so often.
+fn filled(entries: u64, tries: u32) -> Map<u64, u64> {
+    let map = Map::builder(1).open_shaped(&Shape::for_items(40_000).unwrap(), 1, tries).unwrap();
     for key in 0..entries {
         map.insert(&key, key).unwrap();
     }
     map
 }
 
+// A map whose calls try so often. It has the key 1, and a write of any other key disturbs its lookups.
+fn restless(tries: u32) -> Map<u64, u64> {
+    let shape = Shape { stripes: 1, tries: 1, ..Shape::for_items(100).unwrap() };
+    let map = Map::builder(1).open_shaped(&shape, 1, tries).unwrap();
+    map.insert(&1, 10).unwrap();
+    map
+}
+
 #[test]
 fn a_write_that_does_not_get_the_turn_says_so() {
-    let map = hasty(20_000);
+    let map = filled(20_000, 1);
     let list = || drop(map.inner.slots.call(AnyPass::keys));
     beside(list, |number| {
         let key = number % 100;
@@ -80,7 +90,7 @@ fn a_write_that_does_not_get_the_turn_says_so() {
 
 #[test]
 fn each_refusal_is_counted() {
-    let map = hasty(20_000);
+    let map = filled(20_000, 1);
     let list = || drop(map.inner.slots.call(AnyPass::keys));
     beside(list, |number| {
         let (number, before) = (number % 1_000, map.stats());
@@ -97,8 +107,39 @@ fn each_refusal_is_counted() {
 }
 
 #[test]
+fn a_value_made_without_waiting_is_put_by_one_try() {
+    let map = filled(20_000, TRIES);
+    let list = || drop(map.inner.slots.call(AnyPass::keys));
+    beside(list, |number| {
+        let (key, before) = (number + 1_000_000, map.stats().refused);
+        assert_eq!(map.try_get_or_insert_with(&key, || 3), Ok(3));
+        let refused = map.get(&key).is_none();
+        assert_eq!(map.stats().refused, before + u64::from(refused));
+        [refused]
+    });
+}
+
+#[test]
+fn a_value_is_made_without_waiting_after_one_lookup() {
+    let map = restless(TRIES);
+    let (inner, print) = (&map.inner, map.inner.print(&1_u64));
+    let write = || {
+        let _ = map.insert(&2, 20);
+    };
+    beside(write, |_| {
+        let before = map.stats().busy;
+        let found = map.try_get_or_insert_with(&1, || unreachable!("it is there"));
+        assert!(matches!(found, Ok(10) | Err(GetError::Busy)), "{found:?}");
+        assert_eq!(map.stats().busy, before + u64::from(found.is_err()));
+        let Boarding::First(leader) = inner.flights.board(print) else { panic!("there is no other flight") };
+        let made = inner.compute(print, leader, 1, || Err("it was not found"));
+        [found.is_err(), made.is_err()]
+    });
+}
+
+#[test]
 fn a_clear_that_does_not_get_the_turn_says_so() {
-    let map = hasty(20_000);
+    let map = filled(20_000, 1);
     let list = || drop(map.inner.slots.call(AnyPass::keys));
     beside(list, |_| {
         let cleared = map.try_clear();
@@ -130,6 +171,8 @@ fn a_call_that_tries_more_often_is_not_refused() {
             failed += u32::from(map.insert(&number, number).is_err());
             failed += u32::from(map.update(&number, |old| old.unwrap_or(0) + 1).is_err());
             failed += u32::from(map.remove(&number).is_err());
+            map.get_or_insert_with(&(number + 1_000_000), || 3);
+            failed += u32::from(map.remove(&(number + 1_000_000)) != Ok(Some(3)));
         }
         failed += u32::from(map.clear().is_err());
         assert_eq!((failed, map.stats().refused, map.len()), (0, 0, 0), "after {:?}", begin.elapsed());
@@ -138,9 +181,7 @@ fn a_call_that_tries_more_often_is_not_refused() {
 
 #[test]
 fn a_lookup_that_stays_busy_says_so_and_is_counted() {
-    let shape = Shape { stripes: 1, tries: 1, ..Shape::for_items(100).unwrap() };
-    let map: Map<u64, u64> = Map::builder(1).open_shaped(&shape, 1, 1).unwrap();
-    map.insert(&1, 10).unwrap();
+    let map = restless(1);
     let write = || {
         let _ = map.insert(&2, 20);
     };
@@ -165,9 +206,7 @@ fn a_lookup_that_stays_busy_says_so_and_is_counted() {
 
 #[test]
 fn a_lookup_that_tries_more_often_finds_its_key() {
-    let shape = Shape { stripes: 1, tries: 1, ..Shape::for_items(100).unwrap() };
-    let map: Map<u64, u64> = Map::builder(1).open_shaped(&shape, 1, crate::wait::TRIES).unwrap();
-    map.insert(&1, 10).unwrap();
+    let map = restless(TRIES);
     let end = AtomicBool::new(false);
     thread::scope(|threads| {
         threads.spawn(|| {
@@ -176,7 +215,8 @@ fn a_lookup_that_tries_more_often_finds_its_key() {
             }
         });
         let _end = End(&end);
-        let lost = (0..5_000).filter(|_| map.get(&1).is_none()).count();
+        let is_lost = |_: &i32| map.get(&1).is_none() || map.get_many(&[1; 40]) != [Some(10); 40];
+        let lost = (0..5_000).filter(is_lost).count();
         assert_eq!((lost, map.stats().busy), (0, 0));
     });
 }

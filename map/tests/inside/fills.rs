@@ -39,6 +39,6 @@ fn a_value_that_came_before_the_flight_is_not_computed_again() {
     map.insert(&1, 10).unwrap();
     // As if the lookup before had missed it.
     let Boarding::First(leader) = inner.flights.board(print) else { panic!("there is no other flight") };
-    let value = inner.compute(print, leader, || Err("it is computed again"));
+    let value = inner.compute(print, leader, 1, || Err("it is computed again"));
     assert_eq!((value, map.get(&1), map.len()), (Ok(10), Some(10), 1));
 }

@@ -5,4 +5,5 @@ mod fills;
 #[cfg(feature = "objects")]
 mod objects;
 mod places;
+mod prints;
 mod slots;

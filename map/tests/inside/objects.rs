@@ -9,7 +9,7 @@ use std::hint::spin_loop;
 use std::sync::atomic::{AtomicBool, Ordering::SeqCst};
 use std::sync::{Arc, Mutex};
 use std::thread;
-use std::time::Duration;
+use std::time::{Duration, Instant};
 
 const fn seconds(number: u64) -> Duration {
     Duration::from_secs(number)
@@ -218,4 +218,47 @@ fn a_map_without_changes_left_says_so() {
     assert_eq!((map.remove(&1), map.remove(&2)), (Err(RemoveError::Spent), Ok(false)));
     assert_eq!((map.remove_if(&1, 2), map.clear()), (Err(IfError::Spent), Err(ClearError::Spent)));
     assert_eq!((map.get(&1), map.free_unused(), map.stats().refused), (Some(text("b")), 0, 8));
+}
+
+// Locks the stripe of this key, as another thread's put does.
+fn in_stripe<T>(map: &Names, key: u64, call: impl FnOnce() -> T) -> T {
+    let stripes = &map.inner.stripes;
+    let _locked = stripes[map.hash_of(&key) as usize % stripes.len()].0.lock().unwrap();
+    call()
+}
+
+#[test]
+fn a_write_that_does_not_get_its_turn_says_so() {
+    let map: Names = ObjectBuilder::new(100).open_shaped(&Shape::for_items(100).unwrap(), 1, 5).unwrap();
+    let held = InsertError::Held;
+    in_stripe(&map, 1, || {
+        let refused = map.insert(1, text("a")).unwrap_err();
+        assert_eq!((refused.why, refused.key, refused.value), (held, 1, text("a")));
+        let refused = map.insert_if_absent(1, text("a")).unwrap_err();
+        assert_eq!((refused.why, refused.value), (AbsentError::Insert(held), text("a")));
+        assert_eq!(map.update(1, |_| text("a")), Err(UpdateError::Insert(held)));
+        assert_eq!((map.get_or_insert_with(&1, || text("a")), map.get(&1), map.stats().refused), (text("a"), None, 4));
+    });
+    map.insert(1, text("b")).unwrap();
+    in_stripe(&map, 1, || {
+        assert_eq!(map.modify(&1, |_| text("c")), Err(UpdateError::Insert(held)));
+        assert!(!map.touch(&1, Duration::ZERO));
+        assert_eq!((map.get(&1), map.free_unused()), (Some(text("b")), 0));
+        // These need no lock.
+        assert_eq!(map.replace_if(1, 1, text("d"), None).unwrap().at, 2);
+        assert_eq!(map.remove(&1), Ok(true));
+    });
+}
+
+#[test]
+fn a_computation_that_tries_once_does_not_wait_for_a_turn() {
+    let map = timed(Duration::MAX);
+    in_stripe(&map, 1, || {
+        let begin = Instant::now();
+        assert_eq!(map.try_get_or_insert_with(&1, || text("a")), Ok(text("a")));
+        // So many tries as others make take over a second.
+        assert!(begin.elapsed() < Duration::from_millis(700));
+        assert_eq!((map.get(&1), map.stats().refused), (None, 1));
+    });
+    assert_eq!((map.try_get_or_insert_with(&1, || text("b")), map.get(&1)), (Ok(text("b")), Some(text("b"))));
 }

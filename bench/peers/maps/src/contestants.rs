@@ -2,6 +2,7 @@
 use dashmap::DashMap;
 use lru::{KeyRef, LruCache};
 use std::borrow::Borrow;
+use std::collections::hash_map::RandomState;
 use std::collections::HashMap;
 use std::hash::{BuildHasher, Hash, Hasher};
 use std::sync::{Mutex, RwLock};
@@ -85,10 +86,27 @@ pub trait Contestant<K: Key, V, S>: Sync {
 
 pub struct Cefrodil<K: Key, V, S>(cefrodil_map::Map<K::Borrowed, V, S>);
 
+/// A hasher with which a `cefrodil_map` is opened. Its own one is its default, by which it hashes each key once.
+pub trait Opens: BuildHasher + Clone + Send + Sync {
+    fn open<K: ?Sized, V: Copy + Send + Sync + 'static>(self, keys: usize) -> cefrodil_map::Map<K, V, Self>;
+}
+
+impl Opens for RandomState {
+    fn open<K: ?Sized, V: Copy + Send + Sync + 'static>(self, keys: usize) -> cefrodil_map::Map<K, V> {
+        cefrodil_map::Map::new(keys).expect("a map")
+    }
+}
+
+impl Opens for Quick {
+    fn open<K: ?Sized, V: Copy + Send + Sync + 'static>(self, keys: usize) -> cefrodil_map::Map<K, V, Quick> {
+        cefrodil_map::Builder::new(keys).hasher(self).open().expect("a map")
+    }
+}
+
 /// As it is opened by default, but for the hasher.
-impl<K: Key, V: Copy + Send + Sync + 'static, S: BuildHasher + Send + Sync> Contestant<K, V, S> for Cefrodil<K, V, S> {
+impl<K: Key, V: Copy + Send + Sync + 'static, S: Opens> Contestant<K, V, S> for Cefrodil<K, V, S> {
     fn new(keys: usize, hasher: S) -> Self {
-        Cefrodil(cefrodil_map::Builder::new(keys).hasher(hasher).open().expect("a map"))
+        Cefrodil(hasher.open(keys))
     }
 
     #[inline(always)]

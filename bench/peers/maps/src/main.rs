@@ -2,7 +2,7 @@
 //! SipHash-1-3 with a secret, which is std's default, or all by two multiplications.
 mod contestants;
 
-use contestants::{Cefrodil, Contestant, Key, Lru, Quick};
+use contestants::{Cefrodil, Contestant, Key, Lru, Opens, Quick};
 use dashmap::DashMap;
 use lru::KeyRef;
 use std::borrow::Borrow;
@@ -115,7 +115,7 @@ fn run<const N: usize, K: Key, S: BuildHasher, C: Contestant<K, [u64; N], S>>(op
     );
 }
 
-fn choose<const N: usize, K: Key, S: BuildHasher + Clone + Send + Sync>(options: &Options, hasher: S)
+fn choose<const N: usize, K: Key, S: Opens>(options: &Options, hasher: S)
 where
     KeyRef<K>: Borrow<K::Borrowed>,
 {

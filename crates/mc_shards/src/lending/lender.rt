@@ -3,7 +3,7 @@ ghost use Rattle.std.specs.Prelude.{◌≡◌, IfNone, IfOk, IfSome};
 
 use super::{FREE, LiesThere, WORDS, give, take};
 use atomic_table::Table;
-use mc_cache::turn::{TurnCall, get_in_turn, list_in_turn, make_in_turn};
+use mc_cache::turn::{TurnCall, get_in_turn, list_in_turn, make_in_turn, peek_in_turn};
 use mc_cache::{Cache, DeskError, NoMemory, Reader, Reply, Writer};
 use std::alloc::{AllocError, Global};
 use std::marker::Model;
@@ -29,8 +29,8 @@ impl<const V: usize> Model for Lender<V> {
 
 impl<const V: usize> Lender<V> {
     ghost use Rattle.mc_cache.specs.Failing.{TurnFails, versions_seen};
-    ghost use Rattle.mc_cache.specs.Plain.{AreEntriesOf, Begins, HasAnswered, TurnMeans, seen};
-    ghost use Rattle.mc_cache.specs.Turns.{HasLookedInTurn, HasLookedOrMet, HasTriedTo, HasTriedToList};
+    ghost use Rattle.mc_cache.specs.Plain.{AreEntriesOf, Begins, HasAnswered, PeekMeans, TurnMeans, seen};
+    ghost use Rattle.mc_cache.specs.Turns.{HasLookedInTurn, HasLookedOrMet, HasTriedTo, HasTriedToList, HasTriedToPeek};
 
     /// A place for the writer.
     pub fn new(alloc: Global, writer: Writer<V>) -> Result<Lender<V>, AllocError>
@@ -91,6 +91,21 @@ impl<const V: usize> Lender<V> {
         let listed = list_in_turn(alloc, cache, pass, turn.seat.slot_mut(shared, 0));
         give(shared, turn);
         listed
+    }
+
+    /// Tries once for the turn, and with it calls `Writer::peek`. `None` if the try did not win. The pass has then seen all changes that
+    /// led to this answer. Condition: the pass belongs to this cache, and the cache is the writer's.
+    pub fn try_peek(&self, cache: &Cache<V>, pass: &mut Reader<V>, key: u64) -> Option<Reply<V>>
+        requires of { (self.now ≡ cache.now) × (pass.old.of ≡ cache.now) }
+        ensures of { pass.new.of ≡ pass.old.of }
+        ensures turn { HasTriedToPeek V pass.old pass.new result }
+        ensures plain { PeekMeans V (seen V pass.old) (seen V pass.new) key result }
+    {
+        let shared = &self.table.shared;
+        let mut turn = take(shared)?;
+        let reply = peek_in_turn(cache, pass, turn.seat.slot_mut(shared, 0), key);
+        give(shared, turn);
+        Some(reply)
     }
 
     /// Looks the key up by `get`. If that is `Busy`, tries once for the turn, and with it looks the key up beside the writer.

@@ -1,0 +1,89 @@
+//! Puts of many entries in one call, and lookups that are no use of a key.
+use cefrodil::{Cache, Desk, Put, PutError, Reply, Shape, Shards, TurnError};
+use std::error::Error;
+
+/// More entries than one call of the archive takes.
+const MANY: usize = 70;
+
+fn entries() -> Vec<(u64, [u64; 2])> {
+    (0..MANY as u64).map(|n| (n % 60, [n, 2 * n])).collect()
+}
+
+/// The answers of puts of the entries, one after the other.
+fn answers() -> Vec<Put> {
+    let new = (1..=60).map(|at| Put::Stored { at, moves: 0, evicted: None });
+    new.chain((61..=70).map(|at| Put::Renewed { at })).collect()
+}
+
+#[test]
+fn a_writer_puts_many() -> Result<(), Box<dyn Error>> {
+    // So few of its slots are in use that no key is moved.
+    let (mut writer, mut readers) = Cache::<2>::open(&Shape::for_items(10_000)?, 1)?;
+    let mut told = [Err(PutError::Spent); MANY];
+    writer.put_many(&entries(), &mut told);
+    assert_eq!(told.into_iter().collect::<Result<Vec<_>, _>>()?, answers());
+    assert_eq!(readers[0].get(3), Reply::Found { value: [63, 126], at: 70, since: 64 });
+    writer.put_many(&[], &mut []);
+    assert_eq!((writer.moment(), writer.len()), (70, 60));
+    Ok(())
+}
+
+#[test]
+fn a_refused_put_of_many_stops_no_other() -> Result<(), Box<dyn Error>> {
+    // Enough for a put of a new key, and then one over it.
+    let shape = Shape { limit: 4, depth: 0, ..Shape::for_items(8)? };
+    let (mut writer, _readers) = Cache::<1>::open(&shape, 1)?;
+    let mut told = [Ok(Put::Renewed { at: 0 }); 3];
+    writer.put_many(&[(1, [10]), (1, [11]), (2, [20])], &mut told);
+    assert_eq!(told, [Ok(Put::Stored { at: 1, moves: 0, evicted: None }), told[1], Err(PutError::Spent)]);
+    assert_eq!(writer.get(2), Reply::Absent { at: writer.moment() });
+    Ok(())
+}
+
+#[test]
+#[should_panic(expected = "there must be as many answers as entries")]
+fn fewer_answers_than_entries_panic() {
+    let (mut writer, _readers) = Cache::<1>::open(&Shape::for_items(8).unwrap(), 1).unwrap();
+    writer.put_many(&[(1, [10]), (2, [20])], &mut [Err(PutError::Spent)]);
+}
+
+#[test]
+fn passes_put_many_and_peek() -> Result<(), Box<dyn Error>> {
+    let desk = Desk::<2>::open(&Shape::for_items(10_000)?, 1)?;
+    let mut pass = desk.pass().ok_or("no pass")?;
+    let mut told = [Err(TurnError::Held); MANY];
+    pass.try_put_many(&entries(), &mut told);
+    assert_eq!(told.into_iter().collect::<Result<Vec<_>, _>>()?, answers());
+    assert_eq!(pass.try_peek(3), Some(Reply::Found { value: [63, 126], at: 70, since: 64 }));
+    assert_eq!(pass.try_peek(60), Some(Reply::Absent { at: 70 }));
+    let mut shards = Shards::<2>::open(&Shape::for_shards(10_000, 4)?, 4, 1)?;
+    shards[0].try_put_many(&entries(), &mut told);
+    assert!(told.iter().all(Result::is_ok));
+    assert_eq!((0..60).filter(|key| shards[0].try_peek(*key).and_then(Reply::value).is_some()).count(), 60);
+    assert_eq!(shards[0].try_peek(3).and_then(Reply::value), Some([63, 126]));
+    Ok(())
+}
+
+#[test]
+fn a_peek_is_no_use() -> Result<(), Box<dyn Error>> {
+    // Fills a cache of three items, looks its next victim up by this call, and returns the key that another put evicts.
+    let evicted_after = |look: fn(&mut cefrodil::Writer<1>, u64) -> Reply<1>| -> Result<(u64, u64), Box<dyn Error>> {
+        let (mut writer, _readers) = Cache::<1>::open(&Shape::for_items(3)?, 1)?;
+        for key in 0..3 {
+            writer.put(key, &[key])?;
+        }
+        let Put::Stored { evicted: Some(first), .. } = writer.put(3, &[3])? else { return Err("none was evicted".into()) };
+        // The hand goes on with the item after it.
+        let next = (first + 1) % 3;
+        assert_eq!(look(&mut writer, next), Reply::Found { value: [next], at: 5, since: next + 1 });
+        match writer.put(4, &[4])? {
+            Put::Stored { evicted: Some(second), .. } => Ok((next, second)),
+            other => Err(format!("{other:?}").into()),
+        }
+    };
+    let (next, evicted) = evicted_after(|writer, key| writer.peek(key))?;
+    assert_eq!(evicted, next);
+    let (next, evicted) = evicted_after(|writer, key| writer.get(key))?;
+    assert_ne!(evicted, next);
+    Ok(())
+}
