@@ -3,6 +3,7 @@
 //! In the log a key is its hash, as the index has it. A value is a digest of the item's flags and bytes: so an answer with the bytes of
 //! another item is found, too, and not only one from another moment.
 use crate::item::Item;
+use crate::server::named;
 use std::collections::hash_map::DefaultHasher;
 use std::fs::File;
 use std::hash::{Hash, Hasher};
@@ -30,7 +31,8 @@ pub fn digest(item: &Item) -> u64 {
 impl Audit {
     /// Begins a log in this file.
     pub fn create(path: &str) -> io::Result<Audit> {
-        let audit = Audit(Mutex::new(State { out: BufWriter::new(File::create(path)?), fault: None }));
+        let file = File::create(path).map_err(|why| named(&path, &why))?;
+        let audit = Audit(Mutex::new(State { out: BufWriter::new(file), fault: None }));
         audit.line(format_args!("words 1"));
         Ok(audit)
     }

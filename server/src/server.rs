@@ -8,6 +8,7 @@ use crate::worker::{Inbox, Worker};
 use mio::net::{TcpListener, TcpStream};
 use mio::unix::SourceFd;
 use mio::{Events, Interest, Poll, Token};
+use std::fmt::Display;
 use std::io::{self, ErrorKind, Write};
 use std::net::SocketAddr;
 use std::os::fd::AsRawFd;
@@ -30,13 +31,18 @@ pub struct Server {
     handed: usize,
 }
 
+/// An error with what it is about.
+pub fn named(what: &impl Display, why: &io::Error) -> io::Error {
+    io::Error::new(why.kind(), format!("{what}: {why}"))
+}
+
 impl Server {
     /// Listens, and ends at SIGTERM or SIGINT, when what clients have sent is answered. `is_ready` gets the address.
     pub fn run(store: Arc<Store>, address: SocketAddr, is_ready: impl FnOnce(SocketAddr)) -> io::Result<()> {
         let signal = signal::file()?;
         counts::take_place(store.options.threads);
         let mut poll = Poll::new()?;
-        let mut listener = TcpListener::bind(address)?;
+        let mut listener = TcpListener::bind(address).map_err(|why| named(&address, &why))?;
         poll.registry().register(&mut listener, LISTENER, Interest::READABLE)?;
         poll.registry().register(&mut SourceFd(&signal.as_raw_fd()), SIGNAL, Interest::READABLE)?;
         let (mut inboxes, mut threads) = (Vec::new(), Vec::new());
