@@ -15,8 +15,10 @@ import sys
 import tempfile
 import time
 
+from running import TIMEOUT, start, stop
+
 KEYS = [f'key:{number}' for number in range(200)]
-TIMEOUT = 10
+OPTIONS = ['-t', '2', '-m', '16']
 
 
 def free_port():
@@ -63,12 +65,6 @@ class Client:
         return self.ask(f'get {key}\r\n')
 
 
-def start(program, port):
-    server = subprocess.Popen([program, '-p', str(port), '-t', '2', '-m', '16'], stdout=subprocess.DEVNULL)
-    wait_for(port)
-    return server
-
-
 def found(client, key):
     """Whether the key is found. No key may have another one's value."""
     answer = client.get(key)
@@ -96,11 +92,10 @@ def test(program, servers, ports, client):
     shares = [sum(Client(port).get(key) != 'END' for key in KEYS) for port in ports]
     assert sum(shares) == len(KEYS) and min(shares) > 0, shares
     assert go_on(client, 0.5, draw)[1] == 0
-    servers[0].kill()
-    servers[0].wait()
+    stop(servers[0])
     hits, failures = go_on(client, 1.5, draw)
     assert hits > 0 and failures > 0, (hits, failures)
-    servers[0] = start(program, ports[0])
+    servers[0], _ = start(program, *OPTIONS, port=ports[0])
     time.sleep(1)
     go_on(client, 0.5, draw)
     assert all(client.set(key, f'value of {key} 1') == 'STORED' for key in KEYS)
@@ -109,24 +104,26 @@ def test(program, servers, ports, client):
 
 
 def main():
-    program, ports, listen, stats = sys.argv[1], [free_port(), free_port()], free_port(), free_port()
+    program, listen, stats, processes, ports = sys.argv[1], free_port(), free_port(), [], []
     with tempfile.TemporaryDirectory() as folder:
-        config = os.path.join(folder, 'nutcracker.yml')
-        with open(config, 'w', encoding='utf-8') as file:
-            file.write(f'pool:\n  listen: 127.0.0.1:{listen}\n  hash: md5\n  distribution: ketama\n  timeout: 400\n')
-            file.write('  auto_eject_hosts: false\n  server_retry_timeout: 200\n  servers:\n')
-            # By these names, and not by the ports, ketama places the servers.
-            file.writelines(f'   - 127.0.0.1:{port}:1 {name}\n' for port, name in zip(ports, ['one', 'two']))
-        processes = [start(program, port) for port in ports]
         try:
+            for _ in range(2):
+                server, port = start(program, *OPTIONS)
+                processes.append(server)
+                ports.append(port)
+            config = os.path.join(folder, 'nutcracker.yml')
+            with open(config, 'w', encoding='utf-8') as file:
+                file.write(f'pool:\n  listen: 127.0.0.1:{listen}\n  hash: md5\n  distribution: ketama\n  timeout: 400\n')
+                file.write('  auto_eject_hosts: false\n  server_retry_timeout: 200\n  servers:\n')
+                # By these names, and not by the ports, ketama places the servers.
+                file.writelines(f'   - 127.0.0.1:{port}:1 {name}\n' for port, name in zip(ports, ['one', 'two']))
             proxy = ['nutcracker', '-c', config, '-o', f'{folder}/log', '-p', f'{folder}/pid', '-a', '127.0.0.1', '-s', str(stats)]
             processes.append(subprocess.Popen(proxy, stdout=subprocess.DEVNULL, stderr=subprocess.DEVNULL))
             wait_for(listen)
             test(program, processes, ports, Client(listen))
         finally:
             for process in processes:
-                process.kill()
-                process.wait()
+                stop(process)
 
 
 if __name__ == '__main__':
