@@ -1,0 +1,66 @@
+//! Time: nanoseconds since the server started, and the deadlines of items.
+use std::time::{Duration, Instant, SystemTime, UNIX_EPOCH};
+
+/// The deadline of what does not expire.
+pub const NEVER: u64 = u64::MAX;
+
+const SECOND: u64 = 1_000_000_000;
+
+/// The longest time to live that is relative, in seconds: 30 days. A larger number is a time of day.
+const RELATIVE: i64 = 60 * 60 * 24 * 30;
+
+/// A monotonic clock. Time 0 has passed before the server started.
+#[derive(Debug)]
+pub struct Clock {
+    started: Instant,
+}
+
+impl Clock {
+    /// Starts now.
+    pub fn new() -> Clock {
+        Clock { started: Instant::now() }
+    }
+
+    /// Nanoseconds since the start, 1 at least.
+    pub fn now(&self) -> u64 {
+        self.started.elapsed().as_nanos() as u64 + 1
+    }
+
+    /// Whole seconds since the start.
+    pub fn uptime(&self) -> u64 {
+        self.started.elapsed().as_secs()
+    }
+
+    /// When something ends that has this time to live, by the protocol: 0 is never, a negative number at once, up to 30 days counts from
+    /// now, and more is seconds since 1970.
+    pub fn deadline(&self, seconds: i64) -> u64 {
+        let left = match seconds {
+            0 => return NEVER,
+            1..=RELATIVE => seconds,
+            _ => seconds.saturating_sub(unix_time() as i64),
+        };
+        match u64::try_from(left) {
+            Ok(left @ 1..) => self.now().saturating_add(left.saturating_mul(SECOND)),
+            _ => 0,
+        }
+    }
+
+    /// The seconds that are left until the deadline, or -1 if it never comes.
+    pub fn left(&self, deadline: u64) -> i64 {
+        if deadline == NEVER {
+            return -1;
+        }
+        deadline.saturating_sub(self.now()).div_ceil(SECOND) as i64
+    }
+}
+
+impl Default for Clock {
+    fn default() -> Clock {
+        Clock::new()
+    }
+}
+
+/// Seconds since 1970.
+pub fn unix_time() -> u64 {
+    SystemTime::now().duration_since(UNIX_EPOCH).unwrap_or(Duration::ZERO).as_secs()
+}

@@ -1,0 +1,168 @@
+//! Carries commands out, and writes their answers.
+use crate::counts::Count;
+use crate::item::Item;
+use crate::meta_command;
+use crate::request::{Change, Order, Request};
+use crate::stats;
+use crate::store::{Answer, Changed, Fault, Store};
+use std::io::Write;
+
+/// An answer, without its end.
+pub type Text = &'static str;
+
+/// The version that clients see. It begins with that of the memcached whose answers these are, since clients choose commands by it.
+macro_rules! version {
+    () => {
+        concat!("1.6.18-cefrodild-", env!("CARGO_PKG_VERSION"))
+    };
+}
+pub(crate) use version;
+
+const NOT_FOUND: Text = "NOT_FOUND";
+
+impl Fault {
+    /// What the client is told.
+    pub fn text(self) -> Text {
+        match self {
+            Fault::NoRoom => "SERVER_ERROR out of memory storing object",
+            Fault::TooLong => "SERVER_ERROR object too large for cache",
+            Fault::Stale => "SERVER_ERROR not stored, and the old value may still be found",
+            Fault::Disturbed => "SERVER_ERROR busy, and nothing was changed",
+        }
+    }
+}
+
+/// Writes a line.
+pub fn line(out: &mut Vec<u8>, text: &str) {
+    out.extend_from_slice(text.as_bytes());
+    out.extend_from_slice(b"\r\n");
+}
+
+/// Writes formatted text.
+macro_rules! text {
+    ($out:expr, $($words:tt)*) => {
+        write!($out, $($words)*).expect("a vector takes all that is written")
+    };
+}
+pub(crate) use text;
+
+/// Writes an item as the answer of `get` has it.
+pub fn value(out: &mut Vec<u8>, key: &[u8], item: &Item, token: Option<u64>) {
+    out.extend_from_slice(b"VALUE ");
+    out.extend_from_slice(key);
+    text!(out, " {} {}", item.flags, item.data.len());
+    if let Some(token) = token {
+        text!(out, " {token}");
+    }
+    block(out, &item.data);
+}
+
+/// Ends a line, and writes a block behind it.
+pub fn block(out: &mut Vec<u8>, data: &[u8]) {
+    out.extend_from_slice(b"\r\n");
+    out.extend_from_slice(data);
+    out.extend_from_slice(b"\r\n");
+}
+
+/// Carries out a command whose block, if it has one, is this. `get` and its kin, and `quit`, are the connection's.
+pub fn run(store: &Store, request: &Request, data: &[u8], is_quiet: bool, out: &mut Vec<u8>) {
+    let text = match request {
+        Request::Store(order) => store_item(store, order, data),
+        Request::Delete(key) => delete(store, key),
+        Request::Change(key, change) => return answer_change(store, key, *change, is_quiet, out),
+        Request::Touch(key, expiry) => touch(store, key, *expiry),
+        Request::Flush(delay) => {
+            store.counts.add(Count::Flushes);
+            store.flush(*delay);
+            "OK"
+        }
+        Request::Stats(what) => return stats::answer(store, what, out),
+        Request::Version => concat!("VERSION ", version!()),
+        Request::Verbosity => "OK",
+        Request::NoOperation => "MN",
+        Request::Meta(meta) => return meta_command::run(store, meta, data, out),
+        Request::Keys(..) | Request::Quit => return,
+    };
+    if !is_quiet {
+        line(out, text);
+    }
+}
+
+fn store_item(store: &Store, order: &Order, data: &[u8]) -> Text {
+    let stored = store.store(order, data);
+    if order.compare.is_some() {
+        count_comparison(store, stored);
+    }
+    match stored {
+        Ok(Answer::Done(_)) => "STORED",
+        Ok(Answer::NotStored) => "NOT_STORED",
+        Ok(Answer::Exists) => "EXISTS",
+        Ok(Answer::NotFound) => NOT_FOUND,
+        Err(why) => why.text(),
+    }
+}
+
+/// Counts a `cas`.
+pub fn count_comparison(store: &Store, stored: Result<Answer, Fault>) {
+    match stored {
+        Ok(Answer::Done(_)) => store.counts.add(Count::CasHits),
+        Ok(Answer::Exists) => store.counts.add(Count::CasBadValue),
+        Ok(_) => store.counts.add(Count::CasMisses),
+        Err(_) => {}
+    }
+}
+
+fn delete(store: &Store, key: &[u8]) -> Text {
+    let deleted = store.delete(key, None);
+    if let Ok(deleted) = deleted {
+        store.counts.add_if(matches!(deleted, Answer::Done(_)), Count::DeleteHits, Count::DeleteMisses);
+    }
+    match deleted {
+        Ok(Answer::Done(_)) => "DELETED",
+        Ok(_) => NOT_FOUND,
+        Err(why) => why.text(),
+    }
+}
+
+fn touch(store: &Store, key: &[u8], expiry: i64) -> Text {
+    store.counts.add(Count::Touches);
+    let touched = store.touch(key, store.clock.deadline(expiry));
+    if let Ok(is_hit) = touched {
+        store.counts.add_if(is_hit, Count::TouchHits, Count::TouchMisses);
+    }
+    match touched {
+        Ok(true) => "TOUCHED",
+        Ok(false) => NOT_FOUND,
+        Err(why) => why.text(),
+    }
+}
+
+/// What arithmetic answers on a value that is no number.
+pub const NOT_NUMERIC: Text = "CLIENT_ERROR cannot increment or decrement non-numeric value";
+
+fn answer_change(store: &Store, key: &[u8], change: Change, is_quiet: bool, out: &mut Vec<u8>) {
+    let changed = store.change(key, change, None, None);
+    count_change(store, change, changed);
+    if is_quiet {
+        return;
+    }
+    match changed {
+        Ok(Changed::Changed(number, ..)) => text!(out, "{number}\r\n"),
+        Ok(Changed::NotNumeric) => line(out, NOT_NUMERIC),
+        Ok(_) => line(out, NOT_FOUND),
+        Err(why) => line(out, why.text()),
+    }
+}
+
+/// Counts an `incr` or a `decr`.
+pub fn count_change(store: &Store, change: Change, changed: Result<Changed, Fault>) {
+    let is_hit = match changed {
+        Ok(Changed::Changed(..)) => true,
+        Ok(Changed::NotFound) => false,
+        _ => return,
+    };
+    match change {
+        Change::Add(_) => store.counts.add_if(is_hit, Count::IncrHits, Count::IncrMisses),
+        Change::Subtract(_) => store.counts.add_if(is_hit, Count::DecrHits, Count::DecrMisses),
+    }
+}

@@ -1,0 +1,195 @@
+//! A client's connection: its buffers, and what it may take in one turn.
+use crate::counts::Count;
+use crate::dialogue::{Dialogue, Turn, MOST_WAITING};
+use crate::seat::Seat;
+use crate::store::Store;
+use mio::event::Event;
+use mio::net::TcpStream;
+use std::io::{self, ErrorKind, Read, Write};
+
+/// How many bytes are read at a time, at least.
+const CHUNK: usize = 1 << 14;
+
+/// A buffer that is larger than this is given up when it is empty.
+const LARGE: usize = 1 << 17;
+
+/// How often a turn reads or carries commands out.
+const ROUNDS: u32 = 8;
+
+/// What a connection waits for.
+#[derive(Clone, Copy, Debug, PartialEq, Eq)]
+pub enum Next {
+    /// An event.
+    Event,
+    /// Its next turn: there is more to do.
+    Turn,
+    /// Nothing: it has ended.
+    Nothing,
+}
+
+/// A client's connection.
+#[derive(Debug)]
+pub struct Connection {
+    stream: TcpStream,
+    dialogue: Dialogue,
+    input: Input,
+    /// So many bytes of input must be there before there is anything to do.
+    needs: usize,
+    output: Vec<u8>,
+    is_ending: bool,
+    /// Nothing more had come when it was read last. What comes later is an event.
+    is_dry: bool,
+    /// The client sends no more. That event may have come with the last bytes.
+    is_half_closed: bool,
+    _seat: Seat,
+}
+
+/// Bytes that were read and are not done with: those of `bytes` from `start` to `end`.
+#[derive(Debug, Default)]
+struct Input {
+    bytes: Vec<u8>,
+    start: usize,
+    end: usize,
+}
+
+impl Connection {
+    /// A client that has just connected.
+    pub fn new(stream: TcpStream, seat: Seat) -> Connection {
+        let (dialogue, input, output) = (Dialogue::default(), Input::default(), Vec::new());
+        let (is_ending, is_dry, is_half_closed) = (false, false, false);
+        Connection { stream, dialogue, input, needs: 1, output, is_ending, is_dry, is_half_closed, _seat: seat }
+    }
+
+    /// The connection, for registering it.
+    pub fn stream(&mut self) -> &mut TcpStream {
+        &mut self.stream
+    }
+
+    /// Notes an event of the connection.
+    pub fn note(&mut self, event: &Event) {
+        self.is_half_closed |= event.is_read_closed();
+        self.read_again();
+    }
+
+    /// Reads again, though nothing had come before.
+    pub fn read_again(&mut self) {
+        self.is_dry = false;
+    }
+
+    /// Whether no command has begun, and all answers are sent.
+    pub fn is_idle(&self) -> bool {
+        self.output.is_empty() && self.input.len() == 0 && !self.dialogue.is_within()
+    }
+
+    /// Reads, carries commands out and sends answers, as far as that is possible at once and not too much.
+    pub fn turn(&mut self, store: &Store) -> io::Result<Next> {
+        for _ in 0..ROUNDS {
+            self.send(store)?;
+            if self.is_ending {
+                return Ok(if self.output.is_empty() { Next::Nothing } else { Next::Event });
+            }
+            if self.output.len() >= MOST_WAITING {
+                return Ok(Next::Event);
+            }
+            if self.input.len() >= self.needs {
+                self.answer(store);
+            } else if !self.receive(store)? {
+                return Ok(Next::Event);
+            }
+        }
+        Ok(Next::Turn)
+    }
+
+    fn answer(&mut self, store: &Store) {
+        let (done, turn) = self.dialogue.turn(store, self.input.waiting(), &mut self.output);
+        self.input.consume(done);
+        match turn {
+            Turn::Needs(bytes) => self.needs = bytes,
+            Turn::HasMore => self.needs = 0,
+            Turn::Ends => self.is_ending = true,
+        }
+    }
+
+    /// Reads once. Returns whether that changed anything.
+    fn receive(&mut self, store: &Store) -> io::Result<bool> {
+        if self.is_dry && !self.is_half_closed {
+            return Ok(false);
+        }
+        let room = self.input.room(self.needs);
+        match retry(|| self.stream.read(room))? {
+            Some(0) => self.is_ending = true,
+            Some(count) => {
+                self.is_dry = count < room.len();
+                self.input.end += count;
+                store.counts.add_many(Count::BytesRead, count as u64);
+            }
+            None => return Ok(false),
+        }
+        Ok(true)
+    }
+
+    /// Sends what can be sent.
+    fn send(&mut self, store: &Store) -> io::Result<()> {
+        let mut sent = 0;
+        while sent < self.output.len() {
+            match retry(|| self.stream.write(&self.output[sent..]))? {
+                Some(0) => return Err(ErrorKind::WriteZero.into()),
+                Some(count) => sent += count,
+                None => break,
+            }
+        }
+        if sent > 0 {
+            store.counts.add_many(Count::BytesWritten, sent as u64);
+            self.output.drain(..sent);
+        }
+        if self.output.is_empty() && self.output.capacity() > LARGE {
+            self.output = Vec::new();
+        }
+        Ok(())
+    }
+}
+
+/// Calls again if a signal interrupted the call. `None`: it would block.
+fn retry(mut call: impl FnMut() -> io::Result<usize>) -> io::Result<Option<usize>> {
+    loop {
+        match call() {
+            Ok(count) => return Ok(Some(count)),
+            Err(why) if why.kind() == ErrorKind::WouldBlock => return Ok(None),
+            Err(why) if why.kind() == ErrorKind::Interrupted => {}
+            Err(why) => return Err(why),
+        }
+    }
+}
+
+impl Input {
+    fn len(&self) -> usize {
+        self.end - self.start
+    }
+
+    fn waiting(&self) -> &[u8] {
+        &self.bytes[self.start..self.end]
+    }
+
+    fn consume(&mut self, count: usize) {
+        self.start += count;
+        if self.start == self.end {
+            (self.start, self.end) = (0, 0);
+            if self.bytes.len() > LARGE {
+                self.bytes = Vec::new();
+            }
+        }
+    }
+
+    /// Room to read into, if so many bytes must be there. A client can make the buffer twice as large as what it has sent, and no larger.
+    fn room(&mut self, needs: usize) -> &mut [u8] {
+        if self.start > 0 {
+            self.bytes.copy_within(self.start..self.end, 0);
+            (self.start, self.end) = (0, self.len());
+        }
+        let wanted = (self.end + CHUNK).max(needs.min(2 * self.end));
+        if self.bytes.len() < wanted {
+            self.bytes.resize(wanted, 0);
+        }
+        &mut self.bytes[self.end..]
+    }
+}

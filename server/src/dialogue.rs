@@ -1,0 +1,273 @@
+//! What a client sends and is answered, byte by byte, without its connection.
+use crate::command::{line, run, value};
+use crate::counts::Count;
+use crate::item::Item;
+use crate::meta::Verb;
+use crate::request::{parse, refusal, words, Keys, Order, Refusal, Request, FORMAT, LONGEST_KEY};
+use crate::store::{Fault, Store};
+
+/// While so many bytes of answers wait, no command is carried out, and nothing is read.
+pub const MOST_WAITING: usize = 1 << 16;
+
+/// The longest command line, with its end. A line of keys may be longer, since its keys are answered as they come.
+const LONGEST_LINE: usize = 2048;
+
+/// How many commands, or batches of keys, are carried out before other clients have their turn.
+const COMMANDS: u32 = 64;
+
+/// How many keys are looked up together.
+const KEYS: usize = 32;
+
+/// How a turn ended.
+#[derive(Clone, Copy, Debug, PartialEq, Eq)]
+pub enum Turn {
+    /// So many bytes of input must be there before there is anything to do.
+    Needs(usize),
+    /// There is more to do: now, or when answers have been sent.
+    HasMore,
+    /// The connection ends when all answers have been sent.
+    Ends,
+}
+
+/// Where in the protocol a client is.
+#[derive(Debug, Default)]
+pub struct Dialogue {
+    state: State,
+}
+
+#[derive(Debug, Default)]
+enum State {
+    #[default]
+    Line,
+    /// So many bytes belong to a command that was refused.
+    Block(usize),
+    /// In a line of keys.
+    Keys(Keys),
+    /// In a line of keys that was refused.
+    Rest,
+}
+
+/// What a step did: how many bytes of the input are done with, and how the turn goes on.
+struct Step(usize, Option<Turn>);
+
+impl Dialogue {
+    /// Carries out what has come, and writes the answers. Returns how many bytes of the input are done with.
+    pub fn turn(&mut self, store: &Store, input: &[u8], out: &mut Vec<u8>) -> (usize, Turn) {
+        let mut done = 0;
+        for _ in 0..COMMANDS {
+            if out.len() >= MOST_WAITING {
+                break;
+            }
+            let Step(taken, turn) = self.step(store, &input[done..], out);
+            done += taken;
+            if let Some(turn) = turn {
+                return (done, turn);
+            }
+        }
+        (done, Turn::HasMore)
+    }
+
+    /// Whether a command has begun and not ended.
+    pub fn is_within(&self) -> bool {
+        !matches!(self.state, State::Line)
+    }
+
+    fn step(&mut self, store: &Store, input: &[u8], out: &mut Vec<u8>) -> Step {
+        match self.state {
+            State::Line => self.line(store, input, out),
+            State::Block(bytes) => self.skip(bytes, input),
+            State::Keys(keys) => self.keys(keys, store, input, out),
+            State::Rest => self.rest(input),
+        }
+    }
+
+    fn line(&mut self, store: &Store, input: &[u8], out: &mut Vec<u8>) -> Step {
+        let end = input.iter().take(LONGEST_LINE).position(|byte| *byte == b'\n');
+        let Some(end) = end else { return self.part_of_line(input, out) };
+        let (text, rest) = (input[..end].strip_suffix(b"\r").unwrap_or(&input[..end]), &input[end + 1..]);
+        let end = end + 1;
+        let (request, is_quiet) = parse(text);
+        match request {
+            Ok(Request::Quit) => return Step(end, Some(Turn::Ends)),
+            Ok(Request::Keys(keys, start)) if words(&text[start..]).all(|key| key.len() <= LONGEST_KEY) => {
+                self.state = State::Keys(keys);
+                return Step(start, None);
+            }
+            Ok(Request::Keys(..)) => line(out, FORMAT.text),
+            Ok(request) => match order_of(&request) {
+                Some(order) => return self.block(store, &request, is_quiet, &order, rest, out).behind(end),
+                None => run(store, &request, b"", is_quiet, out),
+            },
+            Err(why) => self.refuse(why, is_quiet, out),
+        }
+        Step(end, None)
+    }
+
+    /// The line has not ended yet, or is too long.
+    fn part_of_line(&mut self, input: &[u8], out: &mut Vec<u8>) -> Step {
+        if input.len() < LONGEST_LINE {
+            return Step(0, Some(Turn::Needs(input.len() + 1)));
+        }
+        // The last word may be a part of one.
+        let whole = input.iter().rposition(|byte| *byte == b' ').unwrap_or(0);
+        if let (Ok(Request::Keys(keys, start)), _) = parse(&input[..whole]) {
+            self.state = State::Keys(keys);
+            return Step(start, None);
+        }
+        line(out, "CLIENT_ERROR line too long");
+        Step(input.len(), Some(Turn::Ends))
+    }
+
+    fn refuse(&mut self, why: Refusal, is_quiet: bool, out: &mut Vec<u8>) {
+        if !is_quiet {
+            line(out, why.text);
+        }
+        if why.block > 0 {
+            self.state = State::Block(why.block);
+        }
+    }
+
+    /// Carries out a command with a block, if that is there: the input is what follows the line.
+    fn block(
+        &mut self,
+        store: &Store,
+        request: &Request,
+        is_quiet: bool,
+        order: &Order,
+        input: &[u8],
+        out: &mut Vec<u8>,
+    ) -> Step {
+        let (length, whole) = (order.length, order.length + END.len());
+        if length > store.options.longest {
+            store.counts.add(Count::TooLarge);
+            self.refuse(Refusal { text: store.refuse(order, Fault::TooLong).text(), block: whole }, is_quiet, out);
+            return Step(0, None);
+        }
+        if input.len() < whole {
+            return Step(0, Some(Turn::Needs(whole)));
+        }
+        if input[length..whole] == *END {
+            run(store, request, &input[..length], is_quiet, out);
+        } else {
+            self.refuse(refusal("CLIENT_ERROR bad data chunk"), is_quiet, out);
+        }
+        Step(whole, None)
+    }
+
+    fn skip(&mut self, bytes: usize, input: &[u8]) -> Step {
+        let skipped = bytes.min(input.len());
+        if skipped == bytes {
+            self.state = State::Line;
+            return Step(skipped, None);
+        }
+        self.state = State::Block(bytes - skipped);
+        Step(skipped, Some(Turn::Needs(1)))
+    }
+
+    fn rest(&mut self, input: &[u8]) -> Step {
+        let Some(end) = input.iter().position(|byte| *byte == b'\n') else { return Step(input.len(), Some(Turn::Needs(1))) };
+        self.state = State::Line;
+        Step(end + 1, None)
+    }
+
+    /// Looks some keys up, the first of what is left of the line.
+    fn keys(&mut self, keys: Keys, store: &Store, input: &[u8], out: &mut Vec<u8>) -> Step {
+        let batch = Batch::of(input);
+        let found = &batch.keys[..batch.count];
+        let each = |position: usize, item: &Item, token| {
+            value(out, found[position], item, keys.with_token.then_some(token));
+            out.len() < MOST_WAITING
+        };
+        let looked = match keys.expiry {
+            Some(expiry) => store.look_and_touch(found, store.clock.deadline(expiry), each),
+            None => store.look(found, each),
+        };
+        if looked < batch.count {
+            return Step(batch.ends[looked - 1], None);
+        }
+        match batch.stop {
+            Stop::Full => Step(batch.end, None),
+            Stop::Line => {
+                line(out, "END");
+                self.state = State::Line;
+                Step(batch.end, None)
+            }
+            Stop::Input => Step(batch.end, Some(Turn::Needs(input.len() - batch.end + 1))),
+            Stop::LongKey => {
+                line(out, FORMAT.text);
+                self.state = State::Rest;
+                Step(batch.end, None)
+            }
+        }
+    }
+}
+
+const END: &[u8; 2] = b"\r\n";
+
+impl Step {
+    /// The same step behind so many bytes, which are done with unless the step needs more.
+    fn behind(self, bytes: usize) -> Step {
+        match self {
+            Step(taken, Some(Turn::Needs(more))) => Step(taken, Some(Turn::Needs(bytes + more))),
+            Step(taken, turn) => Step(bytes + taken, turn),
+        }
+    }
+}
+
+/// What is to be stored, if a block follows the line.
+fn order_of<'a>(request: &Request<'a>) -> Option<Order<'a>> {
+    match request {
+        Request::Store(order) => Some(*order),
+        Request::Meta(meta) if meta.verb == Verb::Set => Some(meta.order),
+        _ => None,
+    }
+}
+
+/// Keys of a line.
+struct Batch<'a> {
+    keys: [&'a [u8]; KEYS],
+    /// Where each key ends.
+    ends: [usize; KEYS],
+    count: usize,
+    /// Where the batch ends.
+    end: usize,
+    stop: Stop,
+}
+
+/// Why a batch has no more keys.
+enum Stop {
+    Full,
+    Line,
+    Input,
+    LongKey,
+}
+
+impl<'a> Batch<'a> {
+    fn of(input: &'a [u8]) -> Batch<'a> {
+        let mut batch = Batch { keys: [b""; KEYS], ends: [0; KEYS], count: 0, end: 0, stop: Stop::Full };
+        while batch.count < KEYS {
+            let rest = &input[batch.end..];
+            let Some(length) = rest.iter().position(|byte| matches!(byte, b' ' | b'\n')) else {
+                batch.stop = if rest.len() > LONGEST_KEY + 1 { Stop::LongKey } else { Stop::Input };
+                break;
+            };
+            let ends_line = rest[length] == b'\n';
+            let key = if ends_line { rest[..length].strip_suffix(b"\r").unwrap_or(&rest[..length]) } else { &rest[..length] };
+            if key.len() > LONGEST_KEY {
+                batch.stop = Stop::LongKey;
+                break;
+            }
+            if !key.is_empty() {
+                batch.keys[batch.count] = key;
+                batch.ends[batch.count] = batch.end + key.len();
+                batch.count += 1;
+            }
+            batch.end += length + 1;
+            if ends_line {
+                batch.stop = Stop::Line;
+                break;
+            }
+        }
+        batch
+    }
+}

@@ -1,0 +1,53 @@
+//! What the server asks of an index of items.
+use crate::item::Item;
+use std::sync::Arc;
+
+/// The key of an item, shared by all that name it.
+pub type Key = Arc<[u8]>;
+
+/// Which put of a key stored its item: memcached's `cas unique`. Never compare those of two keys.
+pub type Token = u64;
+
+/// Why the index did nothing.
+#[derive(Clone, Copy, Debug, PartialEq, Eq)]
+pub enum Refused {
+    /// There is no place for the key.
+    Full,
+    /// Other threads disturbed each try.
+    Held,
+}
+
+/// What became of a call with a condition.
+#[derive(Clone, Copy, Debug, PartialEq, Eq)]
+pub enum Outcome {
+    /// It is done. A put returns its token.
+    Done(Token),
+    /// The key has another token than the one that was asked for, or has one at all.
+    Changed,
+    /// The key is absent.
+    Absent,
+}
+
+/// What a lookup sees of a key: its item and token, if it is there.
+pub type Seen<'a> = Result<Option<(&'a Item, Token)>, Refused>;
+
+/// An index of items, for all workers. Items may vanish at any time. Each call but `look` either does all it says or nothing.
+pub trait Index: Send + Sync {
+    /// Looks the keys up in order, and calls `each` with the position of each.
+    fn look(&self, keys: &[&[u8]], each: &mut dyn FnMut(usize, Seen<'_>));
+
+    /// Puts the item, whatever the key has.
+    fn put(&self, key: &Key, item: Item) -> Result<Token, Refused>;
+
+    /// Puts the item if the key is absent.
+    fn put_new(&self, key: &Key, item: Item) -> Result<Outcome, Refused>;
+
+    /// Puts the item if the key has this token.
+    fn put_if(&self, key: &Key, token: Token, item: Item) -> Result<Outcome, Refused>;
+
+    /// Removes the key if it has this token.
+    fn remove_if(&self, key: &[u8], token: Token) -> Result<Outcome, Refused>;
+
+    /// Frees the memory of items that have left the index, as far as nobody reads them any more.
+    fn sweep(&self);
+}

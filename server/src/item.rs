@@ -1,0 +1,77 @@
+//! What is stored under a key.
+use std::sync::atomic::{AtomicBool, AtomicU64, Ordering::Acquire, Ordering::Relaxed, Ordering::Release, Ordering::SeqCst};
+use std::sync::Mutex;
+
+/// The value of a key, and what belongs to it.
+#[derive(Debug)]
+pub struct Item {
+    /// The client's flags.
+    pub flags: u32,
+    /// The value.
+    pub data: Box<[u8]>,
+    /// When it was made. What is made of an older item, or because there is one, was made when that was found: so a flush in between hits it.
+    born: u64,
+    deadline: AtomicU64,
+    is_used: AtomicBool,
+}
+
+/// Which items `flush_all` has made invalid: those that are no younger than one of these times, once it has come.
+#[derive(Debug, Default)]
+pub struct Flushes {
+    past: AtomicU64,
+    next: AtomicU64,
+    /// One at a time flushes.
+    turn: Mutex<()>,
+}
+
+impl Item {
+    /// An item that was made at this time.
+    pub fn new(born: u64, flags: u32, deadline: u64, data: Box<[u8]>) -> Item {
+        Item { flags, data, born, deadline: AtomicU64::new(deadline), is_used: AtomicBool::new(false) }
+    }
+
+    /// When it expires.
+    pub fn deadline(&self) -> u64 {
+        self.deadline.load(Acquire)
+    }
+
+    /// Moves the deadline.
+    pub fn touch(&self, deadline: u64) {
+        self.deadline.store(deadline, Release);
+    }
+
+    /// Whether it has neither expired nor been flushed.
+    pub fn is_live(&self, now: u64, flushes: &Flushes) -> bool {
+        now < self.deadline() && !flushes.have_hit(self.born, now)
+    }
+
+    /// Notes that it was read.
+    pub fn mark_used(&self) {
+        if !self.is_used.load(Relaxed) {
+            self.is_used.store(true, Relaxed);
+        }
+    }
+
+    /// Whether it was read since the last call of this.
+    pub fn take_used(&self) -> bool {
+        self.is_used.swap(false, Relaxed)
+    }
+}
+
+impl Flushes {
+    fn have_hit(&self, born: u64, now: u64) -> bool {
+        // If this is a new one, `past` has the old one already.
+        let next = self.next.load(Acquire);
+        born <= self.past.load(Acquire) || (next <= now && born <= next)
+    }
+
+    /// Flushes at this time. It replaces a flush that is still to come.
+    pub fn flush(&self, time: u64, now: u64) {
+        let _turn = self.turn.lock();
+        let next = self.next.load(Acquire);
+        if next <= now {
+            self.past.fetch_max(next, SeqCst);
+        }
+        self.next.store(time, SeqCst);
+    }
+}

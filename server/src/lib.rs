@@ -1,0 +1,28 @@
+#![doc = include_str!("../README.md")]
+#![deny(missing_debug_implementations, unsafe_op_in_unsafe_fn)]
+
+pub mod audit;
+pub mod clock;
+pub mod command;
+mod complain;
+pub mod connection;
+pub mod counts;
+pub mod dialogue;
+mod evict;
+pub mod index;
+pub mod item;
+pub mod meta;
+mod meta_command;
+pub mod number;
+pub mod objects;
+pub mod options;
+pub mod request;
+pub mod room;
+pub mod seat;
+pub mod server;
+mod signal;
+mod stats;
+pub mod store;
+mod turn;
+pub mod worker;
+mod writes;

@@ -1,0 +1,52 @@
+//! The program `cefrodild`.
+use cefrodild::audit::Audit;
+use cefrodild::objects::Objects;
+use cefrodild::options::{parse, Asked, Options, HELP};
+use cefrodild::room::Room;
+use cefrodild::server::Server;
+use cefrodild::store::Store;
+use std::env;
+use std::error::Error;
+use std::fs;
+use std::process::ExitCode;
+use std::sync::Arc;
+
+/// The allocator loses up to this part of the memory of items that differ in size, if several threads free them.
+const PART_OF_LOSS: usize = 4;
+
+fn main() -> ExitCode {
+    match parse(env::args().skip(1)) {
+        Ok(Asked::Help) => print!("{HELP}"),
+        Ok(Asked::Version) => println!("cefrodild {}", env!("CARGO_PKG_VERSION")),
+        Ok(Asked::Serve(options)) => {
+            if let Err(why) = serve(options) {
+                eprintln!("cefrodild: {why}");
+                return ExitCode::from(1);
+            }
+        }
+        Err(why) => {
+            eprintln!("cefrodild: {why}");
+            return ExitCode::from(2);
+        }
+    }
+    ExitCode::SUCCESS
+}
+
+fn serve(options: Options) -> Result<(), Box<dyn Error>> {
+    let Options { listen, threads, memory, items, .. } = options;
+    let log = options.audit.as_deref().map(Audit::create).transpose()?.map(Arc::new);
+    let room = Arc::new(Room::new(0));
+    let index = Objects::open(items, threads, &room, log.clone())?;
+    let left = memory.checked_sub(resident()?).ok_or("the index takes all of the memory limit: choose a smaller -n")?;
+    room.set_limit((left - left / PART_OF_LOSS) as u64);
+    let store = Arc::new(Store::new(Box::new(index), room, options));
+    Server::run(store, listen, |address| println!("cefrodild: listening on {address}"))?;
+    log.map_or(Ok(()), |log| log.end()).map_err(Into::into)
+}
+
+/// How many bytes the process takes.
+fn resident() -> Result<usize, Box<dyn Error>> {
+    let status = fs::read_to_string("/proc/self/status")?;
+    let line = status.lines().find_map(|line| line.strip_prefix("VmRSS:")).ok_or("/proc/self/status has no VmRSS")?;
+    Ok(line.trim().trim_end_matches(" kB").parse::<usize>()? << 10)
+}

@@ -1,0 +1,160 @@
+//! Meta commands: what their words ask for.
+use crate::number;
+use crate::request::{key, refusal, words, How, Order, Refusal, Request, ERROR, FORMAT};
+
+/// The longest opaque token, its flag included.
+const LONGEST_OPAQUE: usize = 33;
+
+/// What a meta command does.
+#[derive(Clone, Copy, Debug, PartialEq, Eq)]
+pub enum Verb {
+    /// `mg`
+    Get,
+    /// `ms`
+    Set,
+    /// `md`
+    Delete,
+    /// `ma`
+    Arithmetic,
+}
+
+/// A meta command.
+#[derive(Debug, PartialEq, Eq)]
+pub struct Meta<'a> {
+    /// What it does.
+    pub verb: Verb,
+    /// Its key, and what `ms` stores: `F`, `M`, `C`, `T` and the length of its block.
+    pub order: Order<'a>,
+    /// Its flags, as they were sent. The answer has them in this order.
+    pub words: &'a [u8],
+    /// `q`: whether the usual answer is left out.
+    pub is_quiet: bool,
+    /// `v`: whether the answer has the value.
+    pub with_value: bool,
+    /// `T`: the new time to live.
+    pub expiry: Option<i64>,
+    /// `M` of `ma`: whether it subtracts.
+    pub subtracts: bool,
+    /// `D`: what is added or subtracted.
+    pub delta: u64,
+    /// `N` of `ma`: the time to live of a number that is made.
+    pub create: Option<i64>,
+    /// `J`: the number that is made.
+    pub initial: u64,
+}
+
+/// Reads a line whose first word is `m` and this letter.
+pub fn parse(letter: u8, line: &[u8]) -> Result<Request<'_>, Refusal> {
+    let verb = match letter {
+        b'g' => Verb::Get,
+        b's' => Verb::Set,
+        b'd' => Verb::Delete,
+        b'a' => Verb::Arithmetic,
+        b'n' => return Ok(Request::NoOperation),
+        _ => return Err(ERROR),
+    };
+    let mut all = words(line).skip(1);
+    let mut last = all.next().ok_or(ERROR)?;
+    let key = key(last)?;
+    let mut length = 0;
+    if verb == Verb::Set {
+        last = all.next().ok_or(FORMAT)?;
+        length = number::length(last).ok_or(FORMAT)?;
+    }
+    let start = last.as_ptr() as usize - line.as_ptr() as usize + last.len();
+    let mut meta = Meta::new(verb, key, length, &line[start..]);
+    match meta.read_flags() {
+        Ok(()) => Ok(Request::Meta(meta)),
+        Err(why) if verb == Verb::Set => Err(Refusal { block: length + 2, ..why }),
+        Err(why) => Err(why),
+    }
+}
+
+impl<'a> Meta<'a> {
+    fn new(verb: Verb, key: &'a [u8], length: usize, words: &'a [u8]) -> Meta<'a> {
+        let order = Order { how: How::Set, key, flags: 0, expiry: 0, length, compare: None };
+        let (is_quiet, with_value, subtracts) = (false, false, false);
+        Meta { verb, order, words, is_quiet, with_value, expiry: None, subtracts, delta: 1, create: None, initial: 0 }
+    }
+
+    fn read_flags(&mut self) -> Result<(), Refusal> {
+        let (mut seen, mut mode) = (0u128, None);
+        for word in words(self.words) {
+            let bit = 1u128.checked_shl(u32::from(word[0])).unwrap_or(0);
+            if seen & bit != 0 {
+                return Err(self.duplicate());
+            }
+            seen |= bit;
+            match word[0] {
+                b'M' if matches!(self.verb, Verb::Set | Verb::Arithmetic) => mode = Some(&word[1..]),
+                flag => self.read_flag(flag, &word[1..])?,
+            }
+        }
+        match (self.verb, mode) {
+            (Verb::Set, Some(mode)) => self.order.how = how(mode)?,
+            (_, Some(mode)) => self.subtracts = subtracts(mode)?,
+            _ => {}
+        }
+        Ok(())
+    }
+
+    fn read_flag(&mut self, flag: u8, token: &[u8]) -> Result<(), Refusal> {
+        match (flag, self.verb) {
+            (b'q', _) => self.is_quiet = true,
+            (b'v', _) => self.with_value = true,
+            (b'k' | b'c' | b'f' | b's' | b't' | b'P' | b'L', _) => {}
+            (b'O', _) if token.len() < LONGEST_OPAQUE => {}
+            (b'O', _) => return Err(refusal("CLIENT_ERROR opaque token too long")),
+            (b'T', _) => {
+                self.order.expiry = number::integer(token).ok_or(self.bad_token())?;
+                self.expiry = Some(self.order.expiry);
+            }
+            (b'C', _) => self.order.compare = Some(number::unsigned(token).ok_or(self.bad_token())?),
+            (b'F', Verb::Set) => self.order.flags = number::flags(token).ok_or(FORMAT)?,
+            (b'D', Verb::Arithmetic) => self.delta = number::unsigned(token).ok_or(self.bad_token())?,
+            (b'J', Verb::Arithmetic) => self.initial = number::unsigned(token).ok_or(self.bad_token())?,
+            (b'N', Verb::Arithmetic) => self.create = Some(number::integer(token).ok_or(self.bad_token())?),
+            _ => return Err(self.invalid()),
+        }
+        Ok(())
+    }
+
+    fn has_one_text(&self) -> bool {
+        matches!(self.verb, Verb::Delete | Verb::Arithmetic)
+    }
+
+    fn duplicate(&self) -> Refusal {
+        refusal(if self.has_one_text() { INVALID_OR_DUPLICATE } else { "CLIENT_ERROR duplicate flag" })
+    }
+
+    fn invalid(&self) -> Refusal {
+        refusal(if self.has_one_text() { INVALID_OR_DUPLICATE } else { "CLIENT_ERROR invalid flag" })
+    }
+
+    fn bad_token(&self) -> Refusal {
+        refusal(if self.has_one_text() { INVALID_OR_DUPLICATE } else { "CLIENT_ERROR bad token in command line format" })
+    }
+}
+
+const INVALID_OR_DUPLICATE: &str = "CLIENT_ERROR invalid or duplicate flag";
+
+fn how(token: &[u8]) -> Result<How, Refusal> {
+    match token {
+        [b'E' | b'e'] => Ok(How::Add),
+        [b'A' | b'a'] => Ok(How::Append),
+        [b'P' | b'p'] => Ok(How::Prepend),
+        [b'R' | b'r'] => Ok(How::Replace),
+        [b'S' | b's'] => Ok(How::Set),
+        [_] => Err(refusal("CLIENT_ERROR invalid mode for ms M token")),
+        _ => Err(refusal("CLIENT_ERROR incorrect length for M token")),
+    }
+}
+
+fn subtracts(token: &[u8]) -> Result<bool, Refusal> {
+    match token {
+        [b'I' | b'i' | b'+'] => Ok(false),
+        [b'D' | b'd' | b'-'] => Ok(true),
+        [_] => Err(refusal("CLIENT_ERROR invalid mode for ma M token")),
+        _ => Err(refusal(INVALID_OR_DUPLICATE)),
+    }
+}

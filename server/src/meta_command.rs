@@ -1,0 +1,156 @@
+//! Carries meta commands out.
+use crate::command::{block, count_change, count_comparison, line, text, NOT_NUMERIC};
+use crate::counts::Count;
+use crate::item::Item;
+use crate::meta::{Meta, Verb};
+use crate::request::{words, Change, How, Order};
+use crate::store::{Answer, Changed, Fault, Store};
+use std::io::Write;
+
+/// What the answer's flags say of the item.
+#[derive(Default)]
+struct Facts {
+    token: Option<u64>,
+    flags: Option<u32>,
+    size: Option<usize>,
+    left: Option<i64>,
+}
+
+fn with(token: u64) -> Facts {
+    Facts { token: Some(token), ..Facts::default() }
+}
+
+/// Carries out a command whose block is this, if it has one.
+pub fn run(store: &Store, meta: &Meta, data: &[u8], out: &mut Vec<u8>) {
+    store.counts.add(Count::MetaCommands);
+    match meta.verb {
+        Verb::Get => get(store, meta, out),
+        Verb::Set => set(store, meta, data, out),
+        Verb::Delete => delete(store, meta, out),
+        Verb::Arithmetic => change(store, meta, out),
+    }
+}
+
+fn get(store: &Store, meta: &Meta, out: &mut Vec<u8>) {
+    let mut is_found = false;
+    let each = |_, item: &Item, token| {
+        is_found = true;
+        let left = Some(store.clock.left(item.deadline()));
+        let facts = Facts { flags: Some(item.flags), size: Some(item.data.len()), left, ..with(token) };
+        if meta.with_value {
+            text!(out, "VA {}", item.data.len());
+            write_flags(meta, &facts, out);
+            block(out, &item.data);
+        } else {
+            answer(meta, "HD", &facts, out);
+        }
+        true
+    };
+    match meta.expiry {
+        Some(expiry) => store.look_and_touch(&[meta.order.key], store.clock.deadline(expiry), each),
+        None => store.look(&[meta.order.key], each),
+    };
+    if !is_found && !meta.is_quiet {
+        answer(meta, "EN", &Facts::default(), out);
+    }
+}
+
+fn set(store: &Store, meta: &Meta, data: &[u8], out: &mut Vec<u8>) {
+    let stored = store.store(&meta.order, data);
+    if meta.order.compare.is_some() {
+        count_comparison(store, stored);
+    }
+    tell(meta, stored, out);
+}
+
+fn delete(store: &Store, meta: &Meta, out: &mut Vec<u8>) {
+    tell(meta, store.delete(meta.order.key, meta.order.compare), out);
+}
+
+fn tell(meta: &Meta, answered: Result<Answer, Fault>, out: &mut Vec<u8>) {
+    let (code, token) = match answered {
+        Ok(Answer::Done(_)) if meta.is_quiet => return,
+        Ok(Answer::Done(token)) => ("HD", token),
+        Ok(Answer::NotStored) => ("NS", 0),
+        Ok(Answer::Exists) => ("EX", 0),
+        Ok(Answer::NotFound) => ("NF", 0),
+        Err(why) => return line(out, why.text()),
+    };
+    let facts = if meta.verb == Verb::Set { with(token) } else { Facts::default() };
+    answer(meta, code, &facts, out);
+}
+
+fn change(store: &Store, meta: &Meta, out: &mut Vec<u8>) {
+    let deadline = meta.expiry.map(|expiry| store.clock.deadline(expiry));
+    let change = if meta.subtracts { Change::Subtract(meta.delta) } else { Change::Add(meta.delta) };
+    let mut changed = store.change(meta.order.key, change, meta.order.compare, deadline);
+    count_change(store, change, changed);
+    let mut is_quiet = meta.is_quiet;
+    if let (Ok(Changed::NotFound), Some(create)) = (changed, meta.create) {
+        changed = make(store, meta, create, change);
+        is_quiet = false;
+    }
+    match changed {
+        Ok(Changed::Changed(..)) if is_quiet => {}
+        Ok(Changed::Changed(number, token, deadline)) => {
+            let facts = Facts { left: Some(store.clock.left(deadline)), ..with(token) };
+            answer_number(meta, number, &facts, out);
+        }
+        Ok(Changed::NotFound) => answer(meta, "NF", &Facts::default(), out),
+        Ok(Changed::Exists) => answer(meta, "EX", &Facts::default(), out),
+        Ok(Changed::NotNumeric) => line(out, NOT_NUMERIC),
+        Err(why) => line(out, why.text()),
+    }
+}
+
+/// Makes the number that was missing. If another client makes it first, that one is changed.
+fn make(store: &Store, meta: &Meta, create: i64, change: Change) -> Result<Changed, Fault> {
+    let (deadline, number) = (store.clock.deadline(create), meta.initial.to_string());
+    let order = Order { how: How::Add, compare: None, flags: 0, expiry: create, ..meta.order };
+    match store.store(&order, number.as_bytes())? {
+        Answer::Done(token) => Ok(Changed::Changed(meta.initial, token, deadline)),
+        _ => store.change(meta.order.key, change, meta.order.compare, None),
+    }
+}
+
+fn answer_number(meta: &Meta, number: u64, facts: &Facts, out: &mut Vec<u8>) {
+    if !meta.with_value {
+        return answer(meta, "HD", facts, out);
+    }
+    let digits = number.to_string();
+    text!(out, "VA {}", digits.len());
+    write_flags(meta, facts, out);
+    block(out, digits.as_bytes());
+}
+
+fn answer(meta: &Meta, code: &str, facts: &Facts, out: &mut Vec<u8>) {
+    out.extend_from_slice(code.as_bytes());
+    write_flags(meta, facts, out);
+    out.extend_from_slice(b"\r\n");
+}
+
+/// Writes the flags of the answer, in the order of the command's.
+fn write_flags(meta: &Meta, facts: &Facts, out: &mut Vec<u8>) {
+    for word in words(meta.words) {
+        let number = match word[0] {
+            b'O' => {
+                out.push(b' ');
+                out.extend_from_slice(word);
+                None
+            }
+            b'k' => {
+                out.extend_from_slice(b" k");
+                out.extend_from_slice(meta.order.key);
+                None
+            }
+            b'c' => facts.token.map(|token| token.to_string()),
+            b'f' => facts.flags.map(|flags| flags.to_string()),
+            b's' => facts.size.map(|size| size.to_string()),
+            b't' => facts.left.map(|left| left.to_string()),
+            _ => None,
+        };
+        if let Some(number) = number {
+            text!(out, " {}{number}", char::from(word[0]));
+        }
+    }
+}

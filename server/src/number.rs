@@ -1,0 +1,43 @@
+//! Numbers in command lines, read as memcached reads them: `strtol` and its kin, up to the first blank.
+
+/// A sign and a magnitude. White space may come before it, and anything behind the first white space after it.
+fn signed(text: &[u8]) -> Option<(bool, u64)> {
+    let text = text.trim_ascii_start();
+    let (negative, digits) = match text.split_first()? {
+        (b'-', rest) => (true, rest),
+        (b'+', rest) => (false, rest),
+        _ => (false, text),
+    };
+    let end = digits.iter().position(|byte| byte.is_ascii_whitespace()).unwrap_or(digits.len());
+    let mut magnitude = 0u64;
+    for byte in digits.get(..end).filter(|digits| !digits.is_empty())? {
+        let digit = byte.is_ascii_digit().then(|| u64::from(byte - b'0'))?;
+        magnitude = magnitude.checked_mul(10)?.checked_add(digit)?;
+    }
+    Some((negative, magnitude))
+}
+
+/// A number without a sign: a delta, a token, a stored counter.
+pub fn unsigned(text: &[u8]) -> Option<u64> {
+    match signed(text)? {
+        (true, 1..) => None,
+        (_, magnitude) => Some(magnitude),
+    }
+}
+
+/// The flags of an item.
+pub fn flags(text: &[u8]) -> Option<u32> {
+    u32::try_from(unsigned(text)?).ok()
+}
+
+/// A number with a sign: a time to live, or a delay.
+pub fn integer(text: &[u8]) -> Option<i64> {
+    let (negative, magnitude) = signed(text)?;
+    let magnitude = i64::try_from(magnitude).ok()?;
+    Some(if negative { -magnitude } else { magnitude })
+}
+
+/// The length of a block.
+pub fn length(text: &[u8]) -> Option<usize> {
+    unsigned(text).filter(|length| *length <= i32::MAX as u64 - 2).map(|length| length as usize)
+}

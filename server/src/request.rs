@@ -1,0 +1,204 @@
+//! A command line, and what it asks for.
+use crate::meta::{self, Meta};
+use crate::number;
+
+/// The longest key.
+pub const LONGEST_KEY: usize = 250;
+
+/// The most words of a command line that are told apart. No command but those of keys and flags has as many.
+const WORDS: usize = 9;
+
+/// What a command line asks for.
+#[derive(Debug, PartialEq, Eq)]
+pub enum Request<'a> {
+    /// `get` and its kin. The keys are what follows this many bytes of the line.
+    Keys(Keys, usize),
+    /// `set` and its kin. A block follows.
+    Store(Order<'a>),
+    Delete(&'a [u8]),
+    /// `incr`, `decr`.
+    Change(&'a [u8], Change),
+    /// `touch`, with a time to live.
+    Touch(&'a [u8], i64),
+    /// `flush_all`, with a delay.
+    Flush(i64),
+    /// `stats`, with what it is asked for.
+    Stats(&'a [u8]),
+    Version,
+    /// It changes nothing.
+    Verbosity,
+    Quit,
+    /// `mg`, `ms`, `md` and `ma`.
+    Meta(Meta<'a>),
+    /// `mn`.
+    NoOperation,
+}
+
+/// How the keys of a line are to be looked up.
+#[derive(Clone, Copy, Debug, PartialEq, Eq)]
+pub struct Keys {
+    /// Whether each answer has the item's token.
+    pub with_token: bool,
+    /// The new time to live of what is found.
+    pub expiry: Option<i64>,
+}
+
+/// When a value is stored.
+#[derive(Clone, Copy, Debug, PartialEq, Eq)]
+pub enum How {
+    /// Always.
+    Set,
+    /// If the key has no value.
+    Add,
+    /// If it has one.
+    Replace,
+    /// If it has one, behind which the new one goes.
+    Append,
+    /// If it has one, before which the new one goes.
+    Prepend,
+}
+
+/// What is to be stored.
+#[derive(Clone, Copy, Debug, PartialEq, Eq)]
+pub struct Order<'a> {
+    pub how: How,
+    pub key: &'a [u8],
+    pub flags: u32,
+    pub expiry: i64,
+    /// How many bytes its block has.
+    pub length: usize,
+    /// The token that the item must have.
+    pub compare: Option<u64>,
+}
+
+/// What becomes of a number.
+#[derive(Clone, Copy, Debug, PartialEq, Eq)]
+pub enum Change {
+    /// This is added, modulo 2^64.
+    Add(u64),
+    /// This is subtracted, down to 0.
+    Subtract(u64),
+}
+
+/// Why a line is refused.
+#[derive(Clone, Copy, Debug, PartialEq, Eq)]
+pub struct Refusal {
+    /// The answer.
+    pub text: &'static str,
+    /// How many bytes behind the line belong to it.
+    pub block: usize,
+}
+
+/// The answer to a line that is no command.
+pub const ERROR: Refusal = refusal("ERROR");
+/// The answer to a command whose words can't be read.
+pub const FORMAT: Refusal = refusal("CLIENT_ERROR bad command line format");
+const EXPTIME: Refusal = refusal("CLIENT_ERROR invalid exptime argument");
+const DELTA: Refusal = refusal("CLIENT_ERROR invalid numeric delta argument");
+const USAGE: Refusal = refusal("CLIENT_ERROR bad command line format.  Usage: delete <key> [noreply]");
+
+/// A refusal of a line that has no block.
+pub const fn refusal(text: &'static str) -> Refusal {
+    Refusal { text, block: 0 }
+}
+
+/// The words of a line.
+pub fn words(line: &[u8]) -> impl Iterator<Item = &[u8]> {
+    line.split(|byte| *byte == b' ').filter(|word| !word.is_empty())
+}
+
+/// Reads a line, without its end. The second result is whether the client wants no answer.
+pub fn parse(line: &[u8]) -> (Result<Request<'_>, Refusal>, bool) {
+    let mut found = [&line[..0]; WORDS];
+    let count = words(line).take(WORDS).zip(&mut found).map(|(word, place)| *place = word).count();
+    let words = &found[..count];
+    let name = words.first().copied().unwrap_or_default();
+    if name.len() == 2 && name[0] == b'm' {
+        return (meta::parse(name[1], line), false);
+    }
+    let is_quiet = words.last() == Some(&b"noreply".as_slice()) && can_be_quiet(name, count);
+    let request = classic(name, words, line, is_quiet);
+    let is_known = request != Err(ERROR);
+    (request, is_quiet && is_known)
+}
+
+/// Whether the last of so many words can be `noreply`.
+fn can_be_quiet(name: &[u8], count: usize) -> bool {
+    match name {
+        b"set" | b"add" | b"replace" | b"append" | b"prepend" | b"cas" | b"incr" | b"decr" | b"touch" => true,
+        b"flush_all" | b"verbosity" => true,
+        _ => name == b"delete" && count > 2,
+    }
+}
+
+fn classic<'a>(name: &[u8], words: &[&'a [u8]], line: &'a [u8], is_quiet: bool) -> Result<Request<'a>, Refusal> {
+    let count = words.len();
+    match (name, count) {
+        (b"get" | b"gets", 2..) => Ok(keys(name == b"gets", None, line, 1)),
+        (b"gat" | b"gats", 2..) => {
+            let expiry = number::integer(words[1]).ok_or(EXPTIME)?;
+            Ok(keys(name == b"gats", Some(expiry), line, 2))
+        }
+        (b"set", 5 | 6) => store(How::Set, words),
+        (b"add", 5 | 6) => store(How::Add, words),
+        (b"replace", 5 | 6) => store(How::Replace, words),
+        (b"append", 5 | 6) => store(How::Append, words),
+        (b"prepend", 5 | 6) => store(How::Prepend, words),
+        (b"cas", 6 | 7) => compare(words),
+        (b"incr", 3 | 4) => change(words, Change::Add),
+        (b"decr", 3 | 4) => change(words, Change::Subtract),
+        (b"touch", 3 | 4) => Ok(Request::Touch(key(words[1])?, number::integer(words[2]).ok_or(EXPTIME)?)),
+        (b"delete", 2..=4) => delete(words, is_quiet),
+        (b"flush_all", 1..=3) if count == 1 + usize::from(is_quiet) => Ok(Request::Flush(0)),
+        (b"flush_all", 2 | 3) => Ok(Request::Flush(number::integer(words[1]).ok_or(EXPTIME)?)),
+        (b"verbosity", 2 | 3) => number::unsigned(words[1]).map(|_| Request::Verbosity).ok_or(FORMAT),
+        (b"stats", _) => Ok(Request::Stats(words.get(1).copied().unwrap_or_default())),
+        (b"version", _) => Ok(Request::Version),
+        (b"quit", _) => Ok(Request::Quit),
+        _ => Err(ERROR),
+    }
+}
+
+/// The keys are behind so many words.
+fn keys(with_token: bool, expiry: Option<i64>, line: &[u8], before: usize) -> Request<'_> {
+    let last = words(line).nth(before - 1).unwrap_or_default();
+    let start = last.as_ptr() as usize - line.as_ptr() as usize + last.len();
+    Request::Keys(Keys { with_token, expiry }, start)
+}
+
+/// The key, unless it is too long.
+pub fn key(word: &[u8]) -> Result<&[u8], Refusal> {
+    Some(word).filter(|word| word.len() <= LONGEST_KEY).ok_or(FORMAT)
+}
+
+fn stored<'a>(how: How, words: &[&'a [u8]]) -> Option<Order<'a>> {
+    let flags = number::flags(words[2])?;
+    let expiry = number::integer(words[3])?;
+    let length = number::length(words[4])?;
+    Some(Order { how, key: key(words[1]).ok()?, flags, expiry, length, compare: None })
+}
+
+fn store<'a>(how: How, words: &[&'a [u8]]) -> Result<Request<'a>, Refusal> {
+    stored(how, words).map(Request::Store).ok_or(FORMAT)
+}
+
+fn compare<'a>(words: &[&'a [u8]]) -> Result<Request<'a>, Refusal> {
+    let order = stored(How::Set, words).ok_or(FORMAT)?;
+    let token = number::unsigned(words[5]).ok_or(FORMAT)?;
+    Ok(Request::Store(Order { compare: Some(token), ..order }))
+}
+
+fn change<'a>(words: &[&'a [u8]], change: fn(u64) -> Change) -> Result<Request<'a>, Refusal> {
+    let key = key(words[1])?;
+    Ok(Request::Change(key, change(number::unsigned(words[2]).ok_or(DELTA)?)))
+}
+
+/// Old clients send a time, which must be 0.
+fn delete<'a>(words: &[&'a [u8]], is_quiet: bool) -> Result<Request<'a>, Refusal> {
+    let has_zero = words.get(2) == Some(&b"0".as_slice());
+    match words.len() {
+        3 if !has_zero && !is_quiet => Err(USAGE),
+        4 if !has_zero || !is_quiet => Err(USAGE),
+        _ => Ok(Request::Delete(key(words[1])?)),
+    }
+}

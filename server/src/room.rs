@@ -1,0 +1,102 @@
+//! The memory of items: how much they take, and which of them gives way to a new one.
+use crate::index::{Key, Token};
+use std::collections::VecDeque;
+use std::sync::atomic::{AtomicU64, Ordering::Relaxed};
+use std::sync::{Mutex, MutexGuard, PoisonError};
+
+/// What an item takes beside its key and its value: the object, its place in the queue, and what the allocator adds to each.
+const OVERHEAD: u64 = 180;
+
+/// The queue has at most this many entries for each item, and some more, before old entries are dropped from it.
+const ENTRIES_OF_AN_ITEM: usize = 2;
+const SPARE: usize = 1024;
+
+/// The bytes that items may take, and those that they do take.
+#[derive(Debug)]
+pub struct Room {
+    limit: AtomicU64,
+    used: AtomicU64,
+    items: AtomicU64,
+    evicted: AtomicU64,
+}
+
+/// The items in the order in which they were stored or last spared. An entry whose item has another token by now is old.
+#[derive(Debug, Default)]
+pub struct Queue(Mutex<VecDeque<(Key, Token)>>);
+
+/// The bytes of an item.
+pub fn cost(key: usize, value: usize) -> u64 {
+    key as u64 + value as u64 + OVERHEAD
+}
+
+impl Room {
+    /// Room for this many bytes.
+    pub fn new(limit: u64) -> Room {
+        Room { limit: AtomicU64::new(limit), used: AtomicU64::new(0), items: AtomicU64::new(0), evicted: AtomicU64::new(0) }
+    }
+
+    /// Leaves room for so many bytes from now on.
+    pub fn set_limit(&self, limit: u64) {
+        self.limit.store(limit, Relaxed);
+    }
+
+    /// The most bytes.
+    pub fn limit(&self) -> u64 {
+        self.limit.load(Relaxed)
+    }
+
+    /// The bytes of all items, with those that are about to be put.
+    pub fn used(&self) -> u64 {
+        self.used.load(Relaxed)
+    }
+
+    /// How many items these are.
+    pub fn items(&self) -> u64 {
+        self.items.load(Relaxed)
+    }
+
+    /// Counts the bytes of an item that is about to be put.
+    pub fn take(&self, bytes: u64) {
+        self.used.fetch_add(bytes, Relaxed);
+        self.items.fetch_add(1, Relaxed);
+    }
+
+    /// Counts the bytes of an item that has left the index, or was not put.
+    pub fn give_back(&self, bytes: u64) {
+        self.used.fetch_sub(bytes, Relaxed);
+        self.items.fetch_sub(1, Relaxed);
+    }
+
+    /// Counts an item that gave way, to the limit or to a new key in a full index.
+    pub fn count_eviction(&self) {
+        self.evicted.fetch_add(1, Relaxed);
+    }
+
+    /// How many gave way.
+    pub fn evicted(&self) -> u64 {
+        self.evicted.load(Relaxed)
+    }
+
+    /// Whether an item must give way.
+    pub fn is_over(&self) -> bool {
+        self.used() > self.limit()
+    }
+}
+
+impl Queue {
+    fn lock(&self) -> MutexGuard<'_, VecDeque<(Key, Token)>> {
+        self.0.lock().unwrap_or_else(PoisonError::into_inner)
+    }
+
+    /// Adds an entry. Returns whether there are so many that old ones should be dropped.
+    pub fn push(&self, key: Key, token: Token, items: u64) -> bool {
+        let mut queue = self.lock();
+        queue.push_back((key, token));
+        queue.len() > ENTRIES_OF_AN_ITEM * items as usize + SPARE
+    }
+
+    /// Takes the entry out that has been there longest.
+    pub fn pop(&self) -> Option<(Key, Token)> {
+        self.lock().pop_front()
+    }
+}

@@ -1,0 +1,105 @@
+//! Accepts clients, and hands them to the workers in turn.
+use crate::complain::complain;
+use crate::connection::Connection;
+use crate::counts::{self, Count};
+use crate::signal;
+use crate::store::Store;
+use crate::worker::{Inbox, Worker};
+use mio::net::{TcpListener, TcpStream};
+use mio::unix::SourceFd;
+use mio::{Events, Interest, Poll, Token};
+use std::fmt::Display;
+use std::io::{self, ErrorKind, Write};
+use std::net::SocketAddr;
+use std::os::fd::AsRawFd;
+use std::sync::Arc;
+use std::thread;
+use std::time::Duration;
+
+const LISTENER: Token = Token(0);
+const SIGNAL: Token = Token(1);
+
+/// How long it waits before it tries again to accept a client, if the system had no room for one.
+const PAUSE: Duration = Duration::from_millis(50);
+
+/// Listens at an address.
+#[derive(Debug)]
+pub struct Server {
+    store: Arc<Store>,
+    listener: TcpListener,
+    inboxes: Vec<Inbox>,
+    handed: usize,
+}
+
+/// An error with what it is about.
+pub fn named(what: &impl Display, why: &io::Error) -> io::Error {
+    io::Error::new(why.kind(), format!("{what}: {why}"))
+}
+
+impl Server {
+    /// Listens, and ends at SIGTERM or SIGINT, when what clients have sent is answered. `is_ready` gets the address.
+    pub fn run(store: Arc<Store>, address: SocketAddr, is_ready: impl FnOnce(SocketAddr)) -> io::Result<()> {
+        let signal = signal::file()?;
+        counts::take_place(store.options.threads);
+        let mut poll = Poll::new()?;
+        let mut listener = TcpListener::bind(address).map_err(|why| named(&address, &why))?;
+        poll.registry().register(&mut listener, LISTENER, Interest::READABLE)?;
+        poll.registry().register(&mut SourceFd(&signal.as_raw_fd()), SIGNAL, Interest::READABLE)?;
+        let (mut inboxes, mut threads) = (Vec::new(), Vec::new());
+        for index in 0..store.options.threads {
+            let (worker, inbox) = Worker::new(Arc::clone(&store))?;
+            inboxes.push(inbox);
+            threads.push(thread::Builder::new().name(format!("worker {index}")).spawn(move || worker.run(index))?);
+        }
+        is_ready(listener.local_addr()?);
+        let mut server = Server { store, listener, inboxes, handed: 0 };
+        server.accept_all(&mut poll)?;
+        drop(server);
+        threads.into_iter().try_for_each(|thread| thread.join().unwrap_or_else(|_| Err(ErrorKind::Other.into())))
+    }
+
+    fn accept_all(&mut self, poll: &mut Poll) -> io::Result<()> {
+        let (mut events, mut timeout) = (Events::with_capacity(2), None);
+        loop {
+            match poll.poll(&mut events, timeout) {
+                Err(why) if why.kind() != ErrorKind::Interrupted => return Err(why),
+                _ => {}
+            }
+            if events.iter().any(|event| event.token() == SIGNAL) {
+                return Ok(());
+            }
+            timeout = self.accept_some().then_some(PAUSE);
+        }
+    }
+
+    /// Accepts the clients that wait. Returns whether some may wait still.
+    fn accept_some(&mut self) -> bool {
+        loop {
+            match self.listener.accept() {
+                Ok((stream, _)) => self.hand(stream),
+                Err(why) if why.kind() == ErrorKind::WouldBlock => return false,
+                Err(why) if matches!(why.kind(), ErrorKind::Interrupted | ErrorKind::ConnectionAborted) => {}
+                Err(why) => {
+                    complain(format_args!("a client can't be accepted: {why}"));
+                    return true;
+                }
+            }
+        }
+    }
+
+    fn hand(&mut self, mut stream: TcpStream) {
+        let Some(seat) = self.store.seats.take() else {
+            self.store.counts.add(Count::Rejected);
+            // If the client doesn't get this, it sees all the same that the connection ends.
+            let _ = stream.write(b"ERROR Too many open connections\r\n");
+            return;
+        };
+        self.store.counts.add(Count::Connections);
+        self.handed += 1;
+        let inbox = &self.inboxes[self.handed % self.inboxes.len()];
+        let handed = stream.set_nodelay(true).and_then(|()| inbox.hand(Connection::new(stream, seat)));
+        if let Err(why) = handed {
+            complain(format_args!("a client is lost: {why}"));
+        }
+    }
+}

@@ -1,0 +1,44 @@
+//! The answer of `stats`.
+use crate::clock::unix_time;
+use crate::command::{line, text, version};
+use crate::request::ERROR;
+use crate::store::Store;
+use std::io::Write;
+use std::process;
+
+/// Answers `stats` with this word behind it, or none.
+pub fn answer(store: &Store, what: &[u8], out: &mut Vec<u8>) {
+    match what {
+        b"" => general(store, out),
+        b"reset" => {
+            store.counts.reset();
+            line(out, "RESET");
+        }
+        b"settings" => settings(store, out),
+        // These have no names here, but clients ask for them.
+        b"items" | b"slabs" => line(out, "END"),
+        _ => line(out, ERROR.text),
+    }
+}
+
+fn general(store: &Store, out: &mut Vec<u8>) {
+    let version = version!();
+    text!(out, "STAT pid {}\r\nSTAT uptime {}\r\n", process::id(), store.clock.uptime());
+    text!(out, "STAT time {}\r\nSTAT version {version}\r\nSTAT pointer_size 64\r\n", unix_time());
+    text!(out, "STAT max_connections {}\r\n", store.options.connections);
+    text!(out, "STAT curr_connections {}\r\nSTAT threads {}\r\n", store.seats.taken(), store.options.threads);
+    for (name, sum) in store.counts.sums() {
+        text!(out, "STAT {name} {sum}\r\n");
+    }
+    text!(out, "STAT evictions {}\r\n", store.room.evicted());
+    text!(out, "STAT bytes {}\r\nSTAT curr_items {}\r\n", store.room.used(), store.room.items());
+    text!(out, "STAT limit_maxbytes {}\r\n", store.options.memory);
+    line(out, "END");
+}
+
+fn settings(store: &Store, out: &mut Vec<u8>) {
+    text!(out, "STAT maxbytes {}\r\nSTAT maxconns {}\r\n", store.options.memory, store.options.connections);
+    text!(out, "STAT item_size_max {}\r\nSTAT num_threads {}\r\n", store.options.longest, store.options.threads);
+    text!(out, "STAT evictions on\r\nSTAT cas_enabled yes\r\nSTAT udpport 0\r\n");
+    line(out, "END");
+}

@@ -1,0 +1,179 @@
+//! What commands do with items, whatever their protocol.
+use crate::clock::Clock;
+use crate::counts::{Count, Counts};
+use crate::index::{Index, Refused, Token};
+use crate::item::{Flushes, Item};
+use crate::options::Options;
+use crate::room::{Queue, Room};
+use crate::seat::Seats;
+use crate::turn::Turns;
+use std::fmt::{self, Debug, Formatter};
+use std::sync::Arc;
+
+/// The items, and all that is counted of them.
+pub struct Store {
+    pub index: Box<dyn Index>,
+    pub counts: Counts,
+    pub clock: Clock,
+    pub room: Arc<Room>,
+    pub(crate) queue: Queue,
+    pub(crate) turns: Turns,
+    flushes: Flushes,
+    pub options: Options,
+    pub seats: Arc<Seats>,
+}
+
+/// Why a command was not carried out.
+#[derive(Clone, Copy, Debug, PartialEq, Eq)]
+pub enum Fault {
+    /// There is no place for the item. If the command was to overwrite an older one whatever it was, that one is gone.
+    NoRoom,
+    /// The value is too long. The older one is gone, as above.
+    TooLong,
+    /// The item was not stored, and the older one could not be removed.
+    Stale,
+    /// Others disturbed the command all the time. Nothing was changed.
+    Disturbed,
+}
+
+/// What came of a command that stores or deletes.
+#[derive(Clone, Copy, Debug, PartialEq, Eq)]
+pub enum Answer {
+    /// It is done. The token is that of the item that was stored.
+    Done(Token),
+    /// The condition on whether there is an item was not met.
+    NotStored,
+    /// The item has another token.
+    Exists,
+    NotFound,
+}
+
+/// What came of arithmetic.
+#[derive(Clone, Copy, Debug, PartialEq, Eq)]
+pub enum Changed {
+    /// The new number, its token and its deadline.
+    Changed(u64, Token, u64),
+    NotFound,
+    /// The item has another token.
+    Exists,
+    NotNumeric,
+}
+
+/// What is under a key.
+pub(crate) enum Found<T> {
+    Live(T, Token),
+    Dead(Token),
+    Absent,
+}
+
+impl Debug for Store {
+    fn fmt(&self, text: &mut Formatter) -> fmt::Result {
+        text.debug_struct("Store").field("options", &self.options).field("room", &self.room).finish_non_exhaustive()
+    }
+}
+
+impl Store {
+    /// A store over this index.
+    pub fn new(index: Box<dyn Index>, room: Arc<Room>, options: Options) -> Store {
+        // The last place is that of the thread that accepts connections.
+        let counts = Counts::new(options.threads + 1);
+        let (clock, queue, turns, flushes) = (Clock::new(), Queue::default(), Turns::default(), Flushes::default());
+        Store { index, counts, clock, room, queue, turns, flushes, seats: Seats::new(options.connections), options }
+    }
+
+    /// Looks the keys up in order, and calls `each` with the position of each that has a value. It returns whether it goes on: if not, the
+    /// keys behind are not looked at. Returns how many keys were looked at.
+    pub fn look(&self, keys: &[&[u8]], mut each: impl FnMut(usize, &Item, Token) -> bool) -> usize {
+        let (now, mut looked, mut goes_on) = (self.clock.now(), 0, true);
+        self.index.look(keys, &mut |position, seen| {
+            if !goes_on {
+                return;
+            }
+            looked += 1;
+            match seen {
+                Ok(Some((item, token))) if item.is_live(now, &self.flushes) => {
+                    item.mark_used();
+                    self.counts.add(Count::GetHits);
+                    goes_on = each(position, item, token);
+                }
+                seen => self.count_miss(seen.is_err()),
+            }
+        });
+        self.counts.add_many(Count::Gets, looked as u64);
+        looked
+    }
+
+    /// Does the same, and gives what is found this deadline.
+    pub fn look_and_touch(&self, keys: &[&[u8]], deadline: u64, mut each: impl FnMut(usize, &Item, Token) -> bool) -> usize {
+        for (position, key) in keys.iter().enumerate() {
+            let _turn = self.turns.wait(key);
+            let mut goes_on = true;
+            self.look(&[key], |_, item, token| {
+                item.touch(deadline);
+                self.counts.add(Count::Touches);
+                self.counts.add(Count::TouchHits);
+                goes_on = each(position, item, token);
+                goes_on
+            });
+            if !goes_on {
+                return position + 1;
+            }
+        }
+        keys.len()
+    }
+
+    fn count_miss(&self, is_busy: bool) {
+        self.counts.add(Count::GetMisses);
+        if is_busy {
+            self.counts.add(Count::Busy);
+        }
+    }
+
+    pub(crate) fn find<T>(&self, key: &[u8], see: impl FnOnce(&Item, u64) -> T) -> Result<Found<T>, Fault> {
+        let (now, mut see, mut found) = (self.clock.now(), Some(see), Err(Fault::Disturbed));
+        self.index.look(&[key], &mut |_, seen| {
+            found = match (seen, see.take()) {
+                (Ok(Some((item, token))), Some(see)) if item.is_live(now, &self.flushes) => {
+                    Ok(Found::Live(see(item, now), token))
+                }
+                (Ok(Some((_, token))), _) => Ok(Found::Dead(token)),
+                (Ok(None), _) => Ok(Found::Absent),
+                (Err(_), _) => {
+                    self.counts.add(Count::Busy);
+                    Err(Fault::Disturbed)
+                }
+            }
+        });
+        found
+    }
+
+    pub(crate) fn disturbed(&self, why: Refused) -> Fault {
+        self.counts.add(if why == Refused::Held { Count::Held } else { Count::Refused });
+        Fault::Disturbed
+    }
+
+    /// Gives the key's item a new deadline. Returns whether the key has a value.
+    pub fn touch(&self, key: &[u8], deadline: u64) -> Result<bool, Fault> {
+        let _turn = self.turns.wait(key);
+        let found = self.find(key, |item, _| {
+            item.mark_used();
+            item.touch(deadline);
+        })?;
+        Ok(matches!(found, Found::Live(..)))
+    }
+
+    /// Makes all items invalid that are stored by then: now, or after so many seconds.
+    pub fn flush(&self, delay: i64) {
+        let now = self.clock.now();
+        self.flushes.flush(if delay > 0 { self.clock.deadline(delay).max(now) } else { now }, now);
+        if delay <= 0 {
+            // A command that did not see that flush looked at the time before it was there, so before this time.
+            let now = self.clock.now();
+            self.flushes.flush(now, now);
+        }
+    }
+
+    pub(crate) fn is_live(&self, item: &Item) -> bool {
+        item.is_live(self.clock.now(), &self.flushes)
+    }
+}

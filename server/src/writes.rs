@@ -1,0 +1,193 @@
+//! Commands that change what a key has.
+use crate::counts::Count;
+use crate::index::{Key, Outcome, Refused, Token};
+use crate::item::Item;
+use crate::number;
+use crate::request::{Change, How, Order};
+use crate::room::cost;
+use crate::store::{Answer, Changed, Fault, Found, Store};
+
+/// How often a call tries again that others' changes of its key disturbed.
+const TRIES: u32 = 1000;
+
+/// An item from this size on is freed as soon as it can be. Of smaller ones some wait.
+const LARGE: usize = 1 << 15;
+
+/// What is to be put instead of what was found.
+struct Next {
+    born: u64,
+    flags: u32,
+    deadline: u64,
+    data: Box<[u8]>,
+}
+
+impl Store {
+    /// Stores this value as it is ordered.
+    pub fn store(&self, order: &Order, data: &[u8]) -> Result<Answer, Fault> {
+        self.counts.add(Count::Sets);
+        let stored = if order.is_plain() { self.set(order, data) } else { self.store_if(order, data) };
+        match stored {
+            Err(Fault::NoRoom) => self.counts.add(Count::NoMemory),
+            Err(Fault::TooLong) => self.counts.add(Count::TooLarge),
+            Ok(Answer::Done(_)) => self.counts.add(Count::Stored),
+            _ => {}
+        }
+        stored.map_err(|why| self.refuse(order, why))
+    }
+
+    /// Refuses an order. An older value must not outlive a failed `set`.
+    pub fn refuse(&self, order: &Order, why: Fault) -> Fault {
+        if order.is_plain() && self.delete_if(order.key, |_| true).is_err() {
+            return Fault::Stale;
+        }
+        why
+    }
+
+    fn set(&self, order: &Order, data: &[u8]) -> Result<Answer, Fault> {
+        let next = self.fresh(order, self.clock.now(), data);
+        let put = self.put(order.key, next, |key, item| self.index.put(key, item).map(Outcome::Done))?;
+        Ok(put.map_or(Answer::NotStored, Answer::Done))
+    }
+
+    fn fresh(&self, order: &Order, born: u64, data: &[u8]) -> Next {
+        Next { born, flags: order.flags, deadline: self.clock.deadline(order.expiry), data: data.into() }
+    }
+
+    /// What is to be put over an item that was found at this time.
+    fn over(&self, order: &Order, data: &[u8], item: &Item, born: u64) -> Next {
+        let data = match order.how {
+            How::Append => [&item.data, data].concat(),
+            How::Prepend => [data, &item.data].concat(),
+            _ => return self.fresh(order, born, data),
+        };
+        Next { born, flags: item.flags, deadline: item.deadline(), data: data.into() }
+    }
+
+    fn store_if(&self, order: &Order, data: &[u8]) -> Result<Answer, Fault> {
+        let _turn = matches!(order.how, How::Append | How::Prepend).then(|| self.turns.wait(order.key));
+        for _ in 0..TRIES {
+            let found = self.find(order.key, |item, now| self.over(order, data, item, now))?;
+            let (next, since) = match (found, order.how, order.compare) {
+                (Found::Absent | Found::Dead(_), How::Set | How::Replace, Some(_)) => return Ok(Answer::NotFound),
+                (Found::Live(..), How::Add, _) => return Ok(Answer::NotStored),
+                (Found::Live(_, token), _, Some(compare)) if token != compare => return Ok(Answer::Exists),
+                (Found::Absent | Found::Dead(_), How::Replace | How::Append | How::Prepend, _) => return Ok(Answer::NotStored),
+                (Found::Absent, ..) => (self.fresh(order, self.clock.now(), data), None),
+                (Found::Dead(token), ..) => (self.fresh(order, self.clock.now(), data), Some(token)),
+                (Found::Live(next, token), ..) => (next, Some(token)),
+            };
+            if next.data.len() > self.options.longest {
+                return Err(Fault::TooLong);
+            }
+            if let Some(token) = self.put_over(order.key, since, next)? {
+                return Ok(Answer::Done(token));
+            }
+        }
+        Err(Fault::Disturbed)
+    }
+
+    /// Puts an item over the one with this token, or where there is none. `None`: it is not so any more.
+    fn put_over(&self, key: &[u8], since: Option<Token>, next: Next) -> Result<Option<Token>, Fault> {
+        self.put(key, next, |key, item| match since {
+            Some(token) => self.index.put_if(key, token, item),
+            None => self.index.put_new(key, item),
+        })
+    }
+
+    fn put(
+        &self,
+        key: &[u8],
+        next: Next,
+        put: impl FnOnce(&Key, Item) -> Result<Outcome, Refused>,
+    ) -> Result<Option<Token>, Fault> {
+        let (bytes, is_large) = (cost(key.len(), next.data.len()), next.data.len() >= LARGE);
+        self.make_room(bytes)?;
+        let key = Key::from(key);
+        let outcome = put(&key, Item::new(next.born, next.flags, next.deadline, next.data));
+        if is_large {
+            self.index.sweep();
+        }
+        if let Ok(Outcome::Done(token)) = outcome {
+            self.enqueue(key, token);
+            return Ok(Some(token));
+        }
+        self.room.give_back(bytes);
+        match outcome {
+            Err(why) => {
+                self.disturbed(why);
+                Err(Fault::NoRoom)
+            }
+            Ok(_) => Ok(None),
+        }
+    }
+
+    /// Deletes the key's value, if it has this token.
+    pub fn delete(&self, key: &[u8], compare: Option<Token>) -> Result<Answer, Fault> {
+        Ok(match self.delete_if(key, |token| compare.is_none_or(|compare| compare == token))? {
+            Found::Live(true, token) => Answer::Done(token),
+            Found::Live(false, _) => Answer::Exists,
+            Found::Dead(_) | Found::Absent => Answer::NotFound,
+        })
+    }
+
+    /// Removes the key, and returns what it was: if it was live, whether its token was to be deleted.
+    fn delete_if(&self, key: &[u8], is_meant: impl Fn(Token) -> bool) -> Result<Found<bool>, Fault> {
+        for _ in 0..TRIES {
+            let found = self.find(key, |_, _| ())?;
+            let token = match found {
+                Found::Absent => return Ok(Found::Absent),
+                Found::Live((), token) if !is_meant(token) => return Ok(Found::Live(false, token)),
+                Found::Live((), token) | Found::Dead(token) => token,
+            };
+            match (self.index.remove_if(key, token), found) {
+                (Ok(Outcome::Done(_)), Found::Live(..)) => return Ok(Found::Live(true, token)),
+                (Ok(Outcome::Done(_)), _) => return Ok(Found::Dead(token)),
+                (Ok(Outcome::Absent), _) => return Ok(Found::Absent),
+                (Ok(Outcome::Changed), _) => {}
+                (Err(why), _) => return Err(self.disturbed(why)),
+            }
+        }
+        Err(Fault::Disturbed)
+    }
+
+    /// Adds to the key's number or subtracts from it. The item gets the deadline, if there is one.
+    pub fn change(&self, key: &[u8], change: Change, compare: Option<Token>, deadline: Option<u64>) -> Result<Changed, Fault> {
+        let _turn = self.turns.wait(key);
+        for _ in 0..TRIES {
+            let found = self.find(key, |item, born| {
+                item.mark_used();
+                let number = change.of(number::unsigned(&item.data)?);
+                let (deadline, data) = (deadline.unwrap_or(item.deadline()), number.to_string().into_bytes().into());
+                let next = Next { born, flags: item.flags, deadline, data };
+                Some((next, number))
+            })?;
+            let (next, number, token) = match found {
+                Found::Absent | Found::Dead(_) => return Ok(Changed::NotFound),
+                Found::Live(_, token) if compare.is_some_and(|compare| compare != token) => return Ok(Changed::Exists),
+                Found::Live(None, _) => return Ok(Changed::NotNumeric),
+                Found::Live(Some((next, number)), token) => (next, number, token),
+            };
+            let deadline = next.deadline;
+            if let Some(token) = self.put_over(key, Some(token), next)? {
+                return Ok(Changed::Changed(number, token, deadline));
+            }
+        }
+        Err(Fault::Disturbed)
+    }
+}
+
+impl Order<'_> {
+    /// Whether it is a `set`, which overwrites whatever there is.
+    fn is_plain(&self) -> bool {
+        self.how == How::Set && self.compare.is_none()
+    }
+}
+
+impl Change {
+    fn of(self, number: u64) -> u64 {
+        match self {
+            Change::Add(delta) => number.wrapping_add(delta),
+            Change::Subtract(delta) => number.saturating_sub(delta),
+        }
+    }
+}

@@ -1,0 +1,183 @@
+//! Command lines, as memcached's protocol.txt describes them.
+use cefrodild::meta::Verb;
+use cefrodild::request::{parse, Change, How, Keys, Order, Request};
+
+fn read(line: &str) -> Request<'_> {
+    parse(line.as_bytes()).0.unwrap_or_else(|why| panic!("{line}: {}", why.text))
+}
+
+fn refused(line: &str) -> &'static str {
+    parse(line.as_bytes()).0.expect_err(line).text
+}
+
+fn stored<'a>(how: How, compare: Option<u64>) -> Request<'a> {
+    Request::Store(Order { how, key: b"key", flags: 7, expiry: -1, length: 5, compare })
+}
+
+#[test]
+fn commands_that_store() {
+    assert_eq!(read("set key 7 -1 5"), stored(How::Set, None));
+    assert_eq!(read("add key 7 -1 5"), stored(How::Add, None));
+    assert_eq!(read("replace key 7 -1 5 noreply"), stored(How::Replace, None));
+    assert_eq!(read("append key 7 -1 5"), stored(How::Append, None));
+    assert_eq!(read("  prepend  key 7 -1 5 "), stored(How::Prepend, None));
+    assert_eq!(read("cas key 7 -1 5 18446744073709551615"), stored(How::Set, Some(u64::MAX)));
+    assert_eq!(read("cas key 7 -1 5 9 noreply"), stored(How::Set, Some(9)));
+}
+
+#[test]
+fn commands_of_one_key() {
+    assert_eq!(read("delete key"), Request::Delete(b"key"));
+    assert_eq!(read("delete key 0"), Request::Delete(b"key"));
+    assert_eq!(read("delete key 0 noreply"), Request::Delete(b"key"));
+    assert_eq!(read("incr key 18446744073709551615"), Request::Change(b"key", Change::Add(u64::MAX)));
+    assert_eq!(read("decr key 1 noreply"), Request::Change(b"key", Change::Subtract(1)));
+    assert_eq!(read("touch key 60"), Request::Touch(b"key", 60));
+}
+
+#[test]
+fn commands_of_keys() {
+    assert_eq!(read("get a b"), Request::Keys(Keys { with_token: false, expiry: None }, 3));
+    assert_eq!(read("gets a"), Request::Keys(Keys { with_token: true, expiry: None }, 4));
+    assert_eq!(read("gat 30 a"), Request::Keys(Keys { with_token: false, expiry: Some(30) }, 6));
+    assert_eq!(read(" gats  -1 a"), Request::Keys(Keys { with_token: true, expiry: Some(-1) }, 9));
+}
+
+#[test]
+fn commands_without_a_key() {
+    assert_eq!(read("flush_all"), Request::Flush(0));
+    assert_eq!(read("flush_all noreply"), Request::Flush(0));
+    assert_eq!(read("flush_all 30 noreply"), Request::Flush(30));
+    assert_eq!(read("stats"), Request::Stats(b""));
+    assert_eq!(read("stats items"), Request::Stats(b"items"));
+    assert_eq!(read("version"), Request::Version);
+    assert_eq!(read("verbosity 1"), Request::Verbosity);
+    assert_eq!(read("quit"), Request::Quit);
+    assert_eq!(read("mn"), Request::NoOperation);
+}
+
+#[test]
+fn who_wants_no_answer() {
+    for (line, is_quiet) in [
+        ("set k 0 0 1 noreply", true),
+        ("set noreply 0 0 1", false),
+        ("delete k noreply", true),
+        ("version noreply", false),
+        ("delete noreply", false),
+    ] {
+        assert_eq!(parse(line.as_bytes()).1, is_quiet, "{line}");
+    }
+}
+
+#[test]
+fn lines_that_are_no_command() {
+    for line in [
+        "",
+        " ",
+        "x",
+        "get",
+        "gets ",
+        "gat 10extra",
+        "GET k",
+        "set k 0 0",
+        "set k 0 0 1 noreply more",
+        "cas k 0 0 1",
+        "incr k",
+        "mx k",
+        "mg",
+    ] {
+        assert_eq!(
+            refused(line),
+            if line == "gat 10extra" { "CLIENT_ERROR invalid exptime argument" } else { "ERROR" },
+            "{line}"
+        );
+    }
+}
+
+#[test]
+fn words_that_are_wrong() {
+    let long = "k".repeat(251);
+    for line in [
+        "set k x 0 1",
+        "set k 0 x 1",
+        "set k 0 0 x",
+        "set k 0 0 -1",
+        "set k -1 0 1",
+        "cas k 0 0 1 x",
+        "set k 0 0 2147483647",
+        "verbosity x",
+        &format!("set {long} 0 0 1"),
+        &format!("delete {long}"),
+        &format!("incr {long} 1"),
+        &format!("touch {long} 1"),
+        &format!("mg {long}"),
+    ] {
+        assert_eq!(refused(line), "CLIENT_ERROR bad command line format", "{line}");
+    }
+    assert_eq!(read(&format!("delete {}", &long[1..])), Request::Delete(&long.as_bytes()[1..]));
+    assert_eq!(refused("incr k -1"), "CLIENT_ERROR invalid numeric delta argument");
+    assert_eq!(refused("touch k x"), "CLIENT_ERROR invalid exptime argument");
+    assert_eq!(refused("delete k 1"), "CLIENT_ERROR bad command line format.  Usage: delete <key> [noreply]");
+}
+
+#[test]
+fn meta_commands() {
+    let Request::Meta(get) = read("mg key v q k Oabc T30") else { panic!() };
+    assert_eq!(
+        (get.verb, get.order.key, get.is_quiet, get.with_value, get.expiry),
+        (Verb::Get, &b"key"[..], true, true, Some(30))
+    );
+    let Request::Meta(set) = read("ms key 5 F7 T-1 MA C9") else { panic!() };
+    assert_eq!(
+        (set.verb, set.order.length, set.order.flags, set.order.expiry, set.order.how, set.order.compare),
+        (Verb::Set, 5, 7, -1, How::Append, Some(9))
+    );
+    let Request::Meta(delete) = read("md key C9 q") else { panic!() };
+    assert_eq!((delete.verb, delete.order.compare, delete.is_quiet), (Verb::Delete, Some(9), true));
+    let Request::Meta(sum) = read("ma key N60 J5 D3 M- T90") else { panic!() };
+    assert_eq!((sum.create, sum.initial, sum.delta, sum.subtracts, sum.expiry), (Some(60), 5, 3, true, Some(90)));
+}
+
+#[test]
+fn meta_flags_that_are_wrong() {
+    assert_eq!(refused("mg k v v"), "CLIENT_ERROR duplicate flag");
+    assert_eq!(refused("mg k !"), "CLIENT_ERROR invalid flag");
+    assert_eq!(refused("mg k Tx"), "CLIENT_ERROR bad token in command line format");
+    assert_eq!(refused("mg k O123456789012345678901234567890123"), "CLIENT_ERROR opaque token too long");
+    assert_eq!(refused("ms k"), "CLIENT_ERROR bad command line format");
+    assert_eq!(refused("md k k k"), "CLIENT_ERROR invalid or duplicate flag");
+    // The block of a refused line is skipped.
+    assert_eq!(parse(b"ms k 5 MX").0.expect_err("no such mode").block, 7);
+}
+
+#[test]
+fn no_line_panics() {
+    let words: Vec<&[u8]> = vec![
+        b"get",
+        b"set",
+        b"cas",
+        b"mg",
+        b"ms",
+        b"ma",
+        b"",
+        b" ",
+        b"noreply",
+        b"0",
+        b"-1",
+        b"99999999999999999999",
+        b"\xff\x00",
+        b"M",
+        b"C",
+        b"N",
+    ];
+    let mut seed = 1u64;
+    for _ in 0..100_000 {
+        let mut line = Vec::new();
+        for _ in 0..8 {
+            seed = seed.wrapping_mul(6364136223846793005).wrapping_add(1442695040888963407);
+            line.extend_from_slice(words[(seed >> 33) as usize % words.len()]);
+            line.push(if seed >> 63 == 0 { b' ' } else { b'\t' });
+        }
+        let _ = parse(&line);
+    }
+}

@@ -1,0 +1,47 @@
+"""A running cefrodild, for the tests in Python."""
+import contextlib
+import socket
+import subprocess
+
+TIMEOUT = 10
+
+
+def start(program, *options, port=0):
+    """Starts the server: its process and its port."""
+    server = subprocess.Popen([program, '-p', str(port), *options], stdout=subprocess.PIPE, text=True)
+    line = server.stdout.readline()
+    if not line.startswith('cefrodild: listening on 127.0.0.1:'):
+        server.kill()
+        raise SystemExit(f'cefrodild says {line!r}')
+    return server, int(line.rpartition(':')[2])
+
+
+def stop(process):
+    process.kill()
+    process.wait()
+
+
+@contextlib.contextmanager
+def running(program, *options):
+    """The process and the port of a server, which is killed in the end."""
+    server, port = start(program, *options)
+    try:
+        yield server, port
+    finally:
+        stop(server)
+
+
+def connect(port):
+    return socket.create_connection(('127.0.0.1', port), TIMEOUT)
+
+
+def ask(client, data, end=b'\r\n'):
+    """Sends this, and returns what is answered up to this end."""
+    client.sendall(data)
+    answer = b''
+    while not answer.endswith(end):
+        part = client.recv(1 << 16)
+        if not part:
+            return answer + b'<end>'
+        answer += part
+    return answer
