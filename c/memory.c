@@ -1,6 +1,6 @@
 /* The memory of the archive: the three functions by which the cache allocates, over malloc, realloc and free. The toolchain's own hand each
  * call to these as it is. Here large blocks are placed so that a lookup needs few cache lines and few entries of page tables. Small ones share
- * no cache line: each put changes words of the writer's, and lookups read the blocks beside it.
+ * no cache line, unless they are aligned to 16: each put changes words of the writer's, and lookups read the blocks beside it.
  *
  * A block of at least 4,096 bytes begins 56 bytes after the start of a cache line. A table's slots begin at its word 1 + stripes, and
  * stripes are a power of two. So from 8 stripes on they begin on a cache line, and no bucket of four slots crosses one.
@@ -37,7 +37,7 @@ enum { LINE = 64, APART = 2 * LINE, BEHIND = 56, PLACED = 4096, CUT = 128 << 10,
 struct region {
     /* The bytes that were cut, with these words; a multiple of a cache line. Only the copy of these functions that opened the region cuts. */
     size_t used;
-    /* How many blocks are in use, and one more while the region is open. Whoever takes the last one off frees the region. */
+    /* How many blocks are in use, and one more while the region is open. The thread that takes the last one off frees the region. */
     atomic_size_t users;
     /* The block of malloc that holds the region. */
     void *around;
@@ -60,7 +60,7 @@ static char *aligned(char *block, size_t align) { return block + (align - (uintp
 
 static size_t whole(size_t size) { return size < 16 ? 16 : size; }
 
-/* A small block with so many bytes before it and after it that it shares no cache line, and no pair of them, since a processor loads both. */
+/* A small block. It shares no cache line, and no pair of lines, since a processor loads both. So there are bytes of its own before and after it. */
 static void *alone(size_t size) {
     char *block = malloc(APART + sizeof(void *) + size + APART);
     if (block == NULL) {

@@ -244,7 +244,7 @@ CEFRODIL_CHECKED CEFRODIL_NO_NULL cefrodil_status cefrodil_get_or_desk(cefrodil_
 
 /* Looks the key up by the writer, or by a pass, which tries once for the turn. It doesn't count as a use of the key, so it is for reports and
  * decisions, not for reads.
- * OK, ABSENT: as for cefrodil_get, and the answer is true now. HELD: the try did not win. Otherwise CLOSED, KIND (by a reader), WIDTH.
+ * OK, ABSENT: as for cefrodil_get. By the writer the answer is true now. By a pass it was true during the turn. HELD: the try did not win. Otherwise CLOSED, KIND (by a reader), WIDTH.
  * Unless OK, `value` is unchanged. */
 CEFRODIL_CHECKED CEFRODIL_NO_NULL cefrodil_status cefrodil_peek(cefrodil_handle *handle, uint64_t key, uint64_t *value, size_t words,
                                                                 cefrodil_reply *reply);
@@ -274,8 +274,8 @@ CEFRODIL_CHECKED CEFRODIL_NO_NULL cefrodil_status cefrodil_put_if_absent(cefrodi
  * OK and ABSENT: `at` is set. SPENT, HELD, CLOSED, KIND. */
 CEFRODIL_CHECKED CEFRODIL_NO_NULL cefrodil_status cefrodil_remove(cefrodil_handle *handle, uint64_t key, cefrodil_reply *reply);
 
-/* Puts `key_count` keys. Equivalent to calling cefrodil_put for each key in order; but in a large table the processor waits for the words of
- * several keys at once. `values` has one value after the other, so `value_words` must be `key_count` times the words of a value.
+/* Puts `key_count` keys. Equivalent to calling cefrodil_put for each key in order. In a large table the processor then waits for the words of
+ * several keys at once, but not by a pass of shards. `values` has one value after the other, so `value_words` must be `key_count` times the words of a value.
  * OK: answer i is that of key i. CLOSED; BAD_COUNT: `answer_count` is not `key_count`; WIDTH: `value_words` does not match. With these
  * nothing was done, and nothing is written. */
 CEFRODIL_CHECKED CEFRODIL_NO_NULL cefrodil_status cefrodil_put_many(cefrodil_handle *handle, const uint64_t *keys, size_t key_count,

@@ -9,6 +9,7 @@ struct pair {
 };
 
 static uint64_t drawn = 1;
+static int refused;
 
 static uint64_t draw(uint64_t below) {
     drawn = drawn * 6364136223846793005 + 1442695040888963407;
@@ -34,6 +35,7 @@ static void put_in_both(struct pair *pair, size_t count, uint64_t keys) {
         cefrodil_reply reply;
         const cefrodil_status status = cefrodil_put(&pair->single, key[i], &value[i * WORDS], WORDS, &reply);
         MUST(is_same(&answers[i], status, &reply));
+        refused += status != CEFRODIL_OK;
     }
 }
 
@@ -95,6 +97,7 @@ int main(void) {
     narrow = (cefrodil_shape){.buckets = 8, .items = 32, .stripes = 1, .depth = 0, .tries = 4, .mix = CEFRODIL_MIX_FULL, .limit = 400};
     by_writers(&shape, 100, 60);
     by_writers(&narrow, 100, 60);
+    MUST(refused > 0);
     /* Large enough that words are loaded ahead. */
     MUST(large.buckets >= 131072);
     by_writers(&large, 3000, 250000);

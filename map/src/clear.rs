@@ -3,17 +3,14 @@ use crate::error::ClearError;
 use crate::map::Map;
 use crate::pass::AnyPass;
 use crate::stats::Kind;
-use crate::wait::in_turn;
+use crate::wait::{in_turn, LISTS};
 use cefrodil::Removal;
-
-/// How often `clear` tries to list the keys. A list has a turn at each shard and takes memory, so these are few.
-const LISTS: u32 = 100;
 
 impl<K: ?Sized, V: Copy, S> Map<K, V, S> {
     /// Removes all entries. Once this has returned, no later lookup finds a value that was put before this call, nor one that
     /// [`get_or_insert_with`](Map::get_or_insert_with) began to compute before it. What other threads put meanwhile may stay or go.
     ///
-    /// It lists all keys, so it takes memory and time for as many as the map holds.
+    /// It lists all keys, so it takes memory for as many as the map can hold.
     ///
     /// # Errors
     ///

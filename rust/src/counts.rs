@@ -18,7 +18,7 @@ pub struct Counts {
     pub misses: u64,
     /// Lookups that were busy.
     pub busy: u64,
-    /// Writes and lists by a pass whose try for the turn did not win.
+    /// Writes, lists and peeks by a pass whose try for the turn did not win.
     pub held: u64,
     /// Puts that evicted another key.
     pub evictions: u64,

@@ -30,13 +30,15 @@ fn a_writer_puts_many() -> Result<(), Box<dyn Error>> {
 
 #[test]
 fn a_refused_put_of_many_stops_no_other() -> Result<(), Box<dyn Error>> {
-    // Enough for a put of a new key, and then one over it.
-    let shape = Shape { limit: 4, depth: 0, ..Shape::for_items(8)? };
+    let shape = Shape { buckets: 2, items: 8, stripes: 1, ..Shape::for_items(8)? };
     let (mut writer, _readers) = Cache::<1>::open(&shape, 1)?;
-    let mut told = [Ok(Put::Renewed { at: 0 }); 3];
-    writer.put_many(&[(1, [10]), (1, [11]), (2, [20])], &mut told);
-    assert_eq!(told, [Ok(Put::Stored { at: 1, moves: 0, evicted: None }), told[1], Err(PutError::Spent)]);
-    assert_eq!(writer.get(2), Reply::Absent { at: writer.moment() });
+    let entries: Vec<(u64, [u64; 1])> = (0..20).chain(0..20).map(|key| (key, [key])).collect();
+    let mut told = [Err(PutError::Spent); 40];
+    writer.put_many(&entries, &mut told);
+    // The two buckets are full, so twelve keys have no place. Behind these the others are put anew.
+    let refused = |puts: &[Result<Put, PutError>]| puts.iter().filter(|put| **put == Err(PutError::NoPath)).count();
+    let renewed = |puts: &[Result<Put, PutError>]| puts.iter().filter(|put| matches!(put, Ok(Put::Renewed { .. }))).count();
+    assert_eq!((refused(&told[..20]), refused(&told[20..]), renewed(&told[20..])), (12, 12, 8));
     Ok(())
 }
 

@@ -173,6 +173,10 @@ fn work(pass: &mut Pass<1>, is_held: &AtomicBool) -> Told {
         told.tried(pass.try_swap_if(key, n, &[n]));
         told.tried(pass.try_take(key));
         told.tried(pass.try_remove(key + 5));
+        told.tried(pass.try_peek(key).ok_or(TurnError::<()>::Held));
+        let mut puts = [Err(TurnError::Held); 2];
+        pass.try_put_many(&[(key, [n]), (key + 1, [n])], &mut puts);
+        puts.into_iter().for_each(|put| told.put(put));
         told.tried(pass.try_len());
         told.tried(pass.try_entries());
         told.tried(pass.try_stamped_entries());

@@ -65,8 +65,8 @@ where
         }
     }
 
-    /// Like [`get_or_insert_with`](Self::get_or_insert_with), with a single try to look the key up, and one to put the value. It doesn't wait
-    /// for another thread that computes the value.
+    /// Like [`get_or_insert_with`](Self::get_or_insert_with), but each of its lookups and its put tries once. It doesn't wait until
+    /// another thread has computed the value.
     ///
     /// # Errors
     ///

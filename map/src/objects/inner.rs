@@ -7,7 +7,7 @@ use crate::flight::Flights;
 use crate::print::Print;
 use crate::slots::Slots;
 use crate::stats::Kind;
-use crate::wait::{in_turn, LOOKS};
+use crate::wait::{in_turn, LISTS, LOOKS};
 use cefrodil::Pass;
 use std::hash::{BuildHasher, Hash};
 use std::marker::PhantomData;
@@ -15,9 +15,6 @@ use std::mem;
 use std::panic::{catch_unwind, AssertUnwindSafe};
 use std::sync::{Arc, Mutex};
 use std::time::Duration;
-
-/// How often the last clone tries to list the objects that it frees. Nobody else has the turn then.
-const LISTS: u32 = 100;
 
 pub(crate) struct ObjectInner<K, V, S> {
     pub slots: Arc<Slots<Pass<'static, 1>>>,

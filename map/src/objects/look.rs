@@ -3,15 +3,13 @@ use super::inner::ObjectInner;
 use super::map::ObjectMap;
 use super::pinned::State;
 use crate::error::GetError;
+use crate::pass::MANY;
 use crate::stats::Kind;
 use crate::wait::in_turn;
 use cefrodil::{Reply, TurnError};
 use std::borrow::Borrow;
 use std::hash::{BuildHasher, Hash};
 use std::time::Duration;
-
-/// How many keys one call of the index gets.
-const MANY: usize = 32;
 
 /// What a lookup or a removal found. `at` and `since` count the changes of the key's shard: never compare those of two keys.
 #[derive(Clone, Copy, Debug, PartialEq, Eq, Hash)]
@@ -117,8 +115,8 @@ where
         self.inner.look(key, self.inner.looks(), look)
     }
 
-    /// Looks the keys up in order, and calls `look` with the index and the value of each that is found. Equivalent to calling
-    /// [`get_with`](Self::get_with) for each key. No object that leaves the map is freed before the call ends.
+    /// Looks the keys up in order, and calls `look` with the index and the value of each that is found. Up to 32 keys are looked up before
+    /// `look` gets the first of them. No object that leaves the map is freed before the call ends.
     pub fn get_many_with<Q: Hash + Eq + ?Sized>(&self, keys: &[&Q], mut look: impl FnMut(usize, &V))
     where
         K: Borrow<Q>,
@@ -139,7 +137,7 @@ where
     }
 
     /// Begins the value's time to live anew with `life`, in place: no token changes, and nothing is copied. A removal that comes between is
-    /// not undone. `false`: the key has no value, or other threads disturbed each try.
+    /// not undone. `false`: the key has no value, or other threads disturbed each try. If the value expires meanwhile, it may go all the same.
     pub fn touch<Q: Hash + Eq + ?Sized>(&self, key: &Q, life: Duration) -> bool
     where
         K: Borrow<Q>,
@@ -209,22 +207,17 @@ impl<K, V, S> ObjectInner<K, V, S> {
     /// Counts a lookup.
     #[inline]
     pub fn count<'a>(&self, state: Option<State<'a, K, V>>) -> Option<State<'a, K, V>> {
-        let kind = match &state {
-            Some(State::Live(_)) => {
-                self.slots.count(Kind::Hit);
-                return state;
+        match &state {
+            Some(State::Live(_)) => self.slots.count(Kind::Hit),
+            None => self.slots.count(Kind::Busy),
+            Some(missed) => {
+                self.slots.count(Kind::Miss);
+                match missed {
+                    State::Expired(_) => self.slots.count(Kind::Expired),
+                    State::Other(_) => self.slots.count(Kind::Collided),
+                    _ => {}
+                }
             }
-            Some(State::Absent { .. }) => Kind::Miss,
-            Some(State::Expired(_)) => Kind::Expired,
-            Some(State::Other(_)) => Kind::Collided,
-            None => {
-                self.slots.count(Kind::Busy);
-                return None;
-            }
-        };
-        self.slots.count(Kind::Miss);
-        if !matches!(kind, Kind::Miss) {
-            self.slots.count(kind);
         }
         state
     }

@@ -3,17 +3,14 @@ use super::builder::Reason;
 use super::map::ObjectMap;
 use crate::error::ClearError;
 use crate::stats::Kind;
-use crate::wait::in_turn;
+use crate::wait::{in_turn, LISTS};
 use cefrodil::{Pass, PutIfError, Reply, Take, TurnError};
-
-/// How often a call tries to list the entries. A list has a turn at each shard and takes memory, so these are few.
-const LISTS: u32 = 100;
 
 impl<K, V, S> ObjectMap<K, V, S> {
     /// Removes all entries. Once this has returned, no later lookup finds a value that was put before this call, nor one that
     /// [`get_or_insert_with`](Self::get_or_insert_with) began to compute before it. What other threads put meanwhile may stay or go.
     ///
-    /// It lists all entries, so it takes memory and time for as many as the map holds.
+    /// It lists all entries, so it takes memory for as many as the map can hold.
     ///
     /// # Errors
     ///
@@ -22,13 +19,17 @@ impl<K, V, S> ObjectMap<K, V, S> {
         self.clear_all().inspect_err(|_| self.inner.slots.count(Kind::Refused))
     }
 
-    /// Removes the entries that have expired. Returns how many. It takes memory and time as [`clear`](Self::clear).
+    /// Removes the entries that have expired, and returns how many. One whose lookup other threads disturb is left. It takes memory as
+    /// [`clear`](Self::clear).
     ///
     /// # Errors
     ///
     /// [`ClearError`]: expired entries may be left.
     pub fn remove_expired(&self) -> Result<usize, ClearError> {
-        self.expire_all().inspect_err(|_| self.inner.slots.count(Kind::Refused))
+        let removed = self.expire_all().inspect_err(|_| self.inner.slots.count(Kind::Refused));
+        // They waited for this call, which was pinned.
+        self.inner.free(self.inner.epochs.free_now());
+        removed
     }
 
     fn clear_all(&self) -> Result<(), ClearError> {

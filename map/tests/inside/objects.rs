@@ -167,7 +167,7 @@ fn what_has_expired_is_removed_and_nothing_else() {
     let (builder, heard) = heard(ObjectMap::builder(1_000).shards(4));
     let map = builder.open().unwrap();
     (0..300).for_each(|key| done(map.insert_for(key, text("a"), seconds(key % 3 * 100)).unwrap()));
-    assert_eq!(map.remove_expired(), Ok(100));
+    assert_eq!((map.remove_expired(), map.inner.epochs.waiting()), (Ok(100), 0));
     turn(&map, seconds(101));
     assert_eq!((map.remove_expired(), map.remove_expired(), map.len()), (Ok(100), Ok(0), 100));
     assert!(heard.lock().unwrap().iter().all(|(key, reason)| key % 3 < 2 && *reason == Reason::Expired));
