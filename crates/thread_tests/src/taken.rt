@@ -6,8 +6,8 @@ use crate::calls::{Call, Told};
 use crate::opened::open_for_one;
 use crate::rows::{check_rows, small, with_items};
 use mc_cache::{
-    Cache, Desk, DeskError, Entry, IfError, Mix, Put, Reader, Replaced, Reply, Shape, Swapped, Take,
-    Writer,
+    Cache, Desk, DeskError, Entry, IfError, Mix, Put, Reader, Replaced, Reply, Shape, Swapped,
+    Take, Writer,
 };
 use mc_shards::{Pass, Shards, open_shards};
 use std::test::Fail;
