@@ -167,10 +167,10 @@ static void updates(uint32_t passes) {
 // Two threads count a new key at the same time, and neither count is lost.
 static void first_counts() {
     Numbers numbers;
-    MUST(numbers.open({300000}) == Status::ok);
+    MUST(numbers.open({30000}) == Status::ok);
     std::atomic<uint64_t> begun{0}, sum{0};
     in_threads(2, [&](size_t) {
-        for (uint64_t key = 0; key < 200000; key++) {
+        for (uint64_t key = 0; key < 20000; key++) {
             begun++;
             for (int spins = 0; begun < 2 * (key + 1); spins++) {
                 spins > 1000 ? std::this_thread::yield() : void();
@@ -178,7 +178,7 @@ static void first_counts() {
             sum += numbers.update_or_insert(key, 1, [](uint64_t old) { return old + 1; }).value.value_or(0);
         }
     });
-    MUST(sum == 3 * 200000 && numbers.size() == 200000);
+    MUST(sum == 3 * 20000 && numbers.size() == 20000);
 }
 
 // Threads whose calls are never repeated are held now and then. An erasure that returned held was not made, and one that returned ok was.
@@ -217,7 +217,7 @@ static void erasures_of_another_key() {
             MUST(meeting.insert_or_assign(1, 1).status == Status::ok && meeting.insert_or_assign(2, 2).status == Status::ok);
             lost += !meeting.contains(2);
         }
-        while (thread == 1 && !ends) {
+        for (; thread == 1 && !ends; std::this_thread::yield()) {
             static_cast<void>(meeting.erase(1));
         }
         ends = true;
