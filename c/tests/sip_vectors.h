@@ -29,7 +29,8 @@ static const uint64_t sip_1_3[41] = {
     0xac77921fcc642bd3, 0x422a9751192ff266, 0xc680ae8a8c584ddf, 0x6c76b6d34bb6d26b, 0x95bc321ab41d8206,
 };
 
-/* The same with 128 bits, as two words. SipHash-2-4 with the secret 0, 1, .. 15: the first rows of `vectors_sip128` there. */
+/* The same with 128 bits, as two words. SipHash-2-4 with the secret 0, 1, .. 15: what OpenSSL 3.0 hashes, and the crate
+ * siphasher 0.3.10, which are two implementations of their own. */
 static const uint64_t sip_2_4_128[41][2] = {
     {0xe6a825ba047f81a3, 0x930255c71472f66d}, {0x44af996bd8c187da, 0x45fc229b11597634}, {0xc75da4a48d227781, 0xe4ff0af6de8ba3fc},
     {0x4ea967520cb6709c, 0x51ed8529b0b6335f}, {0xaf8f9c2dc16481f8, 0x7955cd7b7c6e0f7d}, {0x886f778059876813, 0x27960e69077a5254},

@@ -21,7 +21,7 @@ pub(crate) use version;
 const NOT_FOUND: Text = "NOT_FOUND";
 
 impl Fault {
-    /// What the client is told.
+    /// The answer that the client gets.
     pub fn text(self) -> Text {
         match self {
             Fault::NoRoom => "SERVER_ERROR out of memory storing object",

@@ -5,7 +5,7 @@ use crate::number;
 /// The longest key.
 pub const LONGEST_KEY: usize = 250;
 
-/// The most words of a command line that are told apart. No command but those of keys and flags has as many.
+/// The most words of a command line that are kept apart. No command but those of keys and flags has as many.
 const WORDS: usize = 9;
 
 /// What a command line asks for.

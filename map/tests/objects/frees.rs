@@ -17,7 +17,7 @@ fn open(threads: usize) -> Values {
     ObjectMap::builder(100).shards(1).threads(threads).open().unwrap()
 }
 
-/// A thread that looks at a value until it is told to end.
+/// A thread that looks at a value until it is asked to end.
 struct Holder {
     thread: JoinHandle<u64>,
     end: Sender<()>,

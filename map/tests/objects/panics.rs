@@ -11,7 +11,7 @@ fn panics<T>(call: impl FnOnce() -> T) {
     assert!(catch_unwind(AssertUnwindSafe(call)).is_err());
 }
 
-/// A key that panics when it is told to.
+/// A key that panics on demand.
 struct Fragile(u64, Arc<AtomicU8>);
 
 const HASH: u8 = 1;

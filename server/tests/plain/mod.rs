@@ -1,4 +1,4 @@
-//! A plain index for tests, which refuses what it is told to refuse.
+//! A plain index for tests, which refuses calls on demand.
 use cefrodild::index::{Index, Key, Outcome, Refused, Seen, Token};
 use cefrodild::item::Item;
 use cefrodild::room::{cost, Room};
