@@ -44,6 +44,14 @@ struct Door {
         return cefrodil_put(&writer, key, value.data(), value.size(), &reply) == CEFRODIL_OK;
     }
 
+    size_t put_many(const uint64_t *keys, const Value *values, size_t many) {
+        cefrodil_put_answer answers[MOST];
+        if (cefrodil_put_many(&writer, keys, many, values[0].data(), 4 * many, answers, many) != CEFRODIL_OK) abort();
+        size_t refused = 0;
+        for (size_t n = 0; n < many; n++) refused += answers[n].status != CEFRODIL_OK;
+        return refused;
+    }
+
     size_t slots() { return size_t(4) * shape.buckets; }
 
     // A handle moves by a copy, and its old place is zeroed.

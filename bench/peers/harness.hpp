@@ -3,108 +3,19 @@
 // A contestant is a class with: a constructor that takes how many keys there will be; `get` (whether the key is there, and
 // its value); `put` (false where it is refused); `slots` (places for keys, or 0); `enter`, `tick` and `leave`, which each
 // thread calls at its beginning, now and then, and at its end. With `--many N` readers call `get_many`, if the contestant has it:
-// lookups of N keys, whose values it writes and of which it returns how many are there.
+// lookups of N keys, whose values it writes and of which it returns how many are there. Writers that only write call `put_many`, if the
+// contestant has it: puts of N keys, of which it returns how many are refused. With `--latencies 1` each lookup of a reader is timed.
 #pragma once
-#include <algorithm>
+#include "latencies.hpp"
+#include "options.hpp"
 #include <array>
 #include <atomic>
 #include <chrono>
-#include <cstdint>
-#include <cstdio>
-#include <cstdlib>
 #include <memory>
-#include <string>
 #include <thread>
-#include <time.h>
 #include <vector>
 
 typedef std::array<uint64_t, 4> Value;
-
-// How many keys are looked up at most before anything is measured, and by one call.
-enum { WARM = 1000000, MOST = 64 };
-
-// The finalizer of MurmurHash3, by which the table hashes.
-static inline uint64_t mix(uint64_t key) {
-    key = (key ^ (key >> 33)) * 0xff51afd7ed558ccdull;
-    key = (key ^ (key >> 33)) * 0xc4ceb9fe1a85ec53ull;
-    return key ^ (key >> 33);
-}
-
-struct Mixed {
-    size_t operator()(uint64_t key) const { return mix(key); }
-};
-
-static inline uint64_t scatter(uint64_t bits) {
-    bits = (bits ^ (bits >> 30)) * 0xbf58476d1ce4e5b9ull;
-    bits = (bits ^ (bits >> 27)) * 0x94d049bb133111ebull;
-    return bits ^ (bits >> 31);
-}
-
-// Different numbers have different keys.
-static inline uint64_t key_of(uint64_t number) { return scatter(number + 0x51ed270b); }
-
-// Draws numbers by splitmix64.
-struct Draw {
-    uint64_t state;
-    explicit Draw(uint64_t seed) : state((seed * 0x9e3779b97f4a7c15ull) ^ 0x1234567) {}
-    uint64_t below(uint64_t most) {
-        state += 0x9e3779b97f4a7c15ull;
-        return ((scatter(state) >> 32) * most) >> 32;
-    }
-};
-
-struct Options {
-    std::string workload = "hit";
-    uint64_t readers = 1, writers = 0, keys = 1000, capacity = 1000, write_every = 1, seed = 1, many = 1;
-    // Only the bench of maps has a choice here: how many letters a key has, or 0 for a number; how many words a value has; and 1 for a quick hash.
-    uint64_t letters = 0, words = 4, quick = 0;
-    double seconds = 0.3;
-
-    Options(int count, char **given) {
-        for (int n = 1; n + 1 < count; n += 2) {
-            std::string name = given[n];
-            if (name == "--workload") workload = given[n + 1];
-            else if (name == "--seconds") seconds = atof(given[n + 1]);
-            else number(name) = strtoull(given[n + 1], nullptr, 10);
-        }
-    }
-
-    uint64_t &number(const std::string &name) {
-        if (name == "--readers") return readers;
-        if (name == "--writers") return writers;
-        if (name == "--keys") return keys;
-        if (name == "--capacity") return capacity;
-        if (name == "--write-every") return write_every;
-        if (name == "--seed") return seed;
-        if (name == "--many") return many;
-        if (name == "--letters") return letters;
-        if (name == "--words") return words;
-        if (name == "--quick") return quick;
-        fprintf(stderr, "no option %s\n", name.c_str());
-        exit(2);
-    }
-
-    bool alone() const { return readers + writers == 1; }
-    uint64_t fresh() const { return (seed % 256) << 32; }
-};
-
-static inline double seconds_of(clockid_t clock) {
-    struct timespec time;
-    clock_gettime(clock, &time);
-    return time.tv_sec + time.tv_nsec * 1e-9;
-}
-
-// The processor time of the thread, or the time on the clock.
-static inline double now(bool alone) { return seconds_of(alone ? CLOCK_THREAD_CPUTIME_ID : CLOCK_MONOTONIC); }
-
-// The bytes of the program that are in memory.
-static inline double resident() {
-    long whole = 0, pages = 0;
-    FILE *account = fopen("/proc/self/statm", "r");
-    if (!account || fscanf(account, "%ld %ld", &whole, &pages) != 2) abort();
-    fclose(account);
-    return 4096.0 * pages;
-}
 
 // Looks keys up, by one call if the contestant has one, and returns how many are there.
 template <class C> auto get_many(C &map, const uint64_t *keys, Value *values, size_t many, int) -> decltype(map.get_many(keys, values, many)) {
@@ -115,6 +26,17 @@ template <class C> size_t get_many(C &map, const uint64_t *keys, Value *values, 
     size_t hits = 0;
     for (size_t n = 0; n < many; n++) hits += map.get(keys[n], values[n]);
     return hits;
+}
+
+// Puts keys, by one call if the contestant has one, and returns how many are refused.
+template <class C> auto put_many(C &map, const uint64_t *keys, const Value *values, size_t many, int) -> decltype(map.put_many(keys, values, many)) {
+    return map.put_many(keys, values, many);
+}
+
+template <class C> size_t put_many(C &map, const uint64_t *keys, const Value *values, size_t many, long) {
+    size_t refused = 0;
+    for (size_t n = 0; n < many; n++) refused += !map.put(keys[n], values[n]);
+    return refused;
 }
 
 struct alignas(128) Tally {
@@ -140,6 +62,13 @@ struct alignas(128) Tally {
     template <class C> void put(C &map, uint64_t key, uint64_t word) {
         writes++;
         refused += !map.put(key, Value{word, word, word, word});
+    }
+
+    template <class C> void put_several(C &map, const uint64_t *keys, uint64_t word, size_t many) {
+        Value values[MOST];
+        for (size_t n = 0; n < many; n++) values[n] = Value{word, word, word, word};
+        writes += many;
+        refused += put_many(map, keys, values, many, 0);
     }
 
     void add(const Tally &other) {
@@ -189,19 +118,81 @@ template <class C> __attribute__((noinline)) void write_often(C &map, Keys &keys
     tally.add(some);
 }
 
+// 64 lookups, each timed by itself. A busy answer counts as a lookup.
+template <class C> __attribute__((noinline)) void time_lookups(C &map, Keys &keys, Tally &tally, Latencies &latencies) {
+    for (uint64_t n = 0; n < 64; n++) {
+        uint64_t key = keys.next();
+        Value value{};
+        uint64_t began = ticks_before();
+        bool hit = map.get(key, value);
+        // Else the compiler could copy the value after the second read of the counter.
+        asm volatile("" : "+m"(value), "+r"(hit));
+        latencies.count(ticks_after() - began);
+        tally.lookups++;
+        tally.hits += hit;
+        tally.check(value);
+    }
+}
+
+// The threads of a run begin and end together.
+struct Signals {
+    std::atomic<int> waiting;
+    std::atomic<bool> over{false};
+
+    template <class C> void enter(C &map) {
+        map.enter();
+        waiting--;
+        while (waiting) __builtin_ia32_pause();
+    }
+};
+
+static inline Keys keys_of(const Options &options, uint64_t seed) {
+    return {Draw(options.seed * 1000 + seed), options.workload == "miss" ? 1ull << 40 : 0,
+            options.workload == "half" ? 2 * options.keys : options.keys};
+}
+
+// The work of a thread whose lookups are timed one by one.
+template <class C> Tally work_timed(C &map, const Options &options, uint64_t seed, Signals &signals, Latencies &latencies) {
+    Keys keys = keys_of(options, seed);
+    Tally tally;
+    signals.enter(map);
+    double began = now(options.alone());
+    while (!signals.over) {
+        time_lookups(map, keys, tally, latencies);
+        map.tick();
+    }
+    tally.seconds = now(options.alone()) - began;
+    map.leave();
+    return tally;
+}
+
+// The work of a thread that puts several keys by each call.
+template <class C> Tally work_in_batches(C &map, const Options &options, uint64_t seed, Signals &signals) {
+    Keys keys = keys_of(options, seed);
+    Tally tally;
+    uint64_t together[MOST], many = options.together(), calls = 0;
+    signals.enter(map);
+    double began = now(options.alone());
+    while (!signals.over) {
+        for (uint64_t n = 0; n < many; n++) together[n] = keys.next();
+        tally.put_several(map, together, calls++, many);
+        map.tick();
+    }
+    tally.seconds = now(options.alone()) - began;
+    map.leave();
+    return tally;
+}
+
 // One thread's work: a reader's, or a writer's.
-template <class C> Tally work(C &map, const Options &options, uint64_t seed, bool puts, std::atomic<int> &waiting, std::atomic<bool> &over) {
-    Keys keys = {Draw(options.seed * 1000 + seed), options.workload == "miss" ? 1ull << 40 : 0,
-                 options.workload == "half" ? 2 * options.keys : options.keys};
+template <class C> Tally work(C &map, const Options &options, uint64_t seed, bool puts, Signals &signals) {
+    Keys keys = keys_of(options, seed);
     Puts due = {options.write_every};
     Tally tally;
-    uint64_t together[MOST], many = std::min<uint64_t>(options.many, MOST);
+    uint64_t together[MOST], many = options.together();
     Value values[MOST] = {};
-    map.enter();
-    waiting--;
-    while (waiting) __builtin_ia32_pause();
+    signals.enter(map);
     double began = now(options.alone());
-    while (!over) {
+    while (!signals.over) {
         if (puts) {
             write_often(map, keys, due, tally);
         } else if (many > 1) {
@@ -217,6 +208,24 @@ template <class C> Tally work(C &map, const Options &options, uint64_t seed, boo
     return tally;
 }
 
+// Prints the sums of what the threads did. The line of JSON isn't ended.
+static inline void print_sums(const Options &options, const std::vector<Tally> &tallies, uint64_t refused, double bytes) {
+    double lookups_s = 0, writes_s = 0, nanos = 0;
+    uint64_t lookups = 0, writes = 0, read = 0, torn = 0;
+    for (uint64_t n = 0; n < tallies.size(); n++) {
+        const Tally &tally = tallies[n];
+        lookups_s += tally.lookups / tally.seconds;
+        writes_s += tally.writes / tally.seconds;
+        lookups += tally.lookups;
+        writes += tally.writes;
+        torn += tally.torn;
+        refused += tally.refused;
+        if (n < options.readers) nanos += tally.seconds * 1e9, read += tally.lookups;
+    }
+    printf("{\"ns_lookup\":%.2f,\"lookups_s\":%.0f,\"writes_s\":%.0f,\"lookups\":%lu,\"writes\":%lu,\"torn\":%lu,\"refused\":%lu,\"bytes_key\":%.1f",
+        read ? nanos / read : 0, lookups_s, writes_s, lookups, writes, torn, refused, bytes / options.keys);
+}
+
 // Readers and writers over keys that were put before.
 template <class C> void beside(const Options &options) {
     double before = resident();
@@ -228,29 +237,25 @@ template <class C> void beside(const Options &options) {
     for (uint64_t n = 0; n < std::min<uint64_t>(options.keys, WARM); n++) filled.look(*map, key_of(n));
     map->leave();
     uint64_t threads = options.readers + options.writers;
-    std::atomic<int> waiting(threads);
-    std::atomic<bool> over(false);
+    Signals signals{int(threads)};
     std::vector<Tally> tallies(threads);
+    std::vector<Latencies> latencies(options.latencies ? threads : 0);
     std::vector<std::thread> workers;
+    Ruler ruler;
     for (uint64_t n = 0; n < threads; n++)
-        workers.emplace_back([&, n] { tallies[n] = work(*map, options, n, n >= options.readers, waiting, over); });
+        workers.emplace_back([&, n] {
+            bool puts = n >= options.readers;
+            if (options.latencies && !puts) tallies[n] = work_timed(*map, options, n, signals, latencies[n]);
+            else if (options.many > 1 && puts && options.write_every == 1) tallies[n] = work_in_batches(*map, options, n, signals);
+            else tallies[n] = work(*map, options, n, puts, signals);
+        });
     std::this_thread::sleep_for(std::chrono::duration<double>(options.seconds));
-    over = true;
+    signals.over = true;
     for (auto &worker : workers) worker.join();
-    double lookups_s = 0, writes_s = 0, nanos = 0;
-    uint64_t lookups = 0, writes = 0, read = 0, torn = 0, refused = filled.refused;
-    for (uint64_t n = 0; n < threads; n++) {
-        Tally &tally = tallies[n];
-        lookups_s += tally.lookups / tally.seconds;
-        writes_s += tally.writes / tally.seconds;
-        lookups += tally.lookups;
-        writes += tally.writes;
-        torn += tally.torn;
-        refused += tally.refused;
-        if (n < options.readers) nanos += tally.seconds * 1e9, read += tally.lookups;
-    }
-    printf("{\"ns_lookup\":%.2f,\"lookups_s\":%.0f,\"writes_s\":%.0f,\"lookups\":%lu,\"writes\":%lu,\"torn\":%lu,\"refused\":%lu,\"bytes_key\":%.1f}\n",
-        read ? nanos / read : 0, lookups_s, writes_s, lookups, writes, torn, refused, bytes / options.keys);
+    print_sums(options, tallies, filled.refused, bytes);
+    for (size_t n = 1; n < latencies.size(); n++) latencies[0].add(latencies[n]);
+    if (!latencies.empty()) print_latencies(latencies[0], ruler);
+    printf("}\n");
     fflush(stdout);
     _Exit(0);
 }
@@ -298,6 +303,25 @@ template <class C> void evict(const Options &options) {
     map->leave();
 }
 
+// The same by calls that put several keys.
+template <class C> void evict_in_batches(const Options &options) {
+    auto map = std::make_unique<C>(options.capacity);
+    uint64_t next = options.fresh(), together[MOST], many = options.together();
+    auto put = [&](Tally &tally, uint64_t calls) {
+        for (uint64_t call = 0; call < calls; call++) {
+            for (uint64_t n = 0; n < many; n++) together[n] = key_of(next++);
+            tally.put_several(*map, together, call, many);
+        }
+    };
+    map->enter();
+    Tally before, tally;
+    put(before, 2 * options.capacity / many);
+    double began = now(true);
+    while (now(true) - began < options.seconds) put(tally, 1000 / many);
+    report(tally.writes, tally.refused, now(true) - began, 0, 0);
+    map->leave();
+}
+
 // Fresh keys until one is refused.
 template <class C> void load(const Options &options) {
     C map(options.capacity);
@@ -312,6 +336,7 @@ template <class C> void load(const Options &options) {
 template <class C> int contest(int count, char **words) {
     Options options(count, words);
     if (options.workload == "fill") fill<C>(options);
+    else if (options.workload == "evict" && options.many > 1) evict_in_batches<C>(options);
     else if (options.workload == "evict") evict<C>(options);
     else if (options.workload == "load") load<C>(options);
     else beside<C>(options);
