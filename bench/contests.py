@@ -26,9 +26,17 @@ MAPS = {'rust_cefrodil': '`cefrodil-map`', 'rust_dashmap': 'dashmap', 'rust_lock
         'cpp_cefrodil': '`cefrodil::map`', 'cpp_libcuckoo': 'libcuckoo', 'cpp_tbb': 'TBB'}
 SHOWN.update(MAPS)
 WRITERS = ('cefrodil', 'libcuckoo', 'tbb', 'dashmap', 'locked', 'lru')
+EVICTORS = ('door', 'cefrodil', 'lru', 'twin')
+# Those that time each lookup.
+TIMED = ('door', 'libcuckoo', 'tbb', 'urcu', 'ck', 'dashmap', 'locked', 'lru')
 MANY = 32
 LARGEST = 3_774_873
 SIZES = (64, 1000, 10_000, 100_000, 1_000_000, LARGEST)
+# Of a distribution of times: the figures, and the share of lookups that take no longer.
+PERCENTILES = {'p50_ns': 0.5, 'p90_ns': 0.9, 'p99_ns': 0.99, 'p999_ns': 0.999, 'p9999_ns': 0.9999}
+# Where threads write by turns: how many keys there are, and how many calls of a thread have one write.
+TURNS_KEYS = (8, 64, 1000, 100_000)
+TURNS_EVERY = (1000, 300, 100, 30, 10, 3, 2)
 # Programs that have several contestants, or options of their own.
 PROGRAMS = {'cefrodil': ('mcbench',), 'many': ('mcbench', '--many', str(MANY)), 'shards16': ('mcbench', '--shards', '16'),
             'shards64': ('mcbench', '--shards', '64'), 'door_many': ('door', '--many', str(MANY)), 'twin': ('contest', 'twin'),
@@ -36,10 +44,11 @@ PROGRAMS = {'cefrodil': ('mcbench',), 'many': ('mcbench', '--many', str(MANY)), 
             **{name: ('maps_' + name.split('_')[0], name.split('_')[1]) for name in MAPS}}
 # The figures: their units, and how they are shown.
 UNITS = {'ns_lookup': ', ns', 'lookups_s': ', M/s', 'writes_s': ', M/s', 'load_factor': '', 'bytes_key': '', 'ns_call': ', ns',
-         'calls_s': ', M/s', 'hit_ratio': ''}
+         'calls_s': ', M/s', 'hit_ratio': '', 'busy_percent': ', %', 'empty_ns': ', ns', **dict.fromkeys(PERCENTILES, ', ns')}
 SHOW = {'ns_lookup': '{:.0f}'.format, 'load_factor': '{:.3f}'.format, 'bytes_key': '{:.0f}'.format,
         'lookups_s': lambda number: f'{number / 1e6:.1f}', 'writes_s': lambda number: f'{number / 1e6:.1f}',
-        'ns_call': '{:.0f}'.format, 'calls_s': lambda number: f'{number / 1e6:.1f}', 'hit_ratio': '{:.3f}'.format}
+        'ns_call': '{:.0f}'.format, 'calls_s': lambda number: f'{number / 1e6:.1f}', 'hit_ratio': '{:.3f}'.format,
+        'busy_percent': '{:.2g}'.format, 'empty_ns': '{:.0f}'.format, **dict.fromkeys(PERCENTILES, '{:,.0f}'.format)}
 
 
 class Row(NamedTuple):
@@ -70,14 +79,25 @@ def lookups(workload, keys, huge=False, many=False):
     return [row] + [batch] * many
 
 
+def writes(label, workload, keys, names):
+    """The row of one writer alone."""
+    return Row(f'{label}, {keys:,} keys', 'writes_s', options(workload, keys, ' --readers 0 --writers 1'), names)
+
+
+def writes_in_batches(label, workload, keys, names):
+    """The same, and a row of calls for many keys, which only the library for C has here."""
+    row = writes(label, workload, keys, names)
+    return [row, row._replace(label=f'{row.label}, {MANY} keys per call', names=('door',), by=(('door', 'door_many'),))]
+
+
 def peers():
     alone, beside = ' --readers 0 --writers 1', options('mixed', 100_000, ' --readers 3 --writers 1')
     rows = [row for workload in ('hit', 'half', 'miss') for keys in (1000, 100_000) for row in lookups(workload, keys)]
     rows.append(Row('three readers, 64 keys', 'lookups_s', options('hit', 64, ' --readers 3')))
     rows.append(Row('three readers beside a writer, 100,000 keys: reads', 'lookups_s', beside))
     rows.append(Row('three readers beside a writer, 100,000 keys: writes', 'writes_s', beside))
-    for label, workload, names in ('overwrite', 'mixed', ALL), ('fill', 'fill', ALL), ('evict', 'evict', ('door', 'cefrodil', 'lru', 'twin')):
-        rows += [Row(f'{label}, {keys:,} keys', 'writes_s', options(workload, keys, alone), names) for keys in (1000, 100_000)]
+    for label, workload, names in ('overwrite', 'mixed', ALL), ('fill', 'fill', ALL), ('evict', 'evict', EVICTORS):
+        rows += [writes(label, workload, keys, names) for keys in (1000, 100_000)]
     rows.append(Row('load factor at the first refusal', 'load_factor', options('load', 100_000, alone), ('cefrodil', 'libcuckoo', 'twin')))
     rows.append(Row('bytes per key, 100,000 keys', 'bytes_key', options('fill', 100_000, alone)))
     return rows
@@ -85,7 +105,10 @@ def peers():
 
 def large(huge):
     rows = [row for workload in ('hit', 'half', 'miss') for row in lookups(workload, 1_000_000, huge, True) if workload == 'hit' or not huge]
-    return rows + lookups('hit', LARGEST, huge, True)
+    rows += lookups('hit', LARGEST, huge, True)
+    if huge:
+        return rows
+    return rows + writes_in_batches('overwrite', 'mixed', 1_000_000, ALL) + writes_in_batches('evict', 'evict', 1_000_000, EVICTORS)
 
 
 def turns():
@@ -95,11 +118,11 @@ def turns():
             run = options('mixed', keys, f' --readers 0 --writers {threads} --write-every {every}')
             calls = f'{threads} threads, {keys:,} keys, one write in {every}'
             rows.append(Row(f'{calls}: writes by turns', 'writes_s', run, WRITERS))
-            rows.append(Row('the same: lookups', 'lookups_s', run, WRITERS))
+            rows.append(Row('lookups', 'lookups_s', run, WRITERS))
             for many in 16, 64:
                 by = (('cefrodil', f'shards{many}'),)
-                rows.append(Row(f'the same: writes with {many} shards', 'writes_s', run, ('cefrodil',), by))
-            rows.append(Row('the same: lookups with 64 shards', 'lookups_s', run, ('cefrodil',), by))
+                rows.append(Row(f'writes, {many} shards', 'writes_s', run, ('cefrodil',), by))
+            rows.append(Row('lookups, 64 shards', 'lookups_s', run, ('cefrodil',), by))
     return rows
 
 
@@ -133,12 +156,26 @@ def calls(label, run, threads, role='--readers'):
     return Row(f'{label}, {by}', figure, f'{run} {role} {threads}', tuple(MAPS))
 
 
+def latencies():
+    """How long the lookups of three readers take beside a writer, by percentiles. An empty measurement is the last row."""
+    run = options('mixed', 100_000, ' --readers 3 --writers 1 --latencies 1')
+    rows = [Row(f'{100 * share:g} % of the lookups take at most', figure, run, TIMED) for figure, share in PERCENTILES.items()]
+    return rows + [Row('an empty measurement', 'empty_ns', run, TIMED)]
+
+
+def shares():
+    """How many lookups are busy where four threads write by turns, each in one of so many calls."""
+    run = '--readers 0 --writers 4 --write-every'
+    return [Row(f'{keys:,} keys, one write in {every}: busy lookups', 'busy_percent', options('mixed', keys, f' {run} {every}'), ('cefrodil',))
+            for keys in TURNS_KEYS for every in TURNS_EVERY]
+
+
 def sizes():
     return [lookups('hit', keys)[0] for keys in SIZES]
 
 
 BENCHES = {'peers': peers(), 'large': large(False), 'huge': large(True), 'turns': turns(), 'threads': threads(), 'sizes': sizes(),
-           'maps': maps()}
+           'maps': maps(), 'latencies': latencies(), 'shares': shares()}
 
 
 def alone(run):
@@ -194,7 +231,10 @@ def read(path):
 
 def values(told, row, name):
     """A contestant's figures in the rounds."""
-    return [each[row.figure] for each in told[row.options, row.huge, row.program(name)].values()]
+    rounds = told[row.options, row.huge, row.program(name)].values()
+    if row.figure == 'busy_percent':
+        return [100 * each['busy'] / each['lookups'] for each in rounds]
+    return [each[row.figure] for each in rounds]
 
 
 def quartiles(numbers):
@@ -212,7 +252,7 @@ def cell(told, row, name):
 
 
 def table(bench, told):
-    names = {'turns': WRITERS, 'maps': tuple(MAPS)}.get(bench, ALL)
+    names = {'turns': WRITERS, 'maps': tuple(MAPS), 'latencies': TIMED, 'shares': ('cefrodil',)}.get(bench, ALL)
     lines = ['| | ' + ' | '.join(SHOWN[name] for name in names) + ' |', '|---' * (len(names) + 1) + '|']
     for row in BENCHES[bench]:
         lines.append(f'| {row.title()} | ' + ' | '.join(cell(told, row, name) for name in names) + ' |')

@@ -7,7 +7,7 @@ items, which are never asked for again. Hits are counted among the lookups of dr
 
 mcstep plays all calls. A model of its hand says which of them are puts, and every answer of mcstep is compared with it.
 
-Then it draws the plot docs/plots/hits.svg: the hits at skew 0.99 without scans, over the number of items.
+It prints a table of the hits in percent. Then it draws the plot docs/plots/hits.svg: the hits at skew 0.99 without scans, over the number of items.
 
 usage: bench/hit_ratios.py [PROGRAM]     PROGRAM: the mcstep to ask; none: crates/mcstep/out/mcstep
 """
@@ -166,11 +166,11 @@ def main(arguments):
     program = arguments[0] if arguments else os.path.join(TOP, 'crates/mcstep/out/mcstep')
     if not os.access(program, os.X_OK):
         sys.exit(f'hit_ratios.py: there is no program {program}; to build it: (cd crates/mcstep && rt run < stdin)')
-    print('| skew | items | scans | Cefrodil | LRU | FIFO | random |')
+    print('|skew|items|scans|Cefrodil|LRU|FIFO|random|')
     print('|---|---|---|---|---|---|---|')
     for skew, items, scans in itertools.product((0.7, 0.99), (KEYS // 100, KEYS // 10), (False, True)):
-        cells = ' | '.join(f'{100 * each:.1f} %' for each in ratios(program, skew, items, scans).values())
-        print(f'| {skew} | {items} | {"yes" if scans else "no"} | {cells} |', flush=True)
+        cells = '|'.join(f'{100 * each:.1f}' for each in ratios(program, skew, items, scans).values())
+        print(f'|{skew}|{items}|{"yes" if scans else "no"}|{cells}|', flush=True)
     draw(program)
 
 
