@@ -157,7 +157,7 @@ def calls(label, run, threads, role='--readers'):
 
 
 def latencies():
-    """How long the lookups of three readers take beside a writer, by percentiles. An empty measurement is the last row."""
+    """How long the lookups of three readers take beside a writer, by percentiles. The last row is a measurement of nothing."""
     run = options('mixed', 100_000, ' --readers 3 --writers 1 --latencies 1')
     rows = [Row(f'{100 * share:g} % of the lookups take at most', figure, run, TIMED) for figure, share in PERCENTILES.items()]
     return rows + [Row('an empty measurement', 'empty_ns', run, TIMED)]
@@ -229,6 +229,11 @@ def read(path):
     return told
 
 
+def is_measured(told, row):
+    """Whether all contestants of the row ran. An earlier tree had fewer rows."""
+    return all((row.options, row.huge, row.program(name)) in told for name in row.names)
+
+
 def values(told, row, name):
     """A contestant's figures in the rounds."""
     rounds = told[row.options, row.huge, row.program(name)].values()
@@ -254,7 +259,7 @@ def cell(told, row, name):
 def table(bench, told):
     names = {'turns': WRITERS, 'maps': tuple(MAPS), 'latencies': TIMED, 'shares': ('cefrodil',)}.get(bench, ALL)
     lines = ['| | ' + ' | '.join(SHOWN[name] for name in names) + ' |', '|---' * (len(names) + 1) + '|']
-    for row in BENCHES[bench]:
+    for row in filter(lambda row: is_measured(told, row), BENCHES[bench]):
         lines.append(f'| {row.title()} | ' + ' | '.join(cell(told, row, name) for name in names) + ' |')
     return '\n'.join(lines)
 

@@ -213,7 +213,7 @@ def plots():
 def draw_all(path, folder):
     told = contests.read(path)
     for plot in plots():
-        if all((row.options, row.huge, row.program(name)) in told for _, _, row, name in points_of(plot)):
+        if all(contests.is_measured(told, row) for _, _, row, _ in points_of(plot)):
             lines = lines_of(plot, told)
             if not lines:
                 # A run that is too short finds no lookup busy.
