@@ -319,8 +319,9 @@ CEFRODIL_CHECKED CEFRODIL_NO_NULL cefrodil_status cefrodil_leave_desk(cefrodil_h
  * OK: the number is set. CLOSED, KIND: it is unchanged. */
 CEFRODIL_CHECKED CEFRODIL_NO_NULL cefrodil_status cefrodil_moment(cefrodil_handle *writer, uint64_t *moment);
 
-/* The number of keys in the table, by the writer, or by a pass of a desk, which tries once for the turn. It does not look through the table.
- * OK: `len` is set. HELD: the try did not win. CLOSED; KIND: also by a pass of shards. Unless OK, `len` is unchanged. */
+/* The number of keys in the table, by the writer or a pass, which tries once for the turn. It does not look through the table. A pass of
+ * shards tries once for the turn of each, and adds up numbers of several moments.
+ * OK: `len` is set. HELD: a try did not win. CLOSED, KIND. Unless OK, `len` is unchanged. */
 CEFRODIL_CHECKED CEFRODIL_NO_NULL cefrodil_status cefrodil_len(cefrodil_handle *handle, uint64_t *len);
 
 /* The number of keys that the cache holds at most: the `items` of its shape, times the shards if there are any. By any handle.
@@ -330,7 +331,7 @@ CEFRODIL_CHECKED CEFRODIL_NO_NULL cefrodil_status cefrodil_capacity(cefrodil_han
 /* Lists each key with its value, by the writer or a pass. A pass tries once for the turn, and a pass of shards once for that of each
  * shard, so it lists each shard at a moment of its own. An entry is its key, then the words of its value, as cefrodil_open_with
  * takes it. Readers may work meanwhile. This call takes memory for the whole list, and frees it. To ask for the number of entries, pass 0
- * as `entry_words`: that takes no memory by the writer or a pass of a desk.
+ * as `entry_words`: that takes no memory.
  * OK: the first `count` entries of `entries` are written. BAD_COUNT: there are `count` entries, and `entry_words` is less than
  * `count` times (1 + the words of a value). HELD: a try did not win. CLOSED, KIND, NO_MEMORY. Unless OK, `entries` is unchanged. With
  * other statuses than OK and BAD_COUNT, `count` is unchanged too. */
@@ -339,7 +340,7 @@ CEFRODIL_CHECKED CEFRODIL_NO_NULL cefrodil_status cefrodil_entries(cefrodil_hand
 
 /* Lists each entry with its stamp, by the writer or a pass of a desk. An entry is its key, then the words of its value, then the moment
  * of the key's last put (`since`): 2 + the words of a value.
- * OK, BAD_COUNT, HELD, CLOSED, NO_MEMORY: as by cefrodil_entries. KIND: also by a pass of shards. */
+ * OK, BAD_COUNT, HELD, CLOSED, NO_MEMORY: as by cefrodil_entries; never NO_MEMORY if `entry_words` is 0. KIND: also by a pass of shards. */
 CEFRODIL_CHECKED CEFRODIL_NO_NULL cefrodil_status cefrodil_stamped_entries(cefrodil_handle *handle, uint64_t *entries, size_t entry_words,
                                                                            uint64_t *count);
 
@@ -515,7 +516,7 @@ CEFRODIL_CHECKED CEFRODIL_INLINE cefrodil_status cefrodil_put_many_or_none(cefro
                              answer_count != 0 ? answers : &no_answer, answer_count);
 }
 
-/* Counts the entries for a list that has no room, by the writer or a pass of a desk, and makes no list. KIND: by another handle. */
+/* Counts the entries for a list that has no room, by the writer or a pass, and makes no list. KIND: by another handle. */
 CEFRODIL_CHECKED CEFRODIL_INLINE cefrodil_status cefrodil_list_without_room(cefrodil_handle *handle, uint64_t *count) {
     const cefrodil_status status = cefrodil_len(handle, count);
     return status == CEFRODIL_OK && *count != 0 ? CEFRODIL_BAD_COUNT : status;
@@ -523,26 +524,14 @@ CEFRODIL_CHECKED CEFRODIL_INLINE cefrodil_status cefrodil_list_without_room(cefr
 
 CEFRODIL_CHECKED CEFRODIL_INLINE cefrodil_status cefrodil_entries_or_none(cefrodil_handle *handle, uint64_t *entries, size_t entry_words,
                                                                           uint64_t *count) {
-    uint64_t no_entry = 0;
-    if (entry_words == 0) {
-        cefrodil_status status = cefrodil_list_without_room(handle, count);
-        if (status != CEFRODIL_KIND) {
-            return status;
-        }
-    }
-    return cefrodil_entries(handle, entry_words != 0 ? entries : &no_entry, entry_words, count);
+    return entry_words != 0 ? cefrodil_entries(handle, entries, entry_words, count) : cefrodil_list_without_room(handle, count);
 }
 
 CEFRODIL_CHECKED CEFRODIL_INLINE cefrodil_status cefrodil_stamped_entries_or_none(cefrodil_handle *handle, uint64_t *entries,
                                                                                   size_t entry_words, uint64_t *count) {
     uint64_t no_entry = 0;
-    if (entry_words == 0) {
-        cefrodil_status status = cefrodil_list_without_room(handle, count);
-        if (status != CEFRODIL_KIND) {
-            return status;
-        }
-    }
-    return cefrodil_stamped_entries(handle, entry_words != 0 ? entries : &no_entry, entry_words, count);
+    const cefrodil_status status = cefrodil_stamped_entries(handle, entry_words != 0 ? entries : &no_entry, entry_words, count);
+    return entry_words == 0 && status == CEFRODIL_NO_MEMORY ? cefrodil_list_without_room(handle, count) : status;
 }
 
 #ifndef CEFRODIL_NO_MACROS

@@ -186,7 +186,7 @@ template <size_t Words> class Pass : public Lookups<Words> {
         }
         return status;
     }
-    // The number of keys, in a turn at a desk. It is held if the try does not win.
+    // The number of keys, in a turn, or for shards in a turn at each. It is held if a try does not win.
     [[nodiscard]] Status try_len(uint64_t &number) noexcept { return this->tried(cefrodil_len(this->raw(), &number)); }
     // Like Writer::entries, but `words` takes room for `capacity` entries, so that one turn is enough. It is held if a try for a turn does not win.
     [[nodiscard]] Status try_entries(std::vector<uint64_t> &words) noexcept {

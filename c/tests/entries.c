@@ -201,7 +201,9 @@ static void stamped_by_turns(void) {
         MUST(cefrodil_put(&readers[0], 5, &value, 1, &reply) == CEFRODIL_OK);
         if (of_shards) {
             MUST(cefrodil_stamped_entries(&readers[1], list, 3, &count) == CEFRODIL_KIND && count == 98 && list[0] == 99);
+            MUST(cefrodil_stamped_entries(&readers[1], NULL, 0, &count) == CEFRODIL_KIND && count == 98);
         } else {
+            MUST(cefrodil_stamped_entries(&readers[1], NULL, 0, &count) == CEFRODIL_BAD_COUNT && count == 1);
             MUST(cefrodil_stamped_entries(&readers[1], list, 2, &count) == CEFRODIL_BAD_COUNT && count == 1 && list[0] == 99);
             MUST(cefrodil_stamped_entries(&readers[1], list, 3, &count) == CEFRODIL_OK && count == 1);
             MUST(list[0] == 5 && list[1] == 7 && list[2] == 2);

@@ -113,7 +113,7 @@ static int counts(cefrodil_handle *lister, bool of_shards) {
     left = 0;
     uint32_t status = cefrodil_entries(lister, NULL, 0, &count), stamped = cefrodil_stamped_entries(lister, NULL, 0, &stamped_count);
     left = -1;
-    return of_shards ? status == CEFRODIL_NO_MEMORY && stamped == CEFRODIL_KIND && count == 98 && stamped_count == 98
+    return of_shards ? status == CEFRODIL_BAD_COUNT && stamped == CEFRODIL_KIND && count == 1 && stamped_count == 98
                      : status == CEFRODIL_BAD_COUNT && stamped == CEFRODIL_BAD_COUNT && count == 1 && stamped_count == 1;
 }
 

@@ -95,13 +95,15 @@ static void start_empty(size_t words) {
         MUST(answers[i].status == CEFRODIL_ABSENT && answers[i].at == 0);
     }
     MUST(cefrodil_entries(&passes[1], list, 9 * KEYS, &count) == CEFRODIL_OK && count == 0);
+    count = 99;
+    MUST(cefrodil_len(&passes[1], &count) == CEFRODIL_OK && count == 0);
 }
 
 /* Keys of all shards, each with its key for a value. One shard alone counts its changes: with n shards no moment is n times as high. */
 static void many_keys(uint32_t shards, size_t words) {
     static uint64_t keys[KEYS], values[8 * KEYS];
     static cefrodil_answer answers[KEYS];
-    uint64_t last = 0;
+    uint64_t last = 0, count = 99;
     MUST(cefrodil_open_shards(&shape, shards, words, passes, 2) == CEFRODIL_OK);
     start_empty(words);
     for (uint64_t key = 0; key < KEYS; key++) {
@@ -111,6 +113,8 @@ static void many_keys(uint32_t shards, size_t words) {
         last = reply.at > last ? reply.at : last;
     }
     MUST(shards == 1 ? last == KEYS : last < KEYS / 2);
+    MUST(cefrodil_len(&passes[0], &count) == CEFRODIL_OK && count == KEYS && cefrodil_len(&passes[1], &count) == CEFRODIL_OK && count == KEYS);
+    MUST(cefrodil_entries_or_none(&passes[0], NULL, 0, &count) == CEFRODIL_BAD_COUNT && count == KEYS);
     MUST(cefrodil_get_many(&passes[0], keys, KEYS, values, words * KEYS, answers, KEYS) == CEFRODIL_OK);
     for (size_t i = 0; i < KEYS; i++) {
         MUST(answers[i].status == CEFRODIL_OK && answers[i].since <= answers[i].at && answers[i].at <= last);

@@ -189,20 +189,21 @@ impl<const WORDS: usize> Pass<'_, WORDS> {
         reply::turn(told, |told| Replaced::of(key, old, told))
     }
 
-    /// The number of keys in the cache, in a turn.
+    /// The number of keys in the cache, in a turn. A pass of shards counts each shard in a turn of its own, so it adds up numbers of
+    /// several moments.
     ///
     /// # Errors
     ///
-    /// [`TurnError::Held`]: the try for the turn did not win. `Call` with [`ListError::OfShards`]: this is a pass of shards, and no call
-    /// sees several shards at one moment.
+    /// [`TurnError::Held`]: a try for a turn did not win.
     ///
     /// ```
-    /// use cefrodil::{Desk, ListError, Shape, Shards, TurnError};
+    /// use cefrodil::{Desk, Shape, Shards};
     ///
     /// let desk = Desk::<1>::open(&Shape::for_items(100)?, 1)?;
     /// assert_eq!(desk.pass().expect("there is a pass").try_len()?, 0);
     /// let mut shards = Shards::<1>::open(&Shape::for_shards(100, 4)?, 4, 1)?;
-    /// assert_eq!(shards[0].try_len(), Err(TurnError::Call(ListError::OfShards)));
+    /// shards[0].try_put(1, &[10])?;
+    /// assert_eq!(shards[0].try_len()?, 1);
     /// # Ok::<(), Box<dyn std::error::Error>>(())
     /// ```
     pub fn try_len(&mut self) -> Result<usize, TurnError<ListError>> {

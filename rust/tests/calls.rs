@@ -76,7 +76,13 @@ fn passes_list_stamps() -> Result<(), Box<dyn Error>> {
     assert_eq!(pass.try_stamped_entries(), Ok(vec![Entry { key: 7, value: [71], since: 2 }]));
     let mut shards = Shards::<1>::open(&Shape::for_shards(500, 8)?, 8, 1)?;
     assert_eq!(shards[0].try_stamped_entries(), Err(TurnError::Call(ListError::OfShards)));
-    assert_eq!(shards[0].try_len(), Err(TurnError::Call(ListError::OfShards)));
+    for key in 0..300 {
+        assert_eq!(shards[0].try_len(), Ok(key as usize));
+        shards[0].try_put(key, &[key])?;
+    }
+    shards[0].try_put(7, &[8])?;
+    shards[0].try_remove(9)?;
+    assert_eq!(shards[0].try_len(), Ok(299));
     Ok(())
 }
 

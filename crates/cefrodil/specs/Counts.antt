@@ -28,7 +28,7 @@ TellsCount (Err why.Held) old new status = (status ≡ HELD) × (new ≡ old)
 pub record HasCountedKeys (h h' : Held) (old new status : ℕ) : Type 0 where
   pub width : width_of h' ≡ width_of h
   pub made : Result ℕ CountError
-  pub is : MatchResult made (Counts (width_of h) (role_in h) (role_in h')) (RefusesCount (role_in h) (role_in h'))
+  pub is : MatchResult made (Counts (width_of h) (role_in h) (role_in h')) (RefusesCount (width_of h) (role_in h) (role_in h'))
   pub told : TellsCount made old new status
 
 abbrev pub LenGives : Option Held → Option Held → ℕ → ℕ → ℕ → Type 0

@@ -63,7 +63,8 @@ fn tell_count(counted: Result<u64, CountError>, number: &mut u64) -> u32
     }
 }
 
-/// How many keys the cache holds, by the writer's handle, or by a pass at a desk in a turn.
+/// How many keys the cache holds, by the writer's handle, or by a pass in a turn: one of shards in a turn at each, so it adds numbers of
+/// several moments.
 #[tactic(auto, using(crate::proofs::Gives::gives_open, crate::proofs::Gives::gives_closed))]
 #[unsafe(no_mangle)]
 pub extern "C" fn cefrodil_len(handle: &mut Slot, len: &mut u64) -> u32

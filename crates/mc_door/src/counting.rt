@@ -1,22 +1,25 @@
-//! The keys are counted, by the writer, or by a pass at a desk in a turn.
+//! The keys are counted, by the writer, or by a pass in a turn: one of shards in a turn at each.
 ghost use Rattle.std.specs.Prelude.{◌≡◌, IfNone, IfSome, MatchResult};
 ghost use Rattle.mc_words.specs.History.{key_count};
 ghost use Rattle.mc_cache.specs.Plain.{Begins, seen};
 ghost use Rattle.mc_door.specs.Counting.{Counts, RefusesCount};
 ghost use Rattle.mc_door.specs.Held.{role_in, width_of};
 ghost use Rattle.mc_door.specs.Roles.{role_of};
+ghost use Rattle.mc_shards.specs.Counted.{keys_in_all};
+ghost use Rattle.mc_shards.specs.Plain.{AllBegin, seens};
 
 use crate::held::Held;
 use crate::pass_side::PassSide;
+use crate::shard_side::ShardSide;
 use crate::side::Side;
 use crate::with_side;
 
-/// Why the keys were not counted. Nothing was done.
+/// Why the keys were not counted.
 #[derive(Clone, Copy, Debug, PartialEq, Eq)]
 pub enum CountError {
     /// A side of this kind counts none.
     Kind,
-    /// The try for the turn did not win.
+    /// The try for a turn did not win.
     Held,
 }
 
@@ -31,14 +34,25 @@ impl<const V: usize> PassSide<V> {
     }
 }
 
+impl<const V: usize> ShardSide<V> {
+    fn try_len(&mut self) -> Option<usize>
+        ensures of { self.new.shards.value ≡ self.old.shards.value }
+        ensures begins { AllBegin (seens V self.old.pass) (seens V self.new.pass) }
+        ensures plain { IfSome result (λ many. many ≡ keys_in_all (seens V self.new.pass)) }
+    {
+        self.pass.try_len(&self.shards)
+    }
+}
+
 impl<const V: usize> Side<V> {
     fn len(&mut self) -> Result<u64, CountError>
-        ensures { MatchResult result (Counts V (role_of self.old) (role_of self.new)) (RefusesCount (role_of self.old) (role_of self.new)) }
+        ensures { MatchResult result (Counts V (role_of self.old) (role_of self.new)) (RefusesCount V (role_of self.old) (role_of self.new)) }
     {
         let counted = match self {
             Side::Writer(side) => Some(side.writer.len()),
             Side::Pass(side) => side.try_len(),
-            _ => return Err(CountError::Kind),
+            Side::Shard(side) => side.try_len(),
+            Side::Reader(_) | Side::Nothing => return Err(CountError::Kind),
         };
         match counted {
             Some(many) => Ok(many as u64),
@@ -48,10 +62,10 @@ impl<const V: usize> Side<V> {
 }
 
 impl Held {
-    /// How many keys the cache holds: `Writer::len`, or `Desk::try_len` by a pass at a desk.
+    /// How many keys the cache holds: `Writer::len`, or `Desk::try_len` or `Pass::try_len` by a pass.
     pub fn len(&mut self) -> Result<u64, CountError>
         ensures width { width_of self.new ≡ width_of self.old }
-        ensures counted { MatchResult result (Counts (width_of self.old) (role_in self.old) (role_in self.new)) (RefusesCount (role_in self.old) (role_in self.new)) }
+        ensures counted { MatchResult result (Counts (width_of self.old) (role_in self.old) (role_in self.new)) (RefusesCount (width_of self.old) (role_in self.old) (role_in self.new)) }
     {
         with_side!(self, side => side.len())
     }

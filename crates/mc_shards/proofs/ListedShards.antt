@@ -23,7 +23,7 @@ use Rattle.mc_shards.specs.Sharded.{ArePassOf, ChangesAt, Sharded}
 use Rattle.mc_shards.specs.Unlisted.{HasNotListed, HasStopped}
 
 -- ---- lists
-drop_all : {A : Type 0} (xs : List A) (n : ℕ) → n ≡ length xs → drop n xs ≡ []
+pub drop_all : {A : Type 0} (xs : List A) (n : ℕ) → n ≡ length xs → drop n xs ≡ []
 drop_all [] zero l = refl
 drop_all [] (suc n) l = absurd (omega (arith, l))
 drop_all (x ∷ xs) zero l = absurd (omega (arith, l))
@@ -34,6 +34,13 @@ drop_set [] n y l = absurd (omega (arith, l))
 drop_set (x ∷ xs) zero y l = refl
 drop_set (x ∷ xs) (suc n) y l = drop_set xs n y (omega (arith, l))
 
+-- a list from the place of a change on
+pub from_change : {A : Type 0} (m n : ℕ) (xs ys : List A) (Goes : A → A → Type 0) → m ≡ n + 1 → (c : ChangesAt n xs ys Goes) → drop n ys ≡ c.after ∷ drop m xs
+from_change {A} m n xs ys Goes next c =
+    let within : n < length xs = slice_get_within xs n c.before c.was in
+    let same : suc n ≡ m = omega (arith, next) in
+    ap (λ (z : List A). drop n z) c.is ∙ (drop_set xs n c.after within ∙ ap (λ (k : ℕ). c.after ∷ drop k xs) same)
+
 -- ---- before the first, after one more, after all
 pub listed_none : (V : ℕ) (s : Sharded) (rs : List ReaderRecord) (n : ℕ) → ArePassOf s rs → n ≡ length s.tables → AreListed V s.shape.mix (length s.tables) n (drop n (seens V rs)) []
 listed_none V s rs n are is =
@@ -43,9 +50,7 @@ listed_none V s rs n are is =
 pub listed_more : (V : ℕ) (mix : Mix) (many m n : ℕ) (hs hs' : List (List (Change V))) (es es' : List (ℕ × List ℕ)) → m ≡ n + 1 → AreListed V mix many m (drop m hs) es
     → ChangesAt n hs hs' (λ h h'. AddsShard V mix many n h' es es') → AreListed V mix many n (drop n hs') es'
 listed_more V mix many m n hs hs' es es' next l c =
-    let within : n < length hs = slice_get_within hs n c.before c.was in
-    let same : suc n ≡ m = omega (arith, next) in
-    let after : drop n hs' ≡ c.after ∷ drop m hs = ap (λ (z : List (List (Change V))). drop n z) c.is ∙ (drop_set hs n c.after within ∙ ap (λ (k : ℕ). c.after ∷ drop k hs) same) in
+    let after : drop n hs' ≡ c.after ∷ drop m hs = from_change m n hs hs' _ next c in
     let rest : AreListed V mix many (n + 1) (drop m hs) es = subst (λ (k : ℕ). AreListed V mix many k (drop m hs) es) next l in
     subst (λ (z : List (List (Change V))). AreListed V mix many n z es') (sym after) (es, rest, c.goes)
 

@@ -6,6 +6,7 @@ pub mod Loadings
 pub mod OneMap
 pub mod Spread
 pub mod Sizing
+pub mod Counted
 pub mod Unlisted
 pub mod Lending
 pub mod Inside

@@ -1,4 +1,4 @@
--- Why the entries of shards are not listed.
+-- Why the entries of shards are not listed, and their keys not counted.
 use Rattle.std.specs.Prelude.{ℕ, ◌≡◌, List, Some, slice_get}
 use Rattle.mc_words.specs.declared.no_memory.NoMemory.{NoMemory}
 use Rattle.mc_shared.specs.Records.{ReaderRecord}
@@ -12,7 +12,7 @@ abbrev pub HasNotListed : (V : ℕ) → DeskError NoMemory → ReaderRecord → 
 HasNotListed V desk.Held r r' = r' ≡ r
 HasNotListed V (desk.Call why) r r' = HasMetAtDesk V r r'
 
--- one of the shards was not listed for this reason
+-- one of the shards was not listed, or not counted, for this reason
 pub record HasStopped (V : ℕ) (rs rs' : List ReaderRecord) (why : DeskError NoMemory) : Type 0 where
   pub shard : ℕ
   pub before : ReaderRecord

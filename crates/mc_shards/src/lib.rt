@@ -18,6 +18,7 @@
 #![tactic(auto)]
 
 mod closing;
+mod counting;
 pub mod laws;
 mod lending;
 mod listing;

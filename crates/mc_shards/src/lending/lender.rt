@@ -1,9 +1,11 @@
 //! The writer of a shard, lent in place by turns that are tried for once.
-ghost use Rattle.std.specs.Prelude.{◌≡◌, IfNone, IfOk, IfSome};
+ghost use Rattle.std.specs.Prelude.{◌≡◌, ◌≤◌, IfNone, IfOk, IfSome};
 
 use super::{FREE, LiesThere, WORDS, give, take};
 use atomic_table::Table;
-use mc_cache::turn::{TurnCall, get_in_turn, list_in_turn, make_in_turn, peek_in_turn};
+use mc_cache::turn::{
+    TurnCall, count_in_turn, get_in_turn, list_in_turn, make_in_turn, peek_in_turn,
+};
 use mc_cache::{Cache, DeskError, NoMemory, Reader, Reply, Writer};
 use std::alloc::{AllocError, Global};
 use std::marker::Model;
@@ -31,6 +33,7 @@ impl<const V: usize> Lender<V> {
     ghost use Rattle.mc_cache.specs.Failing.{TurnFails, versions_seen};
     ghost use Rattle.mc_cache.specs.Plain.{AreEntriesOf, Begins, HasAnswered, PeekMeans, TurnMeans, seen};
     ghost use Rattle.mc_cache.specs.Turns.{HasLookedInTurn, HasLookedOrMet, HasTriedTo, HasTriedToList, HasTriedToPeek};
+    ghost use Rattle.mc_words.specs.History.{key_count};
 
     /// A place for the writer.
     pub fn new(alloc: Global, writer: Writer<V>) -> Result<Lender<V>, AllocError>
@@ -91,6 +94,23 @@ impl<const V: usize> Lender<V> {
         let listed = list_in_turn(alloc, cache, pass, turn.seat.slot_mut(shared, 0));
         give(shared, turn);
         listed
+    }
+
+    /// Tries once for the turn, and with it counts the keys that the cache holds: at most its items. `None` if the try did not win. The
+    /// pass has then seen all changes that led to this number. Condition: the pass belongs to this cache, and the cache is the writer's.
+    pub fn try_len(&self, cache: &Cache<V>, pass: &mut Reader<V>) -> Option<usize>
+        requires of { (self.now ≡ cache.now) × (pass.old.of ≡ cache.now) }
+        ensures of { pass.new.of ≡ pass.old.of }
+        ensures held { IfNone result (pass.new ≡ pass.old) }
+        ensures begins { Begins (seen V pass.old) (seen V pass.new) }
+        ensures plain { IfSome result (λ many. many ≡ key_count (seen V pass.new)) }
+        ensures few { IfSome result (λ many. many ≤ cache.now.layout.shape.items) }
+    {
+        let shared = &self.table.shared;
+        let mut turn = take(shared)?;
+        let many = count_in_turn(cache, pass, turn.seat.slot_mut(shared, 0));
+        give(shared, turn);
+        Some(many)
     }
 
     /// Tries once for the turn, and with it calls `Writer::peek`. `None` if the try did not win. The pass has then seen all changes that
