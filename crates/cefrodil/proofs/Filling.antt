@@ -5,19 +5,19 @@ use Rattle.std.proofs.lemmas.List.Elements.{AllWithin-more_set, All-from_all_wit
 use mathlib.Core.Bool.{Bool}
 use mathlib.Core.Option.{Option, some}
 use Rattle.mc_shared.specs.Records.{Opening}
-use Rattle.mc_door.specs.Held.{role_in, width_of}
+use Rattle.mc_door.specs.AnySides.{role_in, width_of}
 use Rattle.mc_door.specs.NewSides.{IsNewSide, count_in, has_desk_in, opening_in, width_in}
-use Rattle.mc_door.specs.declared.held.Held.{Held}
+use Rattle.mc_door.specs.declared.any_side.AnySide.{AnySide}
 use Rattle.mc_door.specs.declared.rest.Rest.{Rest}
 use Rattle.cefrodil.specs.Inside.Filling.{HasPlacesTo, IsFilledTo, IsOpen}
 use Rattle.cefrodil.specs.Open.{kept}
 use Rattle.cefrodil.specs.Openings.{IsNewAt, Keeps}
-use Rattle.cefrodil.specs.declared.slot.Slot.{Slot}
+use Rattle.cefrodil.specs.declared.raw_handle.RawHandle.{RawHandle}
 
-pub keeps : (P : Held → Type 0) (b : Option Held) (h : Held) → b ≡ some h → P h → Keeps P b
+pub keeps : (P : AnySide → Type 0) (b : Option AnySide) (h : AnySide) → b ≡ some h → P h → Keeps P b
 keeps P b h is holds = subst (Keeps P) (sym is) holds
 
-pub filled_more : (Waits : Slot → Type 0) (first rest rest' : Rest) (slots : List Slot) (n : ℕ) (slot : Slot) (held : Held) → IsFilledTo Waits first rest slots n → n < length slots
+pub filled_more : (Waits : RawHandle → Type 0) (first rest rest' : Rest) (slots : List RawHandle) (n : ℕ) (slot : RawHandle) (held : AnySide) → IsFilledTo Waits first rest slots n → n < length slots
     → opening_in rest' ≡ opening_in rest → has_desk_in rest' ≡ has_desk_in rest → width_in rest' ≡ width_in rest → kept slot ≡ some held
     → width_of held ≡ width_in rest → IsNewSide (opening_in rest) (has_desk_in rest) (role_in held) → count_in rest ≡ count_in rest' + 1
     → IsFilledTo Waits first rest' (set slots n slot) (n + 1)
@@ -33,17 +33,17 @@ filled_more Waits first rest rest' slots n slot held f lt opening desk width is 
       rw get_or-set_other (f.waiting k d (omega arith) within);
 }
 
-pub all_filled : (Waits : Slot → Type 0) (first rest : Rest) (slots : List Slot) (n : ℕ) → IsFilledTo Waits first rest slots n → n ≡ length slots
+pub all_filled : (Waits : RawHandle → Type 0) (first rest : Rest) (slots : List RawHandle) (n : ℕ) → IsFilledTo Waits first rest slots n → n ≡ length slots
     → All (IsNewAt (opening_in first) (has_desk_in first) (width_in first)) slots
 all_filled Waits first rest slots n f end =
     All-from_all_within (IsNewAt (opening_in first) (has_desk_in first) (width_in first)) slots (subst (λ (k : ℕ). Rattle.std.specs.List.AllWithin (IsNewAt (opening_in first) (has_desk_in first) (width_in first)) slots 0 k) end f.filled)
 
-pub placed_more : (slots : List Slot) (n : ℕ) (slot : Slot) → HasPlacesTo slots n → n < length slots → IsOpen slot → HasPlacesTo (set slots n slot) (n + 1)
+pub placed_more : (slots : List RawHandle) (n : ℕ) (slot : RawHandle) → HasPlacesTo slots n → n < length slots → IsOpen slot → HasPlacesTo (set slots n slot) (n + 1)
 placed_more slots n slot p lt live = record {
   places = AllWithin-more_set slots n slot lt IsOpen p.places live;
   closed = λ k d low high. let other : k ≢ n = omega arith in let within : k < length slots = omega (arith, length-set slots n slot) in
       rw get_or-set_other (p.closed k d (omega arith) within);
 }
 
-pub all_placed : (slots : List Slot) (n : ℕ) → HasPlacesTo slots n → n ≡ length slots → All IsOpen slots
+pub all_placed : (slots : List RawHandle) (n : ℕ) → HasPlacesTo slots n → n ≡ length slots → All IsOpen slots
 all_placed slots n p end = All-from_all_within IsOpen slots (subst (λ (k : ℕ). Rattle.std.specs.List.AllWithin IsOpen slots 0 k) end p.places)

@@ -15,16 +15,16 @@ use lib.Dec.{eqb}
 use Rattle.mc_plan.specs.declared.answer.Why.{Why}
 use Rattle.mc_words.specs.declared.shape.Shape.{Shape}
 use Rattle.mc_shared.specs.Views.{layout_of}
-use Rattle.mc_door.specs.Held.{role_in, width_of}
+use Rattle.mc_door.specs.AnySides.{role_in, width_of}
 use Rattle.mc_door.specs.NewSides.{has_desk_in, opening_in, width_in}
-use Rattle.mc_door.specs.declared.held.Held.{Held}
+use Rattle.mc_door.specs.declared.any_side.AnySide.{AnySide}
 use Rattle.mc_door.specs.declared.rest.Rest.{Rest}
 use Rattle.cefrodil.specs.Loading.{AreEntries, AreLoaded, entry_status, left_status}
 use Rattle.cefrodil.specs.Open.{kept}
 use Rattle.cefrodil.specs.Openings.{IsNewAt, KeepsSpares}
 use Rattle.cefrodil.specs.RawShapes.{IsShapeOf}
 use Rattle.cefrodil.specs.declared.shape.RawShape.{RawShape}
-use Rattle.cefrodil.specs.declared.slot.Slot.{Slot}
+use Rattle.cefrodil.specs.declared.raw_handle.RawHandle.{RawHandle}
 use Rattle.cefrodil.proofs.Filling.{keeps}
 use Rattle.cefrodil.proofs.Opened.{all_at}
 
@@ -64,7 +64,7 @@ named_within V count o words left (Passes r) loaded = absurd loaded
 named_within V count o words left (Shares s rs) loaded = absurd loaded
 named_within V count o words left Idle loaded = absurd loaded
 
-pub are_loaded : (raw : RawShape) (words count : ℕ) (entries statuses : List ℕ) (writer : Slot) (readers : List Slot) (sh : Shape) (first : Rest) (held : Held) (left : List (ℕ × Why))
+pub are_loaded : (raw : RawShape) (words count : ℕ) (entries statuses : List ℕ) (writer : RawHandle) (readers : List RawHandle) (sh : Shape) (first : Rest) (held : AnySide) (left : List (ℕ × Why))
     → IsShapeOf raw sh → (opening_in first).layout ≡ layout_of words sh → width_in first ≡ words → has_desk_in first ≡ false → length statuses ≡ count → AreEntries words (length entries) count
     → kept writer ≡ some held → width_of held ≡ words → IsLoadedWriter words (opening_in first) (entries_in words count entries) left (role_in held)
     → KeepsSpares (length readers) writer → All (IsNewAt (opening_in first) (has_desk_in first) (width_in first)) readers

@@ -5,13 +5,13 @@ use Rattle.std.proofs.lemmas.Slice.{take-put_mid, drop-put_mid}
 use borrow.Rule.Slice.PartMut.{put_mid}
 use Rattle.mc_door.specs.Means.{GetTells}
 use Rattle.mc_door.specs.Roles.{Role}
-use Rattle.mc_door.specs.declared.told.Told.{Told}
-use Rattle.cefrodil.specs.Inside.Looking.{AreLookedUpTo}
+use Rattle.mc_door.specs.declared.outcome.Outcome.{Outcome}
+use Rattle.cefrodil.specs.Inside.LookedUp.{AreLookedUpTo}
 use Rattle.cefrodil.specs.Many.{HasLooked, HaveLooked, answer_of}
 use Rattle.cefrodil.specs.declared.many.RawAnswer.{RawAnswer}
 
 -- a lookup with a value of the right width is made
-pub looked_one : (V : ℕ) (role role' : Role) (Same : Type 0) (key : ℕ) (old new : List ℕ) (told : Told) → length old ≡ V
+pub looked_one : (V : ℕ) (role role' : Role) (Same : Type 0) (key : ℕ) (old new : List ℕ) (told : Outcome) → length old ≡ V
     → GetTells V role role' Same key old new told → HasLooked V role role' key old new (answer_of told)
 looked_one V role role' Same key old new told long (inl told_so) = record { told = told_so.made; is = ap answer_of told_so.is; means = told_so.means }
 looked_one V role role' Same key old new told long (inr (inl kind)) = absurd (kind.1 tt)

@@ -3,12 +3,12 @@ use Rattle.std.proofs.Common.{ℕ, zero, suc, ◌≡◌, ◌+◌, ◌*◌, ◌<�
 use Rattle.std.proofs.lemmas.List.{drop-drop, take_more}
 use Rattle.mc_door.specs.Roles.{Role}
 use Rattle.mc_door.specs.Writes.{WriteTells}
-use Rattle.mc_door.specs.declared.told.Told.{Told}
+use Rattle.mc_door.specs.declared.outcome.Outcome.{Outcome}
 use Rattle.mc_door.specs.declared.write.Write.TheVariants.{Put}
 use Rattle.cefrodil.specs.Batches.{HasPutEntry, answer_of, entries_of}
 
 -- what a put returns by a side that may be unchanged
-pub put_one : (V : ℕ) (role role' : Role) (Same : Type 0) (entry : ℕ × List ℕ) (told : Told) → (Same → role' ≡ role) → WriteTells V role role' Same entry.0 Put entry.1 told
+pub put_one : (V : ℕ) (role role' : Role) (Same : Type 0) (entry : ℕ × List ℕ) (told : Outcome) → (Same → role' ≡ role) → WriteTells V role role' Same entry.0 Put entry.1 told
     → HasPutEntry V entry role role' (answer_of told)
 put_one V role role' Same entry told stays (inl made) = record { told = told; is = refl; tells = inl made }
 put_one V role role' Same entry told stays (inr (inl kind)) = record { told = told; is = refl; tells = inr (inl (kind.0, kind.1, stays kind.2)) }

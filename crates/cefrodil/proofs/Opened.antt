@@ -10,33 +10,33 @@ use Rattle.mc_words.specs.Readers.{HasReaders}
 use Rattle.mc_words.specs.Shapes.{IsShape}
 use Rattle.mc_words.specs.declared.shape.Shape.{Shape}
 use Rattle.mc_shared.specs.Views.{layout_of}
-use Rattle.mc_door.specs.Held.{role_in, width_of}
+use Rattle.mc_door.specs.AnySides.{role_in, width_of}
 use Rattle.mc_door.specs.NewSides.{IsNewWriter, has_desk_in, opening_in, width_in}
 use Rattle.mc_door.specs.Spares.{readers_for, spares_in}
-use Rattle.mc_door.specs.declared.held.Held.{Held}
+use Rattle.mc_door.specs.declared.any_side.AnySide.{AnySide}
 use Rattle.mc_door.specs.declared.rest.Rest.{Rest}
 use Rattle.cefrodil.specs.Open.{kept}
 use Rattle.cefrodil.specs.Openings.{AreOpened, ArePasses, IsNewAt, KeepsSpares, RefusesOpen}
 use Rattle.cefrodil.specs.RawShapes.{HasMix, IsShapeOf}
 use Rattle.cefrodil.specs.declared.shape.RawShape.{RawShape}
-use Rattle.cefrodil.specs.declared.slot.Slot.{Slot}
+use Rattle.cefrodil.specs.declared.raw_handle.RawHandle.{RawHandle}
 use Rattle.mc_door.specs.declared.status.TheConstants.{NO_MEMORY}
 use Rattle.cefrodil.proofs.Filling.{keeps}
 
 -- the same, of what is known of the sides
-pub all_at : (first : Rest) (desk : Bool) (words : ℕ) (slots : List Slot) → has_desk_in first ≡ desk → width_in first ≡ words
+pub all_at : (first : Rest) (desk : Bool) (words : ℕ) (slots : List RawHandle) → has_desk_in first ≡ desk → width_in first ≡ words
     → All (IsNewAt (opening_in first) (has_desk_in first) (width_in first)) slots → All (IsNewAt (opening_in first) desk words) slots
 all_at first desk words slots is wide new =
     subst (λ (d : Bool). All (IsNewAt (opening_in first) d words) slots) is (subst (λ (w : ℕ). All (IsNewAt (opening_in first) (has_desk_in first) w) slots) wide new)
 
 -- as many readers as handles were given out, so the writer keeps the others
-pub keeps_spares : (cut asked handles : ℕ) (writer : Slot) (held : Held) → HasReaders cut → (HasReaders cut ↔ HasReaders asked) → (HasReaders asked → cut ≡ asked) → handles ≡ asked
+pub keeps_spares : (cut asked handles : ℕ) (writer : RawHandle) (held : AnySide) → HasReaders cut → (HasReaders cut ↔ HasReaders asked) → (HasReaders asked → cut ≡ asked) → handles ≡ asked
     → kept writer ≡ some held → spares_in held + cut ≡ readers_for cut → KeepsSpares handles writer
 keeps_spares cut asked handles writer held has same full many is left =
     let exact : cut ≡ handles = full (same.0 has) ∙ sym many in
     keeps (λ h. spares_in h + handles ≡ readers_for handles) (kept writer) held is (subst (λ (n : ℕ). spares_in held + n ≡ readers_for n) exact left)
 
-pub are_opened : (raw : RawShape) (words : ℕ) (writer : Slot) (readers : List Slot) (sh : Shape) (first : Rest) (held : Held) → IsShapeOf raw sh
+pub are_opened : (raw : RawShape) (words : ℕ) (writer : RawHandle) (readers : List RawHandle) (sh : Shape) (first : Rest) (held : AnySide) → IsShapeOf raw sh
     → (opening_in first).layout ≡ layout_of words sh → width_in first ≡ words → has_desk_in first ≡ false
     → kept writer ≡ some held → width_of held ≡ words → IsNewWriter (opening_in first) (role_in held)
     → KeepsSpares (length readers) writer → All (IsNewAt (opening_in first) (has_desk_in first) (width_in first)) readers → AreOpened raw words writer readers
@@ -48,7 +48,7 @@ are_opened raw words writer readers sh first held of layout wide none is width n
   has_readers = all_at first false words readers none wide all;
 }
 
-pub are_passes : (raw : RawShape) (words : ℕ) (passes : List Slot) (sh : Shape) (first : Rest) → IsShapeOf raw sh
+pub are_passes : (raw : RawShape) (words : ℕ) (passes : List RawHandle) (sh : Shape) (first : Rest) → IsShapeOf raw sh
     → (opening_in first).layout ≡ layout_of words sh → width_in first ≡ words → has_desk_in first ≡ true
     → All (IsNewAt (opening_in first) (has_desk_in first) (width_in first)) passes → ArePasses raw words passes
 are_passes raw words passes sh first of layout wide desk all = record {

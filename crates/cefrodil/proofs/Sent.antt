@@ -10,7 +10,7 @@ use Rattle.mc_cache.proofs.writer.Writer.TheSendSync.{the_send as writer_send}
 use Rattle.mc_shards.proofs.Sent.{pass_send as shard_pass_send, shards_sync}
 use Rattle.mc_shards.proofs.shards.Shards.TheSendSync.{the_send as shards_send}
 use Rattle.mc_door.specs.contracts.at_desk.AtDesk as at_desk
-use Rattle.mc_door.specs.contracts.held.Held as held
+use Rattle.mc_door.specs.contracts.any_side.AnySide as held
 use Rattle.mc_door.specs.contracts.pass_side.PassSide as pass
 use Rattle.mc_door.specs.contracts.reader_side.ReaderSide as reader
 use Rattle.mc_door.specs.contracts.shard_side.ShardSide as shard

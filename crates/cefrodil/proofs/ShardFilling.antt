@@ -12,29 +12,29 @@ use Rattle.mc_shards.specs.Openings.{RefusesShards}
 use Rattle.mc_shards.specs.Sharded.{Sharded}
 use Rattle.mc_shards.specs.declared.opening.OpenShardsError.{OpenShardsError}
 use Rattle.mc_shards.specs.declared.opening.OpenShardsError.TheVariants as error
-use Rattle.mc_door.specs.Held.{role_in, width_of}
+use Rattle.mc_door.specs.AnySides.{role_in, width_of}
 use Rattle.mc_door.specs.NewPasses.{IsNewPass, count_on, shards_on, width_on}
-use Rattle.mc_door.specs.declared.held.Held.{Held}
+use Rattle.mc_door.specs.declared.any_side.AnySide.{AnySide}
 use Rattle.mc_door.specs.declared.shard_rest.ShardRest.{ShardRest}
 use Rattle.cefrodil.specs.Inside.Filling.{HasPassesTo}
 use Rattle.cefrodil.specs.Open.{kept}
 use Rattle.cefrodil.specs.RawShapes.{HasMix, IsShapeOf}
 use Rattle.cefrodil.specs.ShardOpenings.{AreShardPasses, IsNewPassAt, RefusesOpenShards}
 use Rattle.cefrodil.specs.declared.shape.RawShape.{RawShape}
-use Rattle.cefrodil.specs.declared.slot.Slot.{Slot}
+use Rattle.cefrodil.specs.declared.raw_handle.RawHandle.{RawHandle}
 use Rattle.mc_door.specs.declared.status.TheConstants.{NO_MEMORY}
 use Rattle.cefrodil.proofs.Filling.{keeps}
 use Rattle.cefrodil.proofs.Opened.{refused_so_many}
 
 -- what a pass that is given out is
-abbrev pub IsGiven : ShardRest → ShardRest → Held → Type 0
+abbrev pub IsGiven : ShardRest → ShardRest → AnySide → Type 0
 IsGiven rest rest' h = (width_of h ≡ width_on rest) × IsNewPass (width_on rest) (shards_on rest) (role_in h) × (count_on rest ≡ count_on rest' + 1)
 
-pub given_pass : (rest rest' : ShardRest) (given : Option Held) (held : Held) → MatchOption given (count_on rest ≡ 0) (IsGiven rest rest') → given ≡ Some held → IsGiven rest rest' held
-given_pass rest rest' given held side is = subst (λ (o : Option Held). MatchOption o (count_on rest ≡ 0) (IsGiven rest rest')) is side
+pub given_pass : (rest rest' : ShardRest) (given : Option AnySide) (held : AnySide) → MatchOption given (count_on rest ≡ 0) (IsGiven rest rest') → given ≡ Some held → IsGiven rest rest' held
+given_pass rest rest' given held side is = subst (λ (o : Option AnySide). MatchOption o (count_on rest ≡ 0) (IsGiven rest rest')) is side
 
 -- one more handle has its pass
-pub passes_more : (first rest rest' : ShardRest) (slots : List Slot) (n : ℕ) (slot : Slot) (held : Held) → HasPassesTo first rest slots n → n < length slots
+pub passes_more : (first rest rest' : ShardRest) (slots : List RawHandle) (n : ℕ) (slot : RawHandle) (held : AnySide) → HasPassesTo first rest slots n → n < length slots
     → shards_on rest' ≡ shards_on rest → width_on rest' ≡ width_on rest → kept slot ≡ some held → IsGiven rest rest' held → HasPassesTo first rest' (set slots n slot) (n + 1)
 passes_more first rest rest' slots n slot held f lt shards width is new = record {
   shards = shards ∙ f.shards;
@@ -47,12 +47,12 @@ passes_more first rest rest' slots n slot held f lt shards width is new = record
       rw get_or-set_other (f.closed k d (omega arith) within);
 }
 
-pub all_passes : (first rest : ShardRest) (slots : List Slot) (n : ℕ) → HasPassesTo first rest slots n → n ≡ length slots
+pub all_passes : (first rest : ShardRest) (slots : List RawHandle) (n : ℕ) → HasPassesTo first rest slots n → n ≡ length slots
     → All (IsNewPassAt (shards_on first) (width_on first)) slots
 all_passes first rest slots n f end =
     All-from_all_within (IsNewPassAt (shards_on first) (width_on first)) slots (subst (λ (k : ℕ). Rattle.std.specs.List.AllWithin (IsNewPassAt (shards_on first) (width_on first)) slots 0 k) end f.filled)
 
-pub are_shard_passes : (raw : RawShape) (shards words : ℕ) (passes : List Slot) (sh : Shape) (first : ShardRest) → IsShapeOf raw sh
+pub are_shard_passes : (raw : RawShape) (shards words : ℕ) (passes : List RawHandle) (sh : Shape) (first : ShardRest) → IsShapeOf raw sh
     → (shards_on first).shape ≡ sh → length (shards_on first).tables ≡ shards → width_on first ≡ words
     → All (IsNewPassAt (shards_on first) (width_on first)) passes → AreShardPasses raw shards words passes
 are_shard_passes raw shards words passes sh first of shape count wide all = record {

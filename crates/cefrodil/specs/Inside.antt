@@ -1,4 +1,4 @@
 pub mod DeskStatuses
 pub mod Filling
 pub mod Lent
-pub mod Looking
+pub mod LookedUp

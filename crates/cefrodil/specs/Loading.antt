@@ -4,12 +4,12 @@ use Rattle.mc_plan.specs.declared.answer.Why.{Why}
 use Rattle.mc_plan.specs.declared.answer.Why.TheVariants as why
 use Rattle.mc_words.specs.Places.{IsWidth}
 use Rattle.mc_shared.specs.Records.{Opening}
-use Rattle.mc_door.specs.Held.{role_in, width_of}
+use Rattle.mc_door.specs.AnySides.{role_in, width_of}
 use Rattle.mc_door.specs.Loading.{IsLoadedWriter, entries_in}
 use Rattle.cefrodil.specs.Open.{kept}
 use Rattle.cefrodil.specs.Openings.{IsNewAt, IsOfShape, Keeps, KeepsSpares}
 use Rattle.cefrodil.specs.declared.shape.RawShape.{RawShape}
-use Rattle.cefrodil.specs.declared.slot.Slot.{Slot}
+use Rattle.cefrodil.specs.declared.raw_handle.RawHandle.{RawHandle}
 use Rattle.mc_door.specs.declared.status.TheConstants.{OK, COUNT, NO_ITEM, NO_PATH, SPENT}
 
 abbrev pub left_status : Why → ℕ
@@ -27,11 +27,11 @@ abbrev pub AreEntries : ℕ → ℕ → ℕ → Type 0
 AreEntries words entry_words count = entry_words ≡ count * (1 + words)
 
 -- the writer of a new cache, which has put these entries, except those that were left
-abbrev pub IsLoadedAt : Opening → ℕ → List (ℕ × List ℕ) → List (ℕ × Why) → Slot → Type 0
+abbrev pub IsLoadedAt : Opening → ℕ → List (ℕ × List ℕ) → List (ℕ × Why) → RawHandle → Type 0
 IsLoadedAt o words entries left s = Keeps (λ h. (width_of h ≡ words) × IsLoadedWriter words o entries left (role_in h)) (kept s)
 
 -- the writer and the readers of a new cache with these entries, and what became of each of them
-pub record AreLoaded (raw : RawShape) (words : ℕ) (entries statuses : List ℕ) (writer : Slot) (readers : List Slot) : Type 0 where
+pub record AreLoaded (raw : RawShape) (words : ℕ) (entries statuses : List ℕ) (writer : RawHandle) (readers : List RawHandle) : Type 0 where
   pub opening : Opening
   pub left : List (ℕ × Why)
   pub shape : IsOfShape raw words opening

@@ -9,29 +9,29 @@ use Rattle.mc_words.specs.declared.shape.Shape.{Shape}
 use Rattle.mc_words.specs.declared.shape.ShapeError.TheVariants as fault
 use Rattle.mc_shared.specs.Records.{Opening}
 use Rattle.mc_shared.specs.Views.{layout_of}
-use Rattle.mc_door.specs.Held.{role_in, width_of}
+use Rattle.mc_door.specs.AnySides.{role_in, width_of}
 use Rattle.mc_door.specs.NewSides.{IsNewSide, IsNewWriter}
 use Rattle.mc_door.specs.Spares.{readers_for, spares_in}
-use Rattle.mc_door.specs.declared.held.Held.{Held}
+use Rattle.mc_door.specs.declared.any_side.AnySide.{AnySide}
 use Rattle.cefrodil.specs.Open.{kept}
 use Rattle.cefrodil.specs.RawShapes.{HasMix, IsShapeOf}
 use Rattle.cefrodil.specs.declared.shape.RawShape.{RawShape}
-use Rattle.cefrodil.specs.declared.slot.Slot.{Slot}
+use Rattle.cefrodil.specs.declared.raw_handle.RawHandle.{RawHandle}
 use Rattle.mc_door.specs.declared.status.TheConstants.{IN_USE, WORDS, MIX, NO_MEMORY, BUCKETS, ITEMS, STRIPES, DEPTH, TRIES, LIMIT, READERS}
 
-abbrev pub IsClosed : Slot → Type 0
+abbrev pub IsClosed : RawHandle → Type 0
 IsClosed s = s.live ≡ false
 
 -- an open handle keeps such a thing
-abbrev pub Keeps : (Held → Type 0) → Option Held → Type 0
+abbrev pub Keeps : (AnySide → Type 0) → Option AnySide → Type 0
 Keeps P none = ⊥
 Keeps P (some h) = P h
 
 -- a new reader of this cache, or a new pass at its desk, for values of this many words
-abbrev pub IsNewAt : Opening → Bool → ℕ → Slot → Type 0
+abbrev pub IsNewAt : Opening → Bool → ℕ → RawHandle → Type 0
 IsNewAt o desk words s = Keeps (λ h. (width_of h ≡ words) × IsNewSide o desk (role_in h)) (kept s)
 
-abbrev pub IsNewWriterAt : Opening → ℕ → Slot → Type 0
+abbrev pub IsNewWriterAt : Opening → ℕ → RawHandle → Type 0
 IsNewWriterAt o words s = Keeps (λ h. (width_of h ≡ words) × IsNewWriter o (role_in h)) (kept s)
 
 abbrev pub open_status : OpenError → ℕ
@@ -49,11 +49,11 @@ abbrev pub IsOfShape : RawShape → ℕ → Opening → Type 0
 IsOfShape raw words o = (sh : Shape) × IsShapeOf raw sh × (o.layout ≡ layout_of words sh)
 
 -- the writer keeps the readers that were not requested
-abbrev pub KeepsSpares : ℕ → Slot → Type 0
+abbrev pub KeepsSpares : ℕ → RawHandle → Type 0
 KeepsSpares asked s = Keeps (λ h. spares_in h + asked ≡ readers_for asked) (kept s)
 
 -- the writer and the readers of a new cache
-pub record AreOpened (raw : RawShape) (words : ℕ) (writer : Slot) (readers : List Slot) : Type 0 where
+pub record AreOpened (raw : RawShape) (words : ℕ) (writer : RawHandle) (readers : List RawHandle) : Type 0 where
   pub opening : Opening
   pub shape : IsOfShape raw words opening
   pub has_writer : IsNewWriterAt opening words writer
@@ -61,7 +61,7 @@ pub record AreOpened (raw : RawShape) (words : ℕ) (writer : Slot) (readers : L
   pub has_readers : All (IsNewAt opening false words) readers
 
 -- the passes of a new cache
-pub record ArePasses (raw : RawShape) (words : ℕ) (passes : List Slot) : Type 0 where
+pub record ArePasses (raw : RawShape) (words : ℕ) (passes : List RawHandle) : Type 0 where
   pub opening : Opening
   pub shape : IsOfShape raw words opening
   pub has_passes : All (IsNewAt opening true words) passes

@@ -6,21 +6,21 @@ use Rattle.mc_shards.specs.Openings.{RefusesShards}
 use Rattle.mc_shards.specs.Sharded.{Sharded}
 use Rattle.mc_shards.specs.declared.opening.OpenShardsError.{OpenShardsError}
 use Rattle.mc_shards.specs.declared.opening.OpenShardsError.TheVariants as error
-use Rattle.mc_door.specs.Held.{role_in, width_of}
+use Rattle.mc_door.specs.AnySides.{role_in, width_of}
 use Rattle.mc_door.specs.NewPasses.{IsNewPass}
 use Rattle.cefrodil.specs.Open.{kept}
 use Rattle.cefrodil.specs.Openings.{Keeps, RefusesAsked, open_status}
 use Rattle.cefrodil.specs.RawShapes.{HasMix, IsShapeOf}
 use Rattle.cefrodil.specs.declared.shape.RawShape.{RawShape}
-use Rattle.cefrodil.specs.declared.slot.Slot.{Slot}
+use Rattle.cefrodil.specs.declared.raw_handle.RawHandle.{RawHandle}
 use Rattle.mc_door.specs.declared.status.TheConstants.{SHARDS}
 
 -- a new pass of these shards, for values of this many words
-abbrev pub IsNewPassAt : Sharded → ℕ → Slot → Type 0
+abbrev pub IsNewPassAt : Sharded → ℕ → RawHandle → Type 0
 IsNewPassAt s words slot = Keeps (λ h. (width_of h ≡ words) × IsNewPass words s (role_in h)) (kept slot)
 
 -- the passes of `shards` new shards, each of the requested shape
-pub record AreShardPasses (raw : RawShape) (shards words : ℕ) (passes : List Slot) : Type 0 where
+pub record AreShardPasses (raw : RawShape) (shards words : ℕ) (passes : List RawHandle) : Type 0 where
   pub sharded : Sharded
   pub shape : IsShapeOf raw sharded.shape
   pub count : length sharded.tables ≡ shards

@@ -1,13 +1,13 @@
 //! Puts of many keys in one call, as C makes it.
 ghost use Rattle.std.specs.Prelude.{◌≡◌, ◌*◌, length};
-ghost use Rattle.mc_door.specs.Held.{role_in, width_of};
+ghost use Rattle.mc_door.specs.AnySides.{role_in, width_of};
 ghost use Rattle.mc_door.specs.Roles.{role_of};
 ghost use Rattle.cefrodil.specs.Batches.{HasPutEntry, HavePut, MeansPuts, PutsGive, answer_of};
 ghost use Rattle.cefrodil.specs.Open.{kept};
 
-use crate::slot::Slot;
+use crate::raw_handle::RawHandle;
 use mc_door::status::{CLOSED, COUNT, OK, WIDTH};
-use mc_door::{GROUP, Held, RawReply, Side, Told, with_side};
+use mc_door::{AnySide, GROUP, Outcome, RawReply, Side, with_side};
 
 /// One answer of many puts: that of `cefrodil_put`.
 #[repr(C)]
@@ -23,7 +23,7 @@ pub struct RawPut {
 fn put<const V: usize>(side: &mut Side<V>, key: u64, value: &[u64]) -> RawPut
     ensures { HasPutEntry V (key, value.now) (role_of side.old) (role_of side.new) result }
 {
-    let mut reply = Told::plain(OK).reply;
+    let mut reply = Outcome::plain(OK).reply;
     let status = side.put(key, value, &mut reply);
     RawPut {
         reply,
@@ -49,7 +49,7 @@ fn put_all<const V: usize>(side: &mut Side<V>, keys: &[u64], values: &[u64], ans
 }
 
 // Puts each key, whatever the width.
-fn put_each(held: &mut Held, keys: &[u64], values: &[u64], answers: &mut [RawPut])
+fn put_each(held: &mut AnySide, keys: &[u64], values: &[u64], answers: &mut [RawPut])
     requires answers { length answers.old ≡ length keys.now }
     requires values { length values.now ≡ length keys.now * width_of held.old }
     ensures width { width_of held.new ≡ width_of held.old }
@@ -58,7 +58,7 @@ fn put_each(held: &mut Held, keys: &[u64], values: &[u64], answers: &mut [RawPut
     with_side!(held, side => put_all(side, keys, values, answers));
 }
 
-fn put_many(held: &mut Held, keys: &[u64], values: &[u64], answers: &mut [RawPut]) -> u32
+fn put_many(held: &mut AnySide, keys: &[u64], values: &[u64], answers: &mut [RawPut]) -> u32
     ensures { MeansPuts held.old held.new keys.now values.now answers.old answers.new result }
 {
     if answers.len() != keys.len() {
@@ -75,7 +75,7 @@ fn put_many(held: &mut Held, keys: &[u64], values: &[u64], answers: &mut [RawPut
 #[tactic(auto, using(crate::proofs::Gives::gives_open, crate::proofs::Gives::gives_closed))]
 #[unsafe(no_mangle)]
 pub extern "C" fn cefrodil_put_many(
-    handle: &mut Slot,
+    handle: &mut RawHandle,
     keys: &[u64],
     values: &[u64],
     answers: &mut [RawPut],

@@ -1,13 +1,13 @@
 //! A handle is closed.
 ghost use Rattle.std.specs.Prelude.{◌≡◌, false, true};
 
-use crate::slot::Slot;
+use crate::raw_handle::RawHandle;
 use mc_door::status::{CLOSED, OK};
 use std::alloc::Global;
 
 /// Closes a handle. Closing the last handle frees the cache.
 #[unsafe(no_mangle)]
-pub extern "C" fn cefrodil_close(alloc: Global, handle: &mut Slot) -> u32
+pub extern "C" fn cefrodil_close(alloc: Global, handle: &mut RawHandle) -> u32
     ensures closed { handle.new.live ≡ false }
     ensures done { handle.old.live ≡ true → result ≡ OK }
     ensures twice { handle.old.live ≡ false → result ≡ CLOSED }

@@ -4,7 +4,7 @@ ghost use Rattle.mc_door.specs.Means.{CanWrite, CapacityIs, HasCache, MomentIs};
 ghost use Rattle.cefrodil.specs.Counts.{CountGives, LenGives, TellsCount};
 ghost use Rattle.cefrodil.specs.Open.{kept};
 
-use crate::slot::Slot;
+use crate::raw_handle::RawHandle;
 use mc_door::CountError;
 use mc_door::status::{CLOSED, HELD, KIND, OK};
 
@@ -24,7 +24,7 @@ fn tell(known: Option<u64>, number: &mut u64) -> u32
 /// The number of changes made to the table, by the writer's handle.
 #[tactic(auto, using(crate::proofs::Gives::gives_open, crate::proofs::Gives::gives_closed))]
 #[unsafe(no_mangle)]
-pub extern "C" fn cefrodil_moment(writer: &mut Slot, moment: &mut u64) -> u32
+pub extern "C" fn cefrodil_moment(writer: &mut RawHandle, moment: &mut u64) -> u32
     ensures open { writer.new.live ≡ writer.old.live }
     ensures told { CountGives CanWrite MomentIs (kept writer.old) (kept writer.new) moment.old moment.new result }
 {
@@ -38,7 +38,7 @@ pub extern "C" fn cefrodil_moment(writer: &mut Slot, moment: &mut u64) -> u32
 /// How many keys the cache holds at most, shards all together, by any handle.
 #[tactic(auto, using(crate::proofs::Gives::gives_open, crate::proofs::Gives::gives_closed))]
 #[unsafe(no_mangle)]
-pub extern "C" fn cefrodil_capacity(handle: &mut Slot, capacity: &mut u64) -> u32
+pub extern "C" fn cefrodil_capacity(handle: &mut RawHandle, capacity: &mut u64) -> u32
     ensures open { handle.new.live ≡ handle.old.live }
     ensures told { CountGives HasCache CapacityIs (kept handle.old) (kept handle.new) capacity.old capacity.new result }
 {
@@ -67,7 +67,7 @@ fn tell_count(counted: Result<u64, CountError>, number: &mut u64) -> u32
 /// several moments.
 #[tactic(auto, using(crate::proofs::Gives::gives_open, crate::proofs::Gives::gives_closed))]
 #[unsafe(no_mangle)]
-pub extern "C" fn cefrodil_len(handle: &mut Slot, len: &mut u64) -> u32
+pub extern "C" fn cefrodil_len(handle: &mut RawHandle, len: &mut u64) -> u32
     ensures open { handle.new.live ≡ handle.old.live }
     ensures told { LenGives (kept handle.old) (kept handle.new) len.old len.new result }
 {

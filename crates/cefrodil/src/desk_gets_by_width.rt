@@ -3,14 +3,14 @@ ghost use Rattle.std.specs.Prelude.{◌≡◌};
 ghost use Rattle.cefrodil.specs.Calls.{GetOrDeskGives};
 ghost use Rattle.cefrodil.specs.Open.{kept};
 
-use crate::slot::{Slot, told_of_handle};
-use mc_door::{Held, RawReply};
+use crate::raw_handle::{RawHandle, told_of_handle};
+use mc_door::{AnySide, RawReply};
 
 // Looks up by a handle whose values have this width. Any other handle is passed to `cefrodil_get_or_desk`, which refuses it.
 macro_rules! get_or_desk_at {
     ($width:ident, $pass:ident, $key:ident, $value:ident, $reply:ident) => {
         told_of_handle!($pass, $reply, held => match held {
-            Held::$width(side) => side.get_or_desk($key, $value.as_mut_slice(), $reply),
+            AnySide::$width(side) => side.get_or_desk($key, $value.as_mut_slice(), $reply),
             held => held.get_or_desk($key, $value.as_mut_slice(), $reply),
         })
     };
@@ -20,7 +20,7 @@ macro_rules! get_or_desk_at {
 #[tactic(auto, using(crate::proofs::Gives::gives_open, crate::proofs::Gives::gives_closed))]
 #[unsafe(no_mangle)]
 pub extern "C" fn cefrodil_get_or_desk_1(
-    pass: &mut Slot,
+    pass: &mut RawHandle,
     key: u64,
     value: &mut [u64; 1],
     reply: &mut RawReply,
@@ -35,7 +35,7 @@ pub extern "C" fn cefrodil_get_or_desk_1(
 #[tactic(auto, using(crate::proofs::Gives::gives_open, crate::proofs::Gives::gives_closed))]
 #[unsafe(no_mangle)]
 pub extern "C" fn cefrodil_get_or_desk_2(
-    pass: &mut Slot,
+    pass: &mut RawHandle,
     key: u64,
     value: &mut [u64; 2],
     reply: &mut RawReply,
@@ -50,7 +50,7 @@ pub extern "C" fn cefrodil_get_or_desk_2(
 #[tactic(auto, using(crate::proofs::Gives::gives_open, crate::proofs::Gives::gives_closed))]
 #[unsafe(no_mangle)]
 pub extern "C" fn cefrodil_get_or_desk_3(
-    pass: &mut Slot,
+    pass: &mut RawHandle,
     key: u64,
     value: &mut [u64; 3],
     reply: &mut RawReply,
@@ -65,7 +65,7 @@ pub extern "C" fn cefrodil_get_or_desk_3(
 #[tactic(auto, using(crate::proofs::Gives::gives_open, crate::proofs::Gives::gives_closed))]
 #[unsafe(no_mangle)]
 pub extern "C" fn cefrodil_get_or_desk_4(
-    pass: &mut Slot,
+    pass: &mut RawHandle,
     key: u64,
     value: &mut [u64; 4],
     reply: &mut RawReply,
@@ -80,7 +80,7 @@ pub extern "C" fn cefrodil_get_or_desk_4(
 #[tactic(auto, using(crate::proofs::Gives::gives_open, crate::proofs::Gives::gives_closed))]
 #[unsafe(no_mangle)]
 pub extern "C" fn cefrodil_get_or_desk_5(
-    pass: &mut Slot,
+    pass: &mut RawHandle,
     key: u64,
     value: &mut [u64; 5],
     reply: &mut RawReply,
@@ -95,7 +95,7 @@ pub extern "C" fn cefrodil_get_or_desk_5(
 #[tactic(auto, using(crate::proofs::Gives::gives_open, crate::proofs::Gives::gives_closed))]
 #[unsafe(no_mangle)]
 pub extern "C" fn cefrodil_get_or_desk_6(
-    pass: &mut Slot,
+    pass: &mut RawHandle,
     key: u64,
     value: &mut [u64; 6],
     reply: &mut RawReply,
@@ -110,7 +110,7 @@ pub extern "C" fn cefrodil_get_or_desk_6(
 #[tactic(auto, using(crate::proofs::Gives::gives_open, crate::proofs::Gives::gives_closed))]
 #[unsafe(no_mangle)]
 pub extern "C" fn cefrodil_get_or_desk_7(
-    pass: &mut Slot,
+    pass: &mut RawHandle,
     key: u64,
     value: &mut [u64; 7],
     reply: &mut RawReply,
@@ -125,7 +125,7 @@ pub extern "C" fn cefrodil_get_or_desk_7(
 #[tactic(auto, using(crate::proofs::Gives::gives_open, crate::proofs::Gives::gives_closed))]
 #[unsafe(no_mangle)]
 pub extern "C" fn cefrodil_get_or_desk_8(
-    pass: &mut Slot,
+    pass: &mut RawHandle,
     key: u64,
     value: &mut [u64; 8],
     reply: &mut RawReply,

@@ -3,14 +3,14 @@ ghost use Rattle.std.specs.Prelude.{◌≡◌};
 ghost use Rattle.cefrodil.specs.Calls.{GetGives};
 ghost use Rattle.cefrodil.specs.Open.{kept};
 
-use crate::slot::{Slot, told_of_handle};
-use mc_door::{Held, RawReply};
+use crate::raw_handle::{RawHandle, told_of_handle};
+use mc_door::{AnySide, RawReply};
 
 // Looks up by a handle whose values have this width. Any other handle is passed to `cefrodil_get`, which refuses it.
 macro_rules! get_at {
     ($width:ident, $reader:ident, $key:ident, $value:ident, $reply:ident) => {
         told_of_handle!($reader, $reply, held => match held {
-            Held::$width(side) => side.get($key, $value.as_mut_slice(), $reply),
+            AnySide::$width(side) => side.get($key, $value.as_mut_slice(), $reply),
             held => held.get($key, $value.as_mut_slice(), $reply),
         })
     };
@@ -20,7 +20,7 @@ macro_rules! get_at {
 #[tactic(auto, using(crate::proofs::Gives::gives_open, crate::proofs::Gives::gives_closed))]
 #[unsafe(no_mangle)]
 pub extern "C" fn cefrodil_get_1(
-    reader: &mut Slot,
+    reader: &mut RawHandle,
     key: u64,
     value: &mut [u64; 1],
     reply: &mut RawReply,
@@ -35,7 +35,7 @@ pub extern "C" fn cefrodil_get_1(
 #[tactic(auto, using(crate::proofs::Gives::gives_open, crate::proofs::Gives::gives_closed))]
 #[unsafe(no_mangle)]
 pub extern "C" fn cefrodil_get_2(
-    reader: &mut Slot,
+    reader: &mut RawHandle,
     key: u64,
     value: &mut [u64; 2],
     reply: &mut RawReply,
@@ -50,7 +50,7 @@ pub extern "C" fn cefrodil_get_2(
 #[tactic(auto, using(crate::proofs::Gives::gives_open, crate::proofs::Gives::gives_closed))]
 #[unsafe(no_mangle)]
 pub extern "C" fn cefrodil_get_3(
-    reader: &mut Slot,
+    reader: &mut RawHandle,
     key: u64,
     value: &mut [u64; 3],
     reply: &mut RawReply,
@@ -65,7 +65,7 @@ pub extern "C" fn cefrodil_get_3(
 #[tactic(auto, using(crate::proofs::Gives::gives_open, crate::proofs::Gives::gives_closed))]
 #[unsafe(no_mangle)]
 pub extern "C" fn cefrodil_get_4(
-    reader: &mut Slot,
+    reader: &mut RawHandle,
     key: u64,
     value: &mut [u64; 4],
     reply: &mut RawReply,
@@ -80,7 +80,7 @@ pub extern "C" fn cefrodil_get_4(
 #[tactic(auto, using(crate::proofs::Gives::gives_open, crate::proofs::Gives::gives_closed))]
 #[unsafe(no_mangle)]
 pub extern "C" fn cefrodil_get_5(
-    reader: &mut Slot,
+    reader: &mut RawHandle,
     key: u64,
     value: &mut [u64; 5],
     reply: &mut RawReply,
@@ -95,7 +95,7 @@ pub extern "C" fn cefrodil_get_5(
 #[tactic(auto, using(crate::proofs::Gives::gives_open, crate::proofs::Gives::gives_closed))]
 #[unsafe(no_mangle)]
 pub extern "C" fn cefrodil_get_6(
-    reader: &mut Slot,
+    reader: &mut RawHandle,
     key: u64,
     value: &mut [u64; 6],
     reply: &mut RawReply,
@@ -110,7 +110,7 @@ pub extern "C" fn cefrodil_get_6(
 #[tactic(auto, using(crate::proofs::Gives::gives_open, crate::proofs::Gives::gives_closed))]
 #[unsafe(no_mangle)]
 pub extern "C" fn cefrodil_get_7(
-    reader: &mut Slot,
+    reader: &mut RawHandle,
     key: u64,
     value: &mut [u64; 7],
     reply: &mut RawReply,
@@ -125,7 +125,7 @@ pub extern "C" fn cefrodil_get_7(
 #[tactic(auto, using(crate::proofs::Gives::gives_open, crate::proofs::Gives::gives_closed))]
 #[unsafe(no_mangle)]
 pub extern "C" fn cefrodil_get_8(
-    reader: &mut Slot,
+    reader: &mut RawHandle,
     key: u64,
     value: &mut [u64; 8],
     reply: &mut RawReply,

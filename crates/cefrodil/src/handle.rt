@@ -3,10 +3,10 @@ ghost use Rattle.std.specs.Prelude.{◌≡◌, ℕ};
 ghost use mathlib.Core.Option.{Option, none, some};
 ghost use Rattle.std.specs.Borrow.{sem};
 ghost use Rattle.cefrodil.specs.Kept.{kept_at};
-ghost use Rattle.mc_door.specs.declared.held.Held.{Held};
+ghost use Rattle.mc_door.specs.declared.any_side.AnySide.{AnySide};
 
 use crate::unboxed::Unboxed;
-use mc_door::Held;
+use mc_door::AnySide;
 use std::alloc::Global;
 use std::marker::{Model, Send};
 
@@ -20,7 +20,7 @@ pub struct Nothing {
 pub struct Handle {
     at: *mut Nothing,
     alloc: Global,
-    pub ghost value: { Option Held },
+    pub ghost value: { Option AnySide },
 }
 
 impl Model for Handle {
@@ -44,7 +44,7 @@ impl Handle {
     }
 
     #[inline(always)]
-    pub(crate) fn of(value: Unboxed<Held, Global>) -> Handle
+    pub(crate) fn of(value: Unboxed<AnySide, Global>) -> Handle
         ensures { result.value ≡ some value.value }
     {
         let Unboxed { at, alloc } = value;
@@ -56,22 +56,22 @@ impl Handle {
 
     // What is behind it, in place.
     #[inline(always)]
-    pub(crate) fn held(&mut self) -> &mut Held
+    pub(crate) fn held(&mut self) -> &mut AnySide
         requires { ¬ (self.old.value ≡ none) }
         ensures* writes_back { sem 𝓛 (LendsHeld self.entry result) }
         ensures value { some result.now ≡ self.old.value }
     {
-        unsafe { &mut *(self.at as *mut Held) }
+        unsafe { &mut *(self.at as *mut AnySide) }
     }
 
     #[inline(always)]
-    pub(crate) fn into_unboxed(self) -> Unboxed<Held, Global>
+    pub(crate) fn into_unboxed(self) -> Unboxed<AnySide, Global>
         requires { ¬ (self.value ≡ none) }
         ensures { some result.value ≡ self.value }
     {
         let Handle { at, alloc } = self;
         Unboxed {
-            at: at as *mut Held,
+            at: at as *mut AnySide,
             alloc,
         }
     }

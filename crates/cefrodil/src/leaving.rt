@@ -4,15 +4,19 @@ ghost use Rattle.cefrodil.specs.Leaving.{LeaveGives};
 ghost use Rattle.cefrodil.specs.Open.{kept};
 
 use crate::opening::boxed;
-use crate::slot::Slot;
+use crate::raw_handle::RawHandle;
 use mc_door::status::{CLOSED, IN_USE, KIND, NO_MEMORY, NOT_LAST, OK};
-use mc_door::{Held, LeaveError};
+use mc_door::{AnySide, LeaveError};
 use std::alloc::Global;
 
 /// A pass leaves its desk, and its handle becomes a reader's. When the last pass leaves, the writer is put into the other handle.
 #[tactic(auto, using(crate::proofs::Gives::gives_open, crate::proofs::Gives::gives_closed))]
 #[unsafe(no_mangle)]
-pub extern "C" fn cefrodil_leave_desk(alloc: Global, pass: &mut Slot, writer: &mut Slot) -> u32
+pub extern "C" fn cefrodil_leave_desk(
+    alloc: Global,
+    pass: &mut RawHandle,
+    writer: &mut RawHandle,
+) -> u32
     ensures in_use { writer.old.live ≡ true → (result ≡ IN_USE) × (pass.new ≡ pass.old) × (writer.new ≡ writer.old) }
     ensures left { writer.old.live ≡ false → LeaveGives (kept pass.old) (kept pass.new) (kept writer.new) result }
 {
@@ -27,7 +31,7 @@ pub extern "C" fn cefrodil_leave_desk(alloc: Global, pass: &mut Slot, writer: &m
         return KIND;
     }
     // Memory first: after this the writer's handle has a place.
-    let Some(mut place) = boxed(alloc, Held::nothing()) else {
+    let Some(mut place) = boxed(alloc, AnySide::nothing()) else {
         return NO_MEMORY;
     };
     match held.leave() {

@@ -3,7 +3,7 @@ ghost use Rattle.std.specs.Prelude.{◌≡◌};
 ghost use Rattle.cefrodil.specs.Listing.{ListGives, StampedListGives, TellsList};
 ghost use Rattle.cefrodil.specs.Open.{kept};
 
-use crate::slot::Slot;
+use crate::raw_handle::RawHandle;
 use mc_door::ListError;
 use mc_door::status::{CLOSED, COUNT, HELD, KIND, NO_MEMORY, OK};
 use std::alloc::Global;
@@ -32,7 +32,7 @@ fn tell(listed: Result<usize, ListError>, count: &mut u64) -> u32
 #[unsafe(no_mangle)]
 pub extern "C" fn cefrodil_entries(
     alloc: Global,
-    handle: &mut Slot,
+    handle: &mut RawHandle,
     entries: &mut [u64],
     count: &mut u64,
 ) -> u32
@@ -51,7 +51,7 @@ pub extern "C" fn cefrodil_entries(
 #[unsafe(no_mangle)]
 pub extern "C" fn cefrodil_stamped_entries(
     alloc: Global,
-    handle: &mut Slot,
+    handle: &mut RawHandle,
     entries: &mut [u64],
     count: &mut u64,
 ) -> u32

@@ -6,8 +6,8 @@ ghost use Rattle.cefrodil.specs.Openings.{IsClosed, RefusesAsked, RefusesHandles
 ghost use Rattle.cefrodil.specs.RawShapes.{HasMix, IsShapeOf};
 
 use crate::opening::{MOST_WORDS, all_closed, asked, count_of, given_out, status_of};
+use crate::raw_handle::RawHandle;
 use crate::shape::RawShape;
-use crate::slot::Slot;
 use mc_door::status::{COUNT, IN_USE, NO_ITEM, NO_MEMORY, NO_PATH, OK, SPENT};
 use mc_door::{Shape, Why, open_with};
 use std::alloc::Global;
@@ -73,8 +73,8 @@ fn open_all_with(
     words: usize,
     entries: &[u64],
     statuses: &mut [u32],
-    writer: &mut Slot,
-    readers: &mut [Slot],
+    writer: &mut RawHandle,
+    readers: &mut [RawHandle],
 ) -> u32
     requires { IsClosed writer.old × All IsClosed readers.old }
     ensures opened { result ≡ OK → AreLoaded shape.now words entries.now statuses.new writer.new readers.new }
@@ -115,8 +115,8 @@ pub extern "C" fn cefrodil_open_with(
     words: usize,
     entries: &[u64],
     statuses: &mut [u32],
-    writer: &mut Slot,
-    readers: &mut [Slot],
+    writer: &mut RawHandle,
+    readers: &mut [RawHandle],
 ) -> u32
     ensures opened { result ≡ OK → AreLoaded shape.now words entries.now statuses.new writer.new readers.new }
     ensures refused { result ≢ OK → RefusesHandles (IsClosed writer.old × All IsClosed readers.old)

@@ -3,14 +3,14 @@ ghost use Rattle.std.specs.Prelude.{◌≡◌};
 ghost use Rattle.cefrodil.specs.Calls.{GetGives, GetOrDeskGives, PeekGives};
 ghost use Rattle.cefrodil.specs.Open.{kept};
 
-use crate::slot::{Slot, told_of_handle};
+use crate::raw_handle::{RawHandle, told_of_handle};
 use mc_door::RawReply;
 
 /// Looks the key up, by any handle. The value is written only if the key was found.
 #[tactic(auto, using(crate::proofs::Gives::gives_open, crate::proofs::Gives::gives_closed))]
 #[unsafe(no_mangle)]
 pub extern "C" fn cefrodil_get(
-    reader: &mut Slot,
+    reader: &mut RawHandle,
     key: u64,
     value: &mut [u64],
     reply: &mut RawReply,
@@ -25,7 +25,7 @@ pub extern "C" fn cefrodil_get(
 #[tactic(auto, using(crate::proofs::Gives::gives_open, crate::proofs::Gives::gives_closed))]
 #[unsafe(no_mangle)]
 pub extern "C" fn cefrodil_get_or_desk(
-    pass: &mut Slot,
+    pass: &mut RawHandle,
     key: u64,
     value: &mut [u64],
     reply: &mut RawReply,
@@ -40,7 +40,7 @@ pub extern "C" fn cefrodil_get_or_desk(
 #[tactic(auto, using(crate::proofs::Gives::gives_open, crate::proofs::Gives::gives_closed))]
 #[unsafe(no_mangle)]
 pub extern "C" fn cefrodil_peek(
-    handle: &mut Slot,
+    handle: &mut RawHandle,
     key: u64,
     value: &mut [u64],
     reply: &mut RawReply,

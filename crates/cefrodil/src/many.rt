@@ -1,14 +1,14 @@
 //! Lookups of many keys in one call, as C makes it.
 ghost use Rattle.std.specs.Prelude.{◌≡◌, ◌*◌, length};
-ghost use Rattle.mc_door.specs.Held.{role_in, width_of};
+ghost use Rattle.mc_door.specs.AnySides.{role_in, width_of};
 ghost use Rattle.mc_door.specs.Roles.{role_of};
 ghost use Rattle.mc_words.specs.Places.{IsWidth};
 ghost use Rattle.cefrodil.specs.Many.{HasLooked, HaveLooked, ManyGive, MeansMany};
 ghost use Rattle.cefrodil.specs.Open.{kept};
 
-use crate::slot::Slot;
+use crate::raw_handle::RawHandle;
 use mc_door::status::{CLOSED, COUNT, OK, WIDTH};
-use mc_door::{GROUP, Held, Side, Told, with_side};
+use mc_door::{AnySide, GROUP, Outcome, Side, with_side};
 
 /// One answer of many. A field that does not apply to the status is 0.
 #[repr(C)]
@@ -30,7 +30,7 @@ fn look_up<const V: usize>(side: &mut Side<V>, key: u64, value: &mut [u64]) -> R
     requires value { length value.old ≡ V }
     ensures looked { HasLooked V (role_of side.old) (role_of side.new) key value.old value.new result }
 {
-    let mut reply = Told::plain(OK).reply;
+    let mut reply = Outcome::plain(OK).reply;
     let status = side.get(key, value, &mut reply);
     RawAnswer {
         at: reply.at,
@@ -63,7 +63,7 @@ fn look_up_all<const V: usize>(
 }
 
 // Looks up each key, whatever the width.
-fn look_up_each(held: &mut Held, keys: &[u64], values: &mut [u64], answers: &mut [RawAnswer])
+fn look_up_each(held: &mut AnySide, keys: &[u64], values: &mut [u64], answers: &mut [RawAnswer])
     requires answers { length answers.old ≡ length keys.now }
     requires values { length values.old ≡ length keys.now * width_of held.old }
     ensures width { width_of held.new ≡ width_of held.old }
@@ -72,7 +72,7 @@ fn look_up_each(held: &mut Held, keys: &[u64], values: &mut [u64], answers: &mut
     with_side!(held, side => look_up_all(side, keys, values, answers));
 }
 
-fn get_many(held: &mut Held, keys: &[u64], values: &mut [u64], answers: &mut [RawAnswer]) -> u32
+fn get_many(held: &mut AnySide, keys: &[u64], values: &mut [u64], answers: &mut [RawAnswer]) -> u32
     ensures { MeansMany held.old held.new keys.now values.old values.new answers.old answers.new result }
 {
     if answers.len() != keys.len() {
@@ -89,7 +89,7 @@ fn get_many(held: &mut Held, keys: &[u64], values: &mut [u64], answers: &mut [Ra
 #[tactic(auto, using(crate::proofs::Gives::gives_open, crate::proofs::Gives::gives_closed))]
 #[unsafe(no_mangle)]
 pub extern "C" fn cefrodil_get_many(
-    reader: &mut Slot,
+    reader: &mut RawHandle,
     keys: &[u64],
     values: &mut [u64],
     answers: &mut [RawAnswer],

@@ -8,9 +8,9 @@ ghost use Rattle.cefrodil.specs.Open.{kept};
 ghost use Rattle.cefrodil.specs.Openings.{IsClosed, IsNewAt};
 
 use crate::opening::{all_closed, boxed, close_all};
-use crate::slot::Slot;
+use crate::raw_handle::RawHandle;
 use mc_door::status::{CLOSED, IN_USE, KIND, NO_MEMORY, OK, READERS};
-use mc_door::{Held, MakeDeskError, Rest};
+use mc_door::{AnySide, MakeDeskError, Rest};
 use std::alloc::Global;
 
 fn status_of_desk(why: MakeDeskError) -> u32
@@ -24,12 +24,12 @@ fn status_of_desk(why: MakeDeskError) -> u32
 
 // Opens the handles, with nothing behind them yet. `false` if there is no memory.
 #[tactic(auto, using(crate::proofs::Filling::all_placed))]
-fn make_places(alloc: Global, slots: &mut [Slot]) -> bool
+fn make_places(alloc: Global, slots: &mut [RawHandle]) -> bool
     requires { All IsClosed slots.old }
     ensures { result ≡ true → All IsOpen slots.new }
 {
     for slot in slots.iter_mut() {
-        let Some(place) = boxed(alloc, Held::nothing()) else {
+        let Some(place) = boxed(alloc, AnySide::nothing()) else {
             return false;
         };
         slot.put(place);
@@ -39,7 +39,7 @@ fn make_places(alloc: Global, slots: &mut [Slot]) -> bool
 
 // Puts a pass behind each of the open handles. `false` if a pass can't have a share of the desk: then at least one pass is left.
 #[tactic(auto, using(crate::proofs::Filling::all_filled))]
-fn give_passes(rest: &mut Rest, slots: &mut [Slot]) -> bool
+fn give_passes(rest: &mut Rest, slots: &mut [RawHandle]) -> bool
     requires { (count_in rest.old ≡ length slots.old) × All IsOpen slots.old }
     ensures same { (opening_in rest.new ≡ opening_in rest.old) × (has_desk_in rest.new ≡ has_desk_in rest.old) × (width_in rest.new ≡ width_in rest.old) }
     ensures given { result ≡ true → All (IsNewAt (opening_in rest.old) (has_desk_in rest.old) (width_in rest.old)) slots.new }
@@ -58,7 +58,7 @@ fn give_passes(rest: &mut Rest, slots: &mut [Slot]) -> bool
 }
 
 // The passes' handles are closed. All memory is allocated before the writer is moved.
-fn make_desk(alloc: Global, held: &mut Held, passes: &mut [Slot]) -> u32
+fn make_desk(alloc: Global, held: &mut AnySide, passes: &mut [RawHandle]) -> u32
     requires { All IsClosed passes.old }
     ensures made { result ≡ OK → AreDeskPasses held.old passes.new }
     ensures refused { result ≢ OK → RefusesDesk held.old (length passes.old) result × All IsClosed passes.new × StaysOrShares held.old held.new result }
@@ -84,7 +84,11 @@ fn make_desk(alloc: Global, held: &mut Held, passes: &mut [Slot]) -> u32
 
 /// Puts the writer on a desk, and a pass into each of the other handles. Closes the writer's own handle.
 #[unsafe(no_mangle)]
-pub extern "C" fn cefrodil_make_desk(alloc: Global, writer: &mut Slot, passes: &mut [Slot]) -> u32
+pub extern "C" fn cefrodil_make_desk(
+    alloc: Global,
+    writer: &mut RawHandle,
+    passes: &mut [RawHandle],
+) -> u32
     ensures in_use { ¬ All IsClosed passes.old → (result ≡ IN_USE) × (writer.new ≡ writer.old) × (passes.new ≡ passes.old) }
     ensures made { All IsClosed passes.old → DeskGives (kept writer.old) (kept writer.new) passes.old passes.new result }
 {

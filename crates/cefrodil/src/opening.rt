@@ -6,12 +6,12 @@ ghost use Rattle.mc_door.specs.NewSides.{count_in, has_desk_in, opening_in, widt
 ghost use Rattle.cefrodil.specs.Openings.{AreOpened, ArePasses, IsClosed, IsNewAt, RefusesAsked, RefusesHandles, RefusesOpen, open_status};
 ghost use Rattle.cefrodil.specs.RawShapes.{HasMix, IsShapeOf};
 
+use crate::raw_handle::RawHandle;
 use crate::shape::RawShape;
-use crate::slot::Slot;
 use mc_door::status::{
     BUCKETS, DEPTH, IN_USE, ITEMS, LIMIT, MIX, NO_MEMORY, OK, READERS, STRIPES, TRIES, WORDS,
 };
-use mc_door::{Held, OpenError, Rest, Shape, ShapeError, open, open_desk};
+use mc_door::{AnySide, OpenError, Rest, Shape, ShapeError, open, open_desk};
 use std::alloc::Global;
 
 /// The most words of a value.
@@ -32,7 +32,7 @@ pub(crate) fn status_of(why: OpenError) -> u32
     }
 }
 
-pub(crate) fn all_closed(slots: &[Slot]) -> bool
+pub(crate) fn all_closed(slots: &[RawHandle]) -> bool
     ensures yes { result ≡ true → All IsClosed slots.now }
     ensures no { result ≡ false → ¬ All IsClosed slots.now }
 {
@@ -44,7 +44,7 @@ pub(crate) fn all_closed(slots: &[Slot]) -> bool
     true
 }
 
-pub(crate) fn close_all(alloc: Global, slots: &mut [Slot])
+pub(crate) fn close_all(alloc: Global, slots: &mut [RawHandle])
     ensures { All IsClosed slots.new }
 {
     for slot in slots.iter_mut() {
@@ -64,7 +64,7 @@ pub(crate) fn boxed<T: Drop>(alloc: Global, value: T) -> Option<Box<T, Global>>
 
 // A side for each of the slots. `false` if there is no memory.
 #[tactic(auto, using(crate::proofs::Filling::all_filled))]
-fn fill(alloc: Global, mut rest: Rest, slots: &mut [Slot]) -> bool
+fn fill(alloc: Global, mut rest: Rest, slots: &mut [RawHandle]) -> bool
     requires { (count_in rest ≡ length slots.old) × All IsClosed slots.old }
     ensures { result ≡ true → All (IsNewAt (opening_in rest) (has_desk_in rest) (width_in rest)) slots.new }
 {
@@ -86,10 +86,10 @@ fn fill(alloc: Global, mut rest: Rest, slots: &mut [Slot]) -> bool
 // The writer on the heap, and a reader in each of the handles, which are closed. None if there is no memory: then they are closed.
 pub(crate) fn given_out(
     alloc: Global,
-    held: Held,
+    held: AnySide,
     rest: Rest,
-    readers: &mut [Slot],
-) -> Option<Box<Held, Global>>
+    readers: &mut [RawHandle],
+) -> Option<Box<AnySide, Global>>
     requires { (count_in rest ≡ length readers.old) × All IsClosed readers.old }
     ensures given { IfSome result (λ b. (b.value ≡ held) × All (IsNewAt (opening_in rest) (has_desk_in rest) (width_in rest)) readers.new) }
     ensures refused { IfNone result (All IsClosed readers.new) }
@@ -129,8 +129,8 @@ fn open_all(
     alloc: Global,
     shape: &RawShape,
     words: usize,
-    writer: &mut Slot,
-    readers: &mut [Slot],
+    writer: &mut RawHandle,
+    readers: &mut [RawHandle],
 ) -> u32
     requires { IsClosed writer.old × All IsClosed readers.old }
     ensures opened { result ≡ OK → AreOpened shape.now words writer.new readers.new }
@@ -158,8 +158,8 @@ pub extern "C" fn cefrodil_open(
     alloc: Global,
     shape: &RawShape,
     words: usize,
-    writer: &mut Slot,
-    readers: &mut [Slot],
+    writer: &mut RawHandle,
+    readers: &mut [RawHandle],
 ) -> u32
     ensures opened { result ≡ OK → AreOpened shape.now words writer.new readers.new }
     ensures refused { result ≢ OK → RefusesHandles (IsClosed writer.old × All IsClosed readers.old) (RefusesOpen shape.now words (length readers.old)) result }
@@ -174,7 +174,7 @@ pub extern "C" fn cefrodil_open(
 
 // The handles are closed.
 #[tactic(auto, using(crate::proofs::Opened::are_passes, crate::proofs::Opened::refused_so_many))]
-fn open_all_passes(alloc: Global, shape: &RawShape, words: usize, passes: &mut [Slot]) -> u32
+fn open_all_passes(alloc: Global, shape: &RawShape, words: usize, passes: &mut [RawHandle]) -> u32
     requires { All IsClosed passes.old }
     ensures opened { result ≡ OK → ArePasses shape.now words passes.new }
     ensures refused { result ≢ OK → RefusesOpen shape.now words (length passes.old) result }
@@ -201,7 +201,7 @@ pub extern "C" fn cefrodil_open_desk(
     alloc: Global,
     shape: &RawShape,
     words: usize,
-    passes: &mut [Slot],
+    passes: &mut [RawHandle],
 ) -> u32
     ensures opened { result ≡ OK → ArePasses shape.now words passes.new }
     ensures refused { result ≢ OK → RefusesHandles (All IsClosed passes.old) (RefusesOpen shape.now words (length passes.old)) result }

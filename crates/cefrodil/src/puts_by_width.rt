@@ -3,14 +3,14 @@ ghost use Rattle.std.specs.Prelude.{◌≡◌};
 ghost use Rattle.cefrodil.specs.Calls.{WriteGives};
 ghost use Rattle.cefrodil.specs.Open.{kept};
 
-use crate::slot::{Slot, told_of_handle};
-use mc_door::{Held, RawReply, Write};
+use crate::raw_handle::{RawHandle, told_of_handle};
+use mc_door::{AnySide, RawReply, Write};
 
 // Puts by a handle whose values have this width. Any other handle is passed to `cefrodil_put`, which refuses it.
 macro_rules! put_at {
     ($width:ident, $handle:ident, $key:ident, $value:ident, $reply:ident) => {
         told_of_handle!($handle, $reply, held => match held {
-            Held::$width(side) => side.put($key, $value.as_slice(), $reply),
+            AnySide::$width(side) => side.put($key, $value.as_slice(), $reply),
             held => held.put($key, $value.as_slice(), $reply),
         })
     };
@@ -20,7 +20,7 @@ macro_rules! put_at {
 #[tactic(auto, using(crate::proofs::Gives::gives_open, crate::proofs::Gives::gives_closed))]
 #[unsafe(no_mangle)]
 pub extern "C" fn cefrodil_put_1(
-    handle: &mut Slot,
+    handle: &mut RawHandle,
     key: u64,
     value: &[u64; 1],
     reply: &mut RawReply,
@@ -35,7 +35,7 @@ pub extern "C" fn cefrodil_put_1(
 #[tactic(auto, using(crate::proofs::Gives::gives_open, crate::proofs::Gives::gives_closed))]
 #[unsafe(no_mangle)]
 pub extern "C" fn cefrodil_put_2(
-    handle: &mut Slot,
+    handle: &mut RawHandle,
     key: u64,
     value: &[u64; 2],
     reply: &mut RawReply,
@@ -50,7 +50,7 @@ pub extern "C" fn cefrodil_put_2(
 #[tactic(auto, using(crate::proofs::Gives::gives_open, crate::proofs::Gives::gives_closed))]
 #[unsafe(no_mangle)]
 pub extern "C" fn cefrodil_put_3(
-    handle: &mut Slot,
+    handle: &mut RawHandle,
     key: u64,
     value: &[u64; 3],
     reply: &mut RawReply,
@@ -65,7 +65,7 @@ pub extern "C" fn cefrodil_put_3(
 #[tactic(auto, using(crate::proofs::Gives::gives_open, crate::proofs::Gives::gives_closed))]
 #[unsafe(no_mangle)]
 pub extern "C" fn cefrodil_put_4(
-    handle: &mut Slot,
+    handle: &mut RawHandle,
     key: u64,
     value: &[u64; 4],
     reply: &mut RawReply,
@@ -80,7 +80,7 @@ pub extern "C" fn cefrodil_put_4(
 #[tactic(auto, using(crate::proofs::Gives::gives_open, crate::proofs::Gives::gives_closed))]
 #[unsafe(no_mangle)]
 pub extern "C" fn cefrodil_put_5(
-    handle: &mut Slot,
+    handle: &mut RawHandle,
     key: u64,
     value: &[u64; 5],
     reply: &mut RawReply,
@@ -95,7 +95,7 @@ pub extern "C" fn cefrodil_put_5(
 #[tactic(auto, using(crate::proofs::Gives::gives_open, crate::proofs::Gives::gives_closed))]
 #[unsafe(no_mangle)]
 pub extern "C" fn cefrodil_put_6(
-    handle: &mut Slot,
+    handle: &mut RawHandle,
     key: u64,
     value: &[u64; 6],
     reply: &mut RawReply,
@@ -110,7 +110,7 @@ pub extern "C" fn cefrodil_put_6(
 #[tactic(auto, using(crate::proofs::Gives::gives_open, crate::proofs::Gives::gives_closed))]
 #[unsafe(no_mangle)]
 pub extern "C" fn cefrodil_put_7(
-    handle: &mut Slot,
+    handle: &mut RawHandle,
     key: u64,
     value: &[u64; 7],
     reply: &mut RawReply,
@@ -125,7 +125,7 @@ pub extern "C" fn cefrodil_put_7(
 #[tactic(auto, using(crate::proofs::Gives::gives_open, crate::proofs::Gives::gives_closed))]
 #[unsafe(no_mangle)]
 pub extern "C" fn cefrodil_put_8(
-    handle: &mut Slot,
+    handle: &mut RawHandle,
     key: u64,
     value: &[u64; 8],
     reply: &mut RawReply,

@@ -5,8 +5,8 @@ ghost use Rattle.cefrodil.specs.Openings.{IsClosed, RefusesHandles};
 ghost use Rattle.cefrodil.specs.ShardOpenings.{AreShardPasses, IsNewPassAt, RefusesOpenShards, shards_status};
 
 use crate::opening::{all_closed, asked, boxed, close_all, count_of, status_of};
+use crate::raw_handle::RawHandle;
 use crate::shape::RawShape;
-use crate::slot::Slot;
 use mc_door::status::{IN_USE, NO_MEMORY, OK, SHARDS};
 use mc_door::{OpenShardsError, ShardRest, open_shards};
 use std::alloc::Global;
@@ -22,7 +22,7 @@ pub(crate) fn status_of_shards(why: OpenShardsError) -> u32
 
 // A pass for each of the slots. `false` if there is no memory.
 #[tactic(auto, using(crate::proofs::ShardFilling::all_passes))]
-fn fill_passes(alloc: Global, mut rest: ShardRest, slots: &mut [Slot]) -> bool
+fn fill_passes(alloc: Global, mut rest: ShardRest, slots: &mut [RawHandle]) -> bool
     requires { (count_on rest ≡ length slots.old) × All IsClosed slots.old }
     ensures { result ≡ true → All (IsNewPassAt (shards_on rest) (width_on rest)) slots.new }
 {
@@ -48,7 +48,7 @@ fn open_all_shards(
     shape: &RawShape,
     shards: u32,
     words: usize,
-    passes: &mut [Slot],
+    passes: &mut [RawHandle],
 ) -> u32
     requires { All IsClosed passes.old }
     ensures opened { result ≡ OK → AreShardPasses shape.now shards words passes.new }
@@ -77,7 +77,7 @@ pub extern "C" fn cefrodil_open_shards(
     shape: &RawShape,
     shards: u32,
     words: usize,
-    passes: &mut [Slot],
+    passes: &mut [RawHandle],
 ) -> u32
     ensures opened { result ≡ OK → AreShardPasses shape.now shards words passes.new }
     ensures refused { result ≢ OK → RefusesHandles (All IsClosed passes.old) (RefusesOpenShards shape.now shards words (length passes.old)) result }

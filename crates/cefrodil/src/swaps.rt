@@ -3,14 +3,14 @@ ghost use Rattle.std.specs.Prelude.{◌≡◌, []};
 ghost use Rattle.cefrodil.specs.Calls.{SwapGives};
 ghost use Rattle.cefrodil.specs.Open.{kept};
 
-use crate::slot::{Slot, told_of_handle};
+use crate::raw_handle::{RawHandle, told_of_handle};
 use mc_door::{RawReply, Swap};
 
 /// Puts a key, and returns the entry that gives way, by the writer's handle or a pass. Its value is written to `old`.
 #[tactic(auto, using(crate::proofs::Gives::gives_open, crate::proofs::Gives::gives_closed))]
 #[unsafe(no_mangle)]
 pub extern "C" fn cefrodil_swap(
-    handle: &mut Slot,
+    handle: &mut RawHandle,
     key: u64,
     value: &[u64],
     old: &mut [u64],
@@ -26,7 +26,7 @@ pub extern "C" fn cefrodil_swap(
 #[tactic(auto, using(crate::proofs::Gives::gives_open, crate::proofs::Gives::gives_closed))]
 #[unsafe(no_mangle)]
 pub extern "C" fn cefrodil_swap_if(
-    handle: &mut Slot,
+    handle: &mut RawHandle,
     key: u64,
     since: u64,
     value: &[u64],
@@ -43,7 +43,7 @@ pub extern "C" fn cefrodil_swap_if(
 #[tactic(auto, using(crate::proofs::Gives::gives_open, crate::proofs::Gives::gives_closed))]
 #[unsafe(no_mangle)]
 pub extern "C" fn cefrodil_take_if(
-    handle: &mut Slot,
+    handle: &mut RawHandle,
     key: u64,
     since: u64,
     old: &mut [u64],
@@ -59,7 +59,7 @@ pub extern "C" fn cefrodil_take_if(
 #[tactic(auto, using(crate::proofs::Gives::gives_open, crate::proofs::Gives::gives_closed))]
 #[unsafe(no_mangle)]
 pub extern "C" fn cefrodil_take(
-    handle: &mut Slot,
+    handle: &mut RawHandle,
     key: u64,
     old: &mut [u64],
     reply: &mut RawReply,

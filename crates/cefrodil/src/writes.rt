@@ -3,14 +3,14 @@ ghost use Rattle.std.specs.Prelude.{◌≡◌, []};
 ghost use Rattle.cefrodil.specs.Calls.{WriteGives};
 ghost use Rattle.cefrodil.specs.Open.{kept};
 
-use crate::slot::{Slot, told_of_handle};
+use crate::raw_handle::{RawHandle, told_of_handle};
 use mc_door::{RawReply, Write};
 
 /// Puts a key, by the writer's handle or a pass.
 #[tactic(auto, using(crate::proofs::Gives::gives_open, crate::proofs::Gives::gives_closed))]
 #[unsafe(no_mangle)]
 pub extern "C" fn cefrodil_put(
-    handle: &mut Slot,
+    handle: &mut RawHandle,
     key: u64,
     value: &[u64],
     reply: &mut RawReply,
@@ -25,7 +25,7 @@ pub extern "C" fn cefrodil_put(
 #[tactic(auto, using(crate::proofs::Gives::gives_open, crate::proofs::Gives::gives_closed))]
 #[unsafe(no_mangle)]
 pub extern "C" fn cefrodil_put_if(
-    handle: &mut Slot,
+    handle: &mut RawHandle,
     key: u64,
     since: u64,
     value: &[u64],
@@ -41,7 +41,7 @@ pub extern "C" fn cefrodil_put_if(
 #[tactic(auto, using(crate::proofs::Gives::gives_open, crate::proofs::Gives::gives_closed))]
 #[unsafe(no_mangle)]
 pub extern "C" fn cefrodil_put_if_absent(
-    handle: &mut Slot,
+    handle: &mut RawHandle,
     key: u64,
     value: &[u64],
     reply: &mut RawReply,
@@ -55,7 +55,7 @@ pub extern "C" fn cefrodil_put_if_absent(
 /// Takes a key out, by the writer's handle or a pass.
 #[tactic(auto, using(crate::proofs::Gives::gives_open, crate::proofs::Gives::gives_closed))]
 #[unsafe(no_mangle)]
-pub extern "C" fn cefrodil_remove(handle: &mut Slot, key: u64, reply: &mut RawReply) -> u32
+pub extern "C" fn cefrodil_remove(handle: &mut RawHandle, key: u64, reply: &mut RawReply) -> u32
     ensures open { handle.new.live ≡ handle.old.live }
     ensures told { WriteGives (kept handle.old) (kept handle.new) key Write.Remove [] (record { status = result; reply = reply.new }) }
 {
@@ -66,7 +66,7 @@ pub extern "C" fn cefrodil_remove(handle: &mut Slot, key: u64, reply: &mut RawRe
 #[tactic(auto, using(crate::proofs::Gives::gives_open, crate::proofs::Gives::gives_closed))]
 #[unsafe(no_mangle)]
 pub extern "C" fn cefrodil_put_within(
-    handle: &mut Slot,
+    handle: &mut RawHandle,
     tries: u32,
     key: u64,
     value: &[u64],

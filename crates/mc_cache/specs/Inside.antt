@@ -1,4 +1,3 @@
-pub mod CallContracts
 pub mod KeptMoments
 pub mod StampedLists
 pub mod Turned

@@ -9,6 +9,7 @@ pub mod Resting
 pub mod Stamped
 pub mod Taking
 pub mod TurnCalls
+pub mod CallContracts
 pub mod Turns
 pub mod Inside
 -- what callers name besides

@@ -117,8 +117,8 @@ pub record HasAnswered (V : ℕ) (h h' : List (Change V)) (k : ℕ) (reply : Rep
   pub true : IsTrueAnswer h' k reply
   pub between : IsBetween (length h) (length h') reply
 
--- what a try for the turn, to look a key up, means for what its pass has seen: all is seen now, and the reply is what the map holds of the
--- key. If it was held, nothing was seen
+-- what a try for the turn, to look a key up, means for what its pass has seen: that begins what it has seen now, and the reply is what the
+-- map holds of the key after that. If it was held, nothing more was seen
 abbrev pub PeekMeans : (V : ℕ) → List (Change V) → List (Change V) → ℕ → Option (Reply V) → Type 0
 PeekMeans V h h' k (Some reply) = Begins h h' × TellsNow h' k reply
 PeekMeans V h h' k None = h' ≡ h

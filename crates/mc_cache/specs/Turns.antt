@@ -1,24 +1,19 @@
 -- What a try for the turn does, at the desk that has the writer.
-use Rattle.std.specs.Prelude.{ℕ, ◌≡◌, ◌⊎◌, List, length, Option, Some, None, Result, Ok, Err}
+use Rattle.std.specs.Prelude.{ℕ, ◌≡◌, ◌⊎◌, length, Option, Some, None, Result, Ok, Err}
 use Rattle.mc_words.specs.declared.history.Reply.{Reply}
 use Rattle.mc_words.specs.declared.history.Reply.TheVariants.{Busy}
 use Rattle.mc_words.specs.declared.shape.Shape.{Shape}
 use Rattle.mc_plan.specs.WholeCalls.{Call}
-use Rattle.mc_plan.specs.declared.answer.AbsentError.{AbsentError}
 use Rattle.mc_plan.specs.declared.answer.Answer.{Answer}
-use Rattle.mc_plan.specs.declared.answer.IfError.{IfError}
-use Rattle.mc_plan.specs.declared.answer.Put.{Put}
 use Rattle.mc_shared.specs.Records.{Opening, ReaderRecord, WriterRecord, reader_record}
 use Rattle.mc_shared.specs.SeatFacts.{IsRun}
 use Rattle.mc_shared.specs.Views.{IsFrontOf}
 use Rattle.mc_reader.specs.Records.{HasLooked}
-use Rattle.mc_writer.specs.WriterCalls.{HasCalled, HasPutIfAbsent}
+use Rattle.mc_writer.specs.WriterCalls.{HasCalled}
 use Rattle.mc_cache.specs.Beside.{HasLookedBeside}
 use Rattle.mc_cache.specs.Orders.{HasAnsweredInOrder}
 use Rattle.mc_cache.specs.Plain.{HasMet, TellsNow, history, seen}
 use Rattle.mc_cache.specs.Resting.{IsAtRest}
-use Rattle.mc_cache.specs.Taking.{HasTakenIf}
-use Rattle.mc_writer.specs.declared.entry.Replaced.{Replaced}
 use Rattle.mc_cache.specs.declared.desk.DeskError.{DeskError}
 use Rattle.mc_cache.specs.declared.desk.DeskError.TheVariants as desk
 
@@ -51,14 +46,6 @@ HasTriedTo V sh Called old new (Err (desk.Call why)) = HasHadTurn V sh (Called (
 -- a try for the turn, to make this whole call
 abbrev pub HasTried : {T E : Type 0} (V : ℕ) → Shape → Call → (Result T E → Answer) → ReaderRecord → ReaderRecord → Result T (DeskError E) → Type 0
 HasTried V sh call told old new tried = HasTriedTo V sh (λ answer before after. HasCalled V sh call before after (told answer)) old new tried
-
--- a try for the turn, to put a key only if it is absent
-abbrev pub HasTriedIfAbsent : (V : ℕ) → Shape → ℕ → List ℕ → ReaderRecord → ReaderRecord → Result Put (DeskError AbsentError) → Type 0
-HasTriedIfAbsent V sh k v old new tried = HasTriedTo V sh (λ answer before after. HasPutIfAbsent V sh k v before after answer) old new tried
-
--- a try for the turn, to remove a key on a condition
-abbrev pub HasTriedTakeIf : (V : ℕ) → Shape → ℕ → ReaderRecord → ReaderRecord → Result (Replaced V) (DeskError IfError) → Type 0
-HasTriedTakeIf V sh k old new tried = HasTriedTo V sh (λ answer before after. HasTakenIf V sh k before after answer) old new tried
 
 -- whoever lent this reader as a pass has had the turn, and the pass has seen all that the writer had done. It did nothing else
 pub record HasMetAtDesk (V : ℕ) (old new : ReaderRecord) : Type 0 where

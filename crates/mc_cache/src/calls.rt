@@ -1,6 +1,6 @@
 //! The calls of the writer that a turn makes, as values.
 ghost use Rattle.mc_cache.specs.TurnCalls.{CanMake, HasMade};
-ghost use Rattle.mc_cache.specs.Inside.CallContracts.{put_contract, put_if_absent_contract, put_if_contract, remove_contract, swap_contract, swap_if_contract, take_contract, take_if_contract};
+ghost use Rattle.mc_cache.specs.CallContracts.{put_contract, put_if_absent_contract, put_if_contract, remove_contract, swap_contract, swap_if_contract, take_contract, take_if_contract};
 
 use crate::cache::Cache;
 use crate::turn::{Answers, TurnCall};

@@ -1,5 +1,6 @@
 //! The writer, shared by turns that are tried for once.
-ghost use Rattle.std.specs.Prelude.{◌≡◌, IfNone, IfOk, IfSome};
+ghost use Rattle.std.specs.Prelude.{◌≡◌, IfNone, IfSome};
+ghost use Rattle.mc_cache.specs.CallContracts.{put_contract, put_if_absent_contract, put_if_contract, remove_contract, swap_contract, swap_if_contract, take_contract, take_if_contract};
 ghost use Rattle.mc_cache.specs.Resting.{IsAtRest, IsFit};
 
 mod looking;
@@ -124,12 +125,9 @@ impl<const V: usize> Desk<V> {
 }
 
 impl<const V: usize> Desk<V> {
-    ghost use Rattle.mc_cache.specs.Failing.{PutFails, PutIfAbsentFails, PutIfFails, RemovalFails, SwapFails, SwapIfFails, TakeFails, TakeIfFails, TurnFails, versions_seen};
-    ghost use Rattle.mc_cache.specs.Taking.{SwapIfMeans, SwapMeans, TakeIfMeans, TakeMeans, swap_answer, swap_if_answer, take_answer};
-    ghost use Rattle.mc_cache.specs.Plain.{PutIfAbsentMeans, PutIfMeans, PutMeans, RemovalMeans, TurnMeans, seen};
-    ghost use Rattle.mc_cache.specs.Turns.{HasTried, HasTriedIfAbsent, HasTriedTakeIf};
-    ghost use Rattle.mc_plan.specs.WholeCalls.{PutCall, PutIfCall, RemoveCall};
-    ghost use Rattle.mc_plan.specs.declared.answer.Answer.TheVariants as answer;
+    ghost use Rattle.mc_cache.specs.Failing.{TurnFails, versions_seen};
+    ghost use Rattle.mc_cache.specs.Plain.{TurnMeans, seen};
+    ghost use Rattle.mc_cache.specs.Turns.{HasTriedTo};
 
     /// Puts the writer on a new desk.
     pub fn new(writer: Writer<V>) -> Desk<V>
@@ -154,9 +152,9 @@ impl<const V: usize> Desk<V> {
     ) -> Result<Put, DeskError<PutError>>
         requires of { (self.now ≡ cache.now) × (pass.old.of ≡ cache.now) }
         ensures of { pass.new.of ≡ pass.old.of }
-        ensures turn { HasTried V cache.now.layout.shape (PutCall key value.entry) answer.Put pass.old pass.new result }
-        ensures plain { TurnMeans (λ h h' told. PutMeans V h h' key value.entry told) (seen V pass.old) (seen V pass.new) result }
-        ensures fails { TurnFails (PutFails cache.now.layout.shape (seen V pass.new) (versions_seen V pass.new) key) result }
+        ensures turn { HasTriedTo V cache.now.layout.shape ((put_contract V key value.entry).called cache.now.layout.shape) pass.old pass.new result }
+        ensures plain { TurnMeans (put_contract V key value.entry).means (seen V pass.old) (seen V pass.new) result }
+        ensures fails { TurnFails ((put_contract V key value.entry).fails cache.now.layout.shape (seen V pass.new) (versions_seen V pass.new)) result }
     {
         self.try_call(cache, pass, Putting(key, &value))
     }
@@ -173,9 +171,9 @@ impl<const V: usize> Desk<V> {
     ) -> Result<u64, DeskError<IfError>>
         requires of { (self.now ≡ cache.now) × (pass.old.of ≡ cache.now) }
         ensures of { pass.new.of ≡ pass.old.of }
-        ensures turn { HasTried V cache.now.layout.shape (PutIfCall key since value.entry) answer.PutIf pass.old pass.new result }
-        ensures plain { TurnMeans (λ h h' told. PutIfMeans V h h' key since value.entry told) (seen V pass.old) (seen V pass.new) result }
-        ensures fails { TurnFails (PutIfFails cache.now.layout.shape (seen V pass.new) (versions_seen V pass.new)) result }
+        ensures turn { HasTriedTo V cache.now.layout.shape ((put_if_contract V key since value.entry).called cache.now.layout.shape) pass.old pass.new result }
+        ensures plain { TurnMeans (put_if_contract V key since value.entry).means (seen V pass.old) (seen V pass.new) result }
+        ensures fails { TurnFails ((put_if_contract V key since value.entry).fails cache.now.layout.shape (seen V pass.new) (versions_seen V pass.new)) result }
     {
         self.try_call(cache, pass, PuttingIf(key, since, &value))
     }
@@ -191,9 +189,9 @@ impl<const V: usize> Desk<V> {
     ) -> Result<Put, DeskError<AbsentError>>
         requires of { (self.now ≡ cache.now) × (pass.old.of ≡ cache.now) }
         ensures of { pass.new.of ≡ pass.old.of }
-        ensures turn { HasTriedIfAbsent V cache.now.layout.shape key value.entry pass.old pass.new result }
-        ensures plain { TurnMeans (λ h h' told. PutIfAbsentMeans V h h' key value.entry told) (seen V pass.old) (seen V pass.new) result }
-        ensures fails { TurnFails (PutIfAbsentFails cache.now.layout.shape (seen V pass.new) (versions_seen V pass.new) key) result }
+        ensures turn { HasTriedTo V cache.now.layout.shape ((put_if_absent_contract V key value.entry).called cache.now.layout.shape) pass.old pass.new result }
+        ensures plain { TurnMeans (put_if_absent_contract V key value.entry).means (seen V pass.old) (seen V pass.new) result }
+        ensures fails { TurnFails ((put_if_absent_contract V key value.entry).fails cache.now.layout.shape (seen V pass.new) (versions_seen V pass.new)) result }
     {
         self.try_call(cache, pass, PuttingIfAbsent(key, &value))
     }
@@ -208,9 +206,9 @@ impl<const V: usize> Desk<V> {
     ) -> Result<Remove, DeskError<Spent>>
         requires of { (self.now ≡ cache.now) × (pass.old.of ≡ cache.now) }
         ensures of { pass.new.of ≡ pass.old.of }
-        ensures turn { HasTried V cache.now.layout.shape (RemoveCall key) answer.Remove pass.old pass.new result }
-        ensures plain { TurnMeans (λ h h' told. RemovalMeans V h h' key told) (seen V pass.old) (seen V pass.new) result }
-        ensures fails { TurnFails (RemovalFails cache.now.layout.shape (seen V pass.new) (versions_seen V pass.new)) result }
+        ensures turn { HasTriedTo V cache.now.layout.shape ((remove_contract V key).called cache.now.layout.shape) pass.old pass.new result }
+        ensures plain { TurnMeans (remove_contract V key).means (seen V pass.old) (seen V pass.new) result }
+        ensures fails { TurnFails ((remove_contract V key).fails cache.now.layout.shape (seen V pass.new) (versions_seen V pass.new)) result }
     {
         self.try_call(cache, pass, Removing(key))
     }
@@ -226,9 +224,9 @@ impl<const V: usize> Desk<V> {
     ) -> Result<Swapped<V>, DeskError<PutError>>
         requires of { (self.now ≡ cache.now) × (pass.old.of ≡ cache.now) }
         ensures of { pass.new.of ≡ pass.old.of }
-        ensures turn { HasTried V cache.now.layout.shape (PutCall key value.entry) swap_answer pass.old pass.new result }
-        ensures plain { TurnMeans (λ h h' told. SwapMeans V h h' key value.entry told) (seen V pass.old) (seen V pass.new) result }
-        ensures fails { TurnFails (SwapFails cache.now.layout.shape (seen V pass.new) (versions_seen V pass.new) key) result }
+        ensures turn { HasTriedTo V cache.now.layout.shape ((swap_contract V key value.entry).called cache.now.layout.shape) pass.old pass.new result }
+        ensures plain { TurnMeans (swap_contract V key value.entry).means (seen V pass.old) (seen V pass.new) result }
+        ensures fails { TurnFails ((swap_contract V key value.entry).fails cache.now.layout.shape (seen V pass.new) (versions_seen V pass.new)) result }
     {
         self.try_call(cache, pass, Swapping(key, &value))
     }
@@ -245,9 +243,9 @@ impl<const V: usize> Desk<V> {
     ) -> Result<Replaced<V>, DeskError<IfError>>
         requires of { (self.now ≡ cache.now) × (pass.old.of ≡ cache.now) }
         ensures of { pass.new.of ≡ pass.old.of }
-        ensures turn { HasTried V cache.now.layout.shape (PutIfCall key since value.entry) swap_if_answer pass.old pass.new result }
-        ensures plain { TurnMeans (λ h h' told. SwapIfMeans V h h' key since value.entry told) (seen V pass.old) (seen V pass.new) result }
-        ensures fails { TurnFails (SwapIfFails cache.now.layout.shape (seen V pass.new) (versions_seen V pass.new)) result }
+        ensures turn { HasTriedTo V cache.now.layout.shape ((swap_if_contract V key since value.entry).called cache.now.layout.shape) pass.old pass.new result }
+        ensures plain { TurnMeans (swap_if_contract V key since value.entry).means (seen V pass.old) (seen V pass.new) result }
+        ensures fails { TurnFails ((swap_if_contract V key since value.entry).fails cache.now.layout.shape (seen V pass.new) (versions_seen V pass.new)) result }
     {
         self.try_call(cache, pass, SwappingIf(key, since, &value))
     }
@@ -262,9 +260,9 @@ impl<const V: usize> Desk<V> {
     ) -> Result<Take<V>, DeskError<Spent>>
         requires of { (self.now ≡ cache.now) × (pass.old.of ≡ cache.now) }
         ensures of { pass.new.of ≡ pass.old.of }
-        ensures turn { HasTried V cache.now.layout.shape (RemoveCall key) take_answer pass.old pass.new result }
-        ensures plain { TurnMeans (λ h h' told. TakeMeans V h h' key told) (seen V pass.old) (seen V pass.new) result }
-        ensures fails { TurnFails (TakeFails cache.now.layout.shape (seen V pass.new) (versions_seen V pass.new)) result }
+        ensures turn { HasTriedTo V cache.now.layout.shape ((take_contract V key).called cache.now.layout.shape) pass.old pass.new result }
+        ensures plain { TurnMeans (take_contract V key).means (seen V pass.old) (seen V pass.new) result }
+        ensures fails { TurnFails ((take_contract V key).fails cache.now.layout.shape (seen V pass.new) (versions_seen V pass.new)) result }
     {
         self.try_call(cache, pass, Taking(key))
     }
@@ -279,9 +277,9 @@ impl<const V: usize> Desk<V> {
     ) -> Result<Replaced<V>, DeskError<IfError>>
         requires of { (self.now ≡ cache.now) × (pass.old.of ≡ cache.now) }
         ensures of { pass.new.of ≡ pass.old.of }
-        ensures turn { HasTriedTakeIf V cache.now.layout.shape key pass.old pass.new result }
-        ensures plain { TurnMeans (λ h h' told. TakeIfMeans V h h' key since told) (seen V pass.old) (seen V pass.new) result }
-        ensures fails { TurnFails (TakeIfFails cache.now.layout.shape (seen V pass.new) (versions_seen V pass.new)) result }
+        ensures turn { HasTriedTo V cache.now.layout.shape ((take_if_contract V key since).called cache.now.layout.shape) pass.old pass.new result }
+        ensures plain { TurnMeans (take_if_contract V key since).means (seen V pass.old) (seen V pass.new) result }
+        ensures fails { TurnFails ((take_if_contract V key since).fails cache.now.layout.shape (seen V pass.new) (versions_seen V pass.new)) result }
     {
         self.try_call(cache, pass, TakingIf(key, since))
     }
@@ -295,9 +293,6 @@ impl<const V: usize> Desk<V> {
 }
 
 impl<const V: usize> Reader<V> {
-    ghost use Rattle.mc_theory.specs.Lists.{state_of};
-    ghost use Rattle.mc_theory.specs.Plain.{IsBetween};
-    ghost use Rattle.mc_words.specs.History.{IsTrueAnswer};
     ghost use Rattle.mc_cache.specs.Plain.{HasAnswered, seen};
     ghost use Rattle.mc_cache.specs.Turns.{HasLookedInTurn, HasLookedOrMet};
 

@@ -2,4 +2,5 @@ pub mod LoadedSides
 pub mod MoreEntries
 pub mod NewReaders
 pub mod ListedWords
-pub mod HeldLists
+pub mod AnySideLists
+pub mod ShardTries

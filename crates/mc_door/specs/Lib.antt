@@ -5,9 +5,10 @@ pub mod Tells
 pub mod AtShards
 pub mod Means
 pub mod Peeks
+pub mod Turns
 pub mod Writes
 pub mod Swaps
-pub mod Held
+pub mod AnySides
 pub mod NewSides
 pub mod OntoDesk
 pub mod Spares

@@ -12,7 +12,7 @@ use Rattle.mc_door.specs.AtShards.{IsAtShard}
 use Rattle.mc_door.specs.Roles.{Role, Writes, Reads, Passes, Shares, Idle}
 use Rattle.mc_door.specs.Tellings.{lookup_told}
 use Rattle.mc_door.specs.Tells.{HasTold, Tells}
-use Rattle.mc_door.specs.declared.told.Told.{Told}
+use Rattle.mc_door.specs.declared.outcome.Outcome.{Outcome}
 
 -- every side looks up; `Idle` always answers `Busy`
 abbrev pub CanLook : Role → Type 0
@@ -78,10 +78,10 @@ abbrev pub GetOrDeskMeans : (V : ℕ) → Role → Role → ℕ → List ℕ →
 GetOrDeskMeans V role role' key old new told = (length old ≡ V) × LooksAtDesk V role role' key (reply_of V new told) × LeavesUnlessFound old new told
 
 -- what lookups return. `Same`: the side is unchanged
-abbrev pub GetTells : (V : ℕ) → Role → Role → Type 0 → ℕ → List ℕ → List ℕ → Told → Type 0
+abbrev pub GetTells : (V : ℕ) → Role → Role → Type 0 → ℕ → List ℕ → List ℕ → Outcome → Type 0
 GetTells V role role' Same key old new told = Tells CanLook V role (length old) (Same × (new ≡ old)) (HasTold lookup_told (GetMeans V role role' key old new) told) told
 
-abbrev pub GetOrDeskTells : (V : ℕ) → Role → Role → Type 0 → ℕ → List ℕ → List ℕ → Told → Type 0
+abbrev pub GetOrDeskTells : (V : ℕ) → Role → Role → Type 0 → ℕ → List ℕ → List ℕ → Outcome → Type 0
 GetOrDeskTells V role role' Same key old new told = Tells HasTurns V role (length old) (Same × (new ≡ old)) (HasTold lookup_told (GetOrDeskMeans V role role' key old new) told) told
 
 -- what the writer knows: the number of changes

@@ -11,7 +11,7 @@ use Rattle.mc_door.specs.Tellings.{lookup_told, plain}
 use Rattle.mc_door.specs.Tells.{HasTold, Tells}
 use Rattle.mc_door.specs.declared.looked.Looked.{Looked}
 use Rattle.mc_door.specs.declared.status.TheConstants.{HELD}
-use Rattle.mc_door.specs.declared.told.Told.{Told}
+use Rattle.mc_door.specs.declared.outcome.Outcome.{Outcome}
 
 -- the reply is what the map holds now. There is none if the try for the turn did not win
 abbrev pub Peeks : (V : ℕ) → Role → Role → ℕ → Option (Reply V) → Type 0
@@ -33,10 +33,10 @@ LeavesWords old new None = new ≡ old
 abbrev pub PeekWrites : (V : ℕ) → Role → Role → ℕ → List ℕ → List ℕ → Option Looked → Type 0
 PeekWrites V role role' key old new told = (length old ≡ V) × Peeks V role role' key (answer_of V new told) × LeavesWords old new told
 
-abbrev pub peek_told : Option Looked → Told
+abbrev pub peek_told : Option Looked → Outcome
 peek_told (Some looked) = lookup_told looked
 peek_told None = plain HELD
 
-abbrev pub PeekTells : (V : ℕ) → Role → Role → Type 0 → ℕ → List ℕ → List ℕ → Told → Type 0
+abbrev pub PeekTells : (V : ℕ) → Role → Role → Type 0 → ℕ → List ℕ → List ℕ → Outcome → Type 0
 PeekTells V role role' Same key old new told =
     Tells CanChange V role (length old) (Same × (new ≡ old)) (HasTold peek_told (PeekWrites V role role' key old new) told) told

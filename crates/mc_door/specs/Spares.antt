@@ -1,8 +1,8 @@
 -- How many readers of its cache a writer has that no handle has had.
 use Rattle.std.specs.Prelude.{ℕ, ◌+◌, length, min}
 use Rattle.mc_words.specs.Readers.{most_readers}
-use Rattle.mc_door.specs.declared.held.Held.{Held}
-use Rattle.mc_door.specs.declared.held.Held.TheVariants.{One, Two, Three, Four, Five, Six, Seven, Eight}
+use Rattle.mc_door.specs.declared.any_side.AnySide.{AnySide}
+use Rattle.mc_door.specs.declared.any_side.AnySide.TheVariants.{One, Two, Three, Four, Five, Six, Seven, Eight}
 use Rattle.mc_door.specs.declared.side.Side.{Side}
 use Rattle.mc_door.specs.declared.side.Side.TheVariants as side
 
@@ -17,7 +17,7 @@ spares_of (side.Pass s) = 0
 spares_of (side.Shard s) = 0
 spares_of side.Nothing = 0
 
-abbrev pub spares_in : Held → ℕ
+abbrev pub spares_in : AnySide → ℕ
 spares_in (One s) = spares_of s
 spares_in (Two s) = spares_of s
 spares_in (Three s) = spares_of s

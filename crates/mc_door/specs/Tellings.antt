@@ -20,63 +20,63 @@ use Rattle.mc_writer.specs.declared.entry.Take.{Take}
 use Rattle.mc_writer.specs.declared.entry.Take.TheVariants.{Taken, NotThere}
 use Rattle.mc_door.specs.declared.looked.Looked.{Looked}
 use Rattle.mc_door.specs.declared.looked.Looked.TheVariants as looked
-use Rattle.mc_door.specs.declared.told.RawReply.{RawReply}
-use Rattle.mc_door.specs.declared.told.Told.{Told}
+use Rattle.mc_door.specs.declared.outcome.RawReply.{RawReply}
+use Rattle.mc_door.specs.declared.outcome.Outcome.{Outcome}
 use Rattle.mc_door.specs.declared.status.TheConstants.{OK, ABSENT, BUSY, NO_PATH, ALL_RECENT, SPENT, CHANGED, HELD, PRESENT}
-use Rattle.mc_door.specs.declared.told.TheConstants.{NOTHING, STORED, EVICTED, RENEWED}
+use Rattle.mc_door.specs.declared.outcome.TheConstants.{NOTHING, STORED, EVICTED, RENEWED}
 
 -- a status alone
-abbrev pub plain : ℕ → Told
+abbrev pub plain : ℕ → Outcome
 plain status = record { status = status; reply = record { at = 0; since = 0; evicted = 0; moves = 0; put = NOTHING } }
 
 -- a status and a moment
-abbrev pub told_at : ℕ → ℕ → Told
+abbrev pub told_at : ℕ → ℕ → Outcome
 told_at status at = record { status = status; reply = record { at = at; since = 0; evicted = 0; moves = 0; put = NOTHING } }
 
 -- a status and the moment of the key's last put
-abbrev pub told_since : ℕ → ℕ → Told
+abbrev pub told_since : ℕ → ℕ → Outcome
 told_since status since = record { status = status; reply = record { at = 0; since = since; evicted = 0; moves = 0; put = NOTHING } }
 
-abbrev pub lookup_told : Looked → Told
+abbrev pub lookup_told : Looked → Outcome
 lookup_told (looked.Found at since) = record { status = OK; reply = record { at = at; since = since; evicted = 0; moves = 0; put = NOTHING } }
 lookup_told (looked.Absent at) = told_at ABSENT at
 lookup_told looked.Busy = plain BUSY
 
-abbrev pub done_told : Put → Told
+abbrev pub done_told : Put → Outcome
 done_told (Stored at moves None) = record { status = OK; reply = record { at = at; since = 0; evicted = 0; moves = moves; put = STORED } }
 done_told (Stored at moves (Some other)) = record { status = OK; reply = record { at = at; since = 0; evicted = other; moves = moves; put = EVICTED } }
 done_told (Renewed at) = record { status = OK; reply = record { at = at; since = 0; evicted = 0; moves = 0; put = RENEWED } }
 
-abbrev pub not_put_told : PutError → Told
+abbrev pub not_put_told : PutError → Outcome
 not_put_told put_error.NoPath = plain NO_PATH
 not_put_told put_error.AllRecent = plain ALL_RECENT
 not_put_told put_error.Spent = plain SPENT
 
-abbrev pub put_told : Result Put PutError → Told
+abbrev pub put_told : Result Put PutError → Outcome
 put_told (Ok done) = done_told done
 put_told (Err why) = not_put_told why
 
-abbrev pub not_put_if_told : IfError → Told
+abbrev pub not_put_if_told : IfError → Outcome
 not_put_if_told if_error.Spent = plain SPENT
 not_put_if_told (if_error.NotThere at) = told_at ABSENT at
 not_put_if_told (if_error.Changed stands) = told_since CHANGED stands
 
-abbrev pub put_if_told : Result ℕ IfError → Told
+abbrev pub put_if_told : Result ℕ IfError → Outcome
 put_if_told (Ok at) = done_told (Renewed at)
 put_if_told (Err why) = not_put_if_told why
 
-abbrev pub put_if_absent_told : Result Put AbsentError → Told
+abbrev pub put_if_absent_told : Result Put AbsentError → Outcome
 put_if_absent_told (Ok done) = done_told done
 put_if_absent_told (Err (absent.Present since)) = told_since PRESENT since
 put_if_absent_told (Err (absent.Put why)) = not_put_told why
 
-abbrev pub removal_told : Result Remove Spent → Told
+abbrev pub removal_told : Result Remove Spent → Outcome
 removal_told (Ok (remove.Removed at)) = told_at OK at
 removal_told (Ok (remove.NotThere at)) = told_at ABSENT at
 removal_told (Err spent) = plain SPENT
 
 -- how an answer by a pass is returned: another thread may have the turn
-abbrev pub turn_told : {T E : Type 0} → (Result T E → Told) → Result T (DeskError E) → Told
+abbrev pub turn_told : {T E : Type 0} → (Result T E → Outcome) → Result T (DeskError E) → Outcome
 turn_told tells (Ok done) = tells (Ok done)
 turn_told tells (Err desk.Held) = plain HELD
 turn_told tells (Err (desk.Call why)) = tells (Err why)
@@ -86,22 +86,22 @@ abbrev pub stamped : {V : ℕ} → Option (Entry V) → RawReply → RawReply
 stamped None reply = reply
 stamped (Some old) reply = record { at = reply.at; since = old.since; evicted = reply.evicted; moves = reply.moves; put = reply.put }
 
-abbrev pub with_stamp : {V : ℕ} → Option (Entry V) → Told → Told
+abbrev pub with_stamp : {V : ℕ} → Option (Entry V) → Outcome → Outcome
 with_stamp old told = record { status = told.status; reply = stamped old told.reply }
 
-abbrev pub swap_told : {V : ℕ} → Result (Swapped V) PutError → Told
+abbrev pub swap_told : {V : ℕ} → Result (Swapped V) PutError → Outcome
 swap_told (Ok swapped) = with_stamp swapped.old (done_told swapped.put)
 swap_told (Err why) = not_put_told why
 
-abbrev pub swap_if_told : {V : ℕ} → Result (Replaced V) IfError → Told
+abbrev pub swap_if_told : {V : ℕ} → Result (Replaced V) IfError → Outcome
 swap_if_told (Ok replaced) = with_stamp (Some replaced.old) (done_told (Renewed replaced.at))
 swap_if_told (Err why) = not_put_if_told why
 
-abbrev pub take_if_told : {V : ℕ} → Result (Replaced V) IfError → Told
+abbrev pub take_if_told : {V : ℕ} → Result (Replaced V) IfError → Outcome
 take_if_told (Ok replaced) = with_stamp (Some replaced.old) (told_at OK replaced.at)
 take_if_told (Err why) = not_put_if_told why
 
-abbrev pub take_told : {V : ℕ} → Result (Take V) Spent → Told
+abbrev pub take_told : {V : ℕ} → Result (Take V) Spent → Outcome
 take_told (Ok (Taken at old)) = with_stamp (Some old) (told_at OK at)
 take_told (Ok (NotThere at)) = told_at ABSENT at
 take_told (Err spent) = plain SPENT

@@ -3,12 +3,12 @@ ghost use Rattle.std.specs.Prelude.{◌≡◌, IfNone, IfSome, MatchResult};
 ghost use Rattle.mc_words.specs.History.{key_count};
 ghost use Rattle.mc_cache.specs.Plain.{Begins, seen};
 ghost use Rattle.mc_door.specs.Counting.{Counts, RefusesCount};
-ghost use Rattle.mc_door.specs.Held.{role_in, width_of};
+ghost use Rattle.mc_door.specs.AnySides.{role_in, width_of};
 ghost use Rattle.mc_door.specs.Roles.{role_of};
 ghost use Rattle.mc_shards.specs.Counted.{keys_in_all};
 ghost use Rattle.mc_shards.specs.Plain.{AllBegin, seens};
 
-use crate::held::Held;
+use crate::any_side::AnySide;
 use crate::pass_side::PassSide;
 use crate::shard_side::ShardSide;
 use crate::side::Side;
@@ -61,7 +61,7 @@ impl<const V: usize> Side<V> {
     }
 }
 
-impl Held {
+impl AnySide {
     /// How many keys the cache holds: `Writer::len`, or `Desk::try_len` or `Pass::try_len` by a pass.
     pub fn len(&mut self) -> Result<u64, CountError>
         ensures width { width_of self.new ≡ width_of self.old }

@@ -4,16 +4,17 @@
 //! that the side can't make, or a value of another width, has a status of its own.
 #![tactic(auto)]
 
+mod any_side;
 mod at_desk;
 mod counting;
 mod entries;
-mod held;
 mod leaving;
 mod listed;
 mod looked;
 mod new_passes;
 mod new_sides;
 mod onto_desk;
+mod outcome;
 mod pass_side;
 mod peeking;
 mod reader_side;
@@ -25,14 +26,13 @@ mod spares;
 mod stamped;
 pub mod status;
 mod tell;
-mod told;
 mod widths;
 mod words;
 mod write;
 mod writer_side;
 
+pub use any_side::AnySide;
 pub use counting::CountError;
-pub use held::Held;
 pub use leaving::LeaveError;
 pub use listed::ListError;
 pub use looked::Looked;
@@ -41,8 +41,8 @@ pub use mc_shards::{OpenShardsError, shard_shape};
 pub use new_passes::NewPasses;
 pub use new_sides::NewSides;
 pub use onto_desk::MakeDeskError;
+pub use outcome::{EVICTED, NOTHING, Outcome, RENEWED, RawReply, STORED};
 pub use rest::{Rest, open, open_desk, open_with};
 pub use shard_rest::{ShardRest, open_shards};
 pub use side::Side;
-pub use told::{EVICTED, NOTHING, RENEWED, RawReply, STORED, Told};
 pub use write::{Swap, Write};

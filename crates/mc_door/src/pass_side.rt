@@ -1,15 +1,15 @@
 //! A pass at the desk of a cache, with the desk and the cache.
 ghost use Rattle.std.specs.Prelude.{◌≡◌, [], Some, length, IfOk};
-ghost use Rattle.mc_cache.specs.Plain.{PutMeans, TurnMeans, seen, AreEntriesOf, Begins};
-ghost use Rattle.mc_cache.specs.Turns.{HasTried};
-ghost use Rattle.mc_plan.specs.WholeCalls.Call.{PutCall};
-ghost use Rattle.mc_plan.specs.declared.answer.Answer.TheVariants as answer;
+ghost use Rattle.mc_cache.specs.Turns.{HasTriedTo};
+ghost use Rattle.mc_cache.specs.CallContracts.{put_contract};
+ghost use Rattle.mc_cache.specs.Failing.{TurnFails, versions_seen};
+ghost use Rattle.mc_cache.specs.Plain.{TurnMeans, seen, AreEntriesOf, Begins};
 
 use crate::at_desk::AtDesk;
 use crate::looked::Looked;
+use crate::outcome::{Outcome, RawReply};
 use crate::tell;
 use crate::tell::in_turn;
-use crate::told::{RawReply, Told};
 use crate::words::array_of;
 use crate::write::{Swap, Write};
 use mc_cache::{Cache, DeskError, Put, PutError, Reader};
@@ -43,7 +43,7 @@ impl<const V: usize> PassSide<V> {
     {
         let answer = self.pass.get(&self.cache, key);
         let looked = Looked::of(answer, value);
-        Told::looked(looked).tell(reply)
+        Outcome::looked(looked).tell(reply)
     }
 
     #[inline(always)]
@@ -54,14 +54,15 @@ impl<const V: usize> PassSide<V> {
     {
         let answer = self.pass.get_or_desk(&self.cache, self.desk.desk(), key);
         let looked = Looked::of(answer, value);
-        Told::looked(looked).tell(reply)
+        Outcome::looked(looked).tell(reply)
     }
 
     #[inline(always)]
     fn try_put(&mut self, key: u64, value: [u64; V]) -> Result<Put, DeskError<PutError>>
         ensures of { self.new.pass.of ≡ self.old.pass.of }
-        ensures turn { HasTried V self.old.pass.of.layout.shape (PutCall key value.entry) answer.Put self.old.pass self.new.pass result }
-        ensures plain { TurnMeans (λ h h' told. PutMeans V h h' key value.entry told) (seen V self.old.pass) (seen V self.new.pass) result }
+        ensures turn { HasTriedTo V self.old.pass.of.layout.shape ((put_contract V key value.entry).called self.old.pass.of.layout.shape) self.old.pass self.new.pass result }
+        ensures plain { TurnMeans (put_contract V key value.entry).means (seen V self.old.pass) (seen V self.new.pass) result }
+        ensures fails { TurnFails ((put_contract V key value.entry).fails self.old.pass.of.layout.shape (seen V self.new.pass) (versions_seen V self.new.pass)) result }
     {
         self.desk
             .desk()
@@ -76,8 +77,9 @@ impl<const V: usize> PassSide<V> {
         value: [u64; V],
     ) -> Result<Put, DeskError<PutError>>
         ensures of { self.new.pass.of ≡ self.old.pass.of }
-        ensures turn { HasTried V self.old.pass.of.layout.shape (PutCall key value.entry) answer.Put self.old.pass self.new.pass result }
-        ensures plain { TurnMeans (λ h h' told. PutMeans V h h' key value.entry told) (seen V self.old.pass) (seen V self.new.pass) result }
+        ensures turn { HasTriedTo V self.old.pass.of.layout.shape ((put_contract V key value.entry).called self.old.pass.of.layout.shape) self.old.pass self.new.pass result }
+        ensures plain { TurnMeans (put_contract V key value.entry).means (seen V self.old.pass) (seen V self.new.pass) result }
+        ensures fails { TurnFails ((put_contract V key value.entry).fails self.old.pass.of.layout.shape (seen V self.new.pass) (versions_seen V self.new.pass)) result }
     {
         for _ in 1..tries {
             match self.try_put(key, value) {

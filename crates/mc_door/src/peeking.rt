@@ -1,19 +1,19 @@
 //! Lookups that mark nothing: by the writer, or by a pass in a turn.
 ghost use Rattle.std.specs.Prelude.{◌≡◌, length};
 ghost use Rattle.mc_words.specs.Places.{IsWidth};
-ghost use Rattle.mc_door.specs.Held.{role_in, width_of};
+ghost use Rattle.mc_door.specs.AnySides.{role_in, width_of};
 ghost use Rattle.mc_door.specs.Peeks.{LeavesWords, PeekTells, PeekWrites, answer_of, peek_told};
 ghost use Rattle.mc_door.specs.Roles.{Passes, Shares, Writes, role_of};
 ghost use Rattle.mc_door.specs.Tells.{HasTold};
 
-use crate::held::Held;
+use crate::any_side::AnySide;
 use crate::looked::Looked;
+use crate::outcome::{Outcome, RawReply};
 use crate::pass_side::PassSide;
 use crate::shard_side::ShardSide;
 use crate::side::Side;
 use crate::status::{HELD, KIND, WIDTH};
 use crate::tell::refused;
-use crate::told::{RawReply, Told};
 use crate::with_side;
 use crate::writer_side::WriterSide;
 use mc_cache::Reply;
@@ -35,7 +35,7 @@ fn tell(looked: Option<Looked>, reply: &mut RawReply) -> u32
     ensures { record { status = result; reply = reply.new } ≡ peek_told looked }
 {
     match looked {
-        Some(looked) => Told::looked(looked).tell(reply),
+        Some(looked) => Outcome::looked(looked).tell(reply),
         None => refused(HELD, reply),
     }
 }
@@ -92,7 +92,7 @@ impl<const V: usize> Side<V> {
     }
 }
 
-impl Held {
+impl AnySide {
     /// What the map holds of the key now: `Writer::peek`, or that of a pass in a turn. The value is written only if the key was found.
     pub fn peek(&mut self, key: u64, value: &mut [u64], reply: &mut RawReply) -> u32
         ensures width { width_of self.new ≡ width_of self.old }

@@ -2,7 +2,7 @@
 ghost use Rattle.std.specs.Prelude.{◌≡◌, length};
 
 use crate::looked::Looked;
-use crate::told::{RawReply, Told};
+use crate::outcome::{Outcome, RawReply};
 use mc_cache::{Cache, Reader};
 use std::alloc::Global;
 use std::sync::Arc;
@@ -30,6 +30,6 @@ impl<const V: usize> ReaderSide<V> {
     {
         let answer = self.reader.get(&self.cache, key);
         let looked = Looked::of(answer, value);
-        Told::looked(looked).tell(reply)
+        Outcome::looked(looked).tell(reply)
     }
 }

@@ -5,12 +5,12 @@ ghost use Rattle.mc_shared.specs.Views.{layout_of};
 ghost use Rattle.mc_words.specs.Places.{IsWidth};
 ghost use Rattle.mc_words.specs.Readers.{HasReaders};
 ghost use Rattle.mc_words.specs.Shapes.{IsShape};
-ghost use Rattle.mc_door.specs.Held.{role_in, width_of};
+ghost use Rattle.mc_door.specs.AnySides.{role_in, width_of};
 ghost use Rattle.mc_door.specs.Loading.{IsLoadedWriter, entries_in};
 ghost use Rattle.mc_door.specs.NewSides.{IsNewSide, IsNewWriter, count_in, has_desk_in, opening_in, width_in};
 ghost use Rattle.mc_door.specs.Spares.{readers_for, spares_in};
 
-use crate::held::Held;
+use crate::any_side::AnySide;
 use crate::new_sides::NewSides;
 use crate::widths::{at_width, with_sides};
 use mc_cache::{OpenError, Shape, Why};
@@ -32,7 +32,7 @@ pub enum Rest {
 
 impl Rest {
     /// One of them, if any is left. `Err` only if there is no memory.
-    pub fn next(&mut self) -> Result<Option<Held>, NoMemory>
+    pub fn next(&mut self) -> Result<Option<AnySide>, NoMemory>
         ensures same { (opening_in self.new ≡ opening_in self.old) × (has_desk_in self.new ≡ has_desk_in self.old) × (width_in self.new ≡ width_in self.old) }
         ensures refused { IfErr result (λ _. count_in self.new ≡ count_in self.old) }
         ensures given { IfOk result (λ given. MatchOption given (count_in self.old ≡ 0)
@@ -40,20 +40,20 @@ impl Rest {
     {
         macro_rules! given {
             ($sides:ident, $variant:ident) => {
-                Ok($sides.next()?.map(Held::$variant))
+                Ok($sides.next()?.map(AnySide::$variant))
             };
         }
         with_sides!(Rest, self, given)
     }
 
     /// One of the passes, which gets what is left of them. It takes no memory. Condition: they are passes, and one is left.
-    pub fn into_pass(self) -> Held
+    pub fn into_pass(self) -> AnySide
         requires { (has_desk_in self ≡ true) × (1 ≤ count_in self) }
         ensures { (width_of result ≡ width_in self) × IsNewSide (opening_in self) true (role_in result) }
     {
         macro_rules! pass {
             ($sides:ident, $variant:ident) => {
-                Held::$variant($sides.into_pass())
+                AnySide::$variant($sides.into_pass())
             };
         }
         with_sides!(Rest, self, pass)
@@ -66,7 +66,7 @@ pub fn open(
     shape: Shape,
     words: usize,
     readers: u32,
-) -> Result<(Held, Rest), OpenError>
+) -> Result<(AnySide, Rest), OpenError>
     requires width { IsWidth words }
     ensures refused { MatchResult result (λ r. (opening_in r.1).layout ≡ layout_of words shape) (λ e. RefusesOpening shape readers e) }
     ensures writer { IfOk result (λ r. (width_of r.0 ≡ words) × IsNewWriter (opening_in r.1) (role_in r.0)) }
@@ -76,7 +76,7 @@ pub fn open(
     macro_rules! opened {
         ($width:literal, $variant:ident) => {{
             let (side, rest) = NewSides::<$width>::open(alloc, shape, readers)?;
-            Ok((Held::$variant(side), Rest::$variant(rest)))
+            Ok((AnySide::$variant(side), Rest::$variant(rest)))
         }};
     }
     at_width!(words, opened)
@@ -91,7 +91,7 @@ pub fn open_with(
     readers: u32,
     count: usize,
     entries: &[u64],
-) -> Result<(Held, Rest, Vec<(usize, Why)>), OpenError>
+) -> Result<(AnySide, Rest, Vec<(usize, Why)>), OpenError>
     requires width { IsWidth words }
     requires entries { length entries.now ≡ count * (1 + words) }
     ensures refused { MatchResult result (λ r. (opening_in r.1).layout ≡ layout_of words shape) (λ e. RefusesOpening shape readers e) }
@@ -104,7 +104,7 @@ pub fn open_with(
             let (side, rest, left) = NewSides::<$width>::open_with(
                 alloc, shape, readers, count, entries,
             )?;
-            Ok((Held::$variant(side), Rest::$variant(rest), left))
+            Ok((AnySide::$variant(side), Rest::$variant(rest), left))
         }};
     }
     at_width!(words, opened)

@@ -4,10 +4,10 @@ ghost use Rattle.mc_words.specs.Places.{IsWidth};
 ghost use Rattle.mc_words.specs.Readers.{HasReaders};
 ghost use Rattle.mc_words.specs.Shapes.{HasShards, IsShape};
 ghost use Rattle.mc_shards.specs.Openings.{RefusesShards};
-ghost use Rattle.mc_door.specs.Held.{role_in, width_of};
+ghost use Rattle.mc_door.specs.AnySides.{role_in, width_of};
 ghost use Rattle.mc_door.specs.NewPasses.{IsNewPass, count_on, shards_on, width_on};
 
-use crate::held::Held;
+use crate::any_side::AnySide;
 use crate::new_passes::NewPasses;
 use crate::widths::{at_width, with_sides};
 use mc_cache::Shape;
@@ -30,14 +30,14 @@ pub enum ShardRest {
 
 impl ShardRest {
     /// One of them, if any is left. `Err` only if there is no memory.
-    pub fn next(&mut self) -> Result<Option<Held>, NoMemory>
+    pub fn next(&mut self) -> Result<Option<AnySide>, NoMemory>
         ensures same { (shards_on self.new ≡ shards_on self.old) × (width_on self.new ≡ width_on self.old) }
         ensures given { IfOk result (λ given. MatchOption given (count_on self.old ≡ 0)
             (λ held. (width_of held ≡ width_on self.old) × IsNewPass (width_on self.old) (shards_on self.old) (role_in held) × (count_on self.old ≡ count_on self.new + 1))) }
     {
         macro_rules! given {
             ($sides:ident, $variant:ident) => {
-                Ok($sides.next()?.map(Held::$variant))
+                Ok($sides.next()?.map(AnySide::$variant))
             };
         }
         with_sides!(ShardRest, self, given)

@@ -4,9 +4,9 @@ ghost use Rattle.mc_shards.specs.Plain.{AllBegin, AreEntriesOfAll, seens};
 ghost use Rattle.mc_shards.specs.Sharded.{ArePassOf};
 
 use crate::looked::Looked;
+use crate::outcome::{Outcome, RawReply};
 use crate::tell;
 use crate::tell::in_turn;
-use crate::told::{RawReply, Told};
 use crate::words::array_of;
 use crate::write::{Swap, Write};
 use mc_cache::DeskError;
@@ -40,7 +40,7 @@ impl<const V: usize> ShardSide<V> {
     {
         let answer = self.pass.get(&self.shards, key);
         let looked = Looked::of(answer, value);
-        Told::looked(looked).tell(reply)
+        Outcome::looked(looked).tell(reply)
     }
 
     #[inline(always)]
@@ -51,7 +51,7 @@ impl<const V: usize> ShardSide<V> {
     {
         let answer = self.pass.get_or_desk(&self.shards, key);
         let looked = Looked::of(answer, value);
-        Told::looked(looked).tell(reply)
+        Outcome::looked(looked).tell(reply)
     }
 
     #[inline(never)]

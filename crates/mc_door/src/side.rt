@@ -6,12 +6,12 @@ ghost use Rattle.mc_door.specs.Roles.{role_of};
 ghost use Rattle.mc_door.specs.Swaps.{SwapTells};
 ghost use Rattle.mc_door.specs.Writes.{WriteTells};
 
+use crate::outcome::RawReply;
 use crate::pass_side::PassSide;
 use crate::reader_side::ReaderSide;
 use crate::shard_side::ShardSide;
 use crate::status::{BUSY, KIND, WIDTH};
 use crate::tell::refused;
-use crate::told::RawReply;
 use crate::write::{Swap, Write};
 use crate::writer_side::WriterSide;
 

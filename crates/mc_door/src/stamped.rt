@@ -4,14 +4,14 @@ ghost use Rattle.mc_words.specs.Places.{IsWidth};
 ghost use Rattle.mc_cache.specs.Plain.{Begins, history, seen};
 ghost use Rattle.mc_cache.specs.Stamped.{AreStampedEntriesOf};
 ghost use Rattle.mc_cache.specs.Turns.{HasTriedToList};
-ghost use Rattle.mc_door.specs.Held.{role_in, width_of};
+ghost use Rattle.mc_door.specs.AnySides.{role_in, width_of};
 ghost use Rattle.mc_door.specs.Inside.Lists.{RefusesStampedOutright};
 ghost use Rattle.mc_door.specs.Listing.{AreWritten, SeesMore, words_of};
 ghost use Rattle.mc_door.specs.Roles.{role_of};
 ghost use Rattle.mc_door.specs.StampedListing.{AreStampedEntries, HasListedStamped, RefusesStampedList, row_of};
 ghost use Rattle.mc_door.specs.declared.listed.ListError.TheVariants as why;
 
-use crate::held::Held;
+use crate::any_side::AnySide;
 use crate::listed::{ListError, of_turn, room_for};
 use crate::pass_side::PassSide;
 use crate::side::Side;
@@ -95,7 +95,7 @@ impl<const V: usize> Side<V> {
     }
 }
 
-impl Held {
+impl AnySide {
     /// Writes each entry of the cache as its key, its value and the moment of its key's last put, and returns how many they are:
     /// `Writer::stamped_entries` or `Desk::try_stamped_entries`, by the writer or a pass at a desk.
     pub fn stamped_entries(&mut self, alloc: Global, words: &mut [u64]) -> Result<usize, ListError>

@@ -4,8 +4,8 @@ ghost use Rattle.std.specs.Prelude.{◌≡◌, length};
 ghost use Rattle.mc_door.specs.Swaps.{left_by, old_of_swap, old_of_swap_if, old_of_take};
 ghost use Rattle.mc_door.specs.Tellings.{done_told, not_put_told, plain, put_if_absent_told, put_if_told, put_told, removal_told, swap_if_told, swap_told, stamped, take_if_told, take_told};
 
+use crate::outcome::{Outcome, RawReply};
 use crate::status;
-use crate::told::{RawReply, Told};
 use mc_cache::{
     AbsentError, Entry, IfError, Put, PutError, Remove, Replaced, Spent, Swapped, Take,
 };
@@ -16,7 +16,7 @@ use mc_cache::{
 pub(crate) fn refused(status: u32, reply: &mut RawReply) -> u32
     ensures { record { status = result; reply = reply.new } ≡ plain status }
 {
-    Told::plain(status).tell(reply)
+    Outcome::plain(status).tell(reply)
 }
 
 #[cold]
@@ -24,7 +24,7 @@ pub(crate) fn refused(status: u32, reply: &mut RawReply) -> u32
 fn not_put(why: PutError, reply: &mut RawReply) -> u32
     ensures { record { status = result; reply = reply.new } ≡ not_put_told why }
 {
-    Told::not_put(why).tell(reply)
+    Outcome::not_put(why).tell(reply)
 }
 
 #[inline(always)]
@@ -32,10 +32,10 @@ fn done(put: Put, reply: &mut RawReply) -> u32
     ensures { record { status = result; reply = reply.new } ≡ done_told put }
 {
     match put {
-        Put::Renewed { at } => Told::renewed(at).tell(reply),
+        Put::Renewed { at } => Outcome::renewed(at).tell(reply),
         Put::Stored { at, moves, evicted } => match evicted {
-            None => Told::stored(at, moves).tell(reply),
-            Some(key) => Told::evicted(at, moves, key).tell(reply),
+            None => Outcome::stored(at, moves).tell(reply),
+            Some(key) => Outcome::evicted(at, moves, key).tell(reply),
         },
     }
 }
@@ -55,8 +55,8 @@ pub(crate) fn put_if(made: Result<u64, IfError>, reply: &mut RawReply) -> u32
     ensures { record { status = result; reply = reply.new } ≡ put_if_told made }
 {
     match made {
-        Ok(at) => Told::renewed(at).tell(reply),
-        Err(why) => Told::not_put_if(why).tell(reply),
+        Ok(at) => Outcome::renewed(at).tell(reply),
+        Err(why) => Outcome::not_put_if(why).tell(reply),
     }
 }
 
@@ -66,7 +66,7 @@ pub(crate) fn put_if_absent(made: Result<Put, AbsentError>, reply: &mut RawReply
 {
     match made {
         Ok(put) => done(put, reply),
-        Err(AbsentError::Present { since }) => Told::since(status::PRESENT, since).tell(reply),
+        Err(AbsentError::Present { since }) => Outcome::since(status::PRESENT, since).tell(reply),
         Err(AbsentError::Put(why)) => not_put(why, reply),
     }
 }
@@ -76,8 +76,8 @@ pub(crate) fn removal(made: Result<Remove, Spent>, reply: &mut RawReply) -> u32
     ensures { record { status = result; reply = reply.new } ≡ removal_told made }
 {
     match made {
-        Ok(Remove::Removed { at }) => Told::at(status::OK, at).tell(reply),
-        Ok(Remove::NotThere { at }) => Told::at(status::ABSENT, at).tell(reply),
+        Ok(Remove::Removed { at }) => Outcome::at(status::OK, at).tell(reply),
+        Ok(Remove::NotThere { at }) => Outcome::at(status::ABSENT, at).tell(reply),
         Err(Spent) => refused(status::SPENT, reply),
     }
 }
@@ -126,11 +126,11 @@ pub(crate) fn swap_if<const V: usize>(
 {
     match made {
         Ok(replaced) => {
-            let status = Told::renewed(replaced.at).tell(reply);
+            let status = Outcome::renewed(replaced.at).tell(reply);
             give(Some(replaced.old), old, reply);
             status
         }
-        Err(why) => Told::not_put_if(why).tell(reply),
+        Err(why) => Outcome::not_put_if(why).tell(reply),
     }
 }
 
@@ -145,11 +145,11 @@ pub(crate) fn take<const V: usize>(
 {
     match made {
         Ok(Take::Taken { at, old: taken }) => {
-            let status = Told::at(status::OK, at).tell(reply);
+            let status = Outcome::at(status::OK, at).tell(reply);
             give(Some(taken), old, reply);
             status
         }
-        Ok(Take::NotThere { at }) => Told::at(status::ABSENT, at).tell(reply),
+        Ok(Take::NotThere { at }) => Outcome::at(status::ABSENT, at).tell(reply),
         Err(Spent) => refused(status::SPENT, reply),
     }
 }
@@ -165,11 +165,11 @@ pub(crate) fn take_if<const V: usize>(
 {
     match made {
         Ok(taken) => {
-            let status = Told::at(status::OK, taken.at).tell(reply);
+            let status = Outcome::at(status::OK, taken.at).tell(reply);
             give(Some(taken.old), old, reply);
             status
         }
-        Err(why) => Told::not_put_if(why).tell(reply),
+        Err(why) => Outcome::not_put_if(why).tell(reply),
     }
 }
 

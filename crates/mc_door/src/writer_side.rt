@@ -4,8 +4,8 @@ ghost use Rattle.mc_shared.specs.Records.{IsNewReader};
 ghost use Rattle.mc_cache.specs.Plain.{history, AreEntriesOf};
 
 use crate::looked::Looked;
+use crate::outcome::{Outcome, RawReply};
 use crate::tell;
-use crate::told::{RawReply, Told};
 use crate::words::array_of;
 use crate::write::{Swap, Write};
 use mc_cache::{Cache, Reader, Writer};
@@ -179,7 +179,7 @@ impl<const V: usize> WriterSide<V> {
     {
         let answer = self.writer.get(&self.cache, key);
         let looked = Looked::of(answer, value);
-        Told::looked(looked).tell(reply)
+        Outcome::looked(looked).tell(reply)
     }
 
     pub(crate) fn entries(&mut self, alloc: Global) -> Result<Vec<(u64, [u64; V])>, NoMemory>

@@ -21,7 +21,7 @@ use Rattle.mc_load.specs.declared.handle.Handle.TheVariants as handle
 use Rattle.mc_load.proofs.Histories.{told_later}
 use Rattle.mc_load.specs.declared.error.LoadError.{LoadError}
 use Rattle.mc_load.specs.declared.error.LoadError.TheVariants as error
-use Rattle.mc_load.specs.declared.looking.Looking.{Looking}
+use Rattle.mc_load.specs.declared.reader_thread.ReaderThread.{ReaderThread}
 use Rattle.mc_load.specs.Inside.Workers.{AreWhole, HasEnded, HaveAllNoted, HaveEnded}
 
 -- an element of a list that has some
@@ -45,25 +45,25 @@ rest_more {X} P all xs rest x e first one past = λ n d low high.
     ]
 
 -- the call that the gate refused is one of the reader's
-pub reader_seat : {V : ℕ} (may : ℕ → ℕ → Type 0) (load : Load) (ls : List (Looking V)) (n call who : ℕ) → length ls ≡ load.readers → HaveEnded V load ls → AreRefusedBy may ls → who ≡ n + 1 → IsFirstRefused ls n call
+pub reader_seat : {V : ℕ} (may : ℕ → ℕ → Type 0) (load : Load) (ls : List (ReaderThread V)) (n call who : ℕ) → length ls ≡ load.readers → HaveEnded V load ls → AreRefusedBy may ls → who ≡ n + 1 → IsFirstRefused ls n call
     → (1 ≤ call) × ((1 ≤ who) × (who ≤ load.readers) × (call ≤ load.lookups)) × may who call
 reader_seat {V} may load ls n call who many ended by place r =
     let end = subst (HasEnded V load n) (sym r.is) (ended n r.reader r.below) in
     let made : (1 ≤ call) × (call ≤ load.lookups) = subst (λ (x : Option ℕ). IfSome x (λ c. (1 ≤ c) × (c ≤ load.lookups))) r.refused end.refused in
-    let mine = subst (λ (l : Looking V). IfSome l.refused (λ c. may (n + 1) c)) (sym r.is) (by n r.reader r.below) in
+    let mine = subst (λ (l : ReaderThread V). IfSome l.refused (λ c. may (n + 1) c)) (sym r.is) (by n r.reader r.below) in
     let told : may (n + 1) call = subst (λ (x : Option ℕ). IfSome x (λ c. may (n + 1) c)) r.refused mine in
     let low = r.below in (made.0, (omega arith, omega (arith, many), made.1), subst (λ (w : ℕ). may w call) (sym place) told)
 
-reader_call : {V : ℕ} (may : ℕ → ℕ → Type 0) (load : Load) (ls : List (Looking V)) (n call who : ℕ) → length ls ≡ load.readers → HaveEnded V load ls → AreRefusedBy may ls → who ≡ n + 1 → IsFirstRefused ls n call
+reader_call : {V : ℕ} (may : ℕ → ℕ → Type 0) (load : Load) (ls : List (ReaderThread V)) (n call who : ℕ) → length ls ≡ load.readers → HaveEnded V load ls → AreRefusedBy may ls → who ≡ n + 1 → IsFirstRefused ls n call
     → IsCall load who call × may who call
 reader_call may load ls n call who many ended by place r = let one = reader_seat may load ls n call who many ended by place r in ((one.0, inr one.1), one.2)
 
 -- if it refused nothing, each has noted all
-pub all_noted : {V : ℕ} (load : Load) (ls : List (Looking V)) → HaveEnded V load ls → AreWhole ls → HaveAllNoted load ls
+pub all_noted : {V : ℕ} (load : Load) (ls : List (ReaderThread V)) → HaveEnded V load ls → AreWhole ls → HaveAllNoted load ls
 all_noted load ls ended whole = λ n d low. record { many = (ended n d low).whole (whole n d low); drawn = (ended n d low).keys }
 
 -- the gate's refusal is one of the load's
-pub refused_call : {V : ℕ} (may : ℕ → ℕ → Type 0) (load : Load) (ls : List (Looking V)) (why : LoadError) → HasKeys load.keys → IsShape load.shape → HasReaders load.readers
+pub refused_call : {V : ℕ} (may : ℕ → ℕ → Type 0) (load : Load) (ls : List (ReaderThread V)) (why : LoadError) → HasKeys load.keys → IsShape load.shape → HasReaders load.readers
     → length ls ≡ load.readers → HaveEnded V load ls → AreRefusedBy may ls → IsFirstRefusal ls why → RefusesLoad may load why
 refused_call may load ls (error.Gate who call) keys shape readers many ended by r =
     let one = reader_call may load ls r.0 call who many ended by r.1 r.2 in (keys, shape, readers, one.0, one.1)

@@ -12,7 +12,7 @@ use Rattle.mc_check.specs.Wrong.{AreWrong}
 use Rattle.mc_check.specs.declared.record.Record.{Record}
 use Rattle.mc_load.specs.Loads.{is_absent, is_busy, is_found, total_of}
 use Rattle.mc_load.specs.Inside.Workers.{answers_of}
-use Rattle.mc_load.specs.declared.looking.Looking.{Looking}
+use Rattle.mc_load.specs.declared.reader_thread.ReaderThread.{ReaderThread}
 
 -- how many answers of one reader have this kind
 abbrev pub count_of : {V : ℕ} → (Reply V → Bool) → List (Record V) → ℕ
@@ -43,14 +43,14 @@ pub kinds_add : {V : ℕ} (found absent busy many : ℕ) (records : List (Record
 kinds_add found absent busy many records f a b e = let all = kinds_add_up records in omega (arith, all, f, a, b, e)
 
 -- a reader more
-pub total_more : {V : ℕ} (kind : Reply V → Bool) (ls : List (Looking V)) (n : ℕ) (d : Looking V) → n < length ls → total_of kind (answers_of (take (n + 1) ls)) ≡ total_of kind (answers_of (take n ls)) + count_of kind (get_or ls n d).records.items
+pub total_more : {V : ℕ} (kind : Reply V → Bool) (ls : List (ReaderThread V)) (n : ℕ) (d : ReaderThread V) → n < length ls → total_of kind (answers_of (take (n + 1) ls)) ≡ total_of kind (answers_of (take n ls)) + count_of kind (get_or ls n d).records.items
 total_more {V} kind ls n d low =
     let count : List (Record V) → ℕ = λ (records : List (Record V)). count_of kind records in
     let x = get_or ls n d in
     let front = answers_of (take n ls) in
     let next : n + 1 ≡ suc n = omega arith in
     let split : answers_of (take (n + 1) ls) ≡ front ++ x.records.items ∷ [] =
-    ap (λ (m : ℕ). answers_of (take m ls)) next ∙ (ap (λ (z : List (Looking V)). answers_of z) (take-suc ls n d low) ∙ map-append (λ (l : Looking V). l.records.items) (take n ls) (x ∷ [])) in
+    ap (λ (m : ℕ). answers_of (take m ls)) next ∙ (ap (λ (z : List (ReaderThread V)). answers_of z) (take-suc ls n d low) ∙ map-append (λ (l : ReaderThread V). l.records.items) (take n ls) (x ∷ [])) in
     ap (λ (z : List (List (Record V))). sum_by count z) split ∙ (sum_by-append count front (x.records.items ∷ []) ∙ (let one = sum_by-cons count x.records.items [] in omega (arith, one)))
 
 -- if none is wrong, all are true

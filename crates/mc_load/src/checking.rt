@@ -9,9 +9,9 @@ ghost use Rattle.mc_load.specs.Inside.Tries.{HaveTriedWhole};
 ghost use Rattle.mc_load.specs.Inside.Workers.{HaveAllNoted, answers_of};
 
 use crate::asked::Load;
-use crate::looking::Looking;
 use crate::merging::{Share, gather, misplaced, write_history};
-use crate::trying::Trying;
+use crate::reader_thread::ReaderThread;
+use crate::turn_thread::TurnThread;
 use crate::turns_ready::Audit;
 use mc_check::{Checker, Record};
 use std::alloc::Global;
@@ -35,7 +35,7 @@ fn wrong_answers<const V: usize>(
     load: Load,
     checker: &Checker<'_, V>,
     share: Share,
-    lookings: &[Looking<'_, V>],
+    lookings: &[ReaderThread<'_, V>],
     told: &mut Vec<Record<V>>,
 ) -> u64
     requires width { IsWidth V }
@@ -60,8 +60,8 @@ pub(crate) fn check_shard<const V: usize>(
     load: Load,
     share: Share,
     last: u64,
-    tryings: &[Trying<'_, V>],
-    lookings: &[Looking<'_, V>],
+    tryings: &[TurnThread<'_, V>],
+    lookings: &[ReaderThread<'_, V>],
     audit: &mut Audit<V>,
 ) -> u64
     requires width { IsWidth V }

@@ -11,7 +11,7 @@ enum Worker {
     Writer,
     Reader(u32),
     /// One of several writers, and what came of its tries.
-    Trying(u32, Turns),
+    TurnThread(u32, Turns),
 }
 
 /// One worker's line.
@@ -28,7 +28,7 @@ impl Display for Row {
         match self.worker {
             Worker::Writer => write!(f, "writer")?,
             Worker::Reader(number) => write!(f, "reader {number}")?,
-            Worker::Trying(number, _) => write!(f, "writer {number}")?,
+            Worker::TurnThread(number, _) => write!(f, "writer {number}")?,
         }
         let Figures {
             calls_a_second,
@@ -44,7 +44,7 @@ impl Display for Row {
             )?;
         }
         match self.worker {
-            Worker::Trying(_, turns) => {
+            Worker::TurnThread(_, turns) => {
                 write!(f, " held {} answered {}", turns.held, turns.answered)
             }
             _ => Ok(()),
@@ -59,7 +59,7 @@ fn worker_of(who: u32, readers: u32, turns: &[Turns]) -> Worker {
     }
     let number = who.saturating_sub(readers);
     match turns.get(number as usize) {
-        Some(tried) => Worker::Trying(number, *tried),
+        Some(tried) => Worker::TurnThread(number, *tried),
         None => Worker::Writer,
     }
 }

@@ -6,8 +6,8 @@ ghost use Rattle.mc_load.specs.Inside.Workers.{HaveAllNoted};
 use crate::asked::Load;
 use crate::dated::Dated;
 use crate::handle::Handle;
-use crate::looking::{Looking, moment_of};
-use crate::trying::Trying;
+use crate::reader_thread::{ReaderThread, moment_of};
+use crate::turn_thread::TurnThread;
 use mc_cache::Mix;
 use mc_check::key_of;
 
@@ -38,8 +38,8 @@ fn note_lasts<const V: usize>(
 pub(crate) fn last_moments<const V: usize>(
     load: Load,
     shards: u32,
-    tryings: &[Trying<'_, V>],
-    lookings: &mut Vec<Looking<'_, V>>,
+    tryings: &[TurnThread<'_, V>],
+    lookings: &mut Vec<ReaderThread<'_, V>>,
 ) -> [u64; MOST_SHARDS]
     requires shards { HasShards shards }
     requires noted { HaveAllNoted load lookings.old.items }
@@ -50,7 +50,7 @@ pub(crate) fn last_moments<const V: usize>(
     let Some(looking) = lookings.pop() else {
         return lasts;
     };
-    let Looking {
+    let ReaderThread {
         mut handle,
         number,
         many,
@@ -62,7 +62,7 @@ pub(crate) fn last_moments<const V: usize>(
         let journal = tryings[n].journal.as_slice();
         note_lasts(&mut handle, load.shape.mix, shards, journal, &mut lasts);
     }
-    lookings.push_reserved(Looking {
+    lookings.push_reserved(ReaderThread {
         handle,
         number,
         many,

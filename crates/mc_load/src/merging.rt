@@ -11,7 +11,7 @@ ghost use Rattle.mc_load.specs.Inside.Tries.{HaveTriedWhole};
 
 use crate::asked::Load;
 use crate::dated::Dated;
-use crate::trying::Trying;
+use crate::turn_thread::TurnThread;
 use mc_cache::{Change, Mix};
 use mc_check::key_of;
 
@@ -53,7 +53,7 @@ fn append<const V: usize>(all: &mut Vec<Dated<V>>, share: Share, journal: &[Date
 pub(crate) fn gather<const V: usize>(
     load: Load,
     share: Share,
-    tryings: &[Trying<'_, V>],
+    tryings: &[TurnThread<'_, V>],
     all: &mut Vec<Dated<V>>,
 )
     requires width { IsWidth V }

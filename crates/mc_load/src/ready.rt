@@ -13,10 +13,10 @@ ghost use Rattle.mc_load.specs.Inside.Workers.{AreReadersOf, AreReady, CanWrite,
 use crate::asked::Load;
 use crate::draws::Draws;
 use crate::handle::Handle;
-use crate::looking::Looking;
-use crate::trying::Trying;
+use crate::reader_thread::ReaderThread;
+use crate::turn_thread::TurnThread;
 use crate::turns::Turns;
-use crate::writing::Writing;
+use crate::writer_thread::WriterThread;
 use mc_cache::{Cache, Writer};
 use std::alloc::{AllocError, Global};
 
@@ -26,7 +26,7 @@ pub(crate) fn writing_of<'p, const V: usize>(
     load: Load,
     cache: &'p Cache<V>,
     writer: Writer<V>,
-) -> Result<Vec<Writing<'p, V>>, AllocError>
+) -> Result<Vec<WriterThread<'p, V>>, AllocError>
     requires width { IsWidth V }
     requires keys { 1 ≤ load.keys }
     requires shape { cache.now.layout.shape ≡ load.shape }
@@ -39,7 +39,7 @@ pub(crate) fn writing_of<'p, const V: usize>(
     let journal = Vec::with_capacity(alloc, 2 * load.writes as usize)?;
     let draws = Draws::new(load, 0);
     let mut writings = Vec::with_capacity(alloc, 1)?;
-    writings.push_reserved(Writing {
+    writings.push_reserved(WriterThread {
         cache,
         writer,
         draws,
@@ -74,14 +74,14 @@ pub(crate) fn trying_of<'p, const V: usize>(
     load: Load,
     handle: Handle<'p, V>,
     number: u32,
-) -> Result<Trying<'p, V>, AllocError>
+) -> Result<TurnThread<'p, V>, AllocError>
     requires width { IsWidth V }
     requires keys { 1 ≤ load.keys }
     requires few { load.readers + number < 2 ^ 32 }
     ensures { (s : Sharded) → place_of handle.entry ≡ s → IfOk result (λ t. CanTry V s load number t) }
 {
     let journal = Vec::with_capacity(alloc, 2 * load.writes as usize)?;
-    Ok(Trying {
+    Ok(TurnThread {
         handle,
         number,
         who: who_of(load.readers, number),
@@ -99,7 +99,7 @@ fn looking_of<'p, const V: usize>(
     many: u32,
     handle: Handle<'p, V>,
     number: u32,
-) -> Result<Looking<'p, V>, AllocError>
+) -> Result<ReaderThread<'p, V>, AllocError>
     requires width { IsWidth V }
     requires keys { 1 ≤ load.keys }
     requires many { MayAskAtOnce many }
@@ -109,7 +109,7 @@ fn looking_of<'p, const V: usize>(
 {
     let draws = Draws::new(load, u64::from(number) + 1);
     let records = Vec::with_capacity(alloc, load.lookups as usize)?;
-    Ok(Looking {
+    Ok(ReaderThread {
         handle,
         number,
         many,
@@ -125,7 +125,7 @@ pub(crate) fn lookings_of<'p, const V: usize>(
     load: Load,
     many: u32,
     mut handles: Vec<Handle<'p, V>>,
-) -> Result<Vec<Looking<'p, V>>, AllocError>
+) -> Result<Vec<ReaderThread<'p, V>>, AllocError>
     requires width { IsWidth V }
     requires keys { 1 ≤ load.keys }
     requires many { MayAskAtOnce many }

@@ -5,11 +5,11 @@ ghost use Rattle.mc_load.specs.Inside.Refusals.{AreTriesLetThrough, IsFirstRefus
 ghost use Rattle.mc_load.specs.Inside.Workers.{AreWhole};
 
 use crate::error::LoadError;
-use crate::looking::Looking;
-use crate::trying::Trying;
+use crate::reader_thread::ReaderThread;
+use crate::turn_thread::TurnThread;
 
 /// The first reader's call that the gate refused.
-pub(crate) fn refused_lookup<const V: usize>(lookings: &[Looking<'_, V>]) -> Option<LoadError>
+pub(crate) fn refused_lookup<const V: usize>(lookings: &[ReaderThread<'_, V>]) -> Option<LoadError>
     requires { length lookings.now ≤ most_readers }
     ensures none { IfNone result (AreWhole lookings.now) }
     ensures some { IfSome result (IsFirstRefusal lookings.now) }
@@ -27,7 +27,7 @@ pub(crate) fn refused_lookup<const V: usize>(lookings: &[Looking<'_, V>]) -> Opt
 }
 
 /// The first refusal by the gate among the writers that take turns.
-pub(crate) fn refused_try<const V: usize>(tryings: &[Trying<'_, V>]) -> Option<LoadError>
+pub(crate) fn refused_try<const V: usize>(tryings: &[TurnThread<'_, V>]) -> Option<LoadError>
     ensures none { IfNone result (AreTriesLetThrough tryings.now (length tryings.now)) }
     ensures some { IfSome result (IsTryRefusal tryings.now) }
 {

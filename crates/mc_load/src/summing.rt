@@ -9,15 +9,15 @@ ghost use Rattle.mc_load.specs.Inside.Workers.{AreReadersOf, AreWhole, HasWritte
 
 use crate::asked::Load;
 use crate::handle::Handle;
-use crate::looking::Looking;
+use crate::reader_thread::ReaderThread;
 use crate::report::{Report, Tally};
-use crate::writing::Writing;
+use crate::writer_thread::WriterThread;
 use mc_cache::Writer;
 use mc_check::Checker;
 use std::alloc::Global;
 
 /// How many answers of all readers have each kind.
-pub(crate) fn answers_of<const V: usize>(load: Load, lookings: &[Looking<'_, V>]) -> Report
+pub(crate) fn answers_of<const V: usize>(load: Load, lookings: &[ReaderThread<'_, V>]) -> Report
     requires few { length lookings.now ≤ most_readers }
     requires noted { HaveAllNoted load lookings.now }
     ensures lookups { result.lookups ≡ length lookings.now * load.lookups }
@@ -38,7 +38,7 @@ pub(crate) fn answers_of<const V: usize>(load: Load, lookings: &[Looking<'_, V>]
 fn check_reader<const V: usize>(
     writer: &mut Writer<V>,
     checker: &Checker<'_, V>,
-    looking: Looking<'_, V>,
+    looking: ReaderThread<'_, V>,
 ) -> u64
     requires of { cache_of looking.handle ≡ Some writer.old.of }
     requires told { AreAllTold V looking.handle looking.records.items }
@@ -47,7 +47,7 @@ fn check_reader<const V: usize>(
     ensures wrong { result ≡ 0 }
     ensures told { AreTrue (history_after V writer.old.of.layout.shape writer.old.acts) looking.entry.records.items }
 {
-    let Looking {
+    let ReaderThread {
         handle,
         records,
         ..
@@ -64,13 +64,13 @@ fn check_reader<const V: usize>(
 fn check_readers<const V: usize>(
     writer: &mut Writer<V>,
     checker: &Checker<'_, V>,
-    mut lookings: Vec<Looking<'_, V>>,
+    mut lookings: Vec<ReaderThread<'_, V>>,
 ) -> u64
     requires of { AreReadersOf writer.old.of lookings.items }
-    requires told { (n : ℕ) (d : Looking V) → n < length lookings.items → AreAllTold V (slice_index_or lookings.items n d).handle (slice_index_or lookings.items n d).records.items }
+    requires told { (n : ℕ) (d : ReaderThread V) → n < length lookings.items → AreAllTold V (slice_index_or lookings.items n d).handle (slice_index_or lookings.items n d).records.items }
     requires history { checker.now ≡ history_after V writer.old.of.layout.shape writer.old.acts }
     ensures wrong { result ≡ 0 }
-    ensures told { (n : ℕ) (d : Looking V) → n < length lookings.entry.items →
+    ensures told { (n : ℕ) (d : ReaderThread V) → n < length lookings.entry.items →
         AreTrue (history_after V writer.old.of.layout.shape writer.old.acts) (slice_index_or lookings.entry.items n d).records.items }
 {
     let mut wrong = 0;
@@ -84,8 +84,8 @@ fn check_readers<const V: usize>(
 pub(crate) fn report_of<const V: usize>(
     alloc: Global,
     load: Load,
-    writing: Writing<'_, V>,
-    lookings: Vec<Looking<'_, V>>,
+    writing: WriterThread<'_, V>,
+    lookings: Vec<ReaderThread<'_, V>>,
 ) -> Report
     requires width { IsWidth V }
     requires shape { IsShape load.shape × (writing.cache.now.layout.shape ≡ load.shape) }
@@ -99,7 +99,7 @@ pub(crate) fn report_of<const V: usize>(
     requires noted { HaveAllNoted load lookings.items }
     ensures { Reports V load result }
 {
-    let Writing {
+    let WriterThread {
         mut writer,
         journal,
         ..

@@ -12,9 +12,9 @@ ghost use Rattle.mc_load.specs.Inside.Tries.{CanAllTry, CanTry};
 use crate::asked::Load;
 use crate::dated::Dated;
 use crate::handle::Handle;
-use crate::looking::Looking;
+use crate::reader_thread::ReaderThread;
 use crate::ready::{lookings_of, trying_of};
-use crate::trying::Trying;
+use crate::turn_thread::TurnThread;
 use mc_cache::Change;
 use mc_check::Record;
 use std::alloc::{AllocError, Global};
@@ -30,8 +30,8 @@ pub(crate) struct Audit<const V: usize> {
 /// The writers and the readers, and what they are checked with.
 #[derive(Drop)]
 pub(crate) struct Seated<'p, const V: usize> {
-    pub(crate) tryings: Vec<Trying<'p, V>>,
-    pub(crate) lookings: Vec<Looking<'p, V>>,
+    pub(crate) tryings: Vec<TurnThread<'p, V>>,
+    pub(crate) lookings: Vec<ReaderThread<'p, V>>,
     pub(crate) audit: Audit<V>,
 }
 
@@ -54,7 +54,7 @@ fn tryings_of<'p, const V: usize>(
     load: Load,
     writers: u32,
     handles: &mut Vec<Handle<'p, V>>,
-) -> Result<Vec<Trying<'p, V>>, AllocError>
+) -> Result<Vec<TurnThread<'p, V>>, AllocError>
     requires width { IsWidth V }
     requires keys { 1 ≤ load.keys }
     requires seats { HasSeats load.readers writers }

@@ -12,16 +12,16 @@ ghost use Rattle.mc_load.specs.Inside.Workers.{HaveAllNoted, answers_of};
 use crate::asked::Load;
 use crate::checking::check_shard;
 use crate::lasts::last_moments;
-use crate::looking::Looking;
 use crate::merging::Share;
+use crate::reader_thread::ReaderThread;
 use crate::summing::answers_of;
-use crate::trying::Trying;
+use crate::turn_thread::TurnThread;
 use crate::turns::{DeskReport, MOST_WRITERS, Turns, TurnsRun};
 use crate::turns_ready::{Audit, Seated};
 use std::alloc::Global;
 
 /// What came of the tries of all writers, and how many changes their answers report.
-fn tries_of<const V: usize>(load: Load, tryings: &[Trying<'_, V>]) -> (Turns, u64)
+fn tries_of<const V: usize>(load: Load, tryings: &[TurnThread<'_, V>]) -> (Turns, u64)
     requires few { length tryings.now ≤ most_writers }
     requires tried { HaveTriedWhole load tryings.now }
     ensures sum { result.0.held + result.0.answered ≡ length tryings.now * load.writes }
@@ -41,7 +41,7 @@ fn tries_of<const V: usize>(load: Load, tryings: &[Trying<'_, V>]) -> (Turns, u6
 }
 
 /// What came of each writer's tries.
-fn turns_of<const V: usize>(load: Load, tryings: &[Trying<'_, V>]) -> [Turns; MOST_WRITERS]
+fn turns_of<const V: usize>(load: Load, tryings: &[TurnThread<'_, V>]) -> [Turns; MOST_WRITERS]
     requires few { length tryings.now ≤ most_writers }
     requires tried { HaveTriedWhole load tryings.now }
     ensures { (n : ℕ) (d : Turns) → n < length tryings.now → (slice_index_or result n d).held + (slice_index_or result n d).answered ≡ load.writes }
@@ -59,8 +59,8 @@ fn check_all<const V: usize>(
     load: Load,
     shards: u32,
     lasts: &[u64],
-    tryings: &[Trying<'_, V>],
-    lookings: &[Looking<'_, V>],
+    tryings: &[TurnThread<'_, V>],
+    lookings: &[ReaderThread<'_, V>],
     audit: &mut Audit<V>,
 ) -> u64
     requires width { IsWidth V }

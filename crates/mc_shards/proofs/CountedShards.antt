@@ -1,8 +1,11 @@
 -- The keys of shards are counted one shard after the other, from the last one back.
-use Rattle.std.specs.Prelude.{IfSome, sum_by}
-use Rattle.std.proofs.Common.{ℕ, zero, suc, ◌≡◌, ◌+◌, ◌*◌, ◌≤◌, ◌∙◌, List, [], ◌∷◌, length, drop, Some, ap, arith, refl, subst, sym}
+use Rattle.std.specs.Prelude.{IfSome}
+use Rattle.std.proofs.Common.{ℕ, ◌≡◌, ◌+◌, ◌*◌, ◌≤◌, ◌∙◌, List, [], ◌∷◌, length, drop, Some, ap, arith, subst, sym}
 use Rattle.std.proofs.lemmas.List.{length-map}
+use Rattle.std.proofs.Math.Nat.{mul-suc}
+use Rattle.std.proofs.lemmas.List.Sums.{sum_by-cons}
 use Rattle.std.proofs.lemmas.Option.{none-some}
+use Rattle.std.proofs.Math.Numerals.{add-one}
 use Rattle.mc_words.proofs.Count.{keys_fit}
 use Rattle.mc_words.specs.History.{key_count}
 use Rattle.mc_words.specs.declared.history.Change.{Change}
@@ -36,11 +39,11 @@ pub counted_more : (V m n : ℕ) (hs hs' : List (List (Change V))) (many more : 
     → ChangesAt n hs hs' (λ h h'. Begins h h' × IfSome (Some more) (λ x. x ≡ key_count h')) → many + more ≡ keys_in_all (drop n hs')
 counted_more V m n hs hs' many more next was c =
     let after : drop n hs' ≡ c.after ∷ drop m hs = from_change m n hs hs' _ next c in
-    let now : keys_in_all (drop n hs') ≡ key_count c.after + keys_in_all (drop m hs) = ap (λ (z : List (List (Change V))). keys_in_all z) after in
+    let now : keys_in_all (drop n hs') ≡ key_count c.after + keys_in_all (drop m hs) = ap (λ (z : List (List (Change V))). keys_in_all z) after ∙ sum_by-cons key_count c.after (drop m hs) in
     omega (arith, now, was, c.goes.1)
 
 -- the shards that are left have room for all their keys
 pub room_left : (items left now most many more : ℕ) → left ≡ now + 1 → more ≤ items → many + items * left ≤ most → many + more + items * now ≤ most
 room_left items left now most many more next few room =
-    let each : items * left ≡ items * now + items = ap (λ (n : ℕ). items * n) next ∙ ?  in
+    let each : items * left ≡ items * now + items = ap (λ (n : ℕ). items * n) (next ∙ add-one now) ∙ mul-suc items now in
     omega (arith, each, few, room)

@@ -3,6 +3,7 @@ pub mod OneMap
 pub mod Many
 pub mod Entries
 pub mod ListedShards
+pub mod CountedShards
 pub mod LoadedShards
 pub mod Spread
 pub mod Sent

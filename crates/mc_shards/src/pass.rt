@@ -1,12 +1,11 @@
 //! A pass: a reader of each shard, for one thread at a time.
 ghost use Rattle.std.specs.Prelude.{◌≡◌, length};
-ghost use Rattle.mc_plan.specs.WholeCalls.{PutCall, PutIfCall, RemoveCall};
-ghost use Rattle.mc_plan.specs.declared.answer.Answer.TheVariants as answer;
 ghost use Rattle.mc_reader.specs.Records.{HasLooked};
-ghost use Rattle.mc_cache.specs.Turns.{HasLookedOrMet, HasTried, HasTriedIfAbsent, HasTriedTo, HasTriedToPeek};
-ghost use Rattle.mc_cache.specs.Failing.{PutFails, PutIfAbsentFails, PutIfFails, RemovalFails, TurnFails, versions_seen};
+ghost use Rattle.mc_cache.specs.CallContracts.{put_contract, put_if_absent_contract, put_if_contract, remove_contract};
+ghost use Rattle.mc_cache.specs.Turns.{HasLookedOrMet, HasTriedTo, HasTriedToPeek};
+ghost use Rattle.mc_cache.specs.Failing.{TurnFails, versions_seen};
 ghost use Rattle.mc_cache.specs.Plain.{seen};
-ghost use Rattle.mc_shards.specs.Plain.{AllAnswered, AllBegin, HasAnswered, PeekMeans, PutIfAbsentMeans, PutIfMeans, PutMeans, RemovalMeans, TurnMeans, seens};
+ghost use Rattle.mc_shards.specs.Plain.{AllAnswered, AllBegin, HasAnswered, PeekMeans, TurnMeans, seens};
 ghost use Rattle.mc_shards.specs.Sharded.{ArePassOf, ChangesAt, shard_in};
 
 use crate::shards::Shards;
@@ -108,10 +107,10 @@ impl<const V: usize> Pass<V> {
     ) -> Result<Put, DeskError<PutError>>
         requires of { ArePassOf shards.now self.old }
         ensures of { ArePassOf shards.now self.new }
-        ensures turn { ChangesAt (shard_in shards.now key) self.old self.new (λ r r'. HasTried V shards.now.shape (PutCall key value.entry) answer.Put r r' result) }
+        ensures turn { ChangesAt (shard_in shards.now key) self.old self.new (λ r r'. HasTriedTo V shards.now.shape ((put_contract V key value.entry).called shards.now.shape) r r' result) }
         ensures plain { ChangesAt (shard_in shards.now key) (seens V self.old) (seens V self.new)
-            (λ h h'. TurnMeans (λ a b told. PutMeans V a b key value.entry told) h h' result) }
-        ensures fails { ChangesAt (shard_in shards.now key) self.old self.new (λ r r'. TurnFails (PutFails shards.now.shape (seen V r') (versions_seen V r') key) result) }
+            (λ h h'. TurnMeans (put_contract V key value.entry).means h h' result) }
+        ensures fails { ChangesAt (shard_in shards.now key) self.old self.new (λ r r'. TurnFails ((put_contract V key value.entry).fails shards.now.shape (seen V r') (versions_seen V r')) result) }
     {
         self.try_call(shards, key, Putting(key, &value))
     }
@@ -126,10 +125,10 @@ impl<const V: usize> Pass<V> {
     ) -> Result<Put, DeskError<PutError>>
         requires of { ArePassOf shards.now self.old }
         ensures of { ArePassOf shards.now self.new }
-        ensures turn { ChangesAt (shard_in shards.now key) self.old self.new (λ r r'. HasTried V shards.now.shape (PutCall key value.entry) answer.Put r r' result) }
+        ensures turn { ChangesAt (shard_in shards.now key) self.old self.new (λ r r'. HasTriedTo V shards.now.shape ((put_contract V key value.entry).called shards.now.shape) r r' result) }
         ensures plain { ChangesAt (shard_in shards.now key) (seens V self.old) (seens V self.new)
-            (λ h h'. TurnMeans (λ a b told. PutMeans V a b key value.entry told) h h' result) }
-        ensures fails { ChangesAt (shard_in shards.now key) self.old self.new (λ r r'. TurnFails (PutFails shards.now.shape (seen V r') (versions_seen V r') key) result) }
+            (λ h h'. TurnMeans (put_contract V key value.entry).means h h' result) }
+        ensures fails { ChangesAt (shard_in shards.now key) self.old self.new (λ r r'. TurnFails ((put_contract V key value.entry).fails shards.now.shape (seen V r') (versions_seen V r')) result) }
     {
         for _ in 1..tries {
             match self.try_put(shards, key, value) {
@@ -151,10 +150,10 @@ impl<const V: usize> Pass<V> {
     ) -> Result<u64, DeskError<IfError>>
         requires of { ArePassOf shards.now self.old }
         ensures of { ArePassOf shards.now self.new }
-        ensures turn { ChangesAt (shard_in shards.now key) self.old self.new (λ r r'. HasTried V shards.now.shape (PutIfCall key since value.entry) answer.PutIf r r' result) }
+        ensures turn { ChangesAt (shard_in shards.now key) self.old self.new (λ r r'. HasTriedTo V shards.now.shape ((put_if_contract V key since value.entry).called shards.now.shape) r r' result) }
         ensures plain { ChangesAt (shard_in shards.now key) (seens V self.old) (seens V self.new)
-            (λ h h'. TurnMeans (λ a b told. PutIfMeans V a b key since value.entry told) h h' result) }
-        ensures fails { ChangesAt (shard_in shards.now key) self.old self.new (λ r r'. TurnFails (PutIfFails shards.now.shape (seen V r') (versions_seen V r')) result) }
+            (λ h h'. TurnMeans (put_if_contract V key since value.entry).means h h' result) }
+        ensures fails { ChangesAt (shard_in shards.now key) self.old self.new (λ r r'. TurnFails ((put_if_contract V key since value.entry).fails shards.now.shape (seen V r') (versions_seen V r')) result) }
     {
         self.try_call(shards, key, PuttingIf(key, since, &value))
     }
@@ -169,10 +168,10 @@ impl<const V: usize> Pass<V> {
     ) -> Result<Put, DeskError<AbsentError>>
         requires of { ArePassOf shards.now self.old }
         ensures of { ArePassOf shards.now self.new }
-        ensures turn { ChangesAt (shard_in shards.now key) self.old self.new (λ r r'. HasTriedIfAbsent V shards.now.shape key value.entry r r' result) }
+        ensures turn { ChangesAt (shard_in shards.now key) self.old self.new (λ r r'. HasTriedTo V shards.now.shape ((put_if_absent_contract V key value.entry).called shards.now.shape) r r' result) }
         ensures plain { ChangesAt (shard_in shards.now key) (seens V self.old) (seens V self.new)
-            (λ h h'. TurnMeans (λ a b told. PutIfAbsentMeans V a b key value.entry told) h h' result) }
-        ensures fails { ChangesAt (shard_in shards.now key) self.old self.new (λ r r'. TurnFails (PutIfAbsentFails shards.now.shape (seen V r') (versions_seen V r') key) result) }
+            (λ h h'. TurnMeans (put_if_absent_contract V key value.entry).means h h' result) }
+        ensures fails { ChangesAt (shard_in shards.now key) self.old self.new (λ r r'. TurnFails ((put_if_absent_contract V key value.entry).fails shards.now.shape (seen V r') (versions_seen V r')) result) }
     {
         self.try_call(shards, key, PuttingIfAbsent(key, &value))
     }
@@ -182,10 +181,10 @@ impl<const V: usize> Pass<V> {
     pub fn try_remove(&mut self, shards: &Shards<V>, key: u64) -> Result<Remove, DeskError<Spent>>
         requires of { ArePassOf shards.now self.old }
         ensures of { ArePassOf shards.now self.new }
-        ensures turn { ChangesAt (shard_in shards.now key) self.old self.new (λ r r'. HasTried V shards.now.shape (RemoveCall key) answer.Remove r r' result) }
+        ensures turn { ChangesAt (shard_in shards.now key) self.old self.new (λ r r'. HasTriedTo V shards.now.shape ((remove_contract V key).called shards.now.shape) r r' result) }
         ensures plain { ChangesAt (shard_in shards.now key) (seens V self.old) (seens V self.new)
-            (λ h h'. TurnMeans (λ a b told. RemovalMeans V a b key told) h h' result) }
-        ensures fails { ChangesAt (shard_in shards.now key) self.old self.new (λ r r'. TurnFails (RemovalFails shards.now.shape (seen V r') (versions_seen V r')) result) }
+            (λ h h'. TurnMeans (remove_contract V key).means h h' result) }
+        ensures fails { ChangesAt (shard_in shards.now key) self.old self.new (λ r r'. TurnFails ((remove_contract V key).fails shards.now.shape (seen V r') (versions_seen V r')) result) }
     {
         self.try_call(shards, key, Removing(key))
     }

@@ -1,10 +1,9 @@
 //! A pass's calls that also return the entry which they take out of the map.
-ghost use Rattle.mc_plan.specs.WholeCalls.{PutCall, PutIfCall, RemoveCall};
-ghost use Rattle.mc_cache.specs.Failing.{SwapFails, SwapIfFails, TakeFails, TakeIfFails, TurnFails, versions_seen};
+ghost use Rattle.mc_cache.specs.Turns.{HasTriedTo};
+ghost use Rattle.mc_cache.specs.CallContracts.{swap_contract, swap_if_contract, take_contract, take_if_contract};
+ghost use Rattle.mc_cache.specs.Failing.{TurnFails, versions_seen};
 ghost use Rattle.mc_cache.specs.Plain.{seen};
-ghost use Rattle.mc_cache.specs.Taking.{swap_answer, swap_if_answer, take_answer};
-ghost use Rattle.mc_cache.specs.Turns.{HasTried, HasTriedTakeIf};
-ghost use Rattle.mc_shards.specs.Plain.{SwapIfMeans, SwapMeans, TakeIfMeans, TakeMeans, TurnMeans, seens};
+ghost use Rattle.mc_shards.specs.Plain.{TurnMeans, seens};
 ghost use Rattle.mc_shards.specs.Sharded.{ArePassOf, ChangesAt, shard_in};
 
 use crate::pass::Pass;
@@ -23,10 +22,10 @@ impl<const V: usize> Pass<V> {
     ) -> Result<Swapped<V>, DeskError<PutError>>
         requires of { ArePassOf shards.now self.old }
         ensures of { ArePassOf shards.now self.new }
-        ensures turn { ChangesAt (shard_in shards.now key) self.old self.new (λ r r'. HasTried V shards.now.shape (PutCall key value.entry) swap_answer r r' result) }
+        ensures turn { ChangesAt (shard_in shards.now key) self.old self.new (λ r r'. HasTriedTo V shards.now.shape ((swap_contract V key value.entry).called shards.now.shape) r r' result) }
         ensures plain { ChangesAt (shard_in shards.now key) (seens V self.old) (seens V self.new)
-            (λ h h'. TurnMeans (λ a b told. SwapMeans V a b key value.entry told) h h' result) }
-        ensures fails { ChangesAt (shard_in shards.now key) self.old self.new (λ r r'. TurnFails (SwapFails shards.now.shape (seen V r') (versions_seen V r') key) result) }
+            (λ h h'. TurnMeans (swap_contract V key value.entry).means h h' result) }
+        ensures fails { ChangesAt (shard_in shards.now key) self.old self.new (λ r r'. TurnFails ((swap_contract V key value.entry).fails shards.now.shape (seen V r') (versions_seen V r')) result) }
     {
         self.try_call(shards, key, Swapping(key, &value))
     }
@@ -42,10 +41,10 @@ impl<const V: usize> Pass<V> {
     ) -> Result<Replaced<V>, DeskError<IfError>>
         requires of { ArePassOf shards.now self.old }
         ensures of { ArePassOf shards.now self.new }
-        ensures turn { ChangesAt (shard_in shards.now key) self.old self.new (λ r r'. HasTried V shards.now.shape (PutIfCall key since value.entry) swap_if_answer r r' result) }
+        ensures turn { ChangesAt (shard_in shards.now key) self.old self.new (λ r r'. HasTriedTo V shards.now.shape ((swap_if_contract V key since value.entry).called shards.now.shape) r r' result) }
         ensures plain { ChangesAt (shard_in shards.now key) (seens V self.old) (seens V self.new)
-            (λ h h'. TurnMeans (λ a b told. SwapIfMeans V a b key since value.entry told) h h' result) }
-        ensures fails { ChangesAt (shard_in shards.now key) self.old self.new (λ r r'. TurnFails (SwapIfFails shards.now.shape (seen V r') (versions_seen V r')) result) }
+            (λ h h'. TurnMeans (swap_if_contract V key since value.entry).means h h' result) }
+        ensures fails { ChangesAt (shard_in shards.now key) self.old self.new (λ r r'. TurnFails ((swap_if_contract V key since value.entry).fails shards.now.shape (seen V r') (versions_seen V r')) result) }
     {
         self.try_call(shards, key, SwappingIf(key, since, &value))
     }
@@ -55,10 +54,10 @@ impl<const V: usize> Pass<V> {
     pub fn try_take(&mut self, shards: &Shards<V>, key: u64) -> Result<Take<V>, DeskError<Spent>>
         requires of { ArePassOf shards.now self.old }
         ensures of { ArePassOf shards.now self.new }
-        ensures turn { ChangesAt (shard_in shards.now key) self.old self.new (λ r r'. HasTried V shards.now.shape (RemoveCall key) take_answer r r' result) }
+        ensures turn { ChangesAt (shard_in shards.now key) self.old self.new (λ r r'. HasTriedTo V shards.now.shape ((take_contract V key).called shards.now.shape) r r' result) }
         ensures plain { ChangesAt (shard_in shards.now key) (seens V self.old) (seens V self.new)
-            (λ h h'. TurnMeans (λ a b told. TakeMeans V a b key told) h h' result) }
-        ensures fails { ChangesAt (shard_in shards.now key) self.old self.new (λ r r'. TurnFails (TakeFails shards.now.shape (seen V r') (versions_seen V r')) result) }
+            (λ h h'. TurnMeans (take_contract V key).means h h' result) }
+        ensures fails { ChangesAt (shard_in shards.now key) self.old self.new (λ r r'. TurnFails ((take_contract V key).fails shards.now.shape (seen V r') (versions_seen V r')) result) }
     {
         self.try_call(shards, key, Taking(key))
     }
@@ -72,10 +71,10 @@ impl<const V: usize> Pass<V> {
     ) -> Result<Replaced<V>, DeskError<IfError>>
         requires of { ArePassOf shards.now self.old }
         ensures of { ArePassOf shards.now self.new }
-        ensures turn { ChangesAt (shard_in shards.now key) self.old self.new (λ r r'. HasTriedTakeIf V shards.now.shape key r r' result) }
+        ensures turn { ChangesAt (shard_in shards.now key) self.old self.new (λ r r'. HasTriedTo V shards.now.shape ((take_if_contract V key since).called shards.now.shape) r r' result) }
         ensures plain { ChangesAt (shard_in shards.now key) (seens V self.old) (seens V self.new)
-            (λ h h'. TurnMeans (λ a b told. TakeIfMeans V a b key since told) h h' result) }
-        ensures fails { ChangesAt (shard_in shards.now key) self.old self.new (λ r r'. TurnFails (TakeIfFails shards.now.shape (seen V r') (versions_seen V r')) result) }
+            (λ h h'. TurnMeans (take_if_contract V key since).means h h' result) }
+        ensures fails { ChangesAt (shard_in shards.now key) self.old self.new (λ r r'. TurnFails ((take_if_contract V key since).fails shards.now.shape (seen V r') (versions_seen V r')) result) }
     {
         self.try_call(shards, key, TakingIf(key, since))
     }

@@ -69,9 +69,11 @@ fn a_thread_alone_is_answered_shard_by_shard(rt: HostRuntime) -> Result<(), Fail
         return Err(Fail::new("a key was not stored"));
     };
     assert!(rt; made.iter().all(|many: &u64| -> bool { *many > 0 }));
+    assert_eq!(rt; pass.try_len(&shards), Some(32));
     let at = made[shards.shard_of(5) % 4].wrapping_add(1);
     assert_eq!(rt; pass.try_remove(&shards, 5), Ok(Remove::Removed { at }));
     assert_eq!(rt; pass.get_or_desk(&shards, 5), Reply::Absent { at });
+    assert_eq!(rt; pass.try_len(&shards), Some(31));
     match shards.close(rt.alloc(), pass) {
         Ok(entries) => assert_eq!(rt; entries.len(), 31),
         Err(_) => return Err(Fail::new("still open")),

@@ -7,13 +7,13 @@ use Rattle.mc_door.specs.declared.rest.Rest.{Rest}
 use Rattle.mc_door.specs.declared.shard_rest.ShardRest.{ShardRest}
 use Rattle.cefrodil.specs.Openings.{IsClosed, IsNewAt}
 use Rattle.cefrodil.specs.ShardOpenings.{IsNewPassAt}
-use Rattle.cefrodil.specs.declared.slot.Slot.{Slot}
+use Rattle.cefrodil.specs.declared.raw_handle.RawHandle.{RawHandle}
 
-abbrev pub IsOpen : Slot → Type 0
+abbrev pub IsOpen : RawHandle → Type 0
 IsOpen s = s.live ≡ true
 
 -- the first n handles have a side of the new cache, the others wait for one, and as many sides are left
-pub record IsFilledTo (Waits : Slot → Type 0) (first rest : Rest) (slots : List Slot) (n : ℕ) : Type 0 where
+pub record IsFilledTo (Waits : RawHandle → Type 0) (first rest : Rest) (slots : List RawHandle) (n : ℕ) : Type 0 where
   pub opening : opening_in rest ≡ opening_in first
   pub desk : has_desk_in rest ≡ has_desk_in first
   pub width : width_in rest ≡ width_in first
@@ -22,7 +22,7 @@ pub record IsFilledTo (Waits : Slot → Type 0) (first rest : Rest) (slots : Lis
   pub waiting : AllWithin Waits slots n (length slots)
 
 -- the first n handles have a pass of the new shards, the others are closed, and as many passes are left
-pub record HasPassesTo (first rest : ShardRest) (slots : List Slot) (n : ℕ) : Type 0 where
+pub record HasPassesTo (first rest : ShardRest) (slots : List RawHandle) (n : ℕ) : Type 0 where
   pub shards : shards_on rest ≡ shards_on first
   pub width : width_on rest ≡ width_on first
   pub left : count_on rest + n ≡ length slots
@@ -30,6 +30,6 @@ pub record HasPassesTo (first rest : ShardRest) (slots : List Slot) (n : ℕ) : 
   pub closed : AllWithin IsClosed slots n (length slots)
 
 -- the first n handles are open, the others closed
-pub record HasPlacesTo (slots : List Slot) (n : ℕ) : Type 0 where
+pub record HasPlacesTo (slots : List RawHandle) (n : ℕ) : Type 0 where
   pub places : AllWithin IsOpen slots 0 n
   pub closed : AllWithin IsClosed slots n (length slots)

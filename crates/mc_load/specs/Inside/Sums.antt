@@ -12,21 +12,21 @@ use Rattle.mc_load.specs.Turns.{HasMadeTries, Tries}
 use Rattle.mc_load.specs.Inside.Seats.{CanAudit}
 use Rattle.mc_load.specs.Inside.Tries.{HaveTriedWhole, tries_of}
 use Rattle.mc_load.specs.Inside.Workers.{HaveAllNoted}
-use Rattle.mc_load.specs.declared.looking.Looking.{Looking}
+use Rattle.mc_load.specs.declared.reader_thread.ReaderThread.{ReaderThread}
 use Rattle.mc_load.specs.declared.turns_ready.Seated.{Seated}
-use Rattle.mc_load.specs.declared.trying.Trying.{Trying}
+use Rattle.mc_load.specs.declared.turn_thread.TurnThread.{TurnThread}
 
 -- the answers about a shard's keys are true of the history
-abbrev pub AreTrueIn : {V : ℕ} → Mix → ℕ → ℕ → List (Change V) → List (Looking V) → Type 0
-AreTrueIn {V} mix shards shard h ls = (n : ℕ) (d : Looking V) → n < length ls → AreTrue h (answers_in mix shards shard (slice_index_or ls n d).records.items)
+abbrev pub AreTrueIn : {V : ℕ} → Mix → ℕ → ℕ → List (Change V) → List (ReaderThread V) → Type 0
+AreTrueIn {V} mix shards shard h ls = (n : ℕ) (d : ReaderThread V) → n < length ls → AreTrue h (answers_in mix shards shard (slice_index_or ls n d).records.items)
 
 -- the tries of all writers
-abbrev pub all_tries : {V : ℕ} → List (Trying V) → List (Tries V)
-all_tries {V} ts = map (λ (t : Trying V). tries_of t) ts
+abbrev pub all_tries : {V : ℕ} → List (TurnThread V) → List (Tries V)
+all_tries {V} ts = map (λ (t : TurnThread V). tries_of t) ts
 
 -- each has made those that were drawn
-abbrev pub HaveAllMade : (V : ℕ) → Sharded → Load → List (Trying V) → Type 0
-HaveAllMade V s load ts = (n : ℕ) (d : Trying V) → n < length ts → HasMadeTries V s load n (tries_of (slice_index_or ts n d))
+abbrev pub HaveAllMade : (V : ℕ) → Sharded → Load → List (TurnThread V) → Type 0
+HaveAllMade V s load ts = (n : ℕ) (d : TurnThread V) → n < length ts → HasMadeTries V s load n (tries_of (slice_index_or ts n d))
 
 -- every worker has made its calls, and can be checked
 pub record HasRun {V : ℕ} (opened : Sharded) (load : Load) (shards writers : ℕ) (s : Seated V) : Type 0 where

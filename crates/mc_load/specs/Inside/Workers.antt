@@ -11,22 +11,22 @@ use Rattle.mc_load.specs.ShardLoads.{HasAsked}
 use Rattle.mc_load.specs.Inside.Drawn.{AreNext}
 use Rattle.mc_load.specs.Inside.Handles.{AreAllTold, cache_of}
 use Rattle.mc_load.specs.declared.asked.Load.{Load}
-use Rattle.mc_load.specs.declared.looking.Looking.{Looking}
-use Rattle.mc_load.specs.declared.writing.Writing.{Writing}
+use Rattle.mc_load.specs.declared.reader_thread.ReaderThread.{ReaderThread}
+use Rattle.mc_load.specs.declared.writer_thread.WriterThread.{WriterThread}
 
 -- the writer is this cache's, and the changes that were written down are the history
-pub record IsWriting (V : ℕ) (o : Opening) (w : Writing V) : Type 0 where
+pub record IsWriting (V : ℕ) (o : Opening) (w : WriterThread V) : Type 0 where
   pub of : w.writer.of ≡ o
   pub lawful : IsLawful V o.layout.shape w.writer.acts
   pub kept : w.journal.items ≡ history_after V o.layout.shape w.writer.acts
 
 -- the writer has made n calls, those that were drawn
-pub record HasWritten (V : ℕ) (load : Load) (n : ℕ) (w : Writing V) : Type 0 where
+pub record HasWritten (V : ℕ) (load : Load) (n : ℕ) (w : WriterThread V) : Type 0 where
   pub drawn : HasDrawn load 0 (2 * n) w.draws
   pub made : HasMade V load n w.writer
 
 -- the writer may begin: there is room for what its calls can change
-pub record CanWrite (V : ℕ) (load : Load) (w : Writing V) : Type 0 where
+pub record CanWrite (V : ℕ) (load : Load) (w : WriterThread V) : Type 0 where
   pub shape : w.cache.now.layout.shape ≡ load.shape
   pub writing : IsWriting V w.cache.now w
   pub written : HasWritten V load 0 w
@@ -35,7 +35,7 @@ pub record CanWrite (V : ℕ) (load : Load) (w : Writing V) : Type 0 where
   pub refused : w.refused ≡ None
 
 -- it has made all its calls, or the gate refused one
-pub record HasEndedWriting (V : ℕ) (may : ℕ → ℕ → Type 0) (load : Load) (before after : Writing V) : Type 0 where
+pub record HasEndedWriting (V : ℕ) (may : ℕ → ℕ → Type 0) (load : Load) (before after : WriterThread V) : Type 0 where
   pub cache : after.cache ≡ before.cache
   pub writing : IsWriting V after.cache.now after
   pub written : IfNone after.refused (HasWritten V load load.writes after)
@@ -43,23 +43,23 @@ pub record HasEndedWriting (V : ℕ) (may : ℕ → ℕ → Type 0) (load : Load
   pub refused : IfSome after.refused (λ call. (1 ≤ call) × (call ≤ load.writes) × may 0 call)
 
 -- the keys that the reader has written down are those that were drawn
-abbrev pub HasNotedDrawn : (V : ℕ) → Load → Looking V → Type 0
+abbrev pub HasNotedDrawn : (V : ℕ) → Load → ReaderThread V → Type 0
 HasNotedDrawn V load l = AreDrawn load l.number l.records.items
 
 -- and it has drawn no others
-pub record HasLookedUpDrawn (V : ℕ) (load : Load) (l : Looking V) : Type 0 where
+pub record HasLookedUpDrawn (V : ℕ) (load : Load) (l : ReaderThread V) : Type 0 where
   pub drawn : HasDrawn load (l.number + 1) (length l.records.items) l.draws
   pub keys : HasNotedDrawn V load l
 
 -- this key is drawn for its next lookup, these for its next ones
-abbrev pub IsNextOf : (V : ℕ) → Load → Looking V → ℕ → Type 0
+abbrev pub IsNextOf : (V : ℕ) → Load → ReaderThread V → ℕ → Type 0
 IsNextOf V load l key = key ≡ drawn_key load (l.number + 1) (length l.records.items)
 
-abbrev pub AreNextOf : (V : ℕ) → Load → Looking V → List ℕ → Type 0
+abbrev pub AreNextOf : (V : ℕ) → Load → ReaderThread V → List ℕ → Type 0
 AreNextOf V load l keys = AreNext load (l.number + 1) (length l.records.items) keys
 
 -- reader n may begin: there is room for its answers
-pub record IsReady (V : ℕ) (load : Load) (n : ℕ) (l : Looking V) : Type 0 where
+pub record IsReady (V : ℕ) (load : Load) (n : ℕ) (l : ReaderThread V) : Type 0 where
   pub told : AreAllTold V l.handle l.records.items
   pub drawn : HasDrawn load (n + 1) 0 l.draws
   pub number : l.number ≡ n
@@ -68,7 +68,7 @@ pub record IsReady (V : ℕ) (load : Load) (n : ℕ) (l : Looking V) : Type 0 wh
   pub room : load.lookups ≤ vec_capacity l.records
 
 -- reader n has made all its lookups, or the gate refused one
-pub record HasEnded (V : ℕ) (load : Load) (n : ℕ) (l : Looking V) : Type 0 where
+pub record HasEnded (V : ℕ) (load : Load) (n : ℕ) (l : ReaderThread V) : Type 0 where
   pub told : AreAllTold V l.handle l.records.items
   pub keys : AreDrawn load n l.records.items
   pub number : l.number ≡ n
@@ -76,32 +76,32 @@ pub record HasEnded (V : ℕ) (load : Load) (n : ℕ) (l : Looking V) : Type 0 w
   pub refused : IfSome l.refused (λ call. (1 ≤ call) × (call ≤ load.lookups))
 
 -- so it may begin, and has ended, by its own number
-abbrev pub CanLook : (V : ℕ) → Load → Looking V → Type 0
+abbrev pub CanLook : (V : ℕ) → Load → ReaderThread V → Type 0
 CanLook V load l = IsReady V load l.number l × (l.number < most_readers)
 
-pub record HasLooked (V : ℕ) (may : ℕ → ℕ → Type 0) (load : Load) (before after : Looking V) : Type 0 where
+pub record HasLooked (V : ℕ) (may : ℕ → ℕ → Type 0) (load : Load) (before after : ReaderThread V) : Type 0 where
   pub ended : HasEnded V load before.number after
   pub cache : cache_of after.handle ≡ cache_of before.handle
   pub refused : IfSome after.refused (λ call. may (before.number + 1) call)
 
 -- the answers that the readers wrote down
-abbrev pub answers_of : {V : ℕ} → List (Looking V) → List (List (Record V))
-answers_of {V} ls = map (λ (l : Looking V). l.records.items) ls
+abbrev pub answers_of : {V : ℕ} → List (ReaderThread V) → List (List (Record V))
+answers_of {V} ls = map (λ (l : ReaderThread V). l.records.items) ls
 
-abbrev pub AreReady : (V : ℕ) → Load → List (Looking V) → Type 0
-AreReady V load ls = (n : ℕ) (d : Looking V) → n < length ls → IsReady V load n (slice_index_or ls n d)
+abbrev pub AreReady : (V : ℕ) → Load → List (ReaderThread V) → Type 0
+AreReady V load ls = (n : ℕ) (d : ReaderThread V) → n < length ls → IsReady V load n (slice_index_or ls n d)
 
-abbrev pub HaveEnded : (V : ℕ) → Load → List (Looking V) → Type 0
-HaveEnded V load ls = (n : ℕ) (d : Looking V) → n < length ls → HasEnded V load n (slice_index_or ls n d)
+abbrev pub HaveEnded : (V : ℕ) → Load → List (ReaderThread V) → Type 0
+HaveEnded V load ls = (n : ℕ) (d : ReaderThread V) → n < length ls → HasEnded V load n (slice_index_or ls n d)
 
 -- each looks up in this cache, which has no desk
-abbrev pub AreReadersOf : {V : ℕ} → Opening → List (Looking V) → Type 0
-AreReadersOf {V} o ls = All (λ (l : Looking V). cache_of l.handle ≡ Some o) ls
+abbrev pub AreReadersOf : {V : ℕ} → Opening → List (ReaderThread V) → Type 0
+AreReadersOf {V} o ls = All (λ (l : ReaderThread V). cache_of l.handle ≡ Some o) ls
 
 -- the gate let every call through
-abbrev pub AreWhole : {V : ℕ} → List (Looking V) → Type 0
-AreWhole {V} ls = All (λ (l : Looking V). l.refused ≡ None) ls
+abbrev pub AreWhole : {V : ℕ} → List (ReaderThread V) → Type 0
+AreWhole {V} ls = All (λ (l : ReaderThread V). l.refused ≡ None) ls
 
 -- every reader has written down the requested number of answers, those of the keys that were drawn
-abbrev pub HaveAllNoted : {V : ℕ} → Load → List (Looking V) → Type 0
-HaveAllNoted {V} load ls = (n : ℕ) (d : Looking V) → n < length ls → HasAsked load n (slice_index_or ls n d).records.items
+abbrev pub HaveAllNoted : {V : ℕ} → Load → List (ReaderThread V) → Type 0
+HaveAllNoted {V} load ls = (n : ℕ) (d : ReaderThread V) → n < length ls → HasAsked load n (slice_index_or ls n d).records.items

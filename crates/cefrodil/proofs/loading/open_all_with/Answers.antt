@@ -2,9 +2,9 @@ use Rattle.std.proofs.Common.{◌≡◌, ◌<◌, ◌∙◌, List, ap, arith, in
 use Rattle.std.specs.List.{All, EachIndex, slice_index}
 use mathlib.Core.Option.{some}
 use Rattle.mc_plan.specs.declared.answer.Why.{Why}
-use Rattle.mc_door.specs.Held.{role_in}
+use Rattle.mc_door.specs.AnySides.{role_in}
 use Rattle.mc_door.specs.NewSides.{opening_in}
-use Rattle.mc_door.specs.declared.held.Held.{Held}
+use Rattle.mc_door.specs.declared.any_side.AnySide.{AnySide}
 use Rattle.cefrodil.specs.Loading.{entry_status}
 use Rattle.cefrodil.proofs.Loaded.{are_loaded, named_within}
 use Rattle.cefrodil.specs.Open.{kept}
@@ -26,7 +26,7 @@ returns-in_default-clause-refused c =
 pub returns-clause-opened : goal.returns-clause-opened
 returns-clause-opened c =
     let opened = c.in-Ok-opened.opened in let made = c.in-Ok-opened.ensures in let given = c.in-Some.ensures.given in let statuses : List ℕ = c.tell_left.new.statuses in
-    let is : kept c.put.new.self ≡ some opened.0 = c.put.ensures.1 ∙ ap (λ (h : Held). some h) given.0 in
+    let is : kept c.put.new.self ≡ some opened.0 = c.put.ensures.1 ∙ ap (λ (h : AnySide). some h) given.0 in
     let spares = keeps_spares c.count_of.result (length c.args.readers.now) (length c.given_out.new.readers) c.put.new.self opened.0 made.rest.4 c.count_of.ensures.right c.count_of.ensures.same
     c.given_out.auto.readers is made.spares in
     λ _. are_loaded c.args.shape.now c.args.words (length c.args.statuses.now) c.args.entries.now c.tell_left.new.statuses c.put.new.self c.given_out.new.readers c.in-Ok.shape opened.1 opened.0

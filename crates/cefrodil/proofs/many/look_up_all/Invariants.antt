@@ -1,5 +1,5 @@
 use Rattle.mc_door.specs.Roles.{role_of}
-use Rattle.cefrodil.specs.Inside.Looking.{AreLookedUpTo}
+use Rattle.cefrodil.specs.Inside.LookedUp.{AreLookedUpTo}
 use Rattle.cefrodil.proofs.many.look_up_all.Given as goal
 
 abbrev pub invariant-loop-index : goal.invariant-loop-index

@@ -1,6 +1,6 @@
 use Rattle.std.proofs.Common.{◌∙◌, ap, arith}
 use mathlib.Core.Option.{some}
-use Rattle.mc_door.specs.declared.held.Held.{Held}
+use Rattle.mc_door.specs.declared.any_side.AnySide.{AnySide}
 use Rattle.cefrodil.specs.Openings.{IsClosed}
 use Rattle.cefrodil.proofs.Filling.{filled_more}
 use Rattle.cefrodil.proofs.GivenSides.{given_side}
@@ -11,4 +11,4 @@ loop-slot-preserved c =
     let given = given_side c.loop-slot.rest c.next.new.self c.in-Ok.given c.in-Some.held c.in-Ok.ensures.given c.in-Some.is in
     let same = c.in-Ok.ensures.same in
     filled_more IsClosed c.args.rest c.loop-slot.rest c.next.new.self c.loop-slot.slots c.loop-slot.slot-index c.put.new.self c.in-Some.held c.loop-slot.invariant (omega arith)
-    same.0 same.1 same.2 (c.put.ensures.1 ∙ ap (λ (h : Held). some h) c.in-Some-boxed.ensures) given.0 given.1 given.2
+    same.0 same.1 same.2 (c.put.ensures.1 ∙ ap (λ (h : AnySide). some h) c.in-Some-boxed.ensures) given.0 given.1 given.2

@@ -1,6 +1,6 @@
 use Rattle.std.proofs.Common.{◌∙◌, ap, arith}
 use mathlib.Core.Option.{some}
-use Rattle.mc_door.specs.declared.held.Held.{Held}
+use Rattle.mc_door.specs.declared.any_side.AnySide.{AnySide}
 use Rattle.cefrodil.proofs.ShardFilling.{given_pass, passes_more}
 use Rattle.cefrodil.proofs.sharding.fill_passes.Goals as goal
 
@@ -9,4 +9,4 @@ loop-slot-preserved c =
     let given = given_pass c.loop-slot.rest c.next.new.self c.in-Ok.given c.in-Some.held c.in-Ok.ensures.given c.in-Some.is in
     let same = c.in-Ok.ensures.same in
     passes_more c.args.rest c.loop-slot.rest c.next.new.self c.loop-slot.slots c.loop-slot.slot-index c.put.new.self c.in-Some.held c.loop-slot.invariant (omega arith)
-    same.0 same.1 (c.put.ensures.1 ∙ ap (λ (h : Held). some h) c.in-Some-boxed.ensures) given
+    same.0 same.1 (c.put.ensures.1 ∙ ap (λ (h : AnySide). some h) c.in-Some-boxed.ensures) given

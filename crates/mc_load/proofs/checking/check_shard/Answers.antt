@@ -9,7 +9,7 @@ use Rattle.mc_load.specs.Dates.{AreMoments, changes_of}
 use Rattle.mc_load.specs.ShardLoads.{answers_in}
 use Rattle.mc_load.specs.Turns.{journals_in}
 use Rattle.mc_load.specs.Inside.Sums.{AreTrueIn, all_tries}
-use Rattle.mc_load.specs.declared.looking.Looking.{Looking}
+use Rattle.mc_load.specs.declared.reader_thread.ReaderThread.{ReaderThread}
 use Rattle.mc_load.specs.declared.dated.Dated.{Dated}
 use Rattle.mc_load.proofs.checking.check_shard.Goals as goal
 
@@ -39,7 +39,7 @@ returns-clause-right g c = λ none.
         changes = written;
       };
       told = λ r e low.
-          let under : r < length ls = omega (arith, low, length-map ls (λ (l : Looking V). l.records.items)) in
+          let under : r < length ls = omega (arith, low, length-map ls (λ (l : ReaderThread V). l.records.items)) in
           let d = some_element ls r under in
-          subst (λ (rs : List (Record V)). AreTrue history (answers_in mix many shard rs)) (sym (get_or-map (λ (l : Looking V). l.records.items) ls r d e under)) (true_all r d under);
+          subst (λ (rs : List (Record V)). AreTrue history (answers_in mix many shard rs)) (sym (get_or-map (λ (l : ReaderThread V). l.records.items) ls r d e under)) (true_all r d under);
     }

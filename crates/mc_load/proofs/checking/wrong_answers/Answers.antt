@@ -4,7 +4,7 @@ use Rattle.mc_check.specs.declared.record.Record.{Record}
 use Rattle.mc_load.specs.Loads.{AreTrue}
 use Rattle.mc_load.proofs.Totals.{all_true}
 use Rattle.mc_load.specs.ShardLoads.{answers_in}
-use Rattle.mc_load.specs.declared.looking.Looking.{Looking}
+use Rattle.mc_load.specs.declared.reader_thread.ReaderThread.{ReaderThread}
 use Rattle.mc_load.proofs.checking.wrong_answers.Goals as goal
 
 pub loop-n-preserved : goal.loop-n-preserved
@@ -24,8 +24,8 @@ loop-n-preserved g c =
           let before : c.loop-n.wrong ≡ 0 = omega (arith, none, c.saturating_add-wrong.ensures) in
           let right_now : c.check.result ≡ 0 = omega (arith, none, c.saturating_add-wrong.ensures) in
           let told : AreTrue h (own (get_or ls n x).records.items) = subst (λ (rs : List (Record V)). AreTrue h rs) read (all_true h c.as_slice-in-loop-n.result.now c.check.result right_now c.check.ensures) in
-          below_more (λ (i : ℕ). (e : Looking V) → AreTrue h (own (get_or ls i e).records.items)) n
+          below_more (λ (i : ℕ). (e : ReaderThread V) → AreTrue h (own (get_or ls i e).records.items)) n
           (λ i under e. c.loop-n.invariant.right before i e under)
-          (λ e. subst (λ (a : Looking V). AreTrue h (own a.records.items)) (get_or_default ls n x e c.loop-n-test.true) told)
+          (λ e. subst (λ (a : ReaderThread V). AreTrue h (own a.records.items)) (get_or_default ls n x e c.loop-n-test.true) told)
           k low d;
     }

@@ -4,7 +4,7 @@ use Rattle.mc_load.proofs.Each.{each_front, each_last, each_more}
 use Rattle.mc_load.specs.Inside.Handles.{cache_of}
 use Rattle.mc_load.specs.Inside.Workers.{AreReadersOf, AreReady, IsReady}
 use Rattle.mc_load.specs.declared.handle.Handle.{Handle}
-use Rattle.mc_load.specs.declared.looking.Looking.{Looking}
+use Rattle.mc_load.specs.declared.reader_thread.ReaderThread.{ReaderThread}
 use Rattle.mc_load.proofs.ready.lookings_of.Goals as goal
 
 pub loop-handle-preserved : goal.loop-handle-preserved
@@ -26,6 +26,6 @@ loop-handle-preserved g c =
       rest = λ o all. each_front (λ k (x : Handle V). cache_of x ≡ Some o) xs rest h c.in-Some.ensures.items (was.rest o all);
       of = λ o all.
           subst (AreReadersOf o) (sym c.in_ok-push.ensures.items)
-          (each_more (λ k (x : Looking V). cache_of x.handle ≡ Some o) ls l (was.of o all)
+          (each_more (λ k (x : ReaderThread V). cache_of x.handle ≡ Some o) ls l (was.of o all)
           (ap (λ (x : Handle V). cache_of x) c.in_ok-looking_of.ensures.handle ∙ each_last (λ k (x : Handle V). cache_of x ≡ Some o) xs rest h c.in-Some.ensures.items (was.rest o all)));
     }

@@ -2,7 +2,7 @@ use Rattle.std.proofs.Common.{rules, List, All, arith, refl, subst, sym, ◌∙�
 use Rattle.mc_theory.specs.Lists.{IsLawful}
 use Rattle.mc_theory.proofs.Lists.Fronts.{lawful_none}
 use Rattle.mc_load.specs.Inside.Workers.{CanWrite}
-use Rattle.mc_load.specs.declared.writing.Writing.{Writing}
+use Rattle.mc_load.specs.declared.writer_thread.WriterThread.{WriterThread}
 use Rattle.mc_load.proofs.Each.{each_more}
 use Rattle.mc_load.proofs.Histories.{history_none, made_none}
 use Rattle.mc_load.proofs.ready.writing_of.Goals as goal
@@ -13,8 +13,8 @@ returns-clause-can g c =
     let load = c.args.load in
     let sh = c.args.cache.now.layout.shape in
     let none = c.in_ok-writings.ensures.len in
-    subst (λ (z : List (Writing V)). All (CanWrite V load) z) (sym c.push_reserved.ensures.items)
-    (each_more (λ k (x : Writing V). CanWrite V load x) c.in_ok-writings.writings.items _ (λ n d low. absurd (omega (arith, low, none, c.in_ok-writings.writings.ok.0)))
+    subst (λ (z : List (WriterThread V)). All (CanWrite V load) z) (sym c.push_reserved.ensures.items)
+    (each_more (λ k (x : WriterThread V). CanWrite V load x) c.in_ok-writings.writings.items _ (λ n d low. absurd (omega (arith, low, none, c.in_ok-writings.writings.ok.0)))
     (record {
       shape = c.requires.shape;
       writing = record {

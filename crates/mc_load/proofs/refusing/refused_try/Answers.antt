@@ -1,6 +1,6 @@
 use Rattle.std.proofs.Common.{◌∙◌, ap, refl}
 use Rattle.std.proofs.lemmas.List.{get_or_default}
-use Rattle.mc_load.specs.declared.trying.Trying.{Trying}
+use Rattle.mc_load.specs.declared.turn_thread.TurnThread.{TurnThread}
 use Rattle.mc_load.proofs.refusing.refused_try.Goals as goal
 
 pub returns-in-Some-clause-some : goal.returns-in-Some-clause-some
@@ -11,6 +11,6 @@ returns-in-Some-clause-some g c = (
     writer = _;
     is = get_or_default c.args.tryings.now c.loop-n.n _ _ c.loop-n-test.true;
     named = refl;
-    refused = ap (λ (t : Trying g.row.V). t.refused) (get_or_default c.args.tryings.now c.loop-n.n _ _ c.loop-n-test.true) ∙ c.in-Some.is;
+    refused = ap (λ (t : TurnThread g.row.V). t.refused) (get_or_default c.args.tryings.now c.loop-n.n _ _ c.loop-n-test.true) ∙ c.in-Some.is;
   },
 )

@@ -2,7 +2,7 @@ use Rattle.std.proofs.Common.{rules, Some, ◌≡◌, ap, arith, length, subst, 
 use Rattle.mc_shared.specs.Records.{WriterRecord}
 use Rattle.mc_load.specs.Loads.{AreTrue, history_after}
 use Rattle.mc_load.specs.Inside.Handles.{AreAllTold, cache_of}
-use Rattle.mc_load.specs.declared.looking.Looking.{Looking}
+use Rattle.mc_load.specs.declared.reader_thread.ReaderThread.{ReaderThread}
 use Rattle.mc_load.proofs.Each.{each_front, each_last}
 use Rattle.mc_load.proofs.Readers.{first_less, rest_more}
 use Rattle.mc_load.proofs.summing.check_readers.Goals as goal
@@ -15,8 +15,8 @@ check_reader-wrong-requires g c =
     let rest = c.pop.new.self.items in
     let x = c.in-Some.looking in
     let e = c.in-Some.ensures.items in
-    let of = each_last (λ k (y : Looking V). cache_of y.handle ≡ Some c.args.writer.now.of) xs rest x e was.readers ∙ ap (λ (w : WriterRecord). Some w.of) (sym was.writer) in
-    let told = each_last (λ k (y : Looking V). AreAllTold V y.handle y.records.items) xs rest x e was.all in
+    let of = each_last (λ k (y : ReaderThread V). cache_of y.handle ≡ Some c.args.writer.now.of) xs rest x e was.readers ∙ ap (λ (w : WriterRecord). Some w.of) (sym was.writer) in
+    let told = each_last (λ k (y : ReaderThread V). AreAllTold V y.handle y.records.items) xs rest x e was.all in
     let history = c.requires.history ∙ ap (λ (w : WriterRecord). history_after V w.of.layout.shape w.acts) (sym was.writer) in (omega arith, (omega arith, (omega arith, (of, (told, history)))))
 
 pub loop-looking-preserved : goal.loop-looking-preserved
@@ -31,11 +31,11 @@ loop-looking-preserved g c =
     let here : AreTrue (history_after V w.of.layout.shape w.acts) x.records.items = subst (λ (z : WriterRecord). AreTrue (history_after V z.of.layout.shape z.acts) x.records.items) was.writer c.check_reader-wrong.ensures.told in
     record {
       writer = c.check_reader-wrong.ensures.writer ∙ was.writer;
-      readers = each_front (λ k (y : Looking V). cache_of y.handle ≡ Some w.of) xs rest x e was.readers;
-      all = each_front (λ k (y : Looking V). AreAllTold V y.handle y.records.items) xs rest x e was.all;
+      readers = each_front (λ k (y : ReaderThread V). cache_of y.handle ≡ Some w.of) xs rest x e was.readers;
+      all = each_front (λ k (y : ReaderThread V). AreAllTold V y.handle y.records.items) xs rest x e was.all;
       wrong = search rules;
       front = first_less c.args.lookings.items xs rest x e was.front;
-      told = rest_more (λ (k : Looking V). AreTrue (history_after V w.of.layout.shape w.acts) k.records.items) c.args.lookings.items xs rest x e was.front here was.told;
+      told = rest_more (λ (k : ReaderThread V). AreTrue (history_after V w.of.layout.shape w.acts) k.records.items) c.args.lookings.items xs rest x e was.front here was.told;
     }
 
 pub returns-clause-told : goal.returns-clause-told

@@ -6,7 +6,7 @@ use Rattle.mc_theory.proofs.Lists.Fronts.{state_holds}
 use Rattle.mc_shared.specs.Records.{Opening, WriterRecord}
 use Rattle.mc_load.specs.Loads.{AreTrue, HasLookedUp, HasMade, history_after, is_absent, is_busy, is_found, total_of}
 use Rattle.mc_load.specs.Inside.Workers.{AreReadersOf, answers_of}
-use Rattle.mc_load.specs.declared.looking.Looking.{Looking}
+use Rattle.mc_load.specs.declared.reader_thread.ReaderThread.{ReaderThread}
 use Rattle.mc_load.proofs.Readers.{some_element}
 use Rattle.mc_load.proofs.summing.report_of.Goals as goal
 
@@ -30,7 +30,7 @@ returns g c =
     let h = history_after V sh w.acts in
     let kept : c.args.writing.journal.items ≡ h = c.requires.writing.kept ∙ ap (λ (s : Shape). history_after V s w.acts) same in
     let read : c.as_slice-2.result.now ≡ ls = c.as_slice-2.ensures.value in
-    let many : length (answers_of ls) ≡ length ls = length-map ls (λ (l : Looking V). l.records.items) in
+    let many : length (answers_of ls) ≡ length ls = length-map ls (λ (l : ReaderThread V). l.records.items) in
     let readers : length c.as_slice-2.result.now ≡ load.readers = c.as_slice-2.ensures.len ∙ c.requires.len in
     let writes : c.from.result ≡ load.writes = search rules in
     record {
@@ -46,15 +46,15 @@ returns g c =
       looked = λ r e low.
           let under : r < length ls = omega (arith, low, many) in
           let d = some_element ls r under in
-          subst (HasLookedUp load h r) (sym (get_or-map (λ (l : Looking V). l.records.items) ls r d e under))
+          subst (HasLookedUp load h r) (sym (get_or-map (λ (l : ReaderThread V). l.records.items) ls r d e under))
           (record {
             many = (c.requires.noted r d under).many;
             drawn = (c.requires.noted r d under).drawn;
             told = subst (λ (s : Shape). AreTrue (history_after V s w.acts) (get_or ls r d).records.items) shape (c.check_readers.ensures.told r d under);
           });
-      found = c.answers_of-report.ensures.found ∙ ap (λ (z : List (Looking V)). total_of is_found (answers_of z)) read;
-      absent = c.answers_of-report.ensures.absent ∙ ap (λ (z : List (Looking V)). total_of is_absent (answers_of z)) read;
-      busy = c.answers_of-report.ensures.busy ∙ ap (λ (z : List (Looking V)). total_of is_busy (answers_of z)) read;
+      found = c.answers_of-report.ensures.found ∙ ap (λ (z : List (ReaderThread V)). total_of is_found (answers_of z)) read;
+      absent = c.answers_of-report.ensures.absent ∙ ap (λ (z : List (ReaderThread V)). total_of is_absent (answers_of z)) read;
+      busy = c.answers_of-report.ensures.busy ∙ ap (λ (z : List (ReaderThread V)). total_of is_busy (answers_of z)) read;
       lookups = c.answers_of-report.ensures.lookups ∙ ap (λ (k : ℕ). k * load.lookups) readers;
       sum = c.answers_of-report.ensures.sum;
       wrong = c.check_readers.ensures.wrong;

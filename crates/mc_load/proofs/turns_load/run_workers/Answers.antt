@@ -4,8 +4,8 @@ use Rattle.mc_load.specs.Inside.Refusals.{AreRefusedBy, AreTriesLetThrough, AreT
 use Rattle.mc_load.specs.Inside.Seats.{CanAudit}
 use Rattle.mc_load.specs.Inside.Tries.{HaveAllTried}
 use Rattle.mc_load.specs.Inside.Workers.{AreWhole, HaveEnded}
-use Rattle.mc_load.specs.declared.looking.Looking.{Looking}
-use Rattle.mc_load.specs.declared.trying.Trying.{Trying}
+use Rattle.mc_load.specs.declared.reader_thread.ReaderThread.{ReaderThread}
+use Rattle.mc_load.specs.declared.turn_thread.TurnThread.{TurnThread}
 use Rattle.mc_load.proofs.Readers.{all_noted}
 use Rattle.mc_load.proofs.Refused.{all_made, all_tried, refused_lookup_told, refused_try_told}
 use Rattle.mc_load.proofs.Works.{all_can_look, all_can_try, all_ended, all_have_tried, all_refused, all_tries_refused}
@@ -53,8 +53,8 @@ returns-in-Some g c =
     let read = c.as_slice.ensures.value in
     let many : length c.as_slice.result.now ≡ c.args.writers = omega (arith, ap length read, same, seated.many, c.in-Ok.seated.tryings.ok.0) in
     refused_try_told s may load c.args.shards c.args.writers c.as_slice.result.now c.in-Some.refused c.requires.asked many
-    (subst (λ (ts : List (Trying V)). HaveAllTried V s load ts) (sym read) (all_have_tried may s load before after seated.can ran))
-    (subst (λ (ts : List (Trying V)). AreTriesRefusedBy may ts) (sym read) (all_tries_refused may load before after ran)) c.in-Some.ensures.some
+    (subst (λ (ts : List (TurnThread V)). HaveAllTried V s load ts) (sym read) (all_have_tried may s load before after seated.can ran))
+    (subst (λ (ts : List (TurnThread V)). AreTriesRefusedBy may ts) (sym read) (all_tries_refused may load before after ran)) c.in-Some.ensures.some
 
 pub refused_lookup-requires : goal.refused_lookup-requires
 refused_lookup-requires g c =
@@ -75,8 +75,8 @@ returns-in-Some-refused_lookup g c =
     let read = c.as_slice-2.ensures.value in
     let many : length c.as_slice-2.result.now ≡ load.readers = omega (arith, ap length read, same, seated.readers, c.in-Ok.seated.lookings.ok.0) in
     refused_lookup_told may load c.args.shards c.args.writers c.as_slice-2.result.now c.in-Some-refused_lookup.refused c.requires.asked many
-    (subst (λ (ls : List (Looking V)). HaveEnded V load ls) (sym read) (all_ended may load before after seated.ready ran))
-    (subst (λ (ls : List (Looking V)). AreRefusedBy may ls) (sym read) (all_refused may load before after seated.ready ran)) c.in-Some-refused_lookup.ensures.some
+    (subst (λ (ls : List (ReaderThread V)). HaveEnded V load ls) (sym read) (all_ended may load before after seated.ready ran))
+    (subst (λ (ls : List (ReaderThread V)). AreRefusedBy may ls) (sym read) (all_refused may load before after seated.ready ran)) c.in-Some-refused_lookup.ensures.some
 
 pub run_of-requires : goal.run_of-requires
 run_of-requires g c =
@@ -93,8 +93,8 @@ run_of-requires g c =
     let same_readers = read.0 in
     let few = c.requires.asked.seats.1 in
     let tried = all_have_tried may s load c.in-Ok.seated.tryings.items ts seated.can wrote in
-    let through : AreTriesLetThrough ts (length ts) = subst (λ (z : List (Trying V)). AreTriesLetThrough z (length z)) c.as_slice.ensures.value (search rules) in
-    let whole : AreWhole ls = subst (λ (z : List (Looking V)). AreWhole z) c.as_slice-2.ensures.value (search rules) in
+    let through : AreTriesLetThrough ts (length ts) = subst (λ (z : List (TurnThread V)). AreTriesLetThrough z (length z)) c.as_slice.ensures.value (search rules) in
+    let whole : AreWhole ls = subst (λ (z : List (ReaderThread V)). AreWhole z) c.as_slice-2.ensures.value (search rules) in
     let many : vec_len c.run_all.new.writers ≡ c.args.writers = omega (arith, same, seated.many, c.in-Ok.seated.tryings.ok.0, c.run_all.new.writers.ok.0) in
     let readers : vec_len c.run_all.new.readers ≡ load.readers = omega (arith, same_readers, seated.readers, c.in-Ok.seated.lookings.ok.0, c.run_all.new.readers.ok.0) in (
       omega arith,

@@ -8,8 +8,8 @@ use Rattle.mc_load.specs.Turns.{HasMadeTries, Tries}
 use Rattle.mc_load.specs.Inside.Sums.{all_tries}
 use Rattle.mc_load.specs.Inside.Workers.{answers_of}
 use Rattle.mc_load.specs.Inside.Tries.{tries_of}
-use Rattle.mc_load.specs.declared.looking.Looking.{Looking}
-use Rattle.mc_load.specs.declared.trying.Trying.{Trying}
+use Rattle.mc_load.specs.declared.reader_thread.ReaderThread.{ReaderThread}
+use Rattle.mc_load.specs.declared.turn_thread.TurnThread.{TurnThread}
 use Rattle.mc_load.proofs.turns_summing.run_of.Goals as goal
 
 pub returns : goal.returns
@@ -24,8 +24,8 @@ returns g c =
     let readers : c.as_slice-lookings.result.now ≡ ls = c.as_slice-lookings.ensures.value in
     let many_writers : length c.as_slice-tryings.result.now ≡ vec_len c.args.seated.tryings = c.as_slice-tryings.ensures.len in
     let many_readers : length c.as_slice-lookings.result.now ≡ load.readers = c.as_slice-lookings.ensures.len ∙ (c.last_moments-lasts.ensures.len ∙ run.readers) in
-    let tried : length (all_tries ts) ≡ length ts = length-map ts (λ (t : Trying V). tries_of t) in
-    let read : length (answers_of ls) ≡ length ls = length-map ls (λ (l : Looking V). l.records.items) in
+    let tried : length (all_tries ts) ≡ length ts = length-map ts (λ (t : TurnThread V). tries_of t) in
+    let read : length (answers_of ls) ≡ length ls = length-map ls (λ (l : ReaderThread V). l.records.items) in
     record {
       report = record {
         opened = s;
@@ -36,22 +36,22 @@ returns g c =
         made = λ w e low.
             let under : w < length ts = omega (arith, low, tried) in
             let d = some_element ts w under in
-            subst (HasMadeTries V s load w) (sym (get_or-map (λ (t : Trying V). tries_of t) ts w d e under)) (run.made w d under);
-        held = c.tries_of-changes.ensures.held ∙ ap (λ (z : List (Trying V)). sum_by (λ (t : Tries V). t.turns.held) (all_tries z)) writers;
-        answered = c.tries_of-changes.ensures.answered ∙ ap (λ (z : List (Trying V)). sum_by (λ (t : Tries V). t.turns.answered) (all_tries z)) writers;
-        changes = c.tries_of-changes.ensures.changes ∙ ap (λ (z : List (Trying V)). sum_by (λ (t : Tries V). length t.journal) (all_tries z)) writers;
+            subst (HasMadeTries V s load w) (sym (get_or-map (λ (t : TurnThread V). tries_of t) ts w d e under)) (run.made w d under);
+        held = c.tries_of-changes.ensures.held ∙ ap (λ (z : List (TurnThread V)). sum_by (λ (t : Tries V). t.turns.held) (all_tries z)) writers;
+        answered = c.tries_of-changes.ensures.answered ∙ ap (λ (z : List (TurnThread V)). sum_by (λ (t : Tries V). t.turns.answered) (all_tries z)) writers;
+        changes = c.tries_of-changes.ensures.changes ∙ ap (λ (z : List (TurnThread V)). sum_by (λ (t : Tries V). length t.journal) (all_tries z)) writers;
         answers = answers_of ls;
         readers = omega (arith, read, c.last_moments-lasts.ensures.len, run.readers);
         looked = λ r e low.
             let under : r < length ls = omega (arith, low, read) in
             let d = some_element ls r under in
-            subst (HasAsked load r) (sym (get_or-map (λ (l : Looking V). l.records.items) ls r d e under)) (c.last_moments-lasts.ensures.noted r d under);
-        found = c.answers_of-answers.ensures.found ∙ ap (λ (z : List (Looking V)). total_of is_found (answers_of z)) readers;
-        absent = c.answers_of-answers.ensures.absent ∙ ap (λ (z : List (Looking V)). total_of is_absent (answers_of z)) readers;
-        busy = c.answers_of-answers.ensures.busy ∙ ap (λ (z : List (Looking V)). total_of is_busy (answers_of z)) readers;
+            subst (HasAsked load r) (sym (get_or-map (λ (l : ReaderThread V). l.records.items) ls r d e under)) (c.last_moments-lasts.ensures.noted r d under);
+        found = c.answers_of-answers.ensures.found ∙ ap (λ (z : List (ReaderThread V)). total_of is_found (answers_of z)) readers;
+        absent = c.answers_of-answers.ensures.absent ∙ ap (λ (z : List (ReaderThread V)). total_of is_absent (answers_of z)) readers;
+        busy = c.answers_of-answers.ensures.busy ∙ ap (λ (z : List (ReaderThread V)). total_of is_busy (answers_of z)) readers;
         right = λ none n low.
-            subst (λ (z : List (Trying V)). IsRightIn load.shape.mix c.args.shards (all_tries z) (answers_of ls) n) writers
-            (subst (λ (z : List (Looking V)). IsRightIn load.shape.mix c.args.shards (all_tries c.as_slice-tryings.result.now) (answers_of z) n) readers (c.check_all-wrong.ensures.right none n low));
+            subst (λ (z : List (TurnThread V)). IsRightIn load.shape.mix c.args.shards (all_tries z) (answers_of ls) n) writers
+            (subst (λ (z : List (ReaderThread V)). IsRightIn load.shape.mix c.args.shards (all_tries c.as_slice-tryings.result.now) (answers_of z) n) readers (c.check_all-wrong.ensures.right none n low));
         lookups = c.answers_of-answers.ensures.lookups ∙ ap (λ (k : ℕ). k * load.lookups) many_readers;
         sum = c.answers_of-answers.ensures.sum;
         calls = c.tries_of-changes.ensures.sum ∙ ap (λ (k : ℕ). k * load.writes) many_writers;

@@ -2,7 +2,7 @@ use Rattle.std.proofs.Common.{ℕ, List, Option, ◌≡◌, ◌<◌, ◌≤◌, 
 use Rattle.std.specs.Prelude.{IfNone, IfSome}
 use Rattle.mc_shared.specs.Records.{Opening}
 use Rattle.mc_load.specs.Inside.Workers.{AreReadersOf, AreWhole, HasWritten}
-use Rattle.mc_load.specs.declared.looking.Looking.{Looking}
+use Rattle.mc_load.specs.declared.reader_thread.ReaderThread.{ReaderThread}
 use Rattle.mc_load.proofs.Readers.{all_noted}
 use Rattle.mc_load.proofs.Works.{all_ended, still_readers, writer_ended}
 use denote.Param.Send.{sendable}
@@ -44,7 +44,7 @@ report_of-requires g c =
     let len : vec_len c.run_all.new.readers ≡ load.readers = omega (arith, same, c.in-Ok-lookings_of.ensures.len, looked.ok.0, c.run_all.new.readers.ok.0) in
     let most = c.requires.asked.1.1 in
     let ended = all_ended may load looked.items ls c.in-Ok-lookings_of.ensures.ready read in
-    let whole : AreWhole ls = subst (λ (z : List (Looking V)). AreWhole z) c.as_slice.ensures.value c.in-None.ensures.none in
+    let whole : AreWhole ls = subst (λ (z : List (ReaderThread V)). AreWhole z) c.as_slice.ensures.value c.in-None.ensures.none in
     let of = still_readers may load c.args.cache.now looked.items ls (c.in-Ok-lookings_of.ensures.of c.args.cache.now c.requires.of) read in (
       omega arith,
       (

@@ -11,13 +11,13 @@ use Rattle.std.proofs.Crossing as heap
 use Rattle.std.specs.Global.{Global}
 use Rattle.std_alloc.proofs.SendSync.{quiet, lies}
 use Rattle.std.proofs.alloc.Global.TheSendSync as allocator
-use Rattle.mc_door.specs.declared.held.Held.{Held}
-use Rattle.mc_door.specs.contracts.held.Held as held
+use Rattle.mc_door.specs.declared.any_side.AnySide.{AnySide}
+use Rattle.mc_door.specs.contracts.any_side.AnySide as held
 use Rattle.cefrodil.proofs.Sent.{held_send}
 use Rattle.cefrodil.specs.Kept.{kept_at}
 use Rattle.cefrodil.specs.contracts.handle.Handle.{the_row, the_type}
 
-crosses : (a : Global) (p : Ptr) (kept : Option Held) → Keyless (kept_at a p kept)
+crosses : (a : Global) (p : Ptr) (kept : Option AnySide) → Keyless (kept_at a p kept)
 crosses a p none = tt
 crosses a p (some x) = (lies held.the_row held_send p x, heap.frees.frees a (raw (lone held.the_row.mir)) p)
 

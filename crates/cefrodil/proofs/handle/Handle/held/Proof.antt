@@ -35,7 +35,7 @@ use denote.Triple.Table.{entered}
 use denote.Triple.Walked.{says, needs, Stays, stay_dropped, walk_of, ends_at, Goes-spent_ref, walk_Meets}
 use Rattle.std.specs.contracts.impls.GlobalAllocator.TheImpl.{ghosts}
 use Rattle.std_alloc.proofs.VecSteps.Shapes.{after}
-use Rattle.cefrodil.proofs.Behind.{Handle, Held, Heap, at_block, some_of, full_out, full_in}
+use Rattle.cefrodil.proofs.Behind.{Handle, AnySide, Heap, at_block, some_of, full_out, full_in}
 use Rattle.cefrodil.specs.Inside.Lent.{with_held}
 use Rattle.cefrodil.specs.contracts.handle.Handle.held as f
 use Rattle.cefrodil.proofs.handle.Handle.held.Statement.{statement}
@@ -66,26 +66,26 @@ module _ {M : Type 1} {𝓤 : Ura M} (𝓛 : Logic 𝓤) (at_mem : Memory → SP
     abbrev Post : Val → SProp 𝓤
     Post = (walk_of 𝓛 f.ended stayed spec).post bound
 
-    abbrev new : Held.Denot → Handle.Denot
+    abbrev new : AnySide.Denot → Handle.Denot
     new = with_held d
 
     module _ (b o : ℕ) (h : Val) where
       -- all but what is behind the handle
       abbrev Rest : Fml
-      Rest = fsep (fsep (ghosts.dealloc_token d.alloc (bare (lone Held.mir)) (block_ptr b o)) (Heap.own_val d.alloc (h ∷ []))) (cell_at full_share Handle.mir (at_block h b o ∷ []) rb ro)
+      Rest = fsep (fsep (ghosts.dealloc_token d.alloc (bare (lone AnySide.mir)) (block_ptr b o)) (Heap.own_val d.alloc (h ∷ []))) (cell_at full_share Handle.mir (at_block h b o ∷ []) rb ro)
 
-      back : d.at ≡ block_ptr b o → (w : Held.Denot) → ent 𝓤 (sep 𝓤 (sem 𝓛 ((mem Held).own_at w b o)) (sem 𝓛 Rest)) (sem 𝓛 ((mem Handle).own_at (new w) rb ro))
+      back : d.at ≡ block_ptr b o → (w : AnySide.Denot) → ent 𝓤 (sep 𝓤 (sem 𝓛 ((mem AnySide).own_at w b o)) (sem 𝓛 Rest)) (sem 𝓛 ((mem Handle).own_at (new w) rb ro))
       unfolding part_of
       back at w =
-          qed 𝓛 (‵ (part_at Held full_share w b o) ∷ ‵ Rest ∷ []) ∵ move ! (1 ∷ []) $ fsplit ! $ fsplit ! $ move ! (3 ∷ 0 ∷ []) $ fjoin ! $
+          qed 𝓛 (‵ (part_at AnySide full_share w b o) ∷ ‵ Rest ∷ []) ∵ move ! (1 ∷ []) $ fsplit ! $ fsplit ! $ move ! (3 ∷ 0 ∷ []) $ fjoin ! $
           full_in ! b o h d.alloc w $ rewrite ! 0 (λ (p : Ptr). ‵ (Handle.own_val (record { at = p; alloc = d.alloc; value = some w }) (at_block h b o ∷ []))) (sym at) refl $
           move ! (1 ∷ 0 ∷ []) $ fjoin ! $
           fpack ! (List Val) (λ us. fsep (cell_at full_share Handle.mir us rb ro) (Handle.own_val (new w) us)) (at_block h b o ∷ []) $ done !
 
-    exits : (b o : ℕ) (x : Held.Denot) → some x ≡ d.value → (δ : GName)
-        → ent 𝓤 (sep 𝓤 (sem 𝓛 ((MutRef (named 0) κ Held).own_val (record { ref_ptr = (b, o); ghost_name = δ; now = x }) (vptr b o ∷ []))) (sep 𝓤 (A.lft κ q) (sem 𝓛 (follows Handle Held γ δ new)))) (Post (vptr b o))
+    exits : (b o : ℕ) (x : AnySide.Denot) → some x ≡ d.value → (δ : GName)
+        → ent 𝓤 (sep 𝓤 (sem 𝓛 ((MutRef (named 0) κ AnySide).own_val (record { ref_ptr = (b, o); ghost_name = δ; now = x }) (vptr b o ∷ []))) (sep 𝓤 (A.lft κ q) (sem 𝓛 (follows Handle AnySide γ δ new)))) (Post (vptr b o))
     exits b o x is δ =
-        qed 𝓛 (‵ ((MutRef (named 0) κ Held).own_val (record { ref_ptr = (b, o); ghost_name = δ; now = x }) (vptr b o ∷ [])) ∷ ‵ (flft κ q) ∷ ‵ (follows Handle Held γ δ new) ∷ []) ∵
+        qed 𝓛 (‵ ((MutRef (named 0) κ AnySide).own_val (record { ref_ptr = (b, o); ghost_name = δ; now = x }) (vptr b o ∷ [])) ∷ ‵ (flft κ q) ∷ ‵ (follows Handle AnySide γ δ new) ∷ []) ∵
         suffices ! _ (ends_at 𝓛 f.ended stayed spec bound (vptr b o) (record { ref_ptr = (b, o); ghost_name = δ; now = x }) (tt, tt) (tt, tt)) $
         nothing ! $ nothing ! $ fjoin ! $ join ! $ nothing ! $ move ! (2 ∷ 0 ∷ []) $ join ! $ join ! $ frame ! $ says ! is $ done !
 
@@ -106,8 +106,8 @@ module _ {M : Type 1} {𝓤 : Ura M} (𝓛 : Logic 𝓤) (at_mem : Memory → SP
         sets_last ! (addr ! (through ! refl (stop !))) refl (tt, tt) $
         exec ! C Λ En (after 1 function.body) (at_ret En Post) $ sets ! (of_opd ! (get ! refl)) refl (tt, tt) $
         move ! (1 ∷ 2 ∷ []) $ fjoin ! $ move ! (2 ∷ 3 ∷ 4 ∷ 1 ∷ 0 ∷ []) $ group ! 5 $
-        use1 𝓛 (later (any (λ (δ : GName). raw (Part 𝓛 Handle Held new (named 0) κ q rb ro b o γ (sem 𝓛 (Rest b o h)) (back b o h at) kept.0 δ))))
-        (lends_Part 𝓛 Handle Held new (named 0) κ q rb ro b o γ (sem 𝓛 (Rest b o h)) (back b o h at) (Handle.coded.code d) (Handle.coded.code d) kept.0) $ await ! tt $ pick ! (λ δ.
+        use1 𝓛 (later (any (λ (δ : GName). raw (Part 𝓛 Handle AnySide new (named 0) κ q rb ro b o γ (sem 𝓛 (Rest b o h)) (back b o h at) kept.0 δ))))
+        (lends_Part 𝓛 Handle AnySide new (named 0) κ q rb ro b o γ (sem 𝓛 (Rest b o h)) (back b o h at) (Handle.coded.code d) (Handle.coded.code d) kept.0) $ await ! tt $ pick ! (λ δ.
         returns ! (look_at ! 0 refl) $ free_all ! refl $ keep ! (0 ∷ []) $ by ! (exits b o kept.0 (sym kept.1) δ)))))
 
     entry : Full d → ent 𝓤 (on_entry 𝓛 f.ended.signature (κ, tt) (q, tt) (self, tt) (ps, tt)) (WpFn 𝓤 H C Λ function (ps ++ []) Post)

@@ -1,0 +1,74 @@
+-- The contracts of the calls that change the map, one record a call: by the writer, in a turn, and from C.
+use Rattle.std.specs.Prelude.{ℕ, List}
+use Rattle.mc_plan.specs.WholeCalls.{PutCall, PutIfCall, RemoveCall}
+use Rattle.mc_plan.specs.declared.answer.AbsentError.{AbsentError}
+use Rattle.mc_plan.specs.declared.answer.Answer.TheVariants as answer
+use Rattle.mc_plan.specs.declared.answer.IfError.{IfError}
+use Rattle.mc_plan.specs.declared.answer.Put.{Put}
+use Rattle.mc_plan.specs.declared.answer.PutError.{PutError}
+use Rattle.mc_plan.specs.declared.answer.Remove.{Remove}
+use Rattle.mc_plan.specs.declared.answer.Spent.{Spent}
+use Rattle.mc_writer.specs.WriterCalls.{HasCalled, HasPutIfAbsent}
+use Rattle.mc_writer.specs.declared.entry.Replaced.{Replaced}
+use Rattle.mc_writer.specs.declared.entry.Swapped.{Swapped}
+use Rattle.mc_writer.specs.declared.entry.Take.{Take}
+use Rattle.mc_cache.specs.Failing.{PutFails, PutIfAbsentFails, PutIfFails, RemovalFails, SwapFails, SwapIfFails, TakeFails, TakeIfFails}
+use Rattle.mc_cache.specs.Plain.{PutIfAbsentMeans, PutIfMeans, PutMeans, RemovalMeans}
+use Rattle.mc_cache.specs.Taking.{HasTakenIf, SwapIfMeans, SwapMeans, TakeIfMeans, TakeMeans, swap_answer, swap_if_answer, take_answer}
+use Rattle.mc_cache.specs.TurnCalls.{Contract}
+
+abbrev pub put_contract : (V : ℕ) → ℕ → List ℕ → Contract V Put PutError
+put_contract V k v = record {
+  called = λ sh told w w'. HasCalled V sh (PutCall k v) w w' (answer.Put told);
+  means = λ h h' told. PutMeans V h h' k v told;
+  fails = λ sh h made told. PutFails sh h made k told;
+}
+
+abbrev pub put_if_contract : (V : ℕ) → ℕ → ℕ → List ℕ → Contract V ℕ IfError
+put_if_contract V k since v = record {
+  called = λ sh told w w'. HasCalled V sh (PutIfCall k since v) w w' (answer.PutIf told);
+  means = λ h h' told. PutIfMeans V h h' k since v told;
+  fails = λ sh h made told. PutIfFails sh h made told;
+}
+
+abbrev pub put_if_absent_contract : (V : ℕ) → ℕ → List ℕ → Contract V Put AbsentError
+put_if_absent_contract V k v = record {
+  called = λ sh told w w'. HasPutIfAbsent V sh k v w w' told;
+  means = λ h h' told. PutIfAbsentMeans V h h' k v told;
+  fails = λ sh h made told. PutIfAbsentFails sh h made k told;
+}
+
+abbrev pub remove_contract : (V : ℕ) → ℕ → Contract V Remove Spent
+remove_contract V k = record {
+  called = λ sh told w w'. HasCalled V sh (RemoveCall k) w w' (answer.Remove told);
+  means = λ h h' told. RemovalMeans V h h' k told;
+  fails = λ sh h made told. RemovalFails sh h made told;
+}
+
+abbrev pub swap_contract : (V : ℕ) → ℕ → List ℕ → Contract V (Swapped V) PutError
+swap_contract V k v = record {
+  called = λ sh told w w'. HasCalled V sh (PutCall k v) w w' (swap_answer told);
+  means = λ h h' told. SwapMeans V h h' k v told;
+  fails = λ sh h made told. SwapFails sh h made k told;
+}
+
+abbrev pub swap_if_contract : (V : ℕ) → ℕ → ℕ → List ℕ → Contract V (Replaced V) IfError
+swap_if_contract V k since v = record {
+  called = λ sh told w w'. HasCalled V sh (PutIfCall k since v) w w' (swap_if_answer told);
+  means = λ h h' told. SwapIfMeans V h h' k since v told;
+  fails = λ sh h made told. SwapIfFails sh h made told;
+}
+
+abbrev pub take_contract : (V : ℕ) → ℕ → Contract V (Take V) Spent
+take_contract V k = record {
+  called = λ sh told w w'. HasCalled V sh (RemoveCall k) w w' (take_answer told);
+  means = λ h h' told. TakeMeans V h h' k told;
+  fails = λ sh h made told. TakeFails sh h made told;
+}
+
+abbrev pub take_if_contract : (V : ℕ) → ℕ → ℕ → Contract V (Replaced V) IfError
+take_if_contract V k since = record {
+  called = λ sh told w w'. HasTakenIf V sh k w w' told;
+  means = λ h h' told. TakeIfMeans V h h' k since told;
+  fails = λ sh h made told. TakeIfFails sh h made told;
+}

@@ -1,0 +1,22 @@
+-- What a try for a turn does, to make a call with this contract: by a pass at a desk, and by one of shards.
+use Rattle.std.specs.Prelude.{ℕ, List, Result}
+use Rattle.mc_words.specs.declared.shape.Shape.{Shape}
+use Rattle.mc_shared.specs.Records.{ReaderRecord}
+use Rattle.mc_cache.specs.Failing.{TurnFails, versions_seen}
+use Rattle.mc_cache.specs.Plain.{TurnMeans, seen}
+use Rattle.mc_cache.specs.TurnCalls.{Contract}
+use Rattle.mc_cache.specs.Turns.{HasTriedTo}
+use Rattle.mc_cache.specs.declared.desk.DeskError.{DeskError}
+use Rattle.mc_shards.specs.Sharded.{ChangesAt, Sharded, shard_in}
+use Rattle.mc_door.specs.AtShards.{IsAtShard}
+
+-- the pass's record changes so, what it has seen changes so, and the call may fail so
+abbrev pub HasTriedAtDesk : {V : ℕ} {T E : Type 0} → Contract V T E → Shape → ReaderRecord → ReaderRecord → Result T (DeskError E) → Type 0
+HasTriedAtDesk {V} c sh r r' tried =
+    HasTriedTo V sh (c.called sh) r r' tried × TurnMeans c.means (seen V r) (seen V r') tried × TurnFails (c.fails sh (seen V r') (versions_seen V r')) tried
+
+-- and so it is at the key's shard, while the others stay
+abbrev pub HasTriedAtShard : {V : ℕ} {T E : Type 0} → Contract V T E → Sharded → ℕ → List ReaderRecord → List ReaderRecord → Result T (DeskError E) → Type 0
+HasTriedAtShard {V} c s key rs rs' tried =
+    IsAtShard V s key rs rs' (λ r r'. HasTriedTo V s.shape (c.called s.shape) r r' tried) (λ h h'. TurnMeans c.means h h' tried)
+    × ChangesAt (shard_in s key) rs rs' (λ r r'. TurnFails (c.fails s.shape (seen V r') (versions_seen V r')) tried)
