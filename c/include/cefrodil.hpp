@@ -1,8 +1,8 @@
 // Cefrodil for C++17: handles that move and close themselves, values as arrays, answers as types. It is a thin layer over cefrodil.h, which
 // says what each call does and what its caller promises. A Writer, a Reader and a Pass belong to one thread at a time.
 //
-// No call that returns a status throws. Status::no_memory: the library found no memory, or this header for its own vectors. Nothing was done.
-// The latter comes before other refusals. A program that is compiled without exceptions ends there, as it does at each std::vector.
+// No call that returns a status throws. Status::no_memory: the library or a vector of this header found no memory, and nothing was done. For
+// a vector, it comes before other errors, and without exceptions the program ends.
 #ifndef CEFRODIL_HPP
 #define CEFRODIL_HPP
 
@@ -217,7 +217,7 @@ template <size_t Words> class Pass : public Lookups<Words> {
     return shape;
 }
 
-// Opens a cache: its writer, and `count` readers. Unless ok, `writer` and `readers` are unchanged. in_use: the writer is open.
+// Opens a cache with `count` readers, which replace those in `readers`. Unless ok, nothing changes. in_use: `writer` is open.
 template <size_t Words>
 [[nodiscard]] Status open(const cefrodil_shape &shape, size_t count, Writer<Words> &writer, std::vector<Reader<Words>> &readers) noexcept {
     count = inside::allowed(count);
