@@ -2,6 +2,7 @@
 // threads no count is lost.
 #include "cefrodil.hpp"
 #include "must.h"
+#include <chrono>
 #include <string>
 #include <thread>
 
@@ -17,6 +18,12 @@ static cefrodil_shape shape_of(uint32_t items, uint64_t limit) {
 }
 
 static const uint64_t most = uint64_t(1) << 62;
+
+// When a test gives up that waits for what threads do to each other. On a machine with much else to do that may take long.
+static std::chrono::steady_clock::time_point too_late() {
+    return std::chrono::steady_clock::now() + std::chrono::seconds(60);
+}
+static bool is_over(std::chrono::steady_clock::time_point end) { return std::chrono::steady_clock::now() >= end; }
 
 // Each lookup of the writer and of a reader is a hit or a miss, also in calls for many keys at once.
 static void lookups() {
@@ -86,12 +93,13 @@ static void all_recent() {
         }
     });
     uint64_t refused = 0;
-    for (uint64_t n = 0; n < 10000000 && refused < 3; n++) {
+    const auto end = too_late();
+    for (uint64_t n = 0; refused < 3 && (n % 1024 != 0 || !is_over(end)); n++) {
         refused += writer.put(n % 2, {n}).status == Status::all_recent;
     }
     done = true;
     looking.join();
-    MUST(refused != 0 && writer.meter().counts().refusals == refused);
+    MUST(refused == 3 && writer.meter().counts().refusals == refused);
 }
 
 // The cache of entries counts, and continues counting on a desk, by the readers that its passes become, and by the writer that comes back.
@@ -151,7 +159,8 @@ struct Told {
 // Works until some thread was held, and a while in any case.
 static void work(Pass<1> &pass, Told &told, std::atomic<bool> &is_held) {
     std::vector<uint64_t> list;
-    for (uint64_t n = 0; n < 1000 || (n < 100000 && !is_held); n++) {
+    const auto end = too_late();
+    for (uint64_t n = 0; n < 1000 || (!is_held && !is_over(end)); n++) {
         const uint64_t key = n * 7 % 11;
         uint64_t number;
         told.looked(pass.get(key));

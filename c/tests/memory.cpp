@@ -167,9 +167,9 @@ static map<uint64_t, uint64_t> turns;
 static std::vector<std::thread> others;
 static std::atomic<bool> has_ended{false};
 
-// Waits until calls of other threads were held three times.
+// Waits until calls of other threads were held three times. On a machine with much else to do that may take long.
 static void wait_for_held(uint64_t before) {
-    for (int n = 0; turns.meter().counts().held < before + 3 && n < 5000; n++) {
+    for (int n = 0; turns.meter().counts().held < before + 3 && n < 60000; n++) {
         std::this_thread::sleep_for(std::chrono::milliseconds(1));
     }
     MUST(turns.meter().counts().held >= before + 3 && !has_ended);

@@ -90,6 +90,14 @@ impl<V: Copy> Flights<V> {
         }
     }
 
+    /// How many threads have joined the flight of this key.
+    #[cfg(test)]
+    pub fn passengers(&self, print: Print) -> usize {
+        let stripe = lock(self.stripe(print));
+        // The leader and the stripe hold it, too.
+        stripe.iter().find(|flight| flight.print == print).map_or(0, |flight| Arc::strong_count(flight) - 2)
+    }
+
     /// Detaches all flights.
     pub fn detach_all(&self) {
         self.stripes.iter().for_each(|stripe| lock(stripe).clear());

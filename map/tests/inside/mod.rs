@@ -1,7 +1,8 @@
-//! Tests that need what the map doesn't show: its clock, shapes and tries, and its passes.
+//! Tests that need what the map doesn't show: its clock, shapes and tries, its passes, and who waits for a value.
 mod disturbed;
 mod expiry;
 mod fills;
+mod flights;
 #[cfg(feature = "objects")]
 mod objects;
 mod places;

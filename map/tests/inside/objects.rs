@@ -254,11 +254,15 @@ fn a_write_that_does_not_get_its_turn_says_so() {
 fn a_computation_that_tries_once_does_not_wait_for_a_turn() {
     let map = timed(Duration::MAX);
     in_stripe(&map, 1, || {
-        let begin = Instant::now();
-        assert_eq!(map.try_get_or_insert_with(&1, || text("a")), Ok(text("a")));
-        // So many tries as others make take over a second.
-        assert!(begin.elapsed() < Duration::from_millis(700));
-        assert_eq!((map.get(&1), map.stats().refused), (None, 1));
+        // So many tries as others make take over a second. One may take as long, too, if the thread gets no processor: so one of many is short.
+        let is_short = |refused| {
+            let begin = Instant::now();
+            assert_eq!(map.try_get_or_insert_with(&1, || text("a")), Ok(text("a")));
+            let taken = begin.elapsed();
+            assert_eq!((map.get(&1), map.stats().refused), (None, refused));
+            taken < Duration::from_millis(700)
+        };
+        assert!((1..=60).any(is_short));
     });
     assert_eq!((map.try_get_or_insert_with(&1, || text("b")), map.get(&1)), (Ok(text("b")), Some(text("b"))));
 }

@@ -10,7 +10,7 @@ use std::time::Duration;
 type Names = ObjectMap<String, String>;
 
 // How long a thread may take to do what it must do at once.
-const LONG: Duration = Duration::from_secs(10);
+const LONG: Duration = Duration::from_secs(60);
 
 fn text(text: &str) -> String {
     text.into()

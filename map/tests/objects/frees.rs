@@ -8,7 +8,7 @@ use std::time::Duration;
 type Values = ObjectMap<u64, Owned>;
 
 // How long a thread may take to do what it must do at once.
-const LONG: Duration = Duration::from_secs(10);
+const LONG: Duration = Duration::from_secs(60);
 
 // At most so many objects wait that no call uses.
 const WAIT: u64 = 32;
