@@ -2,6 +2,7 @@
 // first word of their hash are told apart by the second.
 #include "cefrodil_map.hpp"
 #include "must.h"
+#include <cstdlib>
 #include <stdexcept>
 #include <unistd.h>
 #include <unordered_map>
@@ -364,13 +365,15 @@ static void computations() {
     MUST(computed.status == Status::ok && computed.computed && numbers.find(200) == 8u);
 }
 
-int main() {
-    alarm(120); // so that a flight which never ends fails the test
+// With an argument the calls are so many times fewer, for valgrind.
+int main(int argc, char **argv) {
+    const uint64_t fewer = argc > 1 ? std::strtoull(argv[1], nullptr, 10) : 1;
+    alarm(240); // so that a flight which never ends fails the test
     openings();
     answers();
-    MUST(random_calls({2000}, 200, 100000) == 0);
-    MUST(random_calls({60, 1}, 200, 100000) > 1000);
-    MUST(random_calls({1, 4, 1}, 200, 20000) > 1000);
+    MUST(random_calls({2000}, 200, 100000 / fewer) == 0);
+    MUST(random_calls({60, 1}, 200, 100000 / fewer) > 1000 / fewer);
+    MUST(random_calls({1, 4, 1}, 200, 20000 / fewer) > 1000 / fewer);
     collisions<Narrow>();
     collisions<NarrowPair>();
     texts();

@@ -4,6 +4,7 @@
 #include "must.h"
 #include <algorithm>
 #include <chrono>
+#include <cstdlib>
 #include <stdexcept>
 #include <unistd.h>
 
@@ -11,6 +12,9 @@ using cefrodil::map;
 using cefrodil::Status;
 
 using Numbers = map<uint64_t, uint64_t>;
+
+// With an argument the rounds of the tests are so many times fewer, for valgrind.
+static uint64_t fewer = 1;
 
 // Runs a function in so many threads, which begin together. It gets the thread's number.
 template <class Function> static void in_threads(size_t count, Function function) {
@@ -120,7 +124,7 @@ static void values(uint32_t passes) {
     Notes notes;
     MUST(all.open({1, 2, passes}) == Status::ok && all.capacity() < Notes::keys);
     in_threads(Notes::threads, [&](size_t thread) {
-        for (uint64_t n = 0; n < 15000; n++) {
+        for (uint64_t n = 0; n < 15000 / fewer; n++) {
             change(all, notes, thread, n + thread * 1000003);
         }
     });
@@ -128,7 +132,7 @@ static void values(uint32_t passes) {
     for (uint16_t key = 0; key < Notes::keys; key++) {
         found += all.contains(key);
     }
-    MUST(found == all.size() && found <= all.capacity() && all.meter().counts().evictions > 100);
+    MUST(found == all.size() && found <= all.capacity() && all.meter().counts().evictions > 100 / fewer);
     MUST(all.clear() == Status::ok && all.size() == 0);
 }
 
@@ -149,7 +153,7 @@ static void updates(uint32_t passes) {
     Numbers numbers;
     MUST(numbers.open({100, 1, passes}) == Status::ok);
     in_threads(4, [&](size_t) {
-        for (uint64_t n = 0; n < 2000; n++) {
+        for (uint64_t n = 0; n < 2000 / fewer; n++) {
             const uint64_t key = n % 3;
             const auto one_more = [&](uint64_t old) {
                 n % 4 == 0 ? std::this_thread::yield() : void();
@@ -160,8 +164,8 @@ static void updates(uint32_t passes) {
             MUST(numbers.update_or_insert(3, 1, one_more).status == Status::ok);
         }
     });
-    MUST(numbers.find(0).value_or(0) + numbers.find(1).value_or(0) + numbers.find(2).value_or(0) == 8000);
-    MUST(numbers.find(3) == 8000u && numbers.size() == 4);
+    MUST(numbers.find(0).value_or(0) + numbers.find(1).value_or(0) + numbers.find(2).value_or(0) == 8000 / fewer);
+    MUST(numbers.find(3) == 8000 / fewer && numbers.size() == 4);
 }
 
 // Two threads count a new key at the same time, and neither count is lost.
@@ -170,7 +174,7 @@ static void first_counts() {
     MUST(numbers.open({30000}) == Status::ok);
     std::atomic<uint64_t> begun{0}, sum{0};
     in_threads(2, [&](size_t) {
-        for (uint64_t key = 0; key < 20000; key++) {
+        for (uint64_t key = 0; key < 20000 / fewer; key++) {
             begun++;
             for (int spins = 0; begun < 2 * (key + 1); spins++) {
                 spins > 1000 ? std::this_thread::yield() : void();
@@ -178,7 +182,7 @@ static void first_counts() {
             sum += numbers.update_or_insert(key, 1, [](uint64_t old) { return old + 1; }).value.value_or(0);
         }
     });
-    MUST(sum == 3 * 20000 && numbers.size() == 20000);
+    MUST(sum == 3 * (20000 / fewer) && numbers.size() == 20000 / fewer);
 }
 
 // Threads whose calls are never repeated are held now and then. An erasure that returned held was not made, and one that returned ok was.
@@ -187,7 +191,7 @@ static void held() {
     MUST(numbers.open({1000, 1, 8, 0}) == Status::ok);
     const auto is_there = [&](uint64_t key) { return surely([&] { return numbers.get(key).status; }) == Status::ok; };
     in_threads(3, [&](size_t key) {
-        for (int n = 0; n < 20000; n++) {
+        for (uint64_t n = 0; n < 20000 / fewer; n++) {
             MUST(surely([&] { return numbers.insert_or_assign(key, 1).status; }) == Status::ok);
             const Status status = numbers.erase(key);
             MUST(status == Status::ok ? !is_there(key) : is_there(key) && (status == Status::held || status == Status::busy));
@@ -213,7 +217,7 @@ static void erasures_of_another_key() {
     std::atomic<int> lost{0};
     std::atomic<bool> ends{false};
     in_threads(2, [&](size_t thread) {
-        for (int n = 0; thread == 0 && n < 20000; n++) {
+        for (uint64_t n = 0; thread == 0 && n < 20000 / fewer; n++) {
             MUST(meeting.insert_or_assign(1, 1).status == Status::ok && meeting.insert_or_assign(2, 2).status == Status::ok);
             lost += !meeting.contains(2);
         }
@@ -245,11 +249,11 @@ static void computations() {
     // Nor does one that ended between a miss and the begin of the next one make that compute again.
     calls = 0;
     in_threads(4, [&](size_t) {
-        for (uint64_t key = 1000; key < 101000; key++) {
+        for (uint64_t key = 1000; key < 1000 + 100000 / fewer; key++) {
             MUST(numbers.find_or_compute(key, [&] { return ++calls, key; }).value == key);
         }
     });
-    MUST(calls == 100000);
+    MUST(calls == 100000 / fewer);
     // While a key is computed, other keys are, too. An erasure meanwhile has the value not put.
     std::atomic<bool> has_begun{false}, goes_on{false};
     std::thread slow([&] {
@@ -379,7 +383,8 @@ static struct Checked {
     }
 } checked;
 
-int main() {
+int main(int argc, char **argv) {
+    fewer = argc > 1 ? std::strtoull(argv[1], nullptr, 10) : 1;
     alarm(240); // so that a flight which never ends fails the test
     passes();
     values(8);

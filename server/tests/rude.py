@@ -28,7 +28,7 @@ def too_many_clients(program):
         with connect(port) as late:
             assert late.recv(100) == b'ERROR Too many open connections\r\n' and late.recv(100) == b''
         clients[0].close()
-        for _ in range(100):
+        for _ in range(3000):
             with connect(port) as next_client:
                 if ask(next_client, b'mn\r\n') == b'MN\r\n':
                     return
