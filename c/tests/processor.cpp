@@ -1,16 +1,12 @@
-// On a processor that is too old each opening returns that, and opens nothing. .ci/door links this with an archive that finds each processor too
-// old, and then defines TOO_OLD. Over any other archive each opening opens.
+// On a processor that is too old each opening returns that, and opens nothing. .ci/door-cxx links this with an archive that finds each processor too
+// old, and then gives it an argument. Over any other archive each opening opens.
 #include "cefrodil_map.hpp"
 #include "must.h"
 
 using namespace cefrodil;
 
-#ifdef TOO_OLD
-static const Status expected = Status::processor;
-#else
-static const Status expected = Status::ok;
-#endif
-static const bool runs = expected == Status::ok;
+static Status expected = Status::ok;
+static bool runs = true;
 static const cefrodil_shape shape{uint64_t(1) << 62, 64, 100, 64, 5, 8, CEFRODIL_MIX_FULL};
 
 static bool is(cefrodil_status status) { return static_cast<Status>(status) == expected; }
@@ -47,7 +43,9 @@ static void in_cxx() {
     MUST(numbers.open({100}) == expected && numbers.is_open() == runs);
 }
 
-int main() {
+int main(int argc, char **) {
+    runs = argc == 1;
+    expected = runs ? Status::ok : Status::processor;
     in_c();
     in_cxx();
     MUST(cefrodil_version() / 100 == CEFRODIL_VERSION / 100);
