@@ -39,7 +39,7 @@ impl<K: ?Sized, V: Copy + Send + Sync + 'static, S: BuildHasher> Map<K, V, S> {
     {
         let inner = &self.inner;
         let print = inner.print(key);
-        if let Ok(Some(value)) = inner.get(print, inner.looks()) {
+        if let Some(value) = inner.get(print, inner.looks(), |told| told.unwrap_or(None)) {
             return Ok(value);
         }
         loop {
@@ -67,7 +67,7 @@ impl<K: ?Sized, V: Copy + Send + Sync + 'static, S: BuildHasher> Map<K, V, S> {
     {
         let inner = &self.inner;
         let print = inner.print(key);
-        if let Some(value) = inner.get(print, 1)? {
+        if let Some(value) = inner.get(print, 1, |told| told)? {
             return Ok(value);
         }
         match inner.flights.board(print) {

@@ -8,7 +8,7 @@ use crate::print::{Print, Printer};
 use crate::slots::Slots;
 use crate::stats::Kind;
 use crate::wait::{in_turn, within, LOOKS};
-use crate::words::{Entry, Layout, Words, MOST};
+use crate::words::{check, deadline, Entry, Layout, Seen, Words};
 use cefrodil::{PutIfError, Reply, TurnError};
 use std::hash::{BuildHasher, Hash};
 use std::sync::Arc;
@@ -44,10 +44,12 @@ impl<V: Copy, S: BuildHasher> Inner<V, S> {
     }
 
     /// How often a lookup tries that is a miss if it stays busy.
+    #[inline]
     pub fn looks(&self) -> u32 {
         self.tries.min(LOOKS)
     }
 
+    #[inline]
     fn layout(&self) -> Layout {
         Layout::of(self.life)
     }
@@ -62,27 +64,23 @@ impl<V: Copy, S: BuildHasher> Inner<V, S> {
     }
 
     /// Looks the key up. `None`: each try was busy. It isn't counted.
-    #[inline]
     pub fn look(&self, print: Print, tries: u32) -> Option<Found<V>> {
-        match self.slots.call(|pass| pass.get(print.key)) {
-            Reply::Busy => self.look_again(print, tries - 1),
-            reply => self.found(print, reply),
-        }
+        let look = |pass: &mut AnyPass| AnyPass::get::<V, _>(pass, print.key, self.layout(), |seen| self.found(print, seen));
+        self.slots.call(look).or_else(|| self.look_again(print, tries - 1))
     }
 
     #[cold]
     fn look_again(&self, print: Print, tries: u32) -> Option<Found<V>> {
-        within(tries, || self.found(print, self.slots.call(|pass| pass.get_or_desk(print.key))))
+        within(tries, || self.found(print, Seen::of(&mut self.slots.call(|pass| pass.get_or_desk(print.key)))))
     }
 
-    #[inline]
-    fn found(&self, print: Print, reply: Reply<MOST>) -> Option<Found<V>> {
-        let (words, since) = match reply {
-            Reply::Found { value, since, .. } => (value, since),
-            Reply::Absent { .. } => return Some(Found::Absent),
-            Reply::Busy => return None,
+    fn found(&self, print: Print, seen: Seen) -> Option<Found<V>> {
+        let (words, since) = match seen {
+            Seen::Entry(words, since) => (words, since),
+            Seen::Absent => return Some(Found::Absent),
+            Seen::Busy => return None,
         };
-        let entry: Entry<V> = Entry::of(words, self.layout());
+        let entry = Entry::of(words, self.layout());
         Some(if entry.check != print.check {
             Found::Other(since)
         } else if self.clock.has_passed(entry.deadline) {
@@ -92,10 +90,39 @@ impl<V: Copy, S: BuildHasher> Inner<V, S> {
         })
     }
 
-    /// Looks the key up, and counts that.
+    /// Looks the key up, and counts that. `told` makes of the answer what the caller returns.
     #[inline]
-    pub fn get(&self, print: Print, tries: u32) -> Result<Option<V>, GetError> {
-        self.counted(self.look(print, tries))
+    pub fn get<R>(&self, print: Print, tries: u32, told: impl FnOnce(Result<Option<V>, GetError>) -> R) -> R {
+        match self.layout() {
+            Layout::Plain => self.get_laid::<false, R>(print, tries, told),
+            Layout::Timed => self.get_laid::<true, R>(print, tries, told),
+        }
+    }
+
+    // The compiler knows the layout, and leaves out what is for the other one. The value is read last: then it is copied once.
+    #[inline(always)]
+    fn get_laid<const TIMED: bool, R>(&self, print: Print, tries: u32, told: impl FnOnce(Result<Option<V>, GetError>) -> R) -> R {
+        let layout = if TIMED { Layout::Timed } else { Layout::Plain };
+        let Some((pass, counts)) = self.slots.own() else {
+            return told(self.counted(self.look(print, tries)));
+        };
+        AnyPass::get::<V, _>(pass, print.key, layout, |seen| match seen {
+            Seen::Entry(words, _) if check(words) == print.check && !self.clock.has_passed(deadline(words, layout)) => {
+                counts.add_alone(Kind::Hit);
+                told(Ok(Some(Entry::of(words, layout).value)))
+            }
+            Seen::Absent => {
+                counts.add_alone(Kind::Miss);
+                told(Ok(None))
+            }
+            other => told(self.get_again(print, other, tries)),
+        })
+    }
+
+    // Counts what the first of so many tries saw, or looks again.
+    #[cold]
+    fn get_again(&self, print: Print, first: Seen, tries: u32) -> Result<Option<V>, GetError> {
+        self.counted(self.found(print, first).or_else(|| self.look_again(print, tries - 1)))
     }
 
     /// Looks up to `MANY` keys up by one call of the index, and counts each. A key that is busy is looked up again by itself.
@@ -105,12 +132,11 @@ impl<V: Copy, S: BuildHasher> Inner<V, S> {
         keys.iter_mut().zip(prints).for_each(|(key, print)| *key = print.key);
         self.slots.call(|pass| pass.get_many(keys, replies));
         values.extend(prints.iter().zip(replies).map(|(print, reply)| {
-            let found = self.found(*print, *reply).or_else(|| self.look_again(*print, self.looks() - 1));
+            let found = self.found(*print, Seen::of(reply)).or_else(|| self.look_again(*print, self.looks() - 1));
             self.counted(found).unwrap_or(None)
         }));
     }
 
-    #[inline]
     fn counted(&self, found: Option<Found<V>>) -> Result<Option<V>, GetError> {
         let kind = match found {
             Some(Found::Live(entry, _)) => {

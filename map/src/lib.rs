@@ -14,6 +14,7 @@ mod objects;
 mod pass;
 mod print;
 mod settings;
+mod sip;
 mod slots;
 mod stats;
 mod update;

@@ -1,9 +1,10 @@
-//! A pass of shards whose entries have any width, 1 to 8 words. The width is chosen at opening.
-use crate::words::{Words, MOST};
+//! A pass of shards, or of a desk, whose entries have any width, 1 to 8 words. The width is chosen at opening.
+use crate::words::{Layout, Seen, Words, MOST};
 use cefrodil::{
-    Entry, ListError, OpenError, Pass, Put, PutError, PutIfAbsentError, PutIfError, Removal, Replaced, Reply, Shape, Shards,
-    Spent, TurnError,
+    Desk, Entry, ListError, OpenError, Pass, Put, PutError, PutIfAbsentError, PutIfError, Removal, Replaced, Reply, Shape,
+    Shards, Spent, TurnError, Value,
 };
+use std::ops::DerefMut;
 
 /// How many keys one call looks up at most.
 pub(crate) const MANY: usize = 32;
@@ -41,7 +42,7 @@ impl AnyPass {
     pub fn open(width: usize, shape: &Shape, shards: u32, passes: usize) -> Result<Vec<AnyPass>, OpenError> {
         macro_rules! open {
             ($variant:ident) => {
-                Shards::open(shape, shards, passes)?.into_iter().map(AnyPass::$variant).collect()
+                opened(shape, shards, passes)?.into_iter().map(AnyPass::$variant).collect()
             };
         }
         Ok(match width {
@@ -60,9 +61,26 @@ impl AnyPass {
         any!(self, pass => pass.capacity())
     }
 
-    #[inline]
-    pub fn get(&mut self, key: u64) -> Reply<MOST> {
-        any!(self, pass => wide_reply(pass.get(key)))
+    /// Looks the key up by a pass of a map of such values, with this layout. Gives the pass back, and then calls `then`.
+    ///
+    /// The compiler knows the width, and leaves the calls for the others out. The words stay where the index wrote them.
+    #[inline(always)]
+    pub fn get<V, R>(mut pass: impl DerefMut<Target = AnyPass>, key: u64, layout: Layout, then: impl FnOnce(Seen) -> R) -> R {
+        macro_rules! get {
+            ($($width:literal $variant:ident $reply:ident),*) => {{
+                $(let mut $reply;)*
+                let seen = match (layout.width::<V>(), &mut *pass) {
+                    $(($width, AnyPass::$variant(by_width)) => {
+                        $reply = by_width.get(key);
+                        Seen::of(&mut $reply)
+                    })*
+                    _ => unreachable!("opening takes this width"),
+                };
+                drop(pass);
+                then(seen)
+            }};
+        }
+        get!(1 One one, 2 Two two, 3 Three three, 4 Four four, 5 Five five, 6 Six six, 7 Seven seven, 8 Eight eight)
     }
 
     /// Looks these keys up, `MANY` at most. There must be as many replies.
@@ -99,6 +117,17 @@ impl AnyPass {
     pub fn keys(&mut self) -> Result<Vec<u64>, TurnError<ListError>> {
         any!(self, pass => Ok(pass.try_entries()?.into_iter().map(|(key, _)| key).collect()))
     }
+}
+
+/// A desk looks up faster than a single shard does.
+fn opened<const WIDTH: usize>(shape: &Shape, shards: u32, passes: usize) -> Result<Vec<Pass<'static, WIDTH>>, OpenError>
+where
+    [u64; WIDTH]: Value,
+{
+    if shards == 1 {
+        return Ok(Desk::open(shape, passes)?.into_passes());
+    }
+    Shards::open(shape, shards, passes)
 }
 
 fn narrow<const WIDTH: usize>(words: &Words) -> &[u64; WIDTH] {

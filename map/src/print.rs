@@ -1,5 +1,6 @@
 //! The two hashes by which the index knows a key.
-use std::hash::{BuildHasher, Hash, Hasher};
+use crate::sip::{Secret, Sip};
+use std::hash::{BuildHasher, Hash};
 
 /// A key's two hashes. The map keeps no keys, so two keys with the same print are one key to it.
 #[derive(Clone, Copy, Debug, PartialEq, Eq)]
@@ -21,39 +22,34 @@ impl Print {
 /// How keys are hashed.
 pub(crate) struct Printer<S> {
     hasher: S,
-    once: bool,
+    // With a secret, keys are hashed by this crate's SipHash, and not by `hasher`.
+    secret: Option<Secret>,
 }
 
-// What is hashed before the key. The two must differ.
+// What is hashed before the key, or for a word of a secret. The two must differ.
 const KEY: u64 = 0;
 const CHECK: u64 = 1;
 
-// What is hashed after the key for the check word, if the key is hashed once.
-const MORE: u8 = 1;
-
-impl<S> Printer<S> {
-    /// Hashes a key once. The check word is the hash of the key and one more byte. The hasher must be keyed, with a state of more than 128
-    /// bits, as std's is: in a state of 64 bits, keys that meet in the first hash would meet in both.
+impl<S: BuildHasher> Printer<S> {
+    /// Hashes a key once, by SipHash-1-3 of 128 bits. The hasher must be keyed, as std's is: it makes the secret.
     pub fn once(hasher: S) -> Printer<S> {
-        Printer { hasher, once: true }
+        let secret = Some(Secret(hasher.hash_one(KEY), hasher.hash_one(CHECK)));
+        Printer { hasher, secret }
     }
 
     /// Hashes a key twice, after different words.
     pub fn twice(hasher: S) -> Printer<S> {
-        Printer { hasher, once: false }
+        Printer { hasher, secret: None }
     }
-}
 
-impl<S: BuildHasher> Printer<S> {
     #[inline]
     pub fn print<Q: Hash + ?Sized>(&self, key: &Q) -> Print {
-        if !self.once {
+        let Some(secret) = self.secret else {
             return Print { key: self.hasher.hash_one((KEY, key)), check: self.hasher.hash_one((CHECK, key)) };
-        }
-        let mut state = self.hasher.build_hasher();
+        };
+        let mut state = Sip::new(secret);
         key.hash(&mut state);
-        let first = state.finish();
-        state.write_u8(MORE);
-        Print { key: first, check: state.finish() }
+        let (key, check) = state.pair();
+        Print { key, check }
     }
 }

@@ -5,7 +5,7 @@
 use crate::map::Inserted;
 use crate::stats::{Counts, Kind, Stats};
 use cefrodil::Put;
-use std::cell::{Cell, RefCell};
+use std::cell::{Cell, RefCell, RefMut};
 use std::iter::once;
 use std::panic::RefUnwindSafe;
 use std::sync::atomic::{AtomicU64, AtomicUsize, Ordering::Relaxed};
@@ -30,11 +30,12 @@ struct Slot<P> {
     counts: Counts,
 }
 
-// SAFETY: `counts` is `Sync`, so this is about `pass`. Only `Slots::call` touches it, and only in the slot that the calling thread has
-// claimed (`mine`). At most one thread has claimed a slot: its index begins in `free`, `take_free` takes it out for the thread that claims
-// it, and it goes back at that thread's end (`Claims::drop`). The thread doesn't use it again: by then `LAST` is reset, and `CLAIMS` can
-// not be reached any more. `LAST` is never of another map, since ids differ. The mutex of `free` orders what two threads do with a slot
-// one after the other, and the pass may move to another thread (`Send`).
+// SAFETY: `counts` is `Sync`, so this is about `pass`. Only `Slots::own` touches it, and only in the slot that the calling thread has
+// claimed (`mine`). A `RefMut` stays in its thread, and each call of the map drops its own before it returns. At most one thread has
+// claimed a slot: its index begins in `free`, `take_free` takes it out for the thread that claims it, and it goes back at that thread's
+// end (`Claims::drop`). The thread doesn't use it again: by then `LAST` is reset, and `CLAIMS` can not be reached any more. `LAST` is never
+// of another map, since ids differ. The mutex of `free` orders what two threads do with a slot one after the other, and the pass may move
+// to another thread (`Send`).
 unsafe impl<P: Send> Sync for Slot<P> {}
 
 // A call that panics leaves its pass usable.
@@ -61,17 +62,26 @@ impl<P: 'static> Slots<P> {
         }
     }
 
+    /// The thread's own pass and its counts, unless it has none. `None`, too, if the pass is borrowed: if a call by it were to call this.
+    #[inline]
+    pub fn own(self: &Arc<Self>) -> Option<(RefMut<'_, P>, &Counts)> {
+        let slot = self.mine()?;
+        Some((slot.pass.try_borrow_mut().ok()?, &slot.counts))
+    }
+
     /// Makes one call by the thread's own pass, or by the shared one.
     #[inline]
     pub fn call<T>(self: &Arc<Self>, call: impl FnOnce(&mut P) -> T) -> T {
-        // A slot's pass is borrowed only if `call` were to call this: then the shared one is used.
-        match self.mine().and_then(|slot| slot.pass.try_borrow_mut().ok()) {
-            Some(mut pass) => call(&mut pass),
-            None => {
-                self.shared_counts.add(Kind::Shared);
-                call(&mut lock(&self.shared))
-            }
+        match self.own() {
+            Some((mut pass, _)) => call(&mut pass),
+            None => self.call_shared(call),
         }
+    }
+
+    #[cold]
+    fn call_shared<T>(&self, call: impl FnOnce(&mut P) -> T) -> T {
+        self.shared_counts.add(Kind::Shared);
+        call(&mut lock(&self.shared))
     }
 
     #[inline]

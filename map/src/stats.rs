@@ -56,6 +56,7 @@ pub(crate) struct Counts([AtomicU64; NUMBERS]);
 
 impl Counts {
     /// Counts one more. Only one thread at a time may call it.
+    #[inline]
     pub fn add_alone(&self, kind: Kind) {
         let count = &self.0[kind as usize];
         count.store(count.load(Relaxed) + 1, Relaxed);

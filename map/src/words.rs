@@ -1,5 +1,6 @@
 //! How an entry lies in the words of the index: its check word, its deadline if the map has a time to live, and the bytes of its value.
 use crate::clock::NEVER;
+use cefrodil::Reply;
 use std::arch::asm;
 use std::mem::MaybeUninit;
 use std::ptr;
@@ -39,6 +40,7 @@ impl Layout {
     }
 
     // How many words come before the value.
+    #[inline]
     const fn head(self) -> usize {
         match self {
             Layout::Plain => 1,
@@ -64,9 +66,43 @@ impl<V: Copy> Entry<V> {
     }
 
     /// The words must be those of an entry of the same map: `words` made them.
-    pub fn of(mut words: Words, layout: Layout) -> Entry<V> {
-        let deadline = if layout == Layout::Timed { words[1] } else { NEVER };
-        Entry { check: words[0], deadline, value: read(&mut words[layout.head()..]) }
+    #[inline]
+    pub fn of(words: &mut [u64], layout: Layout) -> Entry<V> {
+        Entry { check: check(words), deadline: deadline(words, layout), value: read(&mut words[layout.head()..]) }
+    }
+}
+
+/// The check word of an entry.
+#[inline]
+pub(crate) fn check(words: &[u64]) -> u64 {
+    words[0]
+}
+
+/// The deadline of an entry.
+#[inline]
+pub(crate) fn deadline(words: &[u64], layout: Layout) -> u64 {
+    match layout {
+        Layout::Plain => NEVER,
+        Layout::Timed => words[1],
+    }
+}
+
+/// What a lookup of the index saw.
+pub(crate) enum Seen<'a> {
+    /// An entry, and the moment when it was put.
+    Entry(&'a mut [u64], u64),
+    Absent,
+    Busy,
+}
+
+impl Seen<'_> {
+    #[inline]
+    pub fn of<const WIDTH: usize>(reply: &mut Reply<WIDTH>) -> Seen<'_> {
+        match reply {
+            Reply::Found { value, since, .. } => Seen::Entry(value, *since),
+            Reply::Absent { .. } => Seen::Absent,
+            Reply::Busy => Seen::Busy,
+        }
     }
 }
 
@@ -85,6 +121,7 @@ fn write<V: Copy>(value: &V, words: &mut [u64]) {
 }
 
 /// Reads the value whose bytes `write` left in these words.
+#[inline]
 fn read<V: Copy>(words: &mut [u64]) -> V {
     assert!(size_of::<V>() <= size_of_val(words), "opening refuses such a value");
     let bytes = words.as_mut_ptr();

@@ -181,8 +181,9 @@ impl Counter {
     }
 
     /// Counts the answer of a lookup.
+    #[inline]
     pub fn looked(&self, status: u32) {
-        if let (Some((line, _)), 0..=raw::BUSY) = (&self.0, status) {
+        if let (true, Some((line, _)), 0..=raw::BUSY) = (COUNTED, &self.0, status) {
             line.add(status as usize, 1);
         }
     }

@@ -200,6 +200,7 @@ impl Handle {
         self.counter.meter()
     }
 
+    #[inline]
     pub fn get<const WORDS: usize>(&mut self, key: u64, value: &mut [u64; WORDS]) -> (u32, RawReply) {
         let mut reply = RawReply::default();
         let (handle, words, told) = (&mut self.raw, value.as_mut_ptr(), &mut reply);

@@ -40,6 +40,7 @@ impl<const WORDS: usize> Pass<'static, WORDS> {
 }
 
 impl<const WORDS: usize> Pass<'_, WORDS> {
+    #[inline]
     pub(crate) fn handle(&mut self) -> &mut Handle {
         self.handle.as_mut().expect(UNTIL_DROPPED)
     }
@@ -55,11 +56,10 @@ impl<const WORDS: usize> Pass<'_, WORDS> {
     }
 
     /// Looks the key up. A hit marks the key as recently used.
+    #[inline]
     #[must_use]
     pub fn get(&mut self, key: u64) -> Reply<WORDS> {
-        let mut value = [0; WORDS];
-        let told = self.handle().get(key, &mut value);
-        Reply::of(told, value)
+        Reply::by(|value| self.handle().get(key, value))
     }
 
     /// Looks the keys up. Equivalent to calling [`get`](Pass::get) for each key in order: each reply has a moment of its own.
@@ -75,9 +75,7 @@ impl<const WORDS: usize> Pass<'_, WORDS> {
     /// never busy. `Busy` if the try does not win either.
     #[must_use]
     pub fn get_or_desk(&mut self, key: u64) -> Reply<WORDS> {
-        let mut value = [0; WORDS];
-        let told = self.handle().get_or_desk(key, &mut value);
-        Reply::of(told, value)
+        Reply::by(|value| self.handle().get_or_desk(key, value))
     }
 
     /// Tries once for the turn, and with it looks the key up as [`Writer::peek`](crate::Writer::peek) does. `None`: the try did not win.

@@ -15,11 +15,10 @@ impl<const WORDS: usize> Debug for Reader<WORDS> {
 
 impl<const WORDS: usize> Reader<WORDS> {
     /// Looks the key up. A hit marks the key as recently used.
+    #[inline]
     #[must_use]
     pub fn get(&mut self, key: u64) -> Reply<WORDS> {
-        let mut value = [0; WORDS];
-        let told = self.0.get(key, &mut value);
-        Reply::of(told, value)
+        Reply::by(|value| self.0.get(key, value))
     }
 
     /// Looks the keys up. Equivalent to calling [`get`](Reader::get) for each key in order: each reply has a moment of its own.

@@ -136,6 +136,21 @@ impl<const WORDS: usize> Reply<WORDS> {
         }
     }
 
+    /// The reply to a lookup, which writes the value where it stays: a copy would cost.
+    #[inline]
+    pub(crate) fn by(look: impl FnOnce(&mut [u64; WORDS]) -> Told) -> Reply<WORDS> {
+        let mut reply = Reply::Found { value: [0; WORDS], at: 0, since: 0 };
+        let Reply::Found { value, at, since } = &mut reply else { unreachable!("it was just made") };
+        let (status, told) = look(value);
+        match status {
+            raw::OK => (*at, *since) = (told.at, told.since),
+            raw::ABSENT => reply = Reply::Absent { at: told.at },
+            raw::BUSY => reply = Reply::Busy,
+            other => not_told(other),
+        }
+        reply
+    }
+
     pub(crate) fn of((status, reply): Told, value: [u64; WORDS]) -> Reply<WORDS> {
         match status {
             raw::OK => Reply::Found { value, at: reply.at, since: reply.since },

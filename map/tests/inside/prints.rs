@@ -1,5 +1,6 @@
-//! A key's two hashes: by default of one state, and with a hasher of the user's own of two.
+//! A key's two hashes: by default the two words of one SipHash, and with a hasher of the user's own those of two.
 use crate::print::{Print, Printer};
+use crate::sip::{Secret, Sip};
 use crate::Map;
 use std::cell::Cell;
 use std::collections::hash_map::RandomState;
@@ -32,9 +33,12 @@ fn the_default_hashes_once_and_a_hasher_of_the_users_twice() {
     assert_eq!((times(&by_default), times(&built), times(&of_the_users)), (1, 1, 2));
 }
 
-// The hashes of these, one after the other.
-fn print_of(hasher: &RandomState, first: impl Hash, second: impl Hash) -> Print {
-    Print { key: hasher.hash_one(first), check: hasher.hash_one(second) }
+// The two words of the SipHash of a text whose secret is that hasher's.
+fn sip_of(hasher: &RandomState, text: impl Hash) -> Print {
+    let mut state = Sip::new(Secret(hasher.hash_one(0_u64), hasher.hash_one(1_u64)));
+    text.hash(&mut state);
+    let (key, check) = state.pair();
+    Print { key, check }
 }
 
 #[test]
@@ -42,11 +46,83 @@ fn the_two_hashes_are_those_of_different_texts() {
     let hasher = RandomState::new();
     let (once, twice) = (Printer::once(hasher.clone()), Printer::twice(hasher.clone()));
     for key in ["", "a", "seven l", "nine letters"] {
-        assert_eq!(once.print(key), print_of(&hasher, key, (key, 1_u8)));
-        assert_eq!(twice.print(key), print_of(&hasher, (0_u64, key), (1_u64, key)));
+        assert_eq!(once.print(key), sip_of(&hasher, key));
+        let (first, second) = (hasher.hash_one((0_u64, key)), hasher.hash_one((1_u64, key)));
+        assert_eq!(twice.print(key), Print { key: first, check: second });
     }
 }
 
+// The bytes 0, 1, 2 and so on.
+fn bytes<const COUNT: usize>() -> [u8; COUNT] {
+    std::array::from_fn(|n| n as u8)
+}
+
+const SECRET: Secret = Secret(0x0706_0504_0302_0100, 0x0f0e_0d0c_0b0a_0908);
+
+fn sip(write: impl Fn(&mut Sip)) -> (u64, u64) {
+    let mut state = Sip::new(SECRET);
+    write(&mut state);
+    assert_eq!(state.finish(), state.clone().pair().0);
+    state.pair()
+}
+
+// Those of c/tests/sip_vectors.h: the hashes of the first bytes, of none to 17.
+const VECTORS: [(u64, u64); 18] = [
+    (0xbea5_8827_b2bc_7ee7, 0x0130_30dd_6adb_62fd),
+    (0xa8ed_d360_0437_6ffc, 0x63f0_2f2b_cc73_055e),
+    (0x9b83_6905_097f_7875, 0x95ea_6a8c_54c9_5b85),
+    (0x9ff7_dc1e_facc_c56b, 0x43d7_eb12_7718_2348),
+    (0x5a28_2bac_714e_780c, 0x252c_bf8f_e792_8e9f),
+    (0x0c62_5b34_89db_28f3, 0x3e84_9526_a429_5279),
+    (0x10e7_43f7_293d_d0dc, 0xf8a6_8539_e8b0_5109),
+    (0xc3e0_aaf2_23b9_8410, 0x77ab_4808_c82e_2fa6),
+    (0xb4da_e3d5_e1fe_12aa, 0x99c7_f935_ab16_4f72),
+    (0x9439_f32c_04b8_dd81, 0x427c_1394_000e_72f4),
+    (0x898e_495d_1d54_aa4f, 0xb42f_b287_c3a4_0eba),
+    (0xdb91_4455_f39a_3b72, 0x4e0c_6efc_3d63_d6b1),
+    (0xa819_489e_8592_3fe5, 0x658c_ea9f_7395_06dc),
+    (0x1d80_eac9_c758_f8b2, 0x4478_656d_5903_d653),
+    (0x7222_c9db_6862_e787, 0x78e3_645f_66ca_b026),
+    (0x6c52_bdb2_0555_7ec1, 0x0901_7e1e_eccd_2129),
+    (0xeb8e_5115_57d9_a8d0, 0x9317_9e3d_f8b0_13b5),
+    (0x8d66_bb3f_f926_4123, 0xecf7_bdfe_e812_5197),
+];
+
+#[test]
+fn it_is_the_siphash_of_the_paper_however_the_bytes_come() {
+    let all = bytes::<17>();
+    for (size, vector) in VECTORS.into_iter().enumerate() {
+        for (cut, other) in (0..=size).flat_map(|cut| (cut..=size).map(move |other| (cut, other))) {
+            let pieces = [&all[..cut], &all[cut..other], &all[other..size]];
+            assert_eq!(sip(|state| pieces.iter().for_each(|piece| state.write(piece))), vector);
+        }
+    }
+}
+
+#[test]
+fn a_number_is_hashed_as_its_bytes() {
+    for before in 0..9 {
+        let texts: [fn(&mut Sip); 2] = [
+            |state| {
+                state.write_u8(0);
+                state.write_u16(0x0201);
+                state.write_u32(0x0605_0403);
+                state.write_i64(0x0e0d_0c0b_0a09_0807);
+                state.write_usize(0x1615_1413_1211_100f);
+                state.write_u128(0x2625_2423_2221_201f_1e1d_1c1b_1a19_1817);
+            },
+            |state| state.write(&bytes::<39>()),
+        ];
+        let [one, other] = texts.map(|text| {
+            sip(|state| {
+                state.write(&bytes::<9>()[..before]);
+                text(state);
+                state.write_u8(7);
+            })
+        });
+        assert_eq!(one, other);
+    }
+}
 #[test]
 fn each_hash_depends_on_the_key() {
     const KEYS: u64 = 10_000;
