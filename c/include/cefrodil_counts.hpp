@@ -41,7 +41,7 @@ struct alignas(64) Line {
     std::array<std::atomic<uint64_t>, all_counted> numbers{};
     Line *next = nullptr; // the next line that no handle has
 
-    void add(size_t which, uint64_t more) noexcept {
+    [[gnu::always_inline]] void add(size_t which, uint64_t more) noexcept {
         numbers[which].store(numbers[which].load(std::memory_order_relaxed) + more, std::memory_order_relaxed);
     }
 };

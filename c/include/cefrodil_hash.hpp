@@ -39,7 +39,7 @@ class SipState {
           v3_(secret.second ^ 0x7465646279746573) {}
 
     // Takes the bytes as words, the last of which has the number of bytes, modulo 256, in its highest byte.
-    template <int Rounds> void take(const void *data, size_t size) noexcept {
+    template <int Rounds> [[gnu::always_inline]] void take(const void *data, size_t size) noexcept {
         const auto *bytes = static_cast<const unsigned char *>(data);
         size_t left = size;
         for (; left >= sizeof(uint64_t); left -= sizeof(uint64_t), bytes += sizeof(uint64_t)) {
@@ -54,26 +54,27 @@ class SipState {
         take_word<Rounds>(last | uint64_t(size) << 56);
     }
     // The first word of the hash, and then the second one.
-    template <int Rounds> uint64_t first(uint64_t end) noexcept {
+    template <int Rounds> [[gnu::always_inline]] uint64_t first(uint64_t end) noexcept {
         v2_ ^= end;
         rounds<Rounds>();
         return v0_ ^ v1_ ^ v2_ ^ v3_;
     }
-    template <int Rounds> uint64_t second() noexcept {
+    template <int Rounds> [[gnu::always_inline]] uint64_t second() noexcept {
         v1_ ^= 0xdd;
         rounds<Rounds>();
         return v0_ ^ v1_ ^ v2_ ^ v3_;
     }
 
   private:
-    template <int Rounds> void take_word(uint64_t word) noexcept {
+    // Compiled into their callers, so that the four words stay in registers.
+    template <int Rounds> [[gnu::always_inline]] void take_word(uint64_t word) noexcept {
         v3_ ^= word;
         rounds<Rounds>();
         v0_ ^= word;
     }
     static uint64_t rotated(uint64_t word, int bits) noexcept { return word << bits | word >> (64 - bits); }
 
-    template <int Rounds> void rounds() noexcept {
+    template <int Rounds> [[gnu::always_inline]] void rounds() noexcept {
         for (int round = 0; round < Rounds; round++) {
             v0_ += v1_;
             v2_ += v3_;

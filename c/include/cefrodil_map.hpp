@@ -81,7 +81,7 @@ namespace inside {
 
 // The entries of a map.
 template <class V> class Table : private Packing<V> {
-    using Packing<V>::words, Packing<V>::pack, Packing<V>::value_of;
+    using Packing<V>::words, Packing<V>::pack, Packing<V>::set_value;
     using typename Packing<V>::Words;
 
   public:
@@ -96,8 +96,8 @@ template <class V> class Table : private Packing<V> {
         return turns_.open(options.entries, options.shards, options.passes, options.tries);
     }
 
-    // A lookup for its value. If it stays busy, that is a miss.
-    Entry find(const Identity &key) noexcept { return looked(key, turns_.looks()); }
+    // A lookup for its value, which is set if the status is ok. If it stays busy, that is a miss.
+    Status find(const Identity &key, std::optional<V> &value) noexcept { return looked(key, turns_.looks(), value).status; }
     // The same for a few keys, by one call of the index. Sets the values that are there. A key that is busy is looked up again by itself.
     static constexpr size_t few = 32;
     void find_few(const Identity *keys, size_t count, std::optional<V> *values) noexcept {
@@ -109,14 +109,19 @@ template <class V> class Table : private Packing<V> {
         static_cast<void>(turns_.call([&](Slot<words> &slot) { return slot.pass.get_many(indices.data(), count, found.data(), answers.data()); }));
         for (size_t i = 0; i < count; i++) {
             if (answers[i].status == CEFRODIL_OK) {
-                values[i] = value_of(keys[i], found[i]);
+                static_cast<void>(set_value(keys[i], found[i], values[i]));
             } else if (answers[i].status == CEFRODIL_BUSY) {
-                values[i] = find(keys[i]).value;
+                static_cast<void>(find(keys[i], values[i]));
             }
         }
     }
     // A lookup for a write, which is repeated as often as a put.
-    Entry look(const Identity &key) noexcept { return looked(key, turns_.tries()); }
+    Entry look(const Identity &key) noexcept {
+        Entry entry{};
+        const Seen seen = looked(key, turns_.tries(), entry.value);
+        entry.status = seen.status, entry.since = seen.since;
+        return entry;
+    }
 
     Stored put(const Identity &key, const V &value) noexcept {
         const Words packed = pack(key, value);
@@ -187,17 +192,10 @@ template <class V> class Table : private Packing<V> {
     const Turns<words> &turns() const noexcept { return turns_; }
 
   private:
-    Entry looked(const Identity &key, uint32_t most) noexcept {
-        bool again = false;
-        const auto get = [&](Slot<words> &slot) {
-            return std::exchange(again, true) ? slot.pass.get_or_desk(key.index) : slot.pass.get(key.index);
-        };
-        const Answer<words> found = turns_.repeated(get, most);
-        if (found.status != Status::ok) {
-            return {found.status, std::nullopt, 0};
-        }
-        const std::optional<V> value = value_of(key, *found.value);
-        return {value ? Status::ok : Status::absent, value, found.since};
+    Seen looked(const Identity &key, uint32_t most, std::optional<V> &value) noexcept {
+        Words packed;
+        const Seen seen = turns_.get(key.index, most, packed);
+        return {seen.status == Status::ok && !set_value(key, packed, value) ? Status::absent : seen.status, seen.since};
     }
 
     // Whether the entry is another one than was looked up.
@@ -246,10 +244,7 @@ template <class K, class V, class Hash = SipHash<K>> class map {
         if (!inside::has_memory([&] { opened = std::make_unique<Inner>(std::move(hash)); })) {
             return Status::no_memory;
         }
-        if (!opened->identities.draw()) {
-            return Status::no_random;
-        }
-        const Status status = opened->table.open(options);
+        const Status status = opened->identities.draw() ? opened->table.open(options) : Status::no_random;
         if (status == Status::ok) {
             inner_ = std::move(opened);
         }
@@ -260,14 +255,16 @@ template <class K, class V, class Hash = SipHash<K>> class map {
     Status close() noexcept { return std::exchange(inner_, nullptr) ? Status::ok : Status::closed; }
 
     // The key's value. None if the key is absent, the lookup was busy each time, or the map is not open.
-    [[nodiscard]] std::optional<V> find(Key key) const noexcept(never_throws) { return get(key).value; }
+    [[nodiscard]] std::optional<V> find(Key key) const noexcept(never_throws) {
+        std::optional<V> value;
+        static_cast<void>(set(value, key));
+        return value;
+    }
     // The same, with the status: ok, absent, busy or closed.
     [[nodiscard]] Found<V> get(Key key) const noexcept(never_throws) {
-        if (!inner_) {
-            return {Status::closed, std::nullopt};
-        }
-        const auto entry = inner_->table.find(inner_->identities.of(key));
-        return {entry.status, entry.value};
+        Found<V> found{Status::closed, std::nullopt};
+        found.status = set(found.value, key);
+        return found;
     }
     [[nodiscard]] bool contains(Key key) const noexcept(never_throws) { return get(key).status == Status::ok; }
     // Writes to `values` what `find` returns for each of `count` keys, with fewer calls of the index. `Each` is what a call takes as a key: of a map
@@ -321,16 +318,16 @@ template <class K, class V, class Hash = SipHash<K>> class map {
         }
         const inside::Identity known = inner_->identities.of(key);
         for (;;) {
-            if (const auto entry = inner_->table.find(known); entry.value) {
-                return {Status::ok, *entry.value, false};
+            if (std::optional<V> found; inner_->table.find(known, found) == Status::ok) {
+                return {Status::ok, *found, false};
             }
             inside::Flight flight(inner_->flights_of(known), known);
             if (!flight.has_begun()) {
                 continue;
             }
             // Another flight may have ended between the lookup and the begin of this one.
-            if (const auto entry = inner_->table.find(known); entry.value) {
-                return {Status::ok, *entry.value, false};
+            if (std::optional<V> found; inner_->table.find(known, found) == Status::ok) {
+                return {Status::ok, *found, false};
             }
             const V value = function();
             return {flight.land([&] { return inner_->table.put_if_absent(known, value).status; }), value, true};
@@ -343,9 +340,7 @@ template <class K, class V, class Hash = SipHash<K>> class map {
         if (!inner_) {
             return Status::closed;
         }
-        for (inside::Flights &flights : inner_->flights) {
-            flights.outdate_all();
-        }
+        std::for_each(inner_->flights.begin(), inner_->flights.end(), [](inside::Flights &flights) { flights.outdate_all(); });
         return inner_->table.clear();
     }
 
@@ -367,6 +362,9 @@ template <class K, class V, class Hash = SipHash<K>> class map {
         std::array<inside::Flights, 16> flights{};
     };
 
+    Status set(std::optional<V> &value, Key key) const noexcept(never_throws) {
+        return inner_ ? inner_->table.find(inner_->identities.of(key), value) : Status::closed;
+    }
     // Changes a key's entry by `make`, and detaches its flight first. `closed`: the answer of a map that is not open.
     template <class Result, class Change> Result change(Key key, Result closed, Change make) {
         if (!inner_) {

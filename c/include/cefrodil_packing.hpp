@@ -8,6 +8,8 @@
 #include <array>
 #include <cstddef>
 #include <cstdint>
+#include <cstring>
+#include <memory>
 #include <optional>
 
 namespace cefrodil {
@@ -25,14 +27,13 @@ template <class V> struct Packing {
         std::copy(own.begin(), own.end(), packed.begin() + 1);
         return packed;
     }
-    // The key's value, or none if the entry is another key's.
-    static std::optional<V> value_of(const Identity &key, const Words &packed) noexcept {
+    // Sets the key's value where it stays: a copy of it would cost. Returns false if the entry is another key's.
+    static bool set_value(const Identity &key, const Words &packed, std::optional<V> &value) noexcept {
         if (packed[0] != key.check) {
-            return std::nullopt;
+            return false;
         }
-        std::array<uint64_t, words_of<V>> own;
-        std::copy(packed.begin() + 1, packed.end(), own.begin());
-        return object_from<V>(own);
+        std::memcpy(static_cast<void *>(std::addressof(value.emplace())), packed.data() + 1, sizeof(V));
+        return true;
     }
 };
 

@@ -170,11 +170,8 @@ template <size_t Words> class Passes {
 
     // Makes one call with the slot of this thread, or with the shared one. The call must run no code of the user, since that might call, too.
     template <class Call> auto call(Call made) noexcept {
-        if (Slot<Words> *const slot = own_slot()) {
-            return made(*slot);
-        }
-        const std::lock_guard<std::mutex> guard(sharing_);
-        return made(slots_[0]);
+        Slot<Words> *const slot = own_slot();
+        return slot != nullptr ? made(*slot) : call_shared(made);
     }
 
     // How many keys all calls added, less those that they removed. Calls that run meanwhile count or not.
@@ -189,11 +186,15 @@ template <size_t Words> class Passes {
     const Pass<Words> &shared() const noexcept { return slots_[0].pass; }
 
   private:
+    template <class Call> [[gnu::cold]] [[gnu::noinline]] auto call_shared(Call &made) noexcept {
+        const std::lock_guard<std::mutex> guard(sharing_);
+        return made(slots_[0]);
+    }
     Slot<Words> *own_slot() noexcept {
         const LastUsed &last = last_used();
         return last.number == number_ ? static_cast<Slot<Words> *>(last.slot) : find_slot();
     }
-    Slot<Words> *find_slot() noexcept {
+    [[gnu::cold]] [[gnu::noinline]] Slot<Words> *find_slot() noexcept {
         Claims *const claims = Claims::of_thread();
         const size_t pass = claims != nullptr ? claims->pass_of(free_) : 0;
         if (pass == 0) {
@@ -225,6 +226,12 @@ inline void wait_before(uint32_t repeat) noexcept {
     }
 }
 
+// What a lookup came to. ok: the moment of the put of what it found.
+struct Seen {
+    Status status;
+    uint64_t since;
+};
+
 // Calls by the passes of shards. A call that other threads keep from its turn is repeated.
 template <size_t Words> class Turns {
   public:
@@ -240,6 +247,13 @@ template <size_t Words> class Turns {
         tries_ = tries;
         capacity_ = uint64_t(shape.items) * shards;
         return passes_.open(shape, shards, passes);
+    }
+
+    // Looks a key up: ok, absent, or busy if it was that once and then so often. A value that is found is written.
+    Seen get(uint64_t key, uint32_t most, std::array<uint64_t, Words> &value) noexcept {
+        cefrodil_reply reply;
+        const Status status = passes_.call([&](Slot<Words> &slot) { return Counting::get(slot.pass, key, value, reply); });
+        return status == Status::busy ? get_again(key, most, value) : Seen{status, reply.since};
     }
 
     // Makes a call by this thread's slot, or by the shared one.
@@ -283,6 +297,18 @@ template <size_t Words> class Turns {
     Meter meter() const noexcept { return passes_.shared().meter(); }
 
   private:
+    [[gnu::cold]] [[gnu::noinline]] Seen get_again(uint64_t key, uint32_t most, std::array<uint64_t, Words> &value) noexcept {
+        for (uint32_t repeat = 0; repeat < most; repeat++) {
+            wait_before(repeat);
+            const Answer<Words> found = passes_.call([&](Slot<Words> &slot) { return slot.pass.get_or_desk(key); });
+            if (found.status != Status::busy) {
+                value = found.value.value_or(value);
+                return {found.status, found.since};
+            }
+        }
+        return {Status::busy, 0};
+    }
+
     Passes<Words> passes_{};
     uint32_t tries_ = 0;
     uint64_t capacity_ = 0;
