@@ -92,8 +92,8 @@ template <class V> class Table : private Packing<V> {
         uint64_t since;
     };
 
-    [[nodiscard]] Status open(const MapOptions &options) noexcept {
-        return turns_.open(options.entries, options.shards, options.passes, options.tries);
+    [[nodiscard]] Status open(const MapOptions &options, uint32_t mix) noexcept {
+        return turns_.open(options.entries, options.shards, options.passes, options.tries, mix);
     }
 
     // A lookup for its value, which is set if the status is ok. If it stays busy, that is a miss.
@@ -244,7 +244,7 @@ template <class K, class V, class Hash = SipHash<K>> class map {
         if (!inside::has_memory([&] { opened = std::make_unique<Inner>(std::move(hash)); })) {
             return Status::no_memory;
         }
-        const Status status = opened->identities.draw() ? opened->table.open(options) : Status::no_random;
+        const Status status = opened->identities.draw() ? opened->table.open(options, mix) : Status::no_random;
         if (status == Status::ok) {
             inner_ = std::move(opened);
         }
@@ -376,6 +376,8 @@ template <class K, class V, class Hash = SipHash<K>> class map {
     }
 
     std::unique_ptr<Inner> inner_{};
+    // The index hashes what a hash of the user's may have spread badly.
+    static constexpr uint32_t mix = std::is_same_v<Hash, SipHash<K>> ? CEFRODIL_MIX_NONE : CEFRODIL_MIX_FULL;
 
     // Each fault has one message. A type that is too large or not trivial gets no second one. Clang skips the members after a failed assertion, so
     // these come last.

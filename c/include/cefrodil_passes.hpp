@@ -235,7 +235,7 @@ struct Seen {
 // Calls by the passes of shards. A call that other threads keep from its turn is repeated.
 template <size_t Words> class Turns {
   public:
-    [[nodiscard]] Status open(uint32_t entries, uint32_t shards, uint32_t passes, uint32_t tries) noexcept {
+    [[nodiscard]] Status open(uint32_t entries, uint32_t shards, uint32_t passes, uint32_t tries, uint32_t mix) noexcept {
         if (!same_version()) {
             return Status::other_version;
         }
@@ -244,6 +244,7 @@ template <size_t Words> class Turns {
         if (status != Status::ok) {
             return status;
         }
+        shape.mix = mix;
         tries_ = tries;
         capacity_ = uint64_t(shape.items) * shards;
         return passes_.open(shape, shards, passes);

@@ -95,8 +95,13 @@ impl<V: Copy, S: BuildHasher> Inner<V, S> {
     pub fn get<R>(&self, print: Print, tries: u32, told: impl FnOnce(Result<Option<V>, GetError>) -> R) -> R {
         match self.layout() {
             Layout::Plain => self.get_laid::<false, R>(print, tries, told),
-            Layout::Timed => self.get_laid::<true, R>(print, tries, told),
+            Layout::Timed => self.get_timed(print, tries, told),
         }
+    }
+
+    #[inline(never)]
+    fn get_timed<R>(&self, print: Print, tries: u32, told: impl FnOnce(Result<Option<V>, GetError>) -> R) -> R {
+        self.get_laid::<true, R>(print, tries, told)
     }
 
     // The compiler knows the layout, and leaves out what is for the other one. The value is read last: then it is copied once.

@@ -1,6 +1,6 @@
 //! What the builders of all maps choose.
 use crate::error::OpenError;
-use cefrodil::Shape;
+use cefrodil::{Mix, Shape};
 use std::collections::hash_map::RandomState;
 use std::fmt::{self, Formatter};
 use std::time::Duration;
@@ -46,6 +46,8 @@ impl<S> Settings<S> {
         if shape.items < SMALL {
             shape.buckets *= 4;
         }
+        // The index hashes what a hasher of the user's may have spread badly.
+        shape.mix = if self.once { Mix::None } else { Mix::Full };
         Ok((shape, shards))
     }
 

@@ -9,7 +9,7 @@ pub enum Mix {
     /// Hashes keys by the finalizer of `MurmurHash3`.
     #[default]
     Full,
-    /// Takes keys as they are. For tests.
+    /// Takes keys as they are. For tests, and for keys that are hashes all of whose bits are well spread.
     None,
 }
 
