@@ -84,7 +84,7 @@ impl<K: ?Sized, V: Copy + Send + Sync + 'static, S: BuildHasher> Map<K, V, S> {
     where
         K: Borrow<Q>,
     {
-        self.inner.get(self.inner.print(key), self.inner.looks(), |told| told.unwrap_or(None))
+        self.inner.get(self.inner.printer.print(key), self.inner.looks(), |told| told.unwrap_or(None))
     }
 
     /// The key's value, by one lookup. `None`: the key is absent, expired or evicted.

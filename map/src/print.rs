@@ -42,7 +42,7 @@ impl<S: BuildHasher> Printer<S> {
         Printer { hasher, secret: None }
     }
 
-    #[inline]
+    #[inline(always)]
     pub fn print<Q: Hash + ?Sized>(&self, key: &Q) -> Print {
         let Some(secret) = self.secret else {
             return Print { key: self.hasher.hash_one((KEY, key)), check: self.hasher.hash_one((CHECK, key)) };
