@@ -36,8 +36,8 @@ namespace inside {
 // The numbers of a line. The first three are statuses of a lookup.
 enum Counted : size_t { hits = CEFRODIL_OK, misses = CEFRODIL_ABSENT, busy = CEFRODIL_BUSY, held, evictions, refusals, all_counted };
 
-// What a handle has counted, in a cache line of its own. One thread at a time adds, and any thread reads.
-struct alignas(64) Line {
+// What a handle has counted. One thread at a time adds, and any thread reads. The processor loads cache lines in pairs, so it has a pair of its own.
+struct alignas(128) Line {
     std::array<std::atomic<uint64_t>, all_counted> numbers{};
     Line *next = nullptr; // the next line that no handle has
 
@@ -45,7 +45,7 @@ struct alignas(64) Line {
         numbers[which].store(numbers[which].load(std::memory_order_relaxed) + more, std::memory_order_relaxed);
     }
 };
-static_assert(sizeof(Line) == 64, "a cache line");
+static_assert(sizeof(Line) == 128, "a pair of cache lines");
 
 // The lines of a cache's handles. The line of a handle that is closed keeps its numbers, and the next handle that takes it counts on from
 // them.

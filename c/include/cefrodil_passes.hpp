@@ -127,8 +127,8 @@ inline uint64_t next_number() noexcept {
     return last.fetch_add(1, std::memory_order_relaxed) + 1;
 }
 
-// A pass with what its thread alone writes.
-template <size_t Words> struct alignas(64) Slot {
+// A pass with what its thread alone writes, in pairs of cache lines of its own.
+template <size_t Words> struct alignas(128) Slot {
     Pass<Words> pass{};
     std::atomic<int64_t> keys{0}; // how many keys its calls added, less those that they removed
 
