@@ -287,10 +287,10 @@ namespace inside {
 struct Counting {
     static const std::shared_ptr<Lines> &lines(const Handle &handle) noexcept { return handle.counter_.lines(); }
     static void in(Handle &handle, const std::shared_ptr<Lines> &lines) noexcept { handle.counter_ = Counter(lines); }
-    // Like Lookups::get, but a value that is found is written where it stays.
+    // Like Pass::get_or_desk, but a value that is found is written where it stays.
     template <size_t Words>
-    static Status get(Handle &handle, uint64_t key, std::array<uint64_t, Words> &value, cefrodil_reply &reply) noexcept {
-        const cefrodil_status status = cefrodil_get_of_width(&handle.raw_, key, value.data(), Words, &reply);
+    static Status get_or_desk(Handle &handle, uint64_t key, std::array<uint64_t, Words> &value, cefrodil_reply &reply) noexcept {
+        const cefrodil_status status = cefrodil_get_or_desk_of_width(&handle.raw_, key, value.data(), Words, &reply);
         handle.counter_.looked(status);
         return static_cast<Status>(status);
     }

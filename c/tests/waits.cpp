@@ -12,10 +12,6 @@ static bool is_disturbed() {
     made++;
     return disturbed != 0 && disturbed-- != 0;
 }
-static cefrodil_status some_get(cefrodil_handle *pass, uint64_t key, uint64_t *value, size_t words, cefrodil_reply *reply) {
-    *reply = cefrodil_reply{};
-    return is_disturbed() ? cefrodil_status(CEFRODIL_BUSY) : cefrodil_get_of_width(pass, key, value, words, reply);
-}
 static cefrodil_status some_get_or_desk(cefrodil_handle *pass, uint64_t key, uint64_t *value, size_t words, cefrodil_reply *reply) {
     *reply = cefrodil_reply{};
     return is_disturbed() ? cefrodil_status(CEFRODIL_BUSY) : cefrodil_get_or_desk_of_width(pass, key, value, words, reply);
@@ -33,7 +29,6 @@ static cefrodil_status some_get_many(cefrodil_handle *pass, const uint64_t *keys
     }
     return status;
 }
-#define cefrodil_get_of_width some_get
 #define cefrodil_get_or_desk_of_width some_get_or_desk
 #define cefrodil_put_of_width some_put
 #define cefrodil_get_many_or_none some_get_many

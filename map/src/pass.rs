@@ -61,7 +61,7 @@ impl AnyPass {
         any!(self, pass => pass.capacity())
     }
 
-    /// Looks the key up by a pass of a map of such values, with this layout. Gives the pass back, and then calls `then`.
+    /// Looks the key up by `get_or_desk` of a pass of a map of such values, with this layout. Gives the pass back, and then calls `then`.
     ///
     /// The compiler knows the width, and leaves the calls for the others out. The words stay where the index wrote them.
     #[inline(always)]
@@ -71,7 +71,7 @@ impl AnyPass {
                 $(let mut $reply;)*
                 let seen = match (layout.width::<V>(), &mut *pass) {
                     $(($width, AnyPass::$variant(by_width)) => {
-                        $reply = by_width.get(key);
+                        $reply = by_width.get_or_desk(key);
                         Seen::of(&mut $reply)
                     })*
                     _ => unreachable!("opening takes this width"),

@@ -73,6 +73,7 @@ impl<const WORDS: usize> Pass<'_, WORDS> {
 
     /// Like [`get`](Pass::get). If that is busy, tries once for the turn; with the turn, it looks up beside the writer and is
     /// never busy. `Busy` if the try does not win either.
+    #[inline]
     #[must_use]
     pub fn get_or_desk(&mut self, key: u64) -> Reply<WORDS> {
         Reply::by(|value| self.handle().get_or_desk(key, value))
