@@ -340,7 +340,8 @@ CEFRODIL_CHECKED CEFRODIL_NO_NULL cefrodil_status cefrodil_entries(cefrodil_hand
 
 /* Lists each entry with its stamp, by the writer or a pass of a desk. An entry is its key, then the words of its value, then the moment
  * of the key's last put (`since`): 2 + the words of a value.
- * OK, BAD_COUNT, HELD, CLOSED, NO_MEMORY: as by cefrodil_entries; never NO_MEMORY if `entry_words` is 0. KIND: also by a pass of shards. */
+ * OK, BAD_COUNT, HELD, CLOSED, NO_MEMORY: as by cefrodil_entries. If `entry_words` is 0 it lists all the same if there is memory, and never
+ * returns NO_MEMORY: for the number alone call cefrodil_len. KIND: also by a pass of shards. */
 CEFRODIL_CHECKED CEFRODIL_NO_NULL cefrodil_status cefrodil_stamped_entries(cefrodil_handle *handle, uint64_t *entries, size_t entry_words,
                                                                            uint64_t *count);
 

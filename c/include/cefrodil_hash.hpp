@@ -115,6 +115,7 @@ template <class Key> inline constexpr bool is_string = std::is_same_v<Key, std::
 // - an integer, an enum or a pointer, or a std::array of them.
 // - a trivially copyable struct without padding, whose bytes are its value. No float is: 0.0 and -0.0 are equal, but have other bytes.
 // No std::pair and no std::tuple is such a struct: write one with the same members, or a hash of your own.
+// Don't specialize it: a map takes its bits as they are. Give the map a hash type of yours instead.
 template <class Key> struct SipHash {
     HashPair operator()(const Key &key, const HashSecret &secret) const noexcept {
         return inside::sip_hash_pair<1, 3>(std::addressof(key), sizeof key, secret);

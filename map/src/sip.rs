@@ -83,7 +83,7 @@ impl Sip {
     }
 }
 
-/// What std's hashers of SipHash take for the same calls.
+/// Each call takes the same bytes as in std's SipHash.
 impl Hasher for Sip {
     #[inline]
     fn write(&mut self, bytes: &[u8]) {

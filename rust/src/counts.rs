@@ -99,9 +99,10 @@ const HELD: usize = BUSY + 1;
 const EVICTIONS: usize = BUSY + 2;
 const REFUSALS: usize = BUSY + 3;
 
-/// What a handle has counted, in a cache line of its own. One thread at a time adds, and any thread reads.
+/// What a handle has counted. One thread at a time adds, and any thread reads. The processor loads cache lines in pairs, so it has a pair of
+/// its own.
 #[derive(Default)]
-#[repr(align(64))]
+#[repr(align(128))]
 struct Line([AtomicU64; NUMBERS]);
 
 impl Line {

@@ -107,7 +107,7 @@ pub struct Spent;
 pub enum ListError {
     /// Out of memory. The cache stays open; list later.
     NoMemory,
-    /// A pass of shards has no such call: no call sees several shards at one moment. Waiting does not help.
+    /// A pass of shards lists no stamps: each shard counts its own moments. Waiting does not help.
     OfShards,
 }
 

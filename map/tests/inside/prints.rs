@@ -123,6 +123,7 @@ fn a_number_is_hashed_as_its_bytes() {
         assert_eq!(one, other);
     }
 }
+
 #[test]
 fn each_hash_depends_on_the_key() {
     const KEYS: u64 = 10_000;
