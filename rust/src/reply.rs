@@ -151,13 +151,11 @@ impl<const WORDS: usize> Reply<WORDS> {
         reply
     }
 
-    pub(crate) fn of((status, reply): Told, value: [u64; WORDS]) -> Reply<WORDS> {
-        match status {
-            raw::OK => Reply::Found { value, at: reply.at, since: reply.since },
-            raw::ABSENT => Reply::Absent { at: reply.at },
-            raw::BUSY => Reply::Busy,
-            other => not_told(other),
-        }
+    pub(crate) fn of(told: Told, value: [u64; WORDS]) -> Reply<WORDS> {
+        Reply::by(|place| {
+            *place = value;
+            told
+        })
     }
 }
 
