@@ -22,9 +22,9 @@ impl<const V: usize> Model for Cache<V> {
 impl<const V: usize> Cache<V> {
     ghost use Rattle.mc_words.specs.Places.{IsWidth};
 
-    // What always holds of a cache, for proofs. Does nothing at run time.
+    /// What always holds of a cache, for proofs: a value has from 1 to 8 words. Does nothing at run time.
     #[inline(always)]
-    pub(crate) fn known(&self)
+    pub fn known(&self)
         ensures { IsWidth V }
     {
         self.cells.checked();

@@ -1,7 +1,7 @@
 -- What the writes mean that also return the entry which gives way: the writer makes them, and a pass in a turn.
 use Rattle.std.specs.Prelude.{ℕ, ◌≡◌, ◌≢◌, ◌⊎◌, List, length, Option, Some, None, Result, Ok, Err}
 use Rattle.mc_cache.specs.CallContracts.{swap_contract, swap_if_contract, take_contract, take_if_contract}
-use Rattle.mc_cache.specs.TurnCalls.{Contract, HasMade}
+use Rattle.mc_cache.specs.TurnCalls.{Contract}
 use Rattle.mc_cache.specs.declared.desk.DeskError.{DeskError}
 use Rattle.mc_cache.specs.declared.desk.DeskError.TheVariants as desk
 use Rattle.mc_writer.specs.declared.entry.Entry.{Entry}
@@ -12,11 +12,11 @@ use Rattle.mc_writer.specs.declared.entry.Take.TheVariants.{Taken, NotThere}
 use Rattle.mc_plan.specs.declared.answer.IfError.{IfError}
 use Rattle.mc_plan.specs.declared.answer.PutError.{PutError}
 use Rattle.mc_plan.specs.declared.answer.Spent.{Spent}
-use Rattle.mc_door.specs.Roles.{Role, Writes, Passes, Shares}
+use Rattle.mc_door.specs.Roles.{Role}
 use Rattle.mc_door.specs.Tellings.{plain, swap_if_told, swap_told, take_if_told, take_told, turn_told}
 use Rattle.mc_door.specs.Means.{CanChange}
 use Rattle.mc_door.specs.Tells.{HasTold}
-use Rattle.mc_door.specs.Turns.{HasTriedAtDesk, HasTriedAtShard}
+use Rattle.mc_door.specs.Turns.{HasTried}
 use Rattle.mc_door.specs.declared.status.TheConstants.{KIND, WIDTH}
 use Rattle.mc_door.specs.declared.outcome.Outcome.{Outcome}
 use Rattle.mc_door.specs.declared.write.Swap.{Swap}
@@ -62,15 +62,9 @@ SwapIs V Is key (call.RemoveIf since) v = Is (Replaced V) IfError (take_if_contr
 
 -- by the writer, or by a pass, which tries for the turn. The words of the old value are these before the call, and those after it
 abbrev pub SwapMeans : (V : ℕ) → Role → Role → ℕ → Swap → List ℕ → List ℕ → List ℕ → Outcome → Type 0
-SwapMeans V (Writes w) (Writes w') key call v old new told =
-    (swap_words V call v ≡ V) × (w'.of ≡ w.of) × SwapIs V (λ T E c tells old_of. HasTold tells (λ a. HasMade c w.of a w w' × (new ≡ left_by (old_of a) old)) told) key call v
-SwapMeans V (Passes r) (Passes r') key call v old new told =
-    (swap_words V call v ≡ V) × (r'.of ≡ r.of)
-    × SwapIs V (λ T E c tells old_of. HasTold (turn_told tells) (λ a. HasTriedAtDesk c r.of.layout.shape r r' a × (new ≡ left_by (old_of_turn old_of a) old)) told) key call v
-SwapMeans V (Shares s rs) (Shares s' rs') key call v old new told =
-    (swap_words V call v ≡ V) × (s' ≡ s)
-    × SwapIs V (λ T E c tells old_of. HasTold (turn_told tells) (λ a. HasTriedAtShard c s key rs rs' a × (new ≡ left_by (old_of_turn old_of a) old)) told) key call v
-SwapMeans V _ _ key call v old new told = ⊥
+SwapMeans V role role' key call v old new told =
+    (swap_words V call v ≡ V)
+    × SwapIs V (λ T E c tells old_of. HasTold (turn_told tells) (λ a. HasTried role role' key c a × (new ≡ left_by (old_of_turn old_of a) old)) told) key call v
 
 -- the call was made; or the first that applies: the side has no such call, or the value or the words for the old one have another width.
 -- Then nothing was done

@@ -1,14 +1,16 @@
--- What a try for a turn does, to make a call with this contract: by a pass at a desk, and by one of shards.
-use Rattle.std.specs.Prelude.{ℕ, List, Result}
+-- What a call with this contract does: by the writer, by a pass at a desk that tries for the turn, and by one of shards.
+use Rattle.std.specs.Prelude.{ℕ, ◌≡◌, List, Result, Ok, Err}
 use Rattle.mc_words.specs.declared.shape.Shape.{Shape}
-use Rattle.mc_shared.specs.Records.{ReaderRecord}
+use Rattle.mc_shared.specs.Records.{ReaderRecord, WriterRecord}
 use Rattle.mc_cache.specs.Failing.{TurnFails, versions_seen}
 use Rattle.mc_cache.specs.Plain.{TurnMeans, seen}
-use Rattle.mc_cache.specs.TurnCalls.{Contract}
+use Rattle.mc_cache.specs.TurnCalls.{Contract, HasMade}
 use Rattle.mc_cache.specs.Turns.{HasTriedTo}
 use Rattle.mc_cache.specs.declared.desk.DeskError.{DeskError}
+use Rattle.mc_cache.specs.declared.desk.DeskError.TheVariants as desk
 use Rattle.mc_shards.specs.Sharded.{ChangesAt, Sharded, shard_in}
 use Rattle.mc_door.specs.AtShards.{IsAtShard}
+use Rattle.mc_door.specs.Roles.{Role, Writes, Passes, Shares}
 
 -- the pass's record changes so, what it has seen changes so, and the call may fail so
 abbrev pub HasTriedAtDesk : {V : ℕ} {T E : Type 0} → Contract V T E → Shape → ReaderRecord → ReaderRecord → Result T (DeskError E) → Type 0
@@ -20,3 +22,16 @@ abbrev pub HasTriedAtShard : {V : ℕ} {T E : Type 0} → Contract V T E → Sha
 HasTriedAtShard {V} c s key rs rs' tried =
     IsAtShard V s key rs rs' (λ r r'. HasTriedTo V s.shape (c.called s.shape) r r' tried) (λ h h'. TurnMeans c.means h h' tried)
     × ChangesAt (shard_in s key) rs rs' (λ r r'. TurnFails (c.fails s.shape (seen V r') (versions_seen V r')) tried)
+
+-- the writer needs no turn: it is never held
+abbrev pub HasMadeAtOnce : {V : ℕ} {T E : Type 0} → Contract V T E → WriterRecord → WriterRecord → Result T (DeskError E) → Type 0
+HasMadeAtOnce c w w' (Ok done) = HasMade c w.of (Ok done) w w'
+HasMadeAtOnce c w w' (Err desk.Held) = ⊥
+HasMadeAtOnce c w w' (Err (desk.Call why)) = HasMade c w.of (Err why) w w'
+
+-- whoever makes the call of this key
+abbrev pub HasTried : {V : ℕ} {T E : Type 0} → Role → Role → ℕ → Contract V T E → Result T (DeskError E) → Type 0
+HasTried (Writes w) (Writes w') key c tried = HasMadeAtOnce c w w' tried
+HasTried (Passes r) (Passes r') key c tried = (r'.of ≡ r.of) × HasTriedAtDesk c r.of.layout.shape r r' tried
+HasTried (Shares s rs) (Shares s' rs') key c tried = (s' ≡ s) × HasTriedAtShard c s key rs rs' tried
+HasTried _ _ key c tried = ⊥

@@ -1,18 +1,18 @@
 -- What the writes of one key mean: by the writer, and by a pass in a turn.
 use Rattle.std.specs.Prelude.{ℕ, ◌≡◌, List, Result, length}
 use Rattle.mc_cache.specs.CallContracts.{put_contract, put_if_absent_contract, put_if_contract, remove_contract}
-use Rattle.mc_cache.specs.TurnCalls.{Contract, HasMade}
+use Rattle.mc_cache.specs.TurnCalls.{Contract}
 use Rattle.mc_plan.specs.declared.answer.AbsentError.{AbsentError}
 use Rattle.mc_plan.specs.declared.answer.IfError.{IfError}
 use Rattle.mc_plan.specs.declared.answer.Put.{Put}
 use Rattle.mc_plan.specs.declared.answer.PutError.{PutError}
 use Rattle.mc_plan.specs.declared.answer.Remove.{Remove}
 use Rattle.mc_plan.specs.declared.answer.Spent.{Spent}
-use Rattle.mc_door.specs.Roles.{Role, Writes, Passes, Shares}
+use Rattle.mc_door.specs.Roles.{Role}
 use Rattle.mc_door.specs.Tellings.{put_if_absent_told, put_if_told, put_told, removal_told, turn_told}
 use Rattle.mc_door.specs.Means.{CanChange}
 use Rattle.mc_door.specs.Tells.{HasTold, Tells}
-use Rattle.mc_door.specs.Turns.{HasTriedAtDesk, HasTriedAtShard}
+use Rattle.mc_door.specs.Turns.{HasTried}
 use Rattle.mc_door.specs.declared.outcome.Outcome.{Outcome}
 use Rattle.mc_door.specs.declared.write.Write.{Write}
 use Rattle.mc_door.specs.declared.write.Write.TheVariants as call
@@ -32,13 +32,8 @@ WriteIs V Is key call.Remove v = Is Remove Spent (remove_contract V key) removal
 
 -- a write by the writer, or by a pass, which tries for the turn
 abbrev pub WriteMeans : (V : ℕ) → Role → Role → ℕ → Write → List ℕ → Outcome → Type 0
-WriteMeans V (Writes w) (Writes w') key call v told =
-    (words_in V call v ≡ V) × (w'.of ≡ w.of) × WriteIs V (λ T E c tells. HasTold tells (λ a. HasMade c w.of a w w') told) key call v
-WriteMeans V (Passes r) (Passes r') key call v told =
-    (words_in V call v ≡ V) × (r'.of ≡ r.of) × WriteIs V (λ T E c tells. HasTold (turn_told tells) (λ a. HasTriedAtDesk c r.of.layout.shape r r' a) told) key call v
-WriteMeans V (Shares s rs) (Shares s' rs') key call v told =
-    (words_in V call v ≡ V) × (s' ≡ s) × WriteIs V (λ T E c tells. HasTold (turn_told tells) (λ a. HasTriedAtShard c s key rs rs' a) told) key call v
-WriteMeans V _ _ key call v told = ⊥
+WriteMeans V role role' key call v told =
+    (words_in V call v ≡ V) × WriteIs V (λ T E c tells. HasTold (turn_told tells) (λ a. HasTried role role' key c a) told) key call v
 
 -- what writes return. `Same`: the side is unchanged
 abbrev pub WriteTells : (V : ℕ) → Role → Role → Type 0 → ℕ → Write → List ℕ → Outcome → Type 0

@@ -6,6 +6,7 @@
 
 mod any_side;
 mod at_desk;
+mod caller;
 mod counting;
 mod entries;
 mod leaving;
@@ -25,11 +26,13 @@ mod side;
 mod spares;
 mod stamped;
 pub mod status;
+mod swaps;
 mod tell;
 mod widths;
 mod words;
 mod write;
 mod writer_side;
+mod writes;
 
 pub use any_side::AnySide;
 pub use counting::CountError;

@@ -79,12 +79,16 @@ impl<const V: usize> Side<V> {
         ensures listed { MatchResult result (λ es. AreEntries V (role_of self.new) es.items) (RefusesOutright (role_of self.old)) }
     {
         match self {
-            Side::Writer(side) => match side.entries(alloc) {
+            Side::Writer(side) => match side.writer.entries(alloc, &side.cache) {
                 Ok(entries) => Ok(entries),
                 Err(NoMemory) => Err(ListError::NoMemory),
             },
-            Side::Pass(side) => of_turn(side.entries(alloc)),
-            Side::Shard(side) => of_turn(side.entries(alloc)),
+            Side::Pass(side) => of_turn(
+                side.desk
+                    .desk()
+                    .try_entries(alloc, &side.cache, &mut side.pass),
+            ),
+            Side::Shard(side) => of_turn(side.pass.entries(alloc, &side.shards)),
             Side::Reader(_) | Side::Nothing => Err(ListError::Kind),
         }
     }

@@ -14,6 +14,7 @@ use crate::status::{BUSY, KIND, WIDTH};
 use crate::tell::refused;
 use crate::write::{Swap, Write};
 use crate::writer_side::WriterSide;
+use crate::{swaps, writes};
 
 /// The side of a cache that a handle is for.
 #[derive(Drop)]
@@ -84,7 +85,7 @@ impl<const V: usize> Side<V> {
         ensures { WriteTells V (role_of self.old) (role_of self.new) (self.new ≡ self.old) key Write.Put value.now (record { status = result; reply = reply.new }) }
     {
         match self {
-            Side::Writer(side) if value.len() == V => side.put(key, value, reply),
+            Side::Writer(side) if value.len() == V => writes::put(side, key, value, reply),
             _ => self.put_of_pass(key, value, reply),
         }
     }
@@ -94,7 +95,7 @@ impl<const V: usize> Side<V> {
         ensures { WriteTells V (role_of self.old) (role_of self.new) (self.new ≡ self.old) key Write.Put value.now (record { status = result; reply = reply.new }) }
     {
         match self {
-            Side::Pass(side) if value.len() == V => side.put(key, value, reply),
+            Side::Pass(side) if value.len() == V => writes::put(side, key, value, reply),
             _ => self.write(key, Write::Put, value, reply),
         }
     }
@@ -113,9 +114,9 @@ impl<const V: usize> Side<V> {
         match self {
             Side::Reader(_) | Side::Nothing => refused(KIND, reply),
             _ if call.words(value, V) != V => refused(WIDTH, reply),
-            Side::Writer(side) => side.write(key, call, value, reply),
-            Side::Pass(side) => side.write(key, call, value, reply),
-            Side::Shard(side) => side.write(key, call, value, reply),
+            Side::Writer(side) => writes::write(side, key, call, value, reply),
+            Side::Pass(side) => writes::write(side, key, call, value, reply),
+            Side::Shard(side) => writes::write(side, key, call, value, reply),
         }
     }
 
@@ -135,9 +136,9 @@ impl<const V: usize> Side<V> {
         match self {
             Side::Reader(_) | Side::Nothing => refused(KIND, reply),
             _ if call.words(value, V) != V || old.len() != V => refused(WIDTH, reply),
-            Side::Writer(side) => side.swap(key, call, value, old, reply),
-            Side::Pass(side) => side.swap(key, call, value, old, reply),
-            Side::Shard(side) => side.swap(key, call, value, old, reply),
+            Side::Writer(side) => swaps::swap(side, key, call, value, old, reply),
+            Side::Pass(side) => swaps::swap(side, key, call, value, old, reply),
+            Side::Shard(side) => swaps::swap(side, key, call, value, old, reply),
         }
     }
 }

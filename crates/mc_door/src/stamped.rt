@@ -1,9 +1,6 @@
 //! The entries of a cache with their stamps, written as the words that cross the border.
-ghost use Rattle.std.specs.Prelude.{◌≡◌, ◌+◌, ◌*◌, ◌<◌, IfOk, MatchResult, length, map};
+ghost use Rattle.std.specs.Prelude.{◌≡◌, ◌+◌, ◌*◌, ◌<◌, MatchResult, length, map};
 ghost use Rattle.mc_words.specs.Places.{IsWidth};
-ghost use Rattle.mc_cache.specs.Plain.{Begins, history, seen};
-ghost use Rattle.mc_cache.specs.Stamped.{AreStampedEntriesOf};
-ghost use Rattle.mc_cache.specs.Turns.{HasTriedToList};
 ghost use Rattle.mc_door.specs.AnySides.{role_in, width_of};
 ghost use Rattle.mc_door.specs.Inside.Lists.{RefusesStampedOutright};
 ghost use Rattle.mc_door.specs.Listing.{AreWritten, SeesMore, words_of};
@@ -13,11 +10,9 @@ ghost use Rattle.mc_door.specs.declared.listed.ListError.TheVariants as why;
 
 use crate::any_side::AnySide;
 use crate::listed::{ListError, of_turn, room_for};
-use crate::pass_side::PassSide;
 use crate::side::Side;
 use crate::with_side;
-use crate::writer_side::WriterSide;
-use mc_cache::{DeskError, Entry};
+use mc_cache::Entry;
 use mc_words::NoMemory;
 use std::alloc::Global;
 
@@ -48,39 +43,21 @@ fn write_all<const V: usize>(entries: &[Entry<V>], words: &mut [u64]) -> Result<
     Ok(count)
 }
 
-impl<const V: usize> WriterSide<V> {
-    fn stamped_entries(&mut self, alloc: Global) -> Result<Vec<Entry<V>>, NoMemory>
-        ensures writer { self.new.writer ≡ self.old.writer }
-        ensures plain { IfOk result (λ es. AreStampedEntriesOf V (history V self.old.writer) es.items) }
-    {
-        self.writer.stamped_entries(alloc, &self.cache)
-    }
-}
-
-impl<const V: usize> PassSide<V> {
-    fn stamped_entries(&mut self, alloc: Global) -> Result<Vec<Entry<V>>, DeskError<NoMemory>>
-        ensures of { self.new.pass.of ≡ self.old.pass.of }
-        ensures met { HasTriedToList V self.old.pass self.new.pass result }
-        ensures begins { Begins (seen V self.old.pass) (seen V self.new.pass) }
-        ensures plain { IfOk result (λ es. AreStampedEntriesOf V (seen V self.new.pass) es.items) }
-    {
-        self.desk
-            .desk()
-            .try_stamped_entries(alloc, &self.cache, &mut self.pass)
-    }
-}
-
 impl<const V: usize> Side<V> {
     fn list_stamped(&mut self, alloc: Global) -> Result<Vec<Entry<V>>, ListError>
         ensures { MatchResult result (λ es. SeesMore V (role_of self.old) (role_of self.new) × AreStampedEntries V (role_of self.new) es.items)
             (RefusesStampedOutright V (role_of self.old) (role_of self.new)) }
     {
         match self {
-            Side::Writer(side) => match side.stamped_entries(alloc) {
+            Side::Writer(side) => match side.writer.stamped_entries(alloc, &side.cache) {
                 Ok(entries) => Ok(entries),
                 Err(NoMemory) => Err(ListError::NoMemory),
             },
-            Side::Pass(side) => of_turn(side.stamped_entries(alloc)),
+            Side::Pass(side) => of_turn(
+                side.desk
+                    .desk()
+                    .try_stamped_entries(alloc, &side.cache, &mut side.pass),
+            ),
             Side::Shard(_) | Side::Reader(_) | Side::Nothing => Err(ListError::Kind),
         }
     }

@@ -74,9 +74,9 @@ impl<const V: usize> Pass<V> {
         lender.try_peek(cache, reader, key)
     }
 
-    // Tries once for the turn of the key's shard, and with it makes the call.
+    /// Tries once for the turn of the key's shard, and with it makes the call. Condition: the pass belongs to these shards.
     #[inline(always)]
-    pub(crate) fn try_call<T, E, C: TurnCall<V, T, E>>(
+    pub fn try_call<T, E, C: TurnCall<V, T, E>>(
         &mut self,
         shards: &Shards<V>,
         key: u64,
