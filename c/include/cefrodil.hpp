@@ -131,7 +131,8 @@ template <size_t Words> class Pass : public Lookups<Words> {
         const cefrodil_status status = cefrodil_put_of_width(this->raw(), key, value.data(), Words, &reply);
         return this->wrote(status, reply);
     }
-    // Equivalent to try_put for each key in order, each in a turn of its own.
+    // Puts the keys in order. At a desk every 16 keys have one turn: all of them are held, or no change of another thread comes between
+    // their puts. In shards it is equivalent to try_put for each key.
     [[nodiscard]] Status try_put_many(const uint64_t *keys, size_t count, const Value *values, cefrodil_put_answer *answers) noexcept {
         return this->template put_words<Words>(keys, count, values, answers);
     }

@@ -1,5 +1,6 @@
 /* Each allocation of an opening is refused in turn: then no handle is open, and nothing leaks. So is that of a list of entries,
- * that of a pass that leaves its desk, and each of a desk for a writer. A list without room takes no memory. Linked with --wrap. */
+ * that of a pass that leaves its desk, and each of a desk for a writer. A list without room takes no memory. A list allocates in its turn,
+ * so a batch of another pass is held meanwhile. Linked with --wrap. */
 #include "cefrodil.h"
 #include <stdio.h>
 
@@ -8,6 +9,7 @@ void *__real_realloc(void *block, size_t size);
 void __real_free(void *block);
 
 static long left = -1, kept;
+static void (*in_turn)(void); /* what the next allocation calls first */
 
 static int refused(void) {
     if (left == 0) {
@@ -18,6 +20,11 @@ static int refused(void) {
 }
 
 void *__wrap_malloc(size_t size) {
+    void (*call)(void) = in_turn;
+    if (call != NULL) {
+        in_turn = NULL;
+        call();
+    }
     if (refused()) {
         return NULL;
     }
@@ -191,6 +198,52 @@ static int makes_desk(const cefrodil_shape *shape, size_t words) {
     return made && status == CEFRODIL_OK && allowed > 5 && kept == 0;
 }
 
+/* Two groups of sixteen keys, and a third of eight. */
+enum { BATCH = 40 };
+static uint64_t batch[BATCH], batch_values[BATCH * 8];
+static cefrodil_put_answer batch_answers[BATCH];
+static size_t batch_words;
+static uint32_t batch_status;
+
+static void put_batch(void) {
+    batch_status = cefrodil_put_many(&handles[1], batch, BATCH, batch_values, BATCH * batch_words, batch_answers, BATCH);
+}
+
+/* Whether each answer has this status. The first change of the batch is `at`; 0: there is none. */
+static int is_answered(uint32_t status, uint64_t at) {
+    int answered = batch_status == CEFRODIL_OK;
+    for (uint64_t i = 0; i < BATCH; i++) {
+        const cefrodil_put_answer *answer = &batch_answers[i];
+        answered = answered && answer->status == status && answer->reply.at == (at != 0 ? at + i : 0) && answer->unused == 0 &&
+                   answer->reply.put == (at != 0 ? CEFRODIL_PUT_STORED : CEFRODIL_PUT_NOTHING) && answer->reply.since == 0;
+    }
+    return answered;
+}
+
+/* While a list has the turn, each group of a batch is held, and nothing is changed. Behind it all are put. */
+static int batches(const cefrodil_shape *shape, size_t words) {
+    uint64_t list[9], count = 0, found[8];
+    cefrodil_reply reply;
+    batch_words = words;
+    for (uint64_t i = 0; i < BATCH; i++) {
+        batch[i] = 100 + i;
+        batch_values[i * words] = batch_values[i * words + words - 1] = i;
+    }
+    int put = open_one(shape, words, BY_TURNS) == CEFRODIL_OK && cefrodil_put(&handles[0], 0, entries, words, &reply) == CEFRODIL_OK;
+    in_turn = put_batch;
+    put = put && cefrodil_entries(&handles[0], list, 1 + words, &count) == CEFRODIL_OK && count == 1 && in_turn == NULL;
+    put = put && is_answered(CEFRODIL_HELD, 0) && cefrodil_len(&handles[1], &count) == CEFRODIL_OK && count == 1;
+    put_batch();
+    put = put && is_answered(CEFRODIL_OK, 2) && cefrodil_len(&handles[0], &count) == CEFRODIL_OK && count == 1 + BATCH;
+    for (uint64_t i = 0; i < BATCH; i++) {
+        put = put && cefrodil_get(&handles[0], 100 + i, found, words, &reply) == CEFRODIL_OK && found[words - 1] == i && reply.since == 2 + i;
+    }
+    for (int i = 0; i < 4; i++) {
+        cefrodil_close(&handles[i]);
+    }
+    return put;
+}
+
 int main(void) {
     cefrodil_shape shape;
     if (cefrodil_shape_for_items(100, &shape) != CEFRODIL_OK) {
@@ -209,6 +262,10 @@ int main(void) {
         }
         if (!makes_desk(&shape, words)) {
             printf("memory: a desk for a writer of %zu words\n", words);
+            return 1;
+        }
+        if (!batches(&shape, words)) {
+            printf("memory: a batch of %zu words\n", words);
             return 1;
         }
         if (!leaves(&shape, words)) {

@@ -116,6 +116,36 @@ static void apart() {
     MUST(!writer.is_open() && passes.size() == 40 && passes[39].get(7).value && readers[0].meter().counts().hits == 2);
 }
 
+static std::vector<Pass<1>> at_desk;
+
+// Forty keys are two groups of sixteen and a third of eight. `at`: the first change of theirs, 0 if they are held.
+static void put_batch(Status expected, uint64_t at) {
+    uint64_t keys[40];
+    std::array<uint64_t, 1> values[40];
+    cefrodil_put_answer answers[40];
+    for (uint64_t i = 0; i < 40; i++) {
+        keys[i] = 100 + i, values[i] = {i};
+    }
+    const uint64_t before = at_desk[1].meter().counts().held;
+    MUST(at_desk[1].try_put_many(keys, 40, values, answers) == Status::ok);
+    for (uint64_t i = 0; i < 40; i++) {
+        MUST(Status(answers[i].status) == expected && answers[i].reply.at == (at != 0 ? at + i : 0));
+    }
+    MUST(at_desk[1].meter().counts().held == before + (expected == Status::held ? 40 : 0));
+}
+
+// While a list has the turn, each group of a batch is held, and nothing is changed.
+static void batch_beside_a_list() {
+    std::vector<uint64_t> list;
+    list.reserve(100);
+    MUST(open_desk(shape, 2, at_desk) == Status::ok && at_desk[0].try_put(7, {70}).status == Status::ok);
+    in_turn = [] { put_batch(Status::held, 0); };
+    MUST(at_desk[0].try_entries(list) == Status::ok && list.size() == 2 && in_turn == nullptr);
+    put_batch(Status::ok, 2);
+    MUST(at_desk[0].try_entries(list) == Status::ok && list.size() == 82 && at_desk[0].get(139).since == 41);
+    std::vector<Pass<1>>().swap(at_desk);
+}
+
 static void by_passes() {
     std::vector<Pass<1>> passes, of_shards;
     MUST(at_last(4, [&] { return open_desk(shape, 2, passes); }, [&] { return passes.empty(); }));
@@ -237,6 +267,7 @@ int main() {
     const long before = kept;
     apart();
     by_passes();
+    batch_beside_a_list();
     std::thread(by_maps).join(); // with what the thread keeps
     MUST(kept == before);
     return outcome("memory");

@@ -64,7 +64,10 @@ static void by_writers(const cefrodil_shape *shape, int rounds, uint64_t keys) {
 static void by_passes(const cefrodil_shape *shape, const cefrodil_shape *of_shard) {
     struct pair pair = {CEFRODIL_EMPTY, CEFRODIL_EMPTY};
     MUST(cefrodil_open_desk(shape, WORDS, &pair.many, 1) == CEFRODIL_OK && cefrodil_open_desk(shape, WORDS, &pair.single, 1) == CEFRODIL_OK);
-    put_in_both(&pair, MOST, 60);
+    /* None, parts of a group of sixteen, and up to two groups and a half. */
+    for (size_t count = 0; count <= MOST; count++) {
+        put_in_both(&pair, count, 60);
+    }
     have_same_values(&pair, 60);
     MUST(cefrodil_open_shards(of_shard, 4, WORDS, &pair.many, 1) == CEFRODIL_OK);
     MUST(cefrodil_open_shards(of_shard, 4, WORDS, &pair.single, 1) == CEFRODIL_OK);
@@ -102,6 +105,9 @@ int main(void) {
     MUST(large.buckets >= 131072);
     by_writers(&large, 3000, 250000);
     by_passes(&shape, &of_shard);
+    refused = 0;
+    by_passes(&narrow, &of_shard);
+    MUST(refused > 0);
     misused(&shape);
     return outcome("puts");
 }

@@ -108,7 +108,8 @@ impl<const WORDS: usize> Pass<'_, WORDS> {
         reply::turn(self.handle().put_within(tries, key, value), Put::of)
     }
 
-    /// Puts the entries in order, each as [`try_put`](Pass::try_put) does, in a turn of its own.
+    /// Puts the entries in order, each as [`try_put`](Pass::try_put) does. At a desk every 16 entries have one turn: all of them are
+    /// [`Held`](TurnError::Held), or no change of another thread comes between their puts. In shards each has a turn of its own.
     ///
     /// # Panics
     ///

@@ -1,7 +1,11 @@
 //! Without memory an opening and a list are errors, which keep nothing, and a desk that does not end loses no pass. Each allocation is refused
-//! in turn: the archive and the crate allocate by this program's own functions.
-use cefrodil::{Cache, Desk, EndError, Entry, ListError, NoDesk, NotEnded, OpenError, Shape, Shards, TurnError, Why, Writer};
-use std::cell::Cell;
+//! in turn: the archive and the crate allocate by this program's own functions. A list allocates in its turn, so a batch of another pass is
+//! held meanwhile.
+use cefrodil::{
+    Cache, Desk, EndError, Entry, ListError, NoDesk, NotEnded, OpenError, Pass, Put, PutError, Shape, Shards, TurnError, Why,
+    Writer,
+};
+use std::cell::{Cell, RefCell};
 use std::error::Error;
 use std::ffi::{c_int, c_void};
 use std::fmt::Debug;
@@ -17,6 +21,8 @@ thread_local! {
     static LEFT: Cell<u32> = const { Cell::new(ALL) };
     // How many blocks this thread has taken and not given back.
     static KEPT: Cell<i64> = const { Cell::new(0) };
+    // What an allocation of this thread by `malloc` calls first, until it returns true.
+    static IN_TURN: Cell<Option<fn() -> bool>> = const { Cell::new(None) };
 }
 
 extern "C" {
@@ -39,6 +45,9 @@ fn taken(take: impl FnOnce() -> *mut c_void) -> *mut c_void {
 // SAFETY, of these five: they are the allocator that the C library has for these calls. A block of theirs is one of the C library's.
 #[no_mangle]
 extern "C" fn malloc(size: usize) -> *mut c_void {
+    if let Some(call) = IN_TURN.take() {
+        IN_TURN.set(if call() { None } else { Some(call) });
+    }
     taken(|| unsafe { __libc_malloc(size) })
 }
 
@@ -176,6 +185,48 @@ fn a_list_without_memory_is_an_error() -> Tested {
     let mut shards = Shards::<2>::open(&Shape::for_shards(100, 4)?, 4, 1)?;
     shards[0].try_put(7, &[70, 71])?;
     assert_eq!(lists(|| shards[0].try_entries(), &held), [(7, [70, 71])]);
+    Ok(())
+}
+
+thread_local! {
+    static BESIDE: RefCell<Option<Pass<'static, 1>>> = const { RefCell::new(None) };
+    static TOLD: Cell<Option<[PutInTurn; 40]>> = const { Cell::new(None) };
+}
+
+type PutInTurn = Result<Put, TurnError<PutError>>;
+
+// Forty keys are two groups of sixteen and a third of eight.
+fn put_batch(pass: &mut Pass<1>) -> [PutInTurn; 40] {
+    let entries: [(u64, [u64; 1]); 40] = std::array::from_fn(|n| (100 + n as u64, [n as u64]));
+    let mut told = [Ok(Put::Renewed { at: 0 }); 40];
+    pass.try_put_many(&entries, &mut told);
+    told
+}
+
+// The batch, once another pass has the turn.
+fn put_beside() -> bool {
+    BESIDE.with_borrow_mut(|pass| {
+        let Some(pass) = pass else { return false };
+        let is_held = pass.try_len() == Err(TurnError::Held);
+        if is_held {
+            TOLD.set(Some(put_batch(pass)));
+        }
+        is_held
+    })
+}
+
+// While a list has the turn, each group of a batch is held, and nothing is changed.
+#[test]
+fn a_batch_beside_a_list_is_held() -> Tested {
+    let mut passes = Desk::<1>::open(&Shape::for_items(100)?, 2)?.into_passes();
+    BESIDE.set(passes.pop());
+    passes[0].try_put(7, &[70])?;
+    IN_TURN.set(Some(put_beside));
+    assert_eq!(passes[0].try_entries()?, [(7, [70])]);
+    assert_eq!((TOLD.get(), passes[0].try_len()?), (Some([Err(TurnError::Held); 40]), 1));
+    let told = BESIDE.take().map(|mut pass| put_batch(&mut pass)).ok_or("no pass")?;
+    assert_eq!(told.map(|put| put.map(Put::at)), std::array::from_fn(|n| Ok(2 + n as u64)));
+    assert_eq!(passes[0].get(139).value(), Some([39]));
     Ok(())
 }
 

@@ -1,35 +1,30 @@
 -- Puts of many keys in one call. Their values are stored one after the other.
-use Rattle.std.specs.Prelude.{ℕ, ◌≡◌, ◌⊎◌, ◌*◌, List, [], ◌∷◌, drop, length, take}
+use Rattle.std.specs.Prelude.{ℕ, ◌≡◌, ◌⊎◌, ◌*◌, List, length}
 use mathlib.Core.Option.{Option}
 use Rattle.mc_cache.specs.Batches.{InOrder}
 use Rattle.mc_door.specs.AnySides.{role_in, width_of}
-use Rattle.mc_door.specs.Roles.{Role}
+use Rattle.mc_door.specs.Batches.{HavePutInTurns, entries_of, put_answer}
+use Rattle.mc_door.specs.Roles.{Role, Passes}
 use Rattle.mc_door.specs.Writes.{WriteTells}
 use Rattle.mc_door.specs.declared.any_side.AnySide.{AnySide}
 use Rattle.mc_door.specs.declared.status.TheConstants.{OK, CLOSED}
 use Rattle.mc_door.specs.declared.outcome.Outcome.{Outcome}
+use Rattle.mc_door.specs.declared.outcome.RawPut.{RawPut}
 use Rattle.mc_door.specs.declared.write.Write.TheVariants.{Put}
 use Rattle.cefrodil.specs.Calls.{Gives}
 use Rattle.cefrodil.specs.Many.{IsManyMisuse}
-use Rattle.cefrodil.specs.declared.batches.RawPut.{RawPut}
-
--- each key with its value, of V words
-abbrev pub entries_of : ℕ → List ℕ → List ℕ → List (ℕ × List ℕ)
-entries_of V [] values = []
-entries_of V (key ∷ keys) values = (key, take V values) ∷ entries_of V keys (drop V values)
-
--- what is returned, as one answer of many
-abbrev pub answer_of : Outcome → RawPut
-answer_of told = record { reply = told.reply; status = told.status; unused = 0 }
 
 -- a put of the entry by a side for values of V words: this was returned
 pub record HasPutEntry (V : ℕ) (entry : ℕ × List ℕ) (role role' : Role) (answer : RawPut) : Type 0 where
   pub told : Outcome
-  pub is : answer ≡ answer_of told
+  pub is : answer ≡ put_answer told
   pub tells : WriteTells V role role' (role' ≡ role) entry.0 Put entry.1 told
 
--- one put for each key, in their order, each with its answer, and nothing else
+-- by a pass at a desk one try for the turn for each group of the keys, in their order. By another side one put for each key, in their
+-- order. Each key has its answer, and nothing else was done
 abbrev pub HavePut : ℕ → Role → Role → List ℕ → List ℕ → List RawPut → Type 0
+HavePut V (Passes r) (Passes r') keys values answers = HavePutInTurns V r r' (entries_of V keys values) answers
+HavePut V (Passes r) role' keys values answers = ⊥
 HavePut V role role' keys values answers = InOrder (HasPutEntry V) (entries_of V keys values) role role' answers
 
 -- a put of each key was made, or nothing was done

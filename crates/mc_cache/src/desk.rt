@@ -3,6 +3,7 @@ ghost use Rattle.std.specs.Prelude.{◌≡◌, IfNone, IfSome};
 ghost use Rattle.mc_cache.specs.CallContracts.{put_contract, put_if_absent_contract, put_if_contract, remove_contract, swap_contract, swap_if_contract, take_contract, take_if_contract};
 ghost use Rattle.mc_cache.specs.Resting.{IsAtRest, IsFit};
 
+mod batches;
 mod looking;
 
 use crate::cache::Cache;

@@ -4,3 +4,5 @@ pub mod NewReaders
 pub mod ListedWords
 pub mod AnySideLists
 pub mod ShardTries
+pub mod ManyPuts
+pub mod Groups

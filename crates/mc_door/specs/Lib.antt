@@ -6,6 +6,7 @@ pub mod AtShards
 pub mod Means
 pub mod Peeks
 pub mod Turns
+pub mod Batches
 pub mod Writes
 pub mod Swaps
 pub mod AnySides

@@ -2,6 +2,7 @@
 ghost use Rattle.std.specs.Prelude.{◌≡◌, None, Some};
 ghost use Rattle.mc_door.specs.Tellings.{done_told, lookup_told, not_put_if_told, not_put_told, plain, told_at, told_since};
 ghost use Rattle.mc_plan.specs.declared.answer.Put.TheVariants.{Renewed, Stored};
+ghost use Rattle.mc_door.specs.Batches.{put_answer};
 
 use crate::looked::Looked;
 use crate::status;
@@ -153,6 +154,29 @@ impl Outcome {
             IfError::Spent => Outcome::plain(status::SPENT),
             IfError::NotThere { at } => Outcome::at(status::ABSENT, at),
             IfError::Changed { since } => Outcome::since(status::CHANGED, since),
+        }
+    }
+}
+
+/// One answer of many puts: that of `cefrodil_put`.
+#[repr(C)]
+#[derive(Clone, Copy)]
+pub struct RawPut {
+    pub reply: RawReply,
+    pub status: u32,
+    pub unused: u32,
+}
+
+impl RawPut {
+    /// The answer that has this status and reply.
+    #[inline(always)]
+    pub fn of(told: Outcome) -> RawPut
+        ensures { result ≡ put_answer told }
+    {
+        RawPut {
+            reply: told.reply,
+            status: told.status,
+            unused: 0,
         }
     }
 }

@@ -1,13 +1,13 @@
-use Rattle.std.proofs.Common.{ℕ, ◌≡◌, ◌+◌, ◌*◌, ◌-◌, ◌<◌, ◌≤◌, ◌∙◌, ◌++◌, [], ◌∷◌, List, drop, length, refl, ap, slice_index, subst, sym, take, arith}
+use Rattle.std.proofs.Common.{ℕ, ◌≡◌, ◌+◌, ◌*◌, ◌-◌, ◌≤◌, ◌∙◌, List, drop, length, refl, ap, slice_index, subst, sym, take, arith}
 use Rattle.std.proofs.lemmas.List.{take_all, take_more_set}
-use Rattle.std.proofs.lemmas.Nat.{row_fits}
 use Rattle.mc_cache.specs.Batches.{InOrder}
 use Rattle.mc_cache.proofs.InOrder.{one_more}
 use Rattle.mc_door.specs.Roles.{role_of}
-use Rattle.cefrodil.specs.Batches.{HasPutEntry, entries_of}
-use Rattle.cefrodil.specs.declared.batches.RawPut.{RawPut}
-use Rattle.cefrodil.proofs.ManyPuts.{entries_many, entries_more}
-use Rattle.cefrodil.proofs.batches.put_all.Goals as goal
+use Rattle.mc_door.specs.Batches.{entries_of}
+use Rattle.mc_door.specs.declared.outcome.RawPut.{RawPut}
+use Rattle.mc_door.proofs.ManyPuts.{entries_many, entries_more}
+use Rattle.cefrodil.specs.Batches.{HasPutEntry}
+use Rattle.cefrodil.proofs.batches.put_singly.Goals as goal
 
 pub loop-index-preserved : goal.loop-index-preserved
 loop-index-preserved g c =
